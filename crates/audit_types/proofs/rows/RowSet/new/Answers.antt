@@ -1,0 +1,7 @@
+use Rattle.audit_types.specs.Rows.{rows_that}
+use Rattle.audit_types.specs.RowLaws.{rows_that_none}
+use Rattle.audit_types.specs.WordLaws.{no_bit, AreWords-none}
+use Rattle.audit_types.proofs.rows.RowSet.new.Goals as goal
+
+pub returns-clause-empty : goal.returns-clause-empty
+returns-clause-empty c = rows_that_none _ c.args.n (λ r l. no_bit 16 r)

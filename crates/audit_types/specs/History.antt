@@ -1,0 +1,101 @@
+-- Records, histories, what a history tells of one column, and which histories are legal and disclose nothing.
+use Rattle.std.specs.Prelude.{◌≡◌, ◌≢◌, ℕ, ◌<◌, ◌≤◌, ℤ, ◌==◌, List, [], ◌∷◌, map, length, take, slice_get, Option, Some}
+use Rattle.std.specs.List.{filter, slice_index_or, AllByRecursion}
+use Rattle.audit_types.specs.declared.shapes.Shape.{Shape}
+use Rattle.audit_types.specs.declared.records.Answered.{Answered}
+use Rattle.audit_types.specs.declared.records.Verdict.{Verdict}
+use Rattle.audit_types.specs.declared.records.Verdict.TheVariants.{Released}
+use Rattle.audit_types.specs.Rows.{Rows, AreRows}
+use Rattle.audit_types.specs.Shapes.{columns, kind_at}
+use Rattle.audit_types.specs.Truth.{truth, number_at}
+use Rattle.audit_types.specs.Column.{Known, Answer, Agrees}
+use Rattle.audit_types.specs.Judgement.{IsDecision, IsJudgement}
+
+-- a question or a record that fits: a column of the shape, and some rows of its table
+pub record FitsShape (shape : Shape) (column : ℕ) (rows : Rows) : Type 0 where
+  pub column_below : column < columns shape
+  pub same_n : rows.n ≡ shape.rows
+  pub are_rows : AreRows rows.n rows.list
+  pub some : rows.list ≢ []
+
+-- the rows and the answer of a record
+abbrev pub answer_in : Answered → Answer
+answer_in r = record { rows = r.rows.list; value = r.answer }
+
+-- the answers of a column in a history, in order
+abbrev pub answers_of : ℕ → List Answered → List Answer
+answers_of column history = map answer_in (filter (λ r. r.column == column) history)
+
+-- what a decision may read of a table, beside what was answered
+pub record Setting : Type 0 where
+  pub shape : Shape
+
+abbrev pub setting_of : Shape → Setting
+setting_of shape = record { shape = shape }
+
+-- what a history tells of a column
+abbrev pub known_of : Setting → List Answered → ℕ → Known
+known_of setting history column = record {
+  kind = kind_at setting.shape column;
+  n = setting.shape.rows;
+  answers = answers_of column history;
+}
+
+-- the lists of the secret columns
+abbrev pub Secrets : Type 0
+Secrets = List (List ℤ)
+
+-- the list of one secret column
+abbrev pub list_of : Secrets → ℕ → List ℤ
+list_of secrets column = slice_index_or secrets column []
+
+-- what a decision may read of a table, and its secret lists
+pub record Table : Type 0 where
+  pub setting : Setting
+  pub secrets : Secrets
+
+-- one list for each column, with a number for each row
+pub record AreSecrets (shape : Shape) (secrets : Secrets) : Type 0 where
+  pub one_each : length secrets ≡ columns shape
+  pub numbers : AllByRecursion (λ w. length w ≡ shape.rows) secrets
+
+-- the secrets give every answer of the history
+abbrev pub AgreeWithHistory : Setting → List Answered → Secrets → Type 0
+AgreeWithHistory setting history secrets =
+    (column : ℕ) → column < columns setting.shape → Agrees (known_of setting history column) (list_of secrets column)
+
+-- some secrets give every answer of the history
+abbrev pub IsPossibleHistory : Setting → List Answered → Type 0
+IsPossibleHistory setting history =
+    (secrets : Secrets) × AreSecrets setting.shape secrets × AgreeWithHistory setting history secrets
+
+-- the decision on a question after a history
+abbrev pub IsDecisionAfter : Setting → List Answered → ℕ → List ℕ → Verdict → Type 0
+IsDecisionAfter setting history column rows verdict = IsDecision (known_of setting history column) rows verdict
+
+-- the judgement on a question after a history
+abbrev pub IsJudgementAfter : Setting → List Answered → ℕ → List ℕ → Verdict → Type 0
+IsJudgementAfter setting history column rows verdict = IsJudgement (known_of setting history column) rows verdict
+
+-- a record that may follow a history: it fits, is true, and its question is released
+pub record IsLegalRecord (table : Table) (history : List Answered) (r : Answered) : Type 0 where
+  pub fits : FitsShape table.setting.shape r.column r.rows
+  pub true_answer : r.answer ≡ truth (kind_at table.setting.shape r.column) (list_of table.secrets r.column) r.rows.list
+  pub released : IsDecisionAfter table.setting history r.column r.rows.list Released
+
+-- at most 65,536 records, each of which may follow those before it
+pub record IsLegal (table : Table) (history : List Answered) : Type 0 where
+  pub few : length history ≤ 65536
+  pub each : (i : ℕ) (r : Answered) → slice_get history i ≡ Some r → IsLegalRecord table (take i history) r
+
+-- other secrets that give the same answers, with another number at this place
+pub record HasTwin (table : Table) (history : List Answered) (column row : ℕ) : Type 0 where
+  pub twin : Secrets
+  pub are_secrets : AreSecrets table.setting.shape twin
+  pub agree : AgreeWithHistory table.setting history twin
+  pub differs : number_at (list_of twin column) row ≢ number_at (list_of table.secrets column) row
+
+-- no number of the secrets is disclosed
+abbrev pub IsUndisclosed : Table → List Answered → Type 0
+IsUndisclosed table history =
+    (column row : ℕ) → column < columns table.setting.shape → row < table.setting.shape.rows → HasTwin table history column row

@@ -1,0 +1,12 @@
+pub mod Shapes
+pub mod Rows
+pub mod RowLaws
+pub mod Truth
+pub mod Column
+pub mod Extremes
+pub mod Form
+pub mod Direction
+pub mod Judgement
+pub mod History
+pub mod Words
+pub mod WordLaws

@@ -1,0 +1,203 @@
+-- The words of a set of rows are fixed by its rows.
+use Rattle.std.proofs.Common.{◌≡◌, ◌≢◌, ℕ, zero, suc, ◌+◌, ◌-◌, ◌*◌, ◌/◌, ◌%◌, ◌^◌, ◌<◌, ◌≤◌, Bool, true, false, cond, List, [], ◌∷◌, ◌==◌, eqb, refl, sym, ap, ◌∙◌, arith, length, get_or, map, set, inl, inr, ◌⊎◌, add-one, one-add, replicate, ◌||◌, get_or-set_same, get_or-set_other, length-set, ◌&&◌, min, max}
+use Rattle.std.proofs.lemmas.List.{get_or_past}
+use Rattle.std.specs.Int.Bits.{or_zero_l}
+use Rattle.std.specs.Prelude.{bit_or, bit_and, slice_index}
+use Rattle.std.specs.Int.{bit_at, w64}
+use Rattle.std.proofs.lemmas.Bool.{cases_lt, cases_eq, cases_Bool, eq-eqb, ne_eqb, eqb-true, eqb-false}
+use Rattle.std.proofs.lemmas.Bool.Decides.{nat_tests}
+use Rattle.std.proofs.lemmas.Nat.{mod-pow-add, or_lt, and_le_l}
+use Rattle.std.proofs.lemmas.Nat.Bits.{bit_at-lt, bit_at_and, bit_at_or, bit_at_set_same, bit_at_set_other, bit_at-zero, shr_and_one}
+use Rattle.std.proofs.lemmas.List.FromFn.{fill_by_all}
+use Rattle.audit_types.specs.Rows.{Rows, has_row, rows_that, AscendsFrom, AreRows, intersection, union, complement}
+use Rattle.audit_types.specs.RowLaws.{has-rows_that, has-rows_that_above, rows_that_agree}
+use Rattle.audit_types.specs.Words.{has_bit, rows_of_set, set_of_rows, words_of, word_of, bits_that, AreWords, IsSetOfWords}
+use Rattle.audit_types.specs.declared.rows.RowSet.TheInside.{Inside}
+
+one_bit : (x k : ℕ) → cond (bit_at x k == 1) (2 ^ k) 0 ≡ bit_at x k * 2 ^ k
+one_bit x k =
+    elim (cases_eq (bit_at x k) 1) [
+      | inl e ↦ rw e (omega arith)
+      | inr e ↦ let z : bit_at x k ≡ 0 = omega (arith, bit_at-lt x k) in rw z (omega arith)
+    ]
+
+-- the bits of a number make its rest
+bits-number : (x k : ℕ) → bits_that (λ i. bit_at x i == 1) k ≡ x % 2 ^ k
+unfolding bits_that
+bits-number x zero = omega arith
+bits-number x (suc k) =
+    let front : bits_that (λ i. bit_at x i == 1) k ≡ x % 2 ^ k = bits-number x k in
+    let last : cond (bit_at x k == 1) (2 ^ k) 0 ≡ bit_at x k * 2 ^ k = one_bit x k in
+    let both : x % 2 ^ (suc k) ≡ (x / 2 ^ k % 2 ^ 1) * 2 ^ k + x % 2 ^ k = ap (λ m. x % 2 ^ m) (sym (one-add k)) ∙ mod-pow-add x 1 k in
+    rw (front, last, both) (omega arith)
+
+bits_that_agree : (p q : ℕ → Bool) (k : ℕ) → ((i : ℕ) → i < k → p i ≡ q i) → bits_that p k ≡ bits_that q k
+unfolding bits_that
+bits_that_agree p q zero h = refl
+bits_that_agree p q (suc k) h =
+    let front : bits_that p k ≡ bits_that q k = bits_that_agree p q k (λ i l. h i (omega arith)) in
+    let last : p k ≡ q k = h k (omega arith) in
+    cc
+
+-- the rows of a set of words are those with a bit
+pub has-view : (n : ℕ) (words : List ℕ) → AreWords n words → (r : ℕ) → has_row (rows_that (has_bit words) n) r ≡ has_bit words r
+has-view n words h r =
+    elim (cases_lt r n) [
+      | inl l ↦ has-rows_that (has_bit words) n r l
+      | inr l ↦ has-rows_that_above (has_bit words) n r l ∙ sym (h.none_above r l)
+    ]
+
+same_place : (words : List ℕ) (k i : ℕ) → i < 64 → has_bit words (64 * k + i) ≡ (bit_at (get_or words k 0) i == 1)
+same_place words k i l =
+    let row : (64 * k + i) / 64 ≡ k = omega arith in
+    let bit : (64 * k + i) % 64 ≡ i = omega arith in
+    ap (λ m. bit_at (get_or words m 0) ((64 * k + i) % 64) == 1) row ∙ ap (λ m. bit_at (get_or words k 0) m == 1) bit
+
+word-at : (n : ℕ) (words : List ℕ) → AreWords n words → (k : ℕ) → word_of (rows_that (has_bit words) n) k ≡ get_or words k 0
+word-at n words h k =
+    let range : get_or words k 0 < 2 ^ 64 = h.ranges k in
+    bits_that_agree _ (λ i. bit_at (get_or words k 0) i == 1) 64 (λ i l. has-view n words h (64 * k + i) ∙ same_place words k i l) ∙ bits-number (get_or words k 0) 64 ∙ omega arith
+
+pub words-words_of : (n : ℕ) (words : List ℕ) → AreWords n words → words_of (rows_that (has_bit words) n) ≡ words
+words-words_of n words h = sym (fill_by_all (word_of (rows_that (has_bit words) n)) words 16 0 h.sixteen (λ k l. sym (word-at n words h k)))
+
+pub words-rows : (a : Inside) → IsSetOfWords a → set_of_rows (rows_of_set a) ≡ a
+words-rows a h = ap (λ w. record { words = w; n = a.n }) (words-words_of a.n a.words h)
+
+-- the code's test of a bit
+pub tested : (words : List ℕ) (r : ℕ) → (bit_and (get_or words (r / 64) 0 / 2 ^ (r % 64)) 1 == 1) ≡ has_bit words r
+tested words r = ap (λ b. b == 1) (shr_and_one (get_or words (r / 64) 0) (r % 64))
+
+zero_at : (k i : ℕ) → ◌≡◌ {A = ℕ} (get_or (replicate k 0) i 0) 0
+zero_at zero i = refl
+zero_at (suc k) zero = refl
+zero_at (suc k) (suc i) = zero_at k i
+
+-- no bit of no words
+pub no_bit : (k r : ℕ) → has_bit (replicate k 0) r ≡ false
+no_bit k r = rw (zero_at k (r / 64), bit_at-zero (r % 64)) refl
+
+pub AreWords-none : (n : ℕ) → 0 < n → n ≤ 1024 → AreWords n (replicate 16 0)
+AreWords-none n s h = record { some = s; at_most = h; sixteen = refl; ranges = λ k. omega (arith, zero_at 16 k); none_above = λ r l. no_bit 16 r }
+
+or_false : (b : Bool) → (b || false) ≡ b
+or_false true = refl
+or_false false = refl
+
+or_true : (b : Bool) → (b || true) ≡ true
+or_true true = refl
+or_true false = refl
+
+-- a bit is set
+pub has_bit-set : (words : List ℕ) (row r : ℕ) → row / 64 < length words →
+    has_bit (set words (row / 64) (bit_or (get_or words (row / 64) 0) (1 * 2 ^ (row % 64) % 2 ^ 64))) r ≡ (has_bit words r || (r == row))
+has_bit-set words row r l =
+    elim (cases_eq (r / 64) (row / 64)) [
+      | inl word ↦
+          let read : get_or (set words (row / 64) (bit_or (get_or words (row / 64) 0) (1 * 2 ^ (row % 64) % 2 ^ 64))) (r / 64) 0 ≡ bit_or (get_or words (row / 64) 0) (1 * 2 ^ (row % 64) % 2 ^ 64) =
+          ap (λ m. get_or (set words (row / 64) (bit_or (get_or words (row / 64) 0) (1 * 2 ^ (row % 64) % 2 ^ 64))) m 0) word ∙ get_or-set_same words (row / 64) _ 0 l in
+          elim (cases_eq (r % 64) (row % 64)) [
+            | inl bit ↦
+                let one : bit_at (bit_or (get_or words (row / 64) 0) (1 * 2 ^ (row % 64) % 2 ^ 64)) (r % 64) ≡ 1 =
+                ap (bit_at (bit_or (get_or words (row / 64) 0) (1 * 2 ^ (row % 64) % 2 ^ 64))) bit ∙ bit_at_set_same w64 (get_or words (row / 64) 0) (row % 64) (omega arith) in
+                let same : (r == row) ≡ true = eq-eqb r row (omega arith) in
+                ap (λ x. bit_at x (r % 64) == 1) read ∙ ap (λ x. x == 1) one ∙ sym (ap (λ b. has_bit words r || b) same ∙ or_true (has_bit words r))
+            | inr bit ↦
+                let kept : bit_at (bit_or (get_or words (row / 64) 0) (1 * 2 ^ (row % 64) % 2 ^ 64)) (r % 64) ≡ bit_at (get_or words (row / 64) 0) (r % 64) =
+                bit_at_set_other w64 (get_or words (row / 64) 0) (row % 64) (omega arith) (r % 64) bit in
+                let other : (r == row) ≡ false = ne_eqb r row (λ e. bit (ap (λ m. m % 64) e)) in
+                ap (λ x. bit_at x (r % 64) == 1) read ∙ ap (λ x. x == 1) kept ∙ ap (λ m. bit_at (get_or words m 0) (r % 64) == 1) (sym word) ∙ sym (ap (λ b. has_bit words r || b) other ∙ or_false (has_bit words r))
+          ]
+      | inr word ↦
+          let other : (r == row) ≡ false = ne_eqb r row (λ e. word (ap (λ m. m / 64) e)) in
+          ap (λ x. bit_at x (r % 64) == 1) (get_or-set_other words (row / 64) (r / 64) _ 0 word) ∙ sym (ap (λ b. has_bit words r || b) other ∙ or_false (has_bit words r))
+    ]
+
+-- sixteen words of 64 bits, by the code's facts on them
+pub AreWords-set : (n : ℕ) (words : List ℕ) (row : ℕ) → row < n → AreWords n words →
+    AreWords n (set words (row / 64) (bit_or (get_or words (row / 64) 0) (1 * 2 ^ (row % 64) % 2 ^ 64)))
+AreWords-set n words row l h =
+    let below : row / 64 < length words = omega (arith, h.sixteen, h.at_most) in
+    record {
+      some = h.some;
+      at_most = h.at_most;
+      sixteen = length-set words (row / 64) _ ∙ h.sixteen;
+      ranges = λ k. elim (cases_eq k (row / 64)) [
+        | inl e ↦ let same = get_or-set_same words (row / 64) (bit_or (get_or words (row / 64) 0) (1 * 2 ^ (row % 64) % 2 ^ 64)) 0 below in
+            let wide : bit_or (get_or words (row / 64) 0) (1 * 2 ^ (row % 64) % 2 ^ 64) < 2 ^ 64 = or_lt 64 _ _ (h.ranges (row / 64)) (omega arith) in
+            rw (e, same) wide
+        | inr e ↦ rw (get_or-set_other words (row / 64) k _ 0 e) (h.ranges k)
+      ];
+      none_above = λ r m. let other : (r == row) ≡ false = ne_eqb r row (λ e. omega arith) in
+          has_bit-set words row r below ∙ rw (h.none_above r m, other) refl;
+    }
+
+min_test : (a b : ℕ) → a < 2 → b < 2 → (min a b == 1) ≡ ((a == 1) && (b == 1))
+min_test a b p q = grind (arith, nat_tests)
+
+max_test : (a b : ℕ) → a < 2 → b < 2 → (max a b == 1) ≡ ((a == 1) || (b == 1))
+max_test a b p q = grind (arith, nat_tests)
+
+module _ (a b words : List ℕ) (n : ℕ) (p : AreWords n a) (q : AreWords n b) (l : length words ≡ 16) where
+  zero_past : (xs : List ℕ) → length xs ≡ 16 → (k : ℕ) → 16 ≤ k → get_or xs k 0 ≡ 0
+  zero_past xs e k m = get_or_past xs k 0 (omega arith)
+
+  all_and : ((k : ℕ) → k < 16 → get_or words k 0 ≡ bit_and (get_or a k 0) (get_or b k 0)) → (k : ℕ) → get_or words k 0 ≡ bit_and (get_or a k 0) (get_or b k 0)
+  all_and h k = elim (cases_lt k 16) [
+    | inl m ↦ h k m
+    | inr m ↦ zero_past words l k m ∙ sym (ap (λ x. bit_and x (get_or b k 0)) (zero_past a p.sixteen k m))
+  ]
+
+  all_or : ((k : ℕ) → k < 16 → get_or words k 0 ≡ bit_or (get_or a k 0) (get_or b k 0)) → (k : ℕ) → get_or words k 0 ≡ bit_or (get_or a k 0) (get_or b k 0)
+  all_or h k = elim (cases_lt k 16) [
+    | inl m ↦ h k m
+    | inr m ↦ zero_past words l k m ∙ sym (ap (λ x. bit_or x (get_or b k 0)) (zero_past a p.sixteen k m) ∙ or_zero_l (get_or b k 0) ∙ zero_past b q.sixteen k m)
+  ]
+
+  bit-and : ((k : ℕ) → get_or words k 0 ≡ bit_and (get_or a k 0) (get_or b k 0)) → (r : ℕ) → has_bit words r ≡ (has_bit a r && has_bit b r)
+  bit-and h r =
+      ap (λ x. bit_at x (r % 64) == 1) (h (r / 64)) ∙ ap (λ x. x == 1) (bit_at_and (get_or a (r / 64) 0) (get_or b (r / 64) 0) (r % 64))
+      ∙ min_test _ _ (bit_at-lt (get_or a (r / 64) 0) (r % 64)) (bit_at-lt (get_or b (r / 64) 0) (r % 64))
+
+  bit-or : ((k : ℕ) → get_or words k 0 ≡ bit_or (get_or a k 0) (get_or b k 0)) → (r : ℕ) → has_bit words r ≡ (has_bit a r || has_bit b r)
+  bit-or h r =
+      ap (λ x. bit_at x (r % 64) == 1) (h (r / 64)) ∙ ap (λ x. x == 1) (bit_at_or (get_or a (r / 64) 0) (get_or b (r / 64) 0) (r % 64))
+      ∙ max_test _ _ (bit_at-lt (get_or a (r / 64) 0) (r % 64)) (bit_at-lt (get_or b (r / 64) 0) (r % 64))
+
+  -- every word is the `&` of the two
+  pub AreWords-and : ((k : ℕ) → k < 16 → get_or words k 0 ≡ bit_and (get_or a k 0) (get_or b k 0)) → AreWords n words
+  AreWords-and h = record {
+    some = p.some;
+    at_most = p.at_most;
+    sixteen = l;
+    ranges = λ k. omega (arith, all_and h k, and_le_l (get_or a k 0) (get_or b k 0), p.ranges k);
+    none_above = λ r m. bit-and (all_and h) r ∙ rw (p.none_above r m) refl;
+  }
+
+  -- every word is the `|` of the two
+  pub AreWords-or : ((k : ℕ) → k < 16 → get_or words k 0 ≡ bit_or (get_or a k 0) (get_or b k 0)) → AreWords n words
+  AreWords-or h = record {
+    some = p.some;
+    at_most = p.at_most;
+    sixteen = l;
+    ranges = λ k. omega (arith, all_or h k, or_lt 64 (get_or a k 0) (get_or b k 0) (p.ranges k) (q.ranges k));
+    none_above = λ r m. bit-or (all_or h) r ∙ rw (p.none_above r m, q.none_above r m) refl;
+  }
+
+  pub rows-and : ((k : ℕ) → k < 16 → get_or words k 0 ≡ bit_and (get_or a k 0) (get_or b k 0)) →
+      rows_that (has_bit words) n ≡ intersection n (rows_that (has_bit a) n) (rows_that (has_bit b) n)
+  rows-and h =
+      rows_that_agree _ _ n (λ r m. bit-and (all_and h) r ∙ sym (ap (λ x. x && has_row (rows_that (has_bit b) n) r) (has-view n a p r) ∙ ap (λ x. has_bit a r && x) (has-view n b q r)))
+
+  pub rows-or : ((k : ℕ) → k < 16 → get_or words k 0 ≡ bit_or (get_or a k 0) (get_or b k 0)) →
+      rows_that (has_bit words) n ≡ union n (rows_that (has_bit a) n) (rows_that (has_bit b) n)
+  rows-or h =
+      rows_that_agree _ _ n (λ r m. bit-or (all_or h) r ∙ sym (ap (λ x. x || has_row (rows_that (has_bit b) n) r) (has-view n a p r) ∙ ap (λ x. has_bit a r || x) (has-view n b q r)))
+
+-- the rows of the words, as a list that is its own test
+pub rows-again : (n : ℕ) (words : List ℕ) → AreWords n words → rows_that (has_row (rows_that (has_bit words) n)) n ≡ rows_that (has_bit words) n
+rows-again n words h = rows_that_agree _ _ n (λ r l. has-view n words h r)
+
+-- a set is its words and its number
+pub same_inside : (a b : Inside) → a.words ≡ b.words → a.n ≡ b.n → a ≡ b
+same_inside a b p q = ap (λ w. record { words = w; n = a.n }) p ∙ ap (λ m. record { words = b.words; n = m }) q

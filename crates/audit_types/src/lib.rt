@@ -1,0 +1,19 @@
+//! The words of the audit: sets of rows, questions and records, and the definitions that every contract cites.
+//!
+//! Start with `RowSet`. What a verdict means is said by the clauses of `ColumnAudit`; docs/DEFINITIONS.md tells the
+//! definitions in plain words.
+#![tactic(auto)]
+
+mod columns;
+mod records;
+mod rows;
+mod shapes;
+
+pub use columns::ColumnAudit;
+pub use records::{Answered, Asked, Verdict};
+pub use rows::RowSet;
+pub use shapes::{Kind, Shape};
+
+/// There was no memory. Nothing else gives this answer, and what it leaves is said by each call.
+#[derive(Clone, Copy, Debug, PartialEq, Eq)]
+pub struct NoMemory;

@@ -1,0 +1,145 @@
+//! Sets of rows.
+ghost use Rattle.std.specs.Prelude.{◌≡◌, ◌≢◌, ◌↔◌, ℕ, ◌<◌, ◌≤◌, List, [], length, IsTrue, slice_index, bit_and, bit_or};
+ghost use Rattle.audit_types.specs.Rows.{AreRows, has_row, with_row, intersection, union, complement};
+
+use std::marker::Model;
+
+// Each word becomes the `&` of the two.
+fn and_words(words: &mut [u64; 16], others: &[u64; 16])
+    ensures { (k : ℕ) → k < 16 → slice_index words.new k ≡ bit_and (slice_index words.old k) (slice_index others.now k) }
+{
+    for k in 0..16 {
+        words[k] &= others[k];
+    }
+}
+
+// Each word becomes the `|` of the two.
+fn or_words(words: &mut [u64; 16], others: &[u64; 16])
+    ensures { (k : ℕ) → k < 16 → slice_index words.new k ≡ bit_or (slice_index words.old k) (slice_index others.now k) }
+{
+    for k in 0..16 {
+        words[k] |= others[k];
+    }
+}
+
+/// A set of the rows of a table of n rows.
+#[derive(Clone, Copy)]
+pub struct RowSet {
+    words: [u64; 16],
+    n: u16,
+}
+
+impl Model for RowSet {
+    ghost use Rattle.audit_types.specs.Rows.{Rows};
+
+    ghost Value = { Rows };
+
+    ghost use Rattle.audit_types.specs.Words.{rows_of_set, set_of_rows, IsSetOfWords};
+
+    ghost view = { rows_of_set };
+
+    ghost invariant = { IsSetOfWords };
+
+    ghost inverse = { set_of_rows };
+
+    ghost use Rattle.audit_types.specs.WordLaws.{words-rows};
+
+    ghost inverse_ok = { words-rows };
+}
+
+impl RowSet {
+    pub fn new(n: u16) -> RowSet
+        requires some { 0 < n }
+        requires at_most { n ≤ 1024 }
+        ensures n { result.n ≡ n }
+        ensures empty { result.list ≡ [] }
+    {
+        RowSet { words: [0; 16], n }
+    }
+
+    pub fn n(&self) -> u16
+        ensures n { result ≡ self.now.n }
+        ensures are_rows { AreRows self.now.n self.now.list }
+        ensures at_most { self.now.n ≤ 1024 }
+    {
+        self.n
+    }
+
+    pub fn has(&self, row: u16) -> bool
+        requires { row < self.now.n }
+        ensures { result ≡ has_row self.now.list row }
+    {
+        let word = self.words[(row / 64) as usize];
+        (word >> (row % 64)) & 1 == 1
+    }
+
+    pub fn add(&mut self, row: u16)
+        requires { row < self.old.n }
+        ensures n { self.new.n ≡ self.old.n }
+        ensures added { self.new.list ≡ with_row self.old.n self.old.list row }
+    {
+        let k = (row / 64) as usize;
+        self.words[k] |= 1u64 << (row % 64);
+    }
+
+    pub fn and_with(&mut self, other: &RowSet)
+        requires { other.now.n ≡ self.old.n }
+        ensures n { self.new.n ≡ self.old.n }
+        ensures both { self.new.list ≡ intersection self.old.n self.old.list other.now.list }
+    {
+        and_words(&mut self.words, &other.words);
+    }
+
+    pub fn or_with(&mut self, other: &RowSet)
+        requires { other.now.n ≡ self.old.n }
+        ensures n { self.new.n ≡ self.old.n }
+        ensures either { self.new.list ≡ union self.old.n self.old.list other.now.list }
+    {
+        or_words(&mut self.words, &other.words);
+    }
+
+    pub fn len(&self) -> u16
+        ensures { result ≡ length self.now.list }
+    {
+        let mut count = 0;
+        for row in 0..self.n {
+            if self.has(row) {
+                count += 1;
+            }
+        }
+        count
+    }
+
+    pub fn is_empty(&self) -> bool
+        ensures { IsTrue result ↔ (self.now.list ≡ []) }
+    {
+        self.len() == 0
+    }
+
+    pub fn same(&self, other: &RowSet) -> bool
+        ensures { IsTrue result ↔ (self.now ≡ other.now) }
+    {
+        self.n == other.n && self.words == other.words
+    }
+
+    // The set of the other rows.
+    fn others(&self) -> RowSet
+        ensures n { result.n ≡ self.now.n }
+        ensures others { result.list ≡ complement self.now.n self.now.list }
+    {
+        let mut others = RowSet::new(self.n);
+        for row in 0..self.n {
+            if !self.has(row) {
+                others.add(row);
+            }
+        }
+        others
+    }
+
+    pub fn flip(&mut self)
+        ensures n { self.new.n ≡ self.old.n }
+        ensures others { self.new.list ≡ complement self.old.n self.old.list }
+    {
+        *self = self.others();
+    }
+}

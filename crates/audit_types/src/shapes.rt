@@ -1,0 +1,17 @@
+//! The shape of a table's secret part: how many rows it has, and what each secret column answers.
+ghost use Rattle.std.specs.Prelude.{◌≡◌, ◌<◌};
+ghost use Rattle.audit_types.specs.Shapes.{columns, kind_at, IsShape};
+
+/// What a secret column answers: sums and averages, or maxima.
+#[derive(Clone, Copy, Debug, PartialEq, Eq)]
+pub enum Kind {
+    Sum,
+    Max,
+}
+
+/// The number of rows, and a kind byte for each secret column: 1 for sums, 2 for maxima, and 0 behind the last column.
+#[derive(Clone, Copy, Debug, PartialEq, Eq)]
+pub struct Shape {
+    pub rows: u16,
+    pub kinds: [u8; 8],
+}
