@@ -9,4 +9,5 @@ pub mod Direction
 pub mod Judgement
 pub mod History
 pub mod Words
+pub mod RowsLeft
 pub mod WordLaws

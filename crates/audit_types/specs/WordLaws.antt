@@ -1,17 +1,17 @@
 -- The words of a set of rows are fixed by its rows.
-use Rattle.std.proofs.Common.{◌≡◌, ◌≢◌, ℕ, zero, suc, ◌+◌, ◌-◌, ◌*◌, ◌/◌, ◌%◌, ◌^◌, ◌<◌, ◌≤◌, Bool, true, false, cond, List, [], ◌∷◌, ◌==◌, eqb, refl, sym, ap, ◌∙◌, arith, length, get_or, map, set, inl, inr, ◌⊎◌, add-one, one-add, replicate, ◌||◌, get_or-set_same, get_or-set_other, length-set, ◌&&◌, min, max}
+use Rattle.std.proofs.Common.{◌≡◌, ◌≢◌, ℕ, zero, suc, ◌+◌, ◌-◌, ◌*◌, ◌/◌, ◌%◌, ◌^◌, ◌<◌, ◌≤◌, Bool, true, false, cond, List, [], ◌∷◌, ◌==◌, eqb, refl, sym, ap, ◌∙◌, arith, length, get_or, map, set, inl, inr, ◌⊎◌, add-one, one-add, pow_mono, replicate, ◌||◌, get_or-set_same, get_or-set_other, length-set, ◌&&◌, min, max, not}
 use Rattle.std.proofs.lemmas.List.{get_or_past}
 use Rattle.std.specs.Int.Bits.{or_zero_l}
-use Rattle.std.specs.Prelude.{bit_or, bit_and, slice_index}
-use Rattle.std.specs.Int.{bit_at, w64}
-use Rattle.std.proofs.lemmas.Bool.{cases_lt, cases_eq, cases_Bool, eq-eqb, ne_eqb, eqb-true, eqb-false}
+use Rattle.std.specs.Prelude.{bit_or, bit_and, slice_index, nat_lt}
+use Rattle.std.specs.Int.{bit_at, bit_not, w64}
+use Rattle.std.proofs.lemmas.Bool.{cases_lt, cases_eq, cases_Bool, eq-eqb, ne_eqb, eqb-true, eqb-false, lt-ltb, le-ltb}
 use Rattle.std.proofs.lemmas.Bool.Decides.{nat_tests}
-use Rattle.std.proofs.lemmas.Nat.{mod-pow-add, or_lt, and_le_l}
-use Rattle.std.proofs.lemmas.Nat.Bits.{bit_at-lt, bit_at_and, bit_at_or, bit_at_set_same, bit_at_set_other, bit_at-zero, shr_and_one}
+use Rattle.std.proofs.lemmas.Nat.{mod-pow-add, pow_pos, or_lt, and_le_l, and_le_r}
+use Rattle.std.proofs.lemmas.Nat.Bits.{bit_at-lt, bit_at_and, bit_at_or, bit_at_set_same, bit_at_set_other, bit_at-zero, bit_at_ones, bit_at_ones_above, bit_at_not, shr_and_one}
 use Rattle.std.proofs.lemmas.List.FromFn.{fill_by_all}
 use Rattle.audit_types.specs.Rows.{Rows, has_row, rows_that, AscendsFrom, AreRows, intersection, union, complement}
-use Rattle.audit_types.specs.RowLaws.{has-rows_that, has-rows_that_above, rows_that_agree}
-use Rattle.audit_types.specs.Words.{has_bit, rows_of_set, set_of_rows, words_of, word_of, bits_that, AreWords, IsSetOfWords}
+use Rattle.audit_types.specs.RowLaws.{has-rows_that, has-rows_that_above, rows_that_agree, rows_that_none, rows_that_longer}
+use Rattle.audit_types.specs.Words.{has_bit, rows_of_words, row_mask, rows_of_set, set_of_rows, words_of, word_of, bits_that, AreWords, IsSetOfWords}
 use Rattle.audit_types.specs.declared.rows.RowSet.TheInside.{Inside}
 
 one_bit : (x k : ℕ) → cond (bit_at x k == 1) (2 ^ k) 0 ≡ bit_at x k * 2 ^ k
@@ -47,7 +47,7 @@ has-view n words h r =
       | inr l ↦ has-rows_that_above (has_bit words) n r l ∙ sym (h.none_above r l)
     ]
 
-same_place : (words : List ℕ) (k i : ℕ) → i < 64 → has_bit words (64 * k + i) ≡ (bit_at (get_or words k 0) i == 1)
+pub same_place : (words : List ℕ) (k i : ℕ) → i < 64 → has_bit words (64 * k + i) ≡ (bit_at (get_or words k 0) i == 1)
 same_place words k i l =
     let row : (64 * k + i) / 64 ≡ k = omega arith in
     let bit : (64 * k + i) % 64 ≡ i = omega arith in
@@ -201,3 +201,67 @@ rows-again n words h = rows_that_agree _ _ n (λ r l. has-view n words h r)
 -- a set is its words and its number
 pub same_inside : (a b : Inside) → a.words ≡ b.words → a.n ≡ b.n → a ≡ b
 same_inside a b p q = ap (λ w. record { words = w; n = a.n }) p ∙ ap (λ m. record { words = b.words; n = m }) q
+
+-- the rows of the words, over any table that holds them all
+pub rows-words : (n : ℕ) (words : List ℕ) → AreWords n words → rows_of_words words ≡ rows_that (has_bit words) n
+rows-words n words h = rows_that_longer (has_bit words) n 1024 h.at_most h.none_above
+
+-- words without a bit have no row
+pub no_rows : (n : ℕ) (words : List ℕ) → words ≡ replicate 16 0 → rows_that (has_bit words) n ≡ []
+no_rows n words e = ap (λ w. rows_that (has_bit w) n) e ∙ rows_that_none (has_bit (replicate 16 0)) n (λ r l. no_bit 16 r)
+
+-- no row, no bit
+pub words-none : (n : ℕ) → 0 < n → n ≤ 1024 → words_of [] ≡ replicate 16 0
+words-none n s h = ap words_of (sym (no_rows n (replicate 16 0) refl)) ∙ words-words_of n (replicate 16 0) (AreWords-none n s h)
+
+bit_of_mask : (n k i : ℕ) → i < 64 → (bit_at (row_mask n k) i == 1) ≡ nat_lt (64 * k + i) n
+bit_of_mask n k i l =
+    elim (cases_lt (64 * k + i) n) [
+      | inl h ↦ ap (λ b. b == 1) (bit_at_ones (min 64 (n - 64 * k)) i (omega arith)) ∙ sym (lt-ltb (64 * k + i) n h)
+      | inr h ↦ ap (λ b. b == 1) (bit_at_ones_above (min 64 (n - 64 * k)) i (omega arith)) ∙ sym (le-ltb (64 * k + i) n h)
+    ]
+
+ones_fit : (j : ℕ) → j ≤ 64 → 2 ^ j - 1 < 2 ^ 64
+ones_fit j h = let big : 2 ^ j ≤ 2 ^ 64 = pow_mono h in omega (arith, pow_pos j)
+
+mask_small : (n k : ℕ) → row_mask n k < 2 ^ 64
+mask_small n k = ones_fit (min 64 (n - 64 * k)) (omega arith)
+
+turned : (a b : ℕ) → a < 2 → b < 2 → (min (1 - a) b == 1) ≡ ((b == 1) && not (a == 1))
+turned a b p q = grind (arith, nat_tests)
+
+module _ (a words : List ℕ) (n : ℕ) (p : AreWords n a) (l : length words ≡ 16)
+    (flipped : (k : ℕ) → k < 16 → get_or words k 0 ≡ bit_and (bit_not w64 (get_or a k 0)) (row_mask n k)) where
+  bit-flip : (r : ℕ) → r < 1024 → has_bit words r ≡ (nat_lt r n && not (has_bit a r))
+  bit-flip r small =
+      let bit : r % 64 < 64 = omega arith in
+      let place : 64 * (r / 64) + r % 64 ≡ r = omega arith in
+      let not_bit : bit_at (bit_not w64 (get_or a (r / 64) 0)) (r % 64) ≡ 1 - bit_at (get_or a (r / 64) 0) (r % 64) = bit_at_not w64 (get_or a (r / 64) 0) (r % 64) (p.ranges (r / 64)) bit in
+      ap (λ x. bit_at x (r % 64) == 1) (flipped (r / 64) (omega arith))
+      ∙ ap (λ x. x == 1) (bit_at_and (bit_not w64 (get_or a (r / 64) 0)) (row_mask n (r / 64)) (r % 64))
+      ∙ ap (λ x. min x (bit_at (row_mask n (r / 64)) (r % 64)) == 1) not_bit
+      ∙ turned _ _ (bit_at-lt (get_or a (r / 64) 0) (r % 64)) (bit_at-lt (row_mask n (r / 64)) (r % 64))
+      ∙ ap (λ b. b && not (has_bit a r)) (bit_of_mask n (r / 64) (r % 64) bit ∙ ap (λ x. nat_lt x n) place)
+
+  past : (k : ℕ) → 16 ≤ k → get_or words k 0 ≡ 0
+  past k m = get_or_past words k 0 (omega arith)
+
+  -- each bit of a row below n is turned, and no other is left
+  pub AreWords-flip : AreWords n words
+  AreWords-flip = record {
+    some = p.some;
+    at_most = p.at_most;
+    sixteen = l;
+    ranges = λ k. elim (cases_lt k 16) [
+      | inl m ↦ let mask : row_mask n k < 2 ^ 64 = mask_small n k in omega (arith, flipped k m, and_le_r (bit_not w64 (get_or a k 0)) (row_mask n k))
+      | inr m ↦ omega (arith, past k m)
+    ];
+    none_above = λ r m. elim (cases_lt r 1024) [
+      | inl small ↦ bit-flip r small ∙ rw (le-ltb r n m) refl
+      | inr large ↦ ap (λ x. bit_at x (r % 64) == 1) (past (r / 64) (omega arith)) ∙ ap (λ x. x == 1) (bit_at-zero (r % 64))
+    ];
+  }
+
+  pub rows-flip : rows_that (has_bit words) n ≡ complement n (rows_that (has_bit a) n)
+  rows-flip = rows_that_agree _ _ n (λ r m.
+      bit-flip r (omega (arith, p.at_most)) ∙ rw (lt-ltb r n m) refl ∙ ap not (sym (has-view n a p r)))

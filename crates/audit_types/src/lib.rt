@@ -6,11 +6,14 @@
 
 mod columns;
 mod records;
+mod row_iter;
 mod rows;
 mod shapes;
+mod words;
 
 pub use columns::ColumnAudit;
 pub use records::{Answered, Asked, Verdict};
+pub use row_iter::RowIter;
 pub use rows::RowSet;
 pub use shapes::{Kind, Shape};
 

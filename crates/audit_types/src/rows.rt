@@ -1,26 +1,11 @@
 //! Sets of rows.
-ghost use Rattle.std.specs.Prelude.{◌≡◌, ◌≢◌, ◌↔◌, ℕ, ◌<◌, ◌≤◌, List, [], length, IsTrue, slice_index, bit_and, bit_or};
+ghost use Rattle.std.specs.Prelude.{◌≡◌, ◌≢◌, ◌↔◌, ℕ, ◌<◌, ◌≤◌, List, [], length, IsTrue};
 ghost use Rattle.audit_types.specs.Rows.{AreRows, has_row, with_row, intersection, union, complement};
 
 use std::marker::Model;
 
-// Each word becomes the `&` of the two.
-fn and_words(words: &mut [u64; 16], others: &[u64; 16])
-    ensures { (k : ℕ) → k < 16 → slice_index words.new k ≡ bit_and (slice_index words.old k) (slice_index others.now k) }
-{
-    for k in 0..16 {
-        words[k] &= others[k];
-    }
-}
-
-// Each word becomes the `|` of the two.
-fn or_words(words: &mut [u64; 16], others: &[u64; 16])
-    ensures { (k : ℕ) → k < 16 → slice_index words.new k ≡ bit_or (slice_index words.old k) (slice_index others.now k) }
-{
-    for k in 0..16 {
-        words[k] |= others[k];
-    }
-}
+use crate::row_iter::RowIter;
+use crate::words::{and_words, count_bits, flip_words, or_words};
 
 /// A set of the rows of a table of n rows.
 #[derive(Clone, Copy)]
@@ -98,48 +83,41 @@ impl RowSet {
         or_words(&mut self.words, &other.words);
     }
 
+    /// How many rows are in it.
     pub fn len(&self) -> u16
         ensures { result ≡ length self.now.list }
     {
-        let mut count = 0;
-        for row in 0..self.n {
-            if self.has(row) {
-                count += 1;
-            }
-        }
-        count
+        count_bits(&self.words)
     }
 
     pub fn is_empty(&self) -> bool
         ensures { IsTrue result ↔ (self.now.list ≡ []) }
     {
-        self.len() == 0
+        self.words == [0; 16]
     }
 
+    /// Whether both have the same n and the same rows.
     pub fn same(&self, other: &RowSet) -> bool
         ensures { IsTrue result ↔ (self.now ≡ other.now) }
     {
         self.n == other.n && self.words == other.words
     }
 
-    // The set of the other rows.
-    fn others(&self) -> RowSet
-        ensures n { result.n ≡ self.now.n }
-        ensures others { result.list ≡ complement self.now.n self.now.list }
-    {
-        let mut others = RowSet::new(self.n);
-        for row in 0..self.n {
-            if !self.has(row) {
-                others.add(row);
-            }
-        }
-        others
-    }
-
+    /// Becomes the set of the other rows.
     pub fn flip(&mut self)
         ensures n { self.new.n ≡ self.old.n }
         ensures others { self.new.list ≡ complement self.old.n self.old.list }
     {
-        *self = self.others();
+        flip_words(&mut self.words, self.n);
+    }
+
+    /// Its rows, in ascending order. A walk costs a step for each of them, and sixteen for the words.
+    ///
+    /// In `for row in set.iter()` a loop's invariant speaks of `l.yielded`, the list of the rows so far, and of
+    /// `l.row-iterator`, the list of those that are left: `l.yielded ++ l.row-iterator ≡ l.set.list`.
+    pub fn iter(&self) -> RowIter
+        ensures { result ≡ self.now.list }
+    {
+        RowIter::new(self.words)
     }
 }
