@@ -1,5 +1,5 @@
 -- A walk takes the lowest bit of the first word that has one: the first row that is left.
-use Rattle.std.proofs.Common.{◌≡◌, ◌≢◌, ℕ, suc, ◌+◌, ◌-◌, ◌*◌, ◌/◌, ◌%◌, ◌^◌, ◌<◌, ◌≤◌, Bool, true, false, List, [], ◌∷◌, ◌==◌, refl, sym, ap, ◌∙◌, arith, length, get_or, set, get_or-set_same, get_or-set_other, inl, inr, ◌⊎◌, bit_and, w64}
+use Rattle.std.proofs.Common.{◌≡◌, ◌≢◌, ℕ, ◌+◌, ◌-◌, ◌*◌, ◌/◌, ◌%◌, ◌^◌, ◌<◌, ◌≤◌, true, false, List, [], ◌∷◌, ◌==◌, sym, ap, ◌∙◌, arith, length, get_or, set, get_or-set_same, get_or-set_other, inl, inr, bit_and, w64}
 use Rattle.std.specs.Prelude.{Some}
 use Rattle.std.specs.Iterator.{MakesProgress, item_count}
 use Rattle.std.specs.Int.{bit_at, bit_not, trailing_zeros}

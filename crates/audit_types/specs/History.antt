@@ -1,5 +1,5 @@
 -- Records, histories, what a history tells of one column, and which histories are legal and disclose nothing.
-use Rattle.std.specs.Prelude.{◌≡◌, ◌≢◌, ℕ, ◌<◌, ◌≤◌, ℤ, ◌==◌, List, [], ◌∷◌, map, length, take, slice_get, Option, Some}
+use Rattle.std.specs.Prelude.{◌≡◌, ◌≢◌, ℕ, ◌<◌, ◌≤◌, ℤ, ◌==◌, List, [], map, length, take, slice_get, Some}
 use Rattle.std.specs.List.{filter, slice_index_or, AllByRecursion}
 use Rattle.audit_types.specs.declared.shapes.Shape.{Shape}
 use Rattle.audit_types.specs.declared.records.Answered.{Answered}

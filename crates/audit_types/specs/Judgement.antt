@@ -4,7 +4,7 @@ use Rattle.audit_types.specs.declared.shapes.Kind.{Kind}
 use Rattle.audit_types.specs.declared.shapes.Kind.TheVariants.{Sum, Max}
 use Rattle.audit_types.specs.declared.records.Verdict.{Verdict}
 use Rattle.audit_types.specs.declared.records.Verdict.TheVariants.{Released, DeniedUnsafe, DeniedWide}
-use Rattle.audit_types.specs.Column.{Known, Answer, IsDangerous}
+use Rattle.audit_types.specs.Column.{Known, IsDangerous}
 use Rattle.audit_types.specs.Form.{HasNarrowForm, HasWideForm}
 use Rattle.audit_types.specs.Direction.{PinSomeRow}
 

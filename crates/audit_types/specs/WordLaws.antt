@@ -1,15 +1,15 @@
 -- The words of a set of rows are fixed by its rows.
-use Rattle.std.proofs.Common.{◌≡◌, ◌≢◌, ℕ, zero, suc, ◌+◌, ◌-◌, ◌*◌, ◌/◌, ◌%◌, ◌^◌, ◌<◌, ◌≤◌, Bool, true, false, cond, List, [], ◌∷◌, ◌==◌, eqb, refl, sym, ap, ◌∙◌, arith, length, get_or, map, set, inl, inr, ◌⊎◌, add-one, one-add, pow_mono, replicate, ◌||◌, get_or-set_same, get_or-set_other, length-set, ◌&&◌, min, max, not}
+use Rattle.std.proofs.Common.{◌≡◌, ℕ, zero, suc, ◌+◌, ◌-◌, ◌*◌, ◌/◌, ◌%◌, ◌^◌, ◌<◌, ◌≤◌, Bool, true, false, cond, List, [], ◌==◌, refl, sym, ap, ◌∙◌, arith, length, get_or, set, inl, inr, one-add, pow_mono, replicate, ◌||◌, get_or-set_same, get_or-set_other, length-set, ◌&&◌, min, max, not}
 use Rattle.std.proofs.lemmas.List.{get_or_past}
 use Rattle.std.specs.Int.Bits.{or_zero_l}
-use Rattle.std.specs.Prelude.{bit_or, bit_and, slice_index, nat_lt}
+use Rattle.std.specs.Prelude.{bit_or, bit_and, nat_lt}
 use Rattle.std.specs.Int.{bit_at, bit_not, w64}
-use Rattle.std.proofs.lemmas.Bool.{cases_lt, cases_eq, cases_Bool, eq-eqb, ne_eqb, eqb-true, eqb-false, lt-ltb, le-ltb}
+use Rattle.std.proofs.lemmas.Bool.{cases_lt, cases_eq, eq-eqb, ne_eqb, lt-ltb, le-ltb}
 use Rattle.std.proofs.lemmas.Bool.Decides.{nat_tests}
 use Rattle.std.proofs.lemmas.Nat.{mod-pow-add, pow_pos, or_lt, and_le_l, and_le_r}
 use Rattle.std.proofs.lemmas.Nat.Bits.{bit_at-lt, bit_at_and, bit_at_or, bit_at_set_same, bit_at_set_other, bit_at-zero, bit_at_ones, bit_at_ones_above, bit_at_not, shr_and_one}
 use Rattle.std.proofs.lemmas.List.FromFn.{fill_by_all}
-use Rattle.audit_types.specs.Rows.{Rows, has_row, rows_that, AscendsFrom, AreRows, intersection, union, complement}
+use Rattle.audit_types.specs.Rows.{has_row, rows_that, intersection, union, complement}
 use Rattle.audit_types.specs.RowLaws.{has-rows_that, has-rows_that_above, rows_that_agree, rows_that_none, rows_that_longer}
 use Rattle.audit_types.specs.Words.{has_bit, rows_of_words, row_mask, rows_of_set, set_of_rows, words_of, word_of, bits_that, AreWords, IsSetOfWords}
 use Rattle.audit_types.specs.declared.rows.RowSet.TheInside.{Inside}

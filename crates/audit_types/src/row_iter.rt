@@ -3,9 +3,8 @@ ghost use Rattle.std.specs.Prelude.{◌≡◌};
 ghost use Rattle.std.specs.Iterator.{YieldsFirst, item_count};
 ghost use Rattle.audit_types.specs.Words.{rows_of_words};
 
-use std::marker::Model;
-
 use crate::words::first_word;
+use std::marker::Model;
 
 /// The rows of a set that are still to come, in ascending order: contracts see their list.
 #[derive(Drop)]

@@ -2,10 +2,9 @@
 ghost use Rattle.std.specs.Prelude.{◌≡◌, ◌≢◌, ◌↔◌, ℕ, ◌<◌, ◌≤◌, List, [], length, IsTrue};
 ghost use Rattle.audit_types.specs.Rows.{AreRows, has_row, with_row, intersection, union, complement};
 
-use std::marker::Model;
-
 use crate::row_iter::RowIter;
 use crate::words::{and_words, count_bits, flip_words, or_words};
+use std::marker::Model;
 
 /// A set of the rows of a table of n rows.
 #[derive(Clone, Copy)]
@@ -33,6 +32,7 @@ impl Model for RowSet {
 }
 
 impl RowSet {
+    /// The empty set over n rows.
     pub fn new(n: u16) -> RowSet
         requires some { 0 < n }
         requires at_most { n ≤ 1024 }
@@ -42,14 +42,19 @@ impl RowSet {
         RowSet { words: [0; 16], n }
     }
 
+    /// The number of rows of the table.
     pub fn n(&self) -> u16
         ensures n { result ≡ self.now.n }
-        ensures are_rows { AreRows self.now.n self.now.list }
+
+        // What is true of every set.
+        ensures some { 0 < self.now.n }
         ensures at_most { self.now.n ≤ 1024 }
+        ensures are_rows { AreRows self.now.n self.now.list }
     {
         self.n
     }
 
+    /// Whether the row is in it.
     pub fn has(&self, row: u16) -> bool
         requires { row < self.now.n }
         ensures { result ≡ has_row self.now.list row }
@@ -58,6 +63,7 @@ impl RowSet {
         (word >> (row % 64)) & 1 == 1
     }
 
+    /// Adds a row, unless it is in it.
     pub fn add(&mut self, row: u16)
         requires { row < self.old.n }
         ensures n { self.new.n ≡ self.old.n }
@@ -67,6 +73,7 @@ impl RowSet {
         self.words[k] |= 1u64 << (row % 64);
     }
 
+    /// Becomes the intersection.
     pub fn and_with(&mut self, other: &RowSet)
         requires { other.now.n ≡ self.old.n }
         ensures n { self.new.n ≡ self.old.n }
@@ -75,6 +82,7 @@ impl RowSet {
         and_words(&mut self.words, &other.words);
     }
 
+    /// Becomes the union.
     pub fn or_with(&mut self, other: &RowSet)
         requires { other.now.n ≡ self.old.n }
         ensures n { self.new.n ≡ self.old.n }
@@ -90,6 +98,7 @@ impl RowSet {
         count_bits(&self.words)
     }
 
+    /// Whether no row is in it.
     pub fn is_empty(&self) -> bool
         ensures { IsTrue result ↔ (self.now.list ≡ []) }
     {
@@ -114,7 +123,14 @@ impl RowSet {
     /// Its rows, in ascending order. A walk costs a step for each of them, and sixteen for the words.
     ///
     /// In `for row in set.iter()` a loop's invariant speaks of `l.yielded`, the list of the rows so far, and of
-    /// `l.row-iterator`, the list of those that are left: `l.yielded ++ l.row-iterator ≡ l.set.list`.
+    /// `l.row-iterator`, the list of those that are left, as in
+    ///
+    ///     together : l.yielded ++ l.row-iterator ≡ l.set.list
+    ///     total : l.total + sum_of l.numbers l.row-iterator ≡ sum_of l.numbers l.set.list
+    ///
+    /// In a step `c.in-Some.ensures.steps` says that the row was the first that was left, and `c.next.new.self` is the
+    /// list that is left behind it. `walk_row` of specs/RowLaws.antt says then that the row is below n, `walk_more`
+    /// that `together` stays, and `length-rows` that the list has at most n rows; each takes `are_rows` of `n`.
     pub fn iter(&self) -> RowIter
         ensures { result ≡ self.now.list }
     {

@@ -15,3 +15,24 @@ pub struct Shape {
     pub rows: u16,
     pub kinds: [u8; 8],
 }
+
+impl Shape {
+    /// The number of secret columns.
+    pub fn columns(&self) -> u8
+        ensures { result ≡ columns self.now }
+    {
+        self.kinds.iter().filter(|kind| **kind > 0).count() as u8
+    }
+
+    /// What a secret column answers.
+    pub fn kind(&self, column: u8) -> Kind
+        requires valid { IsShape self.now }
+        requires column { column < columns self.now }
+        ensures { result ≡ kind_at self.now column }
+    {
+        match self.kinds[column as usize] {
+            2 => Kind::Max,
+            _ => Kind::Sum,
+        }
+    }
+}

@@ -1,4 +1,4 @@
-use Rattle.std.proofs.Common.{◌≡◌, ◌<◌, ◌^◌, get_or, sym, arith, rules}
+use Rattle.std.proofs.Common.{◌<◌, ◌^◌, get_or, sym, arith, rules}
 use Rattle.std.specs.Int.Count.{ones-le}
 use Rattle.audit_types.proofs.Counts.{count-none, count-word}
 use Rattle.audit_types.proofs.words.count_bits.Goals as goal

@@ -1,4 +1,4 @@
-use Rattle.std.proofs.Common.{◌≡◌, ◌≢◌, ℕ, ◌<◌, ◌^◌, length, get_or, arith, rules, sym, ◌∙◌}
+use Rattle.std.proofs.Common.{◌≢◌, ◌<◌, ◌^◌, length, get_or, arith, rules, sym, ◌∙◌}
 use Rattle.audit_types.proofs.Walk.{nothing_left, first_row, none_before_word, fewer_left}
 use Rattle.audit_types.proofs.row_iter.RowIterIterator.next.Goals as goal
 

@@ -1,5 +1,5 @@
-use Rattle.std.proofs.Common.{sym, ap, ◌∙◌, ◌||◌, ◌==◌, arith, ◌/◌, ◌<◌, length, ◌≡◌, ℕ}
-use Rattle.audit_types.specs.Rows.{has_row, Rows, with_row, rows_that}
+use Rattle.std.proofs.Common.{sym, ap, ◌∙◌, ◌||◌, ◌==◌, arith, ◌/◌, ◌<◌, length, ◌≡◌}
+use Rattle.audit_types.specs.Rows.{Rows, with_row}
 use Rattle.audit_types.specs.RowLaws.{rows_that_agree}
 use Rattle.audit_types.specs.WordLaws.{AreWords-set, has_bit-set, has-view}
 use Rattle.audit_types.proofs.rows.RowSet.add.Goals as goal

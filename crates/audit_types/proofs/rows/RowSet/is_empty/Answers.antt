@@ -1,9 +1,9 @@
-use Rattle.std.proofs.Common.{◌≡◌, [], replicate, sym, ap, ◌∙◌}
+use Rattle.std.proofs.Common.{replicate, sym, ap, ◌∙◌}
 use Rattle.std.proofs.lemmas.Bool.Decides.{Decides-eqb}
 use Rattle.std.proofs.lemmas.Slice.Eq.{slice_eq-Decides}
 use Rattle.audit_types.specs.Rows.{Rows}
-use Rattle.audit_types.specs.Words.{rows_of_words, words_of}
-use Rattle.audit_types.specs.WordLaws.{rows-words, words-none, words-words_of, no_rows}
+use Rattle.audit_types.specs.Words.{words_of}
+use Rattle.audit_types.specs.WordLaws.{words-none, words-words_of, no_rows}
 use Rattle.audit_types.proofs.rows.RowSet.is_empty.Goals as goal
 
 pub returns : goal.returns

@@ -1,6 +1,5 @@
-use Rattle.audit_types.specs.Rows.{rows_that}
 use Rattle.audit_types.specs.RowLaws.{rows_that_none}
-use Rattle.audit_types.specs.WordLaws.{no_bit, AreWords-none}
+use Rattle.audit_types.specs.WordLaws.{no_bit}
 use Rattle.audit_types.proofs.rows.RowSet.new.Goals as goal
 
 pub returns-clause-empty : goal.returns-clause-empty

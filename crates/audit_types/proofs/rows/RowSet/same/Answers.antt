@@ -1,7 +1,6 @@
-use Rattle.std.proofs.Common.{◌≡◌, true, sym, ◌∙◌, ap, IsTrue, refl}
+use Rattle.std.proofs.Common.{◌≡◌, sym, ◌∙◌, ap}
 use Rattle.std.proofs.lemmas.Slice.Eq.{slice_eq-Decides}
 use Rattle.std.proofs.lemmas.Bool.Decides.{Decides-eqb}
-use Rattle.audit_types.specs.Rows.{Rows}
 use Rattle.audit_types.specs.Words.{rows_of_set, set_of_rows}
 use Rattle.audit_types.specs.WordLaws.{words-rows, same_inside}
 use Rattle.audit_types.specs.declared.rows.RowSet.TheInside.{Inside}
