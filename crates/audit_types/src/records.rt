@@ -3,14 +3,14 @@
 use crate::rows::RowSet;
 
 /// A question: a secret column by its place among the secret columns, and the rows that it is over.
-#[derive(Clone, Copy)]
+#[derive(Clone, Copy, Debug, PartialEq, Eq)]
 pub struct Asked {
     pub column: u8,
     pub rows: RowSet,
 }
 
 /// A record: a question and the answer that was released.
-#[derive(Clone, Copy)]
+#[derive(Clone, Copy, Debug, PartialEq, Eq)]
 pub struct Answered {
     pub column: u8,
     pub rows: RowSet,

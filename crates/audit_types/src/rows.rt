@@ -1,9 +1,12 @@
 //! Sets of rows.
 ghost use Rattle.std.specs.Prelude.{◌≡◌, ◌≢◌, ◌↔◌, ℕ, ◌<◌, ◌≤◌, List, [], length, IsTrue};
-ghost use Rattle.audit_types.specs.Rows.{AreRows, has_row, with_row, intersection, union, complement};
+ghost use Rattle.audit_types.specs.Rows.{AreRows, has_row, same_rows, with_row, intersection, union, complement};
+ghost use Rattle.std.proofs.Common.{rules};
+ghost use Rattle.std.specs.Cmp.Rules.{comparing};
 
 use crate::row_iter::RowIter;
 use crate::words::{and_words, count_bits, flip_words, or_words};
+use std::fmt::{self, Debug, Formatter, Write};
 use std::marker::Model;
 
 /// A set of the rows of a table of n rows.
@@ -135,5 +138,25 @@ impl RowSet {
         ensures { result ≡ self.now.list }
     {
         RowIter::new(self.words)
+    }
+}
+
+impl PartialEq for RowSet {
+    ghost eq = { same_rows };
+
+    ghost laws = { Prim.search (comparing, rules) };
+
+    fn eq(&self, other: &RowSet) -> bool {
+        self.same(other)
+    }
+}
+
+impl Eq for RowSet {
+    ghost laws = { Prim.search (comparing, rules) };
+}
+
+impl Debug for RowSet {
+    fn fmt<W: Write>(&self, f: &mut Formatter<W>) -> fmt::Result {
+        f.debug_set().entries(self.iter()).finish()
     }
 }
