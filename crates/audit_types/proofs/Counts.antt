@@ -9,15 +9,18 @@ use Rattle.audit_types.specs.RowLaws.{rows_that_more}
 use Rattle.audit_types.specs.Words.{has_bit}
 use Rattle.audit_types.specs.WordLaws.{same_place}
 
+-- a bit counts as itself
 ones_of_bit : (b : ℕ) → b < 2 → ones b ≡ b
 unfolding ones
 ones_of_bit zero h = refl
 ones_of_bit (suc zero) h = refl
 ones_of_bit (suc (suc b)) h = absurd (omega arith)
 
+-- the order of a sum of one
 one-first : (i : ℕ) → i + 1 ≡ 1 + i
 one-first i = omega arith
 
+-- one bit more
 ones_more : (x i : ℕ) → ones (x % 2 ^ (i + 1)) ≡ ones (x % 2 ^ i) + bit_at x i
 ones_more x i =
     let split : x % 2 ^ (i + 1) ≡ (x / 2 ^ i % 2 ^ 1) * 2 ^ i + x % 2 ^ i = ap (λ m. x % 2 ^ m) (one-first i) ∙ mod-pow-add x 1 i in
@@ -26,6 +29,7 @@ ones_more x i =
     let bit : ones (x / 2 ^ i % 2 ^ 1) ≡ bit_at x i = ones_of_bit (bit_at x i) (bit_at-lt x i) in
     ap ones split ∙ apart ∙ ap (λ b. b + ones (x % 2 ^ i)) bit ∙ add_comm (bit_at x i) (ones (x % 2 ^ i))
 
+-- a bit is one row or none
 one_row : (b : ℕ) (r : ℕ) → b < 2 → length (cond (b == 1) (r ∷ []) []) ≡ b
 one_row zero r h = refl
 one_row (suc zero) r h = refl

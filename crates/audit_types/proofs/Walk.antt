@@ -31,12 +31,15 @@ abbrev pub cleared : List ℕ → ℕ → List ℕ
 cleared words place = set words place (bit_and (get_or words place 0) (bit_not w64 (1 * 2 ^ (trailing_zeros w64 (get_or words place 0)) % 2 ^ 64)))
 
 module _ (words : List ℕ) (place : ℕ) (l : place < length words) (fits : get_or words place 0 < 2 ^ 64) (some : get_or words place 0 ≢ 0) where
+  -- the word at the place
   abbrev word : ℕ
   word = get_or words place 0
 
+  -- the place of its lowest bit
   abbrev bit : ℕ
   bit = trailing_zeros w64 (get_or words place 0)
 
+  -- it is set, and no bit below it is
   lowest : (bit < 64) × (bit_at word bit ≡ 1) × ((i : ℕ) → i < bit → bit_at word i ≡ 0)
   lowest = bit_at-trailing_zeros w64 word (omega arith) fits
 
@@ -61,6 +64,7 @@ module _ (words : List ℕ) (place : ℕ) (l : place < length words) (fits : get
       ∙ ap (λ x. bit_at x bit == 1) (get_or-set_same words place _ 0 l)
       ∙ ap (λ x. x == 1) (bit_at_clear_same w64 word bit low)
 
+  -- the row of this bit is there
   here : has_bit words (64 * place + bit) ≡ true
   here = same_place words place bit lowest.0 ∙ ap (λ x. x == 1) lowest.1
 
@@ -85,10 +89,6 @@ module _ (words : List ℕ) (place : ℕ) (l : place < length words) (fits : get
     first_row sixteen =
         let low = lowest.0 in
         rows_that_first (has_bit words) (has_bit (cleared words place)) 1024 (64 * place + bit) (omega arith) here none_below done kept
-
-    -- the walk goes on from this word
-    pub still_none_before : (r : ℕ) → r < 64 * place → has_bit (cleared words place) r ≡ false
-    still_none_before r h = done r (omega arith)
 
 -- a row that was taken leaves one less
 pub fewer_left : {r : ℕ} {before after : List ℕ} → before ≡ r ∷ after → MakesProgress {S = List ℕ} {A = ℕ} (λ _. Unit {0}) (item_count {S = List ℕ} {A = ℕ} (λ s. s)) before (Some r) after

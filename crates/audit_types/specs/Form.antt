@@ -31,6 +31,7 @@ pub record IsContent (row : List ℤ) (g : ℕ) : Type 0 where
 abbrev pub pivot : List ℤ → ℕ
 pivot row = position_or_len (λ x. not (is_zero x)) row
 
+-- the first entry that is not 0
 abbrev pub pivot_entry : List ℤ → ℤ
 pivot_entry row = number_at row (pivot row)
 

@@ -30,6 +30,7 @@ answers_of column history = map answer_in (filter (λ r. r.column == column) his
 pub record Setting : Type 0 where
   pub shape : Shape
 
+-- what may be read of a table of this shape
 abbrev pub setting_of : Shape → Setting
 setting_of shape = record { shape = shape }
 

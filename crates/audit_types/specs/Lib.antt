@@ -8,6 +8,7 @@ pub mod Form
 pub mod Direction
 pub mod Judgement
 pub mod History
+pub mod Laws
 pub mod Words
 pub mod RowsLeft
 pub mod WordLaws

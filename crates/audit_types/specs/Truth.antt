@@ -9,6 +9,7 @@ use Rattle.audit_types.specs.declared.shapes.Kind.TheVariants.{Sum, Max}
 abbrev pub number_at : List ℤ → ℕ → ℤ
 number_at w r = slice_index_or w r (pos 0)
 
+-- the sum of the numbers over some rows
 abbrev pub sum_over : List ℤ → List ℕ → ℤ
 sum_over w [] = pos 0
 sum_over w (r ∷ rows) = number_at w r +ℤ sum_over w rows
@@ -18,6 +19,7 @@ abbrev pub greatest_over : List ℤ → List ℕ → ℤ
 greatest_over w [] = pos 0
 greatest_over w (r ∷ rows) = fold int_max (number_at w r) (map (number_at w) rows)
 
+-- the true answer to a question over a set, by the kind of its column
 abbrev pub truth : Kind → List ℤ → List ℕ → ℤ
 truth Sum w rows = sum_over w rows
 truth Max w rows = greatest_over w rows

@@ -14,6 +14,7 @@ use Rattle.audit_types.specs.RowLaws.{has-rows_that, has-rows_that_above, rows_t
 use Rattle.audit_types.specs.Words.{has_bit, rows_of_words, row_mask, rows_of_set, set_of_rows, words_of, word_of, bits_that, AreWords, IsSetOfWords}
 use Rattle.audit_types.specs.declared.rows.RowSet.TheInside.{Inside}
 
+-- a bit is worth its power or nothing
 one_bit : (x k : ℕ) → cond (bit_at x k == 1) (2 ^ k) 0 ≡ bit_at x k * 2 ^ k
 one_bit x k =
     elim (cases_eq (bit_at x k) 1) [
@@ -31,6 +32,7 @@ bits-number x (suc k) =
     let both : x % 2 ^ (suc k) ≡ (x / 2 ^ k % 2 ^ 1) * 2 ^ k + x % 2 ^ k = ap (λ m. x % 2 ^ m) (sym (one-add k)) ∙ mod-pow-add x 1 k in
     rw (front, last, both) (omega arith)
 
+-- tests that agree below k make one number
 bits_that_agree : (p q : ℕ → Bool) (k : ℕ) → ((i : ℕ) → i < k → p i ≡ q i) → bits_that p k ≡ bits_that q k
 unfolding bits_that
 bits_that_agree p q zero h = refl
@@ -47,20 +49,24 @@ has-view n words h r =
       | inr l ↦ has-rows_that_above (has_bit words) n r l ∙ sym (h.none_above r l)
     ]
 
+-- a bit of a word, as a row
 pub same_place : (words : List ℕ) (k i : ℕ) → i < 64 → has_bit words (64 * k + i) ≡ (bit_at (get_or words k 0) i == 1)
 same_place words k i l =
     let row : (64 * k + i) / 64 ≡ k = omega arith in
     let bit : (64 * k + i) % 64 ≡ i = omega arith in
     ap (λ m. bit_at (get_or words m 0) ((64 * k + i) % 64) == 1) row ∙ ap (λ m. bit_at (get_or words k 0) m == 1) bit
 
+-- the word at a place is that of the rows
 word-at : (n : ℕ) (words : List ℕ) → AreWords n words → (k : ℕ) → word_of (rows_that (has_bit words) n) k ≡ get_or words k 0
 word-at n words h k =
     let range : get_or words k 0 < 2 ^ 64 = h.ranges k in
     bits_that_agree _ (λ i. bit_at (get_or words k 0) i == 1) 64 (λ i l. has-view n words h (64 * k + i) ∙ same_place words k i l) ∙ bits-number (get_or words k 0) 64 ∙ omega arith
 
+-- the words are those of their rows
 pub words-words_of : (n : ℕ) (words : List ℕ) → AreWords n words → words_of (rows_that (has_bit words) n) ≡ words
 words-words_of n words h = sym (fill_by_all (word_of (rows_that (has_bit words) n)) words 16 0 h.sixteen (λ k l. sym (word-at n words h k)))
 
+-- a set is that of its rows
 pub words-rows : (a : Inside) → IsSetOfWords a → set_of_rows (rows_of_set a) ≡ a
 words-rows a h = ap (λ w. record { words = w; n = a.n }) (words-words_of a.n a.words h)
 
@@ -68,6 +74,7 @@ words-rows a h = ap (λ w. record { words = w; n = a.n }) (words-words_of a.n a.
 pub tested : (words : List ℕ) (r : ℕ) → (bit_and (get_or words (r / 64) 0 / 2 ^ (r % 64)) 1 == 1) ≡ has_bit words r
 tested words r = ap (λ b. b == 1) (shr_and_one (get_or words (r / 64) 0) (r % 64))
 
+-- a list of zeros is 0 everywhere
 zero_at : (k i : ℕ) → ◌≡◌ {A = ℕ} (get_or (replicate k 0) i 0) 0
 zero_at zero i = refl
 zero_at (suc k) zero = refl
@@ -77,13 +84,16 @@ zero_at (suc k) (suc i) = zero_at k i
 pub no_bit : (k r : ℕ) → has_bit (replicate k 0) r ≡ false
 no_bit k r = rw (zero_at k (r / 64), bit_at-zero (r % 64)) refl
 
+-- words without a bit are words of an empty set
 pub AreWords-none : (n : ℕ) → 0 < n → n ≤ 1024 → AreWords n (replicate 16 0)
 AreWords-none n s h = record { some = s; at_most = h; sixteen = refl; ranges = λ k. omega (arith, zero_at 16 k); none_above = λ r l. no_bit 16 r }
 
+-- a test or none
 or_false : (b : Bool) → (b || false) ≡ b
 or_false true = refl
 or_false false = refl
 
+-- a test or all
 or_true : (b : Bool) → (b || true) ≡ true
 or_true true = refl
 or_true false = refl
@@ -132,33 +142,40 @@ AreWords-set n words row l h =
           has_bit-set words row r below ∙ rw (h.none_above r m, other) refl;
     }
 
+-- both bits are set
 min_test : (a b : ℕ) → a < 2 → b < 2 → (min a b == 1) ≡ ((a == 1) && (b == 1))
 min_test a b p q = grind (arith, nat_tests)
 
+-- one of two bits is set
 max_test : (a b : ℕ) → a < 2 → b < 2 → (max a b == 1) ≡ ((a == 1) || (b == 1))
 max_test a b p q = grind (arith, nat_tests)
 
 module _ (a b words : List ℕ) (n : ℕ) (p : AreWords n a) (q : AreWords n b) (l : length words ≡ 16) where
+  -- no word is past the sixteenth
   zero_past : (xs : List ℕ) → length xs ≡ 16 → (k : ℕ) → 16 ≤ k → get_or xs k 0 ≡ 0
   zero_past xs e k m = get_or_past xs k 0 (omega arith)
 
+  -- every place has the `&` of the two
   all_and : ((k : ℕ) → k < 16 → get_or words k 0 ≡ bit_and (get_or a k 0) (get_or b k 0)) → (k : ℕ) → get_or words k 0 ≡ bit_and (get_or a k 0) (get_or b k 0)
   all_and h k = elim (cases_lt k 16) [
     | inl m ↦ h k m
     | inr m ↦ zero_past words l k m ∙ sym (ap (λ x. bit_and x (get_or b k 0)) (zero_past a p.sixteen k m))
   ]
 
+  -- every place has the `|` of the two
   all_or : ((k : ℕ) → k < 16 → get_or words k 0 ≡ bit_or (get_or a k 0) (get_or b k 0)) → (k : ℕ) → get_or words k 0 ≡ bit_or (get_or a k 0) (get_or b k 0)
   all_or h k = elim (cases_lt k 16) [
     | inl m ↦ h k m
     | inr m ↦ zero_past words l k m ∙ sym (ap (λ x. bit_or x (get_or b k 0)) (zero_past a p.sixteen k m) ∙ or_zero_l (get_or b k 0) ∙ zero_past b q.sixteen k m)
   ]
 
+  -- a row is in both
   bit-and : ((k : ℕ) → get_or words k 0 ≡ bit_and (get_or a k 0) (get_or b k 0)) → (r : ℕ) → has_bit words r ≡ (has_bit a r && has_bit b r)
   bit-and h r =
       ap (λ x. bit_at x (r % 64) == 1) (h (r / 64)) ∙ ap (λ x. x == 1) (bit_at_and (get_or a (r / 64) 0) (get_or b (r / 64) 0) (r % 64))
       ∙ min_test _ _ (bit_at-lt (get_or a (r / 64) 0) (r % 64)) (bit_at-lt (get_or b (r / 64) 0) (r % 64))
 
+  -- a row is in one
   bit-or : ((k : ℕ) → get_or words k 0 ≡ bit_or (get_or a k 0) (get_or b k 0)) → (r : ℕ) → has_bit words r ≡ (has_bit a r || has_bit b r)
   bit-or h r =
       ap (λ x. bit_at x (r % 64) == 1) (h (r / 64)) ∙ ap (λ x. x == 1) (bit_at_or (get_or a (r / 64) 0) (get_or b (r / 64) 0) (r % 64))
@@ -194,10 +211,6 @@ module _ (a b words : List ℕ) (n : ℕ) (p : AreWords n a) (q : AreWords n b) 
   rows-or h =
       rows_that_agree _ _ n (λ r m. bit-or (all_or h) r ∙ sym (ap (λ x. x || has_row (rows_that (has_bit b) n) r) (has-view n a p r) ∙ ap (λ x. has_bit a r || x) (has-view n b q r)))
 
--- the rows of the words, as a list that is its own test
-pub rows-again : (n : ℕ) (words : List ℕ) → AreWords n words → rows_that (has_row (rows_that (has_bit words) n)) n ≡ rows_that (has_bit words) n
-rows-again n words h = rows_that_agree _ _ n (λ r l. has-view n words h r)
-
 -- a set is its words and its number
 pub same_inside : (a b : Inside) → a.words ≡ b.words → a.n ≡ b.n → a ≡ b
 same_inside a b p q = ap (λ w. record { words = w; n = a.n }) p ∙ ap (λ m. record { words = b.words; n = m }) q
@@ -214,6 +227,7 @@ no_rows n words e = ap (λ w. rows_that (has_bit w) n) e ∙ rows_that_none (has
 pub words-none : (n : ℕ) → 0 < n → n ≤ 1024 → words_of [] ≡ replicate 16 0
 words-none n s h = ap words_of (sym (no_rows n (replicate 16 0) refl)) ∙ words-words_of n (replicate 16 0) (AreWords-none n s h)
 
+-- a bit of the mask is that of a row below n
 bit_of_mask : (n k i : ℕ) → i < 64 → (bit_at (row_mask n k) i == 1) ≡ nat_lt (64 * k + i) n
 bit_of_mask n k i l =
     elim (cases_lt (64 * k + i) n) [
@@ -221,17 +235,21 @@ bit_of_mask n k i l =
       | inr h ↦ ap (λ b. b == 1) (bit_at_ones_above (min 64 (n - 64 * k)) i (omega arith)) ∙ sym (le-ltb (64 * k + i) n h)
     ]
 
+-- a mask of at most 64 bits fits a word
 ones_fit : (j : ℕ) → j ≤ 64 → 2 ^ j - 1 < 2 ^ 64
 ones_fit j h = let big : 2 ^ j ≤ 2 ^ 64 = pow_mono h in omega (arith, pow_pos j)
 
+-- the mask is a word
 mask_small : (n k : ℕ) → row_mask n k < 2 ^ 64
 mask_small n k = ones_fit (min 64 (n - 64 * k)) (omega arith)
 
+-- a bit that is not set, under the mask
 turned : (a b : ℕ) → a < 2 → b < 2 → (min (1 - a) b == 1) ≡ ((b == 1) && not (a == 1))
 turned a b p q = grind (arith, nat_tests)
 
 module _ (a words : List ℕ) (n : ℕ) (p : AreWords n a) (l : length words ≡ 16)
     (flipped : (k : ℕ) → k < 16 → get_or words k 0 ≡ bit_and (bit_not w64 (get_or a k 0)) (row_mask n k)) where
+  -- a row is there where it is below n and was not
   bit-flip : (r : ℕ) → r < 1024 → has_bit words r ≡ (nat_lt r n && not (has_bit a r))
   bit-flip r small =
       let bit : r % 64 < 64 = omega arith in
@@ -243,6 +261,7 @@ module _ (a words : List ℕ) (n : ℕ) (p : AreWords n a) (l : length words ≡
       ∙ turned _ _ (bit_at-lt (get_or a (r / 64) 0) (r % 64)) (bit_at-lt (row_mask n (r / 64)) (r % 64))
       ∙ ap (λ b. b && not (has_bit a r)) (bit_of_mask n (r / 64) (r % 64) bit ∙ ap (λ x. nat_lt x n) place)
 
+  -- no word is past the sixteenth
   past : (k : ℕ) → 16 ≤ k → get_or words k 0 ≡ 0
   past k m = get_or_past words k 0 (omega arith)
 
@@ -262,6 +281,7 @@ module _ (a words : List ℕ) (n : ℕ) (p : AreWords n a) (l : length words ≡
     ];
   }
 
+  -- the rows are those that were not there
   pub rows-flip : rows_that (has_bit words) n ≡ complement n (rows_that (has_bit a) n)
   rows-flip = rows_that_agree _ _ n (λ r m.
       bit-flip r (omega (arith, p.at_most)) ∙ rw (lt-ltb r n m) refl ∙ ap not (sym (has-view n a p r)))

@@ -5,10 +5,13 @@
 #![tactic(auto)]
 
 mod columns;
+pub mod laws;
 mod records;
 mod row_iter;
 mod rows;
 mod shapes;
+#[cfg(test)]
+mod tests;
 mod words;
 
 pub use columns::ColumnAudit;

@@ -1,0 +1,37 @@
+//! Laws that show the definitions right. Each function computes nothing: its contract is the law.
+ghost use Rattle.audit_types.specs.Laws.{SameSetInAnyOrder, SameTruthInAnyOrder, GreatestIsBoundAndReached};
+ghost use Rattle.audit_types.specs.Laws.{TrueAnswersKeepAgreement, LegalIsPossible, OneRowIsDangerous};
+ghost use Rattle.audit_types.specs.Laws.{OtherColumnsTellNothing, OwnAnswersDecide, OneCanonicalDirection};
+
+/// The order in which the rows of a set were added changes neither the set nor the truth over it.
+pub fn rows_in_any_order()
+    ensures set { SameSetInAnyOrder }
+    ensures truth { SameTruthInAnyOrder }
+{}
+
+/// No number over a set is above its greatest, and one of the set's rows has it.
+pub fn greatest()
+    ensures { GreatestIsBoundAndReached }
+{}
+
+/// A question that is answered truly leaves a possible history, so a legal history is possible.
+pub fn true_answers()
+    ensures agreement { TrueAnswersKeepAgreement }
+    ensures legal { LegalIsPossible }
+{}
+
+/// A sum or a maximum over one row is dangerous after every possible history: its answer is the row's number.
+pub fn one_row()
+    ensures { OneRowIsDangerous }
+{}
+
+/// Danger depends on nothing but the column's own answers.
+pub fn own_answers()
+    ensures others { OtherColumnsTellNothing }
+    ensures own { OwnAnswersDecide }
+{}
+
+/// A row has at most one canonical direction, whoever computes it.
+pub fn canonical_direction()
+    ensures { OneCanonicalDirection }
+{}
