@@ -1,0 +1,147 @@
+//! The definitions on cases worked out by hand: a table of six people, and a table of three rows.
+
+ghost use Rattle.std.specs.Prelude.{◌≡◌, ◌<◌, ◌≤◌, length};
+
+use super::*;
+use audit_types::{Answered, Kind, RowSet};
+
+const SALARIES: [i64; 6] = [100, 200, 300, 400, 500, 600];
+
+// Another table that gives the same sums over QA, over everybody, over those from 41 on, and over OPS.
+const OTHER_SALARIES: [i64; 6] = [110, 190, 300, 400, 490, 610];
+
+const BONUSES: [i64; 6] = [7, 9, 9, 4, 5, 2];
+
+const EVERYBODY: [bool; 6] = [true; 6];
+
+const QA: [bool; 6] = [true, true, false, false, false, false];
+
+const OTHERS: [bool; 6] = [false, false, true, true, true, true];
+
+const OPS: [bool; 6] = [false, false, true, true, false, false];
+
+const FROM_41: [bool; 6] = [false, true, false, true, false, true];
+
+const FROM_41_NOT_DEV: [bool; 6] = [false, true, false, true, false, false];
+
+const FROM_30_TO_35: [bool; 6] = [true, false, true, false, false, false];
+
+const SECOND: [bool; 6] = [false, true, false, false, false, false];
+
+const NOBODY: [bool; 6] = [false; 6];
+
+fn rows(members: &[bool]) -> RowSet
+    requires some { 0 < length members.now }
+    requires at_most { length members.now ≤ 1024 }
+    ensures { result.n ≡ length members.now }
+{
+    let n = members.len() as u16;
+    let mut rows = RowSet::new(n);
+    for row in 0..n {
+        if members[row as usize] {
+            rows.add(row);
+        }
+    }
+    rows
+}
+
+fn sum(members: &[bool], answer: i64) -> Answered
+    requires some { 0 < length members.now }
+    requires at_most { length members.now ≤ 1024 }
+    ensures { result.rows.n ≡ length members.now }
+{
+    Answered {
+        column: 0,
+        rows: rows(members),
+        answer,
+    }
+}
+
+fn maximum(members: &[bool], answer: i64) -> Answered
+    requires some { 0 < length members.now }
+    requires at_most { length members.now ≤ 1024 }
+    ensures { result.rows.n ≡ length members.now }
+{
+    Answered {
+        column: 1,
+        rows: rows(members),
+        answer,
+    }
+}
+
+#[test]
+fn sums_and_maxima_over_groups(rt: HostRuntime) {
+    let cases = [
+        (QA, 300, 9),
+        (EVERYBODY, 2100, 9),
+        (FROM_41, 1200, 9),
+        (OPS, 700, 9),
+        (FROM_41_NOT_DEV, 600, 9),
+    ];
+    for (members, sum, maximum) in cases {
+        let rows = rows(&members);
+        assert_eq!(rt; truth(Kind::Sum, &SALARIES, &rows), sum);
+        assert_eq!(rt; truth(Kind::Max, &BONUSES, &rows), maximum);
+    }
+}
+
+#[test]
+fn another_table_gives_the_same_answers_until_the_denied_one(rt: HostRuntime) {
+    let answered = [
+        sum(&QA, 300),
+        sum(&EVERYBODY, 2100),
+        sum(&FROM_41, 1200),
+        sum(&OPS, 700),
+    ];
+    assert!(rt; agrees(Kind::Sum, &SALARIES, &answered, 0));
+    assert!(rt; agrees(Kind::Sum, &OTHER_SALARIES, &answered, 0));
+
+    let denied = [sum(&FROM_41_NOT_DEV, 600)];
+    assert!(rt; agrees(Kind::Sum, &SALARIES, &denied, 0));
+    assert!(rt; !agrees(Kind::Sum, &OTHER_SALARIES, &denied, 0));
+    assert!(rt; agrees(Kind::Sum, &OTHER_SALARIES, &denied, 1));
+}
+
+#[test]
+fn two_sums_over_three_rows_leave_a_direction_and_three_leave_none(rt: HostRuntime) {
+    let two = [sum(&[true, true, false], 3), sum(&[false, true, true], 5)];
+    let three = [
+        sum(&[true, true, false], 3),
+        sum(&[false, true, true], 5),
+        sum(&[true, false, true], 4),
+    ];
+    for (numbers, third) in [([1, 2, 3], true), ([0, 3, 2], false), ([6, -3, 8], false)] {
+        assert!(rt; agrees(Kind::Sum, &numbers, &two, 0));
+        assert_eq!(rt; agrees(Kind::Sum, &numbers, &three, 0), third);
+    }
+}
+
+#[test]
+fn the_extremes_of_three_maxima_are_all_their_rows(rt: HostRuntime) {
+    let answered = [maximum(&EVERYBODY, 9), maximum(&QA, 9), maximum(&OTHERS, 9)];
+    assert!(rt; agrees(Kind::Max, &BONUSES, &answered, 1));
+    assert_eq!(rt; extremes(&answered, &answered[0]), rows(&EVERYBODY));
+    assert_eq!(rt; extremes(&answered, &answered[1]), rows(&QA));
+    assert_eq!(rt; extremes(&answered, &answered[2]), rows(&OTHERS));
+}
+
+#[test]
+fn an_answer_above_an_earlier_one_over_more_rows_has_no_extreme_row(rt: HostRuntime) {
+    let answered = [maximum(&EVERYBODY, 9), maximum(&QA, 10)];
+    assert_eq!(rt; extremes(&answered, &answered[1]), rows(&NOBODY));
+}
+
+#[test]
+fn the_answer_8_would_leave_one_row_as_the_only_extreme_of_qa(rt: HostRuntime) {
+    let answered = [
+        maximum(&EVERYBODY, 9),
+        maximum(&QA, 9),
+        maximum(&OTHERS, 9),
+        maximum(&FROM_30_TO_35, 8),
+    ];
+    assert_eq!(rt; upper_bound(&answered, 1, 0), Some(8));
+    assert_eq!(rt; upper_bound(&answered, 1, 1), Some(9));
+    assert_eq!(rt; upper_bound(&answered, 0, 1), None);
+    assert_eq!(rt; extremes(&answered, &answered[1]), rows(&SECOND));
+    assert_eq!(rt; extremes(&answered, &answered[3]), rows(&FROM_30_TO_35));
+}
