@@ -1,0 +1,7 @@
+pub mod FirstFault
+pub mod FaultsOfColumns
+pub mod RepeatedNames
+pub mod SecretPlaces
+pub mod ShapeKinds
+pub mod KeyCount
+pub mod ValidShapes

@@ -1,0 +1,5 @@
+pub mod Columns
+pub mod SecretShape
+pub mod Faults
+pub mod Kept
+pub mod Reading

@@ -1,0 +1,18 @@
+//! The schema of a table: which columns it has, and which of them are secret.
+//!
+//! Start with `read_schema`: its clause says that it answers what the bytes mean, or their first fault. docs/FORMATS.md
+//! has the format in words.
+#![tactic(auto)]
+
+mod faults;
+mod names;
+mod reading;
+mod roles;
+mod schemas;
+#[cfg(test)]
+mod tests;
+
+pub use faults::SchemaFault;
+pub use reading::read_schema;
+pub use roles::Role;
+pub use schemas::Schema;
