@@ -1,0 +1,82 @@
+-- What one read more of a file gives.
+use Rattle.std.proofs.Common.{Bor, List, ℕ, ◌≡◌, ◌∙◌, ◌++◌, ◌∷◌, [], true, inl, Some, None, sym, ap, append_assoc}
+use Rattle.std.specs.Prelude.{Option, Result, Ok}
+use Rattle.csv.specs.Reading.{Reached, RowStep, ReadRecord, default_config, source_of, strip_bom}
+use Rattle.csv.specs.Records.{Row, fields_of}
+use Rattle.csv.specs.declared.iter.ByteRecordsIntoIter.{ByteRecordsIntoIter}
+use Rattle.csv.specs.declared.error.Error.{Error}
+use Rattle.csv.specs.declared.parser.State.TheVariants as state
+use Rattle.csv.proofs.ReadFacts.{rows-end, rows-more}
+use Rattle.schema_json.specs.Columns.{Column}
+use Rattle.table_load.specs.Faults.{UnlessMemory}
+use Rattle.table_load.specs.Reading.{Fields, records_of, roles_of, data_fault, file_fault}
+use Rattle.table_load.specs.Steps.{HasRead, HasOpened}
+use Rattle.table_load.specs.declared.faults.TableFault.{TableFault}
+use Rattle.table_load.specs.declared.faults.TableFault.TheVariants.{TooLong, Header, Length, NotText, NotNumber, OutOfRange, TooManyRows, NoRows, NoMemory}
+use Rattle.table_load.proofs.FirstFaults.{short_file, good_header}
+use Rattle.table_load.proofs.RecordsOfBytes.{all_of_records, front_of_records}
+
+-- a reader of bytes, and what it knows of them
+abbrev Reads : Type 0
+Reads = ByteRecordsIntoIter (Bor (List ℕ))
+
+-- a read that gives a record leaves the reader behind it
+pub read_more : (bytes : List ℕ) (rows : List Fields) (a b : Reads) (row : Row) → HasRead bytes rows a → RowStep (λ (s : Bor (List ℕ)). Some s.now) a.rdr b.rdr b.left (Some (Ok row)) → HasRead bytes (rows ++ fields_of row ∷ []) b
+read_more bytes rows a b row has step =
+    let more = rows-more (λ (s : Bor (List ℕ)). Some s.now) a.rdr b.rdr (fields_of row) default_config state.StartRecord (strip_bom bytes) has.left rows has.as_usual has.source has.reached step.0 in
+    record {
+      plain = step.0.3 ∙ has.plain;
+      ready = inl step.1;
+      turns = step.2;
+      as_usual = step.0.2 ∙ has.as_usual;
+      left = more.0;
+      source = more.1;
+      reached = more.2;
+    }
+
+-- a read that gives none has read them all
+pub read_all : (bytes : List ℕ) (rows : List Fields) (a b : Reads) → HasRead bytes rows a → RowStep (λ (s : Bor (List ℕ)). Some s.now) a.rdr b.rdr b.left None → records_of bytes ≡ rows
+read_all bytes rows a b has step =
+    all_of_records bytes rows a.rdr.state has.left has.reached (rows-end (λ (s : Bor (List ℕ)). Some s.now) a.rdr b.rdr [] default_config has.left has.as_usual has.source step)
+
+-- what was read stands at the front of all records
+pub read_front : (bytes : List ℕ) (rows : List Fields) (a : Reads) → HasRead bytes rows a → (rest : List Fields) × (records_of bytes ≡ rows ++ rest)
+read_front bytes rows a has = front_of_records bytes rows a.rdr.state has.left has.reached
+
+-- what an opened file with a record more is judged by: the records so far, that one, and some others
+pub judged : (columns : List Column) (bytes : List ℕ) (rows : List Fields) (a b : Reads) (row : Row) → HasOpened columns bytes rows a → RowStep (λ (s : Bor (List ℕ)). Some s.now) a.rdr b.rdr b.left (Some (Ok row))
+    → (rest : List Fields) × (file_fault columns bytes ≡ data_fault (roles_of columns) (rows ++ fields_of row ∷ rest))
+judged columns bytes rows a b row opened step =
+    let front = read_front bytes (opened.header ∷ (rows ++ fields_of row ∷ [])) b (read_more bytes (opened.header ∷ rows) a b row opened.read step) in
+    (front.0,
+     short_file columns bytes _ opened.short (front.1 ∙ ap (λ rs. opened.header ∷ rs) (append_assoc rows (fields_of row ∷ []) front.0))
+     ∙ good_header columns opened.header (rows ++ fields_of row ∷ front.0) opened.named)
+
+-- a record more of an opened file
+pub opened_more : (columns : List Column) (bytes : List ℕ) (rows : List Fields) (a b : Reads) (row : Row) → HasOpened columns bytes rows a → RowStep (λ (s : Bor (List ℕ)). Some s.now) a.rdr b.rdr b.left (Some (Ok row))
+    → HasOpened columns bytes (rows ++ fields_of row ∷ []) b
+opened_more columns bytes rows a b row opened step =
+    record { short = opened.short; header = opened.header; named = opened.named; read = read_more bytes (opened.header ∷ rows) a b row opened.read step }
+
+-- an opened file of which no record is left has the records so far
+pub all_read : (columns : List Column) (bytes : List ℕ) (rows : List Fields) (a b : Reads) (opened : HasOpened columns bytes rows a) → RowStep (λ (s : Bor (List ℕ)). Some s.now) a.rdr b.rdr b.left None
+    → records_of bytes ≡ opened.header ∷ rows
+all_read columns bytes rows a b opened step = read_all bytes (opened.header ∷ rows) a b opened.read step
+
+-- it is judged by them
+pub judged_all : (columns : List Column) (bytes : List ℕ) (rows : List Fields) (a b : Reads) → HasOpened columns bytes rows a → RowStep (λ (s : Bor (List ℕ)). Some s.now) a.rdr b.rdr b.left None
+    → file_fault columns bytes ≡ data_fault (roles_of columns) rows
+judged_all columns bytes rows a b opened step =
+    short_file columns bytes (opened.header ∷ rows) opened.short (all_read columns bytes rows a b opened step) ∙ good_header columns opened.header rows opened.named
+
+-- a fault of the file is answered, whichever it is
+pub fault_answered : (fault : TableFault) (P : Type 0) → P → UnlessMemory fault P
+fault_answered TooLong P h = h
+fault_answered Header P h = h
+fault_answered (Length line) P h = h
+fault_answered (NotText line) P h = h
+fault_answered (NotNumber line column) P h = h
+fault_answered (OutOfRange line column) P h = h
+fault_answered TooManyRows P h = h
+fault_answered NoRows P h = h
+fault_answered NoMemory P h = tt

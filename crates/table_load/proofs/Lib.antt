@@ -1,0 +1,12 @@
+pub mod NumeralLaw
+pub mod Digits
+pub mod FieldPlaces
+pub mod SchemaPlaces
+pub mod FileRoles
+pub mod SetSums
+pub mod RecordsOfBytes
+pub mod FirstFaults
+pub mod HasReadMore
+pub mod GoodCells
+pub mod ColumnSteps
+pub mod LoadedTables

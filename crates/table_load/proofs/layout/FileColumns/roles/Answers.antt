@@ -1,0 +1,30 @@
+use Rattle.std.proofs.Common.{◌≡◌, ◌<◌, ◌+◌, true, false, not, sym, ap, ◌∙◌, arith, length, drop, List, [], ◌∷◌, ◌++◌, append_assoc}
+use Rattle.std.specs.Result.{is_ok}
+use Rattle.schema_json.specs.declared.roles.Role.{Role}
+use Rattle.table_load.specs.Reading.{is_in_file, file_columns, roles_of}
+use Rattle.table_load.proofs.FileRoles.{roles_with, columns_without}
+use Rattle.table_load.proofs.layout.FileColumns.roles.Goals.{then-has+else-is_err, else-has}
+use Rattle.table_load.proofs.layout.FileColumns.roles.Goals as goal
+
+pub loop-place-preserved : goal.loop-place-preserved
+loop-place-preserved c =
+    let cs = c.args.schema.now.columns in
+    let role = c.role-role.result in
+    let place = c.loop-place.place in
+    let rest = roles_of (file_columns c.args.self (drop (place + 1) cs)) in
+    let within : place < length cs = omega (arith, c.count-place-end.ensures.count) in
+    elim c.if-has.branch [
+      | then-has+else-is_err w ↦
+          let good : is_ok w.push.result ≡ true = w.is_err.ensures.negation ∙ ap not w.if-is_err.false in
+          let items = rw good at w.push.ensures.items in
+          rw (w.roles-is, items) (
+            c.loop-place.invariant
+            ∙ ap (λ (rs : List Role). c.loop-place.roles.items ++ rs) (roles_with c.args.self cs place role within c.role-role.ensures (sym c.has.ensures ∙ w.if-has.true))
+            ∙ sym (append_assoc c.loop-place.roles.items (role ∷ []) rest)
+          )
+      | else-has w ↦
+          rw w.roles-is (
+            c.loop-place.invariant
+            ∙ ap (λ cols. c.loop-place.roles.items ++ roles_of cols) (columns_without c.args.self cs place role within c.role-role.ensures (sym c.has.ensures ∙ w.if-has.false))
+          )
+    ]

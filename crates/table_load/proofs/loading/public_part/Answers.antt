@@ -1,0 +1,20 @@
+use Rattle.std.proofs.Common.{◌≡◌, ℕ, map, refl, subst}
+use Rattle.std.specs.List.{AllByRecursion}
+use Rattle.std.proofs.lemmas.List.{length-map}
+use Rattle.csv.specs.Records.{fields_of}
+use Rattle.table_load.specs.Cells.{AreCells}
+use Rattle.table_load.specs.Reading.{file_columns, roles_of}
+use Rattle.table_load.specs.Tables.{cells_from}
+use Rattle.table_load.proofs.ColumnSteps.{all_cells_are}
+use Rattle.table_load.proofs.loading.public_part.Goals as goal
+
+pub of-requires : goal.of-requires
+of-requires c =
+    let cs = c.args.schema.now.columns in
+    let rows = map fields_of c.args.rows.now in
+    let P : ℕ → Type 0 = λ n. AllByRecursion (AreCells n) (cells_from c.args.which 0 cs rows) in
+    record {
+      some = c.requires.some;
+      at_most = c.requires.at_most;
+      columns = rw c.in-Ok.ensures (subst P (length-map c.args.rows.now fields_of) (all_cells_are c.args.which (roles_of (file_columns c.args.which cs)) rows 0 cs c.requires.good refl));
+    }

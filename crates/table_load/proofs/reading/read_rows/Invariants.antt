@@ -1,0 +1,12 @@
+use Rattle.std.proofs.Common.{◌≡◌, ◌≤◌, None, map, length}
+use Rattle.csv.specs.Records.{fields_of}
+use Rattle.table_load.specs.Reading.{file_columns, records_fault}
+use Rattle.table_load.specs.Steps.{HasOpened}
+use Rattle.table_load.proofs.reading.read_rows.Given as goal
+
+abbrev pub invariant-loop-row : goal.invariant-loop-row
+invariant-loop-row l = record {
+  opened : HasOpened (file_columns l.fn.which l.fn.schema.columns) l.fn.bytes (map fields_of l.rows.items) l.row-iterator;
+  good : records_fault l.roles 2 (map fields_of l.rows.items) ≡ None;
+  at_most : length l.rows.items ≤ 1024;
+}

@@ -1,0 +1,87 @@
+-- What a table holds, column by column.
+use Rattle.std.specs.Prelude.{◌≡◌, ℕ, ◌<◌, ◌≤◌, ℤ, pos, true, List, [], length, slice_index_or}
+use Rattle.std.specs.List.{AllByRecursion}
+use Rattle.audit_types.specs.History.{Secrets}
+use Rattle.audit_types.specs.Shapes.{IsShape, columns}
+use Rattle.audit_types.specs.declared.shapes.Shape.{Shape}
+use Rattle.table_load.specs.Numerals.{in_range}
+
+-- a column by its place in the schema: numbers, texts, or one that is not public
+pub data Cells : Type 0 where
+  hidden : Cells
+  numbers : List ℤ → Cells
+  texts : List (List ℕ) → Cells
+
+-- what contracts see of a `Public`: the number of rows, and the columns by their places in the schema
+pub record PublicView : Type 0 where
+  pub rows : ℕ
+  pub columns : List Cells
+
+-- what contracts see of a `Secret`: the shape, and a list of numbers for each secret column
+pub record SecretView : Type 0 where
+  pub shape : Shape
+  pub lists : Secrets
+
+-- a table: what everybody may see of it, and what the auditor guards
+pub record TableView : Type 0 where
+  pub public : PublicView
+  pub secret : SecretView
+
+-- the column at a place
+abbrev pub cells_at : PublicView → ℕ → Cells
+cells_at p place = slice_index_or p.columns place hidden
+
+-- the numbers of a column of numbers
+abbrev pub numbers_of : Cells → List ℤ
+numbers_of hidden = []
+numbers_of (numbers xs) = xs
+numbers_of (texts ts) = []
+
+-- the texts of a column of texts
+abbrev pub texts_of : Cells → List (List ℕ)
+texts_of hidden = []
+texts_of (numbers xs) = []
+texts_of (texts ts) = ts
+
+-- the number of a row in a column, 0 where there is none
+abbrev pub number_of_cell : PublicView → ℕ → ℕ → ℤ
+number_of_cell p place row = slice_index_or (numbers_of (cells_at p place)) row (pos 0)
+
+-- the text of a row in a column, empty where there is none
+abbrev pub text_of_cell : PublicView → ℕ → ℕ → List ℕ
+text_of_cell p place row = slice_index_or (texts_of (cells_at p place)) row []
+
+-- n numbers in range
+pub record AreNumbers (n : ℕ) (list : List ℤ) : Type 0 where
+  pub one_each : length list ≡ n
+  pub within : AllByRecursion (λ z. in_range z ≡ true) list
+
+-- a column with a cell for each of n rows, unless it is hidden
+abbrev pub AreCells : ℕ → Cells → Type 0
+AreCells n hidden = Unit {0}
+AreCells n (numbers list) = AreNumbers n list
+AreCells n (texts list) = length list ≡ n
+
+-- 1 to 1,024 rows, and columns with a cell for each
+pub record IsPublic (p : PublicView) : Type 0 where
+  pub some : 0 < p.rows
+  pub at_most : p.rows ≤ 1024
+  pub columns : AllByRecursion (AreCells p.rows) p.columns
+
+-- a shape, and for each of its columns a number in range for each row
+pub record IsSecret (s : SecretView) : Type 0 where
+  pub shape : IsShape s.shape
+  pub one_each : length s.lists ≡ columns s.shape
+  pub numbers : AllByRecursion (AreNumbers s.shape.rows) s.lists
+
+-- a column of numbers
+abbrev pub HasNumbers : Cells → Type 0
+HasNumbers hidden = ⊥
+HasNumbers (numbers xs) = Unit {0}
+HasNumbers (texts ts) = ⊥
+
+-- a column of texts
+abbrev pub HasTexts : Cells → Type 0
+HasTexts hidden = ⊥
+HasTexts (numbers xs) = ⊥
+HasTexts (texts ts) = Unit {0}

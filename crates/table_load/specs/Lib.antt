@@ -1,0 +1,9 @@
+pub mod Numerals
+pub mod Numbers
+pub mod Cells
+pub mod Faults
+pub mod Reading
+pub mod Tables
+pub mod Kept
+pub mod Steps
+pub mod Loaded

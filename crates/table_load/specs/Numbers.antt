@@ -1,0 +1,15 @@
+-- What the reader of numbers gives.
+use Rattle.std.specs.Prelude.{◌≡◌, ◌+◌, ◌^◌, ℕ, ℤ, false, true, min, Option, Some, None}
+use Rattle.table_load.specs.Numerals.{in_range}
+use Rattle.table_load.specs.declared.numerals.Numeral.{Numeral}
+use Rattle.table_load.specs.declared.numerals.Numeral.TheVariants as numeral
+
+-- a size, where all that are above the limit are one
+abbrev pub capped : ℕ → ℕ
+capped n = min n (10 ^ 12 + 1)
+
+-- what a field is read as: the number that is meant, where it is in range
+abbrev pub IsNumeralOf : Numeral → Option ℤ → Type 0
+IsNumeralOf (numeral.Number z) meant = (meant ≡ Some z) × (in_range z ≡ true)
+IsNumeralOf numeral.TooLarge meant = (z : ℤ) × (meant ≡ Some z) × (in_range z ≡ false)
+IsNumeralOf numeral.None meant = meant ≡ None

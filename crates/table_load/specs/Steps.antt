@@ -1,0 +1,50 @@
+-- What the reader of records has read of a file, and what it answers.
+use Rattle.std.specs.Prelude.{◌≡◌, ◌<◌, ◌≤◌, ℕ, true, List, [], ◌∷◌, length, map, Option, Some, None, Vec, Result, Ok, Err}
+use Rattle.std.specs.declared.alloc.Global.{Global}
+use Rattle.std.specs.Borrow.{Bor}
+use Rattle.csv.specs.Reading.{Reached, Ready, default_config, source_of, strip_bom}
+use Rattle.csv.specs.Records.{Row, fields_of}
+use Rattle.csv.specs.declared.iter.ByteRecordsIntoIter.{ByteRecordsIntoIter}
+use Rattle.csv.specs.declared.parser.State.TheVariants as state
+use Rattle.csv.specs.declared.reader.Trim.TheVariants as trim
+use Rattle.schema_json.specs.Columns.{Column}
+use Rattle.table_load.specs.Faults.{UnlessMemory}
+use Rattle.table_load.specs.Reading.{Fields, names_are, records_fault, roles_of, file_fault}
+use Rattle.table_load.specs.Tables.{data_of}
+use Rattle.table_load.specs.declared.faults.TableFault.{TableFault}
+
+-- these are the first records of the bytes, and the reader stands behind them
+pub record HasRead (bytes : List ℕ) (rows : List Fields) (reader : ByteRecordsIntoIter (Bor (List ℕ))) : Type 0 where
+  pub plain : reader.rdr.trim ≡ trim.None
+  pub ready : Ready reader.rdr
+  pub turns : 0 < reader.left
+  pub as_usual : reader.rdr.config ≡ default_config
+  pub left : List ℕ
+  pub source : source_of (λ s. Some s.now) reader.rdr ≡ Some left
+  pub reached : Reached default_config state.StartRecord (strip_bom bytes) rows reader.rdr.state left
+
+-- the bytes are few enough, have a header with these columns' names, and behind it first these records; the reader
+-- stands behind them
+pub record HasOpened (columns : List Column) (bytes : List ℕ) (rows : List Fields) (reader : ByteRecordsIntoIter (Bor (List ℕ))) : Type 0 where
+  pub short : length bytes ≤ 16777216
+  pub header : Fields
+  pub named : names_are header columns ≡ true
+  pub read : HasRead bytes (header ∷ rows) reader
+
+-- the file with its header read, or its first fault
+abbrev pub Opens : Result (ByteRecordsIntoIter (Bor (List ℕ))) TableFault → List Column → List ℕ → Type 0
+Opens (Ok reader) columns bytes = HasOpened columns bytes [] reader
+Opens (Err fault) columns bytes = UnlessMemory fault (file_fault columns bytes ≡ Some fault)
+
+-- 1 to 1,024 records behind the header, in a file with these columns and no fault
+pub record AreData (columns : List Column) (bytes : List ℕ) (rows : List Fields) : Type 0 where
+  pub no_fault : file_fault columns bytes ≡ None
+  pub data_are : data_of bytes ≡ rows
+  pub good : records_fault (roles_of columns) 2 rows ≡ None
+  pub some : 0 < length rows
+  pub at_most : length rows ≤ 1024
+
+-- the data records of the file, or its first fault
+abbrev pub ReadsData : Result (Vec Row Global) TableFault → List Column → List ℕ → Type 0
+ReadsData (Ok v) columns bytes = AreData columns bytes (map fields_of v.items)
+ReadsData (Err fault) columns bytes = UnlessMemory fault (file_fault columns bytes ≡ Some fault)

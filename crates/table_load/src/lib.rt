@@ -1,0 +1,22 @@
+//! Tables as CSV: what everybody may see of them, and what the auditor guards.
+//!
+//! Start with `load`: its clause says that it answers the table that the bytes mean, or their first fault. `Secret::truth`
+//! gives the true answer to a question. docs/FORMATS.md has the format in words.
+#![tactic(auto)]
+
+mod columns;
+mod faults;
+mod layout;
+mod loading;
+mod numerals;
+mod publics;
+mod reading;
+mod records;
+mod secrets;
+mod truth;
+
+pub use faults::TableFault;
+pub use loading::{Table, load, load_public};
+pub use numerals::spells;
+pub use publics::Public;
+pub use secrets::Secret;

@@ -1,0 +1,90 @@
+//! The data records of a file, read until one has a fault.
+ghost use Rattle.std.specs.Prelude.{◌≡◌, [], length, ◌≤◌};
+ghost use Rattle.table_load.specs.Reading.{file_columns, roles_of};
+ghost use Rattle.table_load.specs.Steps.{HasRead, Opens, ReadsData};
+
+use crate::faults::TableFault;
+use crate::layout::FileColumns;
+use crate::records::{is_header, record_fault};
+use csv::{ByteRecord, ByteRecordsIntoIter, ReaderBuilder};
+use schema_json::{Role, Schema};
+use std::alloc::Global;
+
+const MOST_BYTES: usize = 16_777_216;
+
+const MOST_ROWS: usize = 1_024;
+
+// A reader at the front of a file.
+fn records_of(alloc: Global, bytes: &[u8]) -> ByteRecordsIntoIter<&[u8]>
+    ensures { HasRead bytes.now [] result }
+{
+    ReaderBuilder::new()
+        .has_headers(false)
+        .flexible(true)
+        .from_reader(alloc, bytes)
+        .into_byte_records()
+}
+
+// A reader behind the header of a file.
+fn open_file<'b>(
+    alloc: Global,
+    schema: &Schema,
+    which: FileColumns,
+    bytes: &'b [u8],
+) -> Result<ByteRecordsIntoIter<&'b [u8]>, TableFault>
+    ensures { Opens result (file_columns which schema.now.columns) bytes.now }
+{
+    if bytes.len() > MOST_BYTES {
+        return Err(TableFault::TooLong);
+    }
+    let mut records = records_of(alloc, bytes);
+    match records.next() {
+        None => Err(TableFault::Header),
+        Some(Err(_)) => Err(TableFault::NoMemory),
+        Some(Ok(header)) => {
+            if is_header(schema, which, &header) {
+                Ok(records)
+            } else {
+                Err(TableFault::Header)
+            }
+        }
+    }
+}
+
+/// The data records of a file, where none of them has a fault. `csv` refuses no record of bytes, however many fields
+/// it has, and a read of bytes does not fail, so that only want of memory is left as its error.
+pub(crate) fn read_rows(
+    alloc: Global,
+    schema: &Schema,
+    which: FileColumns,
+    roles: &[Role],
+    bytes: &[u8],
+) -> Result<Vec<ByteRecord>, TableFault>
+    requires roles { roles.now ≡ roles_of (file_columns which schema.now.columns) }
+    requires few { length roles.now ≤ 32 }
+    ensures { ReadsData result (file_columns which schema.now.columns) bytes.now }
+{
+    let records = match open_file(alloc, schema, which, bytes) {
+        Ok(records) => records,
+        Err(fault) => return Err(fault),
+    };
+    let mut rows = Vec::new(alloc);
+    for row in records {
+        let Ok(row) = row else {
+            return Err(TableFault::NoMemory);
+        };
+        if rows.len() == MOST_ROWS {
+            return Err(TableFault::TooManyRows);
+        }
+        if let Some(fault) = record_fault(roles, rows.len() as u32 + 2, &row) {
+            return Err(fault);
+        }
+        if rows.push(row).is_err() {
+            return Err(TableFault::NoMemory);
+        }
+    }
+    if rows.is_empty() {
+        return Err(TableFault::NoRows);
+    }
+    Ok(rows)
+}
