@@ -1,0 +1,5 @@
+pub mod Causes
+pub mod Source
+pub mod Bench
+pub mod SourceContents
+pub mod BenchContents

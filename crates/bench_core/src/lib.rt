@@ -1,0 +1,20 @@
+//! The outside of the auditor: where bytes come from, and where replies go.
+//!
+//! `Source` and `Bench` are the two traits that everything above reads and sends through. An object whose kind doesn't
+//! tell its content, as a file, promises nothing of it; an object in memory promises all. A call answers `Failed` only
+//! where the object's count of faults rose (`cause`).
+#![tactic(auto)]
+
+mod bench;
+mod memory_bench;
+mod memory_source;
+mod room;
+mod source;
+mod steady_source;
+
+pub use bench::Bench;
+pub use memory_bench::MemoryBench;
+pub use memory_source::MemorySource;
+pub use room::Room;
+pub use source::{Failed, Source};
+pub use steady_source::SteadySource;

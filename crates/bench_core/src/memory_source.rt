@@ -1,0 +1,118 @@
+//! A source in memory that gives its bytes in small pieces and fails at stated calls.
+ghost use Rattle.std.specs.Prelude.{◌≡◌, ◌↔◌, ◌<◌, ◌≤◌, ◌+◌, ◌-◌, ◌^◌, List, ℕ, length, IfOk, IsErr, OnErr, OnOk, min, take, drop};
+ghost use Rattle.std.specs.List.{Contains};
+ghost use Rattle.bench_core.specs.Causes.{HasCause, next_count};
+ghost use Rattle.bench_core.specs.Source.{Reads};
+
+use crate::steady_source::copy_front;
+use crate::{Failed, Source};
+use std::marker::Model;
+
+/// Gives its bytes a few at a time. Its calls are numbered from 0, and those whose number is among the ones to fail do.
+#[derive(Drop)]
+pub struct MemorySource {
+    bytes: Vec<u8>,
+    from: usize,
+    most: usize,
+    failing: Vec<u64>,
+    calls: u64,
+    faults: u64,
+}
+
+impl Model for MemorySource {
+    ghost use Rattle.std.specs.Prelude.{◌<◌, ◌≤◌, length, drop};
+    ghost use Rattle.bench_core.specs.SourceContents.{SourceContents};
+
+    ghost Value = { SourceContents };
+
+    ghost view = { λ s. record { left = drop s.from s.bytes.items; most = s.most; failing = s.failing.items; calls = s.calls; faults = s.faults } };
+
+    ghost invariant = { λ s. (s.from ≤ length s.bytes.items) × (0 < s.most) };
+}
+
+impl MemorySource {
+    /// Makes a source of these bytes that gives at most `most` of them at a read, and fails at the calls in `failing`.
+    pub fn new(bytes: Vec<u8>, most: usize, failing: Vec<u64>) -> Self
+        requires { 0 < most }
+        ensures given { (result.left ≡ bytes.items) × (result.most ≡ most) × (result.failing ≡ failing.items) }
+        ensures fresh { (result.calls ≡ 0) × (result.faults ≡ 0) }
+    {
+        MemorySource {
+            bytes,
+            from: 0,
+            most,
+            failing,
+            calls: 0,
+            faults: 0,
+        }
+    }
+}
+
+impl Source for MemorySource {
+    ghost told = { Unit {0} };
+
+    ghost left = { λ s. s.left };
+
+    ghost faults = { λ s. s.faults };
+
+    fn read(&mut self, buf: &mut [u8]) -> Result<usize, Failed>
+        requires { 0 < length buf.old }
+        ensures bound { IfOk result (λ count. count ≤ length buf.new) }
+        ensures bytes { Unit {0} → Reads self.old.left self.new.left result buf.new }
+        ensures cause { HasCause self.old.faults self.new.faults result }
+
+        // It fails exactly at the calls that it was given, and counts each of these.
+        ensures fails { IsErr result ↔ Contains self.old.failing self.old.calls }
+        ensures count { IfOk result (λ count. count ≡ min (min (length buf.old) self.old.most) (length self.old.left)) }
+        ensures counted { OnErr result (self.new.faults ≡ next_count self.old.faults) }
+        ensures uncounted { OnOk result (self.new.faults ≡ self.old.faults) }
+        ensures calls { self.new.calls ≡ next_count self.old.calls }
+        ensures same { (self.new.most ≡ self.old.most) × (self.new.failing ≡ self.old.failing) }
+    {
+        let call = self.calls;
+        self.calls = call.saturating_add(1);
+        if self.failing.contains(&call) {
+            self.faults = self.faults.saturating_add(1);
+            return Err(Failed);
+        }
+        let count = copy_front(&self.bytes[self.from..], self.most, buf);
+        self.from += count;
+        Ok(count)
+    }
+}
+
+#[cfg(test)]
+mod tests {
+    use super::*;
+    use crate::SteadySource;
+    use std::test::Fail;
+
+    #[test]
+    fn gives_its_bytes_and_fails_at_stated_calls(rt: HostRuntime) -> Result<(), Fail> {
+        let failing = vec![in rt.alloc(); 1u64]?;
+        let mut source = MemorySource::new(b"abcdefg".to_vec(rt.alloc())?, 3, failing);
+        let mut buf = [0u8; 5];
+        for (outcome, front) in [
+            (Ok(3), b"abc00"),
+            (Err(Failed), b"abc00"),
+            (Ok(3), b"def00"),
+            (Ok(1), b"gef00"),
+            (Ok(0), b"gef00"),
+        ] {
+            assert_eq!(rt; source.read(&mut buf), outcome);
+            assert_eq!(rt; buf[..3], front[..3]);
+        }
+        Ok(())
+    }
+
+    #[test]
+    fn a_steady_source_fills_the_buffer(rt: HostRuntime) -> Result<(), Fail> {
+        let mut source = SteadySource::new(b"abcdefg".to_vec(rt.alloc())?);
+        let mut buf = [0u8; 5];
+        for (outcome, bytes) in [(Ok(5), b"abcde"), (Ok(2), b"fgcde"), (Ok(0), b"fgcde")] {
+            assert_eq!(rt; source.read(&mut buf), outcome);
+            assert_eq!(rt; &buf, bytes);
+        }
+        Ok(())
+    }
+}
