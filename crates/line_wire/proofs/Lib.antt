@@ -1,0 +1,5 @@
+pub mod Ranges
+pub mod Passing
+pub mod LineLaws
+pub mod Reaching
+pub mod Turning

@@ -1,0 +1,103 @@
+use Rattle.std.proofs.Common.{ℕ, List, length, refl, sym, ◌∙◌, ap, arith, length-append}
+use Rattle.std.proofs.lemmas.Bool.{both_ways}
+use Rattle.line_wire.specs.Cutter.{Cutter}
+use Rattle.line_wire.proofs.Reaching.{starts, to_feed, to_more, to_read, to_next, no_whole, answers_fed, answers_last, none_left, counts_from}
+use Rattle.line_wire.proofs.Turning.{grown_feed, grown_none, advances_fed, advances_last}
+use Rattle.line_wire.proofs.lines.Lines.next.Goals as goal
+
+pub loop-self-init : goal.loop-self-init
+loop-self-init g c =
+    let cleared = c.clear.ensures in
+    record {
+      within = cleared.within;
+      reached = λ told. rw (← cleared.same.2) (starts _ _ cleared.text);
+      same = λ told is. c.requires.same told (sym cleared.same.1 ∙ is);
+      taken = λ told. rw cleared.same.0 refl;
+      grown = omega (arith, ap (λ (l : List ℕ). length l) cleared.same.2, ap (λ (l : List ℕ). length l) cleared.text, cleared.same.0);
+      later = omega arith;
+      once = λ is. (refl, cleared.same.1 ∙ is);
+    }
+
+pub returns-in-Over-clause-stop : goal.returns-in-Over-clause-stop
+returns-in-Over-clause-stop g c = λ told.
+    let so_far = to_more _ _ _ _ (c.loop-self.invariant.reached told) c.in-Over.ensures.passes.0 in
+    rw c.clear-in-Over.ensures.same.2 (no_whole _ _ _ so_far)
+
+pub returns-in-Some-clause-answer : goal.returns-in-Some-clause-answer
+returns-in-Some-clause-answer g c = λ told.
+    answers_fed _ _ _ _ _ (to_feed _ _ _ _ (c.loop-self.invariant.reached told) c.in-Fed.ensures.passes) c.in-Some.ensures.counts c.in-Some.ensures.same.2
+
+pub loop-self-preserved-in_default : goal.loop-self-preserved-in_default
+loop-self-preserved-in_default g c =
+    let turn = c.loop-self.invariant in
+    let absorbed = c.in-Fed.ensures in
+    let finished = c.in_default.ensures in
+    let within = absorbed.within.1 in
+    let size = ap (λ (l : List ℕ). length l) finished.same.2 in
+    let ended = finished.same.1 ∙ absorbed.same.1 in
+    let taken = finished.same.0 ∙ absorbed.same.0 in
+    record {
+      within = record { pending = omega (arith, within.pending, size, finished.same.0); given = omega (arith, within.given, size, finished.same.0); small = omega (arith, within.small, size) };
+      reached = λ told. to_next _ _ _ _ (to_feed _ _ _ _ (turn.reached told) absorbed.passes) finished.counts.0 finished.counts.1 finished.same.2;
+      same = λ told is. turn.same told (sym ended ∙ is);
+      taken = λ told. rw taken (turn.taken told);
+      grown = omega (arith, grown_feed c.args.self.now c.loop-self.self c.absorb.new.self turn.grown absorbed.passes absorbed.same.0, size, taken, finished.same.0, ap (λ (l : List ℕ). length l) finished.counts.1);
+      later = turn.later;
+      once = λ is. ((turn.once is).0, ended ∙ (turn.once is).1);
+    }
+
+pub returns-then-self-clause-answer : goal.returns-then-self-clause-answer
+returns-then-self-clause-answer g c = λ told.
+    let turn = c.loop-self.invariant in
+    let absorbed = c.in-Dry.ensures in
+    let finished = c.finish-then-self.ensures in
+    let ended = ap (λ (v : Cutter). v.ended) (sym c.self.view_is) ∙ c.if-self.true in
+    let so_far = to_more _ _ _ _ (turn.reached told) absorbed.passes.0 in
+    rw c.unwrap_or.ensures (answers_last c.finish-then-self.result _ _ _ _ so_far absorbed.passes.1 (turn.same told (sym absorbed.same.1 ∙ ended)) finished.same.2 (finished.same.1 ∙ ended) finished.counts)
+
+pub returns-then-self-clause-counted : goal.returns-then-self-clause-counted
+returns-then-self-clause-counted g c = λ told. counts_from _ _ _ _ (returns-then-self-clause-answer g c told)
+
+pub loop-self-preserved : goal.loop-self-preserved
+loop-self-preserved g c =
+    let turn = c.loop-self.invariant in
+    let absorbed = c.in-Dry.ensures in
+    let refilled = c.in-Ok.ensures in
+    let open_end = ap (λ (v : Cutter). v.ended) (sym c.self.view_is) ∙ c.if-self.false in
+    record {
+      within = refilled.within;
+      reached = λ told. to_read _ _ _ _ _ (to_more _ _ _ _ (turn.reached told) absorbed.passes.0) absorbed.passes.1 (refilled.bytes told) refilled.text;
+      same = λ told is. none_left _ _ _ (refilled.bytes told) (refilled.ended told is);
+      taken = λ told.
+          let was = turn.taken told in
+          let read = ap (λ (l : List ℕ). length l) (refilled.bytes told) ∙ length-append c.refill.new.self.pending (g.P.Source.left c.refill.new.source) in
+          omega (arith, was, read, refilled.taken, absorbed.same.0);
+      grown = omega (arith, grown_none c.args.self.now c.loop-self.self c.absorb.new.self turn.grown absorbed.passes.0 absorbed.same.0, ap (λ (l : List ℕ). length l) refilled.text, ap (λ (l : List ℕ). length l) absorbed.passes.1, refilled.taken);
+      later = omega (arith, turn.later, refilled.cause.later);
+      once = λ is. absurd (both_ways _ open_end (absorbed.same.1 ∙ (turn.once is).1));
+    }
+
+pub returns-in-Err-clause-stop : goal.returns-in-Err-clause-stop
+returns-in-Err-clause-stop g c = λ told.
+    let turn = c.loop-self.invariant in
+    let absorbed = c.in-Dry.ensures in
+    let stop = no_whole _ _ _ (to_more _ _ _ _ (turn.reached told) absorbed.passes.0) in
+    let dry = rw absorbed.passes.1 at stop in
+    rw (c.in-Err.ensures.failed told) dry
+
+pub returns-in-Some-clause-advances : goal.returns-in-Some-clause-advances
+returns-in-Some-clause-advances g c =
+    let turn = c.loop-self.invariant in
+    let finished = c.in-Some.ensures in
+    let fed = grown_feed c.args.self.now c.loop-self.self c.absorb.new.self turn.grown c.in-Fed.ensures.passes c.in-Fed.ensures.same.0 in
+    advances_fed c.in-Some.next c.args.self.now c.finish.new.self (omega (arith, fed, finished.same.0, ap (λ (l : List ℕ). length l) finished.same.2))
+
+pub returns-then-self-clause-advances : goal.returns-then-self-clause-advances
+returns-then-self-clause-advances g c =
+    let turn = c.loop-self.invariant in
+    let finished = c.finish-then-self.ensures in
+    let grown = grown_none c.args.self.now c.loop-self.self c.absorb.new.self turn.grown c.in-Dry.ensures.passes.0 c.in-Dry.ensures.same.0 in
+    rw c.unwrap_or.ensures (advances_last c.finish-then-self.result c.args.self.now c.absorb.new.self c.finish-then-self.new.self grown finished.same.0 finished.same.2 finished.counts)
+
+pub returns-in-Some-clause-counted : goal.returns-in-Some-clause-counted
+returns-in-Some-clause-counted g c = λ told. counts_from _ _ _ _ (returns-in-Some-clause-answer g c told)

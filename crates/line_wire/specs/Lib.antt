@@ -1,0 +1,5 @@
+pub mod Lines
+pub mod Buffer
+pub mod Cutter
+pub mod Steps
+pub mod Reply

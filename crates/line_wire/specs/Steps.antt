@@ -1,0 +1,57 @@
+-- What the answers of the cutter say.
+use Rattle.std.specs.Prelude.{◌≡◌, ◌<◌, ◌≤◌, ℕ, ◌+◌, ◌^◌, List, [], ◌∷◌, ◌++◌, length, Result, Ok, Err}
+use Rattle.line_wire.specs.Lines.{CountedLine, text, long, counted_lines}
+use Rattle.line_wire.specs.Cutter.{Cutter, PassesFeed, PassesNone, TakesLine, StopsAt}
+use Rattle.line_wire.specs.declared.lines.Step.{Step}
+use Rattle.line_wire.specs.declared.lines.Step.TheVariants.{Fed, Dry, Over}
+use Rattle.line_wire.specs.declared.lines.Next.{Next}
+use Rattle.line_wire.specs.declared.lines.Next.TheVariants as next
+use Rattle.line_wire.specs.declared.lines.LineStop.{LineStop}
+use Rattle.line_wire.specs.declared.lines.LineStop.TheVariants as stop
+
+-- what was passed of the bytes at hand: up to a line feed, all of them, or all below the limit
+abbrev pub Passes : Step → Cutter → Cutter → Type 0
+Passes Fed old new = PassesFeed old new
+Passes Dry old new = PassesNone old new × (new.pending ≡ []) × (new.taken ≤ 2 ^ 30)
+Passes Over old new = PassesNone old new × (0 < length new.pending) × (new.taken ≡ 2 ^ 30 + length new.pending)
+
+-- the one line that an answer gives
+abbrev pub Gives : Next → List ℕ → List CountedLine → Type 0
+Gives next.Line shown lines = lines ≡ text shown ∷ []
+Gives next.Long shown lines = (lines ≡ long ∷ []) × (shown ≡ [])
+Gives next.End shown lines = ⊥
+
+-- what an answer says of the rest before the call and after it
+abbrev pub Answers : Next → List ℕ → Cutter → List ℕ → Type 0
+Answers next.Line rest new left = TakesLine rest new.ended (text new.text) (new.pending ++ left)
+Answers next.Long rest new left = TakesLine rest new.ended long (new.pending ++ left)
+Answers next.End rest new left = (new.pending ++ left ≡ []) × (counted_lines rest ≡ [])
+
+-- what a refusal says: no whole line stands among the bytes that were taken, or among those below the limit
+abbrev pub Stops : LineStop → List ℕ → Cutter → List ℕ → Type 0
+Stops stop.Input rest new left = StopsAt rest left
+Stops stop.Limit rest new left = StopsAt rest (new.pending ++ left)
+
+-- how many bytes were taken at a refusal: at most 2^30, or more and all of these were passed
+abbrev pub StopsWithin : LineStop → Cutter → Type 0
+StopsWithin stop.Input new = new.taken ≤ 2 ^ 30
+StopsWithin stop.Limit new = (new.taken ≡ 2 ^ 30 + length new.pending) × (0 < length new.pending)
+
+-- only an answer Line shows a text
+abbrev pub ShowsText : Result Next LineStop → List ℕ → Type 0
+ShowsText (Ok next.Line) shown = Unit {0}
+ShowsText (Ok next.Long) shown = shown ≡ []
+ShowsText (Ok next.End) shown = shown ≡ []
+ShowsText (Err refusal) shown = shown ≡ []
+
+-- a line takes at least one byte
+abbrev pub Advances : Cutter → Cutter → Next → Type 0
+Advances old new next.Line = old.taken + length new.pending < new.taken + length old.pending
+Advances old new next.Long = old.taken + length new.pending < new.taken + length old.pending
+Advances old new next.End = Unit {0}
+
+-- the counted lines of the rest are the one that an answer gives and those behind it
+abbrev pub Counts : Next → List CountedLine → List ℕ → List CountedLine → Type 0
+Counts next.Line before shown behind = before ≡ text shown ∷ behind
+Counts next.Long before shown behind = before ≡ long ∷ behind
+Counts next.End before shown behind = before ≡ []

@@ -1,0 +1,221 @@
+//! The cutter of lines.
+ghost use Rattle.std.specs.Prelude.{◌≡◌, ◌<◌, ◌≤◌, ◌+◌, ◌-◌, ◌^◌, ◌++◌, [], List, ℕ, length, take, drop, IfOk, IfErr, OnOk, OnErr, MatchOption, false, true};
+ghost use Rattle.bench_core.specs.Causes.{HasCause, Rose};
+ghost use Rattle.bench_core.specs.Source.{Reads};
+ghost use Rattle.line_wire.specs.Lines.{line_of, counted_lines};
+ghost use Rattle.line_wire.specs.Cutter.{IsFeedless, IsFirstFeed};
+
+use crate::buffer::{Buffer, LONGEST};
+use audit_types::NoMemory;
+use bench_core::{Failed, Source};
+use std::alloc::Global;
+use std::marker::Model;
+
+// The most bytes of an input that are given.
+const LIMIT: u64 = 1 << 30;
+
+/// What a call of the cutter gives.
+#[derive(Clone, Copy, Debug, PartialEq, Eq)]
+pub enum Next {
+    /// A line, which `text` shows.
+    Line,
+    /// A line of more than 8,192 bytes.
+    Long,
+    /// The input has ended.
+    End,
+}
+
+/// Why a call of the cutter gives nothing.
+#[derive(Clone, Copy, Debug, PartialEq, Eq)]
+pub enum LineStop {
+    /// The source failed.
+    Input,
+    /// The input has more than 2^30 bytes.
+    Limit,
+}
+
+/// Cuts the bytes of one source into counted lines (docs/FORMATS.md). Hand in the same source at every call.
+#[derive(Drop)]
+pub struct Lines {
+    buffer: Buffer,
+    taken: u64,
+    ended: bool,
+}
+
+impl Model for Lines {
+    ghost use Rattle.std.specs.Prelude.{◌≤◌, ◌+◌, ◌^◌, length};
+    ghost use Rattle.line_wire.specs.Cutter.{Cutter};
+
+    ghost Value = { Cutter };
+
+    ghost view = { λ l. record { taken = l.taken; pending = l.buffer.pending; ended = l.ended; text = l.buffer.line } };
+
+    ghost invariant = { λ l. (length l.buffer.pending ≤ l.taken) × (l.taken ≤ 2 ^ 30 + length l.buffer.pending) × (length l.buffer.pending ≤ 65536) };
+}
+
+// How far the bytes at hand were given: up to a line feed, all of them, or all below the limit.
+#[derive(Clone, Copy, Debug, PartialEq, Eq)]
+enum Step {
+    Fed,
+    Dry,
+    Over,
+}
+
+impl Lines {
+    ghost use Rattle.line_wire.specs.Cutter.{IsWithin};
+    ghost use Rattle.line_wire.specs.Steps.{Passes, Gives, Answers, Stops, StopsWithin, ShowsText, Advances, Counts};
+
+    /// Makes a cutter that has taken nothing. All its memory is taken here.
+    pub fn new(alloc: Global) -> Result<Self, NoMemory>
+        ensures { IfOk result (λ lines. (lines.taken ≡ 0) × (lines.pending ≡ []) × (lines.ended ≡ false) × (lines.text ≡ [])) }
+    {
+        Ok(Lines {
+            buffer: Buffer::new(alloc)?,
+            taken: 0,
+            ended: false,
+        })
+    }
+
+    /// The line that was given last, without its carriage return, where `Line` was the last answer. Otherwise it is
+    /// empty.
+    pub fn text(&self) -> &[u8]
+        ensures { result.now ≡ self.now.text }
+    {
+        self.buffer.line()
+    }
+
+    /// Gives the first counted line of the rest: of the bytes taken and not yet given, and those left in the source.
+    pub fn next<P: Source>(&mut self, source: &mut P) -> Result<Next, LineStop>
+        // It is the same source at every call.
+        requires same { P.told → self.old.ended ≡ true → P.left source.old ≡ [] }
+
+        ensures answer { P.told → IfOk result (λ next. Answers next (self.old.pending ++ P.left source.old) self.new (P.left source.new)) }
+        ensures counted { P.told → IfOk result (λ next. Counts next (counted_lines (self.old.pending ++ P.left source.old)) self.new.text (counted_lines (self.new.pending ++ P.left source.new))) }
+        ensures stop { P.told → IfErr result (λ stop. Stops stop (self.old.pending ++ P.left source.old) self.new (P.left source.new)) }
+        ensures stop_within { IfErr result (λ stop. StopsWithin stop self.new) }
+        ensures text { ShowsText result self.new.text }
+        ensures same { P.told → self.new.ended ≡ true → P.left source.new ≡ [] }
+        ensures taken { P.told → self.new.taken + length (P.left source.new) ≡ self.old.taken + length (P.left source.old) }
+
+        // A line takes at least one byte, and no more bytes are given than the limit.
+        ensures advances { IfOk result (Advances self.old self.new) }
+        ensures within { self.new.taken ≤ 2 ^ 30 + length self.new.pending }
+
+        // It doesn't give up by itself.
+        ensures later { P.faults source.old ≤ P.faults source.new }
+        ensures input { result ≡ Err LineStop.Input → Rose (P.faults source.old) (P.faults source.new) }
+
+        // Once a read gave 0, no call reads again.
+        ensures once { self.old.ended ≡ true → (source.new ≡ source.old) × (self.new.ended ≡ true) × (result ≡ Err LineStop.Input → ⊥) }
+    {
+        self.clear();
+        loop {
+            match self.absorb() {
+                Step::Over => {
+                    self.clear();
+                    return Err(LineStop::Limit);
+                }
+                Step::Fed => {
+                    if let Some(next) = self.finish() {
+                        return Ok(next);
+                    }
+                }
+                Step::Dry => {
+                    if self.ended {
+                        return Ok(self.finish().unwrap_or(Next::End));
+                    }
+                    match self.refill(source) {
+                        Ok(()) => {}
+                        Err(Failed) => {
+                            self.clear();
+                            return Err(LineStop::Input);
+                        }
+                    }
+                }
+            }
+        }
+    }
+
+    // Begins a new line.
+    fn clear(&mut self)
+        ensures text { self.new.text ≡ [] }
+        ensures within { IsWithin self.new }
+        ensures same { (self.new.taken ≡ self.old.taken) × (self.new.ended ≡ self.old.ended) × (self.new.pending ≡ self.old.pending) }
+    {
+        self.buffer.clear();
+    }
+
+    // Gives the bytes at hand up to the first line feed, or all of them where there is none.
+    fn absorb(&mut self) -> Step
+        ensures passes { Passes result self.old self.new }
+        ensures within { IsWithin self.old × IsWithin self.new }
+        ensures same { (self.new.taken ≡ self.old.taken) × (self.new.ended ≡ self.old.ended) }
+    {
+        let pending = self.buffer.pending();
+        let given = self.taken - pending.len() as u64;
+        let room = (LIMIT - given) as usize;
+        let count = pending.len().min(room);
+        let over = count < pending.len();
+        if let Some(at) = feed_at(&pending[..count]) {
+            self.buffer.add(at);
+            self.buffer.skip();
+            return Step::Fed;
+        }
+        self.buffer.add(count);
+        if over {
+            return Step::Over;
+        }
+        Step::Dry
+    }
+
+    // What the line that was read counts as.
+    fn finish(&mut self) -> Option<Next>
+        ensures counts { MatchOption result ((line_of self.old.text ≡ []) × (self.new.text ≡ [])) (λ next. Gives next self.new.text (line_of self.old.text)) }
+        ensures same { (self.new.taken ≡ self.old.taken) × (self.new.ended ≡ self.old.ended) × (self.new.pending ≡ self.old.pending) }
+    {
+        if self.buffer.line().len() > LONGEST {
+            self.buffer.clear();
+            return Some(Next::Long);
+        }
+        self.buffer.drop_return();
+        if self.buffer.line().is_empty() {
+            None
+        } else {
+            Some(Next::Line)
+        }
+    }
+
+    // Reads the next bytes.
+    fn refill<P: Source>(&mut self, source: &mut P) -> Result<(), Failed>
+        requires dry { self.old.pending ≡ [] }
+        requires within { self.old.taken ≤ 2 ^ 30 }
+        ensures bytes { P.told → OnOk result (P.left source.old ≡ self.new.pending ++ P.left source.new) }
+        ensures ended { P.told → OnOk result (self.new.ended ≡ true → P.left source.old ≡ []) }
+        ensures failed { P.told → OnErr result (P.left source.new ≡ P.left source.old) }
+        ensures kept { OnErr result ((self.new.taken ≡ self.old.taken) × (self.new.ended ≡ self.old.ended) × (self.new.pending ≡ [])) }
+        ensures cause { HasCause (P.faults source.old) (P.faults source.new) result }
+        ensures within { IsWithin self.new }
+        ensures taken { OnOk result (self.new.taken ≡ self.old.taken + length self.new.pending) }
+        ensures grows { OnOk result (self.new.ended ≡ false → self.old.taken < self.new.taken) }
+        ensures text { self.new.text ≡ self.old.text }
+    {
+        match self.buffer.fill(source) {
+            Ok(count) => {
+                self.taken += count as u64;
+                self.ended = count == 0;
+                Ok(())
+            }
+            Err(Failed) => Err(Failed),
+        }
+    }
+}
+
+/// The place of the first line feed.
+pub fn feed_at(bytes: &[u8]) -> Option<usize>
+    ensures { MatchOption result (IsFeedless bytes.now) (IsFirstFeed bytes.now) }
+{
+    bytes.iter().position(|b| *b == b'\n')
+}
+
+#[cfg(test)]
+mod tests;
