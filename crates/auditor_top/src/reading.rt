@@ -1,0 +1,39 @@
+//! Reads a source to its end, or past a limit.
+ghost use Rattle.std.specs.Prelude.{◌≡◌, ◌≤◌, IfOk};
+ghost use Rattle.bench_core.specs.Causes.{Rose};
+ghost use Rattle.auditor_top.specs.Reading.{ReadsAll};
+
+use bench_core::{Failed, Source};
+use std::alloc::Global;
+
+const PIECE: usize = 4096;
+
+/// Why a source wasn't read.
+#[derive(Clone, Copy, Debug, PartialEq, Eq)]
+pub enum ReadFault {
+    /// The source failed.
+    Failed,
+    /// There was no memory.
+    NoMemory,
+}
+
+/// Reads all bytes of a source, or stops behind byte number `most`.
+pub fn read_all<P: Source>(alloc: Global, source: &mut P, most: usize) -> Result<Vec<u8>, ReadFault>
+    ensures bytes { P.told → IfOk result (λ v. ReadsAll most (P.left source.old) (P.left source.new) v.items) }
+    ensures later { P.faults source.old ≤ P.faults source.new }
+    ensures failed { result ≡ Err ReadFault.Failed → Rose (P.faults source.old) (P.faults source.new) }
+{
+    let mut bytes = Vec::new(alloc);
+    let mut piece = [0u8; PIECE];
+    while bytes.len() <= most {
+        match source.read(&mut piece) {
+            Ok(0) => return Ok(bytes),
+            Ok(count) => match bytes.extend_from_slice(&piece[..count]) {
+                Ok(()) => {}
+                Err(_) => return Err(ReadFault::NoMemory),
+            },
+            Err(Failed) => return Err(ReadFault::Failed),
+        }
+    }
+    Ok(bytes)
+}
