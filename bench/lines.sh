@@ -1,0 +1,33 @@
+#!/bin/sh
+# Times the built program on a million count lines, beside an awk program that reads the same lines and flushes a reply
+# for each. Build the program first: demo/run.sh does.
+set -u
+here=$(cd "$(dirname "$0")" && pwd)
+program=$here/../crates/auditor/out/auditor
+lines=${1:-1000000}
+if [ ! -x "$program" ]; then
+    echo "bench: build the program first, as demo/run.sh does" >&2
+    exit 1
+fi
+
+folder=$(mktemp -d) || exit 1
+trap 'rm -rf "$folder"' EXIT
+cd "$folder" || exit 1
+printf 'age\n30\n41\n35\n52\n28\n44\n' >table.csv
+yes '{"ask":"count","where":"all"}' | head -n "$lines" >questions.jsonl
+
+# Prints the seconds that a command takes on the questions.
+seconds() {
+    name=$1
+    shift
+    begin=$(date +%s.%N)
+    "$@" <questions.jsonl >"$name.replies" || exit 1
+    end=$(date +%s.%N)
+    echo "$name $begin $end" | awk '{ printf "%s: %.2f s\n", $1, $3 - $2 }'
+}
+
+for turn in 1 2 3; do
+    seconds auditor "$program" serve
+    seconds awk awk '{ if ($0 == "{\"ask\":\"count\",\"where\":\"all\"}") print "{\"count\":6}"; else print "{\"refused\":\"notyet\"}"; fflush() }'
+done
+cmp auditor.replies awk.replies && wc -l <auditor.replies

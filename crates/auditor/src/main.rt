@@ -1,0 +1,56 @@
+//! The program: the real files, standard input and standard output under the top call.
+#![tactic(auto)]
+
+mod adapters;
+
+use adapters::{FileBench, FileSource, InputSource};
+use auditor_top::{Status, run, status_code, status_text};
+use std::io;
+use std::process::ExitCode;
+
+fn main(rt: HostRuntime) -> ExitCode {
+    let status = match words_of(&rt) {
+        Ok(words) => run_on_files(&rt, &words),
+        Err(error) if error.kind() == io::ErrorKind::OutOfMemory => Status::NoMemory,
+        // A word that is no text is in no command.
+        Err(_) => Status::BadWords,
+    };
+    if status != Status::Done {
+        tell(&rt, &status);
+    }
+    ExitCode::from(status_code(&status))
+}
+
+// The words after the program's name.
+fn words_of(rt: &HostRuntime) -> io::Result<Vec<String>> {
+    let mut words = Vec::new(rt.alloc());
+    for word in std::env::args(rt)?.skip(1) {
+        words.push(word)?;
+    }
+    Ok(words)
+}
+
+// Runs over the files of the program's folder.
+fn run_on_files(rt: &HostRuntime, words: &Vec<String>) -> Status {
+    let mut schema = FileSource::new(rt, "schema.json");
+    let mut table = FileSource::new(rt, "table.csv");
+    let mut input = InputSource::new(rt.stdin());
+    let mut bench = FileBench::new(rt);
+    let mut spare = FileBench::new(rt);
+    run(
+        rt.alloc(),
+        words,
+        &mut schema,
+        &mut table,
+        &mut input,
+        &mut bench,
+        &mut spare,
+    )
+}
+
+// Prints the text of a status to standard error, where there is memory for it.
+fn tell(rt: &HostRuntime, status: &Status) {
+    if let Ok(text) = status_text(rt.alloc(), status) {
+        let _ = eprintln!(rt; "{text}");
+    }
+}
