@@ -1,13 +1,16 @@
 -- The secrets of a table agree with each history of true records.
-use Rattle.std.proofs.Common.{◌≡◌, ℕ, suc, zero, ◌<◌, Bool, true, false, cond, ◌==◌, List, [], ◌∷◌, map, length, refl, sym, ap, ◌∙◌, arith}
+use Rattle.std.proofs.Common.{◌≡◌, ℕ, suc, zero, ◌<◌, Bool, true, false, cond, ◌==◌, List, [], ◌∷◌, map, ◌++◌, length, refl, sym, ap, subst, ◌∙◌, arith, ℤ}
 use Rattle.std.specs.Prelude.{slice_get, Some}
 use Rattle.std.specs.List.{AllByRecursion, filter}
 use Rattle.std.proofs.lemmas.Bool.{eqb-true}
+use Rattle.std.proofs.lemmas.List.{map-append}
+use Rattle.std.proofs.lemmas.List.Elements.{filter-append}
+use Rattle.audit_types.specs.Rows.{Rows}
 use Rattle.audit_types.specs.declared.records.Answered.{Answered}
 use Rattle.audit_types.specs.Shapes.{kind_at}
 use Rattle.audit_types.specs.Truth.{truth}
 use Rattle.audit_types.specs.Column.{Answer}
-use Rattle.audit_types.specs.History.{Table, Secrets, AreSecrets, AgreeWithHistory, IsPossibleHistory, IsLegal, list_of, answers_of, answer_in}
+use Rattle.audit_types.specs.History.{Table, Setting, Secrets, AreSecrets, AgreeWithHistory, IsPossibleHistory, IsLegal, list_of, answers_of, answer_in}
 
 module _ (table : Table) where
   -- the answer of a record is the table's
@@ -53,3 +56,36 @@ module _ (table : Table) where
   -- the secrets of the table agree with a legal history
   pub legal_is_possible : (history : List Answered) → AreSecrets table.setting.shape table.secrets → IsLegal table history → IsPossibleHistory table.setting history
   legal_is_possible history secrets legal = (table.secrets, secrets, true_history secrets history (λ i r here. (legal.each i r here).true_answer))
+
+-- the answers of two histories, one behind the other
+answers_of-append : (column : ℕ) (history more : List Answered) → answers_of column (history ++ more) ≡ answers_of column history ++ answers_of column more
+answers_of-append column history more =
+    ap (map answer_in) (filter-append (λ r. r.column == column) history more)
+    ∙ map-append answer_in (filter (λ r. r.column == column) history) (filter (λ r. r.column == column) more)
+
+-- what holds of each of two lists holds of both
+all-append : (P : Answer → Type 0) (xs ys : List Answer) → AllByRecursion P xs → AllByRecursion P ys → AllByRecursion P (xs ++ ys)
+all-append P [] ys p q = q
+all-append P (x ∷ xs) ys p q = (p.0, all-append P xs ys p.1 q)
+
+-- secrets that agree do so behind a record of their own answer
+pub keeps_agreement : (table : Table) (history : List Answered) (r : Answered) → AgreeWithHistory table.setting history table.secrets → IsTrueAnswer table r →
+    AgreeWithHistory table.setting (history ++ r ∷ []) table.secrets
+keeps_agreement table history r agree true_answer column below = record {
+  one_each = (agree column below).one_each;
+  same = subst (AllByRecursion (Gives table column)) (sym (answers_of-append column history (r ∷ [])))
+      (all-append (Gives table column) (answers_of column history) (answers_of column (r ∷ [])) (agree column below).same (all_given table column (r ∷ []) (true_answer, tt)));
+}
+
+-- so there is an answer behind which the history is possible
+pub some_answer : (setting : Setting) (history : List Answered) (column : ℕ) (rows : Rows) → IsPossibleHistory setting history →
+    (answer : ℤ) × IsPossibleHistory setting (history ++ record { column = column; rows = rows; answer = answer } ∷ [])
+some_answer setting history column rows possible =
+    let answer = truth (kind_at setting.shape column) (list_of possible.0 column) rows.list in (
+      answer,
+      (
+        possible.0,
+        possible.1,
+        keeps_agreement (record { setting = setting; secrets = possible.0 }) history (record { column = column; rows = rows; answer = answer }) possible.2 refl,
+      ),
+    )

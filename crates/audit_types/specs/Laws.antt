@@ -4,7 +4,7 @@ use Rattle.audit_types.specs.declared.shapes.Kind.{Kind}
 use Rattle.audit_types.specs.declared.records.Answered.{Answered}
 use Rattle.audit_types.specs.declared.records.Verdict.{Verdict}
 use Rattle.std.specs.List.{AllByRecursion}
-use Rattle.audit_types.specs.Rows.{AreRows, has_row, with_row}
+use Rattle.audit_types.specs.Rows.{Rows, AreRows, has_row, with_row}
 use Rattle.audit_types.specs.Form.{Reduced}
 use Rattle.audit_types.specs.Direction.{IsCanonicalDirection}
 use Rattle.audit_types.specs.Shapes.{kind_at}
@@ -41,6 +41,12 @@ TrueAnswersKeepAgreement =
     (setting : Setting) (history : List Answered) (r : Answered) (secrets : Secrets) → AgreeWithHistory setting history secrets →
     r.answer ≡ truth (kind_at setting.shape r.column) (list_of secrets r.column) r.rows.list →
     AgreeWithHistory setting (history ++ r ∷ []) secrets
+
+-- a question after a possible history has an answer behind which the history is still possible
+abbrev pub SomeAnswerStaysPossible : Type 0
+SomeAnswerStaysPossible =
+    (setting : Setting) (history : List Answered) (column : ℕ) (rows : Rows) → IsPossibleHistory setting history →
+    (answer : ℤ) × IsPossibleHistory setting (history ++ record { column = column; rows = rows; answer = answer } ∷ [])
 
 -- what is legal for a table is possible: the table's own secrets agree with it
 abbrev pub LegalIsPossible : Type 0

@@ -1,7 +1,7 @@
 //! Laws that show the definitions right. Each function computes nothing: its contract is the law.
 ghost use Rattle.audit_types.specs.Laws.{SameSetInAnyOrder, SameTruthInAnyOrder, GreatestIsBoundAndReached};
-ghost use Rattle.audit_types.specs.Laws.{TrueAnswersKeepAgreement, LegalIsPossible, OneRowIsDangerous};
-ghost use Rattle.audit_types.specs.Laws.{OtherColumnsTellNothing, OwnAnswersDecide, OneCanonicalDirection};
+ghost use Rattle.audit_types.specs.Laws.{TrueAnswersKeepAgreement, SomeAnswerStaysPossible, LegalIsPossible};
+ghost use Rattle.audit_types.specs.Laws.{OneRowIsDangerous, OtherColumnsTellNothing, OwnAnswersDecide, OneCanonicalDirection};
 
 /// The order in which the rows of a set were added changes neither the set nor the truth over it.
 pub fn rows_in_any_order()
@@ -17,6 +17,7 @@ pub fn greatest()
 /// A question that is answered truly leaves a possible history, so a legal history is possible.
 pub fn true_answers()
     ensures agreement { TrueAnswersKeepAgreement }
+    ensures possible { SomeAnswerStaysPossible }
     ensures legal { LegalIsPossible }
 {}
 
