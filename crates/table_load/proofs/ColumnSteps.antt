@@ -50,6 +50,7 @@ all_columns : (cs : List Column) → file_columns file.All cs ≡ cs
 all_columns [] = refl
 all_columns (c ∷ cs) = ap (λ xs. c ∷ xs) (all_columns cs)
 
+-- the roles from a place on are those of the columns from there on
 drop-roles : (k : ℕ) (cs : List Column) → drop k (roles_of cs) ≡ roles_of (drop k cs)
 drop-roles zero cs = refl
 drop-roles (suc k) [] = refl
@@ -72,10 +73,12 @@ secret_numbers role.Number secret = refl
 secret_numbers role.Sum secret = refl
 secret_numbers role.Max secret = refl
 
+-- the number of a field that spells one in range is in range
 number_in_range : (o : Option ℤ) → is_number o ≡ true → in_range (unwrap_or o (pos 0)) ≡ true
 number_in_range None number = absurd (cc)
 number_in_range (Some z) number = number
 
+-- the numbers of such fields are in range
 all_in_range : (r : Role) (k : ℕ) (rows : List Fields) → has_numbers r ≡ true → AllByRecursion (HasCell r k) rows → AllByRecursion (λ z. in_range z ≡ true) (number_column k rows)
 all_in_range r k [] numeric all = tt
 all_in_range r k (fields ∷ rows) numeric all = (number_in_range (number_in (field_of k fields)) (all.0.number numeric), all_in_range r k rows numeric all.1)
@@ -84,15 +87,18 @@ all_in_range r k (fields ∷ rows) numeric all = (number_in_range (number_in (fi
 pub numbers_are : (r : Role) (k : ℕ) (rows : List Fields) → has_numbers r ≡ true → AllByRecursion (HasCell r k) rows → AreNumbers (length rows) (number_column k rows)
 numbers_are r k rows numeric all = record { one_each = length-map rows (λ fields. number_of_field (field_of k fields)); within = all_in_range r k rows numeric all }
 
+-- what everybody may see of a column has a cell for each row
 cells_are : (r : Role) (k : ℕ) (rows : List Fields) → (is_public r ≡ true → AllByRecursion (HasCell r k) rows) → AreCells (length rows) (cells_of r k rows)
 cells_are role.Text k rows all = length-map rows (field_of k)
 cells_are role.Number k rows all = numbers_are role.Number k rows refl (all refl)
 cells_are role.Sum k rows all = tt
 cells_are role.Max k rows all = tt
 
+-- a column that is in the file has the next role
 roles_in : (which : FileColumns) (c : Column) (cs : List Column) (r : Role) (b : Bool) → is_in_file which r ≡ b → b ≡ true → roles_of (cond (is_in_file which r) (c ∷ file_columns which cs) (file_columns which cs)) ≡ c.role ∷ roles_of (file_columns which cs)
 roles_in which c cs r b is in_file = ap (λ x. roles_of (cond x (c ∷ file_columns which cs) (file_columns which cs))) (is ∙ in_file)
 
+-- behind the next column of the file the later roles are left
 next_roles : (which : FileColumns) (roles : List Role) (k : ℕ) (c : Column) (cs : List Column) (b : Bool) → drop k roles ≡ roles_of (cond b (c ∷ file_columns which cs) (file_columns which cs)) → drop (cond b (k + 1) k) roles ≡ roles_of (file_columns which cs)
 next_roles which roles k c cs true at_k = drop_tail roles k c.role (roles_of (file_columns which cs)) at_k
 next_roles which roles k c cs false at_k = at_k
@@ -101,10 +107,12 @@ next_roles which roles k c cs false at_k = at_k
 pub all_cells_are : (which : FileColumns) (roles : List Role) (rows : List Fields) (k : ℕ) (cs : List Column) → records_fault roles 2 rows ≡ None → drop k roles ≡ roles_of (file_columns which cs)
     → AllByRecursion (AreCells (length rows)) (cells_from which k cs rows)
 all_cells_are which roles rows k [] good at_k = tt
-all_cells_are which roles rows k (c ∷ cs) good at_k =
-    (cells_are c.role k rows (λ public. records_hold roles 2 rows k c.role (roles_of (file_columns which cs)) good (at_k ∙ roles_in which c cs c.role (is_in_file which c.role) refl (public_in_file which c.role public))),
-     all_cells_are which roles rows (place_after which c.role k) cs good (next_roles which roles k c cs (is_in_file which c.role) at_k))
+all_cells_are which roles rows k (c ∷ cs) good at_k = (
+  cells_are c.role k rows (λ public. records_hold roles 2 rows k c.role (roles_of (file_columns which cs)) good (at_k ∙ roles_in which c cs c.role (is_in_file which c.role) refl (public_in_file which c.role public))),
+  all_cells_are which roles rows (place_after which c.role k) cs good (next_roles which roles k c cs (is_in_file which c.role) at_k),
+)
 
+-- a list joins the others where its column is secret
 secret_of : (b : Bool) (list : List ℤ) (lists : Secrets) (n : ℕ) → (b ≡ true → AreNumbers n list) → AllByRecursion (AreNumbers n) lists → AllByRecursion (AreNumbers n) (cond b (list ∷ lists) lists)
 secret_of true list lists n first others = (first refl, others)
 secret_of false list lists n first others = others
@@ -114,9 +122,10 @@ pub all_secrets_are : (roles : List Role) (rows : List Fields) (k : ℕ) (cs : L
 all_secrets_are roles rows k [] good at_k = tt
 all_secrets_are roles rows k (c ∷ cs) good at_k =
     secret_of (is_secret c.role) (number_column k rows) (secrets_from (k + 1) cs rows) (length rows)
-        (λ secret. numbers_are c.role k rows (secret_numbers c.role secret) (records_hold roles 2 rows k c.role (roles_of cs) good at_k))
-        (all_secrets_are roles rows (k + 1) cs good (drop_tail roles k c.role (roles_of cs) at_k))
+    (λ secret. numbers_are c.role k rows (secret_numbers c.role secret) (records_hold roles 2 rows k c.role (roles_of cs) good at_k))
+    (all_secrets_are roles rows (k + 1) cs good (drop_tail roles k c.role (roles_of cs) at_k))
 
+-- a list that is there or not counts as its column does
 counted : (b : Bool) (list : List ℤ) (lists : Secrets) (c : Column) (cs : List Column) → length lists ≡ length cs → length (cond b (list ∷ lists) lists) ≡ length (cond b (c ∷ cs) cs)
 counted true list lists c cs same = ap (λ n. suc n) same
 counted false list lists c cs same = same

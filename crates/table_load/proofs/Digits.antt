@@ -11,6 +11,7 @@ use Rattle.table_load.specs.Numbers.{capped}
 capped-digit : (n m d : ℕ) → capped n ≡ capped m → capped (10 * n + d) ≡ capped (10 * m + d)
 capped-digit n m d same = omega arith
 
+-- one byte more keeps sizes one at the limit
 same_step : (d s : Bool) (x y : Option ℕ) (n m : ℕ) → option_map capped x ≡ option_map capped y → capped n ≡ capped m
     → option_map capped (cond d x (cond s (Some n) None)) ≡ option_map capped (cond d y (cond s (Some m) None))
 same_step true s x y n m later same = later
@@ -27,6 +28,7 @@ same_number n m (b ∷ bytes) same =
 abbrev pub number_at : ℕ → List ℕ → ℕ → Option ℕ
 number_at size bytes place = option_map capped (tail_number size (drop place bytes))
 
+-- the number from a place on, by the byte there
 from_here : (bytes : List ℕ) (place size : ℕ) → place < length bytes → number_at size bytes place ≡ option_map capped (tail_number size (get_or bytes place 0 ∷ drop (place + 1) bytes))
 from_here bytes place size within = ap (λ xs. option_map capped (tail_number size xs)) (drop-cons bytes place 0 within ∙ ap (λ k. get_or bytes place 0 ∷ drop k bytes) (sym (add-one place)))
 

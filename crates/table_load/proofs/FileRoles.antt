@@ -11,6 +11,7 @@ use Rattle.table_load.specs.declared.layout.FileColumns.{FileColumns}
 use Rattle.table_load.proofs.SchemaPlaces.{Here, here, role_is, name_is}
 use Rattle.table_load.proofs.FieldPlaces.{drop_here}
 
+-- a column that is in the file or not adds at most one
 one_of : (b : Bool) (c : Column) (cs : List Column) (n : ℕ) → length (roles_of cs) ≤ n → length (roles_of (cond b (c ∷ cs) cs)) ≤ 1 + n
 one_of true c cs n h = omega (arith, h)
 one_of false c cs n h = omega (arith, h)

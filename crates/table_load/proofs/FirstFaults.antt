@@ -34,6 +34,7 @@ take_front n [] ys within = ap (λ k. take k ys) (omega arith)
 take_front zero (x ∷ xs) ys within = absurd (omega (arith, within))
 take_front (suc n) (x ∷ xs) ys within = ap (λ zs. x ∷ zs) (take_front n xs ys (omega (arith, within)) ∙ ap (λ k. xs ++ take k ys) (omega arith))
 
+-- the first of some records is the first
 take_one : (k : ℕ) (r : Fields) (rest : List Fields) → 0 < k → (n : ℕ) × (take k (r ∷ rest) ≡ r ∷ take n rest)
 take_one zero r rest some = absurd (omega (arith, some))
 take_one (suc k) r rest some = (k, refl)
@@ -46,6 +47,7 @@ bad_row roles rows r rest fault few good bad =
     ap (λ rs. or_else (records_fault roles 2 rs) (count_fault (rows ++ r ∷ rest))) (take_front 1024 rows (r ∷ rest) (omega (arith, few)) ∙ ap (λ rs. rows ++ rs) one.1)
     ∙ ap (λ f. or_else f (count_fault (rows ++ r ∷ rest))) (good-append roles 2 rows (r ∷ take one.0 rest) good ∙ ap (λ f. or_else f (records_fault roles (length rows + 2 + 1) (take one.0 rest))) bad)
 
+-- a record behind 1,024 is one too many
 count_many : (rows : List Fields) (r : Fields) (rest : List Fields) → length rows ≡ 1024 → count_fault (rows ++ r ∷ rest) ≡ Some TooManyRows
 count_many [] r rest full = absurd (omega (arith, full))
 count_many (x ∷ rows) r rest full = ap (λ b. cond b (Some TooManyRows) None) (lt-ltb 1024 (length (x ∷ (rows ++ r ∷ rest))) (omega (arith, full, length-append rows (r ∷ rest))))
@@ -58,6 +60,7 @@ many_rows roles rows r rest full good =
     ∙ ap (λ f. or_else f (count_fault (rows ++ r ∷ rest))) good
     ∙ count_many rows r rest full
 
+-- 1 to 1,024 records are few enough
 count_fine : (rows : List Fields) → 0 < length rows → length rows ≤ 1024 → count_fault rows ≡ None
 count_fine [] some few = absurd (omega (arith, some))
 count_fine (x ∷ rows) some few = ap (λ b. cond b (Some TooManyRows) None) (le-ltb 1024 (length (x ∷ rows)) few)

@@ -21,9 +21,10 @@ pub not_too_large : (meant : Option ℤ) → IsNumeralOf numeral.TooLarge meant 
 not_too_large meant large number = false≢true (sym (ap is_number large.1 ∙ large.2) ∙ number)
 
 -- a number is one
-pub not_none : (meant : Option ℤ) → IsNumeralOf numeral.None meant → is_number meant ≡ true → ⊥
+pub not_none : (meant : Option ℤ) → IsNumeralOf numeral.NoNumber meant → is_number meant ≡ true → ⊥
 not_none meant none number = false≢true (sym (ap is_number none) ∙ number)
 
+-- what has no fault for its size is in range
 in_range_from : (line column : ℕ) (z : ℤ) (b : Bool) → cond b None (Some (fault.OutOfRange line column)) ≡ None → b ≡ true
 in_range_from line column z true is = refl
 in_range_from line column z false is = absurd (cc)
@@ -33,13 +34,16 @@ fine_number : (line column : ℕ) (meant : Option ℤ) → number_fault line col
 fine_number line column None is = absurd (cc)
 fine_number line column (Some z) is = in_range_from line column z (in_range z) is
 
+-- a field without a fault spells a number in range where its role wants one
 fine_cell : (role : Role) (line column : ℕ) (field : List ℕ) → cell_fault role line column field ≡ None → has_numbers role ≡ true → is_number (number_in field) ≡ true
 fine_cell role line column field fine numeric = fine_number line column (number_in field) (sym (ap (λ b. cond b (number_fault line column (number_in field)) None) numeric) ∙ fine)
 
+-- the first of the roles, if there is one
 head_or : Role → List Role → Role
 head_or r [] = r
 head_or r (x ∷ xs) = x
 
+-- fields without a fault have the cell at each place
 cells_hold : (line column : ℕ) (roles : List Role) (fields : Fields) (k : ℕ) (role : Role) (rest : List Role) → length fields ≡ length roles → cells_fault line column roles fields ≡ None → drop k roles ≡ role ∷ rest → HasCell role k fields
 unfolding head_or
 cells_hold line column [] fields zero role rest same fine at_k = absurd (cc)
@@ -58,6 +62,7 @@ record FineRecord (roles : List Role) (line : ℕ) (fields : Fields) : Type 0 wh
   same : length fields ≡ length roles
   cells : cells_fault line 0 roles fields ≡ None
 
+-- what each test of a record says where it has no fault
 fine_parts : (roles : List Role) (line : ℕ) (fields : Fields) (a b : Bool) → (length fields == length roles) ≡ a
     → (if not a then Some (fault.Length line) else (if not b then Some (fault.NotText line) else cells_fault line 0 roles fields)) ≡ None → FineRecord roles line fields
 fine_parts roles line fields true true same fine = record { same = eqb-true (length fields) (length roles) same; cells = fine }

@@ -47,10 +47,11 @@ read_front bytes rows a has = front_of_records bytes rows a.rdr.state has.left h
 pub judged : (columns : List Column) (bytes : List ℕ) (rows : List Fields) (a b : Reads) (row : Row) → HasOpened columns bytes rows a → RowStep (λ (s : Bor (List ℕ)). Some s.now) a.rdr b.rdr b.left (Some (Ok row))
     → (rest : List Fields) × (file_fault columns bytes ≡ data_fault (roles_of columns) (rows ++ fields_of row ∷ rest))
 judged columns bytes rows a b row opened step =
-    let front = read_front bytes (opened.header ∷ (rows ++ fields_of row ∷ [])) b (read_more bytes (opened.header ∷ rows) a b row opened.read step) in
-    (front.0,
-     short_file columns bytes _ opened.short (front.1 ∙ ap (λ rs. opened.header ∷ rs) (append_assoc rows (fields_of row ∷ []) front.0))
-     ∙ good_header columns opened.header (rows ++ fields_of row ∷ front.0) opened.named)
+    let front = read_front bytes (opened.header ∷ (rows ++ fields_of row ∷ [])) b (read_more bytes (opened.header ∷ rows) a b row opened.read step) in (
+      front.0,
+      short_file columns bytes _ opened.short (front.1 ∙ ap (λ rs. opened.header ∷ rs) (append_assoc rows (fields_of row ∷ []) front.0))
+          ∙ good_header columns opened.header (rows ++ fields_of row ∷ front.0) opened.named,
+    )
 
 -- a record more of an opened file
 pub opened_more : (columns : List Column) (bytes : List ℕ) (rows : List Fields) (a b : Reads) (row : Row) → HasOpened columns bytes rows a → RowStep (λ (s : Bor (List ℕ)). Some s.now) a.rdr b.rdr b.left (Some (Ok row))

@@ -9,4 +9,4 @@ pub mod FirstFaults
 pub mod HasReadMore
 pub mod GoodCells
 pub mod ColumnSteps
-pub mod LoadedTables
+pub mod SchemaFits

@@ -11,6 +11,7 @@ record Front (field : List ℕ) : Type 0 where
   spaces : ℕ
   field_is : field ≡ replicate spaces 32 ++ after_spaces field
 
+-- one byte more in front
 front_step : (b : ℕ) (bytes : List ℕ) (s : Bool) → is_space b ≡ s → Front bytes → (n : ℕ) × (b ∷ bytes ≡ replicate n 32 ++ cond s (after_spaces bytes) (b ∷ bytes))
 front_step b bytes true is more = (suc more.spaces, ap (λ x. x ∷ bytes) (eqb-true b 32 is) ∙ ap (λ xs. 32 ∷ xs) more.field_is)
 front_step b bytes false is more = (0, refl)
@@ -45,6 +46,7 @@ record Tail (n : ℕ) (bytes : List ℕ) (m : ℕ) : Type 0 where
   bytes_are : bytes ≡ digits ++ replicate after 32
   value_is : m ≡ decimal_after n digits
 
+-- one byte before digits and spaces
 tail_step : (n b : ℕ) (bytes : List ℕ) (m : ℕ) (d : Bool) → is_ascii_digit b ≡ d → (s : Bool) → list_all is_space (b ∷ bytes) ≡ s
     → (tail_number (10 * n + (b - 48)) bytes ≡ Some m → Tail (10 * n + (b - 48)) bytes m)
     → cond d (tail_number (10 * n + (b - 48)) bytes) (cond s (Some n) None) ≡ Some m → Tail n (b ∷ bytes) m
@@ -82,6 +84,7 @@ record Digits (bytes : List ℕ) (m : ℕ) : Type 0 where
   bytes_are : bytes ≡ digits ++ replicate after 32
   value_is : m ≡ decimal_after 0 digits
 
+-- a first byte before digits and spaces
 digits_step : (b : ℕ) (bytes : List ℕ) (m : ℕ) (d : Bool) → is_ascii_digit b ≡ d → cond d (tail_number 0 (b ∷ bytes)) None ≡ Some m → Digits (b ∷ bytes) m
 digits_step b bytes m true digit is =
     let opened = sym (ap (λ d. cond d (tail_number (10 * 0 + (b - 48)) bytes) (cond (list_all is_space (b ∷ bytes)) (Some 0) None)) digit) ∙ is in
@@ -110,27 +113,52 @@ record Signed (bytes : List ℕ) (z : ℤ) : Type 0 where
   bytes_are : bytes ≡ sign_bytes sign ++ (digits ++ replicate after 32)
   value_is : z ≡ with_sign sign (decimal_after 0 digits)
 
+-- a minus and a size
 minus_step : (b : ℕ) (bytes : List ℕ) (z : ℤ) (o : Option ℕ) → digits_number bytes ≡ o → b ≡ 45 → option_sign true o ≡ Some z → Signed (b ∷ bytes) z
 minus_step b bytes z None read is signed = absurd (cc)
 minus_step b bytes z (Some m) read is signed =
     let size = digits_of bytes m read in
-    record { sign = minus; digits = size.digits; after = size.after; some = size.some; are_digits = size.are_digits; bytes_are = ap (λ x. x ∷ bytes) is ∙ ap (λ xs. 45 ∷ xs) size.bytes_are;
-             value_is = sym (ap (λ o. unwrap_or o z) signed) ∙ ap (λ n. neg_ℤ (pos n)) size.value_is }
+    record {
+      sign = minus;
+      digits = size.digits;
+      after = size.after;
+      some = size.some;
+      are_digits = size.are_digits;
+      bytes_are = ap (λ x. x ∷ bytes) is ∙ ap (λ xs. 45 ∷ xs) size.bytes_are;
+      value_is = sym (ap (λ o. unwrap_or o z) signed) ∙ ap (λ n. neg_ℤ (pos n)) size.value_is;
+    }
 
+-- a plus and a size
 plus_step : (b : ℕ) (bytes : List ℕ) (z : ℤ) (o : Option ℕ) → digits_number bytes ≡ o → b ≡ 43 → option_sign false o ≡ Some z → Signed (b ∷ bytes) z
 plus_step b bytes z None read is signed = absurd (cc)
 plus_step b bytes z (Some m) read is signed =
     let size = digits_of bytes m read in
-    record { sign = plus; digits = size.digits; after = size.after; some = size.some; are_digits = size.are_digits; bytes_are = ap (λ x. x ∷ bytes) is ∙ ap (λ xs. 43 ∷ xs) size.bytes_are;
-             value_is = sym (ap (λ o. unwrap_or o z) signed) ∙ ap pos size.value_is }
+    record {
+      sign = plus;
+      digits = size.digits;
+      after = size.after;
+      some = size.some;
+      are_digits = size.are_digits;
+      bytes_are = ap (λ x. x ∷ bytes) is ∙ ap (λ xs. 43 ∷ xs) size.bytes_are;
+      value_is = sym (ap (λ o. unwrap_or o z) signed) ∙ ap pos size.value_is;
+    }
 
+-- a size with no sign
 plain_step : (bytes : List ℕ) (z : ℤ) (o : Option ℕ) → digits_number bytes ≡ o → option_sign false o ≡ Some z → Signed bytes z
 plain_step bytes z None read signed = absurd (cc)
 plain_step bytes z (Some m) read signed =
     let size = digits_of bytes m read in
-    record { sign = none; digits = size.digits; after = size.after; some = size.some; are_digits = size.are_digits; bytes_are = size.bytes_are;
-             value_is = sym (ap (λ o. unwrap_or o z) signed) ∙ ap pos size.value_is }
+    record {
+      sign = none;
+      digits = size.digits;
+      after = size.after;
+      some = size.some;
+      are_digits = size.are_digits;
+      bytes_are = size.bytes_are;
+      value_is = sym (ap (λ o. unwrap_or o z) signed) ∙ ap pos size.value_is;
+    }
 
+-- a first byte that is a sign or none
 signed_step : (b : ℕ) (bytes : List ℕ) (z : ℤ) (is_minus is_plus : Bool) → (b == 45) ≡ is_minus → (b == 43) ≡ is_plus
     → cond is_minus (option_sign true (digits_number bytes)) (cond is_plus (option_sign false (digits_number bytes)) (option_sign false (digits_number (b ∷ bytes)))) ≡ Some z → Signed (b ∷ bytes) z
 signed_step b bytes z true is_plus m p is = minus_step b bytes z (digits_number bytes) refl (eqb-true b 45 m) is

@@ -14,38 +14,47 @@ use Rattle.csv.specs.declared.parser.Action.TheVariants as act
 abbrev Rests : State × Action → Type 0
 Rests p = is_end p.1 ≡ true → ends_at_end p.0 ≡ false
 
+-- behind the end of a line no record has begun
 rests_end : (c : ℕ) (b : Bool) → ends_at_end (if b then st.AfterCr else st.StartRecord) ≡ false
 rests_end c true = refl
 rests_end c false = refl
 
+-- the same, of a byte in a field
 rests_field : (c : ℕ) (a b : Bool) → Rests (if a then (st.StartField, act.EndField) else (if b then (after_end default_config.terminator c, act.EndRecord) else (st.InField, act.Copy)))
 rests_field c true b = λ h. absurd (false≢true h)
 rests_field c false true = λ h. rests_end c (c == 13)
 rests_field c false false = λ h. absurd (false≢true h)
 
+-- the same, of a byte within a field
 rests_in_field : (c : ℕ) → Rests (in_field default_config c)
 rests_in_field c = rests_field c (c == 44) ((c == 13) || (c == 10))
 
+-- the same, of a byte that may be a quote
 rests_quote : (c : ℕ) (b : Bool) → Rests (if b then (st.InQuoted, act.Skip) else in_field default_config c)
 rests_quote c true = λ h. absurd (false≢true h)
 rests_quote c false = rests_in_field c
 
+-- the same, of a byte behind a quote
 rests_copy : (c : ℕ) (b : Bool) → Rests (if b then (st.InQuoted, act.Copy) else in_field default_config c)
 rests_copy c true = λ h. absurd (false≢true h)
 rests_copy c false = rests_in_field c
 
+-- the same, of the first byte of a record
 rests_start : (c : ℕ) (b : Bool) → Rests (if b then (st.StartRecord, act.Skip) else start_field default_config c)
 rests_start c true = λ h. absurd (false≢true h)
 rests_start c false = rests_quote c (c == 34)
 
+-- the same, of a byte within quotes
 rests_quoted : (c : ℕ) (b : Bool) → Rests (if b then (st.AfterQuote, act.Skip) else (st.InQuoted, act.Copy))
 rests_quoted c true = λ h. absurd (false≢true h)
 rests_quoted c false = λ h. absurd (false≢true h)
 
+-- the same, of a byte of a comment
 rests_comment : (c : ℕ) (b : Bool) → Rests (if b then (st.StartRecord, act.Skip) else (st.InComment, act.Skip))
 rests_comment c true = λ h. absurd (false≢true h)
 rests_comment c false = λ h. absurd (false≢true h)
 
+-- a step that ends a record begins no other
 rests : (s : State) (c : ℕ) → Rests (step default_config s c)
 rests st.StartRecord c = rests_start c ((c == 13) || (c == 10))
 rests st.StartField c = rests_quote c (c == 34)
@@ -65,10 +74,12 @@ abbrev IsShort : Option Read → ℕ → Type 0
 IsShort None n = Unit {0}
 IsShort (Some p) n = (length p.2 ≤ n) × (ends_at_end p.1 ≡ false)
 
+-- what is short enough is so for a longer text
 longer : (o : Option Read) (n : ℕ) → IsShort o n → IsShort o (suc n)
 longer None n h = tt
 longer (Some p) n h = (omega (arith, h.0), h.1)
 
+-- a read that goes on behind one byte leaves less than there was
 short_step : (s : State) (f : List (List ℕ)) (p : List ℕ) (c : ℕ) (rest : List ℕ)
     → IsShort (next_record default_config (step default_config s c).0 (fields_after (step default_config s c).1 f p) (field_after (step default_config s c).1 c p) rest) (length rest)
     → IsShort (next_record default_config s f p (c ∷ rest)) (length rest)
@@ -81,6 +92,7 @@ short_step s f p c rest = by (is_end (step default_config s c).1) (rests s c)
     by true r h = (omega arith, r refl)
     by false r h = h
 
+-- a read leaves no more than there was
 short : (s : State) (f : List (List ℕ)) (p : List ℕ) (xs : List ℕ) → IsShort (next_record default_config s f p xs) (length xs)
 unfolding next_record
 short s f p [] = by (ends_at_end s)
@@ -90,6 +102,7 @@ short s f p [] = by (ends_at_end s)
     by false = tt
 short s f p (c ∷ rest) = longer _ (length rest) (short_step s f p c rest (short (step default_config s c).0 (fields_after (step default_config s c).1 f p) (field_after (step default_config s c).1 c p) rest))
 
+-- a read of some bytes leaves fewer
 short_more : (s : State) (f : List (List ℕ)) (p : List ℕ) (c : ℕ) (rest : List ℕ) → IsShort (next_record default_config s f p (c ∷ rest)) (length rest)
 short_more s f p c rest = short_step s f p c rest (short (step default_config s c).0 (fields_after (step default_config s c).1 f p) (field_after (step default_config s c).1 c p) rest)
 
@@ -109,11 +122,13 @@ reached_front [] (suc n) s xs s2 ys fresh short_of reached =
 reached_front (r ∷ rs) (suc n) s xs s2 ys fresh short_of reached =
     let p = reached.0 in
     let t = took s xs p fresh reached.1 in
-    let later = reached_front rs n p.1 p.2 s2 ys t.1 (omega (arith, short_of, t.0)) reached.3 in
-    (later.0, later.1,
-     ap (records_next (records_from default_config n)) reached.1
-     ∙ ap (λ x. x ∷ records_from default_config n p.1 p.2) (sym reached.2)
-     ∙ ap (λ x. r ∷ x) later.2)
+    let later = reached_front rs n p.1 p.2 s2 ys t.1 (omega (arith, short_of, t.0)) reached.3 in (
+      later.0,
+      later.1,
+      ap (records_next (records_from default_config n)) reached.1
+          ∙ ap (λ x. x ∷ records_from default_config n p.1 p.2) (sym reached.2)
+          ∙ ap (λ x. r ∷ x) later.2,
+    )
 
 -- nothing follows where no record is left
 none_left : (m : ℕ) (s : State) (ys : List ℕ) → 0 < m → next_record default_config s [] [] ys ≡ None → records_from default_config m s ys ≡ []

@@ -1,9 +1,12 @@
 -- What a table holds, column by column.
-use Rattle.std.specs.Prelude.{◌≡◌, ℕ, ◌<◌, ◌≤◌, ℤ, pos, true, List, [], length, slice_index_or}
+use Rattle.std.specs.Prelude.{◌≡◌, ◌≢◌, ℕ, ◌<◌, ◌≤◌, ℤ, pos, true, cond, List, [], ◌∷◌, length, drop, count_by, slice_index_or, Some}
 use Rattle.std.specs.List.{AllByRecursion}
 use Rattle.audit_types.specs.History.{Secrets}
 use Rattle.audit_types.specs.Shapes.{IsShape, columns}
 use Rattle.audit_types.specs.declared.shapes.Shape.{Shape}
+use Rattle.schema_json.specs.Columns.{Column, is_public, is_secret, role_at}
+use Rattle.schema_json.specs.declared.roles.Role.{Role}
+use Rattle.schema_json.specs.declared.roles.Role.TheVariants.{Text, Number, Sum, Max}
 use Rattle.table_load.specs.Numerals.{in_range}
 
 -- a column by its place in the schema: numbers, texts, or one that is not public
@@ -85,3 +88,36 @@ abbrev pub HasTexts : Cells → Type 0
 HasTexts hidden = ⊥
 HasTexts (numbers xs) = ⊥
 HasTexts (texts ts) = Unit {0}
+
+-- a column that holds what its role says
+abbrev pub HoldsRole : Role → Cells → Type 0
+HoldsRole Text cells = HasTexts cells
+HoldsRole Number cells = HasNumbers cells
+HoldsRole Sum cells = cells ≡ hidden
+HoldsRole Max cells = cells ≡ hidden
+
+-- a public part whose columns hold what the schema's roles say
+abbrev pub FitsSchema : List Column → PublicView → Type 0
+FitsSchema schema p = (place : ℕ) (role : Role) → role_at schema place ≡ Some role → HoldsRole role (cells_at p place)
+
+-- how many columns are public
+abbrev pub public_count : List Column → ℕ
+public_count schema = count_by (λ c. is_public c.role) schema
+
+-- the first of the lists
+abbrev pub first_list : List (List ℤ) → List ℤ
+first_list [] = []
+first_list (w ∷ lists) = w
+
+-- a list for each public column, all of them numbers in range, 1 to 1,024 and as many in each
+pub record AreLists (schema : List Column) (lists : List (List ℤ)) : Type 0 where
+  pub no_texts : AllByRecursion (λ c. c.role ≢ Text) schema
+  pub one_each : length lists ≡ public_count schema
+  pub some : 0 < length (first_list lists)
+  pub at_most : length (first_list lists) ≤ 1024
+  pub numbers : AllByRecursion (AreNumbers (length (first_list lists))) lists
+
+-- the columns of a schema, of which the public ones have these lists in order
+abbrev pub numbered : List Column → List (List ℤ) → List Cells
+numbered [] lists = []
+numbered (c ∷ schema) lists = cond (is_secret c.role) (hidden ∷ numbered schema lists) (numbers (first_list lists) ∷ numbered schema (drop 1 lists))

@@ -12,4 +12,4 @@ capped n = min n (10 ^ 12 + 1)
 abbrev pub IsNumeralOf : Numeral → Option ℤ → Type 0
 IsNumeralOf (numeral.Number z) meant = (meant ≡ Some z) × (in_range z ≡ true)
 IsNumeralOf numeral.TooLarge meant = (z : ℤ) × (meant ≡ Some z) × (in_range z ≡ false)
-IsNumeralOf numeral.None meant = meant ≡ None
+IsNumeralOf numeral.NoNumber meant = meant ≡ None

@@ -26,7 +26,7 @@ fn number_of(field: &[u8]) -> i64
     match numeral_in(field) {
         Numeral::Number(number) => number,
         Numeral::TooLarge => unreachable!(),
-        Numeral::None => unreachable!(),
+        Numeral::NoNumber => unreachable!(),
     }
 }
 
@@ -71,12 +71,7 @@ fn text_column(
 }
 
 // What everybody may see of a column that stands at place k of the file, where it is public.
-fn cells(
-    alloc: Global,
-    role: Role,
-    k: usize,
-    rows: &[ByteRecord],
-) -> Result<Column, NoMemory>
+fn cells(alloc: Global, role: Role, k: usize, rows: &[ByteRecord]) -> Result<Column, NoMemory>
     requires { is_public role ≡ true → AllByRecursion (HasCell role k) (map fields_of rows.now) }
     ensures { IfOk result (λ v. cells_kept v ≡ cells_of role k (map fields_of rows.now)) }
 {

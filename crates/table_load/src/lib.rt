@@ -6,6 +6,7 @@
 
 mod columns;
 mod faults;
+mod laws;
 mod layout;
 mod loading;
 mod numerals;
@@ -13,10 +14,12 @@ mod publics;
 mod reading;
 mod records;
 mod secrets;
+#[cfg(test)]
+mod tests;
 mod truth;
 
 pub use faults::TableFault;
+pub use laws::spells;
 pub use loading::{Table, load, load_public};
-pub use numerals::spells;
 pub use publics::Public;
 pub use secrets::Secret;

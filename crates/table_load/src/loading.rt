@@ -1,6 +1,8 @@
 //! From bytes to a table: first the records are read and tested, then each column is built.
 ghost use Rattle.std.specs.Prelude.{◌≡◌, ◌<◌, ◌≤◌, IfOk, None, length, map};
 ghost use Rattle.csv.specs.Records.{fields_of};
+ghost use Rattle.schema_json.specs.SecretShape.{shape_of};
+ghost use Rattle.table_load.specs.Cells.{FitsSchema};
 ghost use Rattle.table_load.specs.Faults.{Loads};
 ghost use Rattle.table_load.specs.Loaded.{seen_table};
 ghost use Rattle.table_load.specs.Reading.{file_columns, records_fault, roles_of};
@@ -25,6 +27,7 @@ pub struct Table {
     pub secret: Secret,
 }
 
+// The data records of a file, or its first fault.
 fn data_rows(
     alloc: Global,
     schema: &Schema,
@@ -39,6 +42,8 @@ fn data_rows(
     }
 }
 
+// The public part of a table with these records, none of which has a fault.
+#[tactic(auto, using(crate::proofs::SchemaFits::cells_fit))]
 fn public_part(
     alloc: Global,
     schema: &Schema,
@@ -48,7 +53,8 @@ fn public_part(
     requires good { records_fault (roles_of (file_columns which schema.now.columns)) 2 (map fields_of rows.now) ≡ None }
     requires some { 0 < length rows.now }
     requires at_most { length rows.now ≤ 1024 }
-    ensures { IfOk result (λ p. p ≡ public_in which schema.now.columns (map fields_of rows.now)) }
+    ensures public { IfOk result (λ p. p ≡ public_in which schema.now.columns (map fields_of rows.now)) }
+    ensures fits { IfOk result (λ p. FitsSchema schema.now.columns p) }
 {
     match public_columns(alloc, schema, which, rows) {
         Ok(columns) => Ok(Public::of(rows.len() as u16, columns)),
@@ -56,6 +62,7 @@ fn public_part(
     }
 }
 
+// The secret part of a table with these records, none of which has a fault.
 fn secret_part(alloc: Global, schema: &Schema, rows: &[ByteRecord]) -> Result<Secret, NoMemory>
     requires good { records_fault (roles_of (file_columns FileColumns.All schema.now.columns)) 2 (map fields_of rows.now) ≡ None }
     requires some { 0 < length rows.now }
@@ -71,7 +78,11 @@ fn secret_part(alloc: Global, schema: &Schema, rows: &[ByteRecord]) -> Result<Se
 /// The table that bytes mean, or their first fault. It costs one pass over the bytes and one over the fields of each
 /// column, and memory of the order of the table.
 pub fn load(alloc: Global, schema: &Schema, bytes: &[u8]) -> Result<Table, TableFault>
-    ensures { Loads (seen_table result) (table_of schema.now.columns bytes.now) }
+    ensures table { Loads (seen_table result) (table_of schema.now.columns bytes.now) }
+
+    // What follows for a table that was loaded: its columns are those of the schema.
+    ensures fits { IfOk result (λ t. FitsSchema schema.now.columns t.public) }
+    ensures shape { IfOk result (λ t. t.secret.shape ≡ shape_of schema.now.columns t.public.rows) }
 {
     let rows = match data_rows(alloc, schema, FileColumns::All, bytes) {
         Ok(rows) => rows,
@@ -89,7 +100,8 @@ pub fn load(alloc: Global, schema: &Schema, bytes: &[u8]) -> Result<Table, Table
 /// The public part that bytes mean, or their first fault, where header and records hold the public columns alone. The
 /// places of the columns are those of the whole schema.
 pub fn load_public(alloc: Global, schema: &Schema, bytes: &[u8]) -> Result<Public, TableFault>
-    ensures { Loads result (public_of schema.now.columns bytes.now) }
+    ensures public { Loads result (public_of schema.now.columns bytes.now) }
+    ensures fits { IfOk result (λ p. FitsSchema schema.now.columns p) }
 {
     let rows = match data_rows(alloc, schema, FileColumns::Public, bytes) {
         Ok(rows) => rows,

@@ -1,7 +1,7 @@
 //! Numbers in fields.
 ghost use Rattle.std.specs.Prelude.{◌≡◌, ◌<◌, ℕ, ℤ, List, Option, Some, None, option_map};
 ghost use Rattle.std.specs.List.{list_all};
-ghost use Rattle.table_load.specs.Numerals.{after_spaces, digits_number, is_space, number_in, option_sign, signed_number, IsNumeral};
+ghost use Rattle.table_load.specs.Numerals.{after_spaces, digits_number, is_space, number_in, option_sign, signed_number};
 ghost use Rattle.table_load.specs.Numbers.{IsNumeralOf, capped};
 
 /// The greatest size of a number.
@@ -12,7 +12,7 @@ const MOST: u64 = 1_000_000_000_000;
 pub(crate) enum Numeral {
     Number(i64),
     TooLarge,
-    None,
+    NoNumber,
 }
 
 #[tactic(auto, unfolding(crate::specs::Numerals::number_in))]
@@ -45,7 +45,7 @@ fn signed(minus: bool, size: Option<u64>) -> Numeral
     ensures { (n : Option ℕ) → size ≡ option_map capped n → IsNumeralOf result (option_sign minus n) }
 {
     match size {
-        None => Numeral::None,
+        None => Numeral::NoNumber,
         Some(size) if size > MOST => Numeral::TooLarge,
         Some(size) if minus => Numeral::Number(-(size as i64)),
         Some(size) => Numeral::Number(size as i64),
@@ -73,7 +73,11 @@ fn size_in(bytes: &[u8]) -> Option<u64>
     let mut size = 0u64;
     for (place, byte) in bytes.iter().enumerate() {
         if !byte.is_ascii_digit() {
-            return if is_all_spaces(&bytes[place..]) { Some(size) } else { None };
+            return if is_all_spaces(&bytes[place..]) {
+                Some(size)
+            } else {
+                None
+            };
         }
         size = (size * 10 + (*byte - b'0') as u64).min(MOST + 1);
     }
@@ -84,12 +88,4 @@ fn is_all_spaces(bytes: &[u8]) -> bool
     ensures { result ≡ list_all is_space bytes.now }
 {
     bytes.iter().all(|byte| *byte == b' ')
-}
-
-/// A field spells a number exactly where it is spaces, a sign or none, digits, spaces. It computes nothing: its
-/// contract is the law.
-pub fn spells()
-    ensures only { (field : List ℕ) (z : ℤ) → number_in field ≡ Some z → IsNumeral field z }
-    ensures all { (field : List ℕ) (z : ℤ) → IsNumeral field z → number_in field ≡ Some z }
-{
 }

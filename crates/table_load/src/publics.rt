@@ -1,9 +1,15 @@
 //! The public part of a table.
-ghost use Rattle.std.specs.Prelude.{◌≡◌, ◌<◌};
-ghost use Rattle.table_load.specs.Kept.{public_with};
-ghost use Rattle.table_load.specs.Cells.{IsPublic, number_of_cell, text_of_cell, cells_at, HasNumbers, HasTexts};
+ghost use Rattle.std.specs.Prelude.{◌≡◌, ◌<◌, cond, false, drop, length, map, IfOk};
+ghost use Rattle.std.specs.Vec.Iter.{into_iter_items};
+ghost use Rattle.schema_json.specs.Columns.{is_secret};
+ghost use Rattle.table_load.specs.Kept.{cells_kept, public_with};
+ghost use Rattle.table_load.specs.Cells.{AreLists, FitsSchema, IsPublic, first_list, hidden, numbers, numbered, number_of_cell, text_of_cell, cells_at, HasNumbers, HasTexts};
 
+use audit_types::NoMemory;
+use schema_json::{Role, Schema};
+use std::alloc::Global;
 use std::marker::Model;
+use std::vec::IntoIter;
 
 /// A column of a table, as everybody may see it.
 #[derive(Drop)]
@@ -32,6 +38,21 @@ impl Model for Public {
     ghost invariant = { IsKeptPublic };
 }
 
+// The column of a role: a secret one shows nothing, a public one has the next of the lists that are left.
+fn next_column(role: Role, left: &mut IntoIter<Vec<i64>>) -> Column
+    requires { is_secret role ≡ false → 0 < length (into_iter_items left.old) }
+    ensures column { cells_kept result ≡ cond (is_secret role) hidden (numbers (first_list (map (λ v. v.items) (into_iter_items left.old)))) }
+    ensures left { into_iter_items left.new ≡ cond (is_secret role) (into_iter_items left.old) (drop 1 (into_iter_items left.old)) }
+{
+    if role.is_secret() {
+        return Column::Hidden;
+    }
+    match left.next() {
+        Some(list) => Column::Numbers(list),
+        None => unreachable!(),
+    }
+}
+
 impl Public {
     // The public part that keeps these columns.
     pub(crate) fn of(rows: u16, columns: Vec<Column>) -> Public
@@ -39,6 +60,35 @@ impl Public {
         ensures { result ≡ public_with rows columns.items }
     {
         Public { rows, columns }
+    }
+
+    /// The public part with these lists, one for each public column in order, where all public columns hold numbers. On
+    /// refusal the lists are dropped.
+    pub fn of_numbers(
+        alloc: Global,
+        schema: &Schema,
+        lists: Vec<Vec<i64>>,
+    ) -> Result<Public, NoMemory>
+        requires { AreLists schema.now.columns (map (λ v. v.items) lists.items) }
+        ensures rows { IfOk result (λ p. p.rows ≡ length (first_list (map (λ v. v.items) lists.items))) }
+        ensures columns { IfOk result (λ p. p.columns ≡ numbered schema.now.columns (map (λ v. v.items) lists.items)) }
+        ensures fits { IfOk result (λ p. FitsSchema schema.now.columns p) }
+    {
+        let rows = match lists.first() {
+            Some(list) => list.len() as u16,
+            None => unreachable!(),
+        };
+        let mut columns = Vec::new(alloc);
+        let mut left = lists.into_iter();
+        for place in 0..schema.count() {
+            if columns
+                .push(next_column(schema.role(place), &mut left))
+                .is_err()
+            {
+                return Err(NoMemory);
+            }
+        }
+        Ok(Public::of(rows, columns))
     }
 
     /// How many rows the table has.

@@ -54,7 +54,7 @@ fn number_fault(line: u32, column: u8, numeral: Numeral) -> Option<TableFault>
     match numeral {
         Numeral::Number(_) => None,
         Numeral::TooLarge => Some(TableFault::OutOfRange { line, column }),
-        Numeral::None => Some(TableFault::NotNumber { line, column }),
+        Numeral::NoNumber => Some(TableFault::NotNumber { line, column }),
     }
 }
 

@@ -22,13 +22,13 @@ loop-row-preserved c =
     let items = rw pushed at c.push.ensures.items in
     let rest = number_column c.args.k (map fields_of (drop (c.loop-row.row-index + 1) c.args.rows.now)) in
     let number : number_of_field (field_of c.args.k (fields_of c.row-item.result)) ≡ c.number_of.result =
-        ap (λ f. unwrap_or (number_in f) (pos 0)) (sym c.field.ensures) ∙ ap (λ o. unwrap_or o (pos 0)) c.number_of.ensures in
+    ap (λ f. unwrap_or (number_in f) (pos 0)) (sym c.field.ensures) ∙ ap (λ o. unwrap_or o (pos 0)) c.number_of.ensures in
     let here = drop_here c.args.rows.now c.loop-row.row-index c.row-item.result (omega arith) ∙ ap (λ row. row ∷ drop (c.loop-row.row-index + 1) c.args.rows.now) (sym c.row-item.is) in
     let fits : to_z w64 (of_z w64 c.number_of.result) ≡ c.number_of.result = omega (arith, ints) in
     let more : c.push.new.self.items ≡ c.loop-row.numbers.items ++ c.number_of.result ∷ [] = items ∙ ap (λ z. c.loop-row.numbers.items ++ z ∷ []) fits in
     rw more (
-      c.loop-row.invariant
-      ∙ ap (λ rows. c.loop-row.numbers.items ++ number_column c.args.k (map fields_of rows)) here
-      ∙ ap (λ z. c.loop-row.numbers.items ++ z ∷ rest) number
-      ∙ sym (append_assoc c.loop-row.numbers.items (c.number_of.result ∷ []) rest)
+    c.loop-row.invariant
+    ∙ ap (λ rows. c.loop-row.numbers.items ++ number_column c.args.k (map fields_of rows)) here
+    ∙ ap (λ z. c.loop-row.numbers.items ++ z ∷ rest) number
+    ∙ sym (append_assoc c.loop-row.numbers.items (c.number_of.result ∷ []) rest)
     )

@@ -32,11 +32,11 @@ loop-place-preserved c =
           let pushed : is_ok w.push.result ≡ true = w.is_err.ensures.negation ∙ ap not w.if-is_err.false in
           let items = rw pushed at w.push.ensures.items in
           let more : map (λ (v : Vec ℤ Global). v.items) w.push.new.self.items ≡ old ++ number_column place rows ∷ [] =
-              ap (map (λ (v : Vec ℤ Global). v.items)) items ∙ map-append (λ (v : Vec ℤ Global). v.items) c.loop-place.lists.items (w.in-Ok.list ∷ []) ∙ ap (λ x. old ++ x ∷ []) w.in-Ok.ensures in
+          ap (map (λ (v : Vec ℤ Global). v.items)) items ∙ map-append (λ (v : Vec ℤ Global). v.items) c.loop-place.lists.items (w.in-Ok.list ∷ []) ∙ ap (λ x. old ++ x ∷ []) w.in-Ok.ensures in
           rw (w.lists-is, more) (
-            step
-            ∙ ap (λ b. old ++ cond b (number_column place rows ∷ rest) rest) secret
-            ∙ sym (append_assoc old (number_column place rows ∷ []) rest)
+          step
+          ∙ ap (λ b. old ++ cond b (number_column place rows ∷ rest) rest) secret
+          ∙ sym (append_assoc old (number_column place rows ∷ []) rest)
           )
       | else-is_secret w ↦
           let public : is_secret role ≡ false = sym c.is_secret.ensures ∙ w.if-is_secret.false in

@@ -40,10 +40,10 @@ loop-place-preserved c =
           let named : bytes_eq (get_or fields k []) w.name.result.now ≡ true = rw (w.field.ensures, w.as_bytes.ensures.value) at (not-false (bytes_eq w.field.result.now w.as_bytes.result.now) (sym w.ne.ensures ∙ w.if-ne.false)) in
           record {
             same = rw w.k-is (
-              c.loop-place.invariant.same
-              ∙ names_from c.args.which cs place c.role.result w.name.result.now fields k within in_fields c.role.ensures in_file w.name.ensures
-              ∙ ap (λ b. b && names_are (drop (k + 1) fields) (file_columns c.args.which (drop (place + 1) cs))) named
-            );
+                c.loop-place.invariant.same
+                ∙ names_from c.args.which cs place c.role.result w.name.result.now fields k within in_fields c.role.ensures in_file w.name.ensures
+                ∙ ap (λ b. b && names_are (drop (k + 1) fields) (file_columns c.args.which (drop (place + 1) cs))) named
+                );
             at_most = omega (arith, w.k-is, in_fields);
           }
       | else-has w ↦
@@ -60,7 +60,7 @@ returns c =
     let fields = fields_of c.args.row.now in
     let done = drop_of_length-le cs {i = c.loop-place.place} (omega (arith, c.count-place-end.ensures.count)) in
     rw c.len-2.ensures (sym (
-      c.loop-place.invariant.same
-      ∙ ap (λ cols. names_are (drop c.loop-place.k fields) (file_columns c.args.which cols)) done
-      ∙ names_end fields c.loop-place.k c.loop-place.invariant.at_most
+    c.loop-place.invariant.same
+    ∙ ap (λ cols. names_are (drop c.loop-place.k fields) (file_columns c.args.which cols)) done
+    ∙ names_end fields c.loop-place.k c.loop-place.invariant.at_most
     ))

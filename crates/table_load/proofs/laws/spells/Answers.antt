@@ -1,5 +1,5 @@
 use Rattle.table_load.proofs.NumeralLaw.{numeral_from_number, number_from_numeral}
-use Rattle.table_load.proofs.numerals.spells.Goals as goal
+use Rattle.table_load.proofs.laws.spells.Goals as goal
 
 pub returns-clause-only : goal.returns-clause-only
 returns-clause-only c = numeral_from_number
