@@ -1,0 +1,4 @@
+pub mod ContentLaws
+pub mod Exact
+pub mod Multiples
+pub mod PrimitiveLaws

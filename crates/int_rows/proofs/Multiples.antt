@@ -1,0 +1,59 @@
+-- Multiples of two numbers: the product over the greatest common divisor is the least one.
+use Rattle.std.proofs.Common.{◌≡◌, ℕ, zero, suc, ◌+◌, ◌*◌, ◌/◌, ◌%◌, ◌<◌, [], ◌∷◌, sym, ap, ◌∙◌, subst, arith, inl, inr}
+use Rattle.std.specs.Int.{◌∣◌, IsGcd}
+use Rattle.std.proofs.lemmas.Nat.{mod_below, div-add-mod'}
+use Rattle.std.proofs.lemmas.Nat.Gcd.{IsGcd-from_zero, IsGcd-from_mod, same_from_IsGcd, dvd-zero}
+use Rattle.std.proofs.lemmas.Bool.{cases_eq}
+use Rattle.std.proofs.Math.Nat.{mul-add-mod_self_left, mul-lt-mul_of_pos_left, mod-eq_of_lt, mul-div_cancel', div-mul_cancel, dvd-mul_left, dvd-mul_right, mul-dvd-mul_right, dvd_of_mul-dvd-mul_right, eq-zero_of_zero-dvd}
+use Rattle.audit_types.specs.Form.{IsLeastCommonMultiple}
+
+mod_scaled : (k a b : ℕ) → 0 < k → 0 < b → (k * a) % (k * b) ≡ k * (a % b)
+mod_scaled k a b p q =
+    let small : k * (a % b) < k * b = mul-lt-mul_of_pos_left (mod_below a b q) p in
+    let whole : a ≡ b * (a / b) + a % b = omega (arith, div-add-mod' a b) in
+    let spread : k * a ≡ (k * b) * (a / b) + k * (a % b) = ap (λ m. k * m) whole ∙ omega arith in
+    ap (λ m. m % (k * b)) spread ∙ mul-add-mod_self_left (k * b) (a / b) (k * (a % b)) ∙ mod-eq_of_lt small
+
+-- a greatest common divisor, and that of the multiples by k
+pub scaled_gcd : (k : ℕ) → 0 < k → (n a b : ℕ) → b < n → (g : ℕ) × IsGcd a b g × IsGcd (k * a) (k * b) (k * g)
+scaled_gcd k p zero a b h = absurd (omega arith)
+scaled_gcd k p (suc n) a b h =
+    elim (cases_eq b 0) [
+      | inl e ↦ (a, IsGcd-from_zero a b e, IsGcd-from_zero (k * a) (k * b) (rw e (omega arith)))
+      | inr more ↦
+          let smaller : a % b < b = mod_below a b (omega arith) in
+          let rest = scaled_gcd k p n b (a % b) (omega arith) in
+          (rest.0, IsGcd-from_mod a b rest.0 rest.1, IsGcd-from_mod (k * a) (k * b) (k * rest.0) (subst (λ m. IsGcd (k * b) m (k * rest.0)) (sym (mod_scaled k a b p (omega arith))) rest.2))
+    ]
+
+-- a number that is not 0 has no divisor 0
+pub positive_divisor : (a b g : ℕ) → 0 < a → IsGcd a b g → 0 < g
+positive_divisor a b zero p common = absurd (let none = eq-zero_of_zero-dvd common.0 in omega arith)
+positive_divisor a b (suc g) p common = omega arith
+
+common_multiple_is : (a b g : ℕ) → IsGcd a b g → a / g * b ≡ a * (b / g)
+common_multiple_is a b g common =
+    let first = div-mul_cancel g common.0 in
+    let second = mul-div_cancel' g common.1 in
+    ap (λ m. a / g * m) (sym second) ∙ omega arith ∙ ap (λ m. m * (b / g)) first
+
+product_is : (a b g : ℕ) → IsGcd a b g → a / g * b * g ≡ b * a
+product_is a b g common = let first = div-mul_cancel g common.0 in omega arith ∙ ap (λ m. b * m) first
+
+-- a multiple of both is a multiple of the product over the greatest common divisor
+divides_multiples : (a b g k : ℕ) → 0 < g → IsGcd a b g → a ∣ k → b ∣ k → (a / g * b) ∣ k
+divides_multiples a b g zero p common one two = dvd-zero (a / g * b)
+divides_multiples a b g (suc k) p common one two =
+    let any = scaled_gcd (suc k) (omega arith) (suc b) a b (omega arith) in
+    let same = same_from_IsGcd a b any.0 g any.1 common in
+    let turned : a * b ≡ b * a = omega arith in
+    let at_first : (b * a) ∣ (suc k * a) = mul-dvd-mul_right b two a in
+    let at_second : (b * a) ∣ (suc k * b) = subst (λ m. m ∣ (suc k * b)) turned (mul-dvd-mul_right a one b) in
+    let whole : (b * a) ∣ (suc k * g) = subst (λ m. (b * a) ∣ (suc k * m)) same (any.2.2 (b * a) at_first at_second) in
+    dvd_of_mul-dvd-mul_right (a / g * b) p (subst (λ m. m ∣ (suc k * g)) (sym (product_is a b g common)) whole)
+
+pub least_multiple : (a b g : ℕ) → 0 < a → IsGcd a b g → IsLeastCommonMultiple (a ∷ b ∷ []) (a / g * b)
+least_multiple a b g p common = record {
+  multiple = (subst (λ m. a ∣ m) (sym (common_multiple_is a b g common)) (dvd-mul_right a (b / g)), (dvd-mul_left b (a / g), tt));
+  least = λ k all. divides_multiples a b g k (positive_divisor a b g p common) common all.0 all.1.0;
+}

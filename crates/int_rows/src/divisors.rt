@@ -1,0 +1,76 @@
+//! Divisors and multiples of two numbers, and of all entries of a row.
+ghost use Rattle.std.specs.Prelude.{◌≡◌, ℕ, [], ◌∷◌, pos, ◌<◌, ◌≤◌, ◌^◌, ◌<ℤ◌, ◌≤ℤ◌, unsigned_abs, MatchOption};
+ghost use Rattle.std.specs.Int.{IsGcd};
+ghost use Rattle.std.specs.List.{AllByRecursion};
+ghost use Rattle.audit_types.specs.Form.{IsContent, IsLeastCommonMultiple};
+
+// Euclid's algorithm, on sizes.
+fn common_divisor(a: u128, b: u128) -> u128
+    requires a { a ≤ 2 ^ 126 }
+    requires b { b ≤ 2 ^ 126 }
+    ensures divisor { IsGcd a b result }
+    ensures small { result ≤ 2 ^ 126 }
+{
+    let mut x = a;
+    let mut y = b;
+    while y != 0 {
+        let rest = x % y;
+        x = y;
+        y = rest;
+    }
+    x
+}
+
+/// The greatest common divisor, never negative. `gcd(0, 0)` is 0.
+pub fn gcd(a: i128, b: i128) -> i128
+    requires a { unsigned_abs a ≤ 2 ^ 126 }
+    requires b { unsigned_abs b ≤ 2 ^ 126 }
+    ensures { (g : ℕ) × (result ≡ pos g) × IsGcd (unsigned_abs a) (unsigned_abs b) g × (g ≤ 2 ^ 126) }
+{
+    common_divisor(a.unsigned_abs(), b.unsigned_abs()) as i128
+}
+
+fn common_multiple(a: u128, b: u128) -> u128
+    requires a { (0 < a) × (a ≤ 2 ^ 56) }
+    requires b { (0 < b) × (b ≤ 2 ^ 56) }
+    ensures multiple { IsLeastCommonMultiple (a ∷ b ∷ []) result }
+    ensures small { result ≤ 2 ^ 112 }
+{
+    let divisor = common_divisor(a, b);
+    a / divisor * b
+}
+
+/// The least common multiple of two numbers, both at least 1. `None` exactly where it passes the limit.
+pub fn lcm_within(a: i128, b: i128, limit: i128) -> Option<i128>
+    requires a { (pos 0 <ℤ a) × (a ≤ℤ pos (2 ^ 56)) }
+    requires b { (pos 0 <ℤ b) × (b ≤ℤ pos (2 ^ 56)) }
+    requires limit { (pos 0 <ℤ limit) × (limit ≤ℤ pos (2 ^ 56)) }
+    ensures { (m : ℕ) × IsLeastCommonMultiple (unsigned_abs a ∷ unsigned_abs b ∷ []) m × MatchOption result (limit <ℤ pos m) (λ x. (x ≡ pos m) × (pos m ≤ℤ limit)) }
+{
+    let multiple = common_multiple(a.unsigned_abs(), b.unsigned_abs());
+    if multiple <= limit.unsigned_abs() {
+        Some(multiple as i128)
+    } else {
+        None
+    }
+}
+
+fn size_of_content(row: &[i128]) -> u128
+    requires { AllByRecursion (λ x. unsigned_abs x ≤ 2 ^ 126) row.now }
+    ensures content { IsContent row.now result }
+    ensures small { result ≤ 2 ^ 126 }
+{
+    let mut divisor = 0;
+    for x in row {
+        divisor = common_divisor(divisor, x.unsigned_abs());
+    }
+    divisor
+}
+
+/// The greatest common divisor of all entries, 0 where all are 0.
+pub fn content(row: &[i128]) -> i128
+    requires { AllByRecursion (λ x. unsigned_abs x ≤ 2 ^ 126) row.now }
+    ensures { (g : ℕ) × (result ≡ pos g) × IsContent row.now g × (g ≤ 2 ^ 126) }
+{
+    size_of_content(row) as i128
+}

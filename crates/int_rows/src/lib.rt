@@ -1,0 +1,13 @@
+//! Greatest common divisors, least common multiples and primitive rows of whole numbers of 128 bits.
+//!
+//! Start with `make_primitive`, whose clause says what becomes of a row. No call takes memory.
+#![tactic(auto)]
+
+mod divisors;
+mod primitive;
+
+pub use divisors::{content, gcd, lcm_within};
+pub use primitive::make_primitive;
+
+#[cfg(test)]
+mod tests;

@@ -1,0 +1,68 @@
+-- The first rows of a form cleared, one after the other.
+use Rattle.std.proofs.Common.{◌≡◌, ℕ, zero, suc, ◌+◌, ◌<◌, ◌≤◌, ℤ, List, [], ◌∷◌, ◌++◌, length, take, drop, get_or, refl, sym, ap, ◌∙◌, arith, subst}
+use Rattle.std.specs.List.{AllByRecursion}
+use Rattle.std.proofs.lemmas.List.{length-take-le, take_more}
+use Rattle.audit_types.specs.Form.{IsPrimitive}
+use Rattle.int_rows.proofs.ContentLaws.{all-push}
+use Rattle.sum_basis.specs.Elimination.{IsSmall, IsZeroAtPivots, IsCleared, AreCleared}
+use Rattle.sum_basis.specs.Growth.{ClearsFirst, ClearsWide}
+use Rattle.sum_basis.proofs.Clearing.{cleared_all}
+
+module _ (n : ℕ) (new : List ℤ) where
+  -- rows cleared in two parts are cleared
+  pub cleared-append : (rows others made more : List (List ℤ)) → AreCleared n new rows made → AreCleared n new others more → AreCleared n new (rows ++ others) (made ++ more)
+  cleared-append [] others [] more h k = k
+  cleared-append [] others (m ∷ made) more h k = absurd h
+  cleared-append (row ∷ rows) others [] more h k = absurd h
+  cleared-append (row ∷ rows) others (m ∷ made) more h k = (h.0, cleared-append rows others made more h.1 k)
+
+  -- as many rows are cleared as there were
+  pub length-cleared : (rows made : List (List ℤ)) → AreCleared n new rows made → length made ≡ length rows
+  length-cleared [] [] h = refl
+  length-cleared [] (m ∷ made) h = absurd h
+  length-cleared (row ∷ rows) [] h = absurd h
+  length-cleared (row ∷ rows) (m ∷ made) h = ap suc (length-cleared rows made h.1)
+
+  -- k rows are cleared when the first k are
+  pub some_cleared : (form made : List (List ℤ)) (k : ℕ) → k ≤ length form → ClearsFirst n form new k made → length made ≡ k
+  some_cleared form made k h first = length-cleared (take k form) made first.cleared ∙ length-take-le k form h
+
+  -- at the start none is
+  pub no_rows : (form : List (List ℤ)) → ClearsFirst n form new 0 []
+  no_rows form = record { cleared = tt; small = tt }
+
+  -- one row more is cleared
+  pub one_more_cleared : (form made : List (List ℤ)) (k : ℕ) (row : List ℤ) → k < length form → ClearsFirst n form new k made → IsCleared n new (get_or form k []) row → IsSmall row → ClearsFirst n form new (k + 1) (made ++ row ∷ [])
+  one_more_cleared form made k row h first is small = record {
+    cleared = rw (take_more form k [] h) (cleared-append (take k form) (get_or form k [] ∷ []) made (row ∷ []) first.cleared (is, tt));
+    small = all-push IsSmall made row first.small small;
+  }
+
+  -- what holds of a form holds of its rows from a place on
+  primitives_from : (form : List (List ℤ)) (k : ℕ) → AllByRecursion (IsPrimitive n) form → IsZeroAtPivots form new → AllByRecursion (IsPrimitive n) (drop k form) × IsZeroAtPivots (drop k form) new
+  primitives_from form zero p z = (p, z)
+  primitives_from [] (suc k) p z = (tt, tt)
+  primitives_from (row ∷ form) (suc k) p z = primitives_from form k p.1 z.1
+
+  -- a row in the middle of small rows is small
+  not_all : (made more : List (List ℤ)) (row : List ℤ) → AllByRecursion IsSmall (made ++ row ∷ more) → IsSmall row
+  not_all [] more row h = h.0
+  not_all (m ∷ made) more row h = not_all made more row h.1
+
+  -- a list is its first k items, item k and the others
+  split_at : (form : List (List ℤ)) (k : ℕ) → k < length form → form ≡ take k form ++ get_or form k [] ∷ drop (suc k) form
+  split_at [] k h = absurd (omega arith)
+  split_at (row ∷ form) zero h = refl
+  split_at (row ∷ form) (suc k) h = ap (λ l. row ∷ l) (split_at form k (omega arith))
+
+  -- once a row is too large, the rest can still be cleared, if not by the code
+  pub too_large : (form made : List (List ℤ)) (k : ℕ) (row : List ℤ) → k < length form → IsPrimitive n new → AllByRecursion (IsPrimitive n) form → IsZeroAtPivots form new → ClearsFirst n form new k made → IsCleared n new (get_or form k []) row → ¬ (IsSmall row) → ClearsWide n form new
+  too_large form made k row h p q z first is large =
+      let parts = primitives_from form (suc k) q z in
+      let rest = cleared_all n new (drop (suc k) form) p parts.0 parts.1 in
+      let all = cleared-append (take k form) (get_or form k [] ∷ drop (suc k) form) made (row ∷ rest.0) first.cleared (is, rest.1) in
+      record {
+        rows = made ++ row ∷ rest.0;
+        cleared = subst (λ l. AreCleared n new l (made ++ row ∷ rest.0)) (sym (split_at form k h)) all;
+        wide = λ small. large (not_all made rest.0 row small);
+      }

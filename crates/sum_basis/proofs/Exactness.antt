@@ -1,0 +1,78 @@
+-- One form of one space, whatever rows it is the space of: what the answers of `extend` say of the sets.
+use Rattle.std.proofs.Common.{◌≡◌, ◌↔◌, ℕ, ℤ, List, [], ◌∷◌, ◌++◌, map, refl, sym, subst}
+use Rattle.std.specs.List.{AllByRecursion}
+use Rattle.std.proofs.lemmas.List.{map-append}
+use Rattle.audit_types.specs.Form.{set_row, InSpan, IsReducedForm, IsNarrow, Reduced}
+use Rattle.int_rows.proofs.ContentLaws.{all-push, all-front}
+use Rattle.sum_basis.specs.Basis.{Echelon}
+use Rattle.sum_basis.specs.Elimination.{IsSmallForm}
+use Rattle.sum_basis.specs.Growth.{Grows, GrowsFor, GrowsWide}
+use Rattle.sum_basis.specs.declared.Grown.{Grown}
+use Rattle.sum_basis.specs.declared.Grown.TheVariants.{Same, Added, Wide}
+use Rattle.sum_basis.proofs.Spans.{span_trans, span_trans_all}
+use Rattle.sum_basis.proofs.FormsAreUnique.{own, forms_are_unique}
+use Rattle.sum_basis.proofs.SpanKeepsForm.{span_keeps_form}
+
+-- rows of one space have one reduced form
+pub same_space : (n : ℕ) (rows others form : List (List ℤ)) → AllByRecursion (InSpan others) rows → AllByRecursion (InSpan rows) others → IsReducedForm n rows form → IsReducedForm n others form
+same_space n rows others form h k r = record {
+  primitive = r.primitive;
+  echelon = r.echelon;
+  within = span_trans_all others rows form h r.within;
+  spans = span_trans_all form rows others r.spans k;
+}
+
+-- one row put in the place of another
+pub other_row : (n : ℕ) (rows form : List (List ℤ)) (row other : List ℤ) → InSpan (rows ++ other ∷ []) row → InSpan (rows ++ row ∷ []) other → IsReducedForm n (rows ++ row ∷ []) form → IsReducedForm n (rows ++ other ∷ []) form
+other_row n rows form row other h k =
+    let first = all-front (InSpan (rows ++ other ∷ [])) rows other (own (rows ++ other ∷ [])) in
+    let second = all-front (InSpan (rows ++ row ∷ [])) rows row (own (rows ++ row ∷ [])) in
+    same_space n (rows ++ row ∷ []) (rows ++ other ∷ []) form (all-push (InSpan (rows ++ other ∷ [])) rows row first.0 h) (all-push (InSpan (rows ++ row ∷ [])) rows other second.0 k)
+
+-- the rows of which the old ones are the form, put in their place
+pub of_rows : (n : ℕ) (rows old form : List (List ℤ)) (row : List ℤ) → IsReducedForm n rows old → IsReducedForm n (old ++ row ∷ []) form → IsReducedForm n (rows ++ row ∷ []) form
+of_rows n rows old form row r =
+    let first = all-front (InSpan (rows ++ row ∷ [])) rows row (own (rows ++ row ∷ [])) in
+    let second = all-front (InSpan (old ++ row ∷ [])) old row (own (old ++ row ∷ [])) in
+    same_space n (old ++ row ∷ []) (rows ++ row ∷ []) form
+    (all-push (InSpan (rows ++ row ∷ [])) old row (span_trans_all (rows ++ row ∷ []) rows old first.0 r.within) first.1)
+    (all-push (InSpan (old ++ row ∷ [])) rows row (span_trans_all (old ++ row ∷ []) old rows second.0 r.spans) second.1)
+
+-- the row of one set more, among the rows of the sets
+more_sets : (n : ℕ) (sets : List (List ℕ)) (rows : List ℕ) (form : List (List ℤ)) → IsReducedForm n (map (set_row n) sets ++ set_row n rows ∷ []) form → Reduced n (sets ++ rows ∷ []) form
+more_sets n sets rows form r = subst (λ l. IsReducedForm n l form) (sym (map-append (set_row n) sets (rows ∷ []))) r
+
+-- the form stands for each list of sets that it stood for, with this set
+pub stands_for : (old new : Echelon) (rows : List ℕ) (grown : Grown) → Grows old (set_row old.n rows) grown new → (sets : List (List ℕ)) → Reduced old.n sets old.rows → GrowsFor sets rows old grown new
+stands_for old new rows Same g sets r =
+    subst (λ (e : Echelon). Reduced e.n (sets ++ rows ∷ []) e.rows) (sym g.1)
+    (more_sets old.n sets rows old.rows (span_keeps_form old.n (map (set_row old.n) sets) old.rows (set_row old.n rows) r (span_trans (map (set_row old.n) sets) old.rows (set_row old.n rows) r.within g.0)))
+stands_for old new rows Added g sets r =
+    subst (λ n. Reduced n (sets ++ rows ∷ []) new.rows) (sym g.1.n) (more_sets old.n sets rows new.rows (of_rows old.n (map (set_row old.n) sets) old.rows new.rows (set_row old.n rows) r g.1.reduced))
+stands_for old new rows Wide g sets r = record {
+  form = g.2.0;
+  reduced = more_sets old.n sets rows g.2.0 (of_rows old.n (map (set_row old.n) sets) old.rows g.2.0 (set_row old.n rows) r g.2.1);
+  wide = g.2.2;
+}
+
+-- a form is its own form
+of_itself : (n : ℕ) (form : List (List ℤ)) → IsSmallForm n form → IsReducedForm n form form
+of_itself n form f = record { primitive = f.primitive; echelon = f.echelon; within = own form; spans = own form }
+
+-- a row in the span doesn't make a narrow form wide
+never_wide : (old : Echelon) (row : List ℤ) → IsSmallForm old.n old.rows → IsNarrow old.rows → InSpan old.rows row → ¬ (GrowsWide old row)
+never_wide old row f narrow p w =
+    let kept = span_keeps_form old.n old.rows old.rows row (of_itself old.n old.rows f) p in
+    w.2 (subst IsNarrow (forms_are_unique old.n (old.rows ++ row ∷ []) old.rows w.0 kept w.1) narrow)
+
+-- Same comes exactly where the row lies in the span
+pub same_exactly : (old new : Echelon) (row : List ℤ) (grown : Grown) → Grows old row grown new → (grown ≡ Same) ↔ InSpan old.rows row
+same_exactly old new row Same g = (λ e. g.0, λ p. refl)
+same_exactly old new row Added g = (λ e. absurd cc, λ p. absurd (g.0 p))
+same_exactly old new row Wide g = (λ e. absurd cc, λ p. absurd (g.0 p))
+
+-- Wide comes exactly where the form with the row is not narrow
+pub wide_exactly : (old new : Echelon) (row : List ℤ) (grown : Grown) → IsSmallForm old.n old.rows → IsNarrow old.rows → Grows old row grown new → (grown ≡ Wide) ↔ GrowsWide old row
+wide_exactly old new row Same f narrow g = (λ e. absurd cc, λ w. absurd (never_wide old row f narrow g.0 w))
+wide_exactly old new row Added f narrow g = (λ e. absurd cc, λ w. absurd (w.2 (subst IsNarrow (forms_are_unique old.n (old.rows ++ row ∷ []) new.rows w.0 g.1.reduced w.1) g.1.narrow)))
+wide_exactly old new row Wide f narrow g = (λ e. g.2, λ w. refl)

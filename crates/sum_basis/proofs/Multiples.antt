@@ -1,0 +1,50 @@
+-- A row less a multiple of another, which makes it 0 at the other's pivot.
+use Rattle.std.proofs.Common.{◌≡◌, ℕ, ◌<◌, ◌≤◌, ◌*◌, ◌^◌, ℤ, pos, negsuc, List, sym, ap, ◌∙◌, arith}
+use Rattle.std.specs.Prelude.{◌+ℤ◌, ◌*ℤ◌, ◌<ℤ◌, unsigned_abs}
+use Rattle.std.proofs.lemmas.Int.{ints, unsigned_abs-mul}
+use Rattle.std.proofs.Math.Nat.{le-mul_of_pos_right}
+use Rattle.std.proofs.Math.IntN.{*ℤ_comm, zero-*ℤ, +ℤ_idr, suc_ℤ-*ℤ, +ℤ_idl}
+use Rattle.audit_types.specs.Truth.{number_at}
+use Rattle.audit_types.specs.Form.{pivot, pivot_entry}
+use Rattle.sum_basis.specs.Combination.{combine}
+use Rattle.sum_basis.specs.Elimination.{IsLessMultiple}
+use Rattle.sum_basis.proofs.Products.{neg-times}
+use Rattle.sum_basis.proofs.Reduction.{number_at-combine}
+
+-- once a number is the number
+pub one-times : (x : ℤ) → pos 1 *ℤ x ≡ x
+one-times x = suc_ℤ-*ℤ (pos 0) x ∙ ap (λ z. z +ℤ x) (zero-*ℤ x) ∙ +ℤ_idl x
+
+-- a factor of a small number is small
+factor_small : (x d times : ℤ) → x ≡ d *ℤ times → pos 0 <ℤ d → unsigned_abs x ≤ 2 ^ 56 → unsigned_abs times ≤ 2 ^ 56
+factor_small x (pos n) times e p h =
+    let size : unsigned_abs x ≡ n * unsigned_abs times = ap unsigned_abs e ∙ unsigned_abs-mul (pos n) times in
+    let more = le-mul_of_pos_right (unsigned_abs times) (let above : 0 < n = omega (arith, ints) in above) in
+    omega (arith, size, more)
+factor_small x (negsuc n) times e p h = absurd (omega (arith, ints))
+
+-- the exact quotient is the multiple to take
+pub less_multiple : (other old new : List ℤ) (times : ℤ) → number_at old (pivot other) ≡ pivot_entry other *ℤ times → pos 0 <ℤ pivot_entry other → unsigned_abs (number_at old (pivot other)) ≤ 2 ^ 56
+    → new ≡ combine (pos 1) old times other → IsLessMultiple other old new
+less_multiple other old new times e p h is = record {
+  times = times;
+  small = factor_small (number_at old (pivot other)) (pivot_entry other) times e p h;
+  is = λ j. at j;
+  zero_there = let here = at (pivot other) in let turned = *ℤ_comm (pivot_entry other) times in omega (arith, ints);
+}
+  where
+    at : (j : ℕ) → number_at old j ≡ number_at new j +ℤ times *ℤ number_at other j
+    at j =
+        let new_at = ap (λ r. number_at r j) is ∙ number_at-combine (pos 1) old times other j in
+        let once = one-times (number_at old j) in
+        let minus = neg-times times (number_at other j) in
+        omega (arith, ints)
+
+-- nothing has to be taken from a row that is 0 there
+pub no_multiple : (other old : List ℤ) → number_at old (pivot other) ≡ pos 0 → IsLessMultiple other old old
+no_multiple other old e = record {
+  times = pos 0;
+  small = omega arith;
+  is = λ j. sym (ap (λ z. number_at old j +ℤ z) (zero-*ℤ (number_at other j)) ∙ +ℤ_idr (number_at old j));
+  zero_there = e;
+}

@@ -1,0 +1,59 @@
+-- The form of any sets is narrow or wide, and not both.
+use Rattle.std.proofs.Common.{◌≡◌, ℕ, ◌≤◌, ◌^◌, ℤ, List, [], ◌∷◌, map, length, subst, inl, inr, ◌⊎◌, arith}
+use Rattle.std.specs.Prelude.{unsigned_abs}
+use Rattle.std.specs.List.{AllByRecursion}
+use Rattle.std.proofs.lemmas.Bool.{cases_lt}
+use Rattle.audit_types.specs.Form.{IsReducedForm, IsNarrow, HasNarrowForm, HasWideForm, set_row, pivot_entries}
+use Rattle.sum_basis.specs.Elimination.{IsSmall}
+use Rattle.sum_basis.specs.Laws.{NarrowOrWide}
+use Rattle.sum_basis.proofs.FormsAreUnique.{forms_are_unique, leads_from}
+use Rattle.sum_basis.proofs.EveryRowSpaceHasAForm.{every_row_space_has_a_form}
+use Rattle.sum_basis.proofs.LeastMultiples.{least_exists, least_unique, entries_positive}
+use Rattle.sum_basis.proofs.SetRows.{length-set_row}
+
+module _ {X : Type 0} (P : X → Type 0) (decide : (x : X) → P x ⊎ ¬ (P x)) where
+  -- a test that is decided of one item is decided of all
+  all_or_not : (xs : List X) → AllByRecursion P xs ⊎ ¬ (AllByRecursion P xs)
+  all_or_not [] = inl tt
+  all_or_not (x ∷ xs) = elim (decide x) [
+    | inl here ↦ elim (all_or_not xs) [ inl rest ↦ inl (here, rest) | inr other ↦ inr (λ all. other all.1) ]
+    | inr other ↦ inr (λ all. other all.0)
+  ]
+
+-- whether a number is small is decided
+small_or_not : (x : ℤ) → (unsigned_abs x ≤ 2 ^ 56) ⊎ ¬ (unsigned_abs x ≤ 2 ^ 56)
+small_or_not x = elim (cases_lt (2 ^ 56) (unsigned_abs x)) [ inl more ↦ inr (λ small. omega arith) | inr small ↦ inl small ]
+
+-- whether a form is narrow is decided
+narrow_or_not : (n : ℕ) (rows form : List (List ℤ)) → IsReducedForm n rows form → IsNarrow form ⊎ ¬ (IsNarrow form)
+narrow_or_not n rows form r =
+    elim (all_or_not IsSmall (all_or_not (λ x. unsigned_abs x ≤ 2 ^ 56) small_or_not) form) [
+      | inr large ↦ inr (λ narrow. large narrow.entries)
+      | inl small ↦
+          let least = least_exists (pivot_entries form) (entries_positive form (leads_from n form r.primitive)) in
+          elim (cases_lt (2 ^ 56) least.0) [
+            | inl more ↦ inr (λ narrow. let same = least_unique (pivot_entries form) narrow.common least.0 narrow.common_is least.2 in let within = narrow.common_small in omega arith)
+            | inr within ↦ inl (record { entries = small; common = least.0; common_is = least.2; common_small = within })
+          ]
+    ]
+
+-- the rows of sets have n entries
+all_long : (n : ℕ) (sets : List (List ℕ)) → AllByRecursion (λ r. length r ≡ n) (map (set_row n) sets)
+all_long n [] = tt
+all_long n (s ∷ sets) = (length-set_row n s, all_long n sets)
+
+-- there is a form, and it is narrow or not
+one_of_them : (n : ℕ) (sets : List (List ℕ)) → HasNarrowForm n sets ⊎ HasWideForm n sets
+one_of_them n sets =
+    let form = every_row_space_has_a_form n (map (set_row n) sets) (all_long n sets) in
+    elim (narrow_or_not n (map (set_row n) sets) form.0 form.1) [
+      | inl narrow ↦ inl (record { form = form.0; reduced = form.1; narrow = narrow })
+      | inr wide ↦ inr (record { form = form.0; reduced = form.1; wide = wide })
+    ]
+
+-- it cannot be both, since there is only one
+pub narrow_or_wide : NarrowOrWide
+narrow_or_wide n sets = (
+  one_of_them n sets,
+  λ narrow wide. wide.wide (subst IsNarrow (forms_are_unique n (map (set_row n) sets) narrow.form wide.form narrow.reduced wide.reduced) narrow.narrow),
+)

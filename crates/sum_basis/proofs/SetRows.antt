@@ -1,0 +1,84 @@
+-- Rows of zeros and ones.
+use Rattle.std.proofs.Common.{◌≡◌, ℕ, zero, suc, ◌+◌, ◌*◌, ◌<◌, ◌≤◌, ◌^◌, Bool, true, false, cond, ℤ, pos, List, [], ◌∷◌, length, set, sym, ap, ◌∙◌, arith, inl, inr}
+use Rattle.std.specs.Prelude.{◌*ℤ◌, unsigned_abs}
+use Rattle.std.specs.Int.{◌∣◌}
+use Rattle.std.specs.List.{AllByRecursion}
+use Rattle.std.proofs.lemmas.List.{get_or-set_same, get_or-set_other, length-map, get_or_past}
+use Rattle.std.proofs.lemmas.List.FromFn.{get_or-map-range_with_len, length-map-range_with_len}
+use Rattle.std.proofs.lemmas.Bool.{cases_eq, cases_lt}
+use Rattle.std.proofs.lemmas.Int.{unsigned_abs-mul}
+use Rattle.std.proofs.Math.Nat.{dvd-mul_right_of_dvd}
+use Rattle.std.proofs.Math.IntN.{*ℤ-zero}
+use Rattle.audit_types.specs.Rows.{has_row}
+use Rattle.audit_types.specs.Truth.{number_at}
+use Rattle.audit_types.specs.Form.{set_row, pivot, pivot_entry, pivot_entries}
+use Rattle.sum_basis.specs.Combination.{times}
+use Rattle.sum_basis.specs.Elimination.{IsSmall}
+use Rattle.sum_basis.proofs.PrimitiveLines.{same_rows}
+use Rattle.sum_basis.proofs.Sizes.{all_by_place}
+use Rattle.int_rows.proofs.PrimitiveLaws.{number_at-times}
+
+-- the row of a set has 1 at its rows and 0 elsewhere
+pub number_at-set_row : (n : ℕ) (rows : List ℕ) (j : ℕ) → j < n → number_at (set_row n rows) j ≡ cond (has_row rows j) (pos 1) (pos 0)
+number_at-set_row n rows j h = get_or-map-range_with_len (λ r. cond (has_row rows r) (pos 1) (pos 0)) 0 n j j (pos 0) h (omega arith)
+
+-- it has n entries
+pub length-set_row : (n : ℕ) (rows : List ℕ) → length (set_row n rows) ≡ n
+length-set_row n rows = length-map-range_with_len (λ r. cond (has_row rows r) (pos 1) (pos 0)) 0 n
+
+-- the entries below j are written
+pub record IsPartlyWritten (n : ℕ) (rows : List ℕ) (multiple : ℤ) (row : List ℤ) (j : ℕ) : Type 0 where
+  pub done : (k : ℕ) → k < j → number_at row k ≡ multiple *ℤ cond (has_row rows k) (pos 1) (pos 0)
+
+-- one entry more is written
+pub one_more_written : (n : ℕ) (rows : List ℕ) (multiple : ℤ) (row : List ℤ) (j : ℕ) (v : ℤ) → j < length row → IsPartlyWritten n rows multiple row j → v ≡ multiple *ℤ cond (has_row rows j) (pos 1) (pos 0) → IsPartlyWritten n rows multiple (set row j v) (j + 1)
+one_more_written n rows multiple row j v inside so_far is = record {
+  done = λ k h. elim (cases_eq k j) [
+    | inl e ↦ rw e (get_or-set_same row j v (pos 0) inside ∙ is)
+    | inr other ↦ get_or-set_other row j k v (pos 0) other ∙ so_far.done k (omega arith)
+  ];
+}
+
+-- when all are, the row is the multiple of the row of the set
+pub all_written : (n : ℕ) (rows : List ℕ) (multiple : ℤ) (row : List ℤ) (j : ℕ) → length row ≡ n → n ≤ j → IsPartlyWritten n rows multiple row j → row ≡ times multiple (set_row n rows)
+all_written n rows multiple row j l past so_far = same_rows row (times multiple (set_row n rows)) (l ∙ sym (length-map (set_row n rows) (λ x. multiple *ℤ x) ∙ length-set_row n rows)) entry
+  where
+    entry : (k : ℕ) → number_at row k ≡ number_at (times multiple (set_row n rows)) k
+    entry k = elim (cases_lt k n) [
+      | inl lt ↦ so_far.done k (omega arith) ∙ ap (λ z. multiple *ℤ z) (sym (number_at-set_row n rows k lt)) ∙ sym (number_at-times multiple (set_row n rows) k)
+      | inr le ↦ get_or_past row k (pos 0) (omega arith) ∙ sym (number_at-times multiple (set_row n rows) k ∙ ap (λ z. multiple *ℤ z) (get_or_past (set_row n rows) k (pos 0) (let all = length-set_row n rows in omega arith)) ∙ *ℤ-zero multiple)
+    ]
+
+-- its entries are at most 1
+bit_small : (n : ℕ) (rows : List ℕ) (j : ℕ) → unsigned_abs (number_at (set_row n rows) j) ≤ 1
+bit_small n rows j = elim (cases_lt j n) [
+  | inl lt ↦ rw (number_at-set_row n rows j lt) (bit (has_row rows j))
+  | inr le ↦ rw (get_or_past (set_row n rows) j (pos 0) (let all = length-set_row n rows in omega arith)) (omega arith)
+]
+  where
+    bit : (b : Bool) → unsigned_abs (cond b (pos 1) (pos 0)) ≤ 1
+    bit true = omega arith
+    bit false = omega arith
+
+-- a product with 0 or 1 is no greater than the factor
+product_at_most : (m b limit : ℕ) → m ≤ limit → b ≤ 1 → m * b ≤ limit
+product_at_most m zero limit p q = omega arith
+product_at_most m (suc zero) limit p q = omega arith
+product_at_most m (suc (suc b)) limit p q = absurd (omega arith)
+
+-- a small multiple of the row of a set has small entries
+pub set_row_small : (n : ℕ) (rows : List ℕ) (multiple : ℤ) → unsigned_abs multiple ≤ 2 ^ 56 → IsSmall (times multiple (set_row n rows))
+set_row_small n rows multiple h = all_by_place (λ x. unsigned_abs x ≤ 2 ^ 56) (times multiple (set_row n rows)) entry
+  where
+    entry : (j : ℕ) → unsigned_abs (number_at (times multiple (set_row n rows)) j) ≤ 2 ^ 56
+    entry j =
+        let size = ap unsigned_abs (number_at-times multiple (set_row n rows) j) ∙ unsigned_abs-mul multiple (number_at (set_row n rows) j) in
+        rw size (product_at_most (unsigned_abs multiple) (unsigned_abs (number_at (set_row n rows) j)) (2 ^ 56) h (bit_small n rows j))
+
+-- the pivot entries divide a multiple of their common multiple
+pub entries_divide : (form : List (List ℤ)) (v : List ℤ) (multiple : ℤ) → AllByRecursion (λ x. x ∣ unsigned_abs multiple) (pivot_entries form) → AllByRecursion (λ r. unsigned_abs (pivot_entry r) ∣ unsigned_abs (number_at (times multiple v) (pivot r))) form
+entries_divide [] v multiple h = tt
+entries_divide (row ∷ form) v multiple h = (
+  rw (number_at-times multiple v (pivot row), unsigned_abs-mul multiple (number_at v (pivot row))) (dvd-mul_right_of_dvd (unsigned_abs (pivot_entry row)) h.0 (unsigned_abs (number_at v (pivot row)))),
+  entries_divide form v multiple h.1,
+)

@@ -1,0 +1,48 @@
+-- What is done to a row, and to the rows of a form, when the row joins the form.
+use Rattle.std.specs.Prelude.{◌≡◌, ℕ, ◌≤◌, ◌^◌, ℤ, pos, ◌+ℤ◌, ◌*ℤ◌, List, [], ◌∷◌, unsigned_abs}
+use Rattle.std.specs.List.{AllByRecursion}
+use Rattle.audit_types.specs.Truth.{number_at}
+use Rattle.audit_types.specs.Form.{combined, InSpan, IsPrimitive, IsEchelon, pivot}
+
+-- no entry is above 2 ^ 56
+abbrev pub IsSmall : List ℤ → Type 0
+IsSmall row = AllByRecursion (λ x. unsigned_abs x ≤ 2 ^ 56) row
+
+-- primitive rows with small entries, in the order of their pivots, each 0 at the pivots of the others
+pub record IsSmallForm (n : ℕ) (form : List (List ℤ)) : Type 0 where
+  pub primitive : AllByRecursion (IsPrimitive n) form
+  pub echelon : IsEchelon form
+  pub entries : AllByRecursion IsSmall form
+
+-- the row is 0 at all pivots of the form
+abbrev pub IsZeroAtPivots : List (List ℤ) → List ℤ → Type 0
+IsZeroAtPivots form row = AllByRecursion (λ other. number_at row (pivot other) ≡ pos 0) form
+
+-- a multiple of the other row is taken from the row, so that it is 0 at the other's pivot
+pub record IsLessMultiple (other old new : List ℤ) : Type 0 where
+  pub times : ℤ
+  pub small : unsigned_abs times ≤ 2 ^ 56
+  pub is : (j : ℕ) → number_at old j ≡ number_at new j +ℤ times *ℤ number_at other j
+  pub zero_there : number_at new (pivot other) ≡ pos 0
+
+-- what is left of a row when multiples of the form's rows are taken from it, so that it is 0 at their pivots
+pub record IsRemainder (form : List (List ℤ)) (old new : List ℤ) : Type 0 where
+  pub coefficients : List ℤ
+  pub is : (j : ℕ) → number_at old j ≡ number_at new j +ℤ combined coefficients form j
+  pub zeros : IsZeroAtPivots form new
+
+-- a primitive row with the same pivot that is 0 at the pivot of the new row, and what the two spans have in common
+pub record IsCleared (n : ℕ) (new row cleared : List ℤ) : Type 0 where
+  pub same_pivot : pivot cleared ≡ pivot row
+  pub primitive : IsPrimitive n cleared
+  pub zero_there : number_at cleared (pivot new) ≡ pos 0
+  pub keeps : (j : ℕ) → number_at row j ≡ pos 0 → number_at new j ≡ pos 0 → number_at cleared j ≡ pos 0
+  pub back : (span : List (List ℤ)) → InSpan span cleared → InSpan span new → InSpan span row
+  pub there : (span : List (List ℤ)) → InSpan span row → InSpan span new → InSpan span cleared
+
+-- the rows cleared, each in its place
+abbrev pub AreCleared : ℕ → List ℤ → List (List ℤ) → List (List ℤ) → Type 0
+AreCleared n new [] [] = Unit {0}
+AreCleared n new [] (cleared ∷ more) = ⊥
+AreCleared n new (row ∷ rows) [] = ⊥
+AreCleared n new (row ∷ rows) (cleared ∷ more) = IsCleared n new row cleared × AreCleared n new rows more

@@ -1,0 +1,20 @@
+-- The laws of reduced forms.
+use Rattle.std.specs.Prelude.{◌≡◌, ℕ, ℤ, List, [], ◌∷◌, ◌++◌, length, ◌⊎◌}
+use Rattle.std.specs.List.{AllByRecursion}
+use Rattle.audit_types.specs.Form.{InSpan, IsReducedForm, HasNarrowForm, HasWideForm}
+
+-- every list of rows has a reduced form
+abbrev pub EveryRowSpaceHasAForm : Type 0
+EveryRowSpaceHasAForm = (n : ℕ) (rows : List (List ℤ)) → AllByRecursion (λ r. length r ≡ n) rows → (form : List (List ℤ)) × IsReducedForm n rows form
+
+-- and only one
+abbrev pub FormsAreUnique : Type 0
+FormsAreUnique = (n : ℕ) (rows form other : List (List ℤ)) → IsReducedForm n rows form → IsReducedForm n rows other → form ≡ other
+
+-- a row in the span leaves it as it is
+abbrev pub SpanKeepsForm : Type 0
+SpanKeepsForm = (n : ℕ) (rows form : List (List ℤ)) (row : List ℤ) → IsReducedForm n rows form → InSpan rows row → IsReducedForm n (rows ++ row ∷ []) form
+
+-- the form of any sets is narrow or wide, and not both
+abbrev pub NarrowOrWide : Type 0
+NarrowOrWide = (n : ℕ) (sets : List (List ℕ)) → (HasNarrowForm n sets ⊎ HasWideForm n sets) × (HasNarrowForm n sets → HasWideForm n sets → ⊥)

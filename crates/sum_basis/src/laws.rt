@@ -1,0 +1,22 @@
+//! The laws of reduced forms. Each function computes nothing: its contract is the law.
+ghost use Rattle.sum_basis.specs.Laws.{EveryRowSpaceHasAForm, FormsAreUnique, SpanKeepsForm, NarrowOrWide};
+
+/// Every list of rows has a reduced form.
+pub fn every_row_space_has_a_form()
+    ensures { EveryRowSpaceHasAForm }
+{}
+
+/// And only one.
+pub fn forms_are_unique()
+    ensures { FormsAreUnique }
+{}
+
+/// A row in the span leaves the form as it is.
+pub fn span_keeps_form()
+    ensures { SpanKeepsForm }
+{}
+
+/// The form of any sets is narrow or wide, and never both.
+pub fn narrow_or_wide()
+    ensures { NarrowOrWide }
+{}
