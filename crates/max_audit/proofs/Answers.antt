@@ -1,0 +1,56 @@
+-- Facts about each answer of a list.
+use Rattle.std.proofs.Common.{◌≡◌, List, [], ◌∷◌, ◌++◌, refl, subst, inl, inr, ◌⊎◌}
+use Rattle.std.specs.List.{AllByRecursion}
+use Rattle.audit_types.specs.Column.{Answer, IsOneOf}
+
+module _ (P : Answer → Type 0) where
+  -- what holds of all answers holds of each
+  pub all_at : (answers : List Answer) (a : Answer) → AllByRecursion P answers → IsOneOf a answers → P a
+  all_at [] a h one = absurd one
+  all_at (x ∷ answers) a h (inl e) = subst P e h.0
+  all_at (x ∷ answers) a h (inr later) = all_at answers a h.1 later
+
+  -- what holds of each answer holds of all
+  pub all_from : (answers : List Answer) → ((a : Answer) → IsOneOf a answers → P a) → AllByRecursion P answers
+  all_from [] h = tt
+  all_from (x ∷ answers) h = (h x (inl refl), all_from answers (λ a one. h a (inr one)))
+
+  -- one answer more
+  pub all-push : (answers : List Answer) (x : Answer) → AllByRecursion P answers → P x → AllByRecursion P (answers ++ x ∷ [])
+  all-push [] x h p = (p, tt)
+  all-push (y ∷ answers) x h p = (h.0, all-push answers x h.1 p)
+
+  -- the answers before the last, and the last
+  pub all-front : (answers : List Answer) (x : Answer) → AllByRecursion P (answers ++ x ∷ []) → AllByRecursion P answers × P x
+  all-front [] x h = (tt, h.0)
+  all-front (y ∷ answers) x h = let rest = all-front answers x h.1 in ((h.0, rest.0), rest.1)
+
+  -- some answer passes, or none does
+  pub one_or_none : (Q : Answer → Type 0) → ((a : Answer) → P a ⊎ Q a) → (answers : List Answer) →
+      ((a : Answer) × IsOneOf a answers × P a) ⊎ ((a : Answer) → IsOneOf a answers → Q a)
+  one_or_none Q test [] = inr (λ a one. absurd one)
+  one_or_none Q test (x ∷ answers) = elim (test x) [
+    | inl p ↦ inl (x, inl refl, p)
+    | inr q ↦ elim (one_or_none Q test answers) [
+      | inl (a, one, p) ↦ inl (a, inr one, p)
+      | inr none ↦ inr (λ a one. elim one [ inl e ↦ subst Q e q | inr later ↦ none a later ])
+    ]
+  ]
+
+-- an earlier answer is one of the answers with one more
+pub one_of_front : (answers : List Answer) (x a : Answer) → IsOneOf a answers → IsOneOf a (answers ++ x ∷ [])
+one_of_front [] x a one = absurd one
+one_of_front (y ∷ answers) x a (inl e) = inl e
+one_of_front (y ∷ answers) x a (inr later) = inr (one_of_front answers x a later)
+
+-- and so is the last
+pub one_of_last : (answers : List Answer) (x : Answer) → IsOneOf x (answers ++ x ∷ [])
+one_of_last [] x = inl refl
+one_of_last (y ∷ answers) x = inr (one_of_last answers x)
+
+-- and there are no others
+pub front_or_last : (answers : List Answer) (x a : Answer) → IsOneOf a (answers ++ x ∷ []) → IsOneOf a answers ⊎ (x ≡ a)
+front_or_last [] x a (inl e) = inr e
+front_or_last [] x a (inr later) = absurd later
+front_or_last (y ∷ answers) x a (inl e) = inl (inl e)
+front_or_last (y ∷ answers) x a (inr later) = elim (front_or_last answers x a later) [ inl one ↦ inl (inr one) | inr e ↦ inr e ]

@@ -1,0 +1,13 @@
+pub mod Answers
+pub mod RowLists
+pub mod Greatest
+pub mod UpperBounds
+pub mod LoneRowsAreFixed
+pub mod OtherRowsAreFree
+pub mod AnswersInOneGap
+pub mod CandidateOfAGap
+pub mod DangerousByCandidates
+pub mod CandidateLists
+pub mod Trials
+pub mod LeastFixed
+pub mod Verdicts

@@ -1,0 +1,58 @@
+-- The laws of answered maxima: when they are possible, which rows they fix, and when a question is dangerous.
+use Rattle.std.specs.Prelude.{◌≡◌, ◌≢◌, ◌↔◌, ◌⊎◌, ℕ, ◌<◌, ℤ, List, [], Option, MatchOption}
+use Rattle.audit_types.specs.Rows.{AreRows}
+use Rattle.audit_types.specs.Truth.{number_at}
+use Rattle.audit_types.specs.Column.{Known, Answer, Agrees, IsWellFormed, IsPossible, IsDangerous, known_max, with_answer}
+use Rattle.audit_types.specs.Extremes.{IsConsistent, IsLone, IsCandidate}
+use Rattle.max_audit.specs.Witnesses.{highest, lowered_at}
+
+-- answered maxima are possible exactly where each has an extreme row
+abbrev pub PossibleByExtremes : Type 0
+PossibleByExtremes = (n : ℕ) (answers : List Answer) → IsWellFormed (known_max n answers) →
+    IsPossible (known_max n answers) ↔ IsConsistent answers
+
+-- the number of row i is the same in all lists that agree
+abbrev pub IsFixed : Known → ℕ → Type 0
+IsFixed known i = (w v : List ℤ) → Agrees known w → Agrees known v → number_at v i ≡ number_at w i
+
+-- the least row of the table that is fixed, if there is one
+abbrev pub IsLeastFixed : Known → Option ℕ → Type 0
+IsLeastFixed known least = MatchOption least ((i : ℕ) → i < known.n → ¬ (IsFixed known i))
+    (λ i. (i < known.n) × IsFixed known i × ((j : ℕ) → j < i → ¬ (IsFixed known j)))
+
+-- where they are possible, exactly the lone rows are fixed
+abbrev pub FixedByLoneRows : Type 0
+FixedByLoneRows = (n : ℕ) (answers : List Answer) (i : ℕ) → IsWellFormed (known_max n answers) → IsPossible (known_max n answers) → i < n →
+    IsFixed (known_max n answers) i ↔ IsLone answers i
+
+-- where they are consistent, the list with each row at its bound agrees
+abbrev pub HighestAgrees : Type 0
+HighestAgrees = (n : ℕ) (answers : List Answer) → IsWellFormed (known_max n answers) → IsConsistent answers →
+    Agrees (known_max n answers) (highest n answers)
+
+-- and so does this list with one row less by one, unless the row is lone
+abbrev pub LoneOrLowered : Type 0
+LoneOrLowered = (n : ℕ) (answers : List Answer) (i : ℕ) → IsWellFormed (known_max n answers) → IsConsistent answers → i < n →
+    IsLone answers i ⊎ Agrees (known_max n answers) (lowered_at (highest n answers) i)
+
+-- a row is lone, or two lists that agree differ there
+abbrev pub LoneOrFree : Type 0
+LoneOrFree = (n : ℕ) (answers : List Answer) (i : ℕ) → IsWellFormed (known_max n answers) → IsConsistent answers → i < n →
+    IsLone answers i ⊎ ((w : List ℤ) × (v : List ℤ) × Agrees (known_max n answers) w × Agrees (known_max n answers) v × (number_at v i ≢ number_at w i))
+
+-- to the question on these rows this answer is possible, and it would leave a lone row
+pub record LeavesLoneRow (known : Known) (rows : List ℕ) (answer : ℤ) : Type 0 where
+  pub possible : IsConsistent (with_answer known rows answer).answers
+  pub row : ℕ
+  pub lone : IsLone (with_answer known rows answer).answers row
+
+-- a candidate that leaves a lone row
+pub record HasBadCandidate (known : Known) (rows : List ℕ) : Type 0 where
+  pub answer : ℤ
+  pub candidate : IsCandidate known.answers answer
+  pub leaves : LeavesLoneRow known rows answer
+
+-- a maximum is dangerous exactly where one of finitely many candidates is bad
+abbrev pub DangerousByCandidates : Type 0
+DangerousByCandidates = (n : ℕ) (answers : List Answer) (rows : List ℕ) → IsWellFormed (known_max n answers) → AreRows n rows → rows ≢ [] →
+    IsDangerous (known_max n answers) rows ↔ HasBadCandidate (known_max n answers) rows

@@ -1,0 +1,46 @@
+//! The finitely many answers that stand for all.
+ghost use Rattle.std.specs.Prelude.{◌≡◌, ◌++◌, ◌∷◌, [], IfOk, OnOk};
+ghost use Rattle.std.specs.List.{All};
+ghost use Rattle.max_bounds.specs.Maxima.{answers_of};
+ghost use Rattle.max_audit.specs.Candidates.{AreCandidates, IsBelowAll, IsNearRange};
+
+use audit_types::NoMemory;
+use max_bounds::AnsweredMax;
+use std::alloc::Global;
+
+// The number below all answers, and 0 where there is none.
+fn below_all(pairs: &[AnsweredMax]) -> i128
+    ensures exact { IsBelowAll (answers_of pairs.now) result }
+    ensures near { IsNearRange result }
+{
+    let Some(first) = pairs.first() else {
+        return 0;
+    };
+    let mut least = first.answer;
+    for pair in pairs {
+        least = least.min(pair.answer);
+    }
+    least as i128 - 1
+}
+
+fn push(list: &mut Vec<i128>, number: i128) -> Result<(), NoMemory>
+    ensures { OnOk result (list.new.items ≡ list.old.items ++ number ∷ []) }
+{
+    list.push(number).map_err(|_| NoMemory)
+}
+
+/// Each earlier answer, the number above it, and the number below all; 0 where there is none.
+pub(crate) fn candidates_of(alloc: Global, pairs: &[AnsweredMax]) -> Result<Vec<i128>, NoMemory>
+    ensures exact { IfOk result (λ list. AreCandidates (answers_of pairs.now) list.items) }
+    ensures near { IfOk result (λ list. All IsNearRange list.items) }
+{
+    let mut candidates = Vec::new(alloc);
+    push(&mut candidates, below_all(pairs))?;
+    for pair in pairs {
+        push(&mut candidates, pair.answer as i128)?;
+        push(&mut candidates, pair.answer as i128 + 1)?;
+    }
+    candidates.sort_unstable();
+    candidates.dedup();
+    Ok(candidates)
+}

@@ -1,0 +1,123 @@
+//! A column of maxima and its audit.
+ghost use Rattle.std.specs.Prelude.{◌≡◌, ◌≢◌, ◌↔◌, ◌<◌, ◌≤◌, [], IfOk, OnOk, OnErr, IsTrue};
+ghost use Rattle.std.specs.List.{All};
+ghost use Rattle.audit_types.specs.Column.{known_max, with_answer, IsPossible, IsWellFormed};
+ghost use Rattle.audit_types.specs.Extremes.{IsConsistent, IsLeastLone};
+ghost use Rattle.audit_types.specs.Judgement.{IsJudgement, IsDecision, IsWithinWidth};
+ghost use Rattle.audit_types.specs.declared.shapes.Kind.TheVariants.{Max};
+ghost use Rattle.audit_types.specs.declared.records.Verdict.TheVariants.{DeniedWide};
+ghost use Rattle.max_audit.specs.Laws.{IsLeastFixed, LeavesLoneRow};
+ghost use Rattle.max_audit.specs.Candidates.{AreCandidates, IsNearRange, SomeLeavesLoneRow};
+
+use crate::candidates::candidates_of;
+use audit_types::{ColumnAudit, NoMemory, RowSet, Verdict};
+use max_bounds::Bounds;
+use std::alloc::Global;
+use std::marker::Model;
+
+// Whether this answer to the question would be possible and leave a lone row.
+fn leaves_lone_row(bounds: &Bounds, rows: &RowSet, answer: i128) -> bool
+    requires same_n { rows.now.n ≡ bounds.now.n }
+    requires some { rows.now.list ≢ [] }
+    requires near { IsNearRange answer }
+    ensures exact { IsTrue result ↔ LeavesLoneRow (known_max bounds.now.n bounds.now.answers) rows.now.list answer }
+{
+    let trial = bounds.trial(rows, answer);
+    trial.consistent && trial.lone.is_some()
+}
+
+// Whether one of these answers would.
+fn some_leaves_lone_row(bounds: &Bounds, rows: &RowSet, answers: &[i128]) -> bool
+    requires same_n { rows.now.n ≡ bounds.now.n }
+    requires some { rows.now.list ≢ [] }
+    requires near { All IsNearRange answers.now }
+    ensures exact { IsTrue result ↔ SomeLeavesLoneRow (known_max bounds.now.n bounds.now.answers) rows.now.list answers.now }
+{
+    for answer in answers {
+        if leaves_lone_row(bounds, rows, *answer) {
+            return true;
+        }
+    }
+    false
+}
+
+/// The answered maxima of a column.
+#[derive(Drop)]
+pub struct MaxColumn {
+    bounds: Bounds,
+    alloc: Global,
+}
+
+impl Model for MaxColumn {
+    ghost use Rattle.audit_types.specs.Column.{Known, IsWellFormed, known_max};
+
+    ghost Value = { Known };
+
+    ghost view = { λ m. known_max m.bounds.n m.bounds.answers };
+
+    ghost invariant = { λ m. IsWellFormed (known_max m.bounds.n m.bounds.answers) };
+}
+
+impl MaxColumn {
+    /// No answers yet, over n rows.
+    pub fn new(alloc: Global, n: u16) -> Result<MaxColumn, NoMemory>
+        requires some { 0 < n }
+        requires at_most { n ≤ 1024 }
+        ensures { IfOk result (λ column. column ≡ known_max n []) }
+    {
+        let bounds = Bounds::new(alloc, n)?;
+        Ok(MaxColumn { bounds, alloc })
+    }
+
+    /// The answers that stand for all whole numbers: each earlier one, the number above it, and the number below all; 0
+    /// where nothing was answered.
+    pub fn candidates(&self) -> Result<Vec<i128>, NoMemory>
+        ensures exact { IfOk result (λ list. AreCandidates self.now.answers list.items) }
+        ensures near { IfOk result (λ list. All IsNearRange list.items) }
+    {
+        candidates_of(self.alloc, self.bounds.pairs())
+    }
+
+    /// The least row whose number the answers fix. It takes no memory.
+    pub fn fixed(&self) -> Option<u16>
+        ensures lone { IsLeastLone self.now.answers result }
+        ensures fixed { IsConsistent self.now.answers → IsLeastFixed self.now result }
+    {
+        self.bounds.lone_extreme()
+    }
+
+    /// The answers, with what they say of each row.
+    pub fn bounds(&self) -> &Bounds
+        ensures exact { result.now ≡ record { n = self.now.n; answers = self.now.answers } }
+        ensures maxima { self.now.kind ≡ Max }
+        ensures well_formed { IsWellFormed self.now }
+    {
+        &self.bounds
+    }
+}
+
+impl ColumnAudit for MaxColumn {
+    ghost known = { λ m. m };
+
+    fn probe(&self, rows: &RowSet) -> Result<Verdict, NoMemory>
+        requires same_n { rows.now.n ≡ self.now.n }
+        requires some { rows.now.list ≢ [] }
+        ensures judged { IfOk result (λ verdict. IsJudgement self.now rows.now.list verdict) }
+        ensures decided { IfOk result (λ verdict. IsPossible self.now → IsDecision self.now rows.now.list verdict) }
+        ensures never_wide { IfOk result (λ verdict. verdict ≢ DeniedWide) }
+    {
+        // A set says of itself that its rows are rows of the table.
+        let _ = rows.n();
+        let candidates = self.candidates()?;
+        if some_leaves_lone_row(&self.bounds, rows, &candidates) {
+            Ok(Verdict::DeniedUnsafe)
+        } else {
+            Ok(Verdict::Released)
+        }
+    }
+
+    fn accept(&mut self, rows: &RowSet, answer: i64) -> Result<(), NoMemory> {
+        let _ = rows.n();
+        self.bounds.add(rows, answer)
+    }
+}

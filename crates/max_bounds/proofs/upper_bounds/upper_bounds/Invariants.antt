@@ -1,0 +1,7 @@
+use Rattle.std.proofs.Common.{take}
+use Rattle.max_bounds.specs.Maxima.{answers_of}
+use Rattle.max_bounds.proofs.Lowering.{AreBounds}
+use Rattle.max_bounds.proofs.upper_bounds.upper_bounds.Given as goal
+
+abbrev pub invariant-loop-pair : goal.invariant-loop-pair
+invariant-loop-pair l = AreBounds (answers_of (take l.pair-index l.pairs)) l.bounds

@@ -1,0 +1,17 @@
+//! Upper bounds and extreme rows of answered maxima.
+//!
+//! Start with `Bounds`: it keeps the answers of a column of maxima. `Bounds::trial` says what one answer more would do.
+#![tactic(auto)]
+
+mod answered;
+mod bounds;
+mod extreme_rows;
+mod survey;
+mod upper_bounds;
+
+pub use answered::AnsweredMax;
+pub use bounds::Bounds;
+pub use survey::Trial;
+
+#[cfg(test)]
+mod tests;

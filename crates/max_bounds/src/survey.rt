@@ -1,0 +1,71 @@
+//! What the extreme rows of all answers tell together.
+ghost use Rattle.std.specs.Prelude.{◌≡◌, ◌↔◌, ◌<◌, IsTrue};
+ghost use Rattle.audit_types.specs.Extremes.{upper_bound};
+ghost use Rattle.max_bounds.specs.Maxima.{answers_of, and_answer};
+ghost use Rattle.max_bounds.specs.Reaching.{bound_at, lesser_of, TellsOf};
+
+use crate::answered::AnsweredMax;
+use crate::extreme_rows::{ExtremeRows, extreme_rows};
+use crate::upper_bounds::{UpperBounds, lower, upper_bounds};
+use audit_types::RowSet;
+
+/// What `Bounds` would answer with one answer more: whether each answer has an extreme row, and the least row that is
+/// the only one of some answer.
+#[derive(Clone, Copy, Debug, PartialEq, Eq)]
+pub struct Trial {
+    pub consistent: bool,
+    pub lone: Option<u16>,
+}
+
+impl Trial {
+    // With the extreme rows of one answer more.
+    fn and(self, extremes: ExtremeRows) -> Trial
+        ensures consistent { IsTrue result.consistent ↔ (IsTrue self.consistent × (0 < extremes.count)) }
+        ensures lone { result.lone ≡ lesser_of self.lone extremes.lone }
+    {
+        Trial {
+            consistent: self.consistent && extremes.count > 0,
+            lone: lesser(self.lone, extremes.lone),
+        }
+    }
+}
+
+fn lesser(one: Option<u16>, other: Option<u16>) -> Option<u16>
+    ensures { result ≡ lesser_of one other }
+{
+    match (one, other) {
+        (Some(one), Some(other)) => Some(one.min(other)),
+        (Some(one), None) => Some(one),
+        (None, other) => other,
+    }
+}
+
+// What these answers tell where the bounds are given.
+fn survey_under(bounds: &UpperBounds, pairs: &[AnsweredMax]) -> Trial
+    ensures tells { TellsOf (bound_at bounds.now) (answers_of pairs.now) result }
+{
+    let mut trial = Trial {
+        consistent: true,
+        lone: None,
+    };
+    for pair in pairs {
+        trial = trial.and(extreme_rows(bounds, &pair.rows, pair.answer as i128));
+    }
+    trial
+}
+
+/// What the answers tell.
+pub(crate) fn survey(pairs: &[AnsweredMax]) -> Trial
+    ensures tells { TellsOf (upper_bound (answers_of pairs.now)) (answers_of pairs.now) result }
+{
+    survey_under(&upper_bounds(pairs), pairs)
+}
+
+/// What the answers and one more tell.
+pub(crate) fn survey_with(pairs: &[AnsweredMax], rows: &RowSet, answer: i128) -> Trial
+    ensures tells { TellsOf (upper_bound (and_answer (answers_of pairs.now) rows.now.list answer)) (and_answer (answers_of pairs.now) rows.now.list answer) result }
+{
+    let mut bounds = upper_bounds(pairs);
+    lower(&mut bounds, rows, answer);
+    survey_under(&bounds, pairs).and(extreme_rows(&bounds, rows, answer))
+}

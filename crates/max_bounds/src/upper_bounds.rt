@@ -1,0 +1,70 @@
+//! Upper bounds: of one row, and of all rows at once.
+ghost use Rattle.std.specs.Prelude.{◌≡◌, ◌<◌, ℕ};
+ghost use Rattle.std.specs.List.{AllByRecursion};
+ghost use Rattle.audit_types.specs.Extremes.{least_of, upper_bound};
+ghost use Rattle.max_bounds.specs.Maxima.{answers_of};
+ghost use Rattle.max_bounds.specs.Reaching.{bound_at, bound_with};
+
+use crate::answered::AnsweredMax;
+use audit_types::RowSet;
+
+/// An entry for each row that a table can have: its upper bound, if some set holds it.
+pub(crate) type UpperBounds = [Option<i128>; 1024];
+
+// The bound of a row that is in the set of an answer.
+fn least(answer: i128, bound: Option<i128>) -> i128
+    ensures { result ≡ least_of answer bound }
+{
+    match bound {
+        Some(bound) => answer.min(bound),
+        None => answer,
+    }
+}
+
+/// Lowers the bounds of the rows of an answer.
+pub(crate) fn lower(bounds: &mut UpperBounds, rows: &RowSet, answer: i128)
+    ensures lowered { (r : ℕ) → bound_at bounds.new r ≡ bound_with rows.now.list answer r (bound_at bounds.old r) }
+{
+    // A set says of its n that no row is past the array's end.
+    let _ = rows.n();
+    for row in rows.iter() {
+        bounds[row as usize] = Some(least(answer, bounds[row as usize]));
+    }
+}
+
+/// The upper bound of each row, in a step for each row of each set.
+pub(crate) fn upper_bounds(pairs: &[AnsweredMax]) -> UpperBounds
+    ensures exact { (r : ℕ) → bound_at result r ≡ upper_bound (answers_of pairs.now) r }
+{
+    let mut bounds = [None; 1024];
+    for pair in pairs {
+        lower(&mut bounds, &pair.rows, pair.answer as i128);
+    }
+    bounds
+}
+
+// The upper bound of a row with one answer more.
+fn lowered_by(pair: &AnsweredMax, row: u16, upper: Option<i64>) -> Option<i64>
+    requires { row < pair.now.rows.n }
+    ensures { result ≡ bound_with pair.now.rows.list pair.now.answer row upper }
+{
+    if !pair.rows.has(row) {
+        return upper;
+    }
+    match upper {
+        Some(bound) => Some(pair.answer.min(bound)),
+        None => Some(pair.answer),
+    }
+}
+
+/// The upper bound of one row, in a step for each set.
+pub(crate) fn upper_bound(pairs: &[AnsweredMax], row: u16) -> Option<i64>
+    requires within { AllByRecursion (λ p. row < p.rows.n) pairs.now }
+    ensures exact { result ≡ upper_bound (answers_of pairs.now) row }
+{
+    let mut upper = None;
+    for pair in pairs {
+        upper = lowered_by(pair, row, upper);
+    }
+    upper
+}

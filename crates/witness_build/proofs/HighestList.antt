@@ -1,0 +1,66 @@
+-- The highest list, row by row, and with one row lowered.
+use Rattle.std.proofs.Common.{◌≡◌, ◌≢◌, ℕ, ◌+◌, ◌<◌, ℤ, pos, List, [], ◌∷◌, ◌++◌, length, refl, sym, ap, arith, subst, inl, inr}
+use Rattle.std.specs.Prelude.{◌-ℤ◌}
+use Rattle.std.specs.List.{All}
+use Rattle.std.proofs.lemmas.Int.{ints}
+use Rattle.std.proofs.lemmas.List.{get_or-set_same}
+use Rattle.std.proofs.lemmas.List.Elements.{All-push}
+use Rattle.std.proofs.lemmas.List.FromFn.{map-range_with_len_more, length-map-range_with_len}
+use Rattle.audit_types.specs.Truth.{number_at}
+use Rattle.audit_types.specs.declared.shapes.Kind.TheVariants.{Max}
+use Rattle.audit_types.specs.Column.{Answer, Known, Agrees, IsWellFormed, known_max}
+use Rattle.audit_types.specs.Extremes.{upper_bound, IsConsistent, IsLone}
+use Rattle.max_audit.specs.Laws.{HighestAgrees, LoneOrLowered}
+use Rattle.max_audit.specs.Candidates.{IsNearRange}
+use Rattle.max_audit.specs.Witnesses.{bound_or_zero, highest, lowered_at}
+
+-- one row more
+highest-more : (k : ℕ) (answers : List Answer) → highest (k + 1) answers ≡ highest k answers ++ bound_or_zero (upper_bound answers k) ∷ []
+unfolding highest
+highest-more k answers = map-range_with_len_more (λ r. bound_or_zero (upper_bound answers r)) 0 k k (omega arith)
+
+-- it has a number for each row
+pub length-highest : (n : ℕ) (answers : List Answer) → length (highest n answers) ≡ n
+unfolding highest
+length-highest n answers = length-map-range_with_len (λ r. bound_or_zero (upper_bound answers r)) 0 n
+
+-- the numbers of the rows so far
+pub record IsHighestSoFar (answers : List Answer) (k : ℕ) (list : List ℤ) : Type 0 where
+  pub same : list ≡ highest k answers
+  pub near : All IsNearRange list
+
+-- no rows, no numbers
+pub highest_begins : (answers : List Answer) → IsHighestSoFar answers 0 []
+unfolding highest
+highest_begins answers = record { same = refl; near = λ k d within. absurd (omega arith) }
+
+-- the number of one row more
+pub highest_step : (answers : List Answer) (k : ℕ) (list after : List ℤ) (number : ℤ) → IsHighestSoFar answers k list → after ≡ list ++ number ∷ [] →
+    number ≡ bound_or_zero (upper_bound answers k) → IsNearRange number → IsHighestSoFar answers (k + 1) after
+highest_step answers k list after number h pushed is near = record {
+  same = rw (pushed, h.same, is, highest-more) refl;
+  near = rw pushed (All-push IsNearRange list number h.near near);
+}
+
+-- lowering a row changes its number
+pub lowered_differs : (w : List ℤ) (row : ℕ) → row < length w → number_at (lowered_at w row) row ≢ number_at w row
+lowered_differs w row below e =
+    let lowered : number_at (lowered_at w row) row ≡ number_at w row -ℤ pos 1 = get_or-set_same w row (number_at w row -ℤ pos 1) (pos 0) below in
+    absurd (omega (arith, ints))
+
+-- what is known of a column of maxima
+is_max : (known : Known) → known.kind ≡ Max → known_max known.n known.answers ≡ known
+is_max known e = ap (λ kind. record { kind = kind; n = known.n; answers = known.answers }) (sym e)
+
+-- where no row is lone, both lists agree, by the laws of maxima
+pub both_agree : HighestAgrees → LoneOrLowered → (known : Known) (row : ℕ) → known.kind ≡ Max → IsWellFormed known → IsConsistent known.answers → ((r : ℕ) → ¬ (IsLone known.answers r)) →
+    row < known.n → Agrees known (lowered_at (highest known.n known.answers) row) × Agrees known (highest known.n known.answers)
+both_agree highest_law lowered_law known row kind well consistent free below =
+    let is = is_max known kind in
+    let same_well = subst IsWellFormed (sym is) well in (
+      elim (lowered_law known.n known.answers row same_well consistent below) [
+        | inl lone ↦ absurd (free row lone)
+        | inr agrees ↦ subst (λ k. Agrees k (lowered_at (highest known.n known.answers) row)) is agrees
+      ],
+      subst (λ k. Agrees k (highest known.n known.answers)) is (highest_law known.n known.answers same_well consistent),
+    )

@@ -1,0 +1,2 @@
+pub mod GreatestSoFar
+pub mod AnswersOfColumn

@@ -1,0 +1,15 @@
+use Rattle.std.proofs.Common.{sym, ◌∙◌}
+use Rattle.std.proofs.lemmas.Bool.{true≢false}
+use Rattle.witness_check.specs.Pairs.{IsAnswerOf}
+use Rattle.witness_check.proofs.AnswersOfColumn.{holds_at}
+use Rattle.witness_check.proofs.pairs.gives_answers.Goals as goal
+
+pub returns-then-not-is_answer : goal.returns-then-not-is_answer
+returns-then-not-is_answer c = record {
+  exact = (
+    (λ yes. absurd (true≢false (sym yes))),
+    (λ all. absurd (true≢false (sym (c.is_answer.ensures.exact.1
+        (holds_at (IsAnswerOf c.args.numbers.now) c.args.column c.args.list.now c.loop-record.record-index c.record-item.result c.loop-record-test.true c.record-item.is c.if-record-column.true all))
+        ∙ c.if-not-is_answer.true))),
+  );
+}
