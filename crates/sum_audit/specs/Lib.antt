@@ -1,0 +1,5 @@
+pub mod Dot
+pub mod DotLaws
+pub mod Laws
+pub mod Sets
+pub mod Columns

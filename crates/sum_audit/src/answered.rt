@@ -1,0 +1,9 @@
+//! An answered sum.
+use audit_types::RowSet;
+
+/// The rows of a question that was answered, and the answer.
+#[derive(Clone, Copy, Debug)]
+pub struct AnsweredSum {
+    pub rows: RowSet,
+    pub answer: i64,
+}

@@ -1,0 +1,126 @@
+//! A column of sums and its audit.
+ghost use Rattle.std.specs.Prelude.{◌≡◌, ◌<◌, ◌≤◌, [], IfOk};
+ghost use Rattle.std.specs.List.{AllByRecursion};
+ghost use Rattle.audit_types.specs.Rows.{AreRows};
+ghost use Rattle.audit_types.specs.Column.{known_sum};
+ghost use Rattle.audit_types.specs.Form.{Reduced, IsNarrow};
+ghost use Rattle.audit_types.specs.declared.shapes.Kind.TheVariants.{Sum};
+ghost use Rattle.sum_audit.specs.Laws.{IsLeastPinned};
+ghost use Rattle.sum_audit.specs.Sets.{sets_of, IsSpanVerdict};
+ghost use Rattle.sum_audit.specs.Columns.{answers_of};
+
+use audit_types::{ColumnAudit, NoMemory, RowSet, Verdict};
+use std::alloc::Global;
+use std::marker::Model;
+use sum_basis::{Basis, Grown};
+
+use crate::answered::AnsweredSum;
+
+/// The answered sums of a column.
+#[derive(Drop)]
+pub struct SumColumn {
+    n: u16,
+    // The reduced form of the sets.
+    basis: Basis,
+    pairs: Vec<AnsweredSum>,
+}
+
+impl Model for SumColumn {
+    ghost use Rattle.audit_types.specs.Column.{Known, known_sum};
+    ghost use Rattle.sum_audit.specs.Columns.{answers_of, IsSumColumn};
+
+    ghost Value = { Known };
+
+    ghost view = { λ s. known_sum s.n (answers_of s.pairs.items) };
+
+    ghost invariant = { λ s. IsSumColumn s.n s.basis (answers_of s.pairs.items) };
+}
+
+impl SumColumn {
+    /// No answers yet, over n rows.
+    pub fn new(alloc: Global, n: u16) -> Result<SumColumn, NoMemory>
+        requires some { 0 < n }
+        requires at_most { n ≤ 1024 }
+        ensures { IfOk result (λ column. column ≡ known_sum n []) }
+    {
+        let basis = Basis::new(alloc, n)?;
+        let pairs = Vec::new(alloc);
+        Ok(SumColumn { n, basis, pairs })
+    }
+
+    /// The number of rows.
+    pub fn n(&self) -> u16
+        ensures n { result ≡ self.now.n }
+
+        // What is true of every column of sums.
+        ensures some { 0 < self.now.n }
+        ensures at_most { self.now.n ≤ 1024 }
+        ensures sums { self.now.kind ≡ Sum }
+        ensures are_rows { AllByRecursion (AreRows self.now.n) (sets_of self.now.answers) }
+    {
+        self.n
+    }
+
+    /// The answers, in order.
+    pub fn pairs(&self) -> &[AnsweredSum]
+        ensures { answers_of result.now ≡ self.now.answers }
+    {
+        &self.pairs
+    }
+
+    /// The least row whose number the sets disclose. It takes no memory.
+    pub fn fixed(&self) -> Option<u16>
+        ensures { IsLeastPinned self.now.n (sets_of self.now.answers) result }
+    {
+        self.basis.unit_row()
+    }
+
+    /// The reduced form of the sets.
+    pub fn basis(&self) -> &Basis
+        ensures n { result.now.n ≡ self.now.n }
+        ensures form { Reduced self.now.n (sets_of self.now.answers) result.now.rows }
+    {
+        &self.basis
+    }
+}
+
+// The verdict on a form. It looks for a row with one entry that is not 0, and at no set.
+fn verdict_on(form: &Basis) -> Verdict
+    ensures verdict { IsSpanVerdict form.now result }
+    ensures narrow { IsNarrow form.now.rows }
+{
+    let _ = form.rank();
+    match form.unit_row() {
+        Some(_) => Verdict::DeniedUnsafe,
+        None => Verdict::Released,
+    }
+}
+
+impl ColumnAudit for SumColumn {
+    ghost known = { λ s. s };
+
+    fn probe(&self, rows: &RowSet) -> Result<Verdict, NoMemory> {
+        // A set says of itself that its rows are rows of the table.
+        let _ = rows.n();
+        if self.basis.contains(rows) {
+            return Ok(verdict_on(&self.basis));
+        }
+        let mut basis = self.basis.copy()?;
+        match basis.extend(rows)? {
+            Grown::Wide => Ok(Verdict::DeniedWide),
+            Grown::Same | Grown::Added => Ok(verdict_on(&basis)),
+        }
+    }
+
+    fn accept(&mut self, rows: &RowSet, answer: i64) -> Result<(), NoMemory> {
+        sum_basis::laws::narrow_or_wide();
+        let _ = rows.n();
+        self.pairs.reserve(1).map_err(|_| NoMemory)?;
+        match self.basis.extend(rows)? {
+            Grown::Wide => unreachable!(),
+            Grown::Same | Grown::Added => {}
+        }
+        self.pairs.push_reserved(AnsweredSum { rows: *rows, answer });
+        Ok(())
+    }
+}
