@@ -105,7 +105,8 @@ impl Schema {
         ensures secrets { columns result ≡ secret_count self.now.columns }
 
         // The kind of each secret column is the one that its role names.
-        ensures kinds { (place k : ℕ) → secret_place self.now.columns place ≡ Some k → role_at self.now.columns place ≡ Some (role_of_kind (kind_at result k)) }
+        ensures kinds { (place k : ℕ) → secret_place self.now.columns place ≡ Some k →
+            role_at self.now.columns place ≡ Some (role_of_kind (kind_at result k)) }
     {
         Shape {
             rows,

@@ -1,8 +1,7 @@
 -- The columns of a table, one after another, and what they are where no record has a fault.
-use Rattle.std.proofs.Common.{◌≡◌, ℕ, zero, suc, ◌+◌, ◌<◌, Bool, true, false, cond, List, [], ◌∷◌, ◌++◌, length, drop, map, filter, get_or, Option, Some, None, refl, sym, ap, ◌∙◌, arith, add-one, subst}
+use Rattle.std.proofs.Common.{◌≡◌, ℕ, zero, suc, ◌+◌, ◌<◌, Bool, true, false, cond, List, [], ◌∷◌, length, drop, filter, Option, Some, None, refl, sym, ap, ◌∙◌, add-one}
 use Rattle.std.specs.Prelude.{ℤ, pos, unwrap_or}
 use Rattle.std.specs.List.{AllByRecursion}
-use Rattle.std.proofs.lemmas.Bool.{false≢true}
 use Rattle.std.proofs.lemmas.List.{length-map}
 use Rattle.audit_types.specs.History.{Secrets}
 use Rattle.schema_json.specs.Columns.{Column, is_public, is_secret, role_at, secret_count}
@@ -11,10 +10,10 @@ use Rattle.schema_json.specs.declared.roles.Role.TheVariants as role
 use Rattle.table_load.specs.Numerals.{number_in, in_range}
 use Rattle.table_load.specs.Cells.{AreCells, AreNumbers}
 use Rattle.table_load.specs.Reading.{Fields, is_in_file, has_numbers, file_columns, roles_of, records_fault}
-use Rattle.table_load.specs.Tables.{HasCell, is_number, field_of, number_of_field, number_column, text_column, cells_of, place_after, cells_from, secrets_from}
+use Rattle.table_load.specs.Tables.{HasCell, is_number, field_of, number_of_field, number_column, cells_of, place_after, cells_from, secrets_from}
 use Rattle.table_load.specs.declared.layout.FileColumns.{FileColumns}
 use Rattle.table_load.specs.declared.layout.FileColumns.TheVariants as file
-use Rattle.table_load.proofs.SchemaPlaces.{Here, here, role_is}
+use Rattle.table_load.proofs.SchemaPlaces.{here, role_is}
 use Rattle.table_load.proofs.GoodCells.{records_hold}
 
 -- a public column is in every file

@@ -1,17 +1,15 @@
 -- Records without a fault have the cells that the roles of their columns want.
 use Rattle.std.proofs.Common.{◌≡◌, ℕ, zero, suc, ◌+◌, ◌<◌, Bool, true, false, cond, List, [], ◌∷◌, length, drop, map, get_or, Option, Some, None, refl, sym, ap, ◌∙◌, arith, subst}
-use Rattle.std.specs.Prelude.{ℤ, not, ◌==◌, if◌then◌else◌, slice_index_or}
+use Rattle.std.specs.Prelude.{ℤ, not, ◌==◌, if◌then◌else◌}
 use Rattle.std.specs.List.{AllByRecursion, list_all}
 use Rattle.std.specs.Str.{is_utf8}
-use Rattle.std.proofs.lemmas.Bool.{false≢true, eqb-true, not-false}
+use Rattle.std.proofs.lemmas.Bool.{false≢true, eqb-true}
 use Rattle.csv.specs.Records.{Row, fields_of}
 use Rattle.schema_json.specs.declared.roles.Role.{Role}
 use Rattle.table_load.specs.Numerals.{number_in, in_range}
 use Rattle.table_load.specs.Numbers.{IsNumeralOf}
-use Rattle.table_load.specs.Faults.{or_else}
 use Rattle.table_load.specs.Reading.{Fields, has_numbers, number_fault, cell_fault, cells_fault, record_fault, records_fault}
-use Rattle.table_load.specs.Tables.{HasCell, is_number, field_of}
-use Rattle.table_load.specs.declared.faults.TableFault.{TableFault}
+use Rattle.table_load.specs.Tables.{HasCell, is_number}
 use Rattle.table_load.specs.declared.faults.TableFault.TheVariants as fault
 use Rattle.table_load.specs.declared.numerals.Numeral.TheVariants as numeral
 use Rattle.table_load.proofs.FirstFaults.{none_first}

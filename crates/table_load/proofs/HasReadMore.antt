@@ -1,10 +1,9 @@
 -- What one read more of a file gives.
-use Rattle.std.proofs.Common.{Bor, List, ℕ, ◌≡◌, ◌∙◌, ◌++◌, ◌∷◌, [], true, inl, Some, None, sym, ap, append_assoc}
-use Rattle.std.specs.Prelude.{Option, Result, Ok}
-use Rattle.csv.specs.Reading.{Reached, RowStep, ReadRecord, default_config, source_of, strip_bom}
+use Rattle.std.proofs.Common.{Bor, List, ℕ, ◌≡◌, ◌∙◌, ◌++◌, ◌∷◌, [], inl, Some, None, ap, append_assoc}
+use Rattle.std.specs.Prelude.{Ok}
+use Rattle.csv.specs.Reading.{RowStep, default_config, strip_bom}
 use Rattle.csv.specs.Records.{Row, fields_of}
 use Rattle.csv.specs.declared.iter.ByteRecordsIntoIter.{ByteRecordsIntoIter}
-use Rattle.csv.specs.declared.error.Error.{Error}
 use Rattle.csv.specs.declared.parser.State.TheVariants as state
 use Rattle.csv.proofs.ReadFacts.{rows-end, rows-more}
 use Rattle.schema_json.specs.Columns.{Column}

@@ -1,11 +1,9 @@
 -- Sums and greatest numbers over the rows of a set.
-use Rattle.std.proofs.Common.{◌≡◌, ◌≢◌, ℕ, zero, suc, ◌+◌, ◌*◌, ◌^◌, ◌<◌, ◌≤◌, Bool, true, false, cond, List, [], ◌∷◌, ◌++◌, length, map, get_or, refl, sym, ap, ◌∙◌, arith, subst, Vec, Global}
-use Rattle.std.specs.Prelude.{ℤ, pos, negsuc, ◌+ℤ◌, ◌≤ℤ◌, unsigned_abs, not, nat_lt}
-use Rattle.std.specs.List.{fold, AllByRecursion}
-use Rattle.std.specs.Int.{int_max}
-use Rattle.std.proofs.lemmas.Int.{ints}
+use Rattle.std.proofs.Common.{◌≡◌, ℕ, zero, suc, ◌^◌, ◌<◌, ◌≤◌, true, List, [], ◌∷◌, length, map, get_or, sym, ap, ◌∙◌, arith, subst, Vec, Global}
+use Rattle.std.specs.Prelude.{ℤ, pos, unsigned_abs, nat_lt}
+use Rattle.std.specs.List.{AllByRecursion}
 use Rattle.std.proofs.lemmas.Bool.{ltb-false, not-true}
-use Rattle.audit_types.specs.Truth.{number_at, sum_over, greatest_over}
+use Rattle.audit_types.specs.Truth.{number_at}
 use Rattle.table_load.specs.Numerals.{in_range}
 use Rattle.table_load.specs.Cells.{AreNumbers}
 

@@ -41,8 +41,10 @@ impl Model for Public {
 // The column of a role: a secret one shows nothing, a public one has the next of the lists that are left.
 fn next_column(role: Role, left: &mut IntoIter<Vec<i64>>) -> Column
     requires { is_secret role ≡ false → 0 < length (into_iter_items left.old) }
-    ensures column { cells_kept result ≡ cond (is_secret role) hidden (numbers (first_list (map (λ v. v.items) (into_iter_items left.old)))) }
-    ensures left { into_iter_items left.new ≡ cond (is_secret role) (into_iter_items left.old) (drop 1 (into_iter_items left.old)) }
+    ensures column { cells_kept result ≡
+        cond (is_secret role) hidden (numbers (first_list (map (λ v. v.items) (into_iter_items left.old)))) }
+    ensures left { into_iter_items left.new ≡
+        cond (is_secret role) (into_iter_items left.old) (drop 1 (into_iter_items left.old)) }
 {
     if role.is_secret() {
         return Column::Hidden;

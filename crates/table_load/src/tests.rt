@@ -1,6 +1,9 @@
 //! Tables as people write them, and the fault of each that is none.
-ghost use Rattle.table_load.specs.Cells.{FitsSchema};
+ghost use Rattle.std.specs.Prelude.{◌≡◌, ◌≢◌, true};
+ghost use Rattle.std.specs.List.{AllByRecursion};
+ghost use Rattle.table_load.specs.Cells.{FitsSchema, public_count};
 
+use crate::layout::has_numbers;
 use crate::{Public, Secret, Table, TableFault, load, load_public};
 use audit_types::RowSet;
 use schema_json::{Role, Schema, read_schema};
@@ -55,6 +58,29 @@ fn truth_of_all(rt: &impl Abort, secret: &Secret, column: u8) -> i64 {
     assert!(rt; column < shape.columns());
     assert!(rt; !rows.is_empty());
     secret.truth(column, &rows)
+}
+
+fn has_no_texts(schema: &Schema) -> bool
+    ensures { result ≡ true → AllByRecursion (λ c. c.role ≢ Role.Text) schema.now.columns }
+{
+    for place in 0..schema.count() {
+        if !has_numbers(schema.role(place)) {
+            return false;
+        }
+    }
+    true
+}
+
+fn public_count(schema: &Schema) -> usize
+    ensures { result ≡ public_count schema.now.columns }
+{
+    let mut count = 0usize;
+    for place in 0..schema.count() {
+        if !schema.role(place).is_secret() {
+            count += 1;
+        }
+    }
+    count
 }
 
 #[test]
@@ -212,4 +238,19 @@ fn the_public_part_is_read_alone(rt: HostRuntime) {
         load_public(rt.alloc(), &schema, odd).err(),
         Some(TableFault::NotNumber { line: 2, column: 1 })
     );
+}
+
+#[test]
+fn numbers_make_a_public_part(rt: HostRuntime) -> Result<(), Fail> {
+    let schema = schema_of(&rt, rt.alloc(), PAIR);
+    let mut lists = Vec::new(rt.alloc());
+    lists.push([35, -41].to_vec(rt.alloc())?)?;
+    assert!(rt; has_no_texts(&schema));
+    assert_eq!(rt; public_count(&schema), 1);
+    let Ok(public) = Public::of_numbers(rt.alloc(), &schema, lists) else {
+        panic!(rt; "there is memory");
+    };
+    assert_eq!(rt; public.rows(), 2);
+    assert_eq!(rt; number_at(&rt, &schema, &public, 0, 1), -41);
+    Ok(())
 }

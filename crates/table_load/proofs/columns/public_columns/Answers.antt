@@ -4,7 +4,7 @@ use Rattle.std.proofs.lemmas.List.{map-append}
 use Rattle.csv.specs.Records.{fields_of}
 use Rattle.table_load.specs.Kept.{cells_kept}
 use Rattle.table_load.specs.Reading.{is_in_file, file_columns, roles_of}
-use Rattle.table_load.specs.Tables.{cells_of, cells_from, place_after}
+use Rattle.table_load.specs.Tables.{cells_of, cells_from}
 use Rattle.table_load.proofs.FileRoles.{roles_with, columns_without}
 use Rattle.table_load.proofs.GoodCells.{records_hold}
 use Rattle.table_load.proofs.ColumnSteps.{public_in_file, drop_tail, cells_step}

@@ -1,6 +1,5 @@
-use Rattle.std.proofs.Common.{◌≡◌, sym, ◌∙◌, arith, true, get_or, not}
+use Rattle.std.proofs.Common.{◌≡◌, sym, ◌∙◌, arith, true, get_or}
 use Rattle.std.specs.Char.{is_ascii_digit}
-use Rattle.std.proofs.lemmas.Bool.{not-false}
 use Rattle.table_load.proofs.Digits.{one_digit}
 use Rattle.table_load.proofs.numerals.size_in.Goals as goal
 

@@ -1,4 +1,4 @@
-use Rattle.std.proofs.Common.{◌≡◌, ◌∙◌, [], ◌∷◌, sym}
+use Rattle.std.proofs.Common.{◌∙◌, [], ◌∷◌, sym}
 use Rattle.csv.specs.Records.{fields_of}
 use Rattle.table_load.specs.Reading.{file_columns}
 use Rattle.table_load.proofs.FirstFaults.{long_file, short_file, bad_header}

@@ -1,4 +1,4 @@
-use Rattle.std.proofs.Common.{◌≡◌, ◌<◌, ◌≤◌, ◌^◌, ◌++◌, arith, ap, sym, length, length-append, ◌∷◌, []}
+use Rattle.std.proofs.Common.{◌≤◌, ◌^◌, arith, ap, length, length-append, ◌∷◌, []}
 use Rattle.std.specs.Prelude.{unsigned_abs}
 use Rattle.std.proofs.lemmas.Int.{ints}
 use Rattle.audit_types.specs.Truth.{number_at, sum_over}

@@ -1,7 +1,7 @@
-use Rattle.std.proofs.Common.{◌≡◌, ◌<◌, ◌+◌, true, false, not, sym, ap, ◌∙◌, arith, length, drop, List, [], ◌∷◌, ◌++◌, append_assoc}
+use Rattle.std.proofs.Common.{◌≡◌, ◌<◌, ◌+◌, true, not, sym, ap, ◌∙◌, arith, length, drop, List, [], ◌∷◌, ◌++◌, append_assoc}
 use Rattle.std.specs.Result.{is_ok}
 use Rattle.schema_json.specs.declared.roles.Role.{Role}
-use Rattle.table_load.specs.Reading.{is_in_file, file_columns, roles_of}
+use Rattle.table_load.specs.Reading.{file_columns, roles_of}
 use Rattle.table_load.proofs.FileRoles.{roles_with, columns_without}
 use Rattle.table_load.proofs.layout.FileColumns.roles.Goals.{then-has+else-is_err, else-has}
 use Rattle.table_load.proofs.layout.FileColumns.roles.Goals as goal

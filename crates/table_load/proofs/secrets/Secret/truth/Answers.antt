@@ -1,4 +1,4 @@
-use Rattle.std.proofs.Common.{◌≡◌, ◌<◌, sym, ap, ◌∙◌, arith, subst, length}
+use Rattle.std.proofs.Common.{◌<◌, sym, ap, ◌∙◌, arith, length}
 use Rattle.std.proofs.lemmas.List.{length-map}
 use Rattle.audit_types.specs.Shapes.{columns}
 use Rattle.table_load.specs.Cells.{SecretView}
