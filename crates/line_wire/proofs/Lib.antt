@@ -3,3 +3,5 @@ pub mod Passing
 pub mod LineLaws
 pub mod Reaching
 pub mod Turning
+pub mod KnownKeys
+pub mod Answered

@@ -3,3 +3,7 @@ pub mod Buffer
 pub mod Cutter
 pub mod Steps
 pub mod Reply
+pub mod Questions
+pub mod Kept
+pub mod Requests
+pub mod Answers

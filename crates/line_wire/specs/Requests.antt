@@ -1,0 +1,106 @@
+-- What a line means as a request, and why a line is refused: each refusal is tested only where those before it do not hold.
+use Rattle.std.specs.Prelude.{◌≡◌, ◌≤◌, ℕ, cond, List, Option, Some, None, option_and_then, Result, Ok, Err}
+use Rattle.schema_json.specs.Columns.{Column, place_of, role_at, secret_place}
+use Rattle.schema_json.specs.declared.roles.Role.{Role}
+use Rattle.predicate_lang.specs.Trees.{Tree, tree_of}
+use Rattle.predicate_lang.specs.Places.{Means, IsPlace}
+use Rattle.line_wire.specs.Questions.{Written, counted, taken, text_of, wants}
+use Rattle.line_wire.specs.declared.question.Take.{Take}
+use Rattle.line_wire.specs.declared.question.Take.TheVariants as take
+use Rattle.line_wire.specs.declared.request.Request.{Request}
+use Rattle.line_wire.specs.declared.request.Request.TheVariants.{Count, Sum, Avg, Max}
+use Rattle.line_wire.specs.declared.request.LineFault.{LineFault}
+use Rattle.line_wire.specs.declared.request.LineFault.TheVariants as fault
+
+-- ---- the column
+
+abbrev pub role_fault : Take → Option Role → Option LineFault
+role_fault t None = Some fault.Column
+role_fault t (Some r) = cond (wants t r) None (Some fault.Kind)
+
+-- the role of the column with a name
+abbrev pub role_of : List Column → List ℕ → Option Role
+role_of columns name = option_and_then (role_at columns) (place_of name columns)
+
+-- the place among the secret columns of the column with a name
+abbrev pub secret_of : List Column → List ℕ → Option ℕ
+secret_of columns name = option_and_then (secret_place columns) (place_of name columns)
+
+-- what is wrong with a question's column, if something is
+abbrev pub column_fault : List Column → Written → Option LineFault
+column_fault columns (counted text) = None
+column_fault columns (taken k name text) = role_fault k (role_of columns name)
+
+-- ---- what a question is answered
+
+-- this is taken of the column, over this tree
+abbrev pub IsTaking : List Column → Take → List ℕ → Tree → Request → Type 0
+IsTaking columns k name t (Count p) = ⊥
+IsTaking columns k name t (Sum c p) = (k ≡ take.Sum) × (secret_of columns name ≡ Some c) × (tree_of p ≡ t)
+IsTaking columns k name t (Avg c p) = (k ≡ take.Avg) × (secret_of columns name ≡ Some c) × (tree_of p ≡ t)
+IsTaking columns k name t (Max c p) = (k ≡ take.Max) × (secret_of columns name ≡ Some c) × (tree_of p ≡ t)
+
+-- a count over this tree
+abbrev pub IsCounting : Tree → Request → Type 0
+IsCounting t (Count p) = tree_of p ≡ t
+IsCounting t (Sum c p) = ⊥
+IsCounting t (Avg c p) = ⊥
+IsCounting t (Max c p) = ⊥
+
+-- the request is this question, over this tree
+abbrev pub IsRequest : List Column → Written → Tree → Request → Type 0
+IsRequest columns (counted text) t r = IsCounting t r
+IsRequest columns (taken k name text) t r = IsTaking columns k name t r
+
+-- a question that may be written means a request
+pub record Requests (columns : List Column) (o : Option Written) (r : Request) : Type 0 where
+  pub question : Written
+  pub tree : Tree
+  pub writes : o ≡ Some question
+  pub good : column_fault columns question ≡ None
+  pub means : Means columns (text_of question) tree
+  pub is : IsRequest columns question tree r
+
+-- a question that may be written has this fault in its column
+pub record HasColumnFault (columns : List Column) (o : Option Written) (f : LineFault) : Type 0 where
+  pub question : Written
+  pub writes : o ≡ Some question
+  pub bad : column_fault columns question ≡ Some f
+
+-- a question that may be written goes wrong at this byte of its condition
+pub record HasBadCondition (columns : List Column) (o : Option Written) (at : ℕ) : Type 0 where
+  pub question : Written
+  pub writes : o ≡ Some question
+  pub good : column_fault columns question ≡ None
+  pub place : IsPlace columns (text_of question) at
+
+-- the first refusal of a question that may be written
+abbrev pub Refuses : List Column → Option Written → LineFault → Type 0
+Refuses columns o fault.Line = o ≡ None
+Refuses columns o fault.Column = HasColumnFault columns o fault.Column
+Refuses columns o fault.Kind = HasColumnFault columns o fault.Kind
+Refuses columns o (fault.Condition at) = HasBadCondition columns o at
+Refuses columns o fault.NoMemory = Unit {0}
+
+-- a question with a good column, over a tree
+pub record Asks (columns : List Column) (o : Option Written) (w : Written) (t : Tree) : Type 0 where
+  pub writes : o ≡ Some w
+  pub good : column_fault columns w ≡ None
+  pub means : Means columns (text_of w) t
+
+-- what is read of such a question
+abbrev pub Reads : List Column → Written → Tree → Result Request LineFault → Type 0
+Reads columns w t (Ok r) = IsRequest columns w t r
+Reads columns w t (Err fault.Line) = ⊥
+Reads columns w t (Err fault.Column) = ⊥
+Reads columns w t (Err fault.Kind) = ⊥
+Reads columns w t (Err (fault.Condition at)) = ⊥
+Reads columns w t (Err fault.NoMemory) = Unit {0}
+
+-- the byte that a refusal names is at most this one
+abbrev pub IsWithin : ℕ → LineFault → Type 0
+IsWithin n fault.Line = Unit {0}
+IsWithin n fault.Column = Unit {0}
+IsWithin n fault.Kind = Unit {0}
+IsWithin n (fault.Condition at) = at ≤ n
+IsWithin n fault.NoMemory = Unit {0}

@@ -1,0 +1,130 @@
+//! The question that a value writes.
+ghost use Rattle.std.specs.Prelude.{◌≡◌, List, option_map, string_bytes};
+ghost use Rattle.std.specs.List.{list_all};
+ghost use Rattle.std.specs.BTreeMap.{keys};
+ghost use Rattle.serde_json.specs.View.{view};
+ghost use Rattle.serde_json.specs.Find.{as_object};
+ghost use Rattle.line_wire.specs.Questions.{ask_of, is_key, has_known_keys, may_be_text, question_in, with_column, wants};
+ghost use Rattle.line_wire.specs.Kept.{written_of};
+
+use schema_json::Role;
+use serde_json::{Map, Value};
+
+/// What a question takes of a column.
+#[derive(Clone, Copy, Debug, PartialEq, Eq, Drop)]
+pub(crate) enum Take {
+    Sum,
+    Avg,
+    Max,
+}
+
+#[derive(Clone, Copy, Debug, PartialEq, Eq, Drop)]
+enum Ask {
+    Count,
+    Of(Take),
+}
+
+/// A question as its line writes it: how many rows satisfy a condition, or what they come to in a column.
+#[derive(Clone, Copy, Drop)]
+pub(crate) enum Question<'a> {
+    Count {
+        text: &'a str,
+    },
+    Of {
+        take: Take,
+        column: &'a str,
+        text: &'a str,
+    },
+}
+
+fn ask_of(word: &str) -> Option<Ask>
+    ensures { result ≡ ask_of word.now }
+{
+    if word == "count" {
+        Some(Ask::Count)
+    } else if word == "sum" {
+        Some(Ask::Of(Take::Sum))
+    } else if word == "avg" {
+        Some(Ask::Of(Take::Avg))
+    } else if word == "max" {
+        Some(Ask::Of(Take::Max))
+    } else {
+        None
+    }
+}
+
+/// Whether a question takes a column of this kind.
+pub(crate) fn wants(take: Take, role: Role) -> bool
+    ensures { result ≡ wants take role }
+{
+    match take {
+        Take::Sum => matches!(role, Role::Sum),
+        Take::Avg => matches!(role, Role::Sum),
+        Take::Max => matches!(role, Role::Max),
+    }
+}
+
+fn is_key(key: &str) -> bool
+    ensures { result ≡ is_key key.now }
+{
+    key == "ask" || key == "column" || key == "where" || key == "user"
+}
+
+fn keys_are_known(map: &Map<String, Value>) -> bool
+    ensures { result ≡ list_all (λ k. is_key (string_bytes k)) (keys map.now) }
+{
+    map.keys().all(|key| is_key(key.as_str()))
+}
+
+#[tactic(auto, using(crate::proofs::KnownKeys::keys_are_known_view))]
+fn has_known_keys(value: &Value) -> bool
+    ensures { result ≡ has_known_keys (as_object (view value.now)) }
+{
+    match value.as_object() {
+        Some(map) => keys_are_known(map),
+        None => false,
+    }
+}
+
+fn may_be_text(value: Option<&Value>) -> bool
+    ensures { result ≡ may_be_text (option_map (λ v. view v.now) value.entry) }
+{
+    match value {
+        Some(value) => value.as_str().is_some(),
+        None => true,
+    }
+}
+
+fn with_column<'a>(ask: Ask, column: Option<&'a Value>, text: &'a str) -> Option<Question<'a>>
+    ensures { option_map written_of result ≡ with_column ask (option_map (λ v. view v.now) column.entry) text.now }
+{
+    match ask {
+        Ask::Count => match column {
+            None => Some(Question::Count { text }),
+            Some(_) => None,
+        },
+        Ask::Of(take) => match column.and_then(Value::as_str) {
+            Some(column) => Some(Question::Of { take, column, text }),
+            None => None,
+        },
+    }
+}
+
+/// The question that a value writes, if it writes one.
+#[tactic(auto, unfolding(crate::specs::Questions::question_in))]
+pub(crate) fn question_in(value: &Value) -> Option<Question<'_>>
+    ensures { option_map written_of result ≡ question_in (view value.now) }
+{
+    if !has_known_keys(value) || !may_be_text(value.get("user")) {
+        return None;
+    }
+    let text = value.get("where").and_then(Value::as_str);
+    let word = value.get("ask").and_then(Value::as_str);
+    match (text, word) {
+        (Some(text), Some(word)) => match ask_of(word) {
+            Some(ask) => with_column(ask, value.get("column"), text),
+            None => None,
+        },
+        _ => None,
+    }
+}

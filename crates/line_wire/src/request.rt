@@ -1,0 +1,35 @@
+//! What a line asks, and why a line is refused.
+
+use predicate_lang::{Pred, WhereFault};
+
+/// A question. A column is named by its place among the secret ones.
+#[derive(Drop)]
+pub enum Request {
+    Count { pred: Pred },
+    Sum { column: u8, pred: Pred },
+    Avg { column: u8, pred: Pred },
+    Max { column: u8, pred: Pred },
+}
+
+/// Why a line is refused.
+#[derive(Clone, Copy, Debug, PartialEq, Eq, Drop)]
+pub enum LineFault {
+    /// The line is no question.
+    Line,
+    /// The question's column is none of the schema's.
+    Column,
+    /// The question's column is not of the kind that the question takes.
+    Kind,
+    /// The condition goes wrong at this byte of its text.
+    Condition { at: u32 },
+    NoMemory,
+}
+
+impl From<WhereFault> for LineFault {
+    fn from(fault: WhereFault) -> LineFault {
+        match fault {
+            WhereFault::Bad { at } => LineFault::Condition { at },
+            WhereFault::NoMemory => LineFault::NoMemory,
+        }
+    }
+}

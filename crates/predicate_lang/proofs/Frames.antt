@@ -1,0 +1,33 @@
+-- What is open, kept with the innermost last.
+use Rattle.std.proofs.Common.{◌≡◌, List, [], ◌∷◌, ◌++◌, length, map, take, get_or, ℕ, ◌<◌, ◌-◌, ◌+◌, false, arith, refl, sym, ap, ◌∙◌}
+use Rattle.std.specs.Prelude.{reverse}
+use Rattle.predicate_lang.specs.Trees.{Tree}
+use Rattle.std.proofs.lemmas.List.{map-append, reverse-append, length-map, length-reverse, take_all, take_more}
+use Rattle.predicate_lang.specs.Building.{Frame, a_not, a_bracket, frame_of, frames_of, is_under_not, without_nots, negated}
+use Rattle.predicate_lang.specs.declared.building.Opened.{Opened}
+
+-- what was opened last comes first
+pub frames_of_push : (os : List Opened) (o : Opened) → frames_of (os ++ o ∷ []) ≡ frame_of o ∷ frames_of os
+frames_of_push os o = ap reverse (map-append frame_of os (o ∷ [])) ∙ reverse-append (map frame_of os) (frame_of o ∷ [])
+
+pub length-frames_of : (os : List Opened) → length (frames_of os) ≡ length os
+length-frames_of os = length-reverse (map frame_of os) ∙ length-map os frame_of
+
+-- the innermost one and those around it
+pub frames_of_last : (os : List Opened) (o : Opened) → 0 < length os → frames_of os ≡ frame_of (get_or os (length os - 1) o) ∷ frames_of (take (length os - 1) os)
+frames_of_last os o some =
+    let all : take (length os - 1 + 1) os ≡ os = take_all (length os - 1 + 1) os (omega arith) in
+    let front : take (length os - 1 + 1) os ≡ take (length os - 1) os ++ get_or os (length os - 1) o ∷ [] = take_more os (length os - 1) o (omega arith) in
+    ap frames_of (sym all ∙ front) ∙ frames_of_push (take (length os - 1) os) (get_or os (length os - 1) o)
+
+-- where no `not` stands before the operand, none ends with it
+pub without_nots_bracket : (fs : List Frame) → is_under_not fs ≡ false → without_nots fs ≡ fs
+without_nots_bracket [] h = refl
+without_nots_bracket (a_not ∷ fs) h = cc
+without_nots_bracket (a_bracket o a ∷ fs) h = refl
+
+-- and none negates it
+pub negated_bracket : (fs : List Frame) (p : Tree) → is_under_not fs ≡ false → negated fs p ≡ p
+negated_bracket [] p h = refl
+negated_bracket (a_not ∷ fs) p h = cc
+negated_bracket (a_bracket o a ∷ fs) p h = refl

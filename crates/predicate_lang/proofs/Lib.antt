@@ -1,0 +1,14 @@
+pub mod Runs
+pub mod Sound
+pub mod Goes
+pub mod Ways
+pub mod Frames
+pub mod Lexed
+pub mod Numbers
+pub mod Quotes
+pub mod Fronts
+pub mod NextToken
+pub mod Erased
+pub mod Built
+pub mod LeastPlace
+pub mod Refusals

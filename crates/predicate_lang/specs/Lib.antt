@@ -1,0 +1,12 @@
+pub mod Trees
+pub mod Tokens
+pub mod Grammar
+pub mod Places
+pub mod Printing
+pub mod Meaning
+pub mod Machine
+pub mod Examples
+pub mod Lexing
+pub mod Building
+pub mod Reads
+pub mod Steps

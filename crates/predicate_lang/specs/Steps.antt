@@ -1,0 +1,23 @@
+-- What a token more leads to.
+use Rattle.std.specs.Prelude.{ℕ, ◌+◌, ◌<◌, ◌≤◌, List, length, Result, Ok, Err}
+use Rattle.schema_json.specs.Columns.{Column}
+use Rattle.predicate_lang.specs.Trees.{tree_of}
+use Rattle.predicate_lang.specs.Places.{Means, IsWhereFault}
+use Rattle.predicate_lang.specs.Building.{build_of}
+use Rattle.predicate_lang.specs.Reads.{HasRead}
+use Rattle.predicate_lang.specs.declared.building.State.{State}
+use Rattle.predicate_lang.specs.declared.trees.WhereFault.{WhereFault}
+use Rattle.predicate_lang.specs.declared.reading.Step.{Step}
+use Rattle.predicate_lang.specs.declared.reading.Step.TheVariants.{More, Whole}
+
+-- one token more was read, up to an offset
+pub record Advances (columns : List Column) (text : List ℕ) (from count : ℕ) (s : State) (end : ℕ) : Type 0 where
+  pub read : HasRead columns text end (count + 1) (build_of s)
+  pub longer : from < end
+  pub within : end ≤ length text
+  pub few : count + 1 ≤ 512
+
+abbrev pub Steps : List Column → List ℕ → ℕ → ℕ → Result Step WhereFault → Type 0
+Steps columns text from count (Ok (More s end)) = Advances columns text from count s end
+Steps columns text from count (Ok (Whole p)) = Means columns text (tree_of p)
+Steps columns text from count (Err fault) = IsWhereFault columns text fault

@@ -1,0 +1,13 @@
+//! Which rows of a table satisfy a condition.
+//!
+//! Start with `Index::rows_of`: its clause says that it answers the rows that the condition means, by the public columns
+//! alone. `reads_what_fits` and `loads_over_the_schema` say that what fits a table's schema can be asked of the table.
+#![tactic(auto)]
+
+mod asking;
+mod comparing;
+mod index;
+mod laws;
+
+pub use index::Index;
+pub use laws::{loads_over_the_schema, reads_what_fits};
