@@ -1,5 +1,13 @@
 pub mod Causes
 pub mod Source
+pub mod Crash
 pub mod Bench
+pub mod Moments
+pub mod Machine
+pub mod MachineLaws
 pub mod SourceContents
 pub mod BenchContents
+pub mod DiskContents
+pub mod LogContents
+pub mod BenchLaws
+pub mod BenchTies

@@ -6,6 +6,8 @@
 #![tactic(auto)]
 
 mod bench;
+mod disk;
+mod log;
 mod memory_bench;
 mod memory_source;
 mod room;

@@ -1,0 +1,140 @@
+-- Reading a journal from its front, group by group.
+use Rattle.std.proofs.Common.{◌≡◌, ◌≢◌, ℕ, zero, suc, ◌+◌, ◌-◌, ◌*◌, ◌<◌, ◌≤◌, ◌⊎◌, inl, inr, List, [], ◌∷◌, ◌++◌, length, get_or, take, drop, refl, sym, ap, subst, ◌∙◌, arith, append_assoc, append-nil, add-one, one-add, Result, Err, length-append, length-take, length-drop, take-add}
+use Rattle.std.proofs.Math.Seq.{drop-cons}
+use Rattle.std.proofs.lemmas.List.{take-append-drop, take_all, get_or-take, nil_from_length}
+use Rattle.std.proofs.lemmas.List.Concat.{flat_map-cons}
+use Rattle.std.proofs.lemmas.Grind.{flat_map-append}
+use Rattle.audit_types.specs.declared.shapes.Shape.{Shape}
+use Rattle.audit_types.specs.declared.records.Answered.{Answered}
+use Rattle.journal_form.specs.Header.{header, IsWholeShape, IsGoodHeaderByte, HeaderBreaks}
+use Rattle.journal_form.specs.Group.{IsGroup, GroupBreaks}
+use Rattle.journal_form.specs.Journal.{Written, AreGroups, texts, records, gate_behind, Begins, IsClosed, StandsAt, BreaksBehind}
+use Rattle.answer_journal.specs.declared.journal.BackFault.{BackFault}
+use Rattle.answer_journal.specs.declared.journal.BackFault.TheVariants.{Damaged}
+use Rattle.answer_journal.specs.declared.reading.Contents.{Contents}
+use Rattle.answer_journal.proofs.Histories.{stands_by}
+
+-- the bytes before the gate are the header and whole groups of these records
+pub record IsReadSoFar (bytes : List ℕ) (shape : Shape) (list : List Answered) (gate : ℕ) : Type 0 where
+  pub groups : List Written
+  pub shaped : IsWholeShape shape
+  pub whole : AreGroups shape groups
+  pub front : take gate bytes ≡ header shape ++ texts groups
+  pub inside : gate ≤ length bytes
+  pub gate_is : gate ≡ gate_behind groups
+  pub list_is : list ≡ records groups
+  pub few : length list ≤ 65536
+
+pub read_none : (bytes : List ℕ) (shape : Shape) → IsWholeShape shape → take 20 bytes ≡ header shape → IsReadSoFar bytes shape [] 20
+read_none bytes shape shaped is = record {
+  groups = [];
+  shaped = shaped;
+  whole = tt;
+  front = is ∙ sym (append-nil (header shape));
+  inside = omega (arith, ap length is, length-take 20 bytes, shaped.eight);
+  gate_is = refl;
+  list_is = refl;
+  few = omega arith;
+}
+
+module _ (bytes : List ℕ) (shape : Shape) (list : List Answered) (gate : ℕ) (read : IsReadSoFar bytes shape list gate) where
+  parts : bytes ≡ (header shape ++ texts read.groups) ++ drop gate bytes
+  parts = sym (take-append-drop gate bytes) ∙ ap (λ t. t ++ drop gate bytes) read.front
+
+  at_gate : gate < length bytes → drop gate bytes ≡ get_or bytes gate 0 ∷ drop (gate + 1) bytes
+  at_gate lt = rw add-one (drop-cons bytes gate 0 lt)
+
+  -- the gate isn't open
+  pub read_ends : gate < length bytes → get_or bytes gate 0 ≢ 1 → StandsAt bytes shape list gate
+  read_ends lt closed =
+      stands_by bytes shape list gate read.groups (drop gate bytes) read.shaped read.whole read.few read.list_is read.gate_is
+          (record { gate = get_or bytes gate 0; rest = drop (gate + 1) bytes; bytes_are = at_gate lt; closed = closed }) parts
+
+  begins : Begins bytes shape read.groups (drop gate bytes)
+  begins = record { shaped = read.shaped; whole = read.whole; file_is = parts ∙ append_assoc (header shape) (texts read.groups) (drop gate bytes); few = omega (arith, read.few, ap length read.list_is) }
+
+  -- the next gate isn't there
+  pub breaks_at_end : length bytes ≤ gate → BreaksBehind bytes gate
+  breaks_at_end le = record {
+    shape = shape;
+    groups = read.groups;
+    behind = drop gate bytes;
+    begins = begins;
+    breaks = inl (nil_from_length (drop gate bytes) (omega (arith, length-drop gate bytes)), read.gate_is);
+  }
+
+  -- a byte breaks the group behind the open gate
+  pub breaks_in_group : (at : ℕ) → gate < length bytes → get_or bytes gate 0 ≡ 1 → GroupBreaks shape (65536 - length list) (drop (gate + 1) bytes) at → BreaksBehind bytes (gate + 1 + at)
+  breaks_in_group at lt open_gate breaks = record {
+    shape = shape;
+    groups = read.groups;
+    behind = drop gate bytes;
+    begins = begins;
+    breaks = inr (drop (gate + 1) bytes, at, at_gate lt ∙ ap (λ b. b ∷ drop (gate + 1) bytes) open_gate, subst (λ (l : List Answered). GroupBreaks shape (65536 - length l) (drop (gate + 1) bytes) at) read.list_is breaks, ap (λ g. g + 1 + at) read.gate_is);
+  }
+
+  -- one group more
+  pub read_more : (size : ℕ) (more : List Answered) → gate < length bytes → get_or bytes gate 0 ≡ 1 → size ≤ length (drop (gate + 1) bytes) → length more ≤ 65536 - length list → IsGroup shape (take size (drop (gate + 1) bytes)) more
+      → IsReadSoFar bytes shape (list ++ more) (gate + (1 + size))
+  read_more size more lt open_gate inside few group =
+      let text = take size (drop (gate + 1) bytes) in
+      let added : Written = record { text = text; list = more } in
+      let all : List Written = read.groups ++ added ∷ [] in
+      let texts_are : texts all ≡ texts read.groups ++ (1 ∷ text) = flat_map-append (λ (g : Written). 1 ∷ g.text) read.groups (added ∷ []) ∙ ap (λ t. texts read.groups ++ t) (flat_map-cons (λ (g : Written). 1 ∷ g.text) added [] ∙ append-nil (1 ∷ text)) in
+      let records_are : records all ≡ records read.groups ++ more = flat_map-append (λ (g : Written). g.list) read.groups (added ∷ []) ∙ ap (λ t. records read.groups ++ t) (flat_map-cons (λ (g : Written). g.list) added [] ∙ append-nil more) in
+      let behind : take (1 + size) (drop gate bytes) ≡ 1 ∷ text = ap (take (1 + size)) (at_gate lt ∙ ap (λ b. b ∷ drop (gate + 1) bytes) open_gate) ∙ take-more size (drop (gate + 1) bytes) in
+      record {
+        groups = all;
+        shaped = read.shaped;
+        whole = whole_more read.groups added read.whole group;
+        front = take-add gate (1 + size) bytes ∙ ap (λ t. t ++ take (1 + size) (drop gate bytes)) read.front ∙ ap (λ t. (header shape ++ texts read.groups) ++ t) behind ∙ append_assoc (header shape) (texts read.groups) (1 ∷ text) ∙ ap (λ t. header shape ++ t) (sym texts_are);
+        inside = omega (arith, inside, lt, length-drop (gate + 1) bytes);
+        gate_is = omega (arith, read.gate_is, ap length texts_are, length-append (texts read.groups) (1 ∷ text), length-take size (drop (gate + 1) bytes), inside);
+        list_is = ap (λ l. l ++ more) read.list_is ∙ sym records_are;
+        few = omega (arith, length-append list more, few, read.few);
+      }
+    where
+      take-more : (n : ℕ) (rest : List ℕ) → take (1 + n) (1 ∷ rest) ≡ 1 ∷ take n rest
+      take-more n rest = rw one-add refl
+      whole_more : (gs : List Written) (g : Written) → AreGroups shape gs → IsGroup shape g.text g.list → AreGroups shape (gs ++ g ∷ [])
+      whole_more [] g whole is = (is, tt)
+      whole_more (first ∷ gs) g whole is = (whole.0, whole_more gs g whole.1 is)
+
+-- a slice from a place on
+pub rest_is : (n : ℕ) (bytes : List ℕ) → take (length bytes - n) (drop n bytes) ≡ drop n bytes
+rest_is n bytes = take_all (length bytes - n) (drop n bytes) (omega (arith, length-drop n bytes))
+
+good_same : (a b : List ℕ) (k : ℕ) → k < 20 → ((k : ℕ) → k < 20 → get_or a k 0 ≡ get_or b k 0) → IsGoodHeaderByte a k → IsGoodHeaderByte b k
+good_same a b k lt e h =
+    let nine = e 9 (omega arith) in
+    let ten = e 10 (omega arith) in
+    let eleven = e 11 (omega arith) in
+    let this = e k lt in
+    record {
+      front = λ below. sym this ∙ h.front below;
+      rows_high = λ at. let high = h.rows_high at in omega (arith, high, nine);
+      rows_low = λ at. let low = h.rows_low at in (omega (arith, low.0, nine, ten), omega (arith, low.1, nine, ten));
+      columns = λ at. let few = h.columns at in omega (arith, few, eleven);
+      kind = λ from below. elim (h.kind from (omega (arith, below, eleven))) [ inl one ↦ inl (sym this ∙ one) | inr two ↦ inr (sym this ∙ two) ];
+      no_kind = λ from. sym this ∙ h.no_kind (omega (arith, from, eleven));
+    }
+
+-- what breaks the first twenty bytes breaks the file
+pub header_breaks : (bytes : List ℕ) (at : ℕ) → 20 ≤ length bytes → HeaderBreaks (take 20 bytes) at → HeaderBreaks bytes at
+header_breaks bytes at long breaks =
+    let same : (k : ℕ) → k < 20 → get_or (take 20 bytes) k 0 ≡ get_or bytes k 0 = λ k lt. get_or-take 20 bytes k 0 lt in
+    record {
+      before = λ k lt. good_same (take 20 bytes) bytes k (omega (arith, lt, breaks.within)) same (breaks.before k lt);
+      within = breaks.within;
+      stops = elim breaks.stops [
+        | inl ended ↦ absurd (omega (arith, ended, breaks.within, length-take 20 bytes))
+        | inr bad ↦ inr (omega (arith, breaks.within), λ good. bad.1 (good_same bytes (take 20 bytes) at breaks.within (λ k lt. sym (same k lt)) good))
+      ];
+    }
+
+abbrev damaged : ℕ → Result Contents BackFault
+damaged at = Err (Damaged at)
+
+-- two places of damage in one result are one
+pub damaged_at : (a b : ℕ) → damaged a ≡ damaged b → a ≡ b
+damaged_at a b e = cc

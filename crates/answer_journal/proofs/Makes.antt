@@ -1,0 +1,50 @@
+-- What a crash leaves while a journal is made.
+use Rattle.std.proofs.Common.{◌≡◌, ◌≢◌, ℕ, zero, suc, ◌+◌, ◌-◌, ◌<◌, ◌≤◌, ◌⊎◌, inl, inr, List, [], ◌∷◌, ◌++◌, length, get_or, take, drop, refl, sym, ap, subst, ◌∙◌, arith, append_assoc, append-nil, length-append, length-take, length-drop}
+use Rattle.std.proofs.Math.Seq.{drop-cons}
+use Rattle.std.proofs.lemmas.Bool.{cases_eq}
+use Rattle.std.proofs.lemmas.List.{take-append-drop, get_or-take, take_all}
+use Rattle.audit_types.specs.declared.shapes.Shape.{Shape}
+use Rattle.journal_form.specs.Header.{header, named, IsWholeShape}
+use Rattle.journal_form.specs.Journal.{StandsAt, StandsFor}
+use Rattle.bench_core.specs.Bench.{LeavesOnly}
+use Rattle.bench_core.specs.Moments.{weakens, joins}
+use Rattle.answer_journal.specs.Append.{Appending, appended}
+use Rattle.answer_journal.specs.Moments.{IsMade, IsShort, IsUnmadeOrEmpty}
+use Rattle.answer_journal.proofs.Histories.{stands_by}
+
+-- a header and a closed gate stand for the empty history
+pub fresh : (image : List ℕ) (shape : Shape) (rest : List ℕ) → IsWholeShape shape → image ≡ 1 ∷ ((named shape ++ 0 ∷ []) ++ rest) → StandsAt image shape [] 20
+fresh image shape rest shaped is =
+    stands_by image shape [] 20 [] (0 ∷ rest) shaped tt (omega arith) refl refl (record { gate = 0; rest = rest; bytes_are = refl; closed = λ e. cc })
+        (is ∙ ap (λ t. 1 ∷ t) (append_assoc (named shape) (0 ∷ []) rest) ∙ ap (λ t. t ++ (0 ∷ rest)) (sym (append-nil (header shape))))
+
+module _ (file : List ℕ) (shape : Shape) (shaped : IsWholeShape shape) (some : 0 < length file) (closed : get_or file 0 0 ≢ 1) where
+  -- what a crash while the header is opened leaves
+  pub opening : (before image sent : List ℕ) → Appending 0 (named shape ++ 0 ∷ []) file before image sent → IsUnmadeOrEmpty shape before image sent
+  opening before image sent (same, inl start) =
+      (same, inl (λ made. closed (sym (get_or-take 1 file 0 0 (omega arith)) ∙ ap (λ l. get_or l 0 0) (sym start) ∙ get_or-take 1 image 0 0 (omega arith) ∙ made.1)))
+  opening before image sent (same, inr stage) =
+      elim (cases_eq (get_or image 0 0) 1) [
+        | inl open_gate ↦
+            let behind = drop 1 image in
+            let long : 0 < length image = omega (arith, ap length stage.1, length-take (length (named shape ++ 0 ∷ [])) behind, length-drop 1 image, length-append (named shape) (0 ∷ [])) in
+            let rest = drop (length (named shape ++ 0 ∷ [])) behind in
+            let behind_is : behind ≡ (named shape ++ 0 ∷ []) ++ rest = sym (take-append-drop (length (named shape ++ 0 ∷ [])) behind) ∙ ap (λ t. t ++ rest) stage.1 in
+            (same, inr (20, fresh image shape rest shaped (drop-cons image 0 0 long ∙ ap (λ k. k ∷ behind) open_gate ∙ ap (λ t. 1 ∷ t) behind_is)))
+        | inr still ↦ (same, inl (λ made. still made.1))
+      ]
+
+  pub opened : (new : List ℕ) → new ≡ appended 0 (named shape ++ 0 ∷ []) file → StandsAt new shape [] 20
+  opened new is = fresh new shape (drop (1 + length (named shape ++ 0 ∷ [])) file) shaped is
+
+  pub opening_moments : {D : Type 0} (moment : D → ℕ) (since : D → ℕ → List ℕ → List ℕ → Type 0) (old new : D) (before : List ℕ) → LeavesOnly moment since old new (Appending 0 (named shape ++ 0 ∷ []) file before) → LeavesOnly moment since old new (IsUnmadeOrEmpty shape before)
+  opening_moments moment since old new before only = weakens moment since old new (Appending 0 (named shape ++ 0 ∷ []) file before) (IsUnmadeOrEmpty shape before) (opening before) only
+
+-- a short image isn't made
+pub short_unmade : (shape : Shape) (before image sent : List ℕ) → (sent ≡ before) × IsShort image → IsUnmadeOrEmpty shape before image sent
+short_unmade shape before image sent (same, short) = (same, inl (λ made. omega (arith, made.0, short)))
+
+-- what write_header writes behind its first byte
+pub header_behind : (shape : Shape) (out : List ℕ) → length shape.kinds ≡ 8 → out ≡ 0 ∷ (named shape ++ 0 ∷ []) → take 20 (drop 1 out) ≡ named shape ++ 0 ∷ []
+header_behind shape out eight is =
+    ap (λ o. take 20 (drop 1 o)) is ∙ take_all 20 (named shape ++ 0 ∷ []) (omega (arith, length-append (named shape) (0 ∷ []), eight))

@@ -1,0 +1,55 @@
+use Rattle.std.proofs.Common.{◌≡◌, ◌≤◌, ◌+◌, ◌++◌, List, ℕ, length, arith, ap, sym, subst, ◌∙◌, length-append, ◌∷◌, []}
+use Rattle.audit_types.specs.declared.records.Answered.{Answered}
+use Rattle.audit_types.specs.declared.shapes.Shape.{Shape}
+use Rattle.bench_core.specs.Bench.{LeavesOnly}
+use Rattle.journal_form.specs.Journal.{StandsAt}
+use Rattle.answer_journal.specs.Contents.{JournalContents, IsJournal}
+use Rattle.answer_journal.specs.Moments.{IsBeforeOrAfter}
+use Rattle.answer_journal.proofs.Histories.{at_every_moment, at_end, group_long, group_some}
+use Rattle.answer_journal.proofs.journal.Journal.append_ready.Goals as goal
+
+pub returns-in_err-append_bytes-clause-any_moment : goal.returns-in_err-append_bytes-clause-any_moment
+returns-in_err-append_bytes-clause-any_moment g c = λ history told stands counted quiet.
+    let file = g.B.Bench.file c.args.bench.now in
+    let sent = g.B.Bench.sent c.args.bench.now in
+    let list = c.args.ready.now.list in
+    let shape = c.args.self.now.shape in
+    let gate : c.self.inside.gate ≡ c.args.self.now.gate = ap (λ (j : JournalContents). j.gate) c.self.view_is in
+    let here = subst (λ (k : ℕ). StandsAt file shape history k) (sym gate) stands in
+    let room : length history + length list ≤ 65536 = omega (arith, counted, c.requires.few) in
+    at_every_moment file c.bytes-bytes.result.now shape c.args.ready.now.shape history list c.self.inside.gate here c.bytes-bytes.ensures c.requires.shape room g.B.Bench.moment g.B.Bench.since c.args.bench.now c.append_bytes.new.bench sent (c.append_bytes.ensures.any_moment told quiet)
+
+pub returns-clause-any_moment : goal.returns-clause-any_moment
+returns-clause-any_moment g c = λ history told stands counted quiet.
+    let file = g.B.Bench.file c.args.bench.now in
+    let sent = g.B.Bench.sent c.args.bench.now in
+    let list = c.args.ready.now.list in
+    let shape = c.args.self.now.shape in
+    let gate : c.self.inside.gate ≡ c.args.self.now.gate = ap (λ (j : JournalContents). j.gate) c.self.view_is in
+    let here = subst (λ (k : ℕ). StandsAt file shape history k) (sym gate) stands in
+    let room : length history + length list ≤ 65536 = omega (arith, counted, c.requires.few) in
+    at_every_moment file c.bytes-bytes.result.now shape c.args.ready.now.shape history list c.self.inside.gate here c.bytes-bytes.ensures c.requires.shape room g.B.Bench.moment g.B.Bench.since c.args.bench.now c.append_bytes.new.bench sent (c.append_bytes.ensures.any_moment told quiet)
+
+pub returns-clause-done : goal.returns-clause-done
+returns-clause-done g c = λ history told stands counted.
+    let file = g.B.Bench.file c.args.bench.now in
+    let list = c.args.ready.now.list in
+    let new = g.B.Bench.file c.append_bytes.new.bench in
+    let here = subst (λ (j : JournalContents). StandsAt file j.shape history j.gate) (sym c.self.view_is) stands in
+    let same : c.args.ready.now.shape ≡ c.self.inside.shape = c.requires.shape ∙ ap (λ (j : JournalContents). j.shape) (sym c.self.view_is) in
+    let room : length history + length list ≤ 65536 = omega (arith, counted, c.requires.few) in
+    at_end file c.bytes-bytes.result.now c.self.inside.shape c.args.ready.now.shape history list c.self.inside.gate here c.bytes-bytes.ensures same room new (c.in_ok-append_bytes.ensures.done told)
+
+pub invariant_of-self-2 : goal.invariant_of-self-2
+invariant_of-self-2 g c =
+    let ready = c.bytes-bytes.ensures in
+    let list = c.args.ready.now.list in
+    let long = group_long c.args.ready.now.shape ready.text list ready.shaped ready.group in
+    let size : length c.bytes-bytes.result.now ≡ length ready.text + 1 = ap length ready.bytes_are ∙ length-append ready.text (0 ∷ []) in
+    let count : c.self.inside.count ≡ c.args.self.now.count = ap (λ (j : JournalContents). j.count) c.self.view_is in
+    let some = group_some c.args.ready.now.shape ready.text list ready.group in
+    record {
+      shaped = c.self.invariant.shaped;
+      few = omega (arith, c.len.ensures, count, c.requires.few);
+      reached = omega (arith, c.self.invariant.reached, c.len.ensures, size, long, some);
+    }

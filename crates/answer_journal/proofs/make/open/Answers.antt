@@ -1,0 +1,26 @@
+use Rattle.std.proofs.Common.{rules, ◌≡◌, ◌≤◌, ◌+◌, ◌++◌, ◌∷◌, [], List, ℕ, length, take, drop, arith, ap, sym, subst, ◌∙◌, length-append}
+use Rattle.std.proofs.lemmas.List.{take_all}
+use Rattle.std.proofs.lemmas.Result.{on_ok_weaker}
+use Rattle.bench_core.specs.Bench.{LeavesOnly}
+use Rattle.journal_form.specs.Header.{named, IsWholeShape}
+use Rattle.answer_journal.specs.Append.{Appending, appended}
+use Rattle.answer_journal.proofs.Makes.{header_behind, opened, opening_moments}
+use Rattle.answer_journal.proofs.make.open.Goals as goal
+
+pub returns-clause-any_moment : goal.returns-clause-any_moment
+returns-clause-any_moment g c = λ told quiet.
+    let file = g.B.Bench.file c.args.bench.now in
+    let shape = c.args.shape.now in
+    let sent = g.B.Bench.sent c.args.bench.now in
+    let closed = c.requires.closed told in
+    let shaped : IsWholeShape shape = c.write_header.ensures.whole in
+    opening_moments file shape shaped closed.0 closed.1 g.B.Bench.moment g.B.Bench.since c.args.bench.now c.append_bytes.new.bench sent
+        (subst (λ group. LeavesOnly g.B.Bench.moment g.B.Bench.since c.args.bench.now c.append_bytes.new.bench (Appending 0 group file sent)) (header_behind shape c.write_header.new.out shaped.eight c.write_header.ensures.bytes) (c.append_bytes.ensures.any_moment told quiet))
+
+pub returns-clause-done : goal.returns-clause-done
+returns-clause-done g c = λ told.
+    let file = g.B.Bench.file c.args.bench.now in
+    let shape = c.args.shape.now in
+    let closed = c.requires.closed told in
+    let shaped : IsWholeShape shape = c.write_header.ensures.whole in
+    on_ok_weaker c.append_bytes.result (λ is. opened file shape shaped closed.0 closed.1 (g.B.Bench.file c.append_bytes.new.bench) (is ∙ ap (λ group. appended 0 group file) (header_behind shape c.write_header.new.out shaped.eight c.write_header.ensures.bytes))) (c.append_bytes.ensures.done told)

@@ -1,0 +1,31 @@
+use Rattle.std.proofs.Common.{rules, ◌≡◌, ◌+◌, ◌-◌, ◌++◌, List, ℕ, length, take, drop, arith, ap, sym, subst, refl, ◌∙◌, Err}
+use Rattle.journal_form.specs.Group.{GroupBreaks}
+use Rattle.journal_form.specs.Journal.{BreaksBehind}
+use Rattle.answer_journal.proofs.Backs.{IsReadSoFar, read_none, read_ends, read_more, breaks_in_group, rest_is, damaged_at}
+use Rattle.answer_journal.proofs.reading.read_groups.Goals as goal
+
+pub loop-gate-init : goal.loop-gate-init
+loop-gate-init c = rw c.new-list.ensures.items (read_none c.args.bytes.now c.args.shape c.requires.shape c.requires.header)
+
+pub returns-then-bytes-gate-ne1-clause-ok : goal.returns-then-bytes-gate-ne1-clause-ok
+returns-then-bytes-gate-ne1-clause-ok c = read_ends c.args.bytes.now c.args.shape c.loop-gate.list.items c.loop-gate.gate c.loop-gate.invariant c.loop-gate-test.true c.if-bytes-gate-ne1.true
+
+pub loop-gate-preserved : goal.loop-gate-preserved
+loop-gate-preserved c =
+    let bytes = c.args.bytes.now in
+    let gate = c.loop-gate.gate in
+    let list = c.loop-gate.list.items in
+    let more = c.in-Ok.group.list.items in
+    let extended : c.extend_from_slice.new.self.items ≡ list ++ more = search rules in
+    let read = rw (rest_is (gate + 1) bytes) at c.in-Ok.ensures.ok in
+    rw extended (read_more bytes c.args.shape list gate c.loop-gate.invariant c.in-Ok.group.size more c.loop-gate-test.true c.if-bytes-gate-ne1.false read.0 (omega (arith, read.1)) read.2)
+
+pub returns-in-Err-Breaks-clause-damaged : goal.returns-in-Err-Breaks-clause-damaged
+returns-in-Err-Breaks-clause-damaged c = λ at is.
+    let bytes = c.args.bytes.now in
+    let gate = c.loop-gate.gate in
+    let long : c.len.result ≡ length c.loop-gate.list.items = search rules in
+    let found = rw (rest_is (gate + 1) bytes) at (c.in-Err-Breaks.ensures.breaks c.in-Err-Breaks.at (ap (λ fault. Err fault) c.in-Err-Breaks.field-0-is)) in
+    let breaks = subst (λ (n : ℕ). GroupBreaks c.args.shape (65536 - n) (drop (gate + 1) bytes) c.in-Err-Breaks.at) long found in
+    let same : _ ≡ at = damaged_at _ at is in
+    subst (λ (k : ℕ). BreaksBehind bytes k) (ap (λ k. gate + 1 + k) (sym c.in-Err-Breaks.at-is) ∙ same) (breaks_in_group bytes c.args.shape c.loop-gate.list.items gate c.loop-gate.invariant c.in-Err-Breaks.at c.loop-gate-test.true c.if-bytes-gate-ne1.false breaks)

@@ -1,0 +1,37 @@
+-- What a crash within the journal's calls leaves.
+use Rattle.std.specs.Prelude.{◌≡◌, ◌≢◌, ◌⊎◌, ℕ, ◌≤◌, List, [], ◌++◌, length, slice_index}
+use Rattle.audit_types.specs.declared.shapes.Shape.{Shape}
+use Rattle.audit_types.specs.declared.records.Answered.{Answered}
+use Rattle.answer_journal.specs.declared.make.Found.{Found}
+use Rattle.answer_journal.specs.declared.make.Found.TheVariants.{Already, Closed, Short}
+use Rattle.journal_form.specs.Journal.{StandsFor, StandsAt}
+
+-- nothing was sent, and the image stands for the history before, or for that with the whole group
+abbrev pub IsBeforeOrAfter : Shape → List Answered → List Answered → List ℕ → List ℕ → List ℕ → Type 0
+IsBeforeOrAfter shape history list before image sent = (sent ≡ before) × (StandsFor image shape history ⊎ StandsFor image shape (history ++ list))
+
+-- the file is long enough for a journal and its header gate is open
+abbrev pub IsMade : List ℕ → Type 0
+IsMade file = (21 ≤ length file) × (slice_index file 0 ≡ 1)
+
+-- a journal is made here: the file has more than 21 bytes, or a made journal's
+abbrev pub IsAlready : List ℕ → Type 0
+IsAlready file = (22 ≤ length file) ⊎ ((length file ≡ 21) × (slice_index file 0 ≡ 1))
+
+-- nothing was sent, and the image isn't a made journal, or stands for the empty history
+abbrev pub IsUnmadeOrEmpty : Shape → List ℕ → List ℕ → List ℕ → Type 0
+IsUnmadeOrEmpty shape before image sent = (sent ≡ before) × ((IsMade image → ⊥) ⊎ StandsFor image shape [])
+
+-- the file has fewer bytes than a journal
+abbrev pub IsShort : List ℕ → Type 0
+IsShort file = length file ≤ 20
+
+-- what is found of a file
+abbrev pub IsFound : Found → List ℕ → Type 0
+IsFound Already file = IsAlready file
+IsFound Closed file = (length file ≡ 21) × (slice_index file 0 ≢ 1)
+IsFound Short file = IsShort file
+
+-- nothing was sent, and the image is this file
+abbrev pub IsUntouched : List ℕ → List ℕ → List ℕ → List ℕ → Type 0
+IsUntouched file before image sent = (sent ≡ before) × (image ≡ file)

@@ -1,0 +1,176 @@
+//! The journal of a table's answers.
+ghost use Rattle.std.specs.Prelude.{◌≡◌, ◌<◌, ◌≤◌, ◌+◌, ◌++◌, ℕ, List, true, false, length, All, IfOk, OnOk, OnErr, IsErrOf};
+ghost use Rattle.audit_types.specs.declared.records.Answered.{Answered};
+ghost use Rattle.audit_types.specs.History.{FitsShape};
+ghost use Rattle.bench_core.specs.Causes.{HasCause, Rose};
+ghost use Rattle.bench_core.specs.Bench.{IsQuiet, LeavesOnly};
+ghost use Rattle.journal_form.specs.Journal.{StandsAt};
+ghost use Rattle.answer_journal.specs.Contents.{IsJournal, ReadyContents};
+ghost use Rattle.answer_journal.specs.Moments.{IsBeforeOrAfter};
+
+use crate::append::append_bytes;
+use crate::ready::Ready;
+use audit_types::{Answered, NoMemory, Shape};
+use bench_core::{Bench, Failed};
+use std::alloc::Global;
+use std::marker::Model;
+
+/// Why a group was not appended.
+#[derive(Clone, Copy, Debug, PartialEq, Eq)]
+pub enum AppendFault {
+    /// A call of the bench failed. The journal has to be read back.
+    Failed,
+    /// Nothing was called and nothing changed.
+    NoMemory,
+}
+
+/// Why a journal was not read back.
+#[derive(Clone, Copy, Debug, PartialEq, Eq)]
+pub enum BackFault {
+    /// The file is shorter than a journal, or its header gate isn't open.
+    NotMade,
+    /// The place of the first byte that breaks the grammar, or the file's length where it ends too early.
+    Damaged { at: u64 },
+    /// A call of the bench failed.
+    Failed,
+    NoMemory,
+}
+
+/// Where the journal of a bench ends, so that the next group may be appended there.
+#[derive(Drop)]
+pub struct Journal {
+    alloc: Global,
+    shape: Shape,
+    count: u32,
+    gate: u64,
+    usable: bool,
+}
+
+impl Model for Journal {
+    ghost use Rattle.answer_journal.specs.Contents.{JournalContents, IsJournal};
+
+    ghost Value = { JournalContents };
+
+    ghost view = { λ j. record { shape = j.shape; count = j.count; gate = j.gate; usable = j.usable } };
+
+    ghost invariant = { λ j. IsJournal (record { shape = j.shape; count = j.count; gate = j.gate; usable = j.usable }) };
+}
+
+impl Journal {
+    // A journal that ends at this gate.
+    pub(crate) fn ending_at(alloc: Global, shape: Shape, count: u32, gate: u64) -> Journal
+        requires { IsJournal (record { shape = shape; count = count; gate = gate; usable = true }) }
+        ensures { result ≡ record { shape = shape; count = count; gate = gate; usable = true } }
+    {
+        Journal {
+            alloc,
+            shape,
+            count,
+            gate,
+            usable: true,
+        }
+    }
+
+    /// Whether a group may be appended. After a failed append it may not.
+    pub fn usable(&self) -> bool
+        ensures { result ≡ self.now.usable }
+    {
+        self.usable
+    }
+
+    /// The shape that the journal's header names.
+    pub fn shape(&self) -> Shape
+        ensures shape { result ≡ self.now.shape }
+        ensures journal { IsJournal self.now }
+    {
+        self.shape
+    }
+
+    /// The number of its records.
+    pub fn count(&self) -> u32
+        ensures count { result ≡ self.now.count }
+        ensures few { self.now.count ≤ 65536 }
+    {
+        self.count
+    }
+
+    /// Makes a group ready. No call of the bench is needed, and none to append it takes memory.
+    pub fn ready(&self, list: &[Answered]) -> Result<Ready, NoMemory>
+        requires some { 0 < length list.now }
+        requires few { length list.now ≤ 64 }
+        requires fit { All (λ r. FitsShape self.now.shape r.column r.rows) list.now }
+        ensures { IfOk result (λ ready. (ready.shape ≡ self.now.shape) × (ready.list ≡ list.now)) }
+    {
+        Ready::new(self.alloc, self.shape, list)
+    }
+
+    /// Appends a group that is ready, in four calls of the bench.
+    pub fn append_ready<B: Bench>(&mut self, bench: &mut B, ready: &Ready) -> Result<(), Failed>
+        requires usable { self.old.usable ≡ true }
+        requires shape { ready.now.shape ≡ self.old.shape }
+        requires few { self.old.count + length ready.now.list ≤ 65536 }
+        requires stands { B.told → (history : List Answered) × StandsAt (B.file bench.old) self.old.shape history self.old.gate × (length history ≡ self.old.count) }
+
+        // A crash at any moment of the call leaves the history before it, or that with the whole group.
+        ensures any_moment { (history : List Answered) → B.told → StandsAt (B.file bench.old) self.old.shape history self.old.gate → length history ≡ self.old.count → IsQuiet (B.file bench.old) (B.leaves bench.old)
+            → LeavesOnly B.moment B.since bench.old bench.new (IsBeforeOrAfter self.old.shape history ready.now.list (B.sent bench.old)) }
+
+        ensures done { (history : List Answered) → B.told → StandsAt (B.file bench.old) self.old.shape history self.old.gate → length history ≡ self.old.count
+            → OnOk result (StandsAt (B.file bench.new) self.new.shape (history ++ ready.now.list) self.new.gate) }
+        ensures quiet { B.told → OnOk result (IsQuiet (B.file bench.new) (B.leaves bench.new)) }
+        ensures sent { B.sent bench.new ≡ B.sent bench.old }
+        ensures ticks { B.told → OnOk result (B.moment bench.new ≡ B.moment bench.old + 4) }
+        ensures cause { HasCause (B.faults bench.old) (B.faults bench.new) result }
+
+        ensures shape { self.new.shape ≡ self.old.shape }
+        ensures counted { OnOk result (self.new.count ≡ self.old.count + length ready.now.list) }
+        ensures usable { OnOk result (self.new.usable ≡ true) }
+        ensures unusable { OnErr result (self.new.usable ≡ false) }
+    {
+        self.usable = false;
+        let bytes = ready.bytes();
+        append_bytes(bench, self.gate, bytes)?;
+        self.gate += bytes.len() as u64;
+        self.count += ready.len() as u32;
+        self.usable = true;
+        Ok(())
+    }
+
+    /// Appends a group: makes it ready, and then appends it in four calls of the bench. All memory is taken before the
+    /// first of them.
+    pub fn append<B: Bench>(&mut self, bench: &mut B, list: &[Answered]) -> Result<(), AppendFault>
+        requires usable { self.old.usable ≡ true }
+        requires some { 0 < length list.now }
+        requires group { length list.now ≤ 64 }
+        requires fit { All (λ r. FitsShape self.old.shape r.column r.rows) list.now }
+        requires few { self.old.count + length list.now ≤ 65536 }
+        requires stands { B.told → (history : List Answered) × StandsAt (B.file bench.old) self.old.shape history self.old.gate × (length history ≡ self.old.count) }
+
+        // A crash at any moment of the call leaves the history before it, or that with the whole group.
+        ensures any_moment { (history : List Answered) → B.told → StandsAt (B.file bench.old) self.old.shape history self.old.gate → length history ≡ self.old.count → IsQuiet (B.file bench.old) (B.leaves bench.old)
+            → LeavesOnly B.moment B.since bench.old bench.new (IsBeforeOrAfter self.old.shape history list.now (B.sent bench.old)) }
+
+        ensures done { (history : List Answered) → B.told → StandsAt (B.file bench.old) self.old.shape history self.old.gate → length history ≡ self.old.count
+            → OnOk result (StandsAt (B.file bench.new) self.new.shape (history ++ list.now) self.new.gate) }
+        ensures quiet { B.told → OnOk result (IsQuiet (B.file bench.new) (B.leaves bench.new)) }
+        ensures sent { B.sent bench.new ≡ B.sent bench.old }
+        ensures ticks { B.told → OnOk result (B.moment bench.new ≡ B.moment bench.old + 4) }
+
+        // Where memory is wanted nothing was called and nothing changed. It doesn't fail by itself.
+        ensures no_memory { IsErrOf result AppendFault.NoMemory → (bench.new ≡ bench.old) × (self.new ≡ self.old) }
+        ensures failed { IsErrOf result AppendFault.Failed → Rose (B.faults bench.old) (B.faults bench.new) × (self.new.usable ≡ false) }
+        ensures later { B.faults bench.old ≤ B.faults bench.new }
+
+        ensures shape { self.new.shape ≡ self.old.shape }
+        ensures counted { OnOk result (self.new.count ≡ self.old.count + length list.now) }
+        ensures usable { OnOk result (self.new.usable ≡ true) }
+    {
+        match self.ready(list) {
+            Err(NoMemory) => Err(AppendFault::NoMemory),
+            Ok(ready) => match self.append_ready(bench, &ready) {
+                Ok(()) => Ok(()),
+                Err(Failed) => Err(AppendFault::Failed),
+            },
+        }
+    }
+}

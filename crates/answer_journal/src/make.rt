@@ -1,0 +1,126 @@
+//! Making the journal of a table beside it.
+ghost use Rattle.std.specs.Prelude.{◌≡◌, ◌≢◌, ◌<◌, ◌≤◌, ℕ, List, [], ◌∷◌, ◌++◌, length, slice_index, IfOk, OnOk, OnErr, IsErr, IsErrOf};
+ghost use Rattle.audit_types.specs.Shapes.{IsShape};
+ghost use Rattle.bench_core.specs.Causes.{HasCause, Rose};
+ghost use Rattle.bench_core.specs.Bench.{IsQuiet, LeavesOnly};
+ghost use Rattle.journal_form.specs.Journal.{StandsAt};
+ghost use Rattle.answer_journal.specs.Moments.{IsAlready, IsUnmadeOrEmpty, IsShort, IsFound, IsUntouched};
+
+use crate::append::append_bytes;
+use crate::journal::Journal;
+use audit_types::Shape;
+use bench_core::{Bench, Failed};
+use journal_form::write_header;
+
+/// Why no journal was made.
+#[derive(Clone, Copy, Debug, PartialEq, Eq)]
+pub enum MakeFault {
+    /// There is one, or another file. Nothing was written.
+    AlreadyThere,
+    /// A call of the bench failed. It may be made again.
+    Failed,
+}
+
+/// What stands where a journal is to be made: one, or more than a fresh one's bytes; as many bytes as a fresh one, behind
+/// a closed header gate; or fewer.
+#[derive(Clone, Copy, Debug, PartialEq, Eq)]
+pub enum Found {
+    Already,
+    Closed,
+    Short,
+}
+
+fn look<B: Bench>(bench: &mut B) -> Result<Found, Failed>
+    ensures found { B.told → IfOk result (λ what. IsFound what (B.file bench.old)) }
+    ensures untouched { B.told → IsQuiet (B.file bench.old) (B.leaves bench.old) → LeavesOnly B.moment B.since bench.old bench.new (IsUntouched (B.file bench.old) (B.sent bench.old)) }
+    ensures file { B.file bench.new ≡ B.file bench.old }
+    ensures sent { B.sent bench.new ≡ B.sent bench.old }
+    ensures crash { (image : List ℕ) → B.leaves bench.new image → B.leaves bench.old image }
+    ensures cause { HasCause (B.faults bench.old) (B.faults bench.new) result }
+{
+    let length = bench.length()?;
+    if length < 21 {
+        return Ok(Found::Short);
+    }
+    if length > 21 {
+        return Ok(Found::Already);
+    }
+    let mut gate = [0];
+    bench.read_at(0, &mut gate)?;
+    if gate[0] == 1 { Ok(Found::Already) } else { Ok(Found::Closed) }
+}
+
+// Closes the header gate of a file that is shorter than a journal.
+fn shut<B: Bench>(bench: &mut B) -> Result<(), Failed>
+    requires { B.told → IsShort (B.file bench.old) }
+    ensures any_moment { B.told → IsQuiet (B.file bench.old) (B.leaves bench.old) → LeavesOnly B.moment B.since bench.old bench.new (λ image sent. (sent ≡ B.sent bench.old) × IsShort image) }
+    ensures done { B.told → OnOk result (IsShort (B.file bench.new) × (0 < length (B.file bench.new)) × (slice_index (B.file bench.new) 0 ≡ 0)) }
+    ensures quiet { B.told → OnOk result (IsQuiet (B.file bench.new) (B.leaves bench.new)) }
+    ensures sent { B.sent bench.new ≡ B.sent bench.old }
+    ensures cause { HasCause (B.faults bench.old) (B.faults bench.new) result }
+{
+    bench.write_at(0, &[0])?;
+    bench.sync()?;
+    Ok(())
+}
+
+// Writes a fresh journal behind its closed header gate, and opens the gate.
+fn open<B: Bench>(bench: &mut B, shape: &Shape) -> Result<(), Failed>
+    requires shape { IsShape shape.now }
+    requires closed { B.told → (0 < length (B.file bench.old)) × (slice_index (B.file bench.old) 0 ≢ 1) }
+    ensures any_moment { B.told → IsQuiet (B.file bench.old) (B.leaves bench.old) → LeavesOnly B.moment B.since bench.old bench.new (IsUnmadeOrEmpty shape.now (B.sent bench.old)) }
+    ensures done { B.told → OnOk result (StandsAt (B.file bench.new) shape.now [] 20) }
+    ensures quiet { B.told → OnOk result (IsQuiet (B.file bench.new) (B.leaves bench.new)) }
+    ensures sent { B.sent bench.new ≡ B.sent bench.old }
+    ensures cause { HasCause (B.faults bench.old) (B.faults bench.new) result }
+{
+    let mut header = [0; 21];
+    write_header(shape, &mut header);
+    append_bytes(bench, 0, &header[1..])
+}
+
+// Makes a journal over fewer bytes than one has.
+fn make_short<B: Bench>(bench: &mut B, shape: &Shape) -> Result<(), Failed>
+    requires shape { IsShape shape.now }
+    requires short { B.told → IsShort (B.file bench.old) }
+    ensures any_moment { B.told → IsQuiet (B.file bench.old) (B.leaves bench.old) → LeavesOnly B.moment B.since bench.old bench.new (IsUnmadeOrEmpty shape.now (B.sent bench.old)) }
+    ensures done { B.told → OnOk result (StandsAt (B.file bench.new) shape.now [] 20) }
+    ensures quiet { B.told → OnOk result (IsQuiet (B.file bench.new) (B.leaves bench.new)) }
+    ensures sent { B.sent bench.new ≡ B.sent bench.old }
+    ensures cause { HasCause (B.faults bench.old) (B.faults bench.new) result }
+{
+    shut(bench)?;
+    open(bench, shape)
+}
+
+impl Journal {
+    /// Makes the journal of an empty history: the header behind a closed gate, which is opened once it is stable. After
+    /// `Failed` it may be called again; what a crash leaves is then promised where the bench is quiet again.
+    pub fn make<B: Bench>(bench: &mut B, shape: &Shape) -> Result<(), MakeFault>
+        requires { IsShape shape.now }
+
+        // It is refused exactly where a journal or another file is there, and then nothing was written.
+        ensures already { B.told → IsErrOf result MakeFault.AlreadyThere → IsAlready (B.file bench.old) × (B.file bench.new ≡ B.file bench.old) }
+        ensures refused { B.told → IsAlready (B.file bench.old) → IsErr result }
+        ensures untouched { B.told → IsAlready (B.file bench.old) → IsQuiet (B.file bench.old) (B.leaves bench.old) → LeavesOnly B.moment B.since bench.old bench.new (IsUntouched (B.file bench.old) (B.sent bench.old)) }
+
+        // A crash at any moment leaves a file that isn't made, or the made one.
+        ensures any_moment { B.told → (IsAlready (B.file bench.old) → ⊥) → IsQuiet (B.file bench.old) (B.leaves bench.old) → LeavesOnly B.moment B.since bench.old bench.new (IsUnmadeOrEmpty shape.now (B.sent bench.old)) }
+        ensures done { B.told → OnOk result (StandsAt (B.file bench.new) shape.now [] 20) }
+        ensures quiet { B.told → OnOk result (IsQuiet (B.file bench.new) (B.leaves bench.new)) }
+        ensures sent { B.sent bench.new ≡ B.sent bench.old }
+        ensures failed { IsErrOf result MakeFault.Failed → Rose (B.faults bench.old) (B.faults bench.new) }
+        ensures later { B.faults bench.old ≤ B.faults bench.new }
+    {
+        let made = match look(bench) {
+            Err(Failed) => return Err(MakeFault::Failed),
+            Ok(Found::Already) => return Err(MakeFault::AlreadyThere),
+            Ok(Found::Closed) => open(bench, shape),
+            Ok(Found::Short) => make_short(bench, shape),
+        };
+        match made {
+            Ok(()) => Ok(()),
+            Err(Failed) => Err(MakeFault::Failed),
+        }
+    }
+}

@@ -1,0 +1,19 @@
+use Rattle.std.proofs.Common.{length, ap, refl, ◌∙◌}
+use Rattle.bench_core.specs.Machine.{State, other}
+use Rattle.bench_core.proofs.Steps.{passed_state, time_unsent, same_images}
+use Rattle.bench_core.proofs.memory_bench.MemoryBenchBench.length.Goals as goal
+
+pub returns-clause-file : goal.returns-clause-file
+returns-clause-file c = rw c.pass.ensures (ap (λ (s : State). s.file) (passed_state c.args.self.now other))
+
+pub returns-clause-sent : goal.returns-clause-sent
+returns-clause-sent c = rw c.pass.ensures (ap (λ (s : State). s.sent) (passed_state c.args.self.now other))
+
+pub returns-clause-crash : goal.returns-clause-crash
+returns-clause-crash c = rw c.pass.ensures (same_images c.args.self.now)
+
+pub returns-clause-time : goal.returns-clause-time
+returns-clause-time c = rw c.pass.ensures (time_unsent c.args.self.now other (λ image sent found. found) refl)
+
+pub returns-clause-length : goal.returns-clause-length
+returns-clause-length c = λ told. ap length (c.file.ensures.file ∙ (rw c.pass.ensures (ap (λ (s : State). s.file) (passed_state c.args.self.now other))))

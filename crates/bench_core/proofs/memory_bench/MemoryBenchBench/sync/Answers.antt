@@ -1,0 +1,19 @@
+use Rattle.std.proofs.Common.{ap, refl}
+use Rattle.bench_core.specs.Machine.{State, synced}
+use Rattle.bench_core.proofs.Steps.{passed_state, time_unsent, synced_file, synced_images}
+use Rattle.bench_core.proofs.memory_bench.MemoryBenchBench.sync.Goals as goal
+
+pub returns-clause-file : goal.returns-clause-file
+returns-clause-file c = rw c.pass_sync.ensures (ap (λ (s : State). s.file) (passed_state c.args.self.now synced))
+
+pub returns-clause-sent : goal.returns-clause-sent
+returns-clause-sent c = rw c.pass_sync.ensures (ap (λ (s : State). s.sent) (passed_state c.args.self.now synced))
+
+pub returns-clause-crash : goal.returns-clause-crash
+returns-clause-crash c = rw c.pass_sync.ensures (synced_images c.args.self.now)
+
+pub returns-clause-time : goal.returns-clause-time
+returns-clause-time c = rw c.pass_sync.ensures (time_unsent c.args.self.now synced (λ image sent found. found) refl)
+
+pub returns-clause-stable : goal.returns-clause-stable
+returns-clause-stable c = λ told. rw c.pass_sync.ensures (synced_file c.args.self.now)

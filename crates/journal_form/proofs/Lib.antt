@@ -1,0 +1,5 @@
+pub mod Reading
+pub mod Headers
+pub mod Sets
+pub mod Records
+pub mod Groups
