@@ -1,5 +1,5 @@
 -- Reading a journal from its front, group by group.
-use Rattle.std.proofs.Common.{◌≡◌, ◌≢◌, ℕ, zero, suc, ◌+◌, ◌-◌, ◌*◌, ◌<◌, ◌≤◌, ◌⊎◌, inl, inr, List, [], ◌∷◌, ◌++◌, length, get_or, take, drop, refl, sym, ap, subst, ◌∙◌, arith, append_assoc, append-nil, add-one, one-add, Result, Err, length-append, length-take, length-drop, take-add}
+use Rattle.std.proofs.Common.{◌≡◌, ◌≢◌, ℕ, ◌+◌, ◌-◌, ◌<◌, ◌≤◌, inl, inr, List, [], ◌∷◌, ◌++◌, length, get_or, take, drop, refl, sym, ap, subst, ◌∙◌, arith, append_assoc, append-nil, add-one, one-add, Result, Err, length-append, length-take, length-drop, take-add}
 use Rattle.std.proofs.Math.Seq.{drop-cons}
 use Rattle.std.proofs.lemmas.List.{take-append-drop, take_all, get_or-take, nil_from_length}
 use Rattle.std.proofs.lemmas.List.Concat.{flat_map-cons}
@@ -8,7 +8,7 @@ use Rattle.audit_types.specs.declared.shapes.Shape.{Shape}
 use Rattle.audit_types.specs.declared.records.Answered.{Answered}
 use Rattle.journal_form.specs.Header.{header, IsWholeShape, IsGoodHeaderByte, HeaderBreaks}
 use Rattle.journal_form.specs.Group.{IsGroup, GroupBreaks}
-use Rattle.journal_form.specs.Journal.{Written, AreGroups, texts, records, gate_behind, Begins, IsClosed, StandsAt, BreaksBehind}
+use Rattle.journal_form.specs.Journal.{Written, AreGroups, texts, records, gate_behind, Begins, StandsAt, BreaksBehind}
 use Rattle.answer_journal.specs.declared.journal.BackFault.{BackFault}
 use Rattle.answer_journal.specs.declared.journal.BackFault.TheVariants.{Damaged}
 use Rattle.answer_journal.specs.declared.reading.Contents.{Contents}
@@ -48,7 +48,7 @@ module _ (bytes : List ℕ) (shape : Shape) (list : List Answered) (gate : ℕ) 
   pub read_ends : gate < length bytes → get_or bytes gate 0 ≢ 1 → StandsAt bytes shape list gate
   read_ends lt closed =
       stands_by bytes shape list gate read.groups (drop gate bytes) read.shaped read.whole read.few read.list_is read.gate_is
-          (record { gate = get_or bytes gate 0; rest = drop (gate + 1) bytes; bytes_are = at_gate lt; closed = closed }) parts
+      (record { gate = get_or bytes gate 0; rest = drop (gate + 1) bytes; bytes_are = at_gate lt; closed = closed }) parts
 
   begins : Begins bytes shape read.groups (drop gate bytes)
   begins = record { shaped = read.shaped; whole = read.whole; file_is = parts ∙ append_assoc (header shape) (texts read.groups) (drop gate bytes); few = omega (arith, read.few, ap length read.list_is) }
@@ -96,6 +96,7 @@ module _ (bytes : List ℕ) (shape : Shape) (list : List Answered) (gate : ℕ) 
     where
       take-more : (n : ℕ) (rest : List ℕ) → take (1 + n) (1 ∷ rest) ≡ 1 ∷ take n rest
       take-more n rest = rw one-add refl
+
       whole_more : (gs : List Written) (g : Written) → AreGroups shape gs → IsGroup shape g.text g.list → AreGroups shape (gs ++ g ∷ [])
       whole_more [] g whole is = (is, tt)
       whole_more (first ∷ gs) g whole is = (whole.0, whole_more gs g whole.1 is)

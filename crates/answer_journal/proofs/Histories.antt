@@ -1,16 +1,15 @@
 -- What a file and its images stand for while a group is appended.
-use Rattle.std.proofs.Common.{◌≡◌, ◌≢◌, ℕ, zero, suc, ◌+◌, ◌-◌, ◌*◌, ◌<◌, ◌≤◌, ◌⊎◌, inl, inr, true, List, [], ◌∷◌, ◌++◌, length, get_or, take, drop, refl, sym, ap, subst, ◌∙◌, arith, append_assoc, append-nil, add-one, length-append, length-take, length-drop}
+use Rattle.std.proofs.Common.{◌≡◌, ℕ, ◌+◌, ◌*◌, ◌<◌, ◌≤◌, inl, inr, true, List, [], ◌∷◌, ◌++◌, length, get_or, take, drop, refl, sym, ap, subst, ◌∙◌, arith, append_assoc, append-nil, add-one, length-append, length-take, length-drop}
 use Rattle.std.proofs.Math.Seq.{drop-cons}
 use Rattle.std.proofs.lemmas.Bool.{cases_eq}
-use Rattle.std.proofs.lemmas.List.{take_at, drop_at, take-append-drop}
+use Rattle.std.proofs.lemmas.List.{take_at, take-append-drop}
 use Rattle.std.proofs.lemmas.List.Concat.{flat_map-append, flat_map-cons}
 use Rattle.audit_types.specs.declared.shapes.Shape.{Shape}
 use Rattle.audit_types.specs.declared.records.Answered.{Answered}
 use Rattle.audit_types.specs.Shapes.{IsShape}
 use Rattle.journal_form.specs.Header.{header, IsWholeShape}
-use Rattle.journal_form.specs.Record.{record_size}
 use Rattle.journal_form.specs.Group.{AreRecords, IsGroup}
-use Rattle.journal_form.specs.Journal.{Written, AreGroups, texts, records, gate_behind, Begins, IsClosed, StandsAt, StandsFor}
+use Rattle.journal_form.specs.Journal.{Written, AreGroups, texts, records, gate_behind, IsClosed, StandsAt}
 use Rattle.answer_journal.specs.Append.{Appending, appended}
 use Rattle.answer_journal.specs.Moments.{IsBeforeOrAfter}
 use Rattle.answer_journal.specs.Contents.{IsReady, IsJournal}
@@ -80,9 +79,9 @@ module _ (file : List ℕ) (shape : Shape) (history : List Answered) (gate : ℕ
         let groups : List Written = stands.groups ++ record { text = text; list = list } ∷ [] in
         let more : texts groups ≡ texts stands.groups ++ (1 ∷ text) = texts-push stands.groups in
         let regrouped : front ++ (1 ∷ ((text ++ 0 ∷ []) ++ rest)) ≡ (header shape ++ texts groups) ++ (0 ∷ rest) =
-            ap (λ t. front ++ (1 ∷ t)) (append_assoc text (0 ∷ []) rest) ∙ sym (append_assoc front (1 ∷ text) (0 ∷ rest)) ∙ ap (λ t. t ++ (0 ∷ rest)) (append_assoc (header shape) (texts stands.groups) (1 ∷ text) ∙ ap (λ t. header shape ++ t) (sym more)) in
+        ap (λ t. front ++ (1 ∷ t)) (append_assoc text (0 ∷ []) rest) ∙ sym (append_assoc front (1 ∷ text) (0 ∷ rest)) ∙ ap (λ t. t ++ (0 ∷ rest)) (append_assoc (header shape) (texts stands.groups) (1 ∷ text) ∙ ap (λ t. header shape ++ t) (sym more)) in
         stands_by image shape (history ++ list) (gate + (length text + 1)) groups (0 ∷ rest) stands.begins.shaped (all_groups stands.groups stands.begins.whole) (omega (arith, length-append history list, room))
-            (ap (λ t. t ++ list) stands.history_is ∙ sym (records-push stands.groups)) (omega (arith, stands.gate_is, ap length more, length-append (texts stands.groups) (1 ∷ text))) (record { gate = 0; rest = rest; bytes_are = refl; closed = λ e. cc }) (is ∙ regrouped)
+        (ap (λ t. t ++ list) stands.history_is ∙ sym (records-push stands.groups)) (omega (arith, stands.gate_is, ap length more, length-append (texts stands.groups) (1 ∷ text))) (record { gate = 0; rest = rest; bytes_are = refl; closed = λ e. cc }) (is ∙ regrouped)
 
     -- what a crash while the group is appended leaves
     pub appending : (before image sent : List ℕ) → Appending gate (text ++ 0 ∷ []) file before image sent → IsBeforeOrAfter shape history list before image sent
@@ -123,7 +122,7 @@ module _ (file bytes : List ℕ) (shape other : Shape) (history list : List Answ
   pub at_every_moment : {D : Type 0} (moment : D → ℕ) (since : D → ℕ → List ℕ → List ℕ → Type 0) (old new : D) (before : List ℕ) → LeavesOnly moment since old new (Appending gate bytes file before) → LeavesOnly moment since old new (IsBeforeOrAfter shape history list before)
   at_every_moment moment since old new before only =
       weakens moment since old new (Appending gate bytes file before) (IsBeforeOrAfter shape history list before)
-          (λ image sent found. appending file shape history gate stands ready.text list group room before image sent (subst (λ b. Appending gate b file before image sent) ready.bytes_are found)) only
+      (λ image sent found. appending file shape history gate stands ready.text list group room before image sent (subst (λ b. Appending gate b file before image sent) ready.bytes_are found)) only
 
   pub at_end : (new : List ℕ) → new ≡ appended gate bytes file → StandsAt new shape (history ++ list) (gate + length bytes)
   at_end new is =

@@ -1,22 +1,22 @@
 -- What a crash leaves while a journal is made.
-use Rattle.std.proofs.Common.{◌≡◌, ◌≢◌, ℕ, zero, suc, ◌+◌, ◌-◌, ◌<◌, ◌≤◌, ◌⊎◌, inl, inr, List, [], ◌∷◌, ◌++◌, length, get_or, take, drop, refl, sym, ap, subst, ◌∙◌, arith, append_assoc, append-nil, length-append, length-take, length-drop}
+use Rattle.std.proofs.Common.{◌≡◌, ◌≢◌, ℕ, ◌+◌, ◌<◌, inl, inr, List, [], ◌∷◌, ◌++◌, length, get_or, take, drop, refl, sym, ap, ◌∙◌, arith, append_assoc, append-nil, length-append, length-take, length-drop}
 use Rattle.std.proofs.Math.Seq.{drop-cons}
 use Rattle.std.proofs.lemmas.Bool.{cases_eq}
 use Rattle.std.proofs.lemmas.List.{take-append-drop, get_or-take, take_all}
 use Rattle.audit_types.specs.declared.shapes.Shape.{Shape}
 use Rattle.journal_form.specs.Header.{header, named, IsWholeShape}
-use Rattle.journal_form.specs.Journal.{StandsAt, StandsFor}
+use Rattle.journal_form.specs.Journal.{StandsAt}
 use Rattle.bench_core.specs.Bench.{LeavesOnly}
-use Rattle.bench_core.specs.Moments.{weakens, joins}
+use Rattle.bench_core.specs.Moments.{weakens}
 use Rattle.answer_journal.specs.Append.{Appending, appended}
-use Rattle.answer_journal.specs.Moments.{IsMade, IsShort, IsUnmadeOrEmpty}
+use Rattle.answer_journal.specs.Moments.{IsShort, IsUnmadeOrEmpty}
 use Rattle.answer_journal.proofs.Histories.{stands_by}
 
 -- a header and a closed gate stand for the empty history
 pub fresh : (image : List ℕ) (shape : Shape) (rest : List ℕ) → IsWholeShape shape → image ≡ 1 ∷ ((named shape ++ 0 ∷ []) ++ rest) → StandsAt image shape [] 20
 fresh image shape rest shaped is =
     stands_by image shape [] 20 [] (0 ∷ rest) shaped tt (omega arith) refl refl (record { gate = 0; rest = rest; bytes_are = refl; closed = λ e. cc })
-        (is ∙ ap (λ t. 1 ∷ t) (append_assoc (named shape) (0 ∷ []) rest) ∙ ap (λ t. t ++ (0 ∷ rest)) (sym (append-nil (header shape))))
+    (is ∙ ap (λ t. 1 ∷ t) (append_assoc (named shape) (0 ∷ []) rest) ∙ ap (λ t. t ++ (0 ∷ rest)) (sym (append-nil (header shape))))
 
 module _ (file : List ℕ) (shape : Shape) (shaped : IsWholeShape shape) (some : 0 < length file) (closed : get_or file 0 0 ≢ 1) where
   -- what a crash while the header is opened leaves

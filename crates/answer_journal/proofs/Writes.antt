@@ -1,5 +1,5 @@
 -- What each of the two writes of a group leaves.
-use Rattle.std.proofs.Common.{◌≡◌, ℕ, ◌+◌, ◌<◌, ◌≤◌, min, List, [], ◌∷◌, ◌++◌, length, take, drop, inl, inr, sym, ◌∙◌, ap, subst, arith, length-take, length-append, append_assoc}
+use Rattle.std.proofs.Common.{◌≡◌, ℕ, ◌+◌, ◌<◌, List, [], ◌∷◌, ◌++◌, length, take, drop, inl, inr, ◌∙◌, ap, subst, arith, append_assoc}
 use Rattle.std.proofs.lemmas.List.{take_at, take-take, drop_at, take-append-le, length-take-le}
 use Rattle.bench_core.specs.Bench.{Holds, Torn, Follows, IsQuiet}
 use Rattle.answer_journal.specs.Append.{Appending, appended}

@@ -4,7 +4,7 @@ use Rattle.audit_types.specs.declared.shapes.Shape.{Shape}
 use Rattle.audit_types.specs.declared.records.Answered.{Answered}
 use Rattle.answer_journal.specs.declared.make.Found.{Found}
 use Rattle.answer_journal.specs.declared.make.Found.TheVariants.{Already, Closed, Short}
-use Rattle.journal_form.specs.Journal.{StandsFor, StandsAt}
+use Rattle.journal_form.specs.Journal.{StandsFor}
 
 -- nothing was sent, and the image stands for the history before, or for that with the whole group
 abbrev pub IsBeforeOrAfter : Shape → List Answered → List Answered → List ℕ → List ℕ → List ℕ → Type 0

@@ -47,7 +47,11 @@ fn look<B: Bench>(bench: &mut B) -> Result<Found, Failed>
     }
     let mut gate = [0];
     bench.read_at(0, &mut gate)?;
-    if gate[0] == 1 { Ok(Found::Already) } else { Ok(Found::Closed) }
+    if gate[0] == 1 {
+        Ok(Found::Already)
+    } else {
+        Ok(Found::Closed)
+    }
 }
 
 // Closes the header gate of a file that is shorter than a journal.

@@ -1,6 +1,5 @@
-use Rattle.std.proofs.Common.{rules, ◌≡◌, List, ℕ, length, take, arith, ap, sym, subst, inl, ◌∙◌}
+use Rattle.std.proofs.Common.{rules, ◌≡◌, List, ℕ, take, arith, subst, inl}
 use Rattle.journal_form.specs.Header.{HeaderBreaks}
-use Rattle.journal_form.specs.Journal.{BreaksAt}
 use Rattle.answer_journal.proofs.Backs.{header_breaks}
 use Rattle.answer_journal.proofs.reading.read_all.Goals as goal
 

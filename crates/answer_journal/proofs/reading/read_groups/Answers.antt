@@ -1,7 +1,7 @@
-use Rattle.std.proofs.Common.{rules, ◌≡◌, ◌+◌, ◌-◌, ◌++◌, List, ℕ, length, take, drop, arith, ap, sym, subst, refl, ◌∙◌, Err}
+use Rattle.std.proofs.Common.{rules, ◌≡◌, ◌+◌, ◌-◌, ◌++◌, ℕ, length, drop, arith, ap, sym, subst, ◌∙◌, Err}
 use Rattle.journal_form.specs.Group.{GroupBreaks}
 use Rattle.journal_form.specs.Journal.{BreaksBehind}
-use Rattle.answer_journal.proofs.Backs.{IsReadSoFar, read_none, read_ends, read_more, breaks_in_group, rest_is, damaged_at}
+use Rattle.answer_journal.proofs.Backs.{read_none, read_ends, read_more, breaks_in_group, rest_is, damaged_at}
 use Rattle.answer_journal.proofs.reading.read_groups.Goals as goal
 
 pub loop-gate-init : goal.loop-gate-init

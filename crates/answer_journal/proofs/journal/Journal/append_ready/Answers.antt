@@ -1,10 +1,6 @@
-use Rattle.std.proofs.Common.{◌≡◌, ◌≤◌, ◌+◌, ◌++◌, List, ℕ, length, arith, ap, sym, subst, ◌∙◌, length-append, ◌∷◌, []}
-use Rattle.audit_types.specs.declared.records.Answered.{Answered}
-use Rattle.audit_types.specs.declared.shapes.Shape.{Shape}
-use Rattle.bench_core.specs.Bench.{LeavesOnly}
+use Rattle.std.proofs.Common.{◌≡◌, ◌≤◌, ◌+◌, ℕ, length, arith, ap, sym, subst, ◌∙◌, length-append, ◌∷◌, []}
 use Rattle.journal_form.specs.Journal.{StandsAt}
-use Rattle.answer_journal.specs.Contents.{JournalContents, IsJournal}
-use Rattle.answer_journal.specs.Moments.{IsBeforeOrAfter}
+use Rattle.answer_journal.specs.Contents.{JournalContents}
 use Rattle.answer_journal.proofs.Histories.{at_every_moment, at_end, group_long, group_some}
 use Rattle.answer_journal.proofs.journal.Journal.append_ready.Goals as goal
 
