@@ -5,9 +5,9 @@ ghost use Rattle.std.specs.Io.{ReadsAtMost};
 ghost use Rattle.bench_core.specs.Causes.{HasCause};
 
 use bench_core::{Bench, Failed, Source};
-use std::fs::{Files, OpenOptions};
+use std::fs::{Files, OpenFile, OpenOptions};
 use std::io;
-use std::io::{Read, Write};
+use std::io::{Read, Seek, SeekFrom, Write};
 
 // Hands on what std answers, and counts an error.
 fn count_error<T>(answer: io::Result<T>, faults: &mut u64) -> Result<T, Failed>
@@ -102,17 +102,65 @@ impl<I: Read + Drop> Source for InputSource<I> {
     }
 }
 
-/// Standard output.
+/// The journal's file, opened for reading and writing at the first call on it and made where it isn't there, and standard
+/// output.
 #[derive(Drop)]
-pub struct FileBench<'a, R: Print> {
+pub struct FileBench<'a, R: Files + Print> {
     rt: &'a R,
+    path: &'static str,
+    file: Option<R::File>,
     faults: u64,
 }
 
-impl<'a, R: Print> FileBench<'a, R> {
-    pub fn new(rt: &'a R) -> Self {
-        FileBench { rt, faults: 0 }
+impl<'a, R: Files + Print> FileBench<'a, R> {
+    pub fn new(rt: &'a R, path: &'static str) -> Self {
+        FileBench {
+            rt,
+            path,
+            file: None,
+            faults: 0,
+        }
     }
+}
+
+fn opened<'f, R: Files>(
+    rt: &R,
+    path: &str,
+    file: &'f mut Option<R::File>,
+) -> io::Result<&'f mut R::File> {
+    if file.is_none() {
+        let made = OpenOptions::new()
+            .read(true)
+            .write(true)
+            .create(true)
+            .open(rt, path)?;
+        *file = Some(made);
+    }
+    file.as_mut().ok_or(io::Error::from(io::ErrorKind::NotFound))
+}
+
+fn length_of<F: OpenFile>(file: &F) -> io::Result<u64> {
+    Ok(file.metadata()?.len())
+}
+
+// Reads until the buffer is full or the file ends.
+fn read_whole<F: Read + Seek>(file: &mut F, at: u64, buf: &mut [u8]) -> io::Result<usize>
+    ensures { ReadsAtMost result buf.new }
+{
+    file.seek(SeekFrom::Start(at))?;
+    let mut count = 0;
+    while count < buf.len() {
+        match file.read(&mut buf[count..])? {
+            0 => break,
+            more => count += more,
+        }
+    }
+    Ok(count)
+}
+
+fn write_whole<F: Write + Seek>(file: &mut F, at: u64, piece: &[u8]) -> io::Result<()> {
+    file.seek(SeekFrom::Start(at))?;
+    file.write_all(piece)
 }
 
 // Where a write takes nothing, `write_all` answers an error.
@@ -122,16 +170,60 @@ fn write_out<R: Print>(rt: &R, piece: &[u8]) -> io::Result<()> {
     out.flush()
 }
 
-impl<R: Print> Bench for FileBench<'_, R> {
+impl<R: Files + Print> Bench for FileBench<'_, R> {
     ghost told = { ⊥ };
+
+    ghost file = { λ _. [] };
 
     ghost sent = { λ _. [] };
 
+    ghost leaves = { λ _ _. ⊥ };
+
     ghost moment = { λ _. 0 };
 
+    ghost since = { λ _ _ _ _. ⊥ };
+
     ghost faults = { λ s. s.faults };
+
+    fn length(&mut self) -> Result<u64, Failed> {
+        let length = match opened(self.rt, self.path, &mut self.file) {
+            Ok(file) => length_of(file),
+            Err(error) => Err(error),
+        };
+        count_error(length, &mut self.faults)
+    }
+
+    fn read_at(&mut self, at: u64, buf: &mut [u8]) -> Result<usize, Failed> {
+        let count = match opened(self.rt, self.path, &mut self.file) {
+            Ok(file) => read_whole(file, at, buf),
+            Err(error) => Err(error),
+        };
+        count_error(count, &mut self.faults)
+    }
+
+    fn write_at(&mut self, at: u64, piece: &[u8]) -> Result<(), Failed> {
+        let done = match opened(self.rt, self.path, &mut self.file) {
+            Ok(file) => write_whole(file, at, piece),
+            Err(error) => Err(error),
+        };
+        count_error(done, &mut self.faults)
+    }
+
+    fn sync(&mut self) -> Result<(), Failed> {
+        let done = match opened(self.rt, self.path, &mut self.file) {
+            Ok(file) => file.sync_all(),
+            Err(error) => Err(error),
+        };
+        count_error(done, &mut self.faults)
+    }
 
     fn send(&mut self, piece: &[u8]) -> Result<(), Failed> {
         count_error(write_out(self.rt, piece), &mut self.faults)
     }
+
+    ghost reads = { λ bench told. absurd told };
+
+    ghost counts_now = { λ bench t image le left. absurd left };
+
+    ghost only_now = { λ bench image bytes since. absurd since };
 }

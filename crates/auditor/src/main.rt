@@ -35,8 +35,8 @@ fn run_on_files(rt: &HostRuntime, words: &Vec<String>) -> Status {
     let mut schema = FileSource::new(rt, "schema.json");
     let mut table = FileSource::new(rt, "table.csv");
     let mut input = InputSource::new(rt.stdin());
-    let mut bench = FileBench::new(rt);
-    let mut spare = FileBench::new(rt);
+    let mut bench = FileBench::new(rt, "answers.journal");
+    let mut spare = FileBench::new(rt, "answers.spare");
     run(
         rt.alloc(),
         words,
