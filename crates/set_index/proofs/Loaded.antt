@@ -1,12 +1,12 @@
 -- What a file means has the columns of its schema.
-use Rattle.std.proofs.Common.{◌≡◌, ℕ, zero, suc, List, [], ◌∷◌, Option, Some, None, Result, Ok, Err, length, subst, ap}
+use Rattle.std.proofs.Common.{◌≡◌, ℕ, zero, suc, List, [], ◌∷◌, Option, Some, None, Ok, length, subst, ap}
 use Rattle.schema_json.specs.Columns.{Column, role_at}
 use Rattle.schema_json.specs.declared.roles.Role.{Role}
 use Rattle.schema_json.specs.declared.roles.Role.TheVariants.{Text, Number, Sum, Max}
-use Rattle.table_load.specs.Cells.{PublicView, TableView, hidden, cells_at}
+use Rattle.table_load.specs.Cells.{PublicView, TableView, cells_at}
 use Rattle.table_load.specs.Faults.{unless_fault}
 use Rattle.table_load.specs.Reading.{Fields}
-use Rattle.table_load.specs.Tables.{cells_of, cells_from, place_after, public_in, data_of, table_of, public_of}
+use Rattle.table_load.specs.Tables.{cells_of, cells_from, place_after, public_in, table_of, public_of}
 use Rattle.table_load.specs.declared.faults.TableFault.{TableFault}
 use Rattle.set_index.specs.Asked.{HoldsRole, IsOver}
 

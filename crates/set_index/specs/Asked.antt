@@ -1,5 +1,5 @@
 -- What a condition means over the public part of a table.
-use Rattle.std.specs.Prelude.{◌≡◌, ℕ, Bool, true, false, ◌&&◌, List, [], ◌∷◌, Option, Some, None}
+use Rattle.std.specs.Prelude.{ℕ, Bool, true, false, ◌&&◌, List, Option, Some, None}
 use Rattle.std.specs.List.{list_any, list_all}
 use Rattle.audit_types.specs.Rows.{rows_that}
 use Rattle.schema_json.specs.Columns.{Column, role_at}

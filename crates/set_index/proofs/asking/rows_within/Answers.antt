@@ -1,4 +1,4 @@
-use Rattle.std.proofs.Common.{◌≡◌, sym, ◌∙◌, arith, rules}
+use Rattle.std.proofs.Common.{sym, ◌∙◌, arith, rules}
 use Rattle.set_index.proofs.Sets.{met_none, met_more}
 use Rattle.set_index.proofs.asking.rows_within.Goals as goal
 

@@ -1,4 +1,4 @@
-use Rattle.std.proofs.Common.{◌≡◌, sym, ◌∙◌, ap, arith}
+use Rattle.std.proofs.Common.{sym, ◌∙◌, arith}
 use Rattle.set_index.proofs.Sets.{passing_below_none, walked_more, walked_all}
 use Rattle.set_index.proofs.asking.texts_where.Goals as goal
 
