@@ -9,12 +9,11 @@ ghost use Rattle.sum_audit.specs.Laws.{IsLeastPinned};
 ghost use Rattle.sum_audit.specs.Sets.{sets_of, IsSpanVerdict};
 ghost use Rattle.sum_audit.specs.Columns.{answers_of};
 
+use crate::answered::AnsweredSum;
 use audit_types::{ColumnAudit, NoMemory, RowSet, Verdict};
 use std::alloc::Global;
 use std::marker::Model;
 use sum_basis::{Basis, Grown};
-
-use crate::answered::AnsweredSum;
 
 /// The answered sums of a column.
 #[derive(Drop)]
@@ -120,7 +119,10 @@ impl ColumnAudit for SumColumn {
             Grown::Wide => unreachable!(),
             Grown::Same | Grown::Added => {}
         }
-        self.pairs.push_reserved(AnsweredSum { rows: *rows, answer });
+        self.pairs.push_reserved(AnsweredSum {
+            rows: *rows,
+            answer,
+        });
         Ok(())
     }
 }

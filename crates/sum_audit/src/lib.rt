@@ -10,3 +10,6 @@ pub mod laws;
 
 pub use answered::AnsweredSum;
 pub use column::SumColumn;
+
+#[cfg(test)]
+mod tests;

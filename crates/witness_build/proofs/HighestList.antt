@@ -1,5 +1,5 @@
 -- The highest list, row by row, and with one row lowered.
-use Rattle.std.proofs.Common.{◌≡◌, ◌≢◌, ℕ, ◌+◌, ◌<◌, ℤ, pos, List, [], ◌∷◌, ◌++◌, length, refl, sym, ap, arith, subst, inl, inr}
+use Rattle.std.proofs.Common.{◌≡◌, ◌≢◌, ℕ, ◌+◌, ◌<◌, ℤ, pos, List, [], ◌∷◌, ◌++◌, length, refl, sym, ap, ◌∙◌, arith, get_or, set, subst, inl, inr}
 use Rattle.std.specs.Prelude.{◌-ℤ◌}
 use Rattle.std.specs.List.{All}
 use Rattle.std.proofs.lemmas.Int.{ints}
@@ -29,12 +29,10 @@ pub record IsHighestSoFar (answers : List Answer) (k : ℕ) (list : List ℤ) : 
   pub same : list ≡ highest k answers
   pub near : All IsNearRange list
 
--- no rows, no numbers
 pub highest_begins : (answers : List Answer) → IsHighestSoFar answers 0 []
 unfolding highest
 highest_begins answers = record { same = refl; near = λ k d within. absurd (omega arith) }
 
--- the number of one row more
 pub highest_step : (answers : List Answer) (k : ℕ) (list after : List ℤ) (number : ℤ) → IsHighestSoFar answers k list → after ≡ list ++ number ∷ [] →
     number ≡ bound_or_zero (upper_bound answers k) → IsNearRange number → IsHighestSoFar answers (k + 1) after
 highest_step answers k list after number h pushed is near = record {

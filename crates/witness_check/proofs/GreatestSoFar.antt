@@ -11,17 +11,14 @@ abbrev pub greatest_with : List ℤ → Option ℤ → List ℕ → Option ℤ
 greatest_with w so_far [] = so_far
 greatest_with w so_far (r ∷ rows) = greatest_with w (Some (greater_of so_far (number_at w r))) rows
 
--- from a number on it is the greatest of all
 from_some : (w : List ℤ) (g : ℤ) (rows : List ℕ) → greatest_with w (Some g) rows ≡ Some (fold int_max g (map (number_at w) rows))
 from_some w g [] = refl
 from_some w g (r ∷ rows) = from_some w (int_max g (number_at w r)) rows
 
--- and from none on that of the set
 from_none : (w : List ℤ) (rows : List ℕ) → greatest_with w None rows ≡ greatest_of w rows
 from_none w [] = refl
 from_none w (r ∷ rows) = from_some w (number_at w r) rows
 
--- rows of a table have a place in a list that is long enough
 rows_within : (low n end : ℕ) (rows : List ℕ) → n ≤ end → AscendsFrom low n rows → AllByRecursion (λ q. q < end) rows
 rows_within low n end [] most are = tt
 rows_within low n end (q ∷ rows) most are = (omega (arith, are.1), rows_within (q + 1) n end rows most are.2)
@@ -31,11 +28,9 @@ pub record IsGreatestSoFar (w : List ℤ) (rows rest : List ℕ) (so_far : Optio
   pub within : AllByRecursion (λ q. q < length w) rest
   pub leads : greatest_with w so_far rest ≡ greatest_of w rows
 
--- at first all rows are left
 pub greatest_begins : (w : List ℤ) (n : ℕ) (rows : List ℕ) → AreRows n rows → n ≤ length w → IsGreatestSoFar w rows rows None
 greatest_begins w n rows are most = record { within = rows_within 0 n (length w) rows most are; leads = from_none w rows }
 
--- one row read
 pub greatest_step : (w : List ℤ) (rows : List ℕ) (q : ℕ) (rest : List ℕ) (so_far : Option ℤ) → IsGreatestSoFar w rows (q ∷ rest) so_far →
     IsGreatestSoFar w rows rest (Some (greater_of so_far (number_at w q)))
 greatest_step w rows q rest so_far h = record { within = h.within.1; leads = h.leads }

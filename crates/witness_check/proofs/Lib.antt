@@ -1,2 +1,3 @@
 pub mod GreatestSoFar
 pub mod AnswersOfColumn
+pub mod SumsSoFar

@@ -1,0 +1,237 @@
+-- The free column of a row, as the code looks for it, and that there is one where the row isn't pinned.
+use Rattle.std.proofs.Common.{◌≡◌, ◌≢◌, ℕ, zero, suc, ◌+◌, ◌<◌, ◌≤◌, Bool, true, false, cond, ◌||◌, ◌==◌, ℤ, pos, List, [], ◌∷◌, length, get_or, drop, refl, sym, ap, ◌∙◌, arith, inl, inr, ◌⊎◌, add-one, drop-cons}
+use Rattle.std.specs.Prelude.{◌+ℤ◌, ◌*ℤ◌, ◌<ℤ◌}
+use Rattle.std.specs.List.{AllByRecursion}
+use Rattle.std.proofs.lemmas.Bool.{or_cases, or_left, eqb-true, eq-eqb, ne_eqb, true≢false, cases_eq, cases_lt}
+use Rattle.std.proofs.lemmas.Int.{ints}
+use Rattle.std.proofs.lemmas.List.{get_or_past}
+use Rattle.std.proofs.lemmas.List.Elements.{All-from_recursion}
+use Rattle.std.proofs.Math.IntN.{*ℤ_comm, zero-*ℤ}
+use Rattle.audit_types.specs.Truth.{number_at, is_zero}
+use Rattle.audit_types.specs.Form.{pivot, pivot_entry, IsPrimitive, Reduced}
+use Rattle.audit_types.specs.Rows.{AreRows}
+use Rattle.audit_types.specs.Direction.{IsDirection, IsPinned, is_pivot, first_free, free_column_of}
+use Rattle.sum_basis.proofs.Products.{zero_factor}
+use Rattle.sum_audit.specs.Dot.{dot, IsOrthogonal}
+use Rattle.sum_audit.specs.DotLaws.{dot_one}
+use Rattle.sum_audit.specs.Laws.{DirectionsByForm}
+use Rattle.witness_build.specs.Directions.{IsForm}
+use Rattle.witness_build.proofs.FormRows.{ZeroAtOthers, zero_at_others, is_pivot_at, zero_from_test, not_zero_from_test, test_of_zero, test_of_not_zero}
+
+-- the search from column j on
+abbrev pub free_from : List (List ℤ) → List ℤ → ℕ → ℕ
+free_from form row j = first_free form (drop j row) j
+
+passes : (form : List (List ℤ)) (x : ℤ) (row : List ℤ) (j : ℕ) → (is_pivot form j || is_zero x) ≡ true → first_free form (x ∷ row) j ≡ first_free form row (j + 1)
+passes form x row j e = ap (λ b. cond b (first_free form row (j + 1)) j) e
+
+stops : (form : List (List ℤ)) (x : ℤ) (row : List ℤ) (j : ℕ) → (is_pivot form j || is_zero x) ≡ false → first_free form (x ∷ row) j ≡ j
+stops form x row j e = ap (λ b. cond b (first_free form row (j + 1)) j) e
+
+right_of : (a b : Bool) → b ≡ true → (a || b) ≡ true
+right_of true b e = refl
+right_of false b e = e
+
+neither : (a b : Bool) → a ≡ false → b ≡ false → (a || b) ≡ false
+neither a b e h = ap (λ x. x || b) e ∙ h
+
+false_unless : (b : Bool) → (b ≡ true → ⊥) → b ≡ false
+false_unless true never = absurd (never refl)
+false_unless false never = refl
+
+module _ (form : List (List ℤ)) (k : ℕ) (below : k < length form) where
+  -- a column that is the row's pivot or 0 is passed over
+  pub one_passed : (j : ℕ) → j < length (get_or form k []) → (j ≡ pivot (get_or form k [])) ⊎ (number_at (get_or form k []) j ≡ pos 0) → free_from form (get_or form k []) j ≡ free_from form (get_or form k []) (j + 1)
+  one_passed j inside why =
+      let row = get_or form k [] in
+      let test : (is_pivot form j || is_zero (number_at row j)) ≡ true = elim why [
+        | inl e ↦ or_left (is_pivot form j) (is_zero (number_at row j)) (ap (is_pivot form) e ∙ is_pivot_at form k below)
+        | inr e ↦ right_of (is_pivot form j) (is_zero (number_at row j)) (test_of_zero (number_at row j) e)
+      ] in
+      ap (λ l. first_free form l j) (drop-cons row j (pos 0) inside) ∙ passes form (number_at row j) (drop (suc j) row) j test ∙ ap (λ i. first_free form (drop i row) (j + 1)) (sym (add-one j))
+
+  -- and any other one is the one
+  pub one_stops : (n : ℕ) → IsForm n form → (j : ℕ) → j < length (get_or form k []) → j ≢ pivot (get_or form k []) → number_at (get_or form k []) j ≢ pos 0 → free_from form (get_or form k []) j ≡ j
+  one_stops n h j inside other some =
+      let row = get_or form k [] in
+      let zero_elsewhere = All-from_recursion (ZeroAtOthers form) form (zero_at_others form h.echelon) k [] below in
+      let test = neither (is_pivot form j) (is_zero (number_at row j)) (false_unless (is_pivot form j) (λ there. some (zero_elsewhere j there other))) (test_of_not_zero (number_at row j) some) in
+      ap (λ l. first_free form l j) (drop-cons row j (pos 0) inside) ∙ stops form (number_at row j) (drop (suc j) row) j test
+
+pub none_left : (form : List (List ℤ)) (row : List ℤ) (j : ℕ) → length row ≤ j → free_from form row j ≡ j
+none_left form [] zero l = refl
+none_left form [] (suc j) l = refl
+none_left form (x ∷ row) zero l = absurd (omega arith)
+none_left form (x ∷ row) (suc j) l = past form row j (suc j) (omega arith)
+  where
+    past : (form : List (List ℤ)) (row : List ℤ) (i j : ℕ) → length row ≤ i → first_free form (drop i row) j ≡ j
+    past form [] zero j l = refl
+    past form [] (suc i) j l = refl
+    past form (x ∷ row) zero j l = absurd (omega arith)
+    past form (x ∷ row) (suc i) j l = past form row i j (omega arith)
+
+pub length_of_row : (n : ℕ) (form : List (List ℤ)) (k : ℕ) → IsForm n form → k < length form → length (get_or form k []) ≡ n
+length_of_row n form k h below = (All-from_recursion (IsPrimitive n) form h.primitive k [] below).one_each
+
+-- a row with another pivot is passed over
+pub other_row : (form : List (List ℤ)) (k i : ℕ) → k < length form → pivot (get_or form k []) ≢ i → free_column_of form (drop k form) i ≡ free_column_of form (drop (k + 1) form) i
+other_row form k i below other =
+    ap (λ l. free_column_of form l i) (drop-cons form k [] below)
+    ∙ ap (λ b. cond b (first_free form (get_or form k []) 0) (free_column_of form (drop (suc k) form) i)) (ne_eqb (pivot (get_or form k [])) i other)
+    ∙ ap (λ m. free_column_of form (drop m form) i) (sym (add-one k))
+
+pub own_row : (form : List (List ℤ)) (k i : ℕ) → k < length form → pivot (get_or form k []) ≡ i → free_column_of form (drop k form) i ≡ first_free form (get_or form k []) 0
+own_row form k i below e =
+    ap (λ l. free_column_of form l i) (drop-cons form k [] below)
+    ∙ ap (λ b. cond b (first_free form (get_or form k []) 0) (free_column_of form (drop (suc k) form) i)) (eq-eqb (pivot (get_or form k [])) i e)
+
+pub no_row : (form : List (List ℤ)) (k i : ℕ) → length form ≤ k → free_column_of form (drop k form) i ≡ i
+no_row form k i l = past form form k i l
+  where
+    past : (form rows : List (List ℤ)) (k i : ℕ) → length rows ≤ k → free_column_of form (drop k rows) i ≡ i
+    past form [] zero i l = refl
+    past form [] (suc k) i l = refl
+    past form (r ∷ rows) zero i l = absurd (omega arith)
+    past form (r ∷ rows) (suc k) i l = past form rows k i (omega arith)
+
+-- what the first free column of a row is, from column s on
+record IsFirstFree (form : List (List ℤ)) (row : List ℤ) (s j : ℕ) : Type 0 where
+  from : s ≤ j
+  within : j ≤ s + length row
+  hit : j < s + length row → (is_pivot form j ≡ false) × ((i : ℕ) → s + i ≡ j → number_at row i ≢ pos 0)
+  before : (i : ℕ) → s + i < j → (is_pivot form (s + i) || is_zero (number_at row i)) ≡ true
+
+test_left : (a b : Bool) → (a || b) ≡ false → a ≡ false
+test_left true b e = absurd cc
+test_left false b e = refl
+
+test_right : (a b : Bool) → (a || b) ≡ false → b ≡ false
+test_right true b e = absurd cc
+test_right false b e = e
+
+-- a column that is passed over, and the search behind it
+passed_over : (form : List (List ℤ)) (x : ℤ) (row : List ℤ) (s j : ℕ) → (is_pivot form s || is_zero x) ≡ true → IsFirstFree form row (s + 1) j → IsFirstFree form (x ∷ row) s j
+passed_over form x row s j e rest =
+    let start = rest.from in
+    let end = rest.within in
+    record {
+      from = omega arith;
+      within = omega arith;
+      hit = λ l. let hit = rest.hit (omega arith) in (hit.0, hit_at hit.1);
+      before = before_at;
+    }
+  where
+    hit_at : ((i : ℕ) → (s + 1) + i ≡ j → number_at row i ≢ pos 0) → (i : ℕ) → s + i ≡ j → number_at (x ∷ row) i ≢ pos 0
+    hit_at h zero same = let start = rest.from in absurd (omega arith)
+    hit_at h (suc i) same = h i (omega arith)
+
+    before_at : (i : ℕ) → s + i < j → (is_pivot form (s + i) || is_zero (number_at (x ∷ row) i)) ≡ true
+    before_at zero l = let same : s + zero ≡ s = omega arith in ap (λ m. is_pivot form m || is_zero x) same ∙ e
+    before_at (suc i) l = let same : s + suc i ≡ (s + 1) + i = omega arith in ap (λ m. is_pivot form m || is_zero (number_at row i)) same ∙ rest.before i (omega arith)
+
+-- a column at which the search stops
+stopped_at : (form : List (List ℤ)) (x : ℤ) (row : List ℤ) (s : ℕ) → (is_pivot form s || is_zero x) ≡ false → IsFirstFree form (x ∷ row) s s
+stopped_at form x row s e = record {
+  from = omega arith;
+  within = omega arith;
+  hit = λ l. (test_left (is_pivot form s) (is_zero x) e, here);
+  before = λ i l. absurd (omega arith);
+}
+  where
+    here : (i : ℕ) → s + i ≡ s → number_at (x ∷ row) i ≢ pos 0
+    here zero same = not_zero_from_test x (test_right (is_pivot form s) (is_zero x) e)
+    here (suc i) same = absurd (omega arith)
+
+by_test : (form : List (List ℤ)) (x : ℤ) (row : List ℤ) (s j : ℕ) (b : Bool) → (is_pivot form s || is_zero x) ≡ b → IsFirstFree form row (s + 1) j → IsFirstFree form (x ∷ row) s (cond b j s)
+by_test form x row s j true e rest = passed_over form x row s j e rest
+by_test form x row s j false e rest = stopped_at form x row s e
+
+found : (form : List (List ℤ)) (row : List ℤ) (s : ℕ) → IsFirstFree form row s (first_free form row s)
+found form [] s = record { from = omega arith; within = omega arith; hit = λ l. absurd (omega arith); before = λ i l. absurd (omega arith) }
+found form (x ∷ row) s = by_test form x row s (first_free form row (s + 1)) (is_pivot form s || is_zero x) refl (found form row (s + 1))
+
+-- some row has pivot i and is not 0 at column j
+abbrev pub Reaches : List (List ℤ) → ℕ → ℕ → Type 0
+Reaches [] i j = ⊥
+Reaches (row ∷ rows) i j = ((pivot row ≡ i) × (number_at row j ≢ pos 0)) ⊎ Reaches rows i j
+
+-- a free column of the form that is row i itself, or that the row with pivot i reaches
+pub record IsFreeColumn (form rows : List (List ℤ)) (n i j : ℕ) : Type 0 where
+  pub below : j < n
+  pub free : is_pivot form j ≡ false
+  pub reaches : (j ≡ i) ⊎ Reaches rows i j
+
+-- what a row that isn't pinned may suppose of the rows of the form
+record IsOpen (n : ℕ) (sets : List (List ℕ)) (form rows : List (List ℤ)) (i : ℕ) : Type 0 where
+  primitive : AllByRecursion (IsPrimitive n) rows
+  zeros : AllByRecursion (ZeroAtOthers form) rows
+  orthogonal : (d : List ℤ) → IsDirection n sets d → AllByRecursion (λ f. dot n (number_at f) d ≡ pos 0) rows
+  same : is_pivot form i ≡ is_pivot rows i
+  below : i < n
+  free : ¬ (IsPinned n sets i)
+
+-- a row with one entry pins its pivot: its dot product with a direction is that entry times the direction's
+lone_pins : (n : ℕ) (sets : List (List ℕ)) (row : List ℤ) (i : ℕ) → pos 0 <ℤ pivot_entry row → pivot row ≡ i → i < n → ((k : ℕ) → k < n → k ≢ i → number_at row k ≡ pos 0) →
+    ((d : List ℤ) → IsDirection n sets d → dot n (number_at row) d ≡ pos 0) → IsPinned n sets i
+lone_pins n sets row i leading e below zeros orthogonal = record {
+  below = below;
+  still = λ d direction.
+      let one = dot_one n (number_at row) d i below (λ k l other. ap (λ z. z *ℤ number_at d k) (zeros k l other) ∙ zero-*ℤ (number_at d k)) in
+      let positive : pos 0 <ℤ number_at row i = let entry = ap (number_at row) e in omega (arith, ints) in
+      zero_factor (number_at d i) (number_at row i) (*ℤ_comm (number_at d i) (number_at row i) ∙ sym one ∙ orthogonal d direction) positive;
+}
+
+module _ (n : ℕ) (sets : List (List ℕ)) (form : List (List ℤ)) (row : List ℤ) (rows : List (List ℤ)) (i : ℕ) (h : IsOpen n sets form (row ∷ rows) i) where
+  passed_row : (pivot row == i) ≡ false → IsOpen n sets form rows i
+  passed_row e = record {
+    primitive = h.primitive.1;
+    zeros = h.zeros.1;
+    orthogonal = λ d direction. (h.orthogonal d direction).1;
+    same = h.same ∙ ap (λ b. b || is_pivot rows i) e;
+    below = h.below;
+    free = h.free;
+  }
+
+  -- a row that reaches no free column would pin its pivot
+  some_column : pivot row ≡ i → n ≤ first_free form row 0 → ⊥
+  some_column e past = h.free (lone_pins n sets row i h.primitive.0.leading e h.below zeros (λ d direction. (h.orthogonal d direction).0))
+    where
+      zeros : (k : ℕ) → k < n → k ≢ i → number_at row k ≡ pos 0
+      zeros k l other =
+          let first : (is_pivot form (0 + k) || is_zero (number_at row k)) ≡ true = (found form row 0).before k (omega arith) in
+          let same : 0 + k ≡ k = omega arith in
+          elim (or_cases (is_pivot form k) (is_zero (number_at row k)) (ap (λ m. is_pivot form m || is_zero (number_at row k)) (sym same) ∙ first)) [
+            | inl there ↦ h.zeros.0 k there (λ equal. other (equal ∙ e))
+            | inr none ↦ zero_from_test (number_at row k) none
+          ]
+
+  by_pivot : (b : Bool) (j : ℕ) → (pivot row == i) ≡ b → ((pivot row == i) ≡ false → IsFreeColumn form rows n i j) → IsFreeColumn form (row ∷ rows) n i (cond b (first_free form row 0) j)
+  by_pivot true j e rest =
+      let at = eqb-true (pivot row) i e in
+      let facts = found form row 0 in
+      let long = h.primitive.0.one_each in
+      elim (cases_lt (first_free form row 0) n) [
+        | inl l ↦
+            let hit = facts.hit (omega arith) in
+            record { below = l; free = hit.0; reaches = inr (inl (at, hit.1 (first_free form row 0) (omega arith))) }
+        | inr past ↦ absurd (some_column at past)
+      ]
+  by_pivot false j e rest =
+      let there = rest e in
+      record { below = there.below; free = there.free; reaches = elim there.reaches [ inl same ↦ inl same | inr r ↦ inr (inr r) ] }
+
+free_column_is : (n : ℕ) (sets : List (List ℕ)) (form rows : List (List ℤ)) (i : ℕ) → IsOpen n sets form rows i → IsFreeColumn form rows n i (free_column_of form rows i)
+free_column_is n sets form [] i h = record { below = h.below; free = h.same; reaches = inl refl }
+free_column_is n sets form (row ∷ rows) i h =
+    by_pivot n sets form row rows i h (pivot row == i) (free_column_of form rows i) refl (λ e. free_column_is n sets form rows i (passed_row n sets form row rows i h e))
+
+-- the free column of a row that isn't pinned
+pub free_column_found : DirectionsByForm → (n : ℕ) (sets : List (List ℕ)) (form : List (List ℤ)) (i : ℕ) → AllByRecursion (AreRows n) sets → Reduced n sets form → i < n → ¬ (IsPinned n sets i) → IsFreeColumn form form n i (free_column_of form form i)
+free_column_found directions n sets form i are reduced below free = free_column_is n sets form form i (record {
+  primitive = reduced.primitive;
+  zeros = zero_at_others form reduced.echelon;
+  orthogonal = λ d direction. ((directions n sets form d are reduced).0 direction).zeros;
+  same = refl;
+  below = below;
+  free = free;
+})
