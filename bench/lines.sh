@@ -13,6 +13,7 @@ fi
 folder=$(mktemp -d) || exit 1
 trap 'rm -rf "$folder"' EXIT
 cd "$folder" || exit 1
+printf '{"columns":[{"name":"age","is":"number"}]}' >schema.json
 printf 'age\n30\n41\n35\n52\n28\n44\n' >table.csv
 yes '{"ask":"count","where":"all"}' | head -n "$lines" >questions.jsonl
 

@@ -15,7 +15,7 @@ fi
 
 folder=$(mktemp -d) || exit 1
 trap 'rm -rf "$folder"' EXIT
-cp "$demo/table.csv" "$demo/questions.jsonl" "$folder" || exit 1
+cp "$demo/schema.json" "$demo/table.csv" "$demo/questions.jsonl" "$folder" || exit 1
 cd "$folder" || exit 1
 "$program" serve <questions.jsonl >replies.jsonl || { echo "demo: auditor ended with status $?" >&2; exit 1; }
 cat replies.jsonl

@@ -1,18 +1,49 @@
--- A file that is read past the limit is no plain table, and one that is read to its end is what was read.
-use Rattle.std.proofs.Common.{◌≡◌, ℕ, ◌<◌, None, List, [], ◌++◌, length, inl, inr, ◌⊎◌, sym, ◌∙◌, ap, arith, length-append}
+-- A file that is read past its limit has the fault of the whole file, and one that is read to its end is what was read.
+use Rattle.std.proofs.Common.{◌≡◌, ℕ, ◌<◌, List, [], ◌++◌, length, Option, Some, Result, Ok, Err, refl, inl, inr, ◌⊎◌, sym, ◌∙◌, ap, arith, length-append}
 use Rattle.std.proofs.lemmas.List.{append-nil}
-use Rattle.std.proofs.lemmas.Bool.{cond-false, lt-leb}
-use Rattle.auditor_top.specs.Plain.{plain_rows}
+use Rattle.std.proofs.lemmas.Bool.{cond-true, lt-ltb}
+use Rattle.schema_json.specs.Columns.{Column}
+use Rattle.table_load.specs.Cells.{TableView}
+use Rattle.table_load.specs.Faults.{UnlessMemory, unless_fault}
+use Rattle.table_load.specs.Reading.{file_fault}
+use Rattle.table_load.specs.Tables.{table_of}
+use Rattle.table_load.specs.declared.faults.TableFault.{TableFault}
+use Rattle.table_load.specs.declared.faults.TableFault.TheVariants as table_fault
 use Rattle.auditor_top.specs.Reading.{ReadsAll}
 
--- more bytes than a table may have
-too_long : (bytes : List ℕ) → 16777216 < length bytes → plain_rows bytes ≡ None
-too_long bytes long = cond-false _ _ _ (lt-leb (length bytes) 16777216 long)
-
--- what was read tells the rows of the whole file
-pub same_rows : (before after bytes : List ℕ) → ReadsAll 16777216 before after bytes → plain_rows bytes ≡ plain_rows before
-same_rows before after bytes read = by_end before after bytes read.split read.end
+-- what judges all files above the limit alike judges what was read as it judges the whole file
+same_meaning : {Y : Type 0} (meaning : List ℕ → Y) (most : ℕ) (refused : Y) → ((bytes : List ℕ) → most < length bytes → meaning bytes ≡ refused) → (before after bytes : List ℕ) → ReadsAll most before after bytes → meaning bytes ≡ meaning before
+same_meaning meaning most refused refuses before after bytes read = by_end read.split read.end
   where
-    by_end : (before after bytes : List ℕ) → before ≡ bytes ++ after → (after ≡ []) ⊎ (16777216 < length bytes) → plain_rows bytes ≡ plain_rows before
-    by_end before after bytes is (inl none) = ap plain_rows (sym (is ∙ ap (λ (l : List ℕ). bytes ++ l) none ∙ append-nil bytes))
-    by_end before after bytes is (inr long) = too_long bytes long ∙ sym (too_long before (omega (arith, long, ap (λ (l : List ℕ). length l) is, length-append bytes after)))
+    by_end : before ≡ bytes ++ after → (after ≡ []) ⊎ (most < length bytes) → meaning bytes ≡ meaning before
+    by_end is (inl none) = ap meaning (sym (is ∙ ap (λ (l : List ℕ). bytes ++ l) none ∙ append-nil bytes))
+    by_end is (inr long) = refuses bytes long ∙ sym (refuses before (omega (arith, long, ap (λ (l : List ℕ). length l) is, length-append bytes after)))
+
+-- more bytes than a table may have
+long_file : (columns : List Column) (bytes : List ℕ) → 16777216 < length bytes → file_fault columns bytes ≡ Some table_fault.TooLong
+unfolding file_fault
+long_file columns bytes long = cond-true _ _ _ (lt-ltb 16777216 (length bytes) long)
+
+-- a fault is told
+told : {X : Type 0} (x : X) (found fault : Option TableFault) → found ≡ fault → unless_fault found x ≡ unless_fault fault x
+told x found fault is = ap (λ f. unless_fault f x) is
+
+-- a table of more bytes has that fault
+long_table : (columns : List Column) (bytes : List ℕ) → 16777216 < length bytes → table_of columns bytes ≡ Err table_fault.TooLong
+long_table columns bytes long = told _ _ _ (long_file _ bytes long)
+
+-- what was read of a table's file means what the whole file means
+pub same_table : (columns : List Column) (before after bytes : List ℕ) → ReadsAll 16777216 before after bytes → table_of columns bytes ≡ table_of columns before
+same_table columns before after bytes read = same_meaning (table_of columns) 16777216 (Err table_fault.TooLong) (long_table columns) before after bytes read
+
+-- a fault that isn't want of memory is the table's own
+pub own_table_fault : (fault : TableFault) (meant : Result TableView TableFault) → (fault ≡ table_fault.NoMemory → ⊥) → UnlessMemory fault (meant ≡ Err fault) → meant ≡ Err fault
+own_table_fault table_fault.TooLong meant other is = is
+own_table_fault table_fault.Header meant other is = is
+own_table_fault (table_fault.Length line) meant other is = is
+own_table_fault (table_fault.NotText line) meant other is = is
+own_table_fault (table_fault.NotNumber line column) meant other is = is
+own_table_fault (table_fault.OutOfRange line column) meant other is = is
+own_table_fault table_fault.TooManyRows meant other is = is
+own_table_fault table_fault.NoRows meant other is = is
+own_table_fault table_fault.NoMemory meant other is = absurd (other refl)

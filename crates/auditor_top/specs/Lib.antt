@@ -1,5 +1,6 @@
-pub mod Plain
 pub mod Reading
+pub mod Files
+pub mod Counting
 pub mod Sending
 pub mod Serving
 pub mod Status

@@ -1,27 +1,31 @@
--- The replies that are due over a plain table.
-use Rattle.std.specs.Prelude.{◌≡◌, ℕ, List, codes, bytes_eq, map, if◌then◌else◌}
+-- The replies that are due over the public columns of a table.
+use Rattle.std.specs.Prelude.{◌≡◌, ℕ, List, Option, Some, None, map}
 use Rattle.line_wire.specs.Lines.{CountedLine, text, long}
 use Rattle.line_wire.specs.Reply.{reply_bytes}
 use Rattle.line_wire.specs.declared.reply.Reply.{Reply}
 use Rattle.line_wire.specs.declared.reply.Reply.TheVariants as reply
 use Rattle.line_wire.specs.declared.lines.Next.{Next}
 use Rattle.line_wire.specs.declared.lines.Next.TheVariants as next
+use Rattle.schema_json.specs.Columns.{Column}
+use Rattle.table_load.specs.Cells.{PublicView}
+use Rattle.auditor_top.specs.Counting.{count_of}
 
--- the one line that asks for the number of all rows
-abbrev pub count_of_all : List ℕ
-count_of_all = codes "{\"ask\":\"count\",\"where\":\"all\"}"
+-- the count that was asked for, or word that the line asks for something else
+abbrev pub reply_with : Option ℕ → Reply
+reply_with None = reply.NotYet
+reply_with (Some count) = reply.Count count
 
--- the reply to a counted line, over a table of so many rows
-abbrev pub reply_to : ℕ → CountedLine → Reply
-reply_to rows (text line) = if bytes_eq line count_of_all then reply.Count rows else reply.NotYet
-reply_to rows long = reply.Long
+-- the reply to a counted line
+abbrev pub reply_to : List Column → PublicView → CountedLine → Reply
+reply_to columns public (text line) = reply_with (count_of columns public line)
+reply_to columns public long = reply.Long
 
 -- the bytes of the replies to lines, in order, one piece a reply
-abbrev pub replies : ℕ → List CountedLine → List (List ℕ)
-replies rows lines = map (λ line. reply_bytes (reply_to rows line)) lines
+abbrev pub replies : List Column → PublicView → List CountedLine → List (List ℕ)
+replies columns public lines = map (λ line. reply_bytes (reply_to columns public line)) lines
 
 -- the reply to what the cutter gave
-abbrev pub IsReplyTo : Next → List ℕ → ℕ → Reply → Type 0
-IsReplyTo next.Line shown rows answer = answer ≡ reply_to rows (text shown)
-IsReplyTo next.Long shown rows answer = answer ≡ reply_to rows long
-IsReplyTo next.End shown rows answer = ⊥
+abbrev pub IsReplyTo : Next → List ℕ → List Column → PublicView → Reply → Type 0
+IsReplyTo next.Line shown columns public answer = answer ≡ reply_to columns public (text shown)
+IsReplyTo next.Long shown columns public answer = answer ≡ reply_to columns public long
+IsReplyTo next.End shown columns public answer = ⊥

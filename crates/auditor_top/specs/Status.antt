@@ -1,27 +1,53 @@
 -- The number and the text of each status.
-use Rattle.std.specs.Prelude.{ℕ, List, codes}
+use Rattle.std.specs.Prelude.{ℕ, List, ◌++◌, codes, decimal}
+use Rattle.schema_json.specs.Faults as schema
+use Rattle.table_load.specs.Faults as table
+use Rattle.table_load.specs.declared.faults.TableFault.{TableFault}
+use Rattle.table_load.specs.declared.faults.TableFault.TheVariants as fault
 use Rattle.auditor_top.specs.declared.status.Which.TheVariants.{Schema, Table, Input}
 use Rattle.auditor_top.specs.declared.status.Status.{Status}
-use Rattle.auditor_top.specs.declared.status.Status.TheVariants.{Done, BadWords, SourceFault, BenchFault, InputLimit, NoMemory, NotYet}
+use Rattle.auditor_top.specs.declared.status.Status.TheVariants.{Done, BadWords, BadSchema, BadTable, SourceFault, BenchFault, InputLimit, NoMemory}
 
 -- the exit status of the program
 abbrev pub status_code : Status → ℕ
 status_code Done = 0
 status_code BadWords = 2
+status_code (BadSchema fault) = 3
+status_code (BadTable fault) = 4
 status_code (SourceFault which) = 5
 status_code BenchFault = 6
 status_code InputLimit = 13
 status_code NoMemory = 15
-status_code NotYet = 30
+
+-- the place of a fault in a line
+abbrev pub at_line : ℕ → List ℕ
+at_line line = codes " at line " ++ decimal line
+
+-- the place of a fault in a column of a line
+abbrev pub at_cell : ℕ → ℕ → List ℕ
+at_cell line column = codes " at line " ++ decimal line ++ codes " column " ++ decimal column
+
+-- where a fault is, where it has a place
+abbrev pub place_text : TableFault → List ℕ
+place_text fault.TooLong = codes ""
+place_text fault.Header = codes ""
+place_text (fault.Length line) = at_line line
+place_text (fault.NotText line) = at_line line
+place_text (fault.NotNumber line column) = at_cell line column
+place_text (fault.OutOfRange line column) = at_cell line column
+place_text fault.TooManyRows = codes ""
+place_text fault.NoRows = codes ""
+place_text fault.NoMemory = codes ""
 
 -- what the program tells of it
 abbrev pub status_text : Status → List ℕ
 status_text Done = codes ""
 status_text BadWords = codes "usage: auditor init, serve [--batch N], audit, simulate, drill N"
+status_text (BadSchema fault) = codes "schema: fault " ++ decimal (schema.fault_number fault)
+status_text (BadTable fault) = codes "table: fault " ++ decimal (table.fault_number fault) ++ place_text fault
 status_text (SourceFault Schema) = codes "cannot read schema"
 status_text (SourceFault Table) = codes "cannot read table"
 status_text (SourceFault Input) = codes "cannot read input"
 status_text BenchFault = codes "journal or output failed"
 status_text InputLimit = codes "input is too long"
 status_text NoMemory = codes "out of memory"
-status_text NotYet = codes "not yet"

@@ -4,7 +4,8 @@
 //! its cause, and what was sent: `replies` carries the promise.
 #![tactic(auto)]
 
-mod plain;
+mod counting;
+mod files;
 mod reading;
 mod running;
 mod serving;

@@ -1,14 +1,18 @@
 //! The serving loop: one reply for each counted line, one send for each reply.
-ghost use Rattle.std.specs.Prelude.{◌≡◌, ◌<◌, ◌≤◌, ◌+◌, ◌-◌, ◌^◌, ◌++◌, [], length, bytes_eq, OnOk, OnErr, MatchOption, false};
+ghost use Rattle.std.specs.Prelude.{◌≡◌, ◌<◌, ◌≤◌, ◌+◌, ◌-◌, ◌^◌, ◌++◌, [], length, OnOk, OnErr, MatchOption, false};
 ghost use Rattle.bench_core.specs.Causes.{HasCause, Rose};
 ghost use Rattle.bench_core.specs.Bench.{AppendsFront};
 ghost use Rattle.line_wire.specs.Lines.{counted_lines};
 ghost use Rattle.line_wire.specs.Reply.{reply_bytes, IsInRange};
 ghost use Rattle.auditor_top.specs.Sending.{SendsAll, SendsFirst, BreaksOff, output_of};
-ghost use Rattle.auditor_top.specs.Serving.{count_of_all, replies, IsReplyTo};
+ghost use Rattle.table_load.specs.Cells.{FitsSchema};
+ghost use Rattle.auditor_top.specs.Serving.{replies, IsReplyTo};
 
+use crate::counting::count_of;
 use bench_core::{Bench, Failed, Source};
 use line_wire::{LineStop, Lines, Next, Reply, write_reply};
+use schema_json::Schema;
+use table_load::Public;
 
 /// Why serving ended before the input did.
 #[derive(Clone, Copy, Debug, PartialEq, Eq)]
@@ -21,25 +25,16 @@ pub enum EndFault {
     Limit,
 }
 
-fn is_count_of_all(line: &[u8]) -> bool
-    ensures { result ≡ bytes_eq line.now count_of_all }
-{
-    line == b"{\"ask\":\"count\",\"where\":\"all\"}".as_slice()
-}
-
 // The reply to the line that was given last, where one was.
-fn reply_to(next: Next, text: &[u8], rows: u16) -> Option<Reply>
-    requires { rows ≤ 1024 }
-    ensures { MatchOption result (next ≡ Next.End) (λ reply. IsReplyTo next text.now rows reply × IsInRange reply) }
+fn reply_to(next: Next, text: &[u8], schema: &Schema, public: &Public) -> Option<Reply>
+    requires { FitsSchema schema.now.columns public.now }
+    ensures { MatchOption result (next ≡ Next.End) (λ reply. IsReplyTo next text.now schema.now.columns public.now reply × IsInRange reply) }
 {
     match next {
-        Next::Line => {
-            if is_count_of_all(text) {
-                Some(Reply::Count(rows))
-            } else {
-                Some(Reply::NotYet)
-            }
-        }
+        Next::Line => match count_of(schema, public, text) {
+            Some(count) => Some(Reply::Count(count)),
+            None => Some(Reply::NotYet),
+        },
         Next::Long => Some(Reply::Long),
         Next::End => None,
     }
@@ -58,31 +53,32 @@ fn send_reply<B: Bench>(bench: &mut B, reply: &Reply) -> Result<(), Failed>
     bench.send(&out[..count])
 }
 
-/// Answers each counted line of the input, over a table of so many rows.
+/// Answers each counted line of the input over the public columns of a table.
 pub fn serve<I: Source, B: Bench>(
     lines: &mut Lines,
-    rows: u16,
+    schema: &Schema,
+    public: &Public,
     input: &mut I,
     bench: &mut B,
 ) -> Result<(), EndFault>
-    requires rows { rows ≤ 1024 }
+    requires fits { FitsSchema schema.now.columns public.now }
     requires fresh { (lines.old.taken ≡ 0) × (lines.old.pending ≡ []) × (lines.old.ended ≡ false) }
 
     // The replies to the lines, one send each: all of them, the first ones, or a front of the next one behind them.
     ensures done { I.told → B.told
-        → OnOk result (SendsAll (replies rows (counted_lines (I.left input.old)))
+        → OnOk result (SendsAll (replies schema.now.columns public.now (counted_lines (I.left input.old)))
         (output_of B.sent B.moment bench.old)
         (output_of B.sent B.moment bench.new)) }
     ensures input_front { I.told → B.told → result ≡ Err EndFault.Input
-        → SendsFirst (replies rows (counted_lines (I.left input.old)))
+        → SendsFirst (replies schema.now.columns public.now (counted_lines (I.left input.old)))
         (output_of B.sent B.moment bench.old)
         (output_of B.sent B.moment bench.new) }
     ensures limit_front { I.told → B.told → result ≡ Err EndFault.Limit
-        → SendsFirst (replies rows (counted_lines (I.left input.old)))
+        → SendsFirst (replies schema.now.columns public.now (counted_lines (I.left input.old)))
         (output_of B.sent B.moment bench.old)
         (output_of B.sent B.moment bench.new) }
     ensures bench_front { I.told → B.told → result ≡ Err EndFault.Bench
-        → BreaksOff (replies rows (counted_lines (I.left input.old)))
+        → BreaksOff (replies schema.now.columns public.now (counted_lines (I.left input.old)))
         (output_of B.sent B.moment bench.old)
         (output_of B.sent B.moment bench.new) }
 
@@ -103,7 +99,7 @@ pub fn serve<I: Source, B: Bench>(
         match lines.next(input) {
             Err(LineStop::Input) => return Err(EndFault::Input),
             Err(LineStop::Limit) => return Err(EndFault::Limit),
-            Ok(next) => match reply_to(next, lines.text(), rows) {
+            Ok(next) => match reply_to(next, lines.text(), schema, public) {
                 None => return Ok(()),
                 Some(reply) => match send_reply(bench, &reply) {
                     Ok(()) => {}

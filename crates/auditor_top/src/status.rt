@@ -3,8 +3,10 @@ ghost use Rattle.std.specs.Prelude.{◌≡◌, IfOk, string_bytes};
 ghost use Rattle.auditor_top.specs.Status as spec;
 
 use audit_types::NoMemory;
+use schema_json::SchemaFault;
 use std::alloc::Global;
 use std::fmt;
+use table_load::TableFault;
 
 /// The sources that a run reads.
 #[derive(Clone, Copy, Debug, PartialEq, Eq)]
@@ -21,6 +23,10 @@ pub enum Status {
     Done,
     /// The words are no command.
     BadWords,
+    /// The schema's bytes have this fault. It is never want of memory.
+    BadSchema(SchemaFault),
+    /// The table's bytes have this fault. It is never want of memory.
+    BadTable(TableFault),
     /// A source failed.
     SourceFault(Which),
     /// A reply couldn't be sent.
@@ -29,8 +35,33 @@ pub enum Status {
     InputLimit,
     /// There was no memory.
     NoMemory,
-    /// The table is of a form that isn't served.
-    NotYet,
+}
+
+// Where a fault of the table is, as it is told behind the fault's number.
+#[derive(Clone, Copy, Drop)]
+struct Place(TableFault);
+
+impl fmt::Display for Place {
+    ghost use Rattle.std.specs.Prelude.{Some};
+    ghost use Rattle.auditor_top.specs.Status.{place_text};
+
+    ghost output = { λ place. Some (place_text place.0) };
+
+    fn fmt<W: fmt::Write>(&self, f: &mut fmt::Formatter<W>) -> fmt::Result {
+        match self.0 {
+            TableFault::Length { line } | TableFault::NotText { line } => {
+                write!(f, " at line {line}")
+            }
+            TableFault::NotNumber { line, column } | TableFault::OutOfRange { line, column } => {
+                write!(f, " at line {line} column {column}")
+            }
+            TableFault::TooLong
+            | TableFault::Header
+            | TableFault::TooManyRows
+            | TableFault::NoRows
+            | TableFault::NoMemory => f.write_str(""),
+        }
+    }
 }
 
 impl fmt::Display for Status {
@@ -40,17 +71,22 @@ impl fmt::Display for Status {
     ghost output = { λ s. Some (status_text s) };
 
     fn fmt<W: fmt::Write>(&self, f: &mut fmt::Formatter<W>) -> fmt::Result {
-        f.write_str(match self {
-            Status::Done => "",
-            Status::BadWords => "usage: auditor init, serve [--batch N], audit, simulate, drill N",
-            Status::SourceFault(Which::Schema) => "cannot read schema",
-            Status::SourceFault(Which::Table) => "cannot read table",
-            Status::SourceFault(Which::Input) => "cannot read input",
-            Status::BenchFault => "journal or output failed",
-            Status::InputLimit => "input is too long",
-            Status::NoMemory => "out of memory",
-            Status::NotYet => "not yet",
-        })
+        match self {
+            Status::Done => f.write_str(""),
+            Status::BadWords => {
+                f.write_str("usage: auditor init, serve [--batch N], audit, simulate, drill N")
+            }
+            Status::BadSchema(fault) => write!(f, "schema: fault {}", fault.number()),
+            Status::BadTable(fault) => {
+                write!(f, "table: fault {}{}", fault.number(), Place(*fault))
+            }
+            Status::SourceFault(Which::Schema) => f.write_str("cannot read schema"),
+            Status::SourceFault(Which::Table) => f.write_str("cannot read table"),
+            Status::SourceFault(Which::Input) => f.write_str("cannot read input"),
+            Status::BenchFault => f.write_str("journal or output failed"),
+            Status::InputLimit => f.write_str("input is too long"),
+            Status::NoMemory => f.write_str("out of memory"),
+        }
     }
 }
 
@@ -61,11 +97,12 @@ pub fn status_code(status: &Status) -> u8
     match status {
         Status::Done => 0,
         Status::BadWords => 2,
+        Status::BadSchema(_) => 3,
+        Status::BadTable(_) => 4,
         Status::SourceFault(_) => 5,
         Status::BenchFault => 6,
         Status::InputLimit => 13,
         Status::NoMemory => 15,
-        Status::NotYet => 30,
     }
 }
 
@@ -99,7 +136,22 @@ mod tests {
             (Status::BenchFault, 6, "journal or output failed"),
             (Status::InputLimit, 13, "input is too long"),
             (Status::NoMemory, 15, "out of memory"),
-            (Status::NotYet, 30, "not yet"),
+            (Status::BadSchema(SchemaFault::Shape), 3, "schema: fault 3"),
+            (
+                Status::BadTable(TableFault::TooManyRows),
+                4,
+                "table: fault 7",
+            ),
+            (
+                Status::BadTable(TableFault::NotText { line: 3 }),
+                4,
+                "table: fault 4 at line 3",
+            ),
+            (
+                Status::BadTable(TableFault::NotNumber { line: 3, column: 1 }),
+                4,
+                "table: fault 5 at line 3 column 1",
+            ),
         ];
         for (status, code, text) in cases {
             assert_eq!(rt; status_code(&status), code);

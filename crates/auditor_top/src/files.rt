@@ -1,0 +1,74 @@
+//! The two files that a run stands on: each is read whole, and then told what its bytes mean.
+ghost use Rattle.std.specs.Prelude.{◌≡◌, ◌≢◌, ◌≤◌, IfOk};
+ghost use Rattle.bench_core.specs.Causes.{Rose};
+ghost use Rattle.schema_json.specs.Reading.{schema_of};
+ghost use Rattle.table_load.specs.Cells.{FitsSchema};
+ghost use Rattle.table_load.specs.Tables.{table_of};
+ghost use Rattle.auditor_top.specs.Files.{GivesSchema, GivesTable};
+
+use crate::reading::{ReadFault, read_all};
+use bench_core::Source;
+use schema_json::{Schema, SchemaFault, read_schema};
+use std::alloc::Global;
+use table_load::{Table, TableFault, load};
+
+const MOST_SCHEMA: usize = 65_536;
+
+const MOST_TABLE: usize = 16_777_216;
+
+/// Why a file gives nothing.
+#[derive(Clone, Copy, Debug, PartialEq, Eq, Drop)]
+pub enum FileFault<F: Drop> {
+    /// A read failed.
+    Failed,
+    /// There was no memory.
+    NoMemory,
+    /// The bytes have this fault.
+    Bad(F),
+}
+
+/// The schema that a source's bytes mean. No more than one byte above a schema's limit is kept.
+pub fn schema_from<P: Source>(
+    alloc: Global,
+    source: &mut P,
+) -> Result<Schema, FileFault<SchemaFault>>
+    ensures means { P.told → GivesSchema result (schema_of (P.left source.old)) }
+    ensures own { result ≢ Err (FileFault.Bad SchemaFault.NoMemory) }
+    ensures later { P.faults source.old ≤ P.faults source.new }
+    ensures failed { result ≡ Err FileFault.Failed → Rose (P.faults source.old) (P.faults source.new) }
+{
+    let bytes = match read_all(alloc, source, MOST_SCHEMA) {
+        Ok(bytes) => bytes,
+        Err(ReadFault::Failed) => return Err(FileFault::Failed),
+        Err(ReadFault::NoMemory) => return Err(FileFault::NoMemory),
+    };
+    match read_schema(alloc, bytes.as_slice()) {
+        Ok(schema) => Ok(schema),
+        Err(SchemaFault::NoMemory) => Err(FileFault::NoMemory),
+        Err(fault) => Err(FileFault::Bad(fault)),
+    }
+}
+
+/// The table that a source's bytes mean over the columns of a schema.
+pub fn table_from<P: Source>(
+    alloc: Global,
+    schema: &Schema,
+    source: &mut P,
+) -> Result<Table, FileFault<TableFault>>
+    ensures means { P.told → GivesTable result (table_of schema.now.columns (P.left source.old)) }
+    ensures fits { IfOk result (λ table. FitsSchema schema.now.columns table.public) }
+    ensures own { result ≢ Err (FileFault.Bad TableFault.NoMemory) }
+    ensures later { P.faults source.old ≤ P.faults source.new }
+    ensures failed { result ≡ Err FileFault.Failed → Rose (P.faults source.old) (P.faults source.new) }
+{
+    let bytes = match read_all(alloc, source, MOST_TABLE) {
+        Ok(bytes) => bytes,
+        Err(ReadFault::Failed) => return Err(FileFault::Failed),
+        Err(ReadFault::NoMemory) => return Err(FileFault::NoMemory),
+    };
+    match load(alloc, schema, bytes.as_slice()) {
+        Ok(table) => Ok(table),
+        Err(TableFault::NoMemory) => Err(FileFault::NoMemory),
+        Err(fault) => Err(FileFault::Bad(fault)),
+    }
+}
