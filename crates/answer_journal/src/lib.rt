@@ -13,3 +13,6 @@ mod ready;
 pub use journal::{AppendFault, BackFault, Journal};
 pub use make::MakeFault;
 pub use ready::Ready;
+
+#[cfg(test)]
+mod tests;

@@ -479,4 +479,27 @@ mod tests {
         assert_eq!(rt; bench.file(), b"file".as_slice());
         Ok(())
     }
+
+    #[test]
+    fn a_crash_leaves_one_of_three_files_until_a_sync(rt: HostRuntime) -> Result<(), Fail> {
+        let room = Room {
+            file: 5,
+            sent: 0,
+            calls: 9,
+            written: 2,
+        };
+        let mut bench = MemoryBench::new(rt.alloc(), b"file", room, Vec::new(rt.alloc()), None)?;
+        assert!(rt; bench.file().len() == 4);
+        assert_eq!(rt; bench.write_at(3, b"XY"), Ok(()));
+
+        // The file as it reads, the stable bytes, and 0x37 for each byte that isn't stable.
+        for (pick, file) in [(0, b"filXY".as_slice()), (1, b"file"), (2, b"fil77")] {
+            assert_eq!(rt; bench.crashed(pick)?.file(), file);
+        }
+        assert_eq!(rt; bench.sync(), Ok(()));
+        for pick in 0..3 {
+            assert_eq!(rt; bench.crashed(pick)?.file(), b"filXY".as_slice());
+        }
+        Ok(())
+    }
 }
