@@ -136,7 +136,8 @@ fn opened<'f, R: Files>(
             .open(rt, path)?;
         *file = Some(made);
     }
-    file.as_mut().ok_or(io::Error::from(io::ErrorKind::NotFound))
+    file.as_mut()
+        .ok_or(io::Error::from(io::ErrorKind::NotFound))
 }
 
 fn length_of<F: OpenFile>(file: &F) -> io::Result<u64> {

@@ -74,7 +74,14 @@ fn a_group_is_read_whole_or_its_break_is_told(rt: HostRuntime) -> Result<(), Fai
     }
 
     // The place of a byte, another byte there, and the first place that then breaks the group.
-    let cases = [(0, 0, 0), (0, 65, 0), (0, 2, 0), (1, 2, 1), (10, 67, 10), (10, 0, 10)];
+    let cases = [
+        (0, 0, 0),
+        (0, 65, 0),
+        (0, 2, 0),
+        (1, 2, 1),
+        (10, 67, 10),
+        (10, 0, 10),
+    ];
     for (place, byte, place_of_break) in cases {
         let mut bytes = GROUP;
         if place < 11 {
