@@ -2,3 +2,4 @@ pub mod Writes
 pub mod Histories
 pub mod Makes
 pub mod Backs
+pub mod Fits

@@ -1,5 +1,6 @@
 //! Reading the journal of a bench back.
-ghost use Rattle.std.specs.Prelude.{◌≡◌, ◌≤◌, ℕ, List, true, length, IfOk, IsErr, IsErrOf, Err};
+ghost use Rattle.std.specs.Prelude.{◌≡◌, ◌≤◌, ℕ, List, true, length, All, IfOk, IsErr, IsErrOf, Err};
+ghost use Rattle.audit_types.specs.History.{FitsShape};
 ghost use Rattle.bench_core.specs.Causes.{Rose};
 ghost use Rattle.bench_core.specs.Bench.{IsQuiet, LeavesOnly};
 ghost use Rattle.journal_form.specs.Journal.{StandsAt, BreaksAt};
@@ -48,7 +49,11 @@ impl Journal {
         bench: &mut B,
     ) -> Result<(Journal, Vec<Answered>), BackFault>
         ensures stands { B.told → IfOk result (λ r. StandsAt (B.file bench.old) r.0.shape r.1.items r.0.gate) }
+
+        // Whatever the bench tells, what is read back is a history of the journal's shape.
         ensures usable { IfOk result (λ r. (r.0.usable ≡ true) × IsJournal r.0 × (length r.1.items ≡ r.0.count)) }
+        ensures fit { IfOk result (λ r. All (λ a. FitsShape r.0.shape a.column a.rows) r.1.items) }
+        ensures few { IfOk result (λ r. length r.1.items ≤ 65536) }
 
         // A journal is there exactly where the file is long enough and its header gate is open.
         ensures not_made { B.told → result ≡ Err BackFault.NotMade → IsMade (B.file bench.old) → ⊥ }
