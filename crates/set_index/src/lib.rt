@@ -8,6 +8,8 @@ mod asking;
 mod comparing;
 mod index;
 mod laws;
+#[cfg(test)]
+mod tests;
 
 pub use index::Index;
 pub use laws::{loads_over_the_schema, reads_what_fits};
