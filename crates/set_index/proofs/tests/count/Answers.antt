@@ -10,7 +10,7 @@ use Rattle.set_index.proofs.tests.count.Goals as goal
 pub rows_of-requires : goal.rows_of-requires
 rows_of-requires c =
     let over : IsOver c.in-Ok.schema.columns c.in-Ok-load_public.public =
-        public_over c.in-Ok.schema.columns c.args.table.now c.in-Ok-load_public.public c.in-Ok-load_public.ensures.public in
+    public_over c.in-Ok.schema.columns c.args.table.now c.in-Ok-load_public.public c.in-Ok-load_public.ensures.public in
     let fits : fits_public c.in-Ok-load_public.public (tree_of c.in-Ok-read_where.pred) ≡ true =
-        fits_over c.in-Ok.schema.columns c.in-Ok-load_public.public (tree_of c.in-Ok-read_where.pred) over c.in-Ok-read_where.ensures.fitting in
+    fits_over c.in-Ok.schema.columns c.in-Ok-load_public.public (tree_of c.in-Ok-read_where.pred) over c.in-Ok-read_where.ensures.fitting in
     ap (λ (p : PublicView). fits_public p (tree_of c.in-Ok-read_where.pred)) c.in-Ok-new.ensures ∙ fits
