@@ -33,7 +33,9 @@ pub struct FileSource<'a, R: Files> {
 }
 
 impl<'a, R: Files> FileSource<'a, R> {
-    pub fn new(rt: &'a R, path: &'static str) -> Self {
+    pub fn new(rt: &'a R, path: &'static str) -> Self
+        ensures fresh { result.faults ≡ 0 }
+    {
         FileSource {
             rt,
             path,
@@ -85,7 +87,9 @@ pub struct InputSource<I: Read + Drop> {
 }
 
 impl<I: Read + Drop> InputSource<I> {
-    pub fn new(reader: I) -> Self {
+    pub fn new(reader: I) -> Self
+        ensures fresh { result.faults ≡ 0 }
+    {
         InputSource { reader, faults: 0 }
     }
 }
@@ -113,7 +117,9 @@ pub struct FileBench<'a, R: Files + Print> {
 }
 
 impl<'a, R: Files + Print> FileBench<'a, R> {
-    pub fn new(rt: &'a R, path: &'static str) -> Self {
+    pub fn new(rt: &'a R, path: &'static str) -> Self
+        ensures fresh { result.faults ≡ 0 }
+    {
         FileBench {
             rt,
             path,
