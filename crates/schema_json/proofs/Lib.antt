@@ -1,5 +1,6 @@
 pub mod FirstFault
 pub mod FaultsOfColumns
+pub mod SchemaColumns
 pub mod RepeatedNames
 pub mod SecretPlaces
 pub mod ShapeKinds

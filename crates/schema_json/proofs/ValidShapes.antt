@@ -8,7 +8,7 @@ use Rattle.std.proofs.Math.ListN.{get_or-append}
 use Rattle.std.proofs.lemmas.List.Sums.{sum_by-cons}
 use Rattle.audit_types.specs.Shapes.{IsShape, AreKinds, columns, kind_at, kind_of_byte}
 use Rattle.schema_json.specs.Columns.{Column, AreColumns, is_secret, secret_count, secret_place, role_at}
-use Rattle.schema_json.specs.SecretShape.{kind_bytes, kind_byte_and, shape_of, role_of_kind}
+use Rattle.schema_json.specs.SecretShape.{IsSecretOf, kind_bytes, kind_byte_and, shape_of, role_of_kind}
 use Rattle.schema_json.specs.declared.roles.Role.{Role}
 use Rattle.schema_json.specs.declared.roles.Role.TheVariants as role
 use Rattle.schema_json.proofs.ShapeKinds.{kinds_count, few}
@@ -150,3 +150,11 @@ shape_names cs rows are place k is =
     let within : k < length (kind_bytes cs) = omega (arith, below, kinds_count cs) in
     let room : k < 8 = omega (arith, below, at_most_eight cs are) in
     named cs place k is ∙ ap (λ b. Some (role_of_kind (kind_of_byte b))) (sym (get_or-take 8 (kind_bytes cs ++ replicate 8 0) k 0 room ∙ get_or-append (kind_bytes cs) (replicate 8 0) 0 k within))
+
+-- a secret column's place among the secret ones is that of a column of its kind, in each table
+pub secret_is_of : (cs : List Column) (place k : ℕ) → AreColumns cs → secret_place cs place ≡ Some k → IsSecretOf cs (role_at cs place) k
+secret_is_of cs place k are is = record {
+  kind = kind_at (shape_of cs 0) k;
+  has = record { below = λ rows. omega (arith, secret_place_below cs place k is, shape_counts cs rows are); of_kind = λ rows. refl };
+  named = shape_names cs 0 are place k is;
+}

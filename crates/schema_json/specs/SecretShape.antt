@@ -1,9 +1,10 @@
 -- The secret columns of a schema as the shape of its table.
-use Rattle.std.specs.Prelude.{ℕ, List, [], ◌∷◌, ◌++◌, take, replicate}
+use Rattle.std.specs.Prelude.{◌≡◌, ℕ, ◌<◌, List, [], ◌∷◌, ◌++◌, take, replicate, Option, Some}
 use Rattle.audit_types.specs.declared.shapes.Kind.{Kind}
 use Rattle.audit_types.specs.declared.shapes.Kind.TheVariants as kind
 use Rattle.audit_types.specs.declared.shapes.Shape.{Shape}
-use Rattle.schema_json.specs.Columns.{Column}
+use Rattle.audit_types.specs.Shapes.{columns, kind_at}
+use Rattle.schema_json.specs.Columns.{Column, AreColumns, role_at, secret_place}
 use Rattle.schema_json.specs.declared.roles.Role.{Role}
 use Rattle.schema_json.specs.declared.roles.Role.TheVariants.{Text, Number, Sum, Max}
 
@@ -17,17 +18,34 @@ kind_byte_and Max bytes = 2 ∷ bytes
 -- the kind bytes of the secret columns, in order
 abbrev pub kind_bytes : List Column → List ℕ
 kind_bytes [] = []
-kind_bytes (c ∷ columns) = kind_byte_and c.role (kind_bytes columns)
+kind_bytes (c ∷ schema) = kind_byte_and c.role (kind_bytes schema)
 
 -- eight kind bytes, 0 where there is no column
 abbrev pub shape_kinds : List Column → List ℕ
-shape_kinds columns = take 8 (kind_bytes columns ++ replicate 8 0)
+shape_kinds schema = take 8 (kind_bytes schema ++ replicate 8 0)
 
 -- the shape of a table with these columns and so many rows
 abbrev pub shape_of : List Column → ℕ → Shape
-shape_of columns rows = record { rows = rows; kinds = shape_kinds columns }
+shape_of schema rows = record { rows = rows; kinds = shape_kinds schema }
 
 -- the role of the secret columns of a kind
 abbrev pub role_of_kind : Kind → Role
 role_of_kind kind.Sum = Sum
 role_of_kind kind.Max = Max
+
+-- each table over the schema has this secret column, and it is of this kind
+pub record HasSecret (schema : List Column) (column : ℕ) (kind : Kind) : Type 0 where
+  pub below : (rows : ℕ) → column < columns (shape_of schema rows)
+  pub of_kind : (rows : ℕ) → kind_at (shape_of schema rows) column ≡ kind
+
+-- a secret column of the kind that its role names
+pub record IsSecretOf (schema : List Column) (found : Option Role) (column : ℕ) : Type 0 where
+  pub kind : Kind
+  pub has : HasSecret schema column kind
+  pub named : found ≡ Some (role_of_kind kind)
+
+-- a place among the secret columns of a schema is a column of each table over it, of the kind that its role names
+abbrev pub PlacesAreColumns : Type 0
+PlacesAreColumns =
+    (schema : List Column) (place column : ℕ) → AreColumns schema → secret_place schema place ≡ Some column →
+    IsSecretOf schema (role_at schema place) column

@@ -5,6 +5,7 @@
 #![tactic(auto)]
 
 mod faults;
+pub mod laws;
 mod names;
 mod reading;
 mod roles;

@@ -2,7 +2,7 @@
 ghost use Rattle.std.specs.Prelude.{◌≡◌, ℕ, ◌<◌, ◌≤◌, Some, IfSome, length, map};
 ghost use Rattle.audit_types.specs.Shapes.{IsShape, columns, kind_at};
 ghost use Rattle.schema_json.specs.Columns.{AreColumns, name_at, role_at, place_of, secret_count, secret_place};
-ghost use Rattle.schema_json.specs.SecretShape.{shape_kinds, shape_of, role_of_kind};
+ghost use Rattle.schema_json.specs.SecretShape.{shape_kinds, shape_of, role_of_kind, IsSecretOf};
 ghost use Rattle.schema_json.specs.Kept.{column_of_entry};
 
 use crate::roles::Role;
@@ -83,7 +83,12 @@ impl Schema {
         requires { place < length self.now.columns }
         ensures place { result ≡ secret_place self.now.columns place }
         ensures below { IfSome result (λ k. k < secret_count self.now.columns) }
+
+        // In each table over the schema it is a column of the kind that its role names.
+        ensures kind { IfSome result (IsSecretOf self.now.columns (role_at self.now.columns place)) }
     {
+        // The count says that these are a schema's columns, and so at most eight secret ones.
+        let _count = self.count();
         if !self.role(place).is_secret() {
             return None;
         }

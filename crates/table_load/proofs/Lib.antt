@@ -10,3 +10,5 @@ pub mod HasReadMore
 pub mod GoodCells
 pub mod ColumnSteps
 pub mod SchemaFits
+pub mod GoodFiles
+pub mod AnswerSizes

@@ -1,9 +1,41 @@
 //! What is true of the definitions themselves. A law computes nothing: its contract is the law.
-ghost use Rattle.std.specs.Prelude.{◌≡◌, ℕ, ℤ, List, Some};
+ghost use Rattle.std.specs.Prelude.{◌≡◌, ◌≢◌, ℕ, ◌<◌, ◌≤◌, ◌*◌, ◌^◌, ℤ, List, [], Ok, Some, unsigned_abs};
+ghost use Rattle.audit_types.specs.Rows.{AreRows};
+ghost use Rattle.audit_types.specs.Shapes.{columns};
+ghost use Rattle.audit_types.specs.Truth.{sum_over, greatest_over};
+ghost use Rattle.audit_types.specs.History.{list_of, AreSecrets};
+ghost use Rattle.schema_json.specs.Columns.{Column, AreColumns};
+ghost use Rattle.schema_json.specs.SecretShape.{shape_of};
+ghost use Rattle.table_load.specs.Cells.{SecretView, TableView, IsPublic, IsSecret, FitsSchema};
 ghost use Rattle.table_load.specs.Numerals.{number_in, IsNumeral};
+ghost use Rattle.table_load.specs.Tables.{table_of};
 
 /// A field spells a number exactly where it is spaces, a sign or none, digits, spaces.
 pub fn spells()
     ensures only { (field : List ℕ) (z : ℤ) → number_in field ≡ Some z → IsNumeral field z }
     ensures all { (field : List ℕ) (z : ℤ) → IsNumeral field z → number_in field ≡ Some z }
 {}
+
+/// A sum over secrets has a size of at most 1,024 times 10^12, and a greatest one of at most 10^12.
+pub fn sizes_of_answers()
+    ensures sums { (s : SecretView) (column : ℕ) (rows : List ℕ) → IsSecret s → column < columns s.shape → AreRows s.shape.rows rows
+        → unsigned_abs (sum_over (list_of s.lists column) rows) ≤ 1024 * 10 ^ 12 }
+    ensures maxima { (s : SecretView) (column : ℕ) (rows : List ℕ) → IsSecret s → column < columns s.shape → AreRows s.shape.rows rows → rows ≢ []
+        → unsigned_abs (greatest_over (list_of s.lists column) rows) ≤ 10 ^ 12 }
+{}
+
+/// The lists of a table's secrets are those of its shape.
+pub fn lists_of_secrets()
+    ensures { (s : SecretView) → IsSecret s → AreSecrets s.shape s.lists }
+{}
+
+/// What bytes mean is a table: a secret part of the schema's shape, with a number in range for each row and column, and a
+/// public part of as many rows, whose columns hold what the schema's roles say.
+pub fn secrets_of_a_table()
+    ensures secret { (schema : List Column) (bytes : List ℕ) (t : TableView) → AreColumns schema → table_of schema bytes ≡ Ok t → IsSecret t.secret }
+    ensures public { (schema : List Column) (bytes : List ℕ) (t : TableView) → table_of schema bytes ≡ Ok t → IsPublic t.public }
+    ensures fits { (schema : List Column) (bytes : List ℕ) (t : TableView) → table_of schema bytes ≡ Ok t → FitsSchema schema t.public }
+    ensures shape { (schema : List Column) (bytes : List ℕ) (t : TableView) → table_of schema bytes ≡ Ok t → t.secret.shape ≡ shape_of schema t.public.rows }
+{
+    schema_json::laws::shape_of_a_table();
+}

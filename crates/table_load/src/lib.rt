@@ -6,7 +6,7 @@
 
 mod columns;
 mod faults;
-mod laws;
+pub mod laws;
 mod layout;
 mod loading;
 mod numerals;
@@ -19,7 +19,7 @@ mod tests;
 mod truth;
 
 pub use faults::TableFault;
-pub use laws::spells;
+pub use laws::{lists_of_secrets, sizes_of_answers, spells};
 pub use loading::{Table, load, load_public};
 pub use publics::Public;
 pub use secrets::Secret;

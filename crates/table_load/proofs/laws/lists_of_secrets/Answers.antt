@@ -1,0 +1,5 @@
+use Rattle.table_load.proofs.AnswerSizes.{are_secrets}
+use Rattle.table_load.proofs.laws.lists_of_secrets.Goals as goal
+
+pub returns : goal.returns
+returns c = are_secrets
