@@ -1,13 +1,12 @@
 -- Every way to write a tree builds that tree.
-use Rattle.std.proofs.Common.{◌≡◌, ℕ, Bool, true, false, List, [], ◌∷◌, ◌++◌, map, Option, Some, None, refl, sym, ap, ◌∙◌, append_assoc, subst}
+use Rattle.std.proofs.Common.{◌≡◌, ℕ, false, List, [], ◌∷◌, ◌++◌, map, Option, Some, None, refl, sym, ap, ◌∙◌, append_assoc}
 use Rattle.std.proofs.lemmas.List.{append-nil, map-append}
 use Rattle.schema_json.specs.Columns.{Column, place_of}
 use Rattle.predicate_lang.specs.Trees.{Tree, all_rows, negation, both, either, compared, among}
-use Rattle.predicate_lang.specs.Tokens as text
 use Rattle.predicate_lang.specs.Tokens.{or_word, and_word, in_word, open_bracket, close_bracket, operator, value}
 use Rattle.predicate_lang.specs.Grammar.{Disjunction, Conjunction, Operand, conj, or_conj, unit, and_unit, all, not_unit, in_brackets, compare, one_of, spell, spell_conj, spell_unit, more_literals, tree, tree_conj, tree_unit, one, two, at_column}
 use Rattle.predicate_lang.specs.Lexing.{seen}
-use Rattle.predicate_lang.specs.Building.{Frame, a_not, a_bracket, at_operand, at_name, at_literal, behind, Build, build, nothing_yet, add_or, add_and, whole, closed, is_under_not, without_nots, negated, put, put_at, puts, built}
+use Rattle.predicate_lang.specs.Building.{Frame, a_not, a_bracket, at_operand, at_literal, behind, Build, build, nothing_yet, add_or, add_and, whole, is_under_not, negated, put, puts, built}
 use Rattle.predicate_lang.specs.declared.trees.Op.{Op}
 use Rattle.predicate_lang.specs.declared.trees.Literal.{Literal}
 use Rattle.predicate_lang.specs.declared.tokens.Token.{Token}

@@ -1,13 +1,13 @@
 -- Without its trees, what the reader keeps is the machine that tells which tokens may come next.
-use Rattle.std.proofs.Common.{◌≡◌, ℕ, suc, ◌<◌, Bool, true, false, cond, nat_lt, List, [], ◌∷◌, ◌++◌, length, map, Option, Some, None, refl, sym, ap, ◌∙◌}
+use Rattle.std.proofs.Common.{◌≡◌, ℕ, suc, cond, nat_lt, List, [], ◌∷◌, length, Option, Some, None, refl, ap}
 use Rattle.std.specs.Prelude.{is_some}
 use Rattle.schema_json.specs.Columns.{Column, place_of, role_at}
-use Rattle.predicate_lang.specs.Trees.{Tree, all_rows, compared, among, is_of_role, has_operator}
-use Rattle.predicate_lang.specs.Tokens.{Token, and_word, or_word, not_word, all_word, in_word, name, value, operator, open_bracket, close_bracket, comma}
+use Rattle.predicate_lang.specs.Trees.{Tree, all_rows, compared, among, is_of_role}
+use Rattle.predicate_lang.specs.Tokens.{Token, not_word, all_word, in_word, name, value, open_bracket, close_bracket}
 use Rattle.predicate_lang.specs.Machine as machine
 use Rattle.predicate_lang.specs.Machine.{Open, State, Place, operand, behind_name, behind_operator, behind_in, behind_comma, behind_literal, behind_operand, done, step, step_at, named, public_role, complete_at, is_complete}
 use Rattle.predicate_lang.specs.Lexing.{seen}
-use Rattle.predicate_lang.specs.Building.{Frame, a_not, a_bracket, Stand, at_operand, at_name, at_operator, at_in, at_comma, at_literal, behind, Build, build, whole, without_nots, put, put_at, may_stand, may_put, built, tree_at, kind, kinds, place, erased}
+use Rattle.predicate_lang.specs.Building.{Frame, a_not, a_bracket, Stand, at_operand, at_name, at_operator, at_in, at_comma, at_literal, behind, Build, build, whole, without_nots, put, put_at, may_stand, may_put, built, tree_at, kinds, place, erased}
 use Rattle.predicate_lang.specs.declared.tokens.Token.TheVariants.{Column as ColumnToken}
 
 length-kinds : (fs : List Frame) → length (kinds fs) ≡ length fs

@@ -1,5 +1,5 @@
 -- What is open, kept with the innermost last.
-use Rattle.std.proofs.Common.{◌≡◌, List, [], ◌∷◌, ◌++◌, length, map, take, get_or, ℕ, ◌<◌, ◌-◌, ◌+◌, false, arith, refl, sym, ap, ◌∙◌}
+use Rattle.std.proofs.Common.{◌≡◌, List, [], ◌∷◌, ◌++◌, length, map, take, get_or, ◌<◌, ◌-◌, ◌+◌, false, arith, refl, sym, ap, ◌∙◌}
 use Rattle.std.specs.Prelude.{reverse}
 use Rattle.predicate_lang.specs.Trees.{Tree}
 use Rattle.std.proofs.lemmas.List.{map-append, reverse-append, length-map, length-reverse, take_all, take_more}

@@ -27,10 +27,10 @@ take_behind p bytes at n is =
     let many : at + 1 + n - (at + 1) ≡ n = omega arith in
     ap (λ k. take k (drop (at + 1) bytes)) (many ∙ is) ∙ take_passing p (drop (at + 1) bytes)
 
-letter_ascii : (b : ℕ) → is_ascii_alphabetic b ≡ true → b < 128
+pub letter_ascii : (b : ℕ) → is_ascii_alphabetic b ≡ true → b < 128
 letter_ascii b h = grind (arith, nat_tests)
 
-name_byte_ascii : (b : ℕ) → is_name_byte b ≡ true → b < 128
+pub name_byte_ascii : (b : ℕ) → is_name_byte b ≡ true → b < 128
 name_byte_ascii b h = grind (arith, nat_tests)
 
 -- the bytes of a name are ASCII

@@ -8,15 +8,14 @@ use Rattle.predicate_lang.specs.Trees.{Tree}
 use Rattle.predicate_lang.specs.Tokens.{Token, Front, Placed, Lexed, is_blank, front_token, lex_front, lex_from, lexed, lexed_from, no_tokens, with_token}
 use Rattle.predicate_lang.specs.Grammar.{Writes, IsPredicate, BeginPredicate}
 use Rattle.predicate_lang.specs.Places.{tokens_of, Means, Refuses, unfit, too_many, no_token, unfinished, IsPlace}
-use Rattle.predicate_lang.specs.Machine.{State, run, start, step, is_complete}
+use Rattle.predicate_lang.specs.Machine.{State, run, start, is_complete}
 use Rattle.predicate_lang.specs.Lexing.{seen, IsNext}
 use Rattle.predicate_lang.specs.Building.{Build, nothing_yet, put, puts, may_put, built, erased}
 use Rattle.predicate_lang.specs.Reads.{followed, HasRead}
 use Rattle.predicate_lang.specs.declared.tokens.Lexeme.{Lexeme}
-use Rattle.predicate_lang.proofs.Runs.{run-none, run-append, begins_runs, runs_predicate}
-use Rattle.predicate_lang.proofs.Sound.{complete_predicate}
-use Rattle.predicate_lang.proofs.Goes.{goes_on_predicate}
-use Rattle.predicate_lang.proofs.Ways.{one_tree}
+use Rattle.predicate_lang.proofs.PredicatesRunThrough.{run-none, run-append, begins_runs, runs_predicate}
+use Rattle.predicate_lang.proofs.RunsSpellPredicates.{complete_predicate}
+use Rattle.predicate_lang.proofs.RunsCanBeCompleted.{goes_on_predicate}
 use Rattle.predicate_lang.proofs.Erased.{step_is, complete_is}
 use Rattle.predicate_lang.proofs.Built.{puts-append, built_way}
 

@@ -1,8 +1,7 @@
 -- The tokens from an offset on, one step at a time.
-use Rattle.std.proofs.Common.{◌≡◌, ℕ, zero, suc, ◌+◌, ◌-◌, ◌<◌, ◌≤◌, Bool, true, false, cond, List, [], ◌∷◌, length, drop, take, get_or, Option, Some, None, refl, sym, ap, ◌∙◌, arith, add-one, length-drop}
-use Rattle.std.specs.Prelude.{slice_get}
+use Rattle.std.proofs.Common.{◌≡◌, ℕ, zero, suc, ◌+◌, ◌<◌, ◌≤◌, Bool, true, false, cond, List, [], ◌∷◌, length, drop, get_or, Option, Some, None, refl, sym, ap, ◌∙◌, arith, add-one, length-drop}
 use Rattle.std.proofs.lemmas.List.{drop_more, drop-drop, drop_all}
-use Rattle.predicate_lang.specs.Tokens.{Token, Front, Placed, Lexed, is_blank, front_token, lex_front, lex_from, lexed_from, no_tokens, with_token}
+use Rattle.predicate_lang.specs.Tokens.{Front, Lexed, is_blank, front_token, lex_front, lex_from, lexed_from, no_tokens, with_token}
 
 abbrev one_step : ℕ → ℕ → ℕ → List ℕ → Lexed
 one_step t at b bytes = cond (is_blank b) (lex_from t (at + 1) bytes) (lex_front at (front_token b bytes) (λ n. lex_from t (at + 1 + n) (drop n bytes)))

@@ -1,7 +1,11 @@
-pub mod Runs
-pub mod Sound
-pub mod Goes
-pub mod Ways
+pub mod PredicatesRunThrough
+pub mod RunsSpellPredicates
+pub mod RunsCanBeCompleted
+pub mod OneWayToSpell
+pub mod RoundTrip
+pub mod ReadAgain
+pub mod LeastWays
+pub mod TextsRead
 pub mod Frames
 pub mod Lexed
 pub mod Numbers
@@ -12,3 +16,9 @@ pub mod Erased
 pub mod Built
 pub mod LeastPlace
 pub mod Refusals
+pub mod QuotedTexts
+pub mod TokenFronts
+pub mod PrintableTokens
+pub mod Spaced
+pub mod Pushes
+pub mod Written

@@ -4,7 +4,7 @@ use Rattle.std.specs.Prelude.{◌==◌, option_map}
 use Rattle.std.specs.Char.{is_ascii_alphabetic, is_ascii_digit}
 use Rattle.std.proofs.lemmas.Bool.{eq-eqb}
 use Rattle.schema_json.specs.Columns.{Column}
-use Rattle.predicate_lang.specs.Tokens.{Front, is_blank, front_token, word_front, number_front, text_front, quoted, mark_front, lexed_from, no_tokens, with_token}
+use Rattle.predicate_lang.specs.Tokens.{Front, is_blank, front_token, word_front, number_front, text_front, quoted, mark_front, lexed_from, no_tokens}
 use Rattle.predicate_lang.specs.Lexing.{seen, seen_front, lexeme, IsNext}
 use Rattle.predicate_lang.specs.declared.tokens.Lexeme.{Lexeme}
 use Rattle.predicate_lang.specs.declared.tokens.Token.{Token}

@@ -1,5 +1,5 @@
 -- What a private call refuses is refused at its place.
-use Rattle.std.proofs.Common.{◌≡◌, ℕ, ◌<◌, ◌≤◌, Bool, true, false, List, length, Option, Some, None, Result, Ok, Err, refl, sym, subst}
+use Rattle.std.proofs.Common.{◌≡◌, ℕ, ◌<◌, Bool, false, List, length, Option, Some, None, Ok, Err, sym, subst}
 use Rattle.schema_json.specs.Columns.{Column}
 use Rattle.predicate_lang.specs.Trees.{Tree, tree_of}
 use Rattle.predicate_lang.specs.Tokens.{lexed_from, no_tokens}
@@ -10,7 +10,7 @@ use Rattle.predicate_lang.specs.declared.trees.Pred.{Pred}
 use Rattle.predicate_lang.specs.declared.trees.WhereFault.{WhereFault}
 use Rattle.predicate_lang.specs.declared.trees.WhereFault.TheVariants.{Bad, NoMemory}
 use Rattle.predicate_lang.proofs.LeastPlace.{refused_means_nothing, refused_within}
-use Rattle.predicate_lang.proofs.Ways.{one_tree}
+use Rattle.predicate_lang.proofs.OneWayToSpell.{one_tree}
 
 pub refused_put : (columns : List Column) (text : List ℕ) (test : Bool) (b : Build) (at : ℕ) (fault : WhereFault) → Goes test b at (Err fault) → (test ≡ false → IsPlace columns text at) → IsWhereFault columns text fault
 refused_put columns text test b at (Bad n) h place = subst (IsPlace columns text) (sym h.1) (place h.0)

@@ -1,6 +1,6 @@
 -- What the reader keeps between two tokens: the tree so far, with what is open. Contracts of private calls speak of it.
-use Rattle.std.specs.Prelude.{ℕ, Bool, true, false, cond, List, [], ◌∷◌, ◌++◌, length, map, reverse, Option, Some, None, option_map, nat_lt, ◌≡◌, ◌+◌, Result, Ok, Err}
-use Rattle.schema_json.specs.Columns.{Column, place_of, role_at}
+use Rattle.std.specs.Prelude.{ℕ, Bool, true, false, List, [], ◌∷◌, ◌++◌, length, map, reverse, Option, Some, None, nat_lt, ◌≡◌, Result, Ok, Err}
+use Rattle.schema_json.specs.Columns.{Column, role_at}
 use Rattle.predicate_lang.specs.Trees.{Tree, all_rows, negation, both, either, compared, among, tree_of, is_of_role, has_operator}
 use Rattle.predicate_lang.specs.Machine as machine
 use Rattle.predicate_lang.specs.Machine.{Open, Place, operand, behind_name, behind_operator, behind_in, behind_comma, behind_literal, behind_operand, public_role}

@@ -10,6 +10,7 @@ use Rattle.predicate_lang.specs.declared.trees.Op.{Op}
 use Rattle.predicate_lang.specs.declared.trees.Literal.{Literal}
 use Rattle.predicate_lang.specs.declared.trees.Literal.TheVariants.{Number, Text}
 
+-- in brackets where they are wanted
 abbrev pub bracketed : Bool → List Token → List Token
 bracketed false ts = ts
 bracketed true ts = open_bracket ∷ (ts ++ close_bracket ∷ [])
@@ -22,6 +23,7 @@ is_or (either p q) = true
 is_or (compared c o l) = false
 is_or (among c ls) = false
 
+-- an `or` or an `and`
 abbrev pub is_or_and : Tree → Bool
 is_or_and all_rows = false
 is_or_and (negation p) = false
@@ -30,9 +32,11 @@ is_or_and (either p q) = true
 is_or_and (compared c o l) = false
 is_or_and (among c ls) = false
 
+-- the name of a column
 abbrev pub name_of : List Column → ℕ → Token
 name_of columns c = name (unwrap_or (name_at columns c) [])
 
+-- the literals of an `in` with a comma between two, and the bracket that closes them
 abbrev pub list_tokens : List Literal → List Token
 list_tokens [] = []
 list_tokens (l ∷ ls) = value l ∷ more_literals ls
@@ -59,10 +63,12 @@ abbrev pub doubled : List ℕ → List ℕ
 doubled [] = []
 doubled (b ∷ bytes) = cond (b == 39) (39 ∷ 39 ∷ doubled bytes) (b ∷ doubled bytes)
 
+-- a number in decimal, or a text in quotes
 abbrev pub literal_text : Literal → List ℕ
 literal_text (Number n) = signed_decimal n
 literal_text (Text t) = 39 ∷ (doubled t ++ 39 ∷ [])
 
+-- how a token is printed
 abbrev pub token_text : Token → List ℕ
 token_text and_word = codes "and"
 token_text or_word = codes "or"
@@ -76,7 +82,7 @@ token_text open_bracket = codes "("
 token_text close_bracket = codes ")"
 token_text comma = codes ","
 
--- no space stands after this token, or before it
+-- no space stands before this token
 abbrev pub closes : Token → Bool
 closes close_bracket = true
 closes comma = true
@@ -90,6 +96,7 @@ closes (value l) = false
 closes (operator o) = false
 closes open_bracket = false
 
+-- no space stands after this token
 abbrev pub opens : Token → Bool
 opens open_bracket = true
 opens close_bracket = false
@@ -103,6 +110,7 @@ opens (name n) = false
 opens (value l) = false
 opens (operator o) = false
 
+-- a token and those behind it
 abbrev pub spaced_after : Token → List Token → List ℕ
 spaced_after t [] = token_text t
 spaced_after t (u ∷ ts) = token_text t ++ (cond (opens t || closes u) [] (32 ∷ []) ++ spaced_after u ts)
@@ -112,5 +120,6 @@ abbrev pub spaced : List Token → List ℕ
 spaced [] = []
 spaced (t ∷ ts) = spaced_after t ts
 
+-- the text of a tree
 abbrev pub printed : List Column → Tree → List ℕ
 printed columns t = spaced (print_tokens columns t)

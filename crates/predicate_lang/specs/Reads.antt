@@ -1,9 +1,9 @@
 -- How far a text has been read: contracts and invariants of the reader speak of it.
-use Rattle.std.specs.Prelude.{◌≡◌, ℕ, List, [], ◌∷◌, length, map, Option, Some, None}
+use Rattle.std.specs.Prelude.{◌≡◌, ℕ, List, [], ◌∷◌, length, map, Some}
 use Rattle.schema_json.specs.Columns.{Column}
 use Rattle.predicate_lang.specs.Tokens.{Placed, Lexed, lexed, lexed_from, with_token}
 use Rattle.predicate_lang.specs.Places.{tokens_of}
-use Rattle.predicate_lang.specs.Machine.{State, run, start}
+use Rattle.predicate_lang.specs.Machine.{run, start}
 use Rattle.predicate_lang.specs.Lexing.{seen}
 use Rattle.predicate_lang.specs.Building.{Build, nothing_yet, puts, erased}
 

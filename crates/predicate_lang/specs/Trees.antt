@@ -1,5 +1,5 @@
 -- Predicates as trees.
-use Rattle.std.specs.Prelude.{ℕ, Bool, true, false, ◌&&◌, List, [], ◌∷◌, Option, Some, None}
+use Rattle.std.specs.Prelude.{ℕ, suc, max, Bool, true, false, ◌&&◌, List, [], ◌∷◌, Option, Some, None}
 use Rattle.std.specs.List.{list_all, AllByRecursion}
 use Rattle.std.specs.Str.{IsUtf8}
 use Rattle.schema_json.specs.Columns.{Column, role_at}
@@ -31,6 +31,15 @@ tree_step (Pred-F.Within column literals) = among column literals
 -- the tree that a `Pred` is
 abbrev pub tree_of : Pred → Tree
 tree_of = fold-Pred Tree tree_step
+
+-- how deep it is
+abbrev pub height : Tree → ℕ
+height all_rows = 1
+height (negation p) = suc (height p)
+height (both p q) = suc (max (height p) (height q))
+height (either p q) = suc (max (height p) (height q))
+height (compared c o l) = 1
+height (among c ls) = 1
 
 -- ---- what fits a schema
 
@@ -70,6 +79,7 @@ fits columns (among c ls) = has_literals ls && list_all (is_of_role (role_at col
 
 -- ---- texts that can be printed
 
+-- a text is UTF-8
 abbrev pub IsTextLiteral : Literal → Type 0
 IsTextLiteral (literal.Number n) = Unit {0}
 IsTextLiteral (literal.Text t) = IsUtf8 t

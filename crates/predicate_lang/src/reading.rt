@@ -1,6 +1,6 @@
 //! Texts to predicates: one pass from left to right, which stops at the first offset that is due.
 ghost use Rattle.std.specs.Prelude.{◌≡◌, ◌≤◌, true, length, IfOk, IfErr};
-ghost use Rattle.predicate_lang.specs.Trees.{Tree, tree_of, fits};
+ghost use Rattle.predicate_lang.specs.Trees.{Tree, tree_of, height, fits, AreTexts};
 ghost use Rattle.predicate_lang.specs.Places.{Means, ReadsTree, IsWhereFault, IsWithin};
 ghost use Rattle.predicate_lang.specs.Building.{build_of};
 ghost use Rattle.predicate_lang.specs.Reads.{HasRead};
@@ -71,6 +71,10 @@ pub fn read_where(alloc: Global, schema: &Schema, text: &str) -> Result<Pred, Wh
     ensures within { IfErr result (IsWithin (length text.now)) }
     // Each predicate that is read fits the schema.
     ensures fitting { IfOk result (λ p. fits schema.now.columns (tree_of p) ≡ true) }
+    // It is at most as deep as a text may have tokens.
+    ensures shallow { IfOk result (λ p. height (tree_of p) ≤ 512) }
+    // Its texts are UTF-8.
+    ensures texts { IfOk result (λ p. AreTexts (tree_of p)) }
 {
     let mut state = State::new(alloc);
     let mut from = 0usize;

@@ -1,5 +1,6 @@
 //! Conditions over a table of a department, an age and two secret columns.
 
+use crate::printing::print_where;
 use crate::reading::read_where;
 use crate::trees::{Pred, WhereFault};
 use schema_json::{Schema, read_schema};
@@ -77,4 +78,52 @@ fn a_condition_is_read_by_its_grammar(rt: HostRuntime) {
         "(age = 1 or all)and dept in('QA','OPS')",
     );
     assert!(rt; matches!(both, Ok(Pred::And(_, _))));
+}
+
+/// Whether a condition is read, and printed as this text, which can be read too.
+fn prints(alloc: Global, schema: &Schema, text: &str, printed: &str) -> bool {
+    if text.len() > 8192 {
+        return false;
+    }
+    match read_where(alloc, schema, text) {
+        Ok(pred) => match print_where(alloc, schema, &pred) {
+            Ok(found) => {
+                found.as_str() == printed && read_where(alloc, schema, found.as_str()).is_ok()
+            }
+            Err(_) => false,
+        },
+        Err(_) => false,
+    }
+}
+
+#[test]
+fn a_condition_is_printed_and_read_again(rt: HostRuntime) {
+    let schema = read_schema(rt.alloc(), SCHEMA).expect(&rt, "a schema");
+    let cases = [
+        ("dept='QA'", "dept = 'QA'"),
+        (
+            "age>=41 and not(dept='DEV')",
+            "age >= 41 and not dept = 'DEV'",
+        ),
+        (" dept\n= 'Sales, North' ", "dept = 'Sales, North'"),
+        ("(dept = 'Bob''s')", "dept = 'Bob''s'"),
+        ("dept!='''é'''", "dept != '''é'''"),
+        ("age > -1000000000000", "age > -1000000000000"),
+        ("age in(-007,0 , -0,12)", "age in (-7, 0, 0, 12)"),
+        ("dept in ( 'QA','' )", "dept in ('QA', '')"),
+        ("((all)) or (all or all)", "all or (all or all)"),
+        (
+            "(all and all)and(all and all)",
+            "all and all and (all and all)",
+        ),
+        (
+            "not(all or not(all and age<1))and(age<=2 or age>3)",
+            "not (all or not (all and age < 1)) and (age <= 2 or age > 3)",
+        ),
+        ("(all or all) or all and all", "all or all or all and all"),
+    ];
+    for (text, printed) in cases {
+        assert!(rt; prints(rt.alloc(), &schema, text, printed), "{text}");
+        assert!(rt; prints(rt.alloc(), &schema, printed, printed), "{printed}");
+    }
 }

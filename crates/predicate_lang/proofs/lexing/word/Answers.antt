@@ -1,4 +1,4 @@
-use Rattle.std.proofs.Common.{ap, ◌≡◌, List, ℕ, Some, ◌+◌, ◌≤◌, length, drop, get_or, ◌∷◌, sym, ◌∙◌, arith}
+use Rattle.std.proofs.Common.{ap, ◌≡◌, ℕ, Some, ◌+◌, length, drop, get_or, ◌∷◌, sym, ◌∙◌}
 use Rattle.std.specs.List.{take_while}
 use Rattle.std.proofs.lemmas.List.{take_rest}
 use Rattle.schema_json.specs.Columns.{is_name_byte}
