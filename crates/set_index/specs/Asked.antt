@@ -1,10 +1,7 @@
 -- What a condition means over the public part of a table.
-use Rattle.std.specs.Prelude.{ℕ, Bool, true, false, ◌&&◌, List, Option, Some, None}
+use Rattle.std.specs.Prelude.{ℕ, Bool, true, false, ◌&&◌, List}
 use Rattle.std.specs.List.{list_any, list_all}
 use Rattle.audit_types.specs.Rows.{rows_that}
-use Rattle.schema_json.specs.Columns.{Column, role_at}
-use Rattle.schema_json.specs.declared.roles.Role.{Role}
-use Rattle.schema_json.specs.declared.roles.Role.TheVariants as role
 use Rattle.table_load.specs.Cells.{PublicView, Cells, hidden, numbers, texts, cells_at, number_of_cell, text_of_cell}
 use Rattle.predicate_lang.specs.Trees.{Tree, all_rows, negation, both, either, compared, among}
 use Rattle.predicate_lang.specs.Meaning.{Row, satisfies, compares_cell}
@@ -50,19 +47,3 @@ fits_public p (both t u) = fits_public p t && fits_public p u
 fits_public p (either t u) = fits_public p t && fits_public p u
 fits_public p (compared place o l) = is_kept (cells_at p place) l
 fits_public p (among place ls) = are_kept (cells_at p place) ls
-
--- a column holds what a role says; of a secret column nothing is asked
-abbrev pub HoldsRole : Option Role → Cells → Type 0
-HoldsRole (Some role.Text) hidden = ⊥
-HoldsRole (Some role.Text) (numbers xs) = ⊥
-HoldsRole (Some role.Text) (texts ts) = Unit {0}
-HoldsRole (Some role.Number) hidden = ⊥
-HoldsRole (Some role.Number) (numbers xs) = Unit {0}
-HoldsRole (Some role.Number) (texts ts) = ⊥
-HoldsRole (Some role.Sum) cells = Unit {0}
-HoldsRole (Some role.Max) cells = Unit {0}
-HoldsRole None cells = Unit {0}
-
--- a public part has the columns of a schema
-abbrev pub IsOver : List Column → PublicView → Type 0
-IsOver columns p = (place : ℕ) → HoldsRole (role_at columns place) (cells_at p place)

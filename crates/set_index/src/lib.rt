@@ -1,7 +1,7 @@
 //! Which rows of a table satisfy a condition.
 //!
 //! Start with `Index::rows_of`: its clause says that it answers the rows that the condition means, by the public columns
-//! alone. `reads_what_fits` and `loads_over_the_schema` say that what fits a table's schema can be asked of the table.
+//! alone. `reads_what_fits` and `loads_what_fits` say that what fits a table's schema can be asked of the table.
 #![tactic(auto)]
 
 mod asking;
@@ -12,4 +12,4 @@ mod laws;
 mod tests;
 
 pub use index::Index;
-pub use laws::{loads_over_the_schema, reads_what_fits};
+pub use laws::{loads_what_fits, reads_what_fits};
