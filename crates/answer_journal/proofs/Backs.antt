@@ -1,17 +1,14 @@
 -- Reading a journal from its front, group by group.
-use Rattle.std.proofs.Common.{◌≡◌, ◌≢◌, ℕ, ◌+◌, ◌-◌, ◌<◌, ◌≤◌, inl, inr, List, [], ◌∷◌, ◌++◌, length, get_or, take, drop, refl, sym, ap, subst, ◌∙◌, arith, append_assoc, append-nil, add-one, one-add, Result, Err, length-append, length-take, length-drop, take-add}
+use Rattle.std.proofs.Common.{◌≡◌, ◌≢◌, ℕ, ◌+◌, ◌-◌, ◌<◌, ◌≤◌, inl, inr, List, [], ◌∷◌, ◌++◌, length, get_or, take, drop, refl, sym, ap, subst, ◌∙◌, arith, append_assoc, append-nil, add-one, one-add, length-append, length-take, length-drop, take-add}
 use Rattle.std.proofs.Math.Seq.{drop-cons}
-use Rattle.std.proofs.lemmas.List.{take-append-drop, take_all, get_or-take, nil_from_length}
+use Rattle.std.proofs.lemmas.List.{take-append-drop, take_all, nil_from_length}
 use Rattle.std.proofs.lemmas.List.Concat.{flat_map-cons}
 use Rattle.std.proofs.lemmas.Grind.{flat_map-append}
 use Rattle.audit_types.specs.declared.shapes.Shape.{Shape}
 use Rattle.audit_types.specs.declared.records.Answered.{Answered}
-use Rattle.journal_form.specs.Header.{header, IsWholeShape, IsGoodHeaderByte, HeaderBreaks}
+use Rattle.journal_form.specs.Header.{header, IsWholeShape}
 use Rattle.journal_form.specs.Group.{IsGroup, GroupBreaks}
 use Rattle.journal_form.specs.Journal.{Written, AreGroups, texts, records, gate_behind, Begins, StandsAt, BreaksBehind}
-use Rattle.answer_journal.specs.declared.journal.BackFault.{BackFault}
-use Rattle.answer_journal.specs.declared.journal.BackFault.TheVariants.{Damaged}
-use Rattle.answer_journal.specs.declared.reading.Contents.{Contents}
 use Rattle.answer_journal.proofs.Histories.{stands_by}
 
 -- the bytes before the gate are the header and whole groups of these records
@@ -104,38 +101,3 @@ module _ (bytes : List ℕ) (shape : Shape) (list : List Answered) (gate : ℕ) 
 -- a slice from a place on
 pub rest_is : (n : ℕ) (bytes : List ℕ) → take (length bytes - n) (drop n bytes) ≡ drop n bytes
 rest_is n bytes = take_all (length bytes - n) (drop n bytes) (omega (arith, length-drop n bytes))
-
-good_same : (a b : List ℕ) (k : ℕ) → k < 20 → ((k : ℕ) → k < 20 → get_or a k 0 ≡ get_or b k 0) → IsGoodHeaderByte a k → IsGoodHeaderByte b k
-good_same a b k lt e h =
-    let nine = e 9 (omega arith) in
-    let ten = e 10 (omega arith) in
-    let eleven = e 11 (omega arith) in
-    let this = e k lt in
-    record {
-      front = λ below. sym this ∙ h.front below;
-      rows_high = λ at. let high = h.rows_high at in omega (arith, high, nine);
-      rows_low = λ at. let low = h.rows_low at in (omega (arith, low.0, nine, ten), omega (arith, low.1, nine, ten));
-      columns = λ at. let few = h.columns at in omega (arith, few, eleven);
-      kind = λ from below. elim (h.kind from (omega (arith, below, eleven))) [ inl one ↦ inl (sym this ∙ one) | inr two ↦ inr (sym this ∙ two) ];
-      no_kind = λ from. sym this ∙ h.no_kind (omega (arith, from, eleven));
-    }
-
--- what breaks the first twenty bytes breaks the file
-pub header_breaks : (bytes : List ℕ) (at : ℕ) → 20 ≤ length bytes → HeaderBreaks (take 20 bytes) at → HeaderBreaks bytes at
-header_breaks bytes at long breaks =
-    let same : (k : ℕ) → k < 20 → get_or (take 20 bytes) k 0 ≡ get_or bytes k 0 = λ k lt. get_or-take 20 bytes k 0 lt in
-    record {
-      before = λ k lt. good_same (take 20 bytes) bytes k (omega (arith, lt, breaks.within)) same (breaks.before k lt);
-      within = breaks.within;
-      stops = elim breaks.stops [
-        | inl ended ↦ absurd (omega (arith, ended, breaks.within, length-take 20 bytes))
-        | inr bad ↦ inr (omega (arith, breaks.within), λ good. bad.1 (good_same bytes (take 20 bytes) at breaks.within (λ k lt. sym (same k lt)) good))
-      ];
-    }
-
-abbrev damaged : ℕ → Result Contents BackFault
-damaged at = Err (Damaged at)
-
--- two places of damage in one result are one
-pub damaged_at : (a b : ℕ) → damaged a ≡ damaged b → a ≡ b
-damaged_at a b e = cc

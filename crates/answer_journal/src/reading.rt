@@ -1,11 +1,13 @@
 //! Reading the bytes of a whole journal.
-ghost use Rattle.std.specs.Prelude.{◌≡◌, ◌≤◌, ◌-◌, ◌+◌, ◌++◌, ℕ, [], length, take, IfOk, Err};
+ghost use Rattle.std.specs.Prelude.{◌≡◌, ℕ, take, IfOk, IfErr, Err};
 ghost use Rattle.journal_form.specs.Header.{header, IsWholeShape};
-ghost use Rattle.journal_form.specs.Journal.{StandsAt, BreaksAt, BreaksBehind};
+ghost use Rattle.journal_form.specs.Journal.{StandsAt};
+ghost use Rattle.answer_journal.specs.Faults.{IsFaultOf};
 ghost use Rattle.answer_journal.specs.Moments.{IsMade};
 
 use crate::journal::BackFault;
 use audit_types::{Answered, Shape};
+use journal_form::laws::the_front_tells;
 use journal_form::{GroupFault, read_group, read_header};
 use std::alloc::Global;
 
@@ -23,11 +25,10 @@ pub struct Contents {
 /// Reads a journal. It never answers `Failed`.
 pub fn read_all(alloc: Global, bytes: &[u8]) -> Result<Contents, BackFault>
     ensures ok { IfOk result (λ journal. StandsAt bytes.now journal.shape journal.list.items journal.gate) }
-    ensures not_made { result ≡ Err BackFault.NotMade → IsMade bytes.now → ⊥ }
-    ensures made { (IsMade bytes.now → ⊥) → result ≡ Err BackFault.NotMade }
-    ensures damaged { (at : ℕ) → result ≡ Err (BackFault.Damaged at) → BreaksAt bytes.now at }
+    ensures err { IfErr result (λ fault. IsFaultOf bytes.now fault) }
     ensures steady { result ≡ Err BackFault.Failed → ⊥ }
 {
+    the_front_tells();
     if bytes.len() < 21 || bytes[0] != 1 {
         return Err(BackFault::NotMade);
     }
@@ -43,9 +44,9 @@ pub fn read_all(alloc: Global, bytes: &[u8]) -> Result<Contents, BackFault>
 fn read_groups(alloc: Global, shape: Shape, bytes: &[u8]) -> Result<Contents, BackFault>
     requires shape { IsWholeShape shape }
     requires header { take 20 bytes.now ≡ header shape }
+    requires made { IsMade bytes.now }
     ensures ok { IfOk result (λ journal. StandsAt bytes.now journal.shape journal.list.items journal.gate) }
-    ensures made { result ≡ Err BackFault.NotMade → ⊥ }
-    ensures damaged { (at : ℕ) → result ≡ Err (BackFault.Damaged at) → BreaksBehind bytes.now at }
+    ensures err { IfErr result (λ fault. IsFaultOf bytes.now fault) }
     ensures steady { result ≡ Err BackFault.Failed → ⊥ }
 {
     let mut list = Vec::new(alloc);

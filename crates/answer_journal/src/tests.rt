@@ -151,3 +151,72 @@ fn damage_is_told_by_its_place(rt: HostRuntime) -> Result<(), Fail> {
     }
     Ok(())
 }
+
+// What reading back a file tells: the number of records, or the fault.
+fn told(alloc: Global, file: &[u8]) -> Result<Result<u32, BackFault>, Fail> {
+    let room = Room {
+        file: file.len() as u64,
+        ..ROOM
+    };
+    let mut bench = MemoryBench::new(alloc, file, room, Vec::new(alloc), None)?;
+    match Journal::read_back(alloc, &mut bench) {
+        Ok(read) => Ok(Ok(read.0.count())),
+        Err(fault) => Ok(Err(fault)),
+    }
+}
+
+#[test]
+fn each_length_cut_is_told_at_its_end(rt: HostRuntime) -> Result<(), Fail> {
+    for length in 0..33usize {
+        // A header has 20 bytes, and a gate stands behind it.
+        let due = if length < 21 {
+            BackFault::NotMade
+        } else {
+            BackFault::Damaged { at: length as u64 }
+        };
+        assert_eq!(rt; told(rt.alloc(), &WITH_ONE[..length])?, Err(due));
+    }
+    assert_eq!(rt; told(rt.alloc(), &WITH_ONE)?, Ok(1));
+    Ok(())
+}
+
+#[test]
+fn each_byte_changed_is_told_by_the_grammar(rt: HostRuntime) -> Result<(), Fail> {
+    for place in 0..33usize {
+        let due = match place {
+            0 => Err(BackFault::NotMade),
+            // 55 rows are good, but then the set has seven bytes, and the file ends within it.
+            10 => Err(BackFault::Damaged { at: 33 }),
+            // A closed gate ends the list.
+            20 => Ok(0),
+            // A group of 55 records ends within the second one.
+            21 => Err(BackFault::Damaged { at: 33 }),
+            1..=19 | 22 => Err(BackFault::Damaged { at: place as u64 }),
+            // Every answer is well formed, the set has no padding bit, and the last gate stays closed.
+            _ => Ok(1),
+        };
+        let mut file = WITH_ONE;
+        file[place] = 0x37;
+        assert_eq!(rt; told(rt.alloc(), &file)?, due);
+    }
+    Ok(())
+}
+
+#[test]
+fn what_stands_behind_the_closed_gate_has_no_meaning(rt: HostRuntime) -> Result<(), Fail> {
+    let alloc = rt.alloc();
+    let room = Room {
+        file: 9_200_000,
+        ..ROOM
+    };
+
+    // The length of a file that begins as the journal with one record; behind it stand other bytes.
+    for length in [33, 34, 100, 9_109_525, 9_109_526, 9_200_000] {
+        let mut file = WITH_ONE.to_vec(alloc)?;
+        file.resize(length, 0x37)?;
+        assert!(rt; file.len() <= 9_200_000);
+        let mut bench = MemoryBench::new(alloc, &file, room, Vec::new(alloc), None)?;
+        assert_eq!(rt; records_of(alloc, &mut bench), Some(1));
+    }
+    Ok(())
+}

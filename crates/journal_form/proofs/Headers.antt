@@ -1,11 +1,12 @@
 -- The bytes of a header: what a good byte is, and that twenty good bytes are the header of a shape.
-use Rattle.std.proofs.Common.{◌≡◌, ℕ, zero, suc, ◌+◌, ◌*◌, ◌/◌, ◌%◌, ◌<◌, ◌≤◌, ◌⊎◌, inl, inr, cond, List, [], ◌∷◌, length, get_or, drop, refl, subst, arith}
+use Rattle.std.proofs.Common.{◌≡◌, ℕ, zero, suc, ◌+◌, ◌-◌, ◌*◌, ◌/◌, ◌%◌, ◌<◌, ◌≤◌, ◌⊎◌, inl, inr, cond, List, [], ◌∷◌, ◌++◌, length, get_or, drop, refl, subst, ◌∙◌, arith}
 use Rattle.std.specs.List.{AllByRecursion}
 use Rattle.std.specs.Prelude.{count_by, nat_lt}
-use Rattle.std.proofs.Math.Seq.{drop-cons}
+use Rattle.std.proofs.Math.Seq.{drop-cons, get_or-append_right}
+use Rattle.std.proofs.Math.ListN.{get_or-append}
 use Rattle.std.proofs.lemmas.Bool.{cases_lt}
 use Rattle.std.proofs.lemmas.List.{get_or-drop, length-drop, nil_from_length}
-use Rattle.std.proofs.lemmas.List.Sums.{sum_by-cons}
+use Rattle.std.proofs.lemmas.List.Sums.{sum_by-cons, count_by-le-length}
 use Rattle.audit_types.specs.declared.shapes.Shape.{Shape}
 use Rattle.audit_types.specs.Shapes.{columns, AreKinds}
 use Rattle.journal_form.specs.Header.{front, header, rows_of_header, IsGoodHeaderByte, IsWholeShape}
@@ -77,6 +78,44 @@ count_kinds (b ∷ kinds) (suc columns) le some none =
     let rest : count_by (λ x. nat_lt 0 x) kinds ≡ columns = count_kinds kinds columns (omega arith) (λ k lt. some (suc k) (omega arith)) (λ k lt from. none (suc k) (omega arith) (omega arith)) in
     let first : count_by (λ x. nat_lt 0 x) (b ∷ []) ≡ 1 = one_counted b (some 0 (omega arith)) in
     omega (arith, rest, first, sum_by-cons (λ x. cond (nat_lt 0 x) 1 0) b kinds)
+
+-- and the kinds stand before that number
+kinds_before : (kinds : List ℕ) (k : ℕ) → AreKinds kinds → k < count_by (λ b. nat_lt 0 b) kinds → (get_or kinds k 0 ≡ 1) ⊎ (get_or kinds k 0 ≡ 2)
+kinds_before [] k are lt = absurd (omega arith)
+kinds_before (b ∷ kinds) zero (inl some) lt = some.0
+kinds_before (b ∷ kinds) (suc k) (inl some) lt = kinds_before kinds k some.1 (omega (arith, one_counted b some.0, sum_by-cons (λ x. cond (nat_lt 0 x) 1 0) b kinds))
+kinds_before (b ∷ kinds) k (inr none) lt = absurd (omega (arith, none_counted (b ∷ kinds) none))
+
+zeros : (kinds : List ℕ) (k : ℕ) → AllByRecursion (λ b. b ≡ 0) kinds → get_or kinds k 0 ≡ 0
+zeros [] k all = refl
+zeros (b ∷ kinds) zero all = all.0
+zeros (b ∷ kinds) (suc k) all = zeros kinds k all.1
+
+-- and 0 from it on
+zeros_behind : (kinds : List ℕ) (k : ℕ) → AreKinds kinds → count_by (λ b. nat_lt 0 b) kinds ≤ k → get_or kinds k 0 ≡ 0
+zeros_behind [] k are le = refl
+zeros_behind (b ∷ kinds) zero (inl some) le = absurd (omega (arith, one_counted b some.0, sum_by-cons (λ x. cond (nat_lt 0 x) 1 0) b kinds))
+zeros_behind (b ∷ kinds) (suc k) (inl some) le = zeros_behind kinds k some.1 (omega (arith, one_counted b some.0, sum_by-cons (λ x. cond (nat_lt 0 x) 1 0) b kinds))
+zeros_behind (b ∷ kinds) k (inr none) le = zeros (b ∷ kinds) k none
+
+-- each byte of a shape's header is good, whatever stands behind it
+pub header_is_good : (shape : Shape) (rest : List ℕ) (k : ℕ) → IsWholeShape shape → k < 20 → IsGoodHeaderByte (header shape ++ rest) k
+header_is_good shape rest k whole lt =
+    let kinds = shape.kinds in
+    let rows : 256 * (shape.rows / 256) + shape.rows % 256 ≡ shape.rows = omega arith in
+    let kind_byte : 12 ≤ k → get_or (header shape ++ rest) k 0 ≡ get_or kinds (k - 12) 0 = λ from.
+    get_or-append_right (header_front shape) (kinds ++ rest) k 0 from ∙ get_or-append kinds rest 0 (k - 12) (omega (arith, whole.eight)) in
+    record {
+      front = λ below. get_or-append front ((shape.rows / 256) ∷ (shape.rows % 256) ∷ columns shape ∷ (kinds ++ rest)) 0 k below;
+      rows_high = λ at. omega (arith, whole.valid.at_most);
+      rows_low = λ at. (omega (arith, rows, whole.valid.some_rows), omega (arith, rows, whole.valid.at_most));
+      columns = λ at. omega (arith, count_by-le-length (λ b. nat_lt 0 b) kinds, whole.eight);
+      kind = λ from below. elim (kinds_before kinds (k - 12) whole.valid.kinds (omega (arith, below))) [ inl one ↦ inl (kind_byte from ∙ one) | inr two ↦ inr (kind_byte from ∙ two) ];
+      no_kind = λ from. kind_byte (omega (arith, from)) ∙ zeros_behind kinds (k - 12) whole.valid.kinds (omega (arith, from));
+    }
+  where
+    header_front : Shape → List ℕ
+    header_front shape = front ++ ((shape.rows / 256) ∷ (shape.rows % 256) ∷ columns shape ∷ [])
 
 -- the shape that the bytes of a header give
 abbrev pub shape_of : List ℕ → Shape

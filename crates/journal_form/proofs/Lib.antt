@@ -1,3 +1,5 @@
+pub mod Breaks
+pub mod Front
 pub mod Reading
 pub mod Headers
 pub mod Sets

@@ -1,5 +1,5 @@
 -- A file stands for at most one shape and history.
-use Rattle.std.proofs.Common.{◌≡◌, ℕ, ◌+◌, ◌/◌, ◌%◌, List, [], ◌∷◌, ◌++◌, length, take, drop, refl, sym, ap, subst, ◌∙◌, arith, append_assoc}
+use Rattle.std.proofs.Common.{◌≡◌, ℕ, ◌+◌, ◌-◌, ◌/◌, ◌%◌, ◌≤◌, List, [], ◌∷◌, ◌++◌, length, take, drop, refl, sym, ap, subst, ◌∙◌, arith, append_assoc, length-append}
 use Rattle.std.proofs.lemmas.List.{take_at, drop_at}
 use Rattle.std.proofs.lemmas.List.Concat.{flat_map-cons}
 use Rattle.audit_types.specs.declared.shapes.Shape.{Shape}
@@ -7,7 +7,7 @@ use Rattle.audit_types.specs.declared.records.Answered.{Answered}
 use Rattle.journal_form.specs.Header.{header, IsWholeShape}
 use Rattle.journal_form.specs.Record.{IsRecord}
 use Rattle.journal_form.specs.Group.{AreRecords, IsGroup}
-use Rattle.journal_form.specs.Journal.{Written, AreGroups, texts, records, IsClosed, StandsAt}
+use Rattle.journal_form.specs.Journal.{Written, AreGroups, texts, records, Begins, IsClosed, StandsAt}
 
 -- the bytes of a record tell it
 same_record : (shape : Shape) (text : List ℕ) (r s : Answered) → IsRecord shape text r → IsRecord shape text s → r ≡ s
@@ -22,19 +22,19 @@ same_record shape text r s p q =
     ∙ ap (λ k. record { column = s.column; rows = s.rows; answer = k }) answer
 
 -- of two pieces as long as each other, each followed by more
-same_front : (a b x y : List ℕ) → length a ≡ length b → a ++ x ≡ b ++ y → (a ≡ b) × (x ≡ y)
+pub same_front : (a b x y : List ℕ) → length a ≡ length b → a ++ x ≡ b ++ y → (a ≡ b) × (x ≡ y)
 same_front a b x y long e = (
   sym (take_at a x (length a) refl) ∙ ap (take (length a)) e ∙ take_at b y (length a) (sym long),
   sym (drop_at a x (length a) refl) ∙ ap (drop (length a)) e ∙ drop_at b y (length a) (sym long),
 )
 
 -- as many records at the front
-record SameRecords (a b x y : List ℕ) (list others : List Answered) : Type 0 where
-  text : a ≡ b
-  list_same : list ≡ others
-  behind : x ≡ y
+pub record SameRecords (a b x y : List ℕ) (list others : List Answered) : Type 0 where
+  pub text : a ≡ b
+  pub list_same : list ≡ others
+  pub behind : x ≡ y
 
-same_records : (shape : Shape) (a b x y : List ℕ) (list others : List Answered) → length list ≡ length others → AreRecords shape a list → AreRecords shape b others → a ++ x ≡ b ++ y → SameRecords a b x y list others
+pub same_records : (shape : Shape) (a b x y : List ℕ) (list others : List Answered) → length list ≡ length others → AreRecords shape a list → AreRecords shape b others → a ++ x ≡ b ++ y → SameRecords a b x y list others
 same_records shape a b x y [] [] long p q e = let text : a ≡ b = p ∙ sym q in record { text = text; list_same = refl; behind = (same_front a b x y (ap length text) e).1 }
 same_records shape a b x y [] (s ∷ others) long p q e = absurd (omega arith)
 same_records shape a b x y (r ∷ list) [] long p q e = absurd (omega arith)
@@ -49,10 +49,10 @@ same_records shape a b x y (r ∷ list) (s ∷ others) long p q e =
       behind = rest.behind;
     }
 
-heads : (a b : ℕ) (xs ys : List ℕ) → a ∷ xs ≡ b ∷ ys → a ≡ b
+pub heads : (a b : ℕ) (xs ys : List ℕ) → a ∷ xs ≡ b ∷ ys → a ≡ b
 heads a b xs ys e = cc
 
-tails : (a b : ℕ) (xs ys : List ℕ) → a ∷ xs ≡ b ∷ ys → xs ≡ ys
+pub tails : (a b : ℕ) (xs ys : List ℕ) → a ∷ xs ≡ b ∷ ys → xs ≡ ys
 tails a b xs ys e = cc
 
 same_group : (shape : Shape) (text other more rest : List ℕ) (list others : List Answered) → IsGroup shape text list → IsGroup shape other others → text ++ more ≡ other ++ rest → SameRecords text other more rest list others
@@ -66,28 +66,47 @@ same_group shape (count ∷ bytes) (number ∷ body) more rest list others p q e
 pub no_begins : (shape : Shape) (text other more rest : List ℕ) (list others : List Answered) → IsGroup shape text list → IsGroup shape other others → text ++ more ≡ other ++ rest → (text ≡ other) × (list ≡ others)
 no_begins shape text other more rest list others p q e = let same = same_group shape text other more rest list others p q e in (same.text, same.list_same)
 
--- the groups behind a header tell their records
-record SameGroups (gs hs : List Written) : Type 0 where
-  texts_same : texts gs ≡ texts hs
-  records_same : records gs ≡ records hs
+-- groups that tell each other's bytes and records, and what stands behind them
+pub record SameGroups (gs hs : List Written) (x y : List ℕ) : Type 0 where
+  pub texts_same : texts gs ≡ texts hs
+  pub records_same : records gs ≡ records hs
+  pub behind : x ≡ y
 
 texts-cons : (g : Written) (gs : List Written) (x : List ℕ) → texts (g ∷ gs) ++ x ≡ 1 ∷ (g.text ++ (texts gs ++ x))
 texts-cons g gs x = ap (λ t. t ++ x) (flat_map-cons (λ group. 1 ∷ group.text) g gs) ∙ ap (λ t. 1 ∷ t) (append_assoc g.text (texts gs) x)
 
-not_closed : (x rest : List ℕ) → IsClosed x → x ≡ 1 ∷ rest → ⊥
-not_closed x rest closed e = closed.closed (heads closed.gate 1 closed.rest rest (sym closed.bytes_are ∙ e))
+-- one more group's records, where so many stand before it
+count_more : (before : ℕ) (g : Written) (gs : List Written) → before + length (records (g ∷ gs)) ≡ (before + length g.list) + length (records gs)
+count_more before g gs = omega (arith, ap length (flat_map-cons (λ group. group.list) g gs), length-append g.list (records gs))
 
-same_groups : (shape : Shape) (gs hs : List Written) (x y : List ℕ) → AreGroups shape gs → AreGroups shape hs → IsClosed x → IsClosed y → texts gs ++ x ≡ texts hs ++ y → SameGroups gs hs
-same_groups shape [] [] x y p q ends others e = record { texts_same = refl; records_same = refl }
-same_groups shape [] (h ∷ hs) x y p q ends others e = absurd (not_closed x (h.text ++ (texts hs ++ y)) ends (e ∙ texts-cons h hs y))
-same_groups shape (g ∷ gs) [] x y p q ends others e = absurd (not_closed y (g.text ++ (texts gs ++ x)) others (sym e ∙ texts-cons g gs x))
-same_groups shape (g ∷ gs) (h ∷ hs) x y p q ends others e =
+-- behind so many records no group stands here that the journal may still hold
+unfoldable pub NoGroup : Shape → ℕ → List ℕ → Type 0
+NoGroup shape before bytes = (text rest : List ℕ) (list : List Answered) → IsGroup shape text list → length list ≤ 65536 - before → bytes ≡ 1 ∷ (text ++ rest) → ⊥
+
+-- a closed gate ends the groups
+pub closed_ends : (shape : Shape) (before : ℕ) (x : List ℕ) → IsClosed x → NoGroup shape before x
+unfolding NoGroup
+closed_ends shape before x closed text rest list group few e = closed.closed (heads closed.gate 1 closed.rest (text ++ rest) (sym closed.bytes_are ∙ e))
+
+-- the bytes tell the groups up to a place where no more stand
+pub same_groups : (shape : Shape) (before : ℕ) (gs hs : List Written) (x y : List ℕ) → AreGroups shape gs → AreGroups shape hs → before + length (records gs) ≤ 65536 → before + length (records hs) ≤ 65536
+    → NoGroup shape (before + length (records gs)) x → NoGroup shape (before + length (records hs)) y → texts gs ++ x ≡ texts hs ++ y → SameGroups gs hs x y
+unfolding NoGroup
+same_groups shape before [] [] x y p q some few ends stops e = record { texts_same = refl; records_same = refl; behind = e }
+same_groups shape before [] (h ∷ hs) x y p q some few ends stops e =
+    absurd (ends h.text (texts hs ++ y) h.list q.0 (omega (arith, few, count_more before h hs)) (e ∙ texts-cons h hs y))
+same_groups shape before (g ∷ gs) [] x y p q some few ends stops e =
+    absurd (stops g.text (texts gs ++ x) g.list p.0 (omega (arith, some, count_more before g gs)) (sym e ∙ texts-cons g gs x))
+same_groups shape before (g ∷ gs) (h ∷ hs) x y p q some few ends stops e =
     let both : 1 ∷ (g.text ++ (texts gs ++ x)) ≡ 1 ∷ (h.text ++ (texts hs ++ y)) = sym (texts-cons g gs x) ∙ e ∙ texts-cons h hs y in
     let first = same_group shape g.text h.text (texts gs ++ x) (texts hs ++ y) g.list h.list p.0 q.0 (tails 1 1 (g.text ++ (texts gs ++ x)) (h.text ++ (texts hs ++ y)) both) in
-    let rest = same_groups shape gs hs x y p.1 q.1 ends others first.behind in
+    let at_g = count_more before g gs in
+    let at_h : before + length (records (h ∷ hs)) ≡ (before + length g.list) + length (records hs) = count_more before h hs ∙ ap (λ l. (before + length l) + length (records hs)) (sym first.list_same) in
+    let rest = same_groups shape (before + length g.list) gs hs x y p.1 q.1 (omega (arith, some, at_g)) (omega (arith, few, at_h)) (subst (λ n. NoGroup shape n x) at_g ends) (subst (λ n. NoGroup shape n y) at_h stops) first.behind in
     record {
       texts_same = flat_map-cons (λ group. 1 ∷ group.text) g gs ∙ ap (λ t. 1 ∷ (t ++ texts gs)) first.text ∙ ap (λ t. 1 ∷ (h.text ++ t)) rest.texts_same ∙ sym (flat_map-cons (λ group. 1 ∷ group.text) h hs);
       records_same = flat_map-cons (λ group. group.list) g gs ∙ ap (λ t. t ++ records gs) first.list_same ∙ ap (λ t. h.list ++ t) rest.records_same ∙ sym (flat_map-cons (λ group. group.list) h hs);
+      behind = rest.behind;
     }
 
 -- the header tells the shape
@@ -107,8 +126,19 @@ same_header shape other x y p q e =
       behind = kinds.1;
     }
 
+-- a journal's bytes tell its shape and groups, up to a place where no more stand
+pub same_begins : (file : List ℕ) (shape other : Shape) (gs hs : List Written) (x y : List ℕ) → Begins file shape gs x → Begins file other hs y → NoGroup shape (length (records gs)) x → NoGroup other (length (records hs)) y
+    → (shape ≡ other) × SameGroups gs hs x y
+same_begins file shape other gs hs x y p q ends stops =
+    let front = same_header shape other (texts gs ++ x) (texts hs ++ y) p.shaped q.shaped (sym p.file_is ∙ q.file_is) in
+    let at_g : length (records gs) ≡ 0 + length (records gs) = omega arith in
+    let at_h : length (records hs) ≡ 0 + length (records hs) = omega arith in (
+      front.shape_same,
+      same_groups other 0 gs hs x y (subst (λ s. AreGroups s gs) front.shape_same p.whole) q.whole (omega (arith, p.few)) (omega (arith, q.few))
+          (subst (λ n. NoGroup other n x) at_g (subst (λ s. NoGroup s (length (records gs)) x) front.shape_same ends)) (subst (λ n. NoGroup other n y) at_h stops) front.behind,
+    )
+
 pub reads_once : (file : List ℕ) (shape other : Shape) (history others : List Answered) (gate place : ℕ) → StandsAt file shape history gate → StandsAt file other others place → (shape ≡ other) × (history ≡ others) × (gate ≡ place)
 reads_once file shape other history others gate place p q =
-    let front = same_header shape other (texts p.groups ++ p.behind) (texts q.groups ++ q.behind) p.begins.shaped q.begins.shaped (sym p.begins.file_is ∙ q.begins.file_is) in
-    let same = same_groups other p.groups q.groups p.behind q.behind (subst (λ s. AreGroups s p.groups) front.shape_same p.begins.whole) q.begins.whole p.ends q.ends front.behind in
-    (front.shape_same, p.history_is ∙ same.records_same ∙ sym q.history_is, p.gate_is ∙ ap (λ t. 20 + length t) same.texts_same ∙ sym q.gate_is)
+    let same = same_begins file shape other p.groups q.groups p.behind q.behind p.begins q.begins (closed_ends shape (length (records p.groups)) p.behind p.ends) (closed_ends other (length (records q.groups)) q.behind q.ends) in
+    (same.0, p.history_is ∙ same.1.records_same ∙ sym q.history_is, p.gate_is ∙ ap (λ t. 20 + length t) same.1.texts_same ∙ sym q.gate_is)

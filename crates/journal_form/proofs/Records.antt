@@ -4,7 +4,7 @@ use Rattle.std.specs.Int.{w64, from_be_bytes, to_be_bytes, cast_signed, cast_uns
 use Rattle.std.proofs.Math.Facts.{to_z-of_z, Fits-of_z, Fits-lt-pow}
 use Rattle.std.proofs.Math.Seq.{take-length}
 use Rattle.std.proofs.lemmas.Nat.{from_be_bytes-to_be_bytes_8}
-use Rattle.std.proofs.lemmas.List.{take-take, drop-take, get_or-take}
+use Rattle.std.proofs.lemmas.List.{take-take, drop-take, get_or-take, take-append-le, drop-append-le, length-drop}
 use Rattle.audit_types.specs.declared.shapes.Shape.{Shape}
 use Rattle.audit_types.specs.declared.records.Answered.{Answered}
 use Rattle.audit_types.specs.Shapes.{columns}
@@ -48,3 +48,8 @@ record_read shape bytes r long column below answer same_n is_set some =
       set = rw same_set is_set;
       some = some;
     }
+
+-- more bytes behind a record leave its set
+pub set_in_longer : (shape : Shape) (text rest : List ℕ) → record_size shape ≤ length text → set_in shape.rows (text ++ rest) ≡ set_in shape.rows text
+set_in_longer shape text rest long =
+    ap (take (set_size shape.rows)) (drop-append-le 9 text rest (omega arith)) ∙ take-append-le (set_size shape.rows) (drop 9 text) rest (omega (arith, long, length-drop 9 text))

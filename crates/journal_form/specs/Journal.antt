@@ -1,5 +1,5 @@
 -- A journal: a header, groups behind open gates, and a gate that isn't open.
-use Rattle.std.specs.Prelude.{◌≡◌, ◌≢◌, ℕ, ◌+◌, ◌-◌, ◌≤◌, ◌⊎◌, List, [], ◌∷◌, ◌++◌, length}
+use Rattle.std.specs.Prelude.{◌≡◌, ◌≢◌, ℕ, ◌+◌, ◌-◌, ◌*◌, ◌≤◌, ◌⊎◌, List, [], ◌∷◌, ◌++◌, length}
 use Rattle.std.specs.List.{flat_map, AllByRecursion}
 use Rattle.audit_types.specs.declared.shapes.Shape.{Shape}
 use Rattle.audit_types.specs.declared.records.Answered.{Answered}
@@ -66,3 +66,7 @@ pub record BreaksBehind (file : List ℕ) (at : ℕ) : Type 0 where
 -- the place of the first byte that breaks the grammar of journals, or the file's length where it ends too early
 abbrev pub BreaksAt : List ℕ → ℕ → Type 0
 BreaksAt file at = HeaderBreaks file at ⊎ BreaksBehind file at
+
+-- the most bytes of a journal: a header, groups of one record each over 1,024 rows, and the gate behind them
+abbrev pub most_bytes : ℕ
+most_bytes = 21 + 65536 * 139

@@ -1,7 +1,7 @@
-use Rattle.std.proofs.Common.{rules, ◌≡◌, ◌+◌, ◌-◌, ◌++◌, ℕ, length, drop, arith, ap, sym, subst, ◌∙◌, Err}
+use Rattle.std.proofs.Common.{rules, ◌≡◌, ◌+◌, ◌-◌, ◌++◌, ℕ, length, drop, arith, ap, sym, subst, inr, Err}
 use Rattle.journal_form.specs.Group.{GroupBreaks}
 use Rattle.journal_form.specs.Journal.{BreaksBehind}
-use Rattle.answer_journal.proofs.Backs.{read_none, read_ends, read_more, breaks_in_group, rest_is, damaged_at}
+use Rattle.answer_journal.proofs.Backs.{read_none, read_ends, read_more, breaks_in_group, rest_is, breaks_at_end}
 use Rattle.answer_journal.proofs.reading.read_groups.Goals as goal
 
 pub loop-gate-init : goal.loop-gate-init
@@ -20,12 +20,15 @@ loop-gate-preserved c =
     let read = rw (rest_is (gate + 1) bytes) at c.in-Ok.ensures.ok in
     rw extended (read_more bytes c.args.shape list gate c.loop-gate.invariant c.in-Ok.group.size more c.loop-gate-test.true c.if-bytes-gate-ne1.false read.0 (omega (arith, read.1)) read.2)
 
-pub returns-in-Err-Breaks-clause-damaged : goal.returns-in-Err-Breaks-clause-damaged
-returns-in-Err-Breaks-clause-damaged c = λ at is.
+pub returns-in-Err-Breaks-clause-err : goal.returns-in-Err-Breaks-clause-err
+returns-in-Err-Breaks-clause-err c =
     let bytes = c.args.bytes.now in
     let gate = c.loop-gate.gate in
     let long : c.len.result ≡ length c.loop-gate.list.items = search rules in
     let found = rw (rest_is (gate + 1) bytes) at (c.in-Err-Breaks.ensures.breaks c.in-Err-Breaks.at (ap (λ fault. Err fault) c.in-Err-Breaks.field-0-is)) in
     let breaks = subst (λ (n : ℕ). GroupBreaks c.args.shape (65536 - n) (drop (gate + 1) bytes) c.in-Err-Breaks.at) long found in
-    let same : _ ≡ at = damaged_at _ at is in
-    subst (λ (k : ℕ). BreaksBehind bytes k) (ap (λ k. gate + 1 + k) (sym c.in-Err-Breaks.at-is) ∙ same) (breaks_in_group bytes c.args.shape c.loop-gate.list.items gate c.loop-gate.invariant c.in-Err-Breaks.at c.loop-gate-test.true c.if-bytes-gate-ne1.false breaks)
+    let broken = breaks_in_group bytes c.args.shape c.loop-gate.list.items gate c.loop-gate.invariant c.in-Err-Breaks.at c.loop-gate-test.true c.if-bytes-gate-ne1.false breaks in
+    (c.requires.made, inr (subst (λ (k : ℕ). BreaksBehind bytes k) (ap (λ k. gate + 1 + k) (sym c.in-Err-Breaks.at-is)) broken))
+
+pub returns-clause-err : goal.returns-clause-err
+returns-clause-err c = (c.requires.made, inr (breaks_at_end c.args.bytes.now c.args.shape c.loop-gate.list.items c.loop-gate.gate c.loop-gate.invariant c.loop-gate-test.false))

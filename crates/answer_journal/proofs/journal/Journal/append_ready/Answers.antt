@@ -1,7 +1,7 @@
 use Rattle.std.proofs.Common.{◌≡◌, ◌≤◌, ◌+◌, ℕ, length, arith, ap, sym, subst, ◌∙◌, length-append, ◌∷◌, []}
 use Rattle.journal_form.specs.Journal.{StandsAt}
 use Rattle.answer_journal.specs.Contents.{JournalContents}
-use Rattle.answer_journal.proofs.Histories.{at_every_moment, at_end, group_long, group_some}
+use Rattle.answer_journal.proofs.Histories.{at_every_moment, at_end}
 use Rattle.answer_journal.proofs.journal.Journal.append_ready.Goals as goal
 
 pub returns-in_err-append_bytes-clause-any_moment : goal.returns-in_err-append_bytes-clause-any_moment
@@ -40,12 +40,11 @@ pub invariant_of-self-2 : goal.invariant_of-self-2
 invariant_of-self-2 g c =
     let ready = c.bytes-bytes.ensures in
     let list = c.args.ready.now.list in
-    let long = group_long c.args.ready.now.shape ready.text list ready.shaped ready.group in
+    let long = c.bytes_of_records.ensures.group c.args.ready.now.shape ready.text list ready.shaped ready.group in
     let size : length c.bytes-bytes.result.now ≡ length ready.text + 1 = ap length ready.bytes_are ∙ length-append ready.text (0 ∷ []) in
     let count : c.self.inside.count ≡ c.args.self.now.count = ap (λ (j : JournalContents). j.count) c.self.view_is in
-    let some = group_some c.args.ready.now.shape ready.text list ready.group in
     record {
       shaped = c.self.invariant.shaped;
       few = omega (arith, c.len.ensures, count, c.requires.few);
-      reached = omega (arith, c.self.invariant.reached, c.len.ensures, size, long, some);
+      reached = omega (arith, c.self.invariant.reached, c.len.ensures, size, long);
     }

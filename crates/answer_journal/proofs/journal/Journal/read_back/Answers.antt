@@ -1,20 +1,40 @@
-use Rattle.std.proofs.Common.{rules, ◌≡◌, ℕ, true, length, All, sym, subst}
+use Rattle.std.proofs.Common.{rules, ◌≡◌, ℕ, true, length, All, sym, ap, ◌∙◌, subst}
 use Rattle.audit_types.specs.declared.shapes.Shape.{Shape}
 use Rattle.audit_types.specs.declared.records.Answered.{Answered}
 use Rattle.audit_types.specs.History.{FitsShape}
-use Rattle.answer_journal.specs.Contents.{IsJournal}
+use Rattle.answer_journal.specs.Contents.{IsJournal, JournalContents}
 use Rattle.answer_journal.proofs.Histories.{is_journal}
 use Rattle.answer_journal.proofs.Fits.{history_fits}
+use Rattle.answer_journal.proofs.Dues.{damage_is_due, whole_has_no_fault}
 use Rattle.answer_journal.proofs.journal.Journal.read_back.Goals as goal
 
 pub ending_at-requires : goal.ending_at-requires
 ending_at-requires g c =
-    let contents = c.in-Ok-read_all.contents in
+    let contents = c.in-Ok.contents in
     let long : c.len-count.result ≡ length contents.list.items = search rules in
-    subst (λ (n : ℕ). IsJournal (record { shape = contents.shape; count = n; gate = contents.gate; usable = true })) (sym long) (is_journal _ contents.shape contents.list.items contents.gate c.in-Ok-read_all.ensures.ok)
+    let some = c.in-Ok.ensures.journal in
+    subst (λ (n : ℕ). IsJournal (record { shape = contents.shape; count = n; gate = contents.gate; usable = true })) (sym long) (is_journal some.0 contents.shape contents.list.items contents.gate some.1 (c.bytes_of_records.ensures.gate some.0 contents.shape contents.list.items contents.gate some.1))
 
-pub returns-in-Ok-read_all-clause-fit : goal.returns-in-Ok-read_all-clause-fit
-returns-in-Ok-read_all-clause-fit g c =
-    let contents = c.in-Ok-read_all.contents in
+pub returns-in-Ok-clause-fit : goal.returns-in-Ok-clause-fit
+returns-in-Ok-clause-fit g c =
+    let contents = c.in-Ok.contents in
     let same : c.ending_at.result.shape ≡ contents.shape = search rules in
-    subst (λ (shape : Shape). All (λ (r : Answered). FitsShape shape r.column r.rows) contents.list.items) (sym same) (history_fits _ contents.shape contents.list.items contents.gate c.in-Ok-read_all.ensures.ok)
+    let some = c.in-Ok.ensures.journal in
+    subst (λ (shape : Shape). All (λ (r : Answered). FitsShape shape r.column r.rows) contents.list.items) (sym same) (history_fits some.0 contents.shape contents.list.items contents.gate some.1)
+
+pub returns-in-Ok-clause-damaged_only : goal.returns-in-Ok-clause-damaged_only
+returns-in-Ok-clause-damaged_only g c = λ at told made breaks.
+    let contents = c.in-Ok.contents in
+    c.no_break_in_a_journal.ensures (g.B.Bench.file c.args.bench.now) contents.shape contents.list.items contents.gate at (c.in-Ok.ensures.ok told) breaks
+
+pub returns-in-Ok-clause-whole : goal.returns-in-Ok-clause-whole
+returns-in-Ok-clause-whole g c = λ shape history gate told stands.
+    let contents = c.in-Ok.contents in
+    let once = c.one_reading.ensures (g.B.Bench.file c.args.bench.now) contents.shape shape contents.list.items history contents.gate gate (c.in-Ok.ensures.ok told) stands in
+    (ap (λ (j : JournalContents). j.shape) c.ending_at.ensures ∙ once.0, once.1, ap (λ (j : JournalContents). j.gate) c.ending_at.ensures ∙ once.2)
+
+pub returns-in-Err-clause-damaged_only : goal.returns-in-Err-clause-damaged_only
+returns-in-Err-clause-damaged_only g c = λ at told made breaks. damage_is_due (g.B.Bench.file c.args.bench.now) c.in-Err.fault at c.one_break.ensures (c.in-Err.ensures.err told) made breaks
+
+pub returns-in-Err-clause-whole : goal.returns-in-Err-clause-whole
+returns-in-Err-clause-whole g c = λ shape history gate told stands. whole_has_no_fault (g.B.Bench.file c.args.bench.now) c.in-Err.fault shape history gate c.no_break_in_a_journal.ensures (c.in-Err.ensures.err told) stands
