@@ -10,26 +10,29 @@ use Rattle.schema_json.specs.Reading.{value_of}
 use Rattle.predicate_lang.specs.Trees.{Tree}
 use Rattle.predicate_lang.specs.Places.{Means}
 use Rattle.line_wire.specs.Questions.{Written, text_of, question_in, question_of}
-use Rattle.line_wire.specs.Requests.{Requests, Refuses, Asks, Reads, IsRequest, column_fault, HasColumnFault, HasBadCondition}
-use Rattle.line_wire.specs.Answers.{Answers, IsAnswer}
+use Rattle.line_wire.specs.Requests.{IsWithin, Requests, Refuses, Asks, Reads, IsRequest, column_fault}
+use Rattle.line_wire.specs.Answers.{Answers, HasNoValue}
 use Rattle.line_wire.specs.declared.request.Request.{Request}
 use Rattle.line_wire.specs.declared.request.LineFault.{LineFault}
 use Rattle.line_wire.specs.declared.request.LineFault.TheVariants as fault
 
--- a line that is this value writes what the value writes
-pub written_by : (line : List ℕ) (d : Data) (o : Option Written) → IsUtf8 line → read line ≡ Some d → question_in d ≡ o → question_of line ≡ o
+-- text that is read as a value has this value
+pub value_of-read : (line : List ℕ) (d : Data) → IsUtf8 line → read line ≡ Some d → value_of line ≡ Some d
 unfolding value_of
-written_by line d o text is writes =
-    ap (option_and_then question_in) (ap (λ b. if b then read line else None) (is_utf8-from_IsUtf8 line text) ∙ is) ∙ writes
+value_of-read line d text is = ap (λ b. if b then read line else None) (is_utf8-from_IsUtf8 line text) ∙ is
 
--- a line that is no value writes nothing
-pub nothing_written : (line : List ℕ) → (IsUtf8 line → read line ≡ None) → question_of line ≡ None
+-- what is read as no value has none
+pub value_of-none : (line : List ℕ) → (IsUtf8 line → read line ≡ None) → value_of line ≡ None
 unfolding value_of
-nothing_written line none = ap (option_and_then question_in) (by (is_utf8 line) refl)
+value_of-none line none = by (is_utf8 line) refl
   where
     by : (b : Bool) → is_utf8 line ≡ b → (if b then read line else None) ≡ None
     by true e = none (IsUtf8-from_is_utf8 line e)
     by false e = refl
+
+-- a line writes what its value writes
+pub written_by : (line : List ℕ) (d : Data) (o : Option Written) → value_of line ≡ Some d → question_in d ≡ o → question_of line ≡ o
+written_by line d o is writes = ap (option_and_then question_in) is ∙ writes
 
 -- what is answered is what the line means
 pub found_of : (columns : List Column) (o : Option Written) (w : Written) (r : Result Request LineFault) → o ≡ Some w → Answers columns w r → IfOk r (Requests columns o)
@@ -75,3 +78,26 @@ nothing_asked columns o none v t asks = go (sym none ∙ asks.writes)
   where
     go : None ≡ Some v → ⊥
     go e = cc
+
+-- a line without a value asks nothing
+pub unread_only : (columns : List Column) (line : List ℕ) (f : LineFault) → HasNoValue line f → (v : Written) (t : Tree) → Asks columns (question_of line) v t → Reads columns v t (Err f)
+unread_only columns line fault.Line none v t asks = nothing_asked columns (question_of line) (ap (option_and_then question_in) none) v t asks
+unread_only columns line fault.Column none v t asks = none
+unread_only columns line fault.Kind none v t asks = none
+unread_only columns line (fault.Condition at) none v t asks = none
+unread_only columns line fault.NoMemory none v t asks = tt
+
+-- and is refused for that
+pub unread_fault : (columns : List Column) (line : List ℕ) (f : LineFault) → HasNoValue line f → Refuses columns (question_of line) f
+unread_fault columns line fault.Line none = ap (option_and_then question_in) none
+unread_fault columns line fault.Column none = absurd none
+unread_fault columns line fault.Kind none = absurd none
+unread_fault columns line (fault.Condition at) none = absurd none
+unread_fault columns line fault.NoMemory none = tt
+
+pub unread_within : (line : List ℕ) (f : LineFault) (n : ℕ) → HasNoValue line f → IsWithin n f
+unread_within line fault.Line n none = tt
+unread_within line fault.Column n none = tt
+unread_within line fault.Kind n none = tt
+unread_within line (fault.Condition at) n none = absurd none
+unread_within line fault.NoMemory n none = tt

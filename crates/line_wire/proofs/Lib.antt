@@ -5,3 +5,10 @@ pub mod Reaching
 pub mod Turning
 pub mod KnownKeys
 pub mod Answered
+pub mod Averages
+pub mod ReplyParts
+pub mod OneReply
+pub mod Commas
+pub mod EachForm
+pub mod Texts
+pub mod FoundColumns

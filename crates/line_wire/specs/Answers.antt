@@ -1,6 +1,7 @@
 -- What private calls of the request reader answer.
-use Rattle.std.specs.Prelude.{◌≡◌, ℕ, List, Option, Some, None, Result, Ok, Err}
+use Rattle.std.specs.Prelude.{◌≡◌, ℕ, List, Some, None, Result, Ok, Err}
 use Rattle.schema_json.specs.Columns.{Column}
+use Rattle.schema_json.specs.Reading.{value_of}
 use Rattle.predicate_lang.specs.Trees.{Tree, tree_of}
 use Rattle.predicate_lang.specs.Places.{Means, IsPlace}
 use Rattle.predicate_lang.specs.declared.trees.Pred.{Pred}
@@ -12,6 +13,14 @@ use Rattle.line_wire.specs.declared.request.Request.{Request}
 use Rattle.line_wire.specs.declared.request.Request.TheVariants.{Count, Sum, Avg, Max}
 use Rattle.line_wire.specs.declared.request.LineFault.{LineFault}
 use Rattle.line_wire.specs.declared.request.LineFault.TheVariants as fault
+
+-- a line that is refused for want of a value has none
+abbrev pub HasNoValue : List ℕ → LineFault → Type 0
+HasNoValue line fault.Line = value_of line ≡ None
+HasNoValue line fault.Column = ⊥
+HasNoValue line fault.Kind = ⊥
+HasNoValue line (fault.Condition at) = ⊥
+HasNoValue line fault.NoMemory = Unit {0}
 
 -- the place of a column among the secret ones, or what is wrong with it
 abbrev pub FindsColumn : List Column → Take → List ℕ → Result ℕ LineFault → Type 0

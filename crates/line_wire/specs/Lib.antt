@@ -7,3 +7,4 @@ pub mod Questions
 pub mod Kept
 pub mod Requests
 pub mod Answers
+pub mod Texts

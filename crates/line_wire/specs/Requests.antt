@@ -1,8 +1,11 @@
 -- What a line means as a request, and why a line is refused: each refusal is tested only where those before it do not hold.
-use Rattle.std.specs.Prelude.{◌≡◌, ◌≤◌, ℕ, cond, List, Option, Some, None, option_and_then, Result, Ok, Err}
+use Rattle.std.specs.Prelude.{◌≡◌, ◌≤◌, ℕ, true, cond, List, Option, Some, None, option_and_then, Result, Ok, Err}
 use Rattle.schema_json.specs.Columns.{Column, place_of, role_at, secret_place}
+use Rattle.audit_types.specs.declared.shapes.Kind.{Kind}
+use Rattle.audit_types.specs.declared.shapes.Kind.TheVariants as kind
+use Rattle.schema_json.specs.SecretShape.{HasSecret}
 use Rattle.schema_json.specs.declared.roles.Role.{Role}
-use Rattle.predicate_lang.specs.Trees.{Tree, tree_of}
+use Rattle.predicate_lang.specs.Trees.{Tree, tree_of, fits}
 use Rattle.predicate_lang.specs.Places.{Means, IsPlace}
 use Rattle.line_wire.specs.Questions.{Written, counted, taken, text_of, wants}
 use Rattle.line_wire.specs.declared.question.Take.{Take}
@@ -96,6 +99,22 @@ Reads columns w t (Err fault.Column) = ⊥
 Reads columns w t (Err fault.Kind) = ⊥
 Reads columns w t (Err (fault.Condition at)) = ⊥
 Reads columns w t (Err fault.NoMemory) = Unit {0}
+
+-- ---- what can be asked
+
+-- columns of this kind answer what is taken of them
+abbrev pub kind_for : Take → Kind
+kind_for take.Sum = kind.Sum
+kind_for take.Avg = kind.Sum
+kind_for take.Max = kind.Max
+
+-- the request can be asked of each table over the schema: the column that it names is there and answers what is taken of
+-- it, and the condition fits
+abbrev pub CanBeAsked : List Column → Request → Type 0
+CanBeAsked columns (Count p) = fits columns (tree_of p) ≡ true
+CanBeAsked columns (Sum c p) = HasSecret columns c (kind_for take.Sum) × (fits columns (tree_of p) ≡ true)
+CanBeAsked columns (Avg c p) = HasSecret columns c (kind_for take.Avg) × (fits columns (tree_of p) ≡ true)
+CanBeAsked columns (Max c p) = HasSecret columns c (kind_for take.Max) × (fits columns (tree_of p) ≡ true)
 
 -- the byte that a refusal names is at most this one
 abbrev pub IsWithin : ℕ → LineFault → Type 0

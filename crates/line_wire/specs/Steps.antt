@@ -37,9 +37,9 @@ abbrev pub StopsWithin : LineStop → Cutter → Type 0
 StopsWithin stop.Input new = new.taken ≤ 2 ^ 30
 StopsWithin stop.Limit new = (new.taken ≡ 2 ^ 30 + length new.pending) × (0 < length new.pending)
 
--- only an answer Line shows a text
+-- only an answer Line shows a text, of at most 8,192 bytes
 abbrev pub ShowsText : Result Next LineStop → List ℕ → Type 0
-ShowsText (Ok next.Line) shown = Unit {0}
+ShowsText (Ok next.Line) shown = length shown ≤ 8192
 ShowsText (Ok next.Long) shown = shown ≡ []
 ShowsText (Ok next.End) shown = shown ≡ []
 ShowsText (Err refusal) shown = shown ≡ []

@@ -2,20 +2,24 @@
 //!
 //! `Lines` cuts the bytes of any source into counted lines: the clauses `answer` and `stop` of `next` say which line is
 //! given and what stays. `read_line_request` reads the question of a line: its clauses say what is read, and which refusal
-//! comes first. `write_reply` writes the one form of each reply.
+//! comes first. `write_reply` writes the one form of each reply, and `read_reply` reads that form and no other.
 #![tactic(auto)]
 
 mod buffer;
 mod edits;
 mod lines;
 mod question;
+mod range;
 mod reading;
 mod reply;
+mod reply_reading;
 mod request;
 #[cfg(test)]
 mod tests;
 
-pub use lines::{LineStop, Lines, Next, feed_at};
+pub use lines::{LineStop, Lines, Next};
+pub use question::Take;
 pub use reading::read_line_request;
 pub use reply::{Reply, write_reply};
+pub use reply_reading::read_reply;
 pub use request::{LineFault, Request};

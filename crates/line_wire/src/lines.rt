@@ -210,8 +210,8 @@ impl Lines {
     }
 }
 
-/// The place of the first line feed.
-pub fn feed_at(bytes: &[u8]) -> Option<usize>
+// The place of the first line feed.
+fn feed_at(bytes: &[u8]) -> Option<usize>
     ensures { MatchOption result (IsFeedless bytes.now) (IsFirstFeed bytes.now) }
 {
     bytes.iter().position(|b| *b == b'\n')

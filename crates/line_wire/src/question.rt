@@ -12,7 +12,7 @@ use serde_json::{Map, Value};
 
 /// What a question takes of a column.
 #[derive(Clone, Copy, Debug, PartialEq, Eq, Drop)]
-pub(crate) enum Take {
+pub enum Take {
     Sum,
     Avg,
     Max,

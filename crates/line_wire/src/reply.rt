@@ -1,15 +1,25 @@
 //! Replies and their bytes.
-ghost use Rattle.std.specs.Prelude.{◌≡◌, ◌≤◌, ◌<◌, ◌+◌, ◌++◌, length, take};
-ghost use Rattle.line_wire.specs.Reply.{reply_bytes, IsInRange};
+ghost use Rattle.std.specs.Prelude.{◌≡◌, ◌≤◌, ◌<◌, ◌+◌, ◌++◌, length, take, codes};
+ghost use Rattle.line_wire.specs.Reply.{reply_bytes, numbered, average, denied, refused, IsInRange};
 
 use crate::edits::put;
-use itoa::Buffer;
+use itoa::{Buffer, Integer};
 
 /// What is sent for one counted line.
 #[derive(Clone, Copy, Debug, PartialEq, Eq)]
 pub enum Reply {
     /// So many rows satisfy the condition.
     Count(u16),
+    /// The sum of a column over the rows that satisfy the condition.
+    Sum(i64),
+    /// Their average, in lowest terms.
+    Avg { num: i64, den: u16 },
+    /// Their maximum.
+    Max(i64),
+    /// The answer would give a secret away.
+    Unsafe,
+    /// The answer would need numbers that are too wide to decide over.
+    Wide,
     /// The line is no question.
     Line,
     /// The line is too long to be read.
@@ -22,8 +32,8 @@ pub enum Reply {
     Condition { at: u32 },
     /// No row satisfies the condition.
     Empty,
-    /// The line asks for what isn't served.
-    NotYet,
+    /// The history has no room for one more record.
+    Full,
 }
 
 // Writes a piece behind what stands before `at`, and answers the place behind it.
@@ -36,6 +46,49 @@ fn append(out: &mut [u8; 64], at: usize, piece: &[u8]) -> usize
     at + piece.len()
 }
 
+fn write_number<I: Integer>(out: &mut [u8; 64], front: &[u8], number: I) -> usize
+    requires { length front.now + I.MAX_STR_LEN ≤ 61 }
+    ensures count { result < 64 }
+    ensures bytes { take result out.new ≡ numbered front.now (I.text number) }
+{
+    let mut buffer = Buffer::new();
+    let at = append(out, 0, front);
+    let at = append(out, at, buffer.format(number).as_bytes());
+    append(out, at, b"}\n")
+}
+
+fn write_average(out: &mut [u8; 64], num: i64, den: u16) -> usize
+    ensures count { result < 64 }
+    ensures bytes { take result out.new ≡ average num den }
+{
+    let mut buffer = Buffer::new();
+    let at = append(out, 0, b"{\"num\":");
+    let at = append(out, at, buffer.format(num).as_bytes());
+    let at = append(out, at, b",\"den\":");
+    let at = append(out, at, buffer.format(den).as_bytes());
+    append(out, at, b"}\n")
+}
+
+fn write_denial(out: &mut [u8; 64], why: &[u8]) -> usize
+    requires { length why.now ≤ 40 }
+    ensures count { result < 64 }
+    ensures bytes { take result out.new ≡ denied why.now }
+{
+    let at = append(out, 0, b"{\"denied\":\"");
+    let at = append(out, at, why);
+    append(out, at, b"\"}\n")
+}
+
+fn write_refusal(out: &mut [u8; 64], why: &[u8]) -> usize
+    requires { length why.now ≤ 40 }
+    ensures count { result < 64 }
+    ensures bytes { take result out.new ≡ refused why.now }
+{
+    let at = append(out, 0, b"{\"refused\":\"");
+    let at = append(out, at, why);
+    append(out, at, b"\"}\n")
+}
+
 /// Writes the bytes of a reply (docs/FORMATS.md), its line feed included, into the front of `out`, and answers how many
 /// they are.
 pub fn write_reply(reply: &Reply, out: &mut [u8; 64]) -> usize
@@ -44,36 +97,62 @@ pub fn write_reply(reply: &Reply, out: &mut [u8; 64]) -> usize
     ensures bytes { take result out.new ≡ reply_bytes reply.now }
 {
     match reply {
-        Reply::Count(count) => {
-            let mut buffer = Buffer::new();
-            let at = append(out, 0, b"{\"count\":");
-            let at = append(out, at, buffer.format(*count).as_bytes());
-            append(out, at, b"}\n")
-        }
-        Reply::Line => append(out, 0, b"{\"refused\":\"line\"}\n"),
-        Reply::Long => append(out, 0, b"{\"refused\":\"long\"}\n"),
-        Reply::Column => append(out, 0, b"{\"refused\":\"column\"}\n"),
-        Reply::Kind => append(out, 0, b"{\"refused\":\"kind\"}\n"),
-        Reply::Condition { at: place } => {
-            let mut buffer = Buffer::new();
-            let at = append(out, 0, b"{\"refused\":\"where\",\"at\":");
-            let at = append(out, at, buffer.format(*place).as_bytes());
-            append(out, at, b"}\n")
-        }
-        Reply::Empty => append(out, 0, b"{\"refused\":\"empty\"}\n"),
-        Reply::NotYet => append(out, 0, b"{\"refused\":\"notyet\"}\n"),
+        Reply::Count(count) => write_number(out, b"{\"count\":", *count),
+        Reply::Sum(sum) => write_number(out, b"{\"sum\":", *sum),
+        Reply::Avg { num, den } => write_average(out, *num, *den),
+        Reply::Max(max) => write_number(out, b"{\"max\":", *max),
+        Reply::Unsafe => write_denial(out, b"unsafe"),
+        Reply::Wide => write_denial(out, b"wide"),
+        Reply::Line => write_refusal(out, b"line"),
+        Reply::Long => write_refusal(out, b"long"),
+        Reply::Column => write_refusal(out, b"column"),
+        Reply::Kind => write_refusal(out, b"kind"),
+        Reply::Condition { at } => write_number(out, b"{\"refused\":\"where\",\"at\":", *at),
+        Reply::Empty => write_refusal(out, b"empty"),
+        Reply::Full => write_refusal(out, b"full"),
     }
 }
 
 #[cfg(test)]
 mod tests {
     use super::*;
+    use crate::range::is_in_range;
+
+    fn write_if_in_range(reply: &Reply, out: &mut [u8; 64]) -> usize
+        ensures { result < 64 }
+    {
+        if is_in_range(reply) {
+            write_reply(reply, out)
+        } else {
+            0
+        }
+    }
 
     #[test]
     fn writes_one_line_a_reply(rt: HostRuntime) {
         let cases = [
             (Reply::Count(0), b"{\"count\":0}\n".as_slice()),
             (Reply::Count(1024), b"{\"count\":1024}\n"),
+            (Reply::Sum(300), b"{\"sum\":300}\n"),
+            (
+                Reply::Sum(-1_024_000_000_000_000),
+                b"{\"sum\":-1024000000000000}\n",
+            ),
+            (Reply::Avg { num: 0, den: 1 }, b"{\"num\":0,\"den\":1}\n"),
+            (
+                Reply::Avg {
+                    num: -1_023_999_999_999_999,
+                    den: 1024,
+                },
+                b"{\"num\":-1023999999999999,\"den\":1024}\n",
+            ),
+            (Reply::Max(9), b"{\"max\":9}\n"),
+            (
+                Reply::Max(-1_000_000_000_000),
+                b"{\"max\":-1000000000000}\n",
+            ),
+            (Reply::Unsafe, b"{\"denied\":\"unsafe\"}\n"),
+            (Reply::Wide, b"{\"denied\":\"wide\"}\n"),
             (Reply::Line, b"{\"refused\":\"line\"}\n"),
             (Reply::Long, b"{\"refused\":\"long\"}\n"),
             (Reply::Column, b"{\"refused\":\"column\"}\n"),
@@ -83,11 +162,11 @@ mod tests {
                 b"{\"refused\":\"where\",\"at\":8192}\n",
             ),
             (Reply::Empty, b"{\"refused\":\"empty\"}\n"),
-            (Reply::NotYet, b"{\"refused\":\"notyet\"}\n"),
+            (Reply::Full, b"{\"refused\":\"full\"}\n"),
         ];
         for (reply, want) in cases {
             let mut out = [0u8; 64];
-            let count = write_reply(&reply, &mut out);
+            let count = write_if_in_range(&reply, &mut out);
             assert_eq!(rt; &out[..count], want);
         }
     }

@@ -1,6 +1,6 @@
 //! What a line asks, and why a line is refused.
 
-use predicate_lang::{Pred, WhereFault};
+use predicate_lang::Pred;
 
 /// A question. A column is named by its place among the secret ones.
 #[derive(Drop)]
@@ -23,13 +23,4 @@ pub enum LineFault {
     /// The condition goes wrong at this byte of its text.
     Condition { at: u32 },
     NoMemory,
-}
-
-impl From<WhereFault> for LineFault {
-    fn from(fault: WhereFault) -> LineFault {
-        match fault {
-            WhereFault::Bad { at } => LineFault::Condition { at },
-            WhereFault::NoMemory => LineFault::NoMemory,
-        }
-    }
 }

@@ -4,6 +4,7 @@ use crate::reading::read_line_request;
 use crate::request::{LineFault, Request};
 use schema_json::{Schema, read_schema};
 use std::alloc::Global;
+use std::test::Fail;
 
 const SCHEMA: &[u8] =
     b"{\"columns\":[{\"name\":\"dept\",\"is\":\"text\"},{\"name\":\"age\",\"is\":\"number\"},{\"name\":\"salary\",\"is\":\"sum\"},{\"name\":\"bonus\",\"is\":\"max\"}]}";
@@ -30,6 +31,21 @@ fn a_wrong_line_is_refused_by_what_is_wrong(rt: HostRuntime) {
         ),
         (
             b"{\"ask\":\"min\",\"column\":\"age\",\"where\":\"all\"}",
+            LineFault::Line,
+        ),
+        (b"null", LineFault::Line),
+        (b"[]", LineFault::Line),
+        (b"{\"where\":\"all\"}", LineFault::Line),
+        (b"{\"ask\":\"count\"}", LineFault::Line),
+        (b"{\"ask\":\"COUNT\",\"where\":\"all\"}", LineFault::Line),
+        (b"{\"ask\":null,\"where\":\"all\"}", LineFault::Line),
+        (b"{\"ask\":\"count\",\"where\":null}", LineFault::Line),
+        (
+            b"{\"ask\":\"sum\",\"column\":null,\"where\":\"all\"}",
+            LineFault::Line,
+        ),
+        (
+            b"{\"ask\":\"count\",\"ask\":\"min\",\"where\":\"all\"}",
             LineFault::Line,
         ),
         (
@@ -64,6 +80,53 @@ fn a_wrong_line_is_refused_by_what_is_wrong(rt: HostRuntime) {
     for (line, want) in cases {
         assert_eq!(rt; fault(rt.alloc(), &schema, line), Some(want));
     }
+}
+
+// A line with a run of one byte and as long a run of another.
+fn with_runs(
+    alloc: Global,
+    front: &[u8],
+    runs: (u8, u8),
+    count: usize,
+    end: &[u8],
+) -> Result<Vec<u8>, Fail> {
+    let mut line = front.to_vec(alloc)?;
+    line.extend_from_slice(&vec![in alloc; runs.0; count]?)?;
+    line.extend_from_slice(&vec![in alloc; runs.1; count]?)?;
+    line.extend_from_slice(end)?;
+    Ok(line)
+}
+
+#[test]
+fn long_numbers_deep_arrays_and_long_conditions_are_refused_by_what_is_wrong(
+    rt: HostRuntime,
+) -> Result<(), Fail> {
+    let schema = read_schema(rt.alloc(), SCHEMA).expect(&rt, "a schema");
+    let user = b"{\"ask\":\"count\",\"where\":\"all\",\"user\":".as_slice();
+    let cases = [
+        (
+            b"".as_slice(),
+            (b'9', b'9'),
+            200usize,
+            b"".as_slice(),
+            LineFault::Line,
+        ),
+        (user, (b'9', b'9'), 200, b"}", LineFault::Line),
+        (b"", (b'[', b']'), 200, b"", LineFault::Line),
+        (user, (b'[', b']'), 200, b"}", LineFault::Line),
+        (
+            b"{\"ask\": \"count\",\"where\":\"",
+            (b' ', b' '),
+            4082,
+            b"?\"}",
+            LineFault::Condition { at: 8164 },
+        ),
+    ];
+    for (front, runs, count, end, want) in cases {
+        let line = with_runs(rt.alloc(), front, runs, count, end)?;
+        assert_eq!(rt; fault(rt.alloc(), &schema, line.as_slice()), Some(want));
+    }
+    Ok(())
 }
 
 #[test]

@@ -1,33 +1,39 @@
-use Rattle.std.proofs.Common.{◌≡◌, Some, None, sym, ◌∙◌}
-use Rattle.std.proofs.lemmas.Bool.{false≢true}
+use Rattle.std.proofs.Common.{◌≡◌, Some, sym}
 use Rattle.line_wire.specs.Kept.{written_of}
 use Rattle.line_wire.specs.Questions.{question_of}
-use Rattle.line_wire.proofs.Answered.{written_by, nothing_written, found_of, only_of, fault_of, nothing_asked}
+use Rattle.line_wire.proofs.Texts.Asked.{condition_within}
+use Rattle.line_wire.proofs.Answered.{written_by, found_of, only_of, fault_of, nothing_asked, unread_only, unread_fault, unread_within}
 use Rattle.line_wire.proofs.reading.read_line_request.Goals as goal
+
+pub request_of-requires : goal.request_of-requires
+request_of-requires c = condition_within _ (written_of c.in-Some.question) _ 8192 (sym c.in-Some.ensures) c.in-Ok.ensures.texts c.requires
 
 pub returns-in-Some-clause-found : goal.returns-in-Some-clause-found
 returns-in-Some-clause-found c =
-    let writes : question_of c.args.line.now ≡ Some (written_of c.in-Some.question) = written_by c.args.line.now _ _ c.in-Ok.ensures.ok.0 c.in-Ok.ensures.ok.1 (sym c.in-Some.ensures) in
+    let writes : question_of c.args.line.now ≡ Some (written_of c.in-Some.question) = written_by c.args.line.now _ _ c.in-Ok.ensures.found (sym c.in-Some.ensures) in
     found_of c.args.schema.now.columns _ (written_of c.in-Some.question) c.request_of.result writes c.request_of.ensures.exact
 
 pub returns-in-Some-clause-only : goal.returns-in-Some-clause-only
 returns-in-Some-clause-only c =
-    let writes : question_of c.args.line.now ≡ Some (written_of c.in-Some.question) = written_by c.args.line.now _ _ c.in-Ok.ensures.ok.0 c.in-Ok.ensures.ok.1 (sym c.in-Some.ensures) in
+    let writes : question_of c.args.line.now ≡ Some (written_of c.in-Some.question) = written_by c.args.line.now _ _ c.in-Ok.ensures.found (sym c.in-Some.ensures) in
     only_of c.args.schema.now.columns _ (written_of c.in-Some.question) c.request_of.result writes c.request_of.ensures.exact
 
 pub returns-in-Some-clause-fault : goal.returns-in-Some-clause-fault
 returns-in-Some-clause-fault c =
-    let writes : question_of c.args.line.now ≡ Some (written_of c.in-Some.question) = written_by c.args.line.now _ _ c.in-Ok.ensures.ok.0 c.in-Ok.ensures.ok.1 (sym c.in-Some.ensures) in
+    let writes : question_of c.args.line.now ≡ Some (written_of c.in-Some.question) = written_by c.args.line.now _ _ c.in-Ok.ensures.found (sym c.in-Some.ensures) in
     fault_of c.args.schema.now.columns _ (written_of c.in-Some.question) c.request_of.result writes c.request_of.ensures.exact
 
 pub returns-in-Ok-clause-only : goal.returns-in-Ok-clause-only
-returns-in-Ok-clause-only c = nothing_asked c.args.schema.now.columns _ (written_by c.args.line.now _ _ c.in-Ok.ensures.ok.0 c.in-Ok.ensures.ok.1 (sym c.in-None.ensures))
+returns-in-Ok-clause-only c = nothing_asked c.args.schema.now.columns _ (written_by c.args.line.now _ _ c.in-Ok.ensures.found (sym c.in-None.ensures))
 
 pub returns-in-Ok-clause-fault : goal.returns-in-Ok-clause-fault
-returns-in-Ok-clause-fault c = written_by c.args.line.now _ _ c.in-Ok.ensures.ok.0 c.in-Ok.ensures.ok.1 (sym c.in-None.ensures)
+returns-in-Ok-clause-fault c = written_by c.args.line.now _ _ c.in-Ok.ensures.found (sym c.in-None.ensures)
 
 pub returns-clause-only : goal.returns-clause-only
-returns-clause-only c = nothing_asked c.args.schema.now.columns _ (nothing_written c.args.line.now (c.in-Err.ensures.err (λ m. false≢true (sym c.if-is_memory.false ∙ c.is_memory.ensures.1 m))))
+returns-clause-only c = unread_only c.args.schema.now.columns c.args.line.now c.in-Err.fault c.in-Err.ensures.fault
 
 pub returns-clause-fault : goal.returns-clause-fault
-returns-clause-fault c = nothing_written c.args.line.now (c.in-Err.ensures.err (λ m. false≢true (sym c.if-is_memory.false ∙ c.is_memory.ensures.1 m)))
+returns-clause-fault c = unread_fault c.args.schema.now.columns c.args.line.now c.in-Err.fault c.in-Err.ensures.fault
+
+pub returns-clause-within : goal.returns-clause-within
+returns-clause-within c = unread_within c.args.line.now c.in-Err.fault 8192 c.in-Err.ensures.fault

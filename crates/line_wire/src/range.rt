@@ -1,0 +1,63 @@
+//! Which replies may be written.
+ghost use Rattle.std.specs.Prelude.{◌↔◌, IsTrue};
+ghost use Rattle.std.specs.Int.{IsGcd};
+ghost use Rattle.line_wire.specs.Reply.{IsAverage, IsInRange};
+
+use crate::reply::Reply;
+
+/// The most rows of a table.
+const MOST_ROWS: u16 = 1024;
+
+/// The greatest size of a secret.
+const MOST_SIZE: u64 = 1_000_000_000_000;
+
+/// The greatest size of a sum over a table.
+const MOST_SUM: u64 = 1_024_000_000_000_000;
+
+/// How long a condition may be.
+const MOST_BYTES: u32 = 8192;
+
+// Euclid's algorithm.
+fn common_divisor(a: u64, b: u64) -> u64
+    ensures { IsGcd a b result }
+{
+    let mut x = a;
+    let mut y = b;
+    while y != 0 {
+        let rest = x % y;
+        x = y;
+        y = rest;
+    }
+    x
+}
+
+fn is_average(num: i64, den: u16) -> bool
+    ensures { IsTrue result ↔ IsAverage num den }
+{
+    let size = num.unsigned_abs();
+    if size > MOST_SUM || den == 0 || den > MOST_ROWS {
+        return false;
+    }
+    common_divisor(size, u64::from(den)) == 1
+}
+
+/// Whether a reply may be written.
+pub(crate) fn is_in_range(reply: &Reply) -> bool
+    ensures { IsTrue result ↔ IsInRange reply.now }
+{
+    match reply {
+        Reply::Count(count) => *count <= MOST_ROWS,
+        Reply::Sum(sum) => sum.unsigned_abs() <= MOST_SUM,
+        Reply::Avg { num, den } => is_average(*num, *den),
+        Reply::Max(max) => max.unsigned_abs() <= MOST_SIZE,
+        Reply::Condition { at } => *at <= MOST_BYTES,
+        Reply::Unsafe
+        | Reply::Wide
+        | Reply::Line
+        | Reply::Long
+        | Reply::Column
+        | Reply::Kind
+        | Reply::Empty
+        | Reply::Full => true,
+    }
+}

@@ -1,0 +1,255 @@
+//! Lines to replies.
+ghost use Rattle.std.specs.Prelude.{◌==◌, decimal, ◌≡◌, ◌<◌, ◌^◌, ◌↔◌, ℕ, ℤ, [], ◌∷◌, ◌++◌, unsigned_abs, List, Some, option_map, IsTrue, IsSome, IfSome, IfNone, MatchOption, codes};
+ghost use Rattle.std.specs.Fmt.{signed_decimal};
+ghost use Rattle.std.specs.List.{All, position};
+ghost use Rattle.line_wire.specs.Reply.{IsReply};
+
+use crate::range::is_in_range;
+use crate::reply::{Reply, write_reply};
+
+/// The replies that are one word.
+const WORDS: [Reply; 8] = [
+    Reply::Unsafe,
+    Reply::Wide,
+    Reply::Line,
+    Reply::Long,
+    Reply::Column,
+    Reply::Kind,
+    Reply::Empty,
+    Reply::Full,
+];
+
+// Whether what was written is the line and a line feed.
+fn is_line(written: &[u8], line: &[u8]) -> bool
+    ensures { IsTrue result ↔ (written.now ≡ line.now ++ 10 ∷ []) }
+{
+    match written.split_last() {
+        Some((end, bytes)) => *end == b'\n' && bytes == line,
+        None => false,
+    }
+}
+
+fn is_reply(line: &[u8], reply: &Reply) -> bool
+    ensures { IsTrue result ↔ IsReply line.now reply.now }
+{
+    if !is_in_range(reply) {
+        return false;
+    }
+    let mut out = [0u8; 64];
+    let count = write_reply(reply, &mut out);
+    is_line(&out[..count], line)
+}
+
+fn confirmed(line: &[u8], reply: Reply) -> Option<Reply>
+    ensures { MatchOption result (IsReply line.now reply → ⊥) (λ found. IsReply line.now found) }
+{
+    if is_reply(line, &reply) {
+        Some(reply)
+    } else {
+        None
+    }
+}
+
+fn between<'a>(line: &'a [u8], front: &[u8], end: &[u8]) -> Option<&'a [u8]>
+    ensures { (piece : List ℕ) → line.now ≡ front.now ++ (piece ++ end.now) → option_map (λ p. p.now) result ≡ Some piece }
+{
+    match line.strip_prefix(front) {
+        Some(behind) => behind.strip_suffix(end),
+        None => None,
+    }
+}
+
+fn number_of(piece: &[u8]) -> Option<i64>
+    ensures { (number : ℤ) → unsigned_abs number < 2 ^ 63 → piece.now ≡ signed_decimal number → result ≡ Some number }
+{
+    match str::from_utf8(piece) {
+        Ok(text) => text.parse().ok(),
+        Err(_) => None,
+    }
+}
+
+// The number between a front and an end. It may be written in other ways than replies write it.
+fn number_between(line: &[u8], front: &[u8], end: &[u8]) -> Option<i64>
+    ensures { (number : ℤ) → unsigned_abs number < 2 ^ 63 → line.now ≡ front.now ++ (signed_decimal number ++ end.now) → result ≡ Some number }
+{
+    match between(line, front, end) {
+        Some(piece) => number_of(piece),
+        None => None,
+    }
+}
+
+// The same of a number without a sign.
+fn size_between(line: &[u8], front: &[u8], end: &[u8]) -> Option<u16>
+    ensures { (size : ℕ) → size < 2 ^ 16 → line.now ≡ front.now ++ (decimal size ++ end.now) → result ≡ Some size }
+{
+    match number_between(line, front, end) {
+        Some(number) => u16::try_from(number).ok(),
+        None => None,
+    }
+}
+
+fn read_word(line: &[u8], words: &[Reply]) -> Option<Reply>
+    ensures found { IfSome result (IsReply line.now) }
+    ensures none { IfNone result (All (λ reply. IsReply line.now reply → ⊥) words.now) }
+{
+    for reply in words {
+        if is_reply(line, reply) {
+            return Some(*reply);
+        }
+    }
+    None
+}
+
+fn read_count(line: &[u8]) -> Option<Reply>
+    ensures found { IfSome result (IsReply line.now) }
+    ensures none { IfNone result ((count : ℕ) → IsReply line.now (Reply.Count count) → ⊥) }
+{
+    let count = size_between(line, b"{\"count\":", b"}")?;
+    confirmed(line, Reply::Count(count))
+}
+
+fn read_sum(line: &[u8]) -> Option<Reply>
+    ensures found { IfSome result (IsReply line.now) }
+    ensures none { IfNone result ((sum : ℤ) → IsReply line.now (Reply.Sum sum) → ⊥) }
+{
+    let sum = number_between(line, b"{\"sum\":", b"}")?;
+    confirmed(line, Reply::Sum(sum))
+}
+
+fn first_comma(line: &[u8]) -> Option<usize>
+    ensures { result ≡ position (λ b. b == 44) line.now }
+{
+    line.iter().position(|b| *b == b',')
+}
+
+fn read_average(line: &[u8]) -> Option<Reply>
+    ensures found { IfSome result (IsReply line.now) }
+    ensures none { IfNone result ((num : ℤ) (den : ℕ) → IsReply line.now (Reply.Avg num den) → ⊥) }
+{
+    let comma = first_comma(line)?;
+    let num = number_between(&line[..comma], b"{\"num\":", b"")?;
+    let den = size_between(&line[comma..], b",\"den\":", b"}")?;
+    confirmed(line, Reply::Avg { num, den })
+}
+
+fn read_max(line: &[u8]) -> Option<Reply>
+    ensures found { IfSome result (IsReply line.now) }
+    ensures none { IfNone result ((max : ℤ) → IsReply line.now (Reply.Max max) → ⊥) }
+{
+    let max = number_between(line, b"{\"max\":", b"}")?;
+    confirmed(line, Reply::Max(max))
+}
+
+fn read_condition(line: &[u8]) -> Option<Reply>
+    ensures found { IfSome result (IsReply line.now) }
+    ensures none { IfNone result ((at : ℕ) → IsReply line.now (Reply.Condition at) → ⊥) }
+{
+    let at = size_between(line, b"{\"refused\":\"where\",\"at\":", b"}")?;
+    confirmed(line, Reply::Condition { at: at.into() })
+}
+
+/// The reply that a line, without its line feed, is: `write_reply` writes that line, and for no other reply.
+pub fn read_reply(line: &[u8]) -> Option<Reply>
+    // A reply that is read is in range, and written so.
+    ensures found { IfSome result (IsReply line.now) }
+    // A reply in range that is written so is read, and no other one.
+    ensures only { (reply : Reply) → IsReply line.now reply → result ≡ Some reply }
+{
+    read_word(line, &WORDS)
+        .or(read_count(line))
+        .or(read_sum(line))
+        .or(read_average(line))
+        .or(read_max(line))
+        .or(read_condition(line))
+}
+
+#[cfg(test)]
+mod tests {
+    use super::*;
+
+    #[test]
+    fn reads_each_reply_as_it_is_written(rt: HostRuntime) {
+        let cases = [
+            (b"{\"count\":0}".as_slice(), Reply::Count(0)),
+            (b"{\"count\":1024}", Reply::Count(1024)),
+            (b"{\"sum\":300}", Reply::Sum(300)),
+            (
+                b"{\"sum\":-1024000000000000}",
+                Reply::Sum(-1_024_000_000_000_000),
+            ),
+            (b"{\"num\":0,\"den\":1}", Reply::Avg { num: 0, den: 1 }),
+            (b"{\"num\":-7,\"den\":2}", Reply::Avg { num: -7, den: 2 }),
+            (
+                b"{\"num\":1023999999999999,\"den\":1024}",
+                Reply::Avg {
+                    num: 1_023_999_999_999_999,
+                    den: 1024,
+                },
+            ),
+            (b"{\"max\":-9}", Reply::Max(-9)),
+            (b"{\"max\":1000000000000}", Reply::Max(1_000_000_000_000)),
+            (b"{\"denied\":\"unsafe\"}", Reply::Unsafe),
+            (b"{\"denied\":\"wide\"}", Reply::Wide),
+            (b"{\"refused\":\"line\"}", Reply::Line),
+            (b"{\"refused\":\"long\"}", Reply::Long),
+            (b"{\"refused\":\"column\"}", Reply::Column),
+            (b"{\"refused\":\"kind\"}", Reply::Kind),
+            (
+                b"{\"refused\":\"where\",\"at\":0}",
+                Reply::Condition { at: 0 },
+            ),
+            (
+                b"{\"refused\":\"where\",\"at\":8192}",
+                Reply::Condition { at: 8192 },
+            ),
+            (b"{\"refused\":\"empty\"}", Reply::Empty),
+            (b"{\"refused\":\"full\"}", Reply::Full),
+        ];
+        for (line, want) in cases {
+            assert_eq!(rt; read_reply(line), Some(want));
+        }
+    }
+
+    #[test]
+    fn reads_nothing_that_is_written_otherwise(rt: HostRuntime) {
+        let lines = [
+            b"".as_slice(),
+            b"{\"num\":300,\"den\":2}",
+            b"{\"num\":3,\"den\":0}",
+            b"{\"num\":1,\"den\":1025}",
+            b"{\"num\":-1024000000000001,\"den\":1}",
+            b"{\"num\":3,\"den\":-1}",
+            b"{\"num\":0,\"den\":2}",
+            b"{\"num\":3}",
+            b"{\"den\":1,\"num\":3}",
+            b"{\"sum\":01}",
+            b"{\"sum\":+1}",
+            b"{\"sum\":-0}",
+            b"{\"sum\":}",
+            b"{\"sum\": 1}",
+            b"{\"sum\":1e3}",
+            b"{\"sum\":1024000000000001}",
+            b"{\"max\":1000000000001}",
+            b"{\"max\":-1000000000001}",
+            b"{\"count\":1025}",
+            b"{\"count\":-1}",
+            b"{\"count\":65536}",
+            b"{\"count\":6} ",
+            b" {\"count\":6}",
+            b"{\"COUNT\":6}",
+            b"{\"denied\":\"UNSAFE\"}",
+            b"{\"denied\":\"line\"}",
+            b"{\"refused\":\"where\"}",
+            b"{\"refused\":\"where\",\"at\":8193}",
+            b"{\"refused\":\"line\"}\n",
+            b"{\"refused\":\"line\"}\r",
+            b"{\"count\":\n6}",
+            b"{\"sum\":1111111111222222222233333333334444444444555555555566666666667777777777888888888899999999990000000000}",
+            b"\xff{\"count\":6}",
+            b"{\"count\":\xff}",
+        ];
+        for line in lines {
+            assert_eq!(rt; read_reply(line), None);
+        }
+    }
+}
