@@ -1,0 +1,39 @@
+-- Histories that are replayed record by record stay legal.
+use Rattle.std.proofs.Common.{◌≡◌, ℕ, ◌+◌, ◌<◌, ◌≤◌, List, [], ◌∷◌, ◌++◌, length, get_or, take, Some, sym, ap, subst, ◌∙◌, arith, length-take}
+use Rattle.std.specs.Prelude.{slice_get}
+use Rattle.std.specs.List.{AllByRecursion}
+use Rattle.std.proofs.lemmas.List.{take_more, take-take, get_or-take}
+use Rattle.std.proofs.lemmas.Option.{slice_get_within, get_or_from_slice_get, slice_get-get_or}
+use Rattle.audit_types.specs.declared.records.Answered.{Answered}
+use Rattle.audit_types.specs.History.{Table, Secrets, AreSecrets, FitsShape, IsLegal, IsPossibleHistory}
+use Rattle.audit_types.specs.Laws.{LegalIsPossible}
+use Rattle.audit_core.specs.Laws.{LegalGrows}
+use Rattle.table_load.specs.Cells.{SecretView, AreNumbers, IsSecret}
+use Rattle.audit_store.specs.Starting.{IsTrue, IsReleasedAfter}
+use Rattle.audit_store.specs.Stores.{table_of}
+
+as_long : (n : ℕ) (lists : Secrets) → AllByRecursion (AreNumbers n) lists → AllByRecursion (λ w. length w ≡ n) lists
+as_long n [] all = tt
+as_long n (w ∷ lists) all = (all.0.one_each, as_long n lists all.1)
+
+-- the secrets of a table are a list for each column, with a number for each row
+pub secrets_are : (secret : SecretView) → IsSecret secret → AreSecrets secret.shape secret.lists
+secrets_are secret is = record { one_each = is.one_each; numbers = as_long secret.shape.rows secret.lists is.numbers }
+
+-- so a legal history of them is possible
+pub legal_is_possible : (secret : SecretView) (history : List Answered) → LegalIsPossible → IsSecret secret → IsLegal (table_of secret) history → IsPossibleHistory (table_of secret).setting history
+legal_is_possible secret history law is legal = law (table_of secret) history (secrets_are secret is) legal
+
+module _ (table : Table) (list : List Answered) (k : ℕ) (legal : IsLegal table (take k list)) where
+  -- a record more that fits, is true and was to be released
+  pub legal_more : (r : Answered) → LegalGrows → k < length list → length list ≤ 65536 → get_or list k r ≡ r → FitsShape table.setting.shape r.column r.rows → IsTrue table r → IsReleasedAfter table (take k list) r → IsLegal table (take (k + 1) list)
+  legal_more r law inside few here fits is_true released =
+      let grown : take (k + 1) list ≡ take k list ++ r ∷ [] = take_more list k r inside ∙ ap (λ x. take k list ++ x ∷ []) here in
+      subst (λ h. IsLegal table h) (sym grown) (law table (take k list) r legal (omega (arith, inside, few, length-take k list)) (record { fits = fits; true_answer = is_true; released = released }))
+
+  -- each of the records so far was to be released
+  pub released_before : (i : ℕ) (r : Answered) → i < k → slice_get list i ≡ Some r → IsReleasedAfter table (take i list) r
+  released_before i r lt here =
+      let inside : i < length list = slice_get_within list i r here in
+      let there : slice_get (take k list) i ≡ Some r = slice_get-get_or (take k list) i r (omega (arith, lt, inside, length-take k list)) ∙ ap (λ x. Some x) (get_or-take k list i r lt ∙ get_or_from_slice_get list i r r here) in
+      subst (λ h. IsReleasedAfter table h r) (take-take i k list (omega (arith, lt))) (legal.each i r there).released

@@ -1,0 +1,3 @@
+pub mod LegalHistories
+pub mod Stores
+pub mod Causes

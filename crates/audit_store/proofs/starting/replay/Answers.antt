@@ -1,0 +1,55 @@
+use Rattle.std.proofs.Common.{◌≡◌, Bool, [], ◌∷◌, ◌++◌, take, refl, sym, ap, subst, ◌∙◌, get_or, Result, Ok}
+use Rattle.std.proofs.lemmas.List.{take_more}
+use Rattle.std.proofs.lemmas.Option.{slice_get_read}
+use Rattle.audit_types.specs.declared.NoMemory.{NoMemory}
+use Rattle.audit_types.specs.declared.records.Answered.{Answered}
+use Rattle.audit_types.specs.History.{FitsShape}
+use Rattle.audit_core.specs.Audited.{Audited}
+use Rattle.audit_store.specs.Starting.{IsTrue, IsReleasedAfter}
+use Rattle.audit_store.specs.Stores.{table_of}
+use Rattle.audit_store.proofs.LegalHistories.{legal_is_possible, legal_more, released_before}
+use Rattle.audit_store.proofs.starting.replay.Goals as goal
+
+pub is_released-requires-clause-possible : goal.is_released-requires-clause-possible
+is_released-requires-clause-possible c =
+    let i = c.loop-place.invariant in
+    let possible = legal_is_possible c.args.secret.now (take c.loop-place.place c.args.list.now) c.true_answers.ensures.legal c.shape.ensures.is i.legal in
+    rw (i.same_setting, i.so_far) possible
+
+abbrev said : Bool → Result Bool NoMemory
+said b = Ok b
+
+pub returns-in-Ok-false-clause-err : goal.returns-in-Ok-false-clause-err
+returns-in-Ok-false-clause-err c =
+    let i = c.loop-place.invariant in
+    let list = c.args.list.now in
+    let r = c.index-list-place.result in
+    let table = table_of c.args.secret.now in
+    let denied : IsReleasedAfter table (take c.loop-place.place list) r → ⊥ = rw (i.same_setting, i.so_far) at (c.in-Ok-false.ensures.no (ap said c.in-Ok-false.field-0-test)) in (
+      refl,
+      record {
+        all_true = c.requires.are_true;
+        at = r;
+        stands = slice_get_read list _ c.loop-place.place r refl c.loop-place-test.true c.index-list-place.is;
+        denied = denied;
+        before = released_before table list c.loop-place.place i.legal;
+      },
+    )
+
+pub loop-place-preserved : goal.loop-place-preserved
+loop-place-preserved c =
+    let i = c.loop-place.invariant in
+    let list = c.args.list.now in
+    let place = c.loop-place.place in
+    let r = c.index-list-place.result in
+    let table = table_of c.args.secret.now in
+    let released : IsReleasedAfter table (take place list) r = rw (i.same_setting, i.so_far) at (c.in-Ok-true.ensures.yes (ap said c.in-Ok-true.field-0-test)) in
+    let inside = c.loop-place-test.true in
+    let here : get_or list place r ≡ r = sym c.index-list-place.is in
+    let is_true : IsTrue table r = c.requires.are_true place r (slice_get_read list _ place r refl inside c.index-list-place.is) in
+    let fits : FitsShape c.args.secret.now.shape r.column r.rows = subst (λ (x : Answered). FitsShape c.args.secret.now.shape x.column x.rows) here (c.requires.fit place r inside) in
+    record {
+      same_setting = ap (λ (a : Audited). a.setting) c.in-Ok-take.ensures.ok ∙ i.same_setting;
+      so_far = ap (λ (a : Audited). a.history) c.in-Ok-take.ensures.ok ∙ ap (λ h. h ++ r ∷ []) i.so_far ∙ sym (take_more list place r inside ∙ ap (λ x. take place list ++ x ∷ []) here);
+      legal = legal_more table list place i.legal r c.released_records.ensures inside c.requires.few here fits is_true released;
+    }

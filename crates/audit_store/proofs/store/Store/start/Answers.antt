@@ -1,0 +1,41 @@
+use Rattle.std.proofs.Common.{List, sym, subst, ◌∙◌}
+use Rattle.std.proofs.lemmas.Result.{IfErr-at_err}
+use Rattle.audit_types.specs.declared.records.Answered.{Answered}
+use Rattle.audit_types.specs.History.{IsLegal}
+use Rattle.audit_store.specs.declared.starting.StartFault.{StartFault}
+use Rattle.audit_store.specs.Starting.{HistoryCause, GivesUp}
+use Rattle.audit_store.specs.Stores.{table_of}
+use Rattle.audit_store.proofs.Causes.{gave_up, cause_in_file, due_of_reading, due_of_history}
+use Rattle.audit_store.proofs.store.Store.start.Goals as goal
+
+pub returns-in-Ok-clause-cause : goal.returns-in-Ok-clause-cause
+returns-in-Ok-clause-cause g c = λ fault told is.
+    let file = g.B.Bench.file c.args.bench.now in
+    let journal = c.in-Ok.journal in
+    let list = c.in-Ok.list.items in
+    let cause = IfErr-at_err (λ (f : StartFault). HistoryCause f journal.shape c.deref.result.now c.args.secret) is c.opened.ensures.err in
+    cause_in_file file journal.shape list journal.gate c.args.secret fault (c.in-Ok.ensures.stands told) (subst (λ (h : List Answered). HistoryCause fault journal.shape h c.args.secret) c.deref.ensures.value cause)
+
+pub returns-in-Ok-clause-due : goal.returns-in-Ok-clause-due
+returns-in-Ok-clause-due g c = λ fault told some cause.
+    let file = g.B.Bench.file c.args.bench.now in
+    let journal = c.in-Ok.journal in
+    let list = c.in-Ok.list.items in
+    let here = due_of_history file c.args.secret journal.shape list fault (c.in-Ok.ensures.made told) (λ at. c.in-Ok.ensures.damaged_only at told)
+    (λ other others gate stands. let same = c.in-Ok.ensures.whole other others gate told stands in (same.0, same.1)) some cause in
+    c.opened.ensures.due fault some (subst (λ (h : List Answered). HistoryCause fault journal.shape h c.args.secret) (sym c.deref.ensures.value) here)
+
+pub returns-in-Ok-clause-opens : goal.returns-in-Ok-clause-opens
+returns-in-Ok-clause-opens g c = λ history told stands legal.
+    let same = c.in-Ok.ensures.whole c.args.secret.shape history stands.0 told stands.1 in
+    c.opened.ensures.opens same.0 (subst (λ (h : List Answered). IsLegal (table_of c.args.secret) h) (sym (c.deref.ensures.value ∙ same.1)) legal)
+
+pub returns-in-Err-clause-due : goal.returns-in-Err-clause-due
+returns-in-Err-clause-due g c = λ fault told some cause.
+    let file = g.B.Bench.file c.args.bench.now in
+    let due = due_of_reading file c.args.secret c.in-Err.fault fault (c.in-Err.ensures.made told) (λ at. c.in-Err.ensures.damaged_only at told) (λ shape history gate. c.in-Err.ensures.whole shape history gate told) some cause in
+    rw c.from.ensures due
+
+pub returns-in-Err-clause-opens : goal.returns-in-Err-clause-opens
+returns-in-Err-clause-opens g c = λ history told stands legal.
+    subst (λ (f : StartFault). GivesUp f) (sym c.from.ensures) (gave_up c.in-Err.fault (c.in-Err.ensures.whole c.args.secret.shape history stands.0 told stands.1))

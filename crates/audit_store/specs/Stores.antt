@@ -1,0 +1,56 @@
+-- A store, as contracts see it: the secrets that it guards, what was released of them, and the journal behind it.
+use Rattle.std.specs.Prelude.{◌≡◌, ℕ, ◌≤◌, Bool, true, List, length}
+use Rattle.audit_types.specs.declared.records.Asked.{Asked}
+use Rattle.audit_types.specs.declared.records.Answered.{Answered}
+use Rattle.audit_types.specs.History.{Table, IsLegal, setting_of}
+use Rattle.audit_core.specs.Audited.{Audited}
+use Rattle.table_load.specs.Cells.{SecretView, IsSecret}
+use Rattle.bench_core.specs.Bench.{LeavesOnly}
+use Rattle.journal_form.specs.Journal.{StandsAt}
+use Rattle.answer_journal.specs.Contents.{JournalContents}
+use Rattle.answer_journal.specs.Moments.{IsBeforeOrAfter}
+use Rattle.audit_store.specs.declared.outcome.Outcome.{Outcome}
+use Rattle.audit_store.specs.Outcomes.{IsOutcome, AreOutcomes, record_of, records_of}
+
+-- the secrets, the released records in order, the journal, and whether questions may be asked
+pub record StoreContents : Type 0 where
+  pub secret : SecretView
+  pub history : List Answered
+  pub journal : JournalContents
+  pub usable : Bool
+
+-- the table whose secrets these are
+abbrev pub table_of : SecretView → Table
+table_of secret = record { setting = setting_of secret.shape; secrets = secret.lists }
+
+-- what is true of every store: its history is legal, and while it is usable its journal is that of its table and history
+pub record IsStore (store : StoreContents) : Type 0 where
+  pub numbers : IsSecret store.secret
+  pub legal : IsLegal (table_of store.secret) store.history
+  pub journal_usable : store.usable ≡ true → store.journal.usable ≡ true
+  pub same_shape : store.usable ≡ true → store.journal.shape ≡ store.secret.shape
+  pub counted : store.usable ≡ true → store.journal.count ≡ length store.history
+
+-- the core audits the table of these secrets, and its records begin with those that were released; while the store is
+-- usable they are all of them
+pub record IsAuditedBy (secret : SecretView) (core : Audited) (released : ℕ) (usable : Bool) : Type 0 where
+  pub same_setting : core.setting ≡ setting_of secret.shape
+  pub within : released ≤ length core.history
+  pub all : usable ≡ true → released ≡ length core.history
+
+-- the file is as the store left it: it stands for the store's history, and its closing gate is where the journal says
+abbrev pub IsAsLeft : List ℕ → StoreContents → Type 0
+IsAsLeft file store = StandsAt file store.secret.shape store.history store.journal.gate
+
+-- what a crash finds while a group of questions is decided and kept: nothing was sent, and the image stands for the
+-- history before the group or for that with the group's records
+pub record Keeps {D : Type 0} (moment : D → ℕ) (since : D → ℕ → List ℕ → List ℕ → Type 0) (before after : D) (secret : SecretView) (history : List Answered) (questions : List Asked) (sent : List ℕ) : Type 0 where
+  pub outcomes : List Outcome
+  pub due : AreOutcomes (table_of secret) history questions outcomes
+  pub moments : LeavesOnly moment since before after (IsBeforeOrAfter secret.shape history (records_of questions outcomes) sent)
+
+-- what a crash finds while one question is decided and its answer kept
+pub record KeepsOne {D : Type 0} (moment : D → ℕ) (since : D → ℕ → List ℕ → List ℕ → Type 0) (before after : D) (secret : SecretView) (history : List Answered) (asked : Asked) (sent : List ℕ) : Type 0 where
+  pub outcome : Outcome
+  pub due : IsOutcome (table_of secret) history asked outcome
+  pub moments : LeavesOnly moment since before after (IsBeforeOrAfter secret.shape history (record_of asked outcome) sent)

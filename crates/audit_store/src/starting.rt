@@ -1,0 +1,130 @@
+//! Opening the journal of a table.
+ghost use Rattle.std.specs.Prelude.{◌≡◌, ◌≤◌, true, false, Ok, length, All, IfOk, IfErr, OnOk};
+ghost use Rattle.audit_types.specs.History.{FitsShape, IsLegal, IsPossibleHistory, IsDecisionAfter, setting_of};
+ghost use Rattle.audit_types.specs.declared.records.Verdict.TheVariants.{Released};
+ghost use Rattle.audit_store.specs.Starting.{AreTrue, HistoryCause, start_fault};
+ghost use Rattle.audit_store.specs.Stores.{table_of};
+
+use answer_journal::BackFault;
+use audit_core::Core;
+use audit_core::laws::released_records;
+use audit_types::laws::true_answers;
+use audit_types::{Answered, Asked, NoMemory, Shape, Verdict};
+use std::alloc::Global;
+use sum_basis::laws::narrow_or_wide;
+use table_load::Secret;
+
+/// Why a store was not started.
+#[derive(Clone, Copy, Debug, PartialEq, Eq)]
+pub enum StartFault {
+    /// The file is shorter than a journal, or its header gate isn't open.
+    NotMade,
+    /// The place of the first byte that breaks the journal's grammar.
+    Damaged { at: u64 },
+    /// The journal is that of a table of another shape.
+    OtherShape { kept: Shape, now: Shape },
+    /// The first record, from 0, whose answer isn't the true one.
+    Untrue { place: u32, kept: i64, now: i64 },
+    /// All answers are true. The first record, from 0, whose question was not to be released.
+    Illegal { place: u32 },
+    /// A call of the bench failed.
+    Failed,
+    NoMemory,
+}
+
+impl From<BackFault> for StartFault {
+    ghost from_gives = { λ back e. e ≡ start_fault back };
+
+    fn from(back: BackFault) -> StartFault {
+        match back {
+            BackFault::NotMade => StartFault::NotMade,
+            BackFault::Damaged { at } => StartFault::Damaged { at },
+            BackFault::Failed => StartFault::Failed,
+            BackFault::NoMemory => StartFault::NoMemory,
+        }
+    }
+}
+
+// Looks for the first record whose answer isn't the true one.
+fn test_truth(secret: &Secret, list: &[Answered]) -> Result<(), StartFault>
+    requires fit { All (λ r. FitsShape secret.now.shape r.column r.rows) list.now }
+    requires few { length list.now ≤ 65536 }
+    ensures ok { OnOk result (AreTrue (table_of secret.now) list.now) }
+    ensures err { IfErr result (λ fault. HistoryCause fault secret.now.shape list.now secret.now) }
+{
+    for (place, answered) in list.iter().enumerate() {
+        let now = secret.truth(answered.column, &answered.rows);
+        if now != answered.answer {
+            return Err(StartFault::Untrue {
+                place: place as u32,
+                kept: answered.answer,
+                now,
+            });
+        }
+    }
+    Ok(())
+}
+
+// Whether the question of a record is released after the records of the core.
+fn is_released(core: &Core, answered: &Answered) -> Result<bool, NoMemory>
+    requires fits { FitsShape core.now.setting.shape answered.now.column answered.now.rows }
+    requires possible { IsPossibleHistory core.now.setting core.now.history }
+    ensures yes { result ≡ Ok true → IsDecisionAfter core.now.setting core.now.history answered.now.column answered.now.rows.list Released }
+    ensures no { result ≡ Ok false → ¬ (IsDecisionAfter core.now.setting core.now.history answered.now.column answered.now.rows.list Released) }
+{
+    narrow_or_wide();
+    let asked = Asked {
+        column: answered.column,
+        rows: answered.rows,
+    };
+    match core.decide(&asked)? {
+        Verdict::Released => Ok(true),
+        Verdict::DeniedUnsafe => Ok(false),
+        Verdict::DeniedWide => Ok(false),
+    }
+}
+
+// Decides each record's question after the records before it, as it was decided when it was answered.
+fn replay(alloc: Global, secret: &Secret, list: &[Answered]) -> Result<Core, StartFault>
+    requires fit { All (λ r. FitsShape secret.now.shape r.column r.rows) list.now }
+    requires few { length list.now ≤ 65536 }
+    requires are_true { AreTrue (table_of secret.now) list.now }
+    ensures ok { IfOk result (λ core. (core ≡ record { setting = setting_of secret.now.shape; history = list.now }) × IsLegal (table_of secret.now) list.now) }
+    ensures err { IfErr result (λ fault. HistoryCause fault secret.now.shape list.now secret.now) }
+{
+    true_answers();
+    released_records();
+    let mut core = match Core::new(alloc, secret.shape()) {
+        Ok(core) => core,
+        Err(NoMemory) => return Err(StartFault::NoMemory),
+    };
+    for (place, answered) in list.iter().enumerate() {
+        match is_released(&core, answered) {
+            Ok(true) => {}
+            Ok(false) => {
+                return Err(StartFault::Illegal {
+                    place: place as u32,
+                });
+            }
+            Err(NoMemory) => return Err(StartFault::NoMemory),
+        }
+        match core.take(answered) {
+            Ok(()) => {}
+            Err(NoMemory) => return Err(StartFault::NoMemory),
+        }
+    }
+    Ok(core)
+}
+
+/// Tests that a history is that of the secrets' table: every answer is true, and every question was to be released.
+pub fn audited(alloc: Global, secret: &Secret, list: &[Answered]) -> Result<Core, StartFault>
+    requires fit { All (λ r. FitsShape secret.now.shape r.column r.rows) list.now }
+    requires few { length list.now ≤ 65536 }
+    ensures ok { IfOk result (λ core. (core ≡ record { setting = setting_of secret.now.shape; history = list.now }) × IsLegal (table_of secret.now) list.now) }
+    ensures err { IfErr result (λ fault. HistoryCause fault secret.now.shape list.now secret.now) }
+{
+    match test_truth(secret, list) {
+        Ok(()) => replay(alloc, secret, list),
+        Err(fault) => Err(fault),
+    }
+}

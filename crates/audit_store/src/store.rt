@@ -1,0 +1,204 @@
+//! The store.
+ghost use Rattle.std.specs.Prelude.{◌≡◌, ◌≤◌, ◌+◌, ◌*◌, ◌++◌, [], ◌∷◌, ℕ, List, true, false, length, take, All, IfOk, IfErr, OnOk, OnErr, IsErrOf, Err};
+ghost use Rattle.audit_types.specs.declared.records.Answered.{Answered};
+ghost use Rattle.audit_types.specs.History.{FitsShape, IsLegal, setting_of};
+ghost use Rattle.bench_core.specs.Causes.{Rose};
+ghost use Rattle.bench_core.specs.Bench.{IsQuiet, LeavesOnly};
+ghost use Rattle.journal_form.specs.Journal.{StandsFor};
+ghost use Rattle.answer_journal.specs.Moments.{IsBeforeOrAfter, IsUntouched};
+ghost use Rattle.audit_store.specs.Outcomes.{AreOutcomes, records_of};
+ghost use Rattle.audit_store.specs.Stores.{IsAsLeft, IsStore, Keeps, table_of};
+ghost use Rattle.audit_store.specs.Starting.{StartCause, HistoryCause, GivesUp, StartsUnlessFailed, RefusedUnlessFailed};
+ghost use Rattle.audit_store.specs.declared.starting.StartFault.{StartFault};
+
+use crate::asking::settle;
+use crate::outcome::{Outcome, StoreFault};
+use crate::starting::{StartFault, audited};
+use answer_journal::Journal;
+use audit_core::Core;
+use audit_types::{Answered, Asked};
+use bench_core::Bench;
+use std::alloc::Global;
+use std::marker::Model;
+use table_load::Secret;
+
+/// The secrets of a table, the audit of their columns, and the journal of what was released.
+#[derive(Drop)]
+pub struct Store {
+    alloc: Global,
+    secret: Secret,
+    core: Core,
+    // How many of the core's records were released. The core may have more, after a refusal.
+    released: u32,
+    journal: Journal,
+    usable: bool,
+}
+
+impl Model for Store {
+    ghost use Rattle.std.specs.Prelude.{take};
+    ghost use Rattle.audit_store.specs.Stores.{StoreContents, IsStore, IsAuditedBy};
+
+    ghost Value = { StoreContents };
+
+    ghost view = { λ s. record { secret = s.secret; history = take s.released s.core.history; journal = s.journal; usable = s.usable } };
+
+    ghost invariant = { λ s. IsStore (record { secret = s.secret; history = take s.released s.core.history; journal = s.journal; usable = s.usable }) × IsAuditedBy s.secret s.core s.released s.usable };
+}
+
+// The store of a history that was read back, where it is that of the secrets' table.
+fn opened(
+    alloc: Global,
+    secret: Secret,
+    journal: Journal,
+    list: &[Answered],
+) -> Result<Store, StartFault>
+    requires usable { journal.usable ≡ true }
+    requires counted { length list.now ≡ journal.count }
+    requires fit { All (λ r. FitsShape journal.shape r.column r.rows) list.now }
+    ensures ok { IfOk result (λ store. store ≡ record { secret = secret; history = list.now; journal = journal; usable = true }) }
+    ensures is { IfOk result (λ store. IsStore store) }
+    ensures err { IfErr result (λ fault. HistoryCause fault journal.shape list.now secret) }
+    ensures due { (fault : StartFault) → (GivesUp fault → ⊥) → HistoryCause fault journal.shape list.now secret → RefusedUnlessFailed fault result }
+    ensures opens { journal.shape ≡ secret.shape → IsLegal (table_of secret) list.now → StartsUnlessFailed result }
+{
+    let kept = journal.shape();
+    let now = secret.shape();
+    if kept != now {
+        return Err(StartFault::OtherShape { kept, now });
+    }
+    let released = journal.count();
+    match audited(alloc, &secret, list) {
+        Ok(core) => Ok(Store {
+            alloc,
+            secret,
+            core,
+            released,
+            journal,
+            usable: true,
+        }),
+        Err(fault) => Err(fault),
+    }
+}
+
+impl Store {
+    /// Opens the journal of a table, and tests that it is that of the table. The faults come in the order of `StartFault`.
+    /// The secrets are dropped with a refusal. The file isn't written.
+    pub fn start<B: Bench>(
+        alloc: Global,
+        secret: Secret,
+        bench: &mut B,
+    ) -> Result<Store, StartFault>
+        // The store is that of the file's history, which is legal.
+        ensures store { IfOk result (λ store. (store.secret ≡ secret) × (store.usable ≡ true) × IsStore store) }
+        ensures stands { B.told → IfOk result (λ store. IsAsLeft (B.file bench.old) store) }
+
+        // Each refusal has its cause in the file, and each cause has its refusal; a legal history is never refused.
+        ensures cause { (fault : StartFault) → B.told → result ≡ Err fault → StartCause fault (B.file bench.old) secret }
+        ensures due { (fault : StartFault) → B.told → (GivesUp fault → ⊥) → StartCause fault (B.file bench.old) secret → RefusedUnlessFailed fault result }
+        ensures opens { (history : List Answered) → B.told → StandsFor (B.file bench.old) secret.shape history → IsLegal (table_of secret) history → StartsUnlessFailed result }
+
+        // Nothing is written and nothing sent.
+        ensures file { B.file bench.new ≡ B.file bench.old }
+        ensures sent { B.sent bench.new ≡ B.sent bench.old }
+        ensures crash { (image : List ℕ) → B.leaves bench.new image → B.leaves bench.old image }
+        ensures untouched { B.told → IsQuiet (B.file bench.old) (B.leaves bench.old) → LeavesOnly B.moment B.since bench.old bench.new (IsUntouched (B.file bench.old) (B.sent bench.old)) }
+        ensures failed { IsErrOf result StartFault.Failed → Rose (B.faults bench.old) (B.faults bench.new) }
+        ensures later { B.faults bench.old ≤ B.faults bench.new }
+    {
+        match Journal::read_back(alloc, bench) {
+            Ok((journal, list)) => opened(alloc, secret, journal, &list),
+            Err(fault) => Err(StartFault::from(fault)),
+        }
+    }
+
+    /// Decides a question against the history. An answer is in the journal before it is given: its record is appended in
+    /// four calls of the bench, and all memory is taken before the first of them. After a refusal the store isn't usable.
+    pub fn ask_all<B: Bench>(
+        &mut self,
+        bench: &mut B,
+        asked: &[Asked],
+    ) -> Result<Vec<Outcome>, StoreFault>
+        requires usable { self.old.usable ≡ true }
+        requires one { length asked.now ≡ 1 }
+        requires fit { All (λ a. FitsShape self.old.secret.shape a.column a.rows) asked.now }
+        requires stands { B.told → IsAsLeft (B.file bench.old) self.old }
+
+        // One outcome for each question, and the history has the records that they make.
+        ensures outcomes { IfOk result (λ v. AreOutcomes (table_of self.old.secret) self.old.history asked.now v.items) }
+        ensures history { IfOk result (λ v. self.new.history ≡ self.old.history ++ records_of asked.now v.items) }
+        ensures stands { B.told → OnOk result (IsAsLeft (B.file bench.new) self.new) }
+        ensures usable { OnOk result (self.new.usable ≡ true) }
+
+        // A refusal leaves the history as it was.
+        ensures kept { OnErr result ((self.new.history ≡ self.old.history) × (self.new.usable ≡ false)) }
+        ensures no_memory { IsErrOf result StoreFault.NoMemory → bench.new ≡ bench.old }
+        ensures failed { IsErrOf result StoreFault.Failed → Rose (B.faults bench.old) (B.faults bench.new) }
+        ensures later { B.faults bench.old ≤ B.faults bench.new }
+        ensures secret { self.new.secret ≡ self.old.secret }
+        ensures is { IsStore self.new }
+
+        // A crash at any moment leaves the history before, or that with the records of the group; where outcomes are given,
+        // with theirs. A group that makes no record leaves the bench as it was, any other takes four calls.
+        ensures any_moment { B.told → IsQuiet (B.file bench.old) (B.leaves bench.old) → (IsErrOf result StoreFault.NoMemory → ⊥)
+            → Keeps B.moment B.since bench.old bench.new self.old.secret self.old.history asked.now (B.sent bench.old) }
+        ensures moments { B.told → IsQuiet (B.file bench.old) (B.leaves bench.old)
+            → IfOk result (λ v. LeavesOnly B.moment B.since bench.old bench.new (IsBeforeOrAfter self.old.secret.shape self.old.history (records_of asked.now v.items) (B.sent bench.old))) }
+        ensures quiet { B.told → IsQuiet (B.file bench.old) (B.leaves bench.old) → OnOk result (IsQuiet (B.file bench.new) (B.leaves bench.new)) }
+        ensures sent { B.sent bench.new ≡ B.sent bench.old }
+        ensures ticks { B.told → IfOk result (λ v. B.moment bench.new ≡ B.moment bench.old + 4 * length (records_of asked.now v.items)) }
+        ensures unasked { IfOk result (λ v. records_of asked.now v.items ≡ [] → bench.new ≡ bench.old) }
+    {
+        self.usable = false;
+        let mut outcomes = match Vec::with_capacity(self.alloc, 1) {
+            Ok(outcomes) => outcomes,
+            Err(_) => return Err(StoreFault::NoMemory),
+        };
+        let question = &asked[0];
+        match settle(
+            &self.secret,
+            &mut self.journal,
+            &mut self.core,
+            bench,
+            question,
+        ) {
+            Ok(outcome) => {
+                outcomes.push_reserved(outcome);
+                self.released = self.core.history().len() as u32;
+                self.usable = true;
+                Ok(outcomes)
+            }
+            Err(refusal) => Err(refusal),
+        }
+    }
+
+    /// Whether questions may be asked. After a refused `ask_all` they may not.
+    pub fn usable(&self) -> bool
+        ensures { result ≡ self.now.usable }
+    {
+        self.usable
+    }
+
+    /// The released records, in order.
+    pub fn history(&self) -> &[Answered]
+        ensures history { result.now ≡ self.now.history }
+        ensures is { IsStore self.now }
+    {
+        &self.core.history()[..self.released as usize]
+    }
+
+    /// The secrets that the store guards.
+    pub fn secret(&self) -> &Secret
+        ensures { result.now ≡ self.now.secret }
+    {
+        &self.secret
+    }
+
+    /// The audit of the columns. While the store is usable its history is `history()`; after a refusal it begins with it.
+    pub fn core(&self) -> &Core
+        ensures setting { result.now.setting ≡ setting_of self.now.secret.shape }
+        ensures begins { take (length self.now.history) result.now.history ≡ self.now.history }
+        ensures same { self.now.usable ≡ true → result.now.history ≡ self.now.history }
+    {
+        &self.core
+    }
+}
