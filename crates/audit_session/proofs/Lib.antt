@@ -1,0 +1,13 @@
+pub mod Means
+pub mod RepliesInOrder
+pub mod StopsOfGroups
+pub mod LegalReplies
+pub mod WhileDeciding
+pub mod Telling
+pub mod Asking
+pub mod WhileAnswering
+pub mod NextLines
+pub mod AnsweredLines
+pub mod Served
+pub mod OneMean
+pub mod OneReply

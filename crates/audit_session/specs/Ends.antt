@@ -1,0 +1,64 @@
+-- How a session ends.
+use Rattle.std.specs.Prelude.{◌≡◌, ℕ, ◌+◌, ◌*◌, ◌≤◌, ◌<◌, ◌^◌, List, [], ◌++◌, length, take, Result, Ok, Err}
+use Rattle.audit_types.specs.declared.records.Answered.{Answered}
+use Rattle.journal_form.specs.Journal.{StandsFor}
+use Rattle.bench_core.specs.Bench.{IsQuiet}
+use Rattle.audit_store.specs.Stores.{StoreContents}
+use Rattle.audit_session.specs.declared.serving.EndFault.{EndFault}
+use Rattle.audit_session.specs.declared.serving.EndFault.TheVariants as end
+use Rattle.line_wire.specs.Lines.{CountedLine, counted_lines, whole_lines}
+use Rattle.audit_session.specs.Session.{Replied, records_of, bytes_of, AreReplies, groups}
+use Rattle.audit_session.specs.Replies.{Database, IsDue}
+
+-- lines were answered: their replies are what was sent meanwhile, and the history has their records
+pub record Serves (base : Database) (history : List Answered) (lines : List CountedLine) (now : List Answered) (before after : List ℕ) : Type 0 where
+  pub replies : List (Replied Answered)
+  pub due : AreReplies (IsDue base) history lines replies
+  pub history_is : now ≡ history ++ records_of replies
+  pub sent_is : after ≡ before ++ bytes_of replies
+
+-- the whole groups of lines whose last line feed stands among the bytes that were read were answered, and no other
+pub record ServesWhole (base : Database) (history : List Answered) (batch : ℕ) (input left : List ℕ) (now : List Answered) (before after : List ℕ) : Type 0 where
+  pub read : List ℕ
+  pub split : input ≡ read ++ left
+  pub count : ℕ
+  pub begun : count * batch ≤ length (whole_lines read)
+  pub rest : length (whole_lines read) < (count + 1) * batch
+  pub serves : Serves base history (groups batch count (whole_lines read)) now before after
+
+-- some groups of lines were answered
+pub record ServesSome (base : Database) (history : List Answered) (batch : ℕ) (lines : List CountedLine) (now : List Answered) (before after : List ℕ) : Type 0 where
+  pub count : ℕ
+  pub serves : Serves base history (groups batch count lines) now before after
+
+-- the bytes of an input that may be read
+unfoldable pub limited : List ℕ → List ℕ
+limited input = take (2 ^ 30) input
+
+-- the whole groups of lines whose last line feed stands among the bytes that may be read were answered, and no other
+pub record ServesLimited (base : Database) (history : List Answered) (batch : ℕ) (input : List ℕ) (now : List Answered) (before after : List ℕ) : Type 0 where
+  pub count : ℕ
+  pub begun : count * batch ≤ length (whole_lines (limited input))
+  pub rest : length (whole_lines (limited input)) < (count + 1) * batch
+  pub serves : Serves base history (groups batch count (whole_lines (limited input))) now before after
+
+-- which lines were answered, by the end
+abbrev pub Ends : Result (Unit {0}) EndFault → Database → List Answered → List ℕ → List ℕ → List Answered → List ℕ → List ℕ → Type 0
+Ends (Ok done) base history input left now before after = Serves base history (counted_lines input) now before after
+Ends (Err end.Input) base history input left now before after = ServesWhole base history 1 input left now before after
+Ends (Err end.Limit) base history input left now before after = ServesLimited base history 1 input now before after
+Ends (Err end.NoMemory) base history input left now before after = ServesSome base history 1 (counted_lines input) now before after
+Ends (Err end.Bench) base history input left now before after = Unit {0}
+
+-- how much of the input there was, by the end
+abbrev pub Reads : Result (Unit {0}) EndFault → List ℕ → List ℕ → Type 0
+Reads (Ok done) input left = (left ≡ []) × (length input ≤ 2 ^ 30)
+Reads (Err end.Input) input left = length input ≤ 2 ^ 30 + length left
+Reads (Err end.Limit) input left = 2 ^ 30 + length left < length input
+Reads (Err end.NoMemory) input left = Unit {0}
+Reads (Err end.Bench) input left = Unit {0}
+
+-- the file stands for the history, and a quiet bench is still quiet
+pub record Rests {D : Type 0} (told : Type 0) (file : D → List ℕ) (leaves : D → List ℕ → Type 0) (old new : D) (store : StoreContents) : Type 0 where
+  pub stands : told → StandsFor (file new) store.secret.shape store.history
+  pub quiet : told → IsQuiet (file old) (leaves old) → IsQuiet (file new) (leaves new)

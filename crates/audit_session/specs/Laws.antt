@@ -1,0 +1,64 @@
+-- Laws of the replies that are due.
+use Rattle.std.specs.Prelude.{◌≡◌, ◌⊎◌, ◌<◌, ℕ, ℤ, List, ◌++◌, length, Some}
+use Rattle.audit_types.specs.declared.records.Asked.{Asked}
+use Rattle.audit_types.specs.declared.records.Answered.{Answered}
+use Rattle.audit_types.specs.History.{Table, IsLegal, IsUndisclosed}
+use Rattle.schema_json.specs.Columns.{AreColumns}
+use Rattle.schema_json.specs.SecretShape.{shape_of}
+use Rattle.table_load.specs.Cells.{IsSecret}
+use Rattle.journal_form.specs.Journal.{StandsFor}
+use Rattle.audit_store.specs.Outcomes.{true_answer}
+use Rattle.audit_store.specs.Stores.{table_of}
+use Rattle.line_wire.specs.Lines.{CountedLine}
+use Rattle.line_wire.specs.Reply.{reply_bytes}
+use Rattle.line_wire.specs.declared.reply.Reply.{Reply}
+use Rattle.line_wire.specs.declared.question.Take.{Take}
+use Rattle.audit_session.specs.Session.{Replied, records_of, AreReplies}
+use Rattle.audit_session.specs.Stops.{Stop}
+use Rattle.audit_session.specs.Replies.{Database, IsDue, Tells}
+
+-- a schema's columns, and secrets of the shape that they give the table
+pub record IsDatabase (base : Database) : Type 0 where
+  pub schema : AreColumns base.columns
+  pub shape : base.secret.shape ≡ shape_of base.columns base.public.rows
+
+-- answering lines keeps a history legal
+abbrev pub RepliesKeepLegal : Type 0
+RepliesKeepLegal =
+    (base : Database) (history : List Answered) (lines : List CountedLine) (replies : List (Replied Answered)) → IsDatabase base → IsLegal (table_of base.secret) history →
+    AreReplies (IsDue base) history lines replies → IsLegal (table_of base.secret) (history ++ records_of replies)
+
+-- at each stop of a session over a legal history, every history for which the image stands is legal and discloses nothing
+abbrev pub StopsAreLegal : Type 0
+StopsAreLegal =
+    (base : Database) (batch : ℕ) (history : List Answered) (lines : List CountedLine) (image sent : List ℕ) (found : List Answered) → IsDatabase base → IsSecret base.secret → IsLegal (table_of base.secret) history →
+    Stop (IsDue base) (λ image history. StandsFor image base.secret.shape history) batch history lines image sent → StandsFor image base.secret.shape found →
+    IsLegal (table_of base.secret) found × IsUndisclosed (table_of base.secret) found
+
+-- ---- one reply is due
+
+-- one reply is due to a line after a history
+abbrev pub OneReplyIsDue : Type 0
+OneReplyIsDue = (base : Database) (history : List Answered) (line : CountedLine) (a b : Replied Answered) → IsDue base history line a → IsDue base history line b → a ≡ b
+
+-- the reply tells the true answer to a question, and its record is added
+pub record IsAnswerTo (table : Table) (take : Take) (asked : Asked) (replied : Replied Answered) : Type 0 where
+  pub answer : ℤ
+  pub is_true : answer ≡ true_answer table asked.column asked.rows
+  pub told : Reply
+  pub tells : Tells take (length asked.rows.list) answer told
+  pub replied_is : replied ≡ record { bytes = reply_bytes told; added = Some (record { column = asked.column; rows = asked.rows; answer = answer }) }
+
+-- two replies tell what one question answers over each of two tables
+pub record AreAnswersAlike (table twin : Table) (a b : Replied Answered) : Type 0 where
+  pub take : Take
+  pub asked : Asked
+  pub some : 0 < length asked.rows.list
+  pub first : IsAnswerTo table take asked a
+  pub second : IsAnswerTo twin take asked b
+
+-- of tables that differ in their secrets alone the replies to a line are equal, or both tell the answer to one question
+abbrev pub DecidedAlike : Type 0
+DecidedAlike =
+    (base twin : Database) (history : List Answered) (line : CountedLine) (a b : Replied Answered) → twin.columns ≡ base.columns → twin.public ≡ base.public → twin.secret.shape ≡ base.secret.shape →
+    IsDue base history line a → IsDue twin history line b → (a ≡ b) ⊎ AreAnswersAlike (table_of base.secret) (table_of twin.secret) a b

@@ -1,0 +1,37 @@
+//! Laws of the replies that are due. Each function computes nothing: its contract is the law.
+ghost use Rattle.audit_session.specs.Laws.{RepliesKeepLegal, StopsAreLegal, OneReplyIsDue, DecidedAlike};
+
+/// Answering lines keeps a history legal: each record that a reply makes may follow those before it.
+pub fn answered_lines()
+    ensures { RepliesKeepLegal }
+{
+    schema_json::laws::secret_columns();
+    audit_core::laws::released_records();
+}
+
+/// At each stop of a session over a legal history, every history for which the image stands is legal and discloses nothing.
+pub fn stops()
+    ensures { StopsAreLegal }
+{
+    answered_lines();
+    journal_form::laws::one_reading();
+    table_load::lists_of_secrets();
+    audit_core::laws::legal_histories();
+}
+
+/// One reply is due to a line after a history.
+pub fn one_reply()
+    ensures { OneReplyIsDue }
+{
+    predicate_lang::one_meaning();
+    sum_basis::laws::narrow_or_wide();
+}
+
+/// Over tables that differ in their secrets alone the replies to a line after one history are equal, or both tell the answer
+/// to one question: whether it is answered doesn't depend on the secrets.
+pub fn decided_alike()
+    ensures { DecidedAlike }
+{
+    predicate_lang::one_meaning();
+    sum_basis::laws::narrow_or_wide();
+}
