@@ -1,7 +1,7 @@
-pub mod Reading
+pub mod Commands
+pub mod Ends
 pub mod Files
-pub mod Counting
-pub mod Sending
-pub mod Serving
-pub mod Status
+pub mod Reading
 pub mod Run
+pub mod Status
+pub mod Steps

@@ -1,12 +1,15 @@
 -- The number and the text of each status.
 use Rattle.std.specs.Prelude.{ℕ, List, ◌++◌, codes, decimal}
+use Rattle.std.specs.Fmt.{signed_decimal}
+use Rattle.audit_store.specs.declared.starting.StartFault.{StartFault}
+use Rattle.audit_store.specs.declared.starting.StartFault.TheVariants as start
 use Rattle.schema_json.specs.Faults as schema
 use Rattle.table_load.specs.Faults as table
 use Rattle.table_load.specs.declared.faults.TableFault.{TableFault}
 use Rattle.table_load.specs.declared.faults.TableFault.TheVariants as fault
 use Rattle.auditor_top.specs.declared.status.Which.TheVariants.{Schema, Table, Input}
 use Rattle.auditor_top.specs.declared.status.Status.{Status}
-use Rattle.auditor_top.specs.declared.status.Status.TheVariants.{Done, BadWords, BadSchema, BadTable, SourceFault, BenchFault, InputLimit, NoMemory}
+use Rattle.auditor_top.specs.declared.status.Status.TheVariants.{Done, BadWords, BadSchema, BadTable, SourceFault, BenchFault, NotMade, AlreadyThere, Damaged, OtherShape, Untrue, Illegal, InputLimit, NoMemory}
 
 -- the exit status of the program
 abbrev pub status_code : Status → ℕ
@@ -16,6 +19,12 @@ status_code (BadSchema fault) = 3
 status_code (BadTable fault) = 4
 status_code (SourceFault which) = 5
 status_code BenchFault = 6
+status_code NotMade = 7
+status_code AlreadyThere = 8
+status_code (Damaged at) = 9
+status_code (OtherShape kept now) = 10
+status_code (Untrue place kept now) = 11
+status_code (Illegal place) = 12
 status_code InputLimit = 13
 status_code NoMemory = 15
 
@@ -49,5 +58,21 @@ status_text (SourceFault Schema) = codes "cannot read schema"
 status_text (SourceFault Table) = codes "cannot read table"
 status_text (SourceFault Input) = codes "cannot read input"
 status_text BenchFault = codes "journal or output failed"
+status_text NotMade = codes "no journal"
+status_text AlreadyThere = codes "journal is already there"
+status_text (Damaged at) = codes "journal damaged at byte " ++ decimal at
+status_text (OtherShape kept now) = codes "journal is of another table: rows " ++ decimal kept.rows ++ codes ", now " ++ decimal now.rows
+status_text (Untrue place kept now) = codes "record " ++ (decimal place ++ (codes " holds " ++ (signed_decimal kept ++ (codes ", table gives " ++ signed_decimal now))))
+status_text (Illegal place) = codes "record " ++ decimal place ++ codes " should not have been released"
 status_text InputLimit = codes "input is too long"
 status_text NoMemory = codes "out of memory"
+
+-- the status of a store that wasn't started
+abbrev pub started_with : StartFault → Status
+started_with start.NotMade = NotMade
+started_with (start.Damaged at) = Damaged at
+started_with (start.OtherShape kept now) = OtherShape kept now
+started_with (start.Untrue place kept now) = Untrue place kept now
+started_with (start.Illegal place) = Illegal place
+started_with start.Failed = BenchFault
+started_with start.NoMemory = NoMemory

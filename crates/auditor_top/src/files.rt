@@ -2,6 +2,7 @@
 ghost use Rattle.std.specs.Prelude.{◌≡◌, ◌≢◌, ◌≤◌, IfOk};
 ghost use Rattle.bench_core.specs.Causes.{Rose};
 ghost use Rattle.schema_json.specs.Reading.{schema_of};
+ghost use Rattle.schema_json.specs.SecretShape.{shape_of};
 ghost use Rattle.table_load.specs.Cells.{FitsSchema};
 ghost use Rattle.table_load.specs.Tables.{table_of};
 ghost use Rattle.auditor_top.specs.Files.{GivesSchema, GivesTable};
@@ -57,6 +58,7 @@ pub fn table_from<P: Source>(
 ) -> Result<Table, FileFault<TableFault>>
     ensures means { P.told → GivesTable result (table_of schema.now.columns (P.left source.old)) }
     ensures fits { IfOk result (λ table. FitsSchema schema.now.columns table.public) }
+    ensures shape { IfOk result (λ table. table.secret.shape ≡ shape_of schema.now.columns table.public.rows) }
     ensures own { result ≢ Err (FileFault.Bad TableFault.NoMemory) }
     ensures later { P.faults source.old ≤ P.faults source.new }
     ensures failed { result ≡ Err FileFault.Failed → Rose (P.faults source.old) (P.faults source.new) }

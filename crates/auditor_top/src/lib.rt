@@ -1,15 +1,18 @@
-//! All that the program does, as one call.
+//! All that the program does: the commands over a schema, a table, an input and a bench.
 //!
-//! `run` answers each line of the input over one table, and tells how it ended. Its clauses say what each status has as
-//! its cause, and what was sent: `replies` carries the promise.
+//! `run` is the one call, and the theorem of the product stands on its contract.
 #![tactic(auto)]
 
-mod counting;
 mod files;
+mod init;
+pub mod laws;
+mod opening;
 mod reading;
 mod running;
 mod serving;
 mod status;
+mod words;
 
 pub use running::run;
 pub use status::{Status, Which, status_code, status_text};
+pub use words::Command;

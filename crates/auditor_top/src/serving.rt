@@ -1,111 +1,108 @@
-//! The serving loop: one reply for each counted line, one send for each reply.
-ghost use Rattle.std.specs.Prelude.{◌≡◌, ◌<◌, ◌≤◌, ◌+◌, ◌-◌, ◌^◌, ◌++◌, [], length, OnOk, OnErr, MatchOption, false};
-ghost use Rattle.bench_core.specs.Causes.{HasCause, Rose};
-ghost use Rattle.bench_core.specs.Bench.{AppendsFront};
+//! The command that answers the lines of an input.
+ghost use Rattle.std.specs.Prelude.{◌≡◌, ◌≢◌, ◌≤◌, List, ℕ};
+ghost use Rattle.audit_types.specs.declared.records.Answered.{Answered};
+ghost use Rattle.audit_types.specs.History.{IsLegal, IsUndisclosed};
+ghost use Rattle.bench_core.specs.Causes.{Rose};
+ghost use Rattle.bench_core.specs.Bench.{IsQuiet, LeavesOnly};
+ghost use Rattle.schema_json.specs.Columns.{Column};
+ghost use Rattle.schema_json.specs.Reading.{schema_of};
+ghost use Rattle.table_load.specs.Tables.{table_of};
+ghost use Rattle.journal_form.specs.Journal.{StandsFor};
+ghost use Rattle.answer_journal.specs.Moments.{IsUntouched};
+ghost use Rattle.audit_store.specs.Stores as store;
 ghost use Rattle.line_wire.specs.Lines.{counted_lines};
-ghost use Rattle.line_wire.specs.Reply.{reply_bytes, IsInRange};
-ghost use Rattle.auditor_top.specs.Sending.{SendsAll, SendsFirst, BreaksOff, output_of};
-ghost use Rattle.table_load.specs.Cells.{FitsSchema};
-ghost use Rattle.auditor_top.specs.Serving.{replies, IsReplyTo};
+ghost use Rattle.audit_session.specs.Replies.{Database, IsDue};
+ghost use Rattle.audit_session.specs.Stops.{StopsBehind};
+ghost use Rattle.auditor_top.specs.declared.words.Command.TheVariants.{Serve};
+ghost use Rattle.auditor_top.specs.Commands.{AreFilesOf, ServesOver};
+ghost use Rattle.auditor_top.specs.Ends.{ServeEnds, ended_with, outside};
+ghost use Rattle.auditor_top.specs.Run.{FaultOf, SchemaCause, TableCause, FileCause, InputCause, BeforeTable, BeforeBench, BeforeLines};
+ghost use Rattle.auditor_top.specs.Steps.{IsOfServe};
 
-use crate::counting::count_of;
-use bench_core::{Bench, Failed, Source};
-use line_wire::{LineStop, Lines, Next, Reply, write_reply};
-use schema_json::Schema;
-use table_load::Public;
+use crate::laws::stops_are_legal;
+use crate::opening::{Opened, open_table};
+use crate::status::{Status, Which};
+use audit_session::EndFault;
+use audit_store::Store;
+use bench_core::{Bench, Source};
+use schema_json::SchemaFault;
+use set_index::Index;
+use std::alloc::Global;
+use table_load::{Table, TableFault};
 
-/// Why serving ended before the input did.
-#[derive(Clone, Copy, Debug, PartialEq, Eq)]
-pub enum EndFault {
-    /// The input failed.
-    Input,
-    /// A send failed.
-    Bench,
-    /// The input has more than 2^30 bytes.
-    Limit,
-}
-
-// The reply to the line that was given last, where one was.
-fn reply_to(next: Next, text: &[u8], schema: &Schema, public: &Public) -> Option<Reply>
-    requires { FitsSchema schema.now.columns public.now }
-    ensures { MatchOption result (next ≡ Next.End) (λ reply. IsReplyTo next text.now schema.now.columns public.now reply × IsInRange reply) }
+// The status of a session that ended so.
+fn status_of(ended: Result<(), EndFault>) -> Status
+    ensures { result ≡ ended_with ended }
 {
-    match next {
-        Next::Line => match count_of(schema, public, text) {
-            Some(count) => Some(Reply::Count(count)),
-            None => Some(Reply::NotYet),
-        },
-        Next::Long => Some(Reply::Long),
-        Next::End => None,
+    match ended {
+        Ok(()) => Status::Done,
+        Err(EndFault::Input) => Status::SourceFault(Which::Input),
+        Err(EndFault::Bench) => Status::BenchFault,
+        Err(EndFault::Limit) => Status::InputLimit,
+        Err(EndFault::NoMemory) => Status::NoMemory,
     }
 }
 
-fn send_reply<B: Bench>(bench: &mut B, reply: &Reply) -> Result<(), Failed>
-    requires { IsInRange reply.now }
-    ensures all { B.told → OnOk result (B.sent bench.new ≡ B.sent bench.old ++ reply_bytes reply.now) }
-    ensures part { B.told → OnErr result (AppendsFront (B.sent bench.old) (reply_bytes reply.now) (B.sent bench.new)) }
-    ensures ticks { B.told → OnOk result (B.moment bench.new ≡ B.moment bench.old + 1) }
-    ensures later { B.moment bench.old ≤ B.moment bench.new }
-    ensures cause { HasCause (B.faults bench.old) (B.faults bench.new) result }
-{
-    let mut out = [0u8; 64];
-    let count = write_reply(reply, &mut out);
-    bench.send(&out[..count])
-}
-
-/// Answers each counted line of the input over the public columns of a table.
-pub fn serve<I: Source, B: Bench>(
-    lines: &mut Lines,
-    schema: &Schema,
-    public: &Public,
+/// Opens the journal of a table, and answers the lines of the input over it.
+pub fn serve<P: Source, I: Source, B: Bench>(
+    alloc: Global,
+    schema: &mut P,
+    table: &mut P,
     input: &mut I,
     bench: &mut B,
-) -> Result<(), EndFault>
-    requires fits { FitsSchema schema.now.columns public.now }
-    requires fresh { (lines.old.taken ≡ 0) × (lines.old.pending ≡ []) × (lines.old.ended ≡ false) }
+) -> Status
+    // Each status has its cause.
+    ensures of_serve { IsOfServe result }
+    ensures schema_cause { P.told → SchemaCause result (schema_of (P.left schema.old)) }
+    ensures table_cause { P.told → (columns : List Column) → schema_of (P.left schema.old) ≡ Ok columns
+        → TableCause result (table_of columns (P.left table.old)) }
+    ensures own_schema_fault { result ≢ Status.BadSchema SchemaFault.NoMemory }
+    ensures own_table_fault { result ≢ Status.BadTable TableFault.NoMemory }
+    ensures file_cause { P.told → B.told → (base : Database) → AreFilesOf (P.left schema.old) (P.left table.old) base
+        → FileCause result Serve (B.file bench.old) base.secret }
+    ensures input_cause { I.told → InputCause result (I.left input.old) (I.left input.new) }
+    ensures faults { FaultOf result (Rose (P.faults schema.old) (P.faults schema.new)) (Rose (P.faults table.old) (P.faults table.new))
+        (Rose (I.faults input.old) (I.faults input.new)) (Rose (B.faults bench.old) (B.faults bench.new)) }
 
-    // The replies to the lines, one send each: all of them, the first ones, or a front of the next one behind them.
-    ensures done { I.told → B.told
-        → OnOk result (SendsAll (replies schema.now.columns public.now (counted_lines (I.left input.old)))
-        (output_of B.sent B.moment bench.old)
-        (output_of B.sent B.moment bench.new)) }
-    ensures input_front { I.told → B.told → result ≡ Err EndFault.Input
-        → SendsFirst (replies schema.now.columns public.now (counted_lines (I.left input.old)))
-        (output_of B.sent B.moment bench.old)
-        (output_of B.sent B.moment bench.new) }
-    ensures limit_front { I.told → B.told → result ≡ Err EndFault.Limit
-        → SendsFirst (replies schema.now.columns public.now (counted_lines (I.left input.old)))
-        (output_of B.sent B.moment bench.old)
-        (output_of B.sent B.moment bench.new) }
-    ensures bench_front { I.told → B.told → result ≡ Err EndFault.Bench
-        → BreaksOff (replies schema.now.columns public.now (counted_lines (I.left input.old)))
-        (output_of B.sent B.moment bench.old)
-        (output_of B.sent B.moment bench.new) }
+    // Over the files of a table and a journal that stands for a legal history of it: the ends, and every moment.
+    ensures ends { P.told → I.told → B.told → (base : Database) (history : List Answered)
+        → ServesOver (P.left schema.old) (P.left table.old) (B.file bench.old) base history
+        → ServeEnds result base history (outside I.left B.sent B.file input.old bench.old) (outside I.left B.sent B.file input.new bench.new) }
+    ensures quiet { B.told → IsQuiet (B.file bench.old) (B.leaves bench.old) → result ≢ Status.BenchFault → IsQuiet (B.file bench.new) (B.leaves bench.new) }
+    ensures any_moment { P.told → I.told → B.told → IsQuiet (B.file bench.old) (B.leaves bench.old) → (base : Database) (history : List Answered)
+        → ServesOver (P.left schema.old) (P.left table.old) (B.file bench.old) base history
+        → LeavesOnly B.moment B.since bench.old bench.new (StopsBehind (IsDue base) (λ image now. StandsFor image base.secret.shape now) 1 history (counted_lines (I.left input.old)) (B.sent bench.old)) }
+    ensures legal { P.told → I.told → B.told → IsQuiet (B.file bench.old) (B.leaves bench.old) → (base : Database) (history : List Answered)
+        → ServesOver (P.left schema.old) (P.left table.old) (B.file bench.old) base history
+        → (image sent : List ℕ) (now : List Answered) → B.since bench.new (B.moment bench.old) image sent → StandsFor image base.secret.shape now
+        → IsLegal (store.table_of base.secret) now × IsUndisclosed (store.table_of base.secret) now }
 
-    // How much of the input there was.
-    ensures read { I.told → OnOk result (I.left input.new ≡ []) }
-    ensures within { I.told → OnOk result (length (I.left input.old) ≤ 2 ^ 30) }
-    ensures input_within { I.told → result ≡ Err EndFault.Input
-        → length (I.left input.old) ≤ 2 ^ 30 + length (I.left input.new) }
-    ensures limit { I.told → result ≡ Err EndFault.Limit
-        → 2 ^ 30 + length (I.left input.new) < length (I.left input.old) }
+    // Over any other, nothing began.
+    ensures nothing_began { P.told → B.told → IsQuiet (B.file bench.old) (B.leaves bench.old)
+        → ((base : Database) (history : List Answered) → ServesOver (P.left schema.old) (P.left table.old) (B.file bench.old) base history → ⊥)
+        → LeavesOnly B.moment B.since bench.old bench.new (IsUntouched (B.file bench.old) (B.sent bench.old)) }
 
-    // It doesn't give up by itself.
-    ensures later { (I.faults input.old ≤ I.faults input.new) × (B.faults bench.old ≤ B.faults bench.new) }
-    ensures input { result ≡ Err EndFault.Input → Rose (I.faults input.old) (I.faults input.new) }
-    ensures bench { result ≡ Err EndFault.Bench → Rose (B.faults bench.old) (B.faults bench.new) }
+    // What it doesn't come to, it doesn't call.
+    ensures before_table { BeforeTable result (table.new ≡ table.old) }
+    ensures before_bench { BeforeBench result (bench.new ≡ bench.old) }
+    ensures before_lines { BeforeLines result ((input.new ≡ input.old) × (B.file bench.new ≡ B.file bench.old) × (B.sent bench.new ≡ B.sent bench.old)) }
+    ensures later { (P.faults schema.old ≤ P.faults schema.new) × (P.faults table.old ≤ P.faults table.new)
+        × (I.faults input.old ≤ I.faults input.new) × (B.faults bench.old ≤ B.faults bench.new) }
 {
-    loop {
-        match lines.next(input) {
-            Err(LineStop::Input) => return Err(EndFault::Input),
-            Err(LineStop::Limit) => return Err(EndFault::Limit),
-            Ok(next) => match reply_to(next, lines.text(), schema, public) {
-                None => return Ok(()),
-                Some(reply) => match send_reply(bench, &reply) {
-                    Ok(()) => {}
-                    Err(Failed) => return Err(EndFault::Bench),
-                },
-            },
-        }
-    }
+    journal_form::laws::one_reading();
+    stops_are_legal();
+    let Opened { schema, table } = match open_table(alloc, schema, table) {
+        Ok(opened) => opened,
+        Err(status) => return status,
+    };
+    let Table { public, secret } = table;
+    let index = match Index::new(alloc, public) {
+        Ok(index) => index,
+        Err(_) => return Status::NoMemory,
+    };
+    let mut store = match Store::start(alloc, secret, bench) {
+        Ok(store) => store,
+        Err(fault) => return Status::from(fault),
+    };
+    status_of(audit_session::serve(alloc, &schema, &index, &mut store, input, bench))
 }

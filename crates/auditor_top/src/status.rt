@@ -2,7 +2,8 @@
 ghost use Rattle.std.specs.Prelude.{◌≡◌, IfOk, string_bytes};
 ghost use Rattle.auditor_top.specs.Status as spec;
 
-use audit_types::NoMemory;
+use audit_store::StartFault;
+use audit_types::{NoMemory, Shape};
 use schema_json::SchemaFault;
 use std::alloc::Global;
 use std::fmt;
@@ -29,12 +30,43 @@ pub enum Status {
     BadTable(TableFault),
     /// A source failed.
     SourceFault(Which),
-    /// A reply couldn't be sent.
+    /// A call on the journal's file failed, or a reply couldn't be sent.
     BenchFault,
+    /// There is no journal: the file has fewer bytes than one, or its header gate is closed.
+    NotMade,
+    /// There is a journal or another file where one was to be made.
+    AlreadyThere,
+    /// The first byte that breaks the journal's grammar, or the file's length where it ends too early.
+    Damaged { at: u64 },
+    /// The journal is that of a table of another shape.
+    OtherShape { kept: Shape, now: Shape },
+    /// The first record, from 0, whose answer isn't what the table gives.
+    Untrue { place: u32, kept: i64, now: i64 },
+    /// The first record, from 0, that should not have been released.
+    Illegal { place: u32 },
     /// The input has more than 2^30 bytes.
     InputLimit,
     /// There was no memory.
     NoMemory,
+}
+
+impl From<StartFault> for Status {
+    ghost use Rattle.std.specs.Prelude.{◌≡◌};
+    ghost use Rattle.auditor_top.specs.Status.{started_with};
+
+    ghost from_gives = { λ fault status. status ≡ started_with fault };
+
+    fn from(fault: StartFault) -> Status {
+        match fault {
+            StartFault::NotMade => Status::NotMade,
+            StartFault::Damaged { at } => Status::Damaged { at },
+            StartFault::OtherShape { kept, now } => Status::OtherShape { kept, now },
+            StartFault::Untrue { place, kept, now } => Status::Untrue { place, kept, now },
+            StartFault::Illegal { place } => Status::Illegal { place },
+            StartFault::Failed => Status::BenchFault,
+            StartFault::NoMemory => Status::NoMemory,
+        }
+    }
 }
 
 // Where a fault of the table is, as it is told behind the fault's number.
@@ -84,6 +116,20 @@ impl fmt::Display for Status {
             Status::SourceFault(Which::Table) => f.write_str("cannot read table"),
             Status::SourceFault(Which::Input) => f.write_str("cannot read input"),
             Status::BenchFault => f.write_str("journal or output failed"),
+            Status::NotMade => f.write_str("no journal"),
+            Status::AlreadyThere => f.write_str("journal is already there"),
+            Status::Damaged { at } => write!(f, "journal damaged at byte {at}"),
+            Status::OtherShape { kept, now } => write!(
+                f,
+                "journal is of another table: rows {}, now {}",
+                kept.rows, now.rows
+            ),
+            Status::Untrue { place, kept, now } => {
+                write!(f, "record {place} holds {kept}, table gives {now}")
+            }
+            Status::Illegal { place } => {
+                write!(f, "record {place} should not have been released")
+            }
             Status::InputLimit => f.write_str("input is too long"),
             Status::NoMemory => f.write_str("out of memory"),
         }
@@ -101,6 +147,12 @@ pub fn status_code(status: &Status) -> u8
         Status::BadTable(_) => 4,
         Status::SourceFault(_) => 5,
         Status::BenchFault => 6,
+        Status::NotMade => 7,
+        Status::AlreadyThere => 8,
+        Status::Damaged { .. } => 9,
+        Status::OtherShape { .. } => 10,
+        Status::Untrue { .. } => 11,
+        Status::Illegal { .. } => 12,
         Status::InputLimit => 13,
         Status::NoMemory => 15,
     }
@@ -134,6 +186,23 @@ mod tests {
             (Status::SourceFault(Which::Table), 5, "cannot read table"),
             (Status::SourceFault(Which::Input), 5, "cannot read input"),
             (Status::BenchFault, 6, "journal or output failed"),
+            (Status::NotMade, 7, "no journal"),
+            (Status::AlreadyThere, 8, "journal is already there"),
+            (Status::Damaged { at: 25 }, 9, "journal damaged at byte 25"),
+            (
+                Status::Untrue {
+                    place: 0,
+                    kept: 301,
+                    now: -300,
+                },
+                11,
+                "record 0 holds 301, table gives -300",
+            ),
+            (
+                Status::Illegal { place: 1 },
+                12,
+                "record 1 should not have been released",
+            ),
             (Status::InputLimit, 13, "input is too long"),
             (Status::NoMemory, 15, "out of memory"),
             (Status::BadSchema(SchemaFault::Shape), 3, "schema: fault 3"),

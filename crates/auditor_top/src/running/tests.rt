@@ -1,9 +1,13 @@
-//! Whole runs: words, a table and an input, and then the status and what was sent.
+//! Whole runs: words, files and an input, and then the status, what was sent, and the journal's file.
 ghost use Rattle.std.specs.Prelude.{◌<◌};
 
 use super::*;
+use crate::status::Which;
+use audit_types::Shape;
 use bench_core::{Failed, MemoryBench, MemorySource, Room, SteadySource};
 use std::test::Fail;
+
+mod worked;
 
 const AGE: &[u8] = br#"{"columns":[{"name":"age","is":"number"}]}"#;
 
@@ -17,21 +21,40 @@ const PEOPLE: &[u8] =
 
 const COUNT: &[u8] = b"{\"ask\":\"count\",\"where\":\"all\"}\n";
 
-const ROOM: Room = Room {
-    file: 0,
-    sent: 200,
-    calls: 9,
-    written: 0,
+// The journal of six rows without secret columns, just made.
+const MADE_FOR_AGES: [u8; 21] = [
+    1, 83, 81, 65, 74, 82, 78, 76, 1, 0, 6, 0, 0, 0, 0, 0, 0, 0, 0, 0, 0,
+];
+
+// The journal of six rows, a column of sums and one of maxima, just made.
+const MADE_FOR_STAFF: [u8; 21] = [
+    1, 83, 81, 65, 74, 82, 78, 76, 1, 0, 6, 2, 1, 2, 0, 0, 0, 0, 0, 0, 0,
+];
+
+// The schema and the table that a run reads.
+#[derive(Clone, Copy)]
+struct Files<'a> {
+    schema: &'a [u8],
+    table: &'a [u8],
+}
+
+const AGES_ALONE: Files<'static> = Files {
+    schema: AGE,
+    table: AGES,
 };
 
-// What of a run can be made to fail: a read of the schema, of the table or of the input, or a send.
+const STAFF_OF_SIX: Files<'static> = Files {
+    schema: STAFF,
+    table: PEOPLE,
+};
+
+// Which read of a source fails.
 #[derive(Clone, Copy)]
 enum Failing {
     Nothing,
     Schema(u64),
     Table(u64),
     Input(u64),
-    Send(u64),
 }
 
 // The numbers of the calls that fail.
@@ -47,88 +70,52 @@ fn source(alloc: Global, bytes: &[u8], failing: Option<u64>) -> Result<MemorySou
     Ok(MemorySource::new(bytes.to_vec(alloc)?, 7, calls(alloc, failing)?))
 }
 
-// Runs `serve`, and gives the status and the bench behind it.
-fn serve_over(
+// A quiet bench with this file.
+fn bench_with(alloc: Global, file: &[u8]) -> Result<MemoryBench, Fail> {
+    failing_bench(alloc, file, None)
+}
+
+// A quiet bench with this file, of which one call fails.
+fn failing_bench(alloc: Global, file: &[u8], failing: Option<u64>) -> Result<MemoryBench, Fail> {
+    let room = Room {
+        file: file.len() as u64 + 2000,
+        sent: 2000,
+        calls: 300,
+        written: 2000,
+    };
+    Ok(MemoryBench::new(alloc, file, room, calls(alloc, failing)?, None)?)
+}
+
+// Runs one word over files, an input and a bench.
+fn run_word(
     alloc: Global,
-    schema: &[u8],
-    table: &[u8],
+    word: &str,
+    files: Files,
     input: &[u8],
     failing: Failing,
-) -> Result<(Status, MemoryBench), Fail> {
+    bench: &mut MemoryBench,
+) -> Result<Status, Fail> {
     let mut words = Vec::new(alloc);
-    words.push(String::from_str(alloc, "serve")?)?;
-    let (of_schema, of_table, of_input, of_bench) = match failing {
-        Failing::Nothing => (None, None, None, None),
-        Failing::Schema(call) => (Some(call), None, None, None),
-        Failing::Table(call) => (None, Some(call), None, None),
-        Failing::Input(call) => (None, None, Some(call), None),
-        Failing::Send(call) => (None, None, None, Some(call)),
+    words.push(String::from_str(alloc, word)?)?;
+    let (of_schema, of_table, of_input) = match failing {
+        Failing::Nothing => (None, None, None),
+        Failing::Schema(call) => (Some(call), None, None),
+        Failing::Table(call) => (None, Some(call), None),
+        Failing::Input(call) => (None, None, Some(call)),
     };
-    let mut schema = source(alloc, schema, of_schema)?;
-    let mut table = source(alloc, table, of_table)?;
+    let mut schema = source(alloc, files.schema, of_schema)?;
+    let mut table = source(alloc, files.table, of_table)?;
     let mut input = source(alloc, input, of_input)?;
-    let mut bench = MemoryBench::new(alloc, b"", ROOM, calls(alloc, of_bench)?, None)?;
-    let mut spare = MemoryBench::new(alloc, b"", ROOM, Vec::new(alloc), None)?;
-    let status = run(
+    let mut spare = bench_with(alloc, b"")?;
+    Ok(run(
         alloc,
         &words,
         &mut schema,
         &mut table,
         &mut input,
-        &mut bench,
+        bench,
         &mut spare,
-    );
-    Ok((status, bench))
-}
-
-#[test]
-fn counts_the_rows_with_a_number(rt: HostRuntime) -> Result<(), Fail> {
-    let not_yet = b"{\"refused\":\"notyet\"}\n".as_slice();
-    let one = b"{\"count\":1}\n".as_slice();
-    let none = b"{\"count\":0}\n".as_slice();
-    let cases = [
-        ("", b"".as_slice()),
-        (
-            "\n{\"ask\":\"count\",\"where\":\"all\"}\r",
-            b"{\"count\":6}\n",
-        ),
-        ("{\"ask\":\"count\",\"where\":\"age = 35\"}", one),
-        ("{\"ask\":\"count\",\"where\":\"age = 0035\"}", one),
-        (
-            "{\"ask\":\"count\",\"where\":\"age = 1000000000000\"}",
-            none,
-        ),
-        (
-            "{\"ask\":\"count\",\"where\":\"age = 1000000000001\"}",
-            not_yet,
-        ),
-        (
-            "{\"ask\":\"count\",\"where\":\"age = 00000000000035\"}",
-            not_yet,
-        ),
-        ("{\"ask\":\"count\",\"where\":\"age = \"}", not_yet),
-        ("{\"ask\":\"count\",\"where\":\"age =35\"}", not_yet),
-        ("{\"ask\":\"count\",\"where\":\"age = -35\"}", not_yet),
-        ("{\"ask\":\"count\",\"where\":\"pay = 3\"}", not_yet),
-        ("{\"ask\":\"count\",\"where\":\"dept = 3\"}", not_yet),
-        ("{\"ask\":\"count\",\"where\":\"salary = 300\"}", not_yet),
-        (
-            "{\"ask\":\"sum\",\"column\":\"salary\",\"where\":\"all\"}",
-            not_yet,
-        ),
-    ];
-    for (input, sent) in cases {
-        let (ended, bench) = serve_over(
-            rt.alloc(),
-            STAFF,
-            PEOPLE,
-            input.as_bytes(),
-            Failing::Nothing,
-        )?;
-        assert_eq!(rt; ended, Status::Done);
-        assert_eq!(rt; bench.sent(), sent);
-    }
-    Ok(())
+    ))
 }
 
 #[test]
@@ -152,7 +139,16 @@ fn a_faulty_schema_ends_the_run(rt: HostRuntime) -> Result<(), Fail> {
         ),
     ];
     for (schema, fault) in cases {
-        let (ended, bench) = serve_over(rt.alloc(), schema, b"", COUNT, Failing::Table(0))?;
+        let mut bench = bench_with(rt.alloc(), b"")?;
+        let files = Files { schema, table: b"" };
+        let ended = run_word(
+            rt.alloc(),
+            "serve",
+            files,
+            COUNT,
+            Failing::Table(0),
+            &mut bench,
+        )?;
         assert_eq!(rt; ended, Status::BadSchema(fault));
         assert_eq!(rt; bench.calls(), 0);
     }
@@ -191,7 +187,16 @@ fn a_faulty_table_ends_the_run(rt: HostRuntime) -> Result<(), Fail> {
         (AGE, many.as_slice(), TableFault::TooManyRows),
     ];
     for (schema, table, fault) in cases {
-        let (ended, bench) = serve_over(rt.alloc(), schema, table, COUNT, Failing::Input(0))?;
+        let mut bench = bench_with(rt.alloc(), b"")?;
+        let files = Files { schema, table };
+        let ended = run_word(
+            rt.alloc(),
+            "init",
+            files,
+            COUNT,
+            Failing::Input(0),
+            &mut bench,
+        )?;
         assert_eq!(rt; ended, Status::BadTable(fault));
         assert_eq!(rt; bench.calls(), 0);
     }
@@ -199,7 +204,7 @@ fn a_faulty_table_ends_the_run(rt: HostRuntime) -> Result<(), Fail> {
 }
 
 #[test]
-fn a_fault_keeps_the_replies_before_it(rt: HostRuntime) -> Result<(), Fail> {
+fn a_failed_read_keeps_the_replies_before_it(rt: HostRuntime) -> Result<(), Fail> {
     let mut two = COUNT.to_vec(rt.alloc())?;
     two.extend_from_slice(COUNT)?;
     let one = b"{\"count\":6}\n".as_slice();
@@ -213,16 +218,37 @@ fn a_fault_keeps_the_replies_before_it(rt: HostRuntime) -> Result<(), Fail> {
         (Failing::Table(2), Status::SourceFault(Which::Table), b""),
         (Failing::Input(0), Status::SourceFault(Which::Input), b""),
         (Failing::Input(6), Status::SourceFault(Which::Input), one),
-        (Failing::Send(0), Status::BenchFault, b"{\"coun"),
-        (
-            Failing::Send(1),
-            Status::BenchFault,
-            b"{\"count\":6}\n{\"coun",
-        ),
     ];
     for (failing, status, sent) in cases {
-        let (ended, bench) = serve_over(rt.alloc(), AGE, AGES, two.as_slice(), failing)?;
+        let mut bench = bench_with(rt.alloc(), &MADE_FOR_AGES)?;
+        let ended = run_word(rt.alloc(), "serve", AGES_ALONE, &two, failing, &mut bench)?;
         assert_eq!(rt; ended, status);
+        assert_eq!(rt; bench.sent(), sent);
+    }
+    Ok(())
+}
+
+#[test]
+fn a_failed_call_of_the_bench_ends_the_run(rt: HostRuntime) -> Result<(), Fail> {
+    let mut two = COUNT.to_vec(rt.alloc())?;
+    two.extend_from_slice(COUNT)?;
+    let cases = [
+        (0, b"".as_slice()),
+        (1, b""),
+        (2, b"{\"coun"),
+        (3, b"{\"count\":6}\n{\"coun"),
+    ];
+    for (call, sent) in cases {
+        let mut bench = failing_bench(rt.alloc(), &MADE_FOR_AGES, Some(call))?;
+        let ended = run_word(
+            rt.alloc(),
+            "serve",
+            AGES_ALONE,
+            &two,
+            Failing::Nothing,
+            &mut bench,
+        )?;
+        assert_eq!(rt; ended, Status::BenchFault);
         assert_eq!(rt; bench.sent(), sent);
     }
     Ok(())
@@ -233,7 +259,15 @@ fn a_long_line_is_refused_and_the_next_one_answered(rt: HostRuntime) -> Result<(
     let mut input = vec![in rt.alloc(); b'x'; 8193]?;
     input.push(b'\n')?;
     input.extend_from_slice(COUNT)?;
-    let (ended, bench) = serve_over(rt.alloc(), AGE, AGES, input.as_slice(), Failing::Nothing)?;
+    let mut bench = bench_with(rt.alloc(), &MADE_FOR_AGES)?;
+    let ended = run_word(
+        rt.alloc(),
+        "serve",
+        AGES_ALONE,
+        &input,
+        Failing::Nothing,
+        &mut bench,
+    )?;
     assert_eq!(rt; ended, Status::Done);
     assert_eq!(rt;
         bench.sent(),
@@ -280,8 +314,8 @@ fn stops_behind_the_limit_of_the_input(rt: HostRuntime) -> Result<(), Fail> {
         words.push(String::from_str(rt.alloc(), "serve")?)?;
         let mut schema = SteadySource::new(AGE.to_vec(rt.alloc())?);
         let mut table = SteadySource::new(AGES.to_vec(rt.alloc())?);
-        let mut bench = MemoryBench::new(rt.alloc(), b"", ROOM, Vec::new(rt.alloc()), None)?;
-        let mut spare = MemoryBench::new(rt.alloc(), b"", ROOM, Vec::new(rt.alloc()), None)?;
+        let mut bench = bench_with(rt.alloc(), &MADE_FOR_AGES)?;
+        let mut spare = bench_with(rt.alloc(), b"")?;
         let ended = run(
             rt.alloc(),
             &words,
@@ -299,22 +333,20 @@ fn stops_behind_the_limit_of_the_input(rt: HostRuntime) -> Result<(), Fail> {
 
 #[test]
 fn stops_reading_a_table_behind_its_limit(rt: HostRuntime) -> Result<(), Fail> {
-    let mut words = Vec::new(rt.alloc());
-    words.push(String::from_str(rt.alloc(), "serve")?)?;
-    let mut schema = SteadySource::new(AGE.to_vec(rt.alloc())?);
-    let mut table = SteadySource::new(vec![in rt.alloc(); b'\n'; 16_777_217]?);
-    let mut input = SteadySource::new(COUNT.to_vec(rt.alloc())?);
-    let mut bench = MemoryBench::new(rt.alloc(), b"", ROOM, Vec::new(rt.alloc()), None)?;
-    let mut spare = MemoryBench::new(rt.alloc(), b"", ROOM, Vec::new(rt.alloc()), None)?;
-    let ended = run(
+    let long = vec![in rt.alloc(); b'\n'; 16_777_217]?;
+    let files = Files {
+        schema: AGE,
+        table: &long,
+    };
+    let mut bench = bench_with(rt.alloc(), b"")?;
+    let ended = run_word(
         rt.alloc(),
-        &words,
-        &mut schema,
-        &mut table,
-        &mut input,
+        "serve",
+        files,
+        COUNT,
+        Failing::Nothing,
         &mut bench,
-        &mut spare,
-    );
+    )?;
     assert_eq!(rt; ended, Status::BadTable(TableFault::TooLong));
     assert_eq!(rt; bench.calls(), 0);
     Ok(())
@@ -322,25 +354,50 @@ fn stops_reading_a_table_behind_its_limit(rt: HostRuntime) -> Result<(), Fail> {
 
 #[test]
 fn other_words_read_nothing(rt: HostRuntime) -> Result<(), Fail> {
-    for text in ["", "peek", "serve ", "Serve"] {
-        let mut words = Vec::new(rt.alloc());
-        words.push(String::from_str(rt.alloc(), text)?)?;
-        let mut schema = source(rt.alloc(), AGE, Some(0))?;
-        let mut table = source(rt.alloc(), AGES, Some(0))?;
-        let mut input = source(rt.alloc(), COUNT, Some(0))?;
-        let mut bench = MemoryBench::new(rt.alloc(), b"", ROOM, Vec::new(rt.alloc()), Some(0))?;
-        let mut spare = MemoryBench::new(rt.alloc(), b"", ROOM, Vec::new(rt.alloc()), Some(0))?;
-        let ended = run(
+    for word in ["", "peek", "serve ", "Serve", "Init"] {
+        let mut bench = failing_bench(rt.alloc(), b"", Some(0))?;
+        let ended = run_word(
             rt.alloc(),
-            &words,
-            &mut schema,
-            &mut table,
-            &mut input,
+            word,
+            AGES_ALONE,
+            COUNT,
+            Failing::Schema(0),
             &mut bench,
-            &mut spare,
-        );
+        )?;
         assert_eq!(rt; ended, Status::BadWords);
         assert_eq!(rt; bench.calls(), 0);
+    }
+    Ok(())
+}
+
+#[test]
+fn a_journal_is_made_where_none_is(rt: HostRuntime) -> Result<(), Fail> {
+    let closed = [0x37u8; 21];
+    let longer = [0x37u8; 30];
+    let cases = [
+        (b"".as_slice(), Status::Done),
+        (closed.as_slice(), Status::Done),
+        (longer.as_slice(), Status::AlreadyThere),
+        (MADE_FOR_STAFF.as_slice(), Status::AlreadyThere),
+    ];
+    for (file, status) in cases {
+        let mut bench = bench_with(rt.alloc(), file)?;
+        let ended = run_word(
+            rt.alloc(),
+            "init",
+            STAFF_OF_SIX,
+            COUNT,
+            Failing::Input(0),
+            &mut bench,
+        )?;
+        assert_eq!(rt; ended, status);
+        let due = if status == Status::Done {
+            MADE_FOR_STAFF.as_slice()
+        } else {
+            file
+        };
+        assert_eq!(rt; bench.file(), due);
+        assert_eq!(rt; bench.sent(), b"".as_slice());
     }
     Ok(())
 }

@@ -16,6 +16,7 @@ returns g c = record {
       ∙ ap (table_of c.args.schema.now.columns) (sym c.as_slice.ensures.value)
       ∙ own_table_fault c.in-Err.fault _ (search rules) c.in-Err.ensures.table;
   fits = tt;
+  shape = tt;
   own = search rules;
   later = search rules;
   failed = search rules;

@@ -1,0 +1,15 @@
+use Rattle.std.proofs.Common.{◌++◌, sym, subst, codes, decimal}
+use Rattle.std.specs.Fmt.{HasWritten, signed_decimal}
+use Rattle.auditor_top.specs.declared.status.Status.{Status}
+use Rattle.auditor_top.specs.Status.{status_text}
+use Rattle.auditor_top.proofs.status.StatusDisplay.fmt.Goals as goal
+
+pub returns-in-Untrue-clause-writes : goal.returns-in-Untrue-clause-writes
+returns-in-Untrue-clause-writes g c = λ plain ok.
+    let wrote : HasWritten g.W.Write.write_str_gives c.args.f.now (codes "record " ++ (decimal c.in-Untrue.place ++ (codes " holds " ++ (signed_decimal c.in-Untrue.kept ++ (codes ", table gives " ++ signed_decimal c.in-Untrue.now))))) c.write-in-Untrue.new.self = c.write-in-Untrue.ensures.writes plain ok in
+    subst (λ (s : Status). HasWritten g.W.Write.write_str_gives c.args.f.now (status_text s) c.write-in-Untrue.new.self) (sym c.in-Untrue.is) wrote
+
+pub returns-in-Illegal-clause-writes : goal.returns-in-Illegal-clause-writes
+returns-in-Illegal-clause-writes g c = λ plain ok.
+    let wrote : HasWritten g.W.Write.write_str_gives c.args.f.now (codes "record " ++ (decimal c.in-Illegal.place ++ codes " should not have been released")) c.write-in-Illegal.new.self = c.write-in-Illegal.ensures.writes plain ok in
+    subst (λ (s : Status). HasWritten g.W.Write.write_str_gives c.args.f.now (status_text s) c.write-in-Illegal.new.self) (sym c.in-Illegal.is) wrote
