@@ -1,6 +1,6 @@
 #!/bin/sh
-# Builds the program, runs `auditor serve` on copies of the demo's files in a fresh folder, and compares the replies with
-# those due. The exit status tells.
+# Builds the program, makes a journal beside copies of the demo's files in a fresh folder, asks the demo's questions, and
+# compares the replies with those due. The exit status tells.
 set -u
 demo=$(cd "$(dirname "$0")" && pwd)
 crate=$demo/../crates/auditor
@@ -17,6 +17,7 @@ folder=$(mktemp -d) || exit 1
 trap 'rm -rf "$folder"' EXIT
 cp "$demo/schema.json" "$demo/table.csv" "$demo/questions.jsonl" "$folder" || exit 1
 cd "$folder" || exit 1
-"$program" serve <questions.jsonl >replies.jsonl || { echo "demo: auditor ended with status $?" >&2; exit 1; }
+"$program" init || { echo "demo: auditor init ended with status $?" >&2; exit 1; }
+"$program" serve <questions.jsonl >replies.jsonl || { echo "demo: auditor serve ended with status $?" >&2; exit 1; }
 cat replies.jsonl
 cmp replies.jsonl "$demo/replies.jsonl"
