@@ -16,6 +16,7 @@ cd "$folder" || exit 1
 printf '{"columns":[{"name":"age","is":"number"}]}' >schema.json
 printf 'age\n30\n41\n35\n52\n28\n44\n' >table.csv
 yes '{"ask":"count","where":"all"}' | head -n "$lines" >questions.jsonl
+"$program" init || exit 1
 
 # Prints the seconds that a command takes on the questions.
 seconds() {
@@ -29,6 +30,6 @@ seconds() {
 
 for turn in 1 2 3; do
     seconds auditor "$program" serve
-    seconds awk awk '{ if ($0 == "{\"ask\":\"count\",\"where\":\"all\"}") print "{\"count\":6}"; else print "{\"refused\":\"notyet\"}"; fflush() }'
+    seconds awk awk '{ if ($0 == "{\"ask\":\"count\",\"where\":\"all\"}") print "{\"count\":6}"; else print "{\"refused\":\"line\"}"; fflush() }'
 done
 cmp auditor.replies awk.replies && wc -l <auditor.replies

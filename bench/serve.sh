@@ -1,0 +1,84 @@
+#!/bin/sh
+# Times the built program on sums and maxima over random tables, beside an awk program that answers the same lines without
+# auditing and flushes each reply. Prints for each case the seconds, the questions a second and the peak of memory, with the
+# number of answers and denials; then the same of a run without questions, which opens the journal and decides each record
+# again. Build the program first: demo/run.sh does.
+#
+#   bench/serve.sh [QUESTIONS]        2,000 where none is given
+set -u
+here=$(cd "$(dirname "$0")" && pwd)
+program=$here/../crates/auditor/out/auditor
+questions=${1:-2000}
+if [ ! -x "$program" ]; then
+    echo "bench: build the program first, as demo/run.sh does" >&2
+    exit 1
+fi
+
+folder=$(mktemp -d) || exit 1
+trap 'rm -rf "$folder"' EXIT
+cd "$folder" || exit 1
+echo '{"columns":[{"name":"band","is":"number"},{"name":"age","is":"number"},{"name":"pay","is":"sum"},{"name":"best","is":"max"}]}' >schema.json
+
+# A table of so many rows. Ages are spread over four times as many numbers.
+table() {
+    awk -v rows="$1" 'BEGIN { srand(1); print "band,age,pay,best"
+        for (row = 0; row < rows; row++)
+            print int(rand() * 8) "," int(rand() * rows * 4) "," int(rand() * 100000) "," int(rand() * 1000) }' >table.csv
+}
+
+# Questions over random intervals of age: of sums, of maxima, or of both in turn, where wanted with a band beside.
+lines() {
+    awk -v rows="$1" -v kind="$2" -v count="$questions" 'BEGIN { srand(2)
+        for (line = 0; line < count; line++) {
+            low = int(rand() * rows * 4); high = low + int(rand() * rows * 4)
+            condition = "age >= " low " and age <= " high
+            if (kind == "both") condition = condition " or band = " int(rand() * 8)
+            if (kind == "sums" || kind == "both" && line % 2 == 0) question = "\"ask\":\"sum\",\"column\":\"pay\""
+            else question = "\"ask\":\"max\",\"column\":\"best\""
+            print "{" question ",\"where\":\"" condition "\"}" } }' >questions.jsonl
+}
+
+# Answers the lines without looking at what was answered before.
+plain() {
+    awk 'FNR == NR { if (FNR > 1) { split($0, cell, ","); rows++; band[rows] = cell[1]; age[rows] = cell[2]; pay[rows] = cell[3]; best[rows] = cell[4] } next }
+        { split($0, word, /[ "}]+/); low = high = group = -1
+          for (k = 1; k in word; k++) { if (word[k] == ">=") low = word[k + 1]; if (word[k] == "<=") high = word[k + 1]; if (word[k] == "band") group = word[k + 2] }
+          sum = 0; top = ""
+          for (row = 1; row <= rows; row++)
+              if (age[row] + 0 >= low + 0 && age[row] + 0 <= high + 0 || band[row] + 0 == group + 0) { sum += pay[row]; if (top == "" || best[row] + 0 > top + 0) top = best[row] }
+          if (top == "") print "{\"refused\":\"empty\"}"; else if ($0 ~ /"sum"/) print "{\"sum\":" sum "}"; else print "{\"max\":" top "}"
+          fflush() }' table.csv -
+}
+
+# Runs a command on the questions and prints its seconds, its questions a second, and its peak of memory.
+measure() {
+    name=$1
+    shift
+    begin=$(date +%s.%N)
+    "$@" <questions.jsonl >"$name.replies" &
+    peak=0
+    while kill -0 $! 2>/dev/null; do
+        now=$(awk '/^VmHWM/ { print $2 }' /proc/$!/status 2>/dev/null)
+        [ "${now:-0}" -gt "$peak" ] && peak=$now
+        sleep 0.02
+    done
+    wait $! || exit 1
+    end=$(date +%s.%N)
+    echo "$name $begin $end $peak $(wc -l <questions.jsonl)" |
+        awk '{ printf "  %-8s %8.2f s %8.0f questions/s %8.1f MiB\n", $1, $3 - $2, $5 / ($3 - $2), $4 / 1024 }'
+}
+
+for rows in 200 1024; do
+    for kind in sums maxima both; do
+        table "$rows"
+        lines "$rows" "$kind"
+        rm -f answers.journal
+        "$program" init || exit 1
+        echo "$rows rows, $kind"
+        measure auditor "$program" serve
+        measure plain plain
+        : >questions.jsonl
+        measure opening "$program" serve
+        awk '/sum|max/ { answers++ } /unsafe/ { unsafe++ } /wide/ { wide++ } END { printf "  answered %d, unsafe %d, wide %d\n", answers, unsafe, wide }' auditor.replies
+    done
+done
