@@ -1,10 +1,10 @@
 -- A sum has one average in lowest terms.
-use Rattle.std.proofs.Common.{◌≡◌, ℕ, zero, suc, ℤ, pos, negsuc, ◌+◌, ◌*◌, ◌/◌, ◌<◌, ◌≤◌, refl, sym, ◌∙◌, ap, subst, arith}
+use Rattle.std.proofs.Common.{◌≡◌, ℕ, zero, suc, ℤ, pos, negsuc, ◌*◌, ◌/◌, ◌<◌, sym, ◌∙◌, ap, subst, arith}
 use Rattle.std.specs.Prelude.{unsigned_abs, neg_ℤ, ◌*ℤ◌}
 use Rattle.std.specs.Int.{IsGcd, ◌∣◌}
-use Rattle.std.proofs.lemmas.Int.{ints, unsigned_abs-mul}
+use Rattle.std.proofs.lemmas.Int.{unsigned_abs-mul}
 use Rattle.std.proofs.lemmas.Nat.Gcd.{same_from_IsGcd, dvd_antisymm, dvd-zero}
-use Rattle.std.proofs.Math.Nat.{mul-div_cancel, dvd-mul_right, dvd-mul_left, mul_comm}
+use Rattle.std.proofs.Math.Nat.{mul-div_cancel, dvd-mul_left, mul_comm}
 use Rattle.audit_types.proofs.PrimitiveLines.{scaled_gcd}
 use Rattle.line_wire.specs.declared.reply.Reply.{Reply}
 use Rattle.line_wire.specs.declared.reply.Reply.TheVariants as reply

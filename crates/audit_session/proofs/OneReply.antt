@@ -1,5 +1,5 @@
 -- The replies that are due to one line over tables that differ in their secrets alone.
-use Rattle.std.proofs.Common.{◌≡◌, ◌≢◌, ℕ, ℤ, ◌<◌, ◌≤◌, true, List, [], length, Option, Some, None, refl, sym, ◌∙◌, ap, subst, arith, inl, inr, ◌⊎◌, ⊎_elim}
+use Rattle.std.proofs.Common.{◌≡◌, ℕ, ℤ, ◌<◌, List, length, Option, Some, None, refl, sym, ◌∙◌, ap, subst, arith, inl, inr, ◌⊎◌, ⊎_elim}
 use Rattle.audit_types.specs.declared.shapes.Kind.{Kind}
 use Rattle.audit_types.specs.declared.shapes.Kind.TheVariants as kind
 use Rattle.audit_types.specs.declared.records.Asked.{Asked}
@@ -7,7 +7,7 @@ use Rattle.audit_types.specs.declared.records.Answered.{Answered}
 use Rattle.audit_types.specs.declared.records.Verdict.{Verdict}
 use Rattle.audit_types.specs.declared.records.Verdict.TheVariants.{Released, DeniedUnsafe, DeniedWide}
 use Rattle.audit_types.specs.Column.{Known}
-use Rattle.audit_types.specs.Judgement.{IsDecision, IsWide, IsWithinWidth, IsWideFor, IsWithinWidthFor, sets_with}
+use Rattle.audit_types.specs.Judgement.{IsDecision, IsWideFor, IsWithinWidthFor, sets_with}
 use Rattle.audit_types.specs.History.{Table, Setting, setting_of, known_of}
 use Rattle.sum_basis.specs.Laws.{NarrowOrWide}
 use Rattle.schema_json.specs.Columns.{Column}
@@ -18,7 +18,7 @@ use Rattle.predicate_lang.proofs.LeastPlace.{refused_means_nothing}
 use Rattle.set_index.specs.Asked.{meaning}
 use Rattle.audit_store.specs.declared.outcome.Outcome.{Outcome}
 use Rattle.audit_store.specs.declared.outcome.Outcome.TheVariants.{Answer, Denied, Full}
-use Rattle.audit_store.specs.Outcomes.{IsOutcome, true_answer}
+use Rattle.audit_store.specs.Outcomes.{IsOutcome}
 use Rattle.audit_store.specs.Stores.{table_of}
 use Rattle.line_wire.specs.Lines.{CountedLine, text, long}
 use Rattle.line_wire.specs.Questions.{Written, counted, taken, text_of, question_of}
@@ -33,8 +33,8 @@ use Rattle.line_wire.specs.declared.reply.Reply.{Reply}
 use Rattle.line_wire.specs.declared.reply.Reply.TheVariants as reply
 use Rattle.line_wire.specs.Reply.{reply_bytes}
 use Rattle.audit_session.specs.Session.{Replied}
-use Rattle.audit_session.specs.Replies.{Database, IsDue, IsTold, IsAnswered, IsRefused, IsServed, IsOutcomeTold, TellsOutcome, Tells, TellsMean, added_by, asked_over, base_of, only, refusal}
-use Rattle.audit_session.specs.Laws.{IsAnswerTo, AreAnswersAlike, OneReplyIsDue, DecidedAlike}
+use Rattle.audit_session.specs.Replies.{IsDue, IsTold, IsAnswered, TellsOutcome, Tells, added_by, asked_over, base_of, only, refusal}
+use Rattle.audit_session.specs.Laws.{AreAnswersAlike, OneReplyIsDue, DecidedAlike, EqualAnswersEqualReplies}
 use Rattle.audit_session.proofs.OneMean.{one_mean}
 use Rattle.audit_session.proofs.Telling.{some_row}
 
@@ -227,10 +227,9 @@ module _ (forms : NarrowOrWide) (meanings : OneMeaning) (columns : List Column) 
   due_alike (text line) a b (inr first) (inl second) = absurd (asked_or_refused columns (question_of line) second.fault second.answer first.request second.refuses second.told first.requests)
   due_alike (text line) a b (inr first) (inr second) = asked_alike (question_of line) first.request second.request a b first.requests second.requests first.answered second.answered
 
--- two replies that tell one true answer are equal
-one_answer : (table : Table) (a b : Replied Answered) → AreAnswersAlike table table a b → a ≡ b
-one_answer table a b alike =
-    let value = alike.first.is_true ∙ sym alike.second.is_true in
+-- two replies that tell equal answers are equal
+pub equal_answers : EqualAnswersEqualReplies
+equal_answers table twin a b alike value =
     let told = one_telling alike.take (length alike.asked.rows.list) alike.first.answer alike.first.told alike.second.told alike.some alike.first.tells
     (subst (λ (z : ℤ). Tells alike.take (length alike.asked.rows.list) z alike.second.told) (sym value) alike.second.tells) in
     let whole : Reply → ℤ → Replied Answered = λ r z. record { bytes = reply_bytes r; added = Some (record { column = alike.asked.column; rows = alike.asked.rows; answer = z }) } in
@@ -238,7 +237,7 @@ one_answer table a b alike =
 
 pub one_due : NarrowOrWide → OneMeaning → OneReplyIsDue
 one_due forms meanings base history line a b first second =
-    ⊎_elim (λ same. same) (λ alike. one_answer (table_of base.secret) a b alike) (due_alike forms meanings base.columns base.public base.secret base.secret refl history line a b first second)
+    ⊎_elim (λ same. same) (λ alike. equal_answers (table_of base.secret) (table_of base.secret) a b alike (alike.first.is_true ∙ sym alike.second.is_true)) (due_alike forms meanings base.columns base.public base.secret base.secret refl history line a b first second)
 
 pub decided_alike : NarrowOrWide → OneMeaning → DecidedAlike
 decided_alike forms meanings base twin history line a b columns public shape first second =

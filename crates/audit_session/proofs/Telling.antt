@@ -26,9 +26,8 @@ use Rattle.line_wire.specs.declared.question.Take.{Take}
 use Rattle.line_wire.specs.declared.question.Take.TheVariants.{Sum, Avg, Max}
 use Rattle.audit_session.specs.Session.{Replied}
 use Rattle.audit_session.specs.Replies.{IsTold, TellsOutcome, Tells, added_by, only}
-use Rattle.audit_session.specs.Deciding.{Decides, Deciding, Guards, Stands, most_of}
+use Rattle.audit_session.specs.Deciding.{MakesRecord, Decides, Deciding, Guards, Stands, most_of}
 use Rattle.audit_session.proofs.Means.{some_mean}
-use Rattle.audit_session.proofs.WhileDeciding.{MakesRecord}
 
 -- a set that isn't empty has a row
 pub some_row : (rows : List ℕ) → rows ≢ [] → 0 < length rows

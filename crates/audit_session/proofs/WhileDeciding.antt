@@ -14,21 +14,17 @@ use Rattle.audit_store.specs.declared.outcome.Outcome.{Outcome}
 use Rattle.audit_store.specs.declared.outcome.Outcome.TheVariants.{Answer, Denied, Full}
 use Rattle.audit_store.specs.declared.outcome.StoreFault.{StoreFault}
 use Rattle.audit_store.specs.declared.outcome.StoreFault.TheVariants.{Failed, NoMemory}
-use Rattle.audit_store.specs.Outcomes.{IsOutcome, AreOutcomes, record_of, records_of}
+use Rattle.audit_store.specs.Outcomes.{AreOutcomes, record_of, records_of}
 use Rattle.audit_store.specs.Stores.{Keeps, table_of}
 use Rattle.audit_session.specs.Session.{Replied}
 use Rattle.audit_session.specs.Replies.{added_by}
-use Rattle.audit_session.specs.Deciding.{Deciding}
+use Rattle.audit_session.specs.Deciding.{Deciding, MakesRecord}
 
 -- an outcome's record, as a list
 added_is : (asked : Asked) (outcome : Outcome) → record_of asked outcome ≡ option_to_list (added_by asked outcome)
 added_is asked Full = refl
 added_is asked (Denied verdict) = refl
 added_is asked (Answer answer) = refl
-
--- a reply that makes the record of an outcome of the question
-abbrev pub MakesRecord : SecretView → List Answered → Asked → Replied Answered → Type 0
-MakesRecord secret history asked replied = (outcome : Outcome) × IsOutcome (table_of secret) history asked outcome × (replied.added ≡ added_by asked outcome)
 
 -- while one question is decided
 deciding_one : (secret : SecretView) (history : List Answered) (asked : Asked) (outcomes : List Outcome) (before image sent : List ℕ) → AreOutcomes (table_of secret) history (asked ∷ []) outcomes

@@ -1,17 +1,20 @@
 -- How a line is decided: its reply, and what is left of the store and the bench.
 use Rattle.std.specs.Prelude.{◌≡◌, ◌⊎◌, ℕ, ◌+◌, ◌*◌, ◌<◌, ◌≤◌, ◌^◌, true, List, ◌++◌, length, Option}
 use Rattle.std.specs.Option.{option_to_list}
+use Rattle.audit_types.specs.declared.records.Asked.{Asked}
 use Rattle.audit_types.specs.declared.records.Answered.{Answered}
 use Rattle.audit_types.specs.declared.shapes.Shape.{Shape}
 use Rattle.audit_types.specs.Shapes.{columns, kind_at}
-use Rattle.table_load.specs.Cells.{PublicView}
+use Rattle.table_load.specs.Cells.{PublicView, SecretView}
 use Rattle.predicate_lang.specs.Trees.{tree_of}
 use Rattle.set_index.specs.Asked.{fits_public}
 use Rattle.bench_core.specs.Bench.{IsQuiet, AppendsFront}
 use Rattle.audit_session.specs.declared.serving.Line.{Line}
 use Rattle.audit_session.specs.declared.serving.Line.TheVariants.{Text, Long}
 use Rattle.line_wire.specs.Lines.{CountedLine, text, long}
-use Rattle.audit_store.specs.Stores.{StoreContents, IsAsLeft, IsStore}
+use Rattle.audit_store.specs.declared.outcome.Outcome.{Outcome}
+use Rattle.audit_store.specs.Outcomes.{IsOutcome}
+use Rattle.audit_store.specs.Stores.{StoreContents, IsAsLeft, IsStore, table_of}
 use Rattle.line_wire.specs.Reply.{reply_bytes, IsInRange}
 use Rattle.line_wire.specs.Requests.{kind_for}
 use Rattle.line_wire.specs.declared.request.Request.{Request}
@@ -20,6 +23,7 @@ use Rattle.line_wire.specs.declared.reply.Reply.{Reply}
 use Rattle.line_wire.specs.declared.question.Take.{Take}
 use Rattle.line_wire.specs.declared.question.Take.TheVariants.{Sum, Avg, Max}
 use Rattle.audit_session.specs.Session.{Replied}
+use Rattle.audit_session.specs.Replies.{added_by}
 
 -- the reply is due, and the record that it makes, if it makes one, is behind the history
 pub record Decides (due : Replied Answered → Type 0) (history now : List Answered) (answer : Reply) : Type 0 where
@@ -47,6 +51,10 @@ pub record Guards {D : Type 0} (sent : D → List ℕ) (faults : D → ℕ) (old
 abbrev pub Deciding : {R : Type 0} → (Replied R → Type 0) → (List ℕ → List R → Type 0) → List R → List ℕ → List ℕ → List ℕ → Type 0
 Deciding {R} due stands history before image sent =
     (sent ≡ before) × (stands image history ⊎ ((replied : Replied R) × due replied × stands image (history ++ option_to_list replied.added)))
+
+-- a reply that makes the record of what may become of a question
+abbrev pub MakesRecord : SecretView → List Answered → Asked → Replied Answered → Type 0
+MakesRecord secret history asked replied = (outcome : Outcome) × IsOutcome (table_of secret) history asked outcome × (replied.added ≡ added_by asked outcome)
 
 -- the greatest size of an answer over a table
 abbrev pub most_of : Take → ℕ

@@ -62,3 +62,7 @@ abbrev pub DecidedAlike : Type 0
 DecidedAlike =
     (base twin : Database) (history : List Answered) (line : CountedLine) (a b : Replied Answered) → twin.columns ≡ base.columns → twin.public ≡ base.public → twin.secret.shape ≡ base.secret.shape →
     IsDue base history line a → IsDue twin history line b → (a ≡ b) ⊎ AreAnswersAlike (table_of base.secret) (table_of twin.secret) a b
+
+-- and where the answers are equal, so are the replies and their records
+abbrev pub EqualAnswersEqualReplies : Type 0
+EqualAnswersEqualReplies = (table twin : Table) (a b : Replied Answered) → (alike : AreAnswersAlike table twin a b) → alike.first.answer ≡ alike.second.answer → a ≡ b

@@ -1,5 +1,5 @@
 //! One line is decided: its reply, and the record that it makes.
-ghost use Rattle.std.specs.Prelude.{◌≡◌, ◌≢◌, ◌<◌, ◌≤◌, ◌++◌, [], ℕ, ℤ, true, length, unsigned_abs, IfOk, OnOk, OnErr, IsErrOf, MatchResult, Some};
+ghost use Rattle.std.specs.Prelude.{◌≡◌, ◌≢◌, ◌<◌, ◌≤◌, ◌++◌, ℤ, true, length, unsigned_abs, IfOk, OnOk, OnErr, IsErrOf, MatchResult, Some};
 ghost use Rattle.std.specs.Option.{option_to_list};
 ghost use Rattle.audit_types.specs.History.{FitsShape};
 ghost use Rattle.audit_types.specs.Rows.{AreRows};
@@ -16,8 +16,8 @@ ghost use Rattle.audit_store.specs.declared.outcome.Outcome.TheVariants.{Answer,
 ghost use Rattle.line_wire.specs.Lines.{text};
 ghost use Rattle.line_wire.specs.Reply.{IsInRange};
 ghost use Rattle.line_wire.specs.Requests.{IsWithin, kind_for};
-ghost use Rattle.audit_session.specs.Deciding.{Decides, Stands, Guards, Deciding, IsAskable, most_of};
-ghost use Rattle.audit_session.specs.Replies.{IsDue, IsTold, IsAnswered, IsOutcomeTold, TellsOutcome, added_by, base_of, refusal};
+ghost use Rattle.audit_session.specs.Deciding.{Decides, Stands, Guards, Deciding, IsAskable, MakesRecord, most_of};
+ghost use Rattle.audit_session.specs.Replies.{IsDue, IsTold, IsAnswered, TellsOutcome, added_by, base_of, refusal};
 
 use crate::averages::average;
 use audit_store::{Outcome, Store, StoreFault};
@@ -61,7 +61,7 @@ fn decide<B: Bench>(store: &mut Store, bench: &mut B, asked: Asked) -> Result<Ou
     ensures stands { OnOk result (Stands B.told B.file B.leaves B.moment bench.old bench.new store.old store.new) }
     ensures kept { Guards B.sent B.faults bench.old bench.new store.old store.new }
     ensures moments { B.told → IsQuiet (B.file bench.old) (B.leaves bench.old)
-        → LeavesOnly B.moment B.since bench.old bench.new (Deciding (λ replied. (outcome : _) × IsOutcome (table_of store.old.secret) store.old.history asked outcome × (replied.added ≡ added_by asked outcome)) (λ image history. StandsFor image store.old.secret.shape history) store.old.history (B.sent bench.old)) }
+        → LeavesOnly B.moment B.since bench.old bench.new (Deciding (MakesRecord store.old.secret store.old.history asked) (λ image history. StandsFor image store.old.secret.shape history) store.old.history (B.sent bench.old)) }
     ensures err { OnErr result (store.new.history ≡ store.old.history) }
     ensures no_memory { IsErrOf result StoreFault.NoMemory → bench.new ≡ bench.old }
     ensures failed { IsErrOf result StoreFault.Failed → Rose (B.faults bench.old) (B.faults bench.new) }

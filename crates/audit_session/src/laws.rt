@@ -1,5 +1,5 @@
 //! Laws of the replies that are due. Each function computes nothing: its contract is the law.
-ghost use Rattle.audit_session.specs.Laws.{RepliesKeepLegal, StopsAreLegal, OneReplyIsDue, DecidedAlike};
+ghost use Rattle.audit_session.specs.Laws.{RepliesKeepLegal, StopsAreLegal, OneReplyIsDue, DecidedAlike, EqualAnswersEqualReplies};
 
 /// Answering lines keeps a history legal: each record that a reply makes may follow those before it.
 pub fn answered_lines()
@@ -28,9 +28,10 @@ pub fn one_reply()
 }
 
 /// Over tables that differ in their secrets alone the replies to a line after one history are equal, or both tell the answer
-/// to one question: whether it is answered doesn't depend on the secrets.
+/// to one question: whether it is answered doesn't depend on the secrets. Where the answers are equal, so are the replies.
 pub fn decided_alike()
-    ensures { DecidedAlike }
+    ensures alike { DecidedAlike }
+    ensures equal { EqualAnswersEqualReplies }
 {
     predicate_lang::one_meaning();
     sum_basis::laws::narrow_or_wide();

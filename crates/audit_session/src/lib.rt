@@ -2,7 +2,8 @@
 //! sent once its record is in the journal.
 //!
 //! `serve` is the one call. Its clauses say what was sent and what the journal's file stands for, at each end and at every
-//! moment before it.
+//! moment before it. `laws` says that one reply is due to a line, and that tables that differ in their secrets alone are
+//! decided alike.
 #![tactic(auto)]
 
 mod averages;

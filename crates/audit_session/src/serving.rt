@@ -5,7 +5,7 @@ ghost use Rattle.audit_types.specs.History.{IsLegal, IsUndisclosed};
 ghost use Rattle.schema_json.specs.SecretShape.{shape_of};
 ghost use Rattle.table_load.specs.Cells.{FitsSchema};
 ghost use Rattle.bench_core.specs.Causes.{HasCause, Rose};
-ghost use Rattle.bench_core.specs.Bench.{AppendsFront, IsQuiet, LeavesOnly, Sending, Elapses};
+ghost use Rattle.bench_core.specs.Bench.{IsQuiet, LeavesOnly, Sending, Elapses};
 ghost use Rattle.journal_form.specs.Journal.{StandsFor};
 ghost use Rattle.audit_store.specs.Stores.{IsAsLeft, IsStore, table_of};
 ghost use Rattle.line_wire.specs.Lines.{counted_lines};
@@ -142,6 +142,7 @@ fn answer_lines<P: Source, B: Bench>(
     ensures ends { P.told → B.told → Ends result (base_of schema.now.columns index.now store.old.secret) store.old.history (P.left source.old) (P.left source.new) store.new.history (B.sent bench.old) (B.sent bench.new) }
     ensures reads { P.told → Reads result (P.left source.old) (P.left source.new) }
     ensures rests { result ≢ Err EndFault.Bench → Rests B.told B.file B.leaves bench.old bench.new store.new }
+    ensures again { OnOk result ((store.new.usable ≡ true) × (B.told → IsAsLeft (B.file bench.new) store.new)) }
     ensures calls { P.told → B.told → OnOk result (B.moment bench.new + 4 * length store.old.history ≡ B.moment bench.old + length (counted_lines (P.left source.old)) + 4 * length store.new.history) }
     ensures moments { P.told → B.told → IsQuiet (B.file bench.old) (B.leaves bench.old)
         → LeavesOnly B.moment B.since bench.old bench.new (StopsBehind (IsDue (base_of schema.now.columns index.now store.old.secret)) (λ image history. StandsFor image store.old.secret.shape history) 1 store.old.history (counted_lines (P.left source.old)) (B.sent bench.old)) }
@@ -186,13 +187,16 @@ pub fn serve<P: Source, B: Bench>(
     requires shape { store.old.secret.shape ≡ shape_of schema.now.columns index.now.rows }
     requires stands { B.told → IsAsLeft (B.file bench.old) store.old }
 
-    // The ends: which lines were answered, and the bench is as the store left it, unless it failed.
+    // The ends: which lines were answered. The file stands for the history, unless the bench failed.
     ensures done { P.told → B.told → OnOk result (Serves (base_of schema.now.columns index.now store.old.secret) store.old.history (counted_lines (P.left source.old)) store.new.history (B.sent bench.old) (B.sent bench.new)) }
     ensures input_end { P.told → B.told → result ≡ Err EndFault.Input → ServesWhole (base_of schema.now.columns index.now store.old.secret) store.old.history 1 (P.left source.old) (P.left source.new) store.new.history (B.sent bench.old) (B.sent bench.new) }
     ensures limit_end { P.told → B.told → result ≡ Err EndFault.Limit → ServesLimited (base_of schema.now.columns index.now store.old.secret) store.old.history 1 (P.left source.old) store.new.history (B.sent bench.old) (B.sent bench.new) }
     ensures memory_end { P.told → B.told → result ≡ Err EndFault.NoMemory → ServesSome (base_of schema.now.columns index.now store.old.secret) store.old.history 1 (counted_lines (P.left source.old)) store.new.history (B.sent bench.old) (B.sent bench.new) }
     ensures stands { B.told → result ≢ Err EndFault.Bench → StandsFor (B.file bench.new) store.new.secret.shape store.new.history }
     ensures quiet { B.told → IsQuiet (B.file bench.old) (B.leaves bench.old) → result ≢ Err EndFault.Bench → IsQuiet (B.file bench.new) (B.leaves bench.new) }
+
+    // After Ok it may be called again.
+    ensures again { OnOk result ((store.new.usable ≡ true) × (B.told → IsAsLeft (B.file bench.new) store.new)) }
 
     // One send for each line, four calls for each record, and no other call.
     ensures calls { P.told → B.told → OnOk result (B.moment bench.new + 4 * length store.old.history ≡ B.moment bench.old + length (counted_lines (P.left source.old)) + 4 * length store.new.history) }

@@ -211,6 +211,28 @@ fn averages_are_in_lowest_terms(rt: HostRuntime) -> Result<(), Fail> {
     Ok(())
 }
 
+#[test]
+fn a_table_as_a_spreadsheet_writes_it_is_served(rt: HostRuntime) -> Result<(), Fail> {
+    let table =
+        b"\xEF\xBB\xBFdept,age,salary,bonus\r\n\"Sales, North\",30,52000,5\r\n\"Sales, North\",41,48000,7\r\nBob's,35,61000,7\r\n";
+    let mut journal = MADE;
+    journal[10] = 3;
+    check(
+        &rt,
+        rt.alloc(),
+        SCHEMA,
+        table,
+        &journal,
+        br#"{"ask":"avg","column":"salary","where":"all"}
+{"ask":"sum","column":"salary","where":"dept = 'Sales, North'"}
+{"ask":"count","where":"dept = 'Bob''s'"}"#,
+        br#"{"num":161000,"den":3}
+{"denied":"unsafe"}
+{"count":1}
+"#,
+    )
+}
+
 // The sum over both people of one department, asked of a bench that makes no call from the one with this number on.
 fn stopped(
     rt: &impl Abort,

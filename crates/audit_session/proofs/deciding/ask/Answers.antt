@@ -4,8 +4,8 @@ use Rattle.audit_types.specs.RowLaws.{length-rows}
 use Rattle.audit_store.specs.Stores.{table_of}
 use Rattle.journal_form.specs.Journal.{StandsFor}
 use Rattle.audit_session.specs.Replies.{IsTold}
+use Rattle.audit_session.specs.Deciding.{MakesRecord}
 use Rattle.audit_session.proofs.Telling.{told_makes, always_deciding_as}
-use Rattle.audit_session.proofs.WhileDeciding.{MakesRecord}
 use Rattle.audit_session.proofs.deciding.ask.Goals as goal
 
 pub told-requires-clause-at_most : goal.told-requires-clause-at_most

@@ -1,6 +1,7 @@
 use Rattle.std.proofs.Common.{rules}
 use Rattle.journal_form.specs.Journal.{StandsFor}
-use Rattle.audit_session.proofs.WhileDeciding.{one_question, nothing_done, by_fault, MakesRecord}
+use Rattle.audit_session.specs.Deciding.{MakesRecord}
+use Rattle.audit_session.proofs.WhileDeciding.{one_question, nothing_done, by_fault}
 use Rattle.audit_session.proofs.deciding.decide.Goals as goal
 
 pub returns-clause-moments : goal.returns-clause-moments
