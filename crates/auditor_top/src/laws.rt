@@ -17,8 +17,5 @@ pub fn stops_are_legal()
 {
     schema_json::laws::columns_of_a_schema();
     table_load::laws::secrets_of_a_table();
-    table_load::laws::lists_of_secrets();
-    journal_form::laws::one_reading();
-    audit_core::laws::legal_histories();
-    audit_session::laws::answered_lines();
+    audit_session::laws::stops();
 }
