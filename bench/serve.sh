@@ -4,11 +4,11 @@
 # number of answers and denials; then the same of a run without questions, which opens the journal and decides each record
 # again. Build the program first: demo/run.sh does.
 #
-#   bench/serve.sh [QUESTIONS]        2,000 where none is given
+#   bench/serve.sh [QUESTIONS]        2,000 where none is given; a quarter of them of maxima alone
 set -u
 here=$(cd "$(dirname "$0")" && pwd)
 program=$here/../crates/auditor/out/auditor
-questions=${1:-2000}
+most=${1:-2000}
 if [ ! -x "$program" ]; then
     echo "bench: build the program first, as demo/run.sh does" >&2
     exit 1
@@ -26,9 +26,9 @@ table() {
             print int(rand() * 8) "," int(rand() * rows * 4) "," int(rand() * 100000) "," int(rand() * 1000) }' >table.csv
 }
 
-# Questions over random intervals of age: of sums, of maxima, or of both in turn, where wanted with a band beside.
+# So many questions over random intervals of age: of sums, of maxima, or of both in turn with a band beside.
 lines() {
-    awk -v rows="$1" -v kind="$2" -v count="$questions" 'BEGIN { srand(2)
+    awk -v rows="$1" -v kind="$2" -v count="$3" 'BEGIN { srand(2)
         for (line = 0; line < count; line++) {
             low = int(rand() * rows * 4); high = low + int(rand() * rows * 4)
             condition = "age >= " low " and age <= " high
@@ -71,7 +71,7 @@ measure() {
 for rows in 200 1024; do
     for kind in sums maxima both; do
         table "$rows"
-        lines "$rows" "$kind"
+        if [ "$kind" = maxima ]; then lines "$rows" "$kind" $((most / 4)); else lines "$rows" "$kind" "$most"; fi
         rm -f answers.journal
         "$program" init || exit 1
         echo "$rows rows, $kind"
