@@ -7,6 +7,7 @@ use audit_types::Shape;
 use bench_core::{Failed, MemoryBench, MemorySource, Room, SteadySource};
 use std::test::Fail;
 
+mod limits;
 mod worked;
 
 const AGE: &[u8] = br#"{"columns":[{"name":"age","is":"number"}]}"#;
@@ -78,10 +79,10 @@ fn bench_with(alloc: Global, file: &[u8]) -> Result<MemoryBench, Fail> {
 // A quiet bench with this file, of which one call fails.
 fn failing_bench(alloc: Global, file: &[u8], failing: Option<u64>) -> Result<MemoryBench, Fail> {
     let room = Room {
-        file: file.len() as u64 + 2000,
-        sent: 2000,
-        calls: 300,
-        written: 2000,
+        file: file.len() as u64 + 20_000,
+        sent: 20_000,
+        calls: 2_000,
+        written: 20_000,
     };
     Ok(MemoryBench::new(alloc, file, room, calls(alloc, failing)?, None)?)
 }

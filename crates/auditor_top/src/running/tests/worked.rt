@@ -4,6 +4,7 @@ use super::*;
 // Asks one thing of a column over a condition, in a run of its own; a count names no column.
 fn asked(
     alloc: Global,
+    files: Files,
     bench: &mut MemoryBench,
     ask: &str,
     column: &str,
@@ -19,7 +20,7 @@ fn asked(
     run_word(
         alloc,
         "serve",
-        STAFF_OF_SIX,
+        files,
         line.as_bytes(),
         Failing::Nothing,
         bench,
@@ -46,7 +47,14 @@ fn the_sum_that_would_give_a_salary_away_is_denied(rt: HostRuntime) -> Result<()
     ];
     let mut bench = bench_with(rt.alloc(), &MADE_FOR_STAFF)?;
     for (ask, condition, reply) in questions {
-        let ended = asked(rt.alloc(), &mut bench, ask, "salary", condition)?;
+        let ended = asked(
+            rt.alloc(),
+            STAFF_OF_SIX,
+            &mut bench,
+            ask,
+            "salary",
+            condition,
+        )?;
         assert_eq!(rt; ended, Status::Done);
         assert_eq!(rt; bench.sent(), reply.as_bytes());
         bench = bench.crashed(2)?;
@@ -64,7 +72,14 @@ fn the_maximum_that_might_give_a_bonus_away_is_denied(rt: HostRuntime) -> Result
     ];
     let mut bench = bench_with(rt.alloc(), &MADE_FOR_STAFF)?;
     for (condition, reply) in questions {
-        let ended = asked(rt.alloc(), &mut bench, "max", "bonus", condition)?;
+        let ended = asked(
+            rt.alloc(),
+            STAFF_OF_SIX,
+            &mut bench,
+            "max",
+            "bonus",
+            condition,
+        )?;
         assert_eq!(rt; ended, Status::Done);
         assert_eq!(rt; bench.sent(), reply.as_bytes());
         bench = bench.crashed(2)?;
@@ -134,5 +149,44 @@ fn a_journal_of_other_rows_is_refused(rt: HostRuntime) -> Result<(), Fail> {
         now: Shape { rows: 5, kinds },
     };
     assert_eq!(rt; ended, due);
+    Ok(())
+}
+
+#[test]
+fn another_table_with_the_same_answers_is_told_the_same(rt: HostRuntime) -> Result<(), Fail> {
+    // Its salaries are others, and their sums over these groups are the same.
+    let twin = Files {
+        schema: STAFF,
+        table: b"dept,age,salary,bonus\nQA,30,110,7\nQA,41,190,9\nOPS,35,300,9\nOPS,52,400,4\nDEV,28,490,5\nDEV,44,610,2\n",
+    };
+    let questions = [
+        ("dept = 'QA'", "{\"sum\":300}\n"),
+        ("all", "{\"sum\":2100}\n"),
+        ("age >= 41", "{\"sum\":1200}\n"),
+        ("dept = 'OPS'", "{\"sum\":700}\n"),
+        (
+            "age >= 41 and not dept = 'DEV'",
+            "{\"denied\":\"unsafe\"}\n",
+        ),
+    ];
+    let mut bench = bench_with(rt.alloc(), &MADE_FOR_STAFF)?;
+    let mut other = bench_with(rt.alloc(), &MADE_FOR_STAFF)?;
+    for (condition, reply) in questions {
+        let ended = asked(
+            rt.alloc(),
+            STAFF_OF_SIX,
+            &mut bench,
+            "sum",
+            "salary",
+            condition,
+        )?;
+        let ended_too = asked(rt.alloc(), twin, &mut other, "sum", "salary", condition)?;
+        assert_eq!(rt; (ended, ended_too), (Status::Done, Status::Done));
+        assert_eq!(rt; bench.sent(), reply.as_bytes());
+        assert_eq!(rt; other.sent(), reply.as_bytes());
+        bench = bench.crashed(2)?;
+        other = other.crashed(2)?;
+    }
+    assert_eq!(rt; bench.file(), other.file());
     Ok(())
 }
