@@ -94,7 +94,8 @@ pub fn run<P: Source, I: Source, B: Bench>(
     // What it doesn't come to, it doesn't call, and before the lines nothing is written or sent.
     ensures before_table { BeforeTable result (table.new ≡ table.old) }
     ensures before_bench { BeforeBench result (bench.new ≡ bench.old) }
-    ensures before_lines { B.told → BeforeLines result ((input.new ≡ input.old) × (B.file bench.new ≡ B.file bench.old) × (B.sent bench.new ≡ B.sent bench.old)) }
+    ensures before_lines { BeforeLines result ((input.new ≡ input.old) × (B.sent bench.new ≡ B.sent bench.old)) }
+    ensures unwritten { B.told → BeforeLines result (B.file bench.new ≡ B.file bench.old) }
     ensures unread { command_of (map string_bytes words.now.items) ≡ None → schema.new ≡ schema.old }
     ensures spare { spare.new ≡ spare.old }
 
