@@ -3,16 +3,8 @@
 # for each. Build the program first: demo/run.sh does.
 set -u
 here=$(cd "$(dirname "$0")" && pwd)
-program=$here/../crates/auditor/out/auditor
 lines=${1:-1000000}
-if [ ! -x "$program" ]; then
-    echo "bench: build the program first, as demo/run.sh does" >&2
-    exit 1
-fi
-
-folder=$(mktemp -d) || exit 1
-trap 'rm -rf "$folder"' EXIT
-cd "$folder" || exit 1
+. "$here/setup.sh"
 printf '{"columns":[{"name":"age","is":"number"}]}' >schema.json
 printf 'age\n30\n41\n35\n52\n28\n44\n' >table.csv
 yes '{"ask":"count","where":"all"}' | head -n "$lines" >questions.jsonl

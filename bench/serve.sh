@@ -7,16 +7,8 @@
 #   bench/serve.sh [QUESTIONS]        2,000 where none is given; a quarter of them of maxima alone
 set -u
 here=$(cd "$(dirname "$0")" && pwd)
-program=$here/../crates/auditor/out/auditor
 most=${1:-2000}
-if [ ! -x "$program" ]; then
-    echo "bench: build the program first, as demo/run.sh does" >&2
-    exit 1
-fi
-
-folder=$(mktemp -d) || exit 1
-trap 'rm -rf "$folder"' EXIT
-cd "$folder" || exit 1
+. "$here/setup.sh"
 echo '{"columns":[{"name":"band","is":"number"},{"name":"age","is":"number"},{"name":"pay","is":"sum"},{"name":"best","is":"max"}]}' >schema.json
 
 # A table of so many rows. Ages are spread over four times as many numbers.
