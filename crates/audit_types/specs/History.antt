@@ -1,5 +1,6 @@
 -- Records, histories, what a history tells of one column, and which histories are legal and disclose nothing.
 use Rattle.std.specs.Prelude.{◌≡◌, ◌≢◌, ℕ, ◌<◌, ◌≤◌, ℤ, ◌==◌, List, [], map, length, take, slice_get, Some}
+use Rattle.audit_types.specs.Limits.{most_records}
 use Rattle.std.specs.List.{filter, slice_index_or, AllByRecursion}
 use Rattle.audit_types.specs.declared.shapes.Shape.{Shape}
 use Rattle.audit_types.specs.declared.records.Answered.{Answered}
@@ -86,7 +87,7 @@ pub record IsLegalRecord (table : Table) (history : List Answered) (r : Answered
 
 -- at most 65,536 records, each of which may follow those before it
 pub record IsLegal (table : Table) (history : List Answered) : Type 0 where
-  pub few : length history ≤ 65536
+  pub few : length history ≤ most_records
   pub each : (i : ℕ) (r : Answered) → slice_get history i ≡ Some r → IsLegalRecord table (take i history) r
 
 -- other secrets that give the same answers, with another number at this place

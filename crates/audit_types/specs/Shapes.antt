@@ -1,5 +1,6 @@
 -- Shapes: the rows and the secret columns of a table.
 use Rattle.std.specs.Prelude.{◌≡◌, ℕ, ◌<◌, ◌≤◌, cond, ◌==◌, nat_lt, List, [], ◌∷◌, slice_index, ◌⊎◌, count_by}
+use Rattle.audit_types.specs.Limits.{most_rows}
 use Rattle.std.specs.List.{AllByRecursion}
 use Rattle.audit_types.specs.declared.shapes.Kind.{Kind}
 use Rattle.audit_types.specs.declared.shapes.Kind.TheVariants.{Sum, Max}
@@ -25,5 +26,5 @@ AreKinds (b ∷ bytes) = (((b ≡ 1) ⊎ (b ≡ 2)) × AreKinds bytes) ⊎ ((b �
 -- 1 to 1,024 rows, and kinds
 pub record IsShape (shape : Shape) : Type 0 where
   pub some_rows : 0 < shape.rows
-  pub at_most : shape.rows ≤ 1024
+  pub at_most : shape.rows ≤ most_rows
   pub kinds : AreKinds shape.kinds
