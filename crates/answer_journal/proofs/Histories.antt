@@ -12,7 +12,8 @@ use Rattle.journal_form.specs.Journal.{Written, AreGroups, texts, records, gate_
 use Rattle.answer_journal.specs.Append.{Appending, appended}
 use Rattle.answer_journal.specs.Moments.{IsBeforeOrAfter}
 use Rattle.answer_journal.specs.Contents.{IsReady, IsJournal}
-use Rattle.bench_core.specs.Bench.{LeavesOnly}
+use Rattle.bench_core.specs.declared.bench.Bench.{Ghosts}
+use Rattle.bench_core.specs.Calls.{LeavesOnly}
 use Rattle.bench_core.specs.Moments.{weakens}
 
 -- a file is a header, groups, and what stands behind them
@@ -109,9 +110,9 @@ module _ (file bytes : List ℕ) (shape other : Shape) (history list : List Answ
   group : IsGroup shape ready.text list
   group = subst (λ s. IsGroup s ready.text list) same ready.group
 
-  pub at_every_moment : {D : Type 0} (moment : D → ℕ) (since : D → ℕ → List ℕ → List ℕ → Type 0) (old new : D) (before : List ℕ) → LeavesOnly moment since old new (Appending gate bytes file before) → LeavesOnly moment since old new (IsBeforeOrAfter shape history list before)
-  at_every_moment moment since old new before only =
-      weakens moment since old new (Appending gate bytes file before) (IsBeforeOrAfter shape history list before)
+  pub at_every_moment : {D : Type 0} (bench : Ghosts D) (old new : D) (before : List ℕ) → LeavesOnly bench old new (Appending gate bytes file before) → LeavesOnly bench old new (IsBeforeOrAfter shape history list before)
+  at_every_moment bench old new before only =
+      weakens bench old new (Appending gate bytes file before) (IsBeforeOrAfter shape history list before)
       (λ image sent found. appending file shape history gate stands ready.text list group room before image sent (subst (λ b. Appending gate b file before image sent) ready.bytes_are found)) only
 
   pub at_end : (new : List ℕ) → new ≡ appended gate bytes file → StandsAt new shape (history ++ list) (gate + length bytes)

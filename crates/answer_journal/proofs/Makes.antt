@@ -6,7 +6,8 @@ use Rattle.std.proofs.lemmas.List.{take-append-drop, get_or-take, take_all}
 use Rattle.audit_types.specs.declared.shapes.Shape.{Shape}
 use Rattle.journal_form.specs.Header.{header, named, IsWholeShape}
 use Rattle.journal_form.specs.Journal.{StandsAt}
-use Rattle.bench_core.specs.Bench.{LeavesOnly}
+use Rattle.bench_core.specs.declared.bench.Bench.{Ghosts}
+use Rattle.bench_core.specs.Calls.{LeavesOnly}
 use Rattle.bench_core.specs.Moments.{weakens}
 use Rattle.answer_journal.specs.Append.{Appending, appended}
 use Rattle.answer_journal.specs.Moments.{IsShort, IsUnmadeOrEmpty}
@@ -37,8 +38,8 @@ module _ (file : List ℕ) (shape : Shape) (shaped : IsWholeShape shape) (some :
   pub opened : (new : List ℕ) → new ≡ appended 0 (named shape ++ 0 ∷ []) file → StandsAt new shape [] 20
   opened new is = fresh new shape (drop (1 + length (named shape ++ 0 ∷ [])) file) shaped is
 
-  pub opening_moments : {D : Type 0} (moment : D → ℕ) (since : D → ℕ → List ℕ → List ℕ → Type 0) (old new : D) (before : List ℕ) → LeavesOnly moment since old new (Appending 0 (named shape ++ 0 ∷ []) file before) → LeavesOnly moment since old new (IsUnmadeOrEmpty shape before)
-  opening_moments moment since old new before only = weakens moment since old new (Appending 0 (named shape ++ 0 ∷ []) file before) (IsUnmadeOrEmpty shape before) (opening before) only
+  pub opening_moments : {D : Type 0} (bench : Ghosts D) (old new : D) (before : List ℕ) → LeavesOnly bench old new (Appending 0 (named shape ++ 0 ∷ []) file before) → LeavesOnly bench old new (IsUnmadeOrEmpty shape before)
+  opening_moments bench old new before only = weakens bench old new (Appending 0 (named shape ++ 0 ∷ []) file before) (IsUnmadeOrEmpty shape before) (opening before) only
 
 -- a short image isn't made
 pub short_unmade : (shape : Shape) (before image sent : List ℕ) → (sent ≡ before) × IsShort image → IsUnmadeOrEmpty shape before image sent

@@ -1,7 +1,7 @@
 -- What each of the two writes of a group leaves.
 use Rattle.std.proofs.Common.{◌≡◌, ℕ, ◌+◌, ◌<◌, List, [], ◌∷◌, ◌++◌, length, take, drop, inl, inr, ◌∙◌, ap, subst, arith, append_assoc}
 use Rattle.std.proofs.lemmas.List.{take_at, take-take, drop_at, take-append-le, length-take-le}
-use Rattle.bench_core.specs.Bench.{Holds, Torn, Follows, IsQuiet}
+use Rattle.bench_core.specs.Bench.{Holds, Torn, Follows}
 use Rattle.answer_journal.specs.Append.{Appending, appended}
 
 module _ (gate : ℕ) (group file before : List ℕ) (inside : gate < length file) where
@@ -9,7 +9,7 @@ module _ (gate : ℕ) (group file before : List ℕ) (inside : gate < length fil
   pub staged : List ℕ
   staged = take (gate + 1) file ++ group ++ drop (gate + 1 + length group) file
 
-  pub stage_crash : (old new : List ℕ → Type 0) → IsQuiet file old → Follows (Torn (gate + 1) (length group)) old new → (image sent : List ℕ) → new image → sent ≡ before → Appending gate group file before image sent
+  pub stage_crash : (old new : List ℕ → Type 0) → ((image : List ℕ) → old image → image ≡ file) → Follows (Torn (gate + 1) (length group)) old new → (image sent : List ℕ) → new image → sent ≡ before → Appending gate group file before image sent
   stage_crash old new quiet follows image sent left same =
       let from = follows image left in
       let torn : Torn (gate + 1) (length group) file image = subst (λ f. Torn (gate + 1) (length group) f image) (quiet from.0 from.1) from.2 in
@@ -21,7 +21,7 @@ module _ (gate : ℕ) (group file before : List ℕ) (inside : gate < length fil
   regrouped : (a b c : List ℕ) → a ++ b ++ c ≡ a ++ (b ++ c)
   regrouped a b c = append_assoc a b c
 
-  pub gate_crash : (f : List ℕ) (old new : List ℕ → Type 0) → Holds file (gate + 1) group f → IsQuiet f old → Follows (Torn gate 1) old new → (image sent : List ℕ) → new image → sent ≡ before → Appending gate group file before image sent
+  pub gate_crash : (f : List ℕ) (old new : List ℕ → Type 0) → Holds file (gate + 1) group f → ((image : List ℕ) → old image → image ≡ f) → Follows (Torn gate 1) old new → (image sent : List ℕ) → new image → sent ≡ before → Appending gate group file before image sent
   gate_crash f old new holds quiet follows image sent left same =
       let from = follows image left in
       let torn : Torn gate 1 f image = subst (λ g. Torn gate 1 g image) (quiet from.0 from.1) from.2 in

@@ -1,7 +1,7 @@
 //! The four calls of an append, over bytes alone.
 ghost use Rattle.std.specs.Prelude.{◌≡◌, ◌<◌, ◌+◌, ◌^◌, length, OnOk};
 ghost use Rattle.bench_core.specs.Causes.{HasCause};
-ghost use Rattle.bench_core.specs.Bench.{IsQuiet, LeavesOnly};
+ghost use Rattle.bench_core.specs.Calls.{IsQuiet, LeavesOnly};
 ghost use Rattle.answer_journal.specs.Append.{Appending, appended};
 
 use bench_core::{Bench, Failed};
@@ -12,9 +12,9 @@ pub fn append_bytes<B: Bench>(bench: &mut B, gate: u64, group: &[u8]) -> Result<
     requires fits { gate + 1 < 2 ^ 64 }
     requires gate { B.told → gate < length (B.file bench.old) }
 
-    ensures any_moment { B.told → IsQuiet (B.file bench.old) (B.leaves bench.old) → LeavesOnly B.moment B.since bench.old bench.new (Appending gate group.now (B.file bench.old) (B.sent bench.old)) }
+    ensures any_moment { B.told → IsQuiet B.Bench bench.old → LeavesOnly B.Bench bench.old bench.new (Appending gate group.now (B.file bench.old) (B.sent bench.old)) }
     ensures done { B.told → OnOk result (B.file bench.new ≡ appended gate group.now (B.file bench.old)) }
-    ensures quiet { B.told → OnOk result (IsQuiet (B.file bench.new) (B.leaves bench.new)) }
+    ensures quiet { B.told → OnOk result (IsQuiet B.Bench bench.new) }
     ensures sent { B.sent bench.new ≡ B.sent bench.old }
     ensures ticks { B.told → OnOk result (B.moment bench.new ≡ B.moment bench.old + 4) }
     ensures cause { HasCause (B.faults bench.old) (B.faults bench.new) result }

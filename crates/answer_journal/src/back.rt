@@ -4,7 +4,7 @@ ghost use Rattle.audit_types.specs.declared.shapes.Shape.{Shape};
 ghost use Rattle.audit_types.specs.declared.records.Answered.{Answered};
 ghost use Rattle.audit_types.specs.History.{FitsShape};
 ghost use Rattle.bench_core.specs.Causes.{Rose};
-ghost use Rattle.bench_core.specs.Bench.{IsQuiet, LeavesOnly};
+ghost use Rattle.bench_core.specs.Calls.{IsQuiet, LeavesOnly};
 ghost use Rattle.journal_form.specs.Journal.{StandsAt, BreaksAt, most_bytes};
 ghost use Rattle.answer_journal.specs.Contents.{IsJournal};
 ghost use Rattle.answer_journal.specs.Faults.{GaveUp, IsDueOrGaveUp, IsFaultOf};
@@ -28,7 +28,7 @@ fn front_of<B: Bench>(alloc: Global, bench: &mut B) -> Result<Vec<u8>, BackFault
     ensures file { B.file bench.new ≡ B.file bench.old }
     ensures sent { B.sent bench.new ≡ B.sent bench.old }
     ensures crash { (image : List ℕ) → B.leaves bench.new image → B.leaves bench.old image }
-    ensures untouched { B.told → IsQuiet (B.file bench.old) (B.leaves bench.old) → LeavesOnly B.moment B.since bench.old bench.new (IsUntouched (B.file bench.old) (B.sent bench.old)) }
+    ensures untouched { B.told → IsQuiet B.Bench bench.old → LeavesOnly B.Bench bench.old bench.new (IsUntouched (B.file bench.old) (B.sent bench.old)) }
     ensures failed { IsErrOf result BackFault.Failed → Rose (B.faults bench.old) (B.faults bench.new) }
     ensures later { B.faults bench.old ≤ B.faults bench.new }
     ensures err { IfErr result (λ fault. GaveUp fault) }
@@ -58,7 +58,7 @@ fn contents_of<B: Bench>(alloc: Global, bench: &mut B) -> Result<Contents, BackF
     ensures file { B.file bench.new ≡ B.file bench.old }
     ensures sent { B.sent bench.new ≡ B.sent bench.old }
     ensures crash { (image : List ℕ) → B.leaves bench.new image → B.leaves bench.old image }
-    ensures untouched { B.told → IsQuiet (B.file bench.old) (B.leaves bench.old) → LeavesOnly B.moment B.since bench.old bench.new (IsUntouched (B.file bench.old) (B.sent bench.old)) }
+    ensures untouched { B.told → IsQuiet B.Bench bench.old → LeavesOnly B.Bench bench.old bench.new (IsUntouched (B.file bench.old) (B.sent bench.old)) }
     ensures failed { IsErrOf result BackFault.Failed → Rose (B.faults bench.old) (B.faults bench.new) }
     ensures later { B.faults bench.old ≤ B.faults bench.new }
 {
@@ -95,7 +95,7 @@ impl Journal {
         ensures file { B.file bench.new ≡ B.file bench.old }
         ensures sent { B.sent bench.new ≡ B.sent bench.old }
         ensures crash { (image : List ℕ) → B.leaves bench.new image → B.leaves bench.old image }
-        ensures untouched { B.told → IsQuiet (B.file bench.old) (B.leaves bench.old) → LeavesOnly B.moment B.since bench.old bench.new (IsUntouched (B.file bench.old) (B.sent bench.old)) }
+        ensures untouched { B.told → IsQuiet B.Bench bench.old → LeavesOnly B.Bench bench.old bench.new (IsUntouched (B.file bench.old) (B.sent bench.old)) }
         ensures failed { IsErrOf result BackFault.Failed → Rose (B.faults bench.old) (B.faults bench.new) }
         ensures later { B.faults bench.old ≤ B.faults bench.new }
     {

@@ -3,7 +3,7 @@ ghost use Rattle.std.specs.Prelude.{◌≡◌, ◌<◌, ◌≤◌, ◌+◌, ◌+
 ghost use Rattle.audit_types.specs.declared.records.Answered.{Answered};
 ghost use Rattle.audit_types.specs.History.{FitsShape};
 ghost use Rattle.bench_core.specs.Causes.{HasCause, Rose};
-ghost use Rattle.bench_core.specs.Bench.{IsQuiet, LeavesOnly};
+ghost use Rattle.bench_core.specs.Calls.{IsQuiet, LeavesOnly};
 ghost use Rattle.journal_form.specs.Journal.{StandsAt};
 ghost use Rattle.answer_journal.specs.Contents.{IsJournal, ReadyContents};
 ghost use Rattle.answer_journal.specs.Moments.{IsBeforeOrAfter};
@@ -113,12 +113,12 @@ impl Journal {
         requires stands { B.told → (history : List Answered) × StandsAt (B.file bench.old) self.old.shape history self.old.gate × (length history ≡ self.old.count) }
 
         // A crash at any moment of the call leaves the history before it, or that with the whole group.
-        ensures any_moment { (history : List Answered) → B.told → StandsAt (B.file bench.old) self.old.shape history self.old.gate → length history ≡ self.old.count → IsQuiet (B.file bench.old) (B.leaves bench.old)
-            → LeavesOnly B.moment B.since bench.old bench.new (IsBeforeOrAfter self.old.shape history ready.now.list (B.sent bench.old)) }
+        ensures any_moment { (history : List Answered) → B.told → StandsAt (B.file bench.old) self.old.shape history self.old.gate → length history ≡ self.old.count → IsQuiet B.Bench bench.old
+            → LeavesOnly B.Bench bench.old bench.new (IsBeforeOrAfter self.old.shape history ready.now.list (B.sent bench.old)) }
 
         ensures done { (history : List Answered) → B.told → StandsAt (B.file bench.old) self.old.shape history self.old.gate → length history ≡ self.old.count
             → OnOk result (StandsAt (B.file bench.new) self.new.shape (history ++ ready.now.list) self.new.gate) }
-        ensures quiet { B.told → OnOk result (IsQuiet (B.file bench.new) (B.leaves bench.new)) }
+        ensures quiet { B.told → OnOk result (IsQuiet B.Bench bench.new) }
         ensures sent { B.sent bench.new ≡ B.sent bench.old }
         ensures ticks { B.told → OnOk result (B.moment bench.new ≡ B.moment bench.old + 4) }
         ensures cause { HasCause (B.faults bench.old) (B.faults bench.new) result }
@@ -149,12 +149,12 @@ impl Journal {
         requires stands { B.told → (history : List Answered) × StandsAt (B.file bench.old) self.old.shape history self.old.gate × (length history ≡ self.old.count) }
 
         // A crash at any moment of the call leaves the history before it, or that with the whole group.
-        ensures any_moment { (history : List Answered) → B.told → StandsAt (B.file bench.old) self.old.shape history self.old.gate → length history ≡ self.old.count → IsQuiet (B.file bench.old) (B.leaves bench.old)
-            → LeavesOnly B.moment B.since bench.old bench.new (IsBeforeOrAfter self.old.shape history list.now (B.sent bench.old)) }
+        ensures any_moment { (history : List Answered) → B.told → StandsAt (B.file bench.old) self.old.shape history self.old.gate → length history ≡ self.old.count → IsQuiet B.Bench bench.old
+            → LeavesOnly B.Bench bench.old bench.new (IsBeforeOrAfter self.old.shape history list.now (B.sent bench.old)) }
 
         ensures done { (history : List Answered) → B.told → StandsAt (B.file bench.old) self.old.shape history self.old.gate → length history ≡ self.old.count
             → OnOk result (StandsAt (B.file bench.new) self.new.shape (history ++ list.now) self.new.gate) }
-        ensures quiet { B.told → OnOk result (IsQuiet (B.file bench.new) (B.leaves bench.new)) }
+        ensures quiet { B.told → OnOk result (IsQuiet B.Bench bench.new) }
         ensures sent { B.sent bench.new ≡ B.sent bench.old }
         ensures ticks { B.told → OnOk result (B.moment bench.new ≡ B.moment bench.old + 4) }
 

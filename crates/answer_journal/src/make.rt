@@ -2,7 +2,7 @@
 ghost use Rattle.std.specs.Prelude.{◌≡◌, ◌≢◌, ◌<◌, ◌≤◌, ℕ, List, [], ◌∷◌, ◌++◌, length, slice_index, IfOk, OnOk, OnErr, IsErr, IsErrOf};
 ghost use Rattle.audit_types.specs.Shapes.{IsShape};
 ghost use Rattle.bench_core.specs.Causes.{HasCause, Rose};
-ghost use Rattle.bench_core.specs.Bench.{IsQuiet, LeavesOnly};
+ghost use Rattle.bench_core.specs.Calls.{IsQuiet, LeavesOnly};
 ghost use Rattle.journal_form.specs.Journal.{StandsAt};
 ghost use Rattle.answer_journal.specs.Moments.{IsAlready, IsUnmadeOrEmpty, IsShort, IsFound, IsUntouched};
 
@@ -32,7 +32,7 @@ pub enum Found {
 
 fn look<B: Bench>(bench: &mut B) -> Result<Found, Failed>
     ensures found { B.told → IfOk result (λ what. IsFound what (B.file bench.old)) }
-    ensures untouched { B.told → IsQuiet (B.file bench.old) (B.leaves bench.old) → LeavesOnly B.moment B.since bench.old bench.new (IsUntouched (B.file bench.old) (B.sent bench.old)) }
+    ensures untouched { B.told → IsQuiet B.Bench bench.old → LeavesOnly B.Bench bench.old bench.new (IsUntouched (B.file bench.old) (B.sent bench.old)) }
     ensures file { B.file bench.new ≡ B.file bench.old }
     ensures sent { B.sent bench.new ≡ B.sent bench.old }
     ensures crash { (image : List ℕ) → B.leaves bench.new image → B.leaves bench.old image }
@@ -57,9 +57,9 @@ fn look<B: Bench>(bench: &mut B) -> Result<Found, Failed>
 // Closes the header gate of a file that is shorter than a journal.
 fn shut<B: Bench>(bench: &mut B) -> Result<(), Failed>
     requires { B.told → IsShort (B.file bench.old) }
-    ensures any_moment { B.told → IsQuiet (B.file bench.old) (B.leaves bench.old) → LeavesOnly B.moment B.since bench.old bench.new (λ image sent. (sent ≡ B.sent bench.old) × IsShort image) }
+    ensures any_moment { B.told → IsQuiet B.Bench bench.old → LeavesOnly B.Bench bench.old bench.new (λ image sent. (sent ≡ B.sent bench.old) × IsShort image) }
     ensures done { B.told → OnOk result (IsShort (B.file bench.new) × (0 < length (B.file bench.new)) × (slice_index (B.file bench.new) 0 ≡ 0)) }
-    ensures quiet { B.told → OnOk result (IsQuiet (B.file bench.new) (B.leaves bench.new)) }
+    ensures quiet { B.told → OnOk result (IsQuiet B.Bench bench.new) }
     ensures sent { B.sent bench.new ≡ B.sent bench.old }
     ensures cause { HasCause (B.faults bench.old) (B.faults bench.new) result }
 {
@@ -72,9 +72,9 @@ fn shut<B: Bench>(bench: &mut B) -> Result<(), Failed>
 fn open<B: Bench>(bench: &mut B, shape: &Shape) -> Result<(), Failed>
     requires shape { IsShape shape.now }
     requires closed { B.told → (0 < length (B.file bench.old)) × (slice_index (B.file bench.old) 0 ≢ 1) }
-    ensures any_moment { B.told → IsQuiet (B.file bench.old) (B.leaves bench.old) → LeavesOnly B.moment B.since bench.old bench.new (IsUnmadeOrEmpty shape.now (B.sent bench.old)) }
+    ensures any_moment { B.told → IsQuiet B.Bench bench.old → LeavesOnly B.Bench bench.old bench.new (IsUnmadeOrEmpty shape.now (B.sent bench.old)) }
     ensures done { B.told → OnOk result (StandsAt (B.file bench.new) shape.now [] 20) }
-    ensures quiet { B.told → OnOk result (IsQuiet (B.file bench.new) (B.leaves bench.new)) }
+    ensures quiet { B.told → OnOk result (IsQuiet B.Bench bench.new) }
     ensures sent { B.sent bench.new ≡ B.sent bench.old }
     ensures cause { HasCause (B.faults bench.old) (B.faults bench.new) result }
 {
@@ -87,9 +87,9 @@ fn open<B: Bench>(bench: &mut B, shape: &Shape) -> Result<(), Failed>
 fn make_short<B: Bench>(bench: &mut B, shape: &Shape) -> Result<(), Failed>
     requires shape { IsShape shape.now }
     requires short { B.told → IsShort (B.file bench.old) }
-    ensures any_moment { B.told → IsQuiet (B.file bench.old) (B.leaves bench.old) → LeavesOnly B.moment B.since bench.old bench.new (IsUnmadeOrEmpty shape.now (B.sent bench.old)) }
+    ensures any_moment { B.told → IsQuiet B.Bench bench.old → LeavesOnly B.Bench bench.old bench.new (IsUnmadeOrEmpty shape.now (B.sent bench.old)) }
     ensures done { B.told → OnOk result (StandsAt (B.file bench.new) shape.now [] 20) }
-    ensures quiet { B.told → OnOk result (IsQuiet (B.file bench.new) (B.leaves bench.new)) }
+    ensures quiet { B.told → OnOk result (IsQuiet B.Bench bench.new) }
     ensures sent { B.sent bench.new ≡ B.sent bench.old }
     ensures cause { HasCause (B.faults bench.old) (B.faults bench.new) result }
 {
@@ -106,12 +106,12 @@ impl Journal {
         // It is refused exactly where a journal or another file is there, and then nothing was written.
         ensures already { B.told → IsErrOf result MakeFault.AlreadyThere → IsAlready (B.file bench.old) × (B.file bench.new ≡ B.file bench.old) }
         ensures refused { B.told → IsAlready (B.file bench.old) → IsErr result }
-        ensures untouched { B.told → IsAlready (B.file bench.old) → IsQuiet (B.file bench.old) (B.leaves bench.old) → LeavesOnly B.moment B.since bench.old bench.new (IsUntouched (B.file bench.old) (B.sent bench.old)) }
+        ensures untouched { B.told → IsAlready (B.file bench.old) → IsQuiet B.Bench bench.old → LeavesOnly B.Bench bench.old bench.new (IsUntouched (B.file bench.old) (B.sent bench.old)) }
 
         // A crash at any moment leaves a file that isn't made, or the made one.
-        ensures any_moment { B.told → (IsAlready (B.file bench.old) → ⊥) → IsQuiet (B.file bench.old) (B.leaves bench.old) → LeavesOnly B.moment B.since bench.old bench.new (IsUnmadeOrEmpty shape.now (B.sent bench.old)) }
+        ensures any_moment { B.told → (IsAlready (B.file bench.old) → ⊥) → IsQuiet B.Bench bench.old → LeavesOnly B.Bench bench.old bench.new (IsUnmadeOrEmpty shape.now (B.sent bench.old)) }
         ensures done { B.told → OnOk result (StandsAt (B.file bench.new) shape.now [] 20) }
-        ensures quiet { B.told → OnOk result (IsQuiet (B.file bench.new) (B.leaves bench.new)) }
+        ensures quiet { B.told → OnOk result (IsQuiet B.Bench bench.new) }
         ensures sent { B.sent bench.new ≡ B.sent bench.old }
         ensures failed { IsErrOf result MakeFault.Failed → Rose (B.faults bench.old) (B.faults bench.new) }
         ensures later { B.faults bench.old ≤ B.faults bench.new }

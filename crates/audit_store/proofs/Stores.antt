@@ -6,7 +6,8 @@ use Rattle.audit_types.specs.declared.records.Answered.{Answered}
 use Rattle.audit_types.specs.History.{IsLegal, setting_of}
 use Rattle.audit_core.specs.Audited.{Audited}
 use Rattle.table_load.specs.Cells.{SecretView, IsSecret}
-use Rattle.bench_core.specs.Bench.{LeavesOnly}
+use Rattle.bench_core.specs.declared.bench.Bench.{Ghosts}
+use Rattle.bench_core.specs.Calls.{LeavesOnly}
 use Rattle.answer_journal.specs.Contents.{JournalContents}
 use Rattle.answer_journal.specs.Moments.{IsBeforeOrAfter}
 use Rattle.audit_store.specs.Outcomes.{IsOutcome, record_of}
@@ -36,14 +37,14 @@ all_released secret core history released core_is released_is =
     )
 
 -- what a crash finds while the one question of a group is decided and kept
-pub keeps_the_one : {D : Type 0} (moment : D → ℕ) (since : D → ℕ → List ℕ → List ℕ → Type 0) (before after : D) (secret : SecretView) (history : List Answered) (asked : Asked) (questions : List Asked) (sent : List ℕ)
-    → length questions ≡ 1 → asked ≡ get_or questions 0 asked → KeepsOne moment since before after secret history asked sent → Keeps moment since before after secret history questions sent
-keeps_the_one moment since before after secret history asked [] sent one is keeps = absurd (omega arith)
-keeps_the_one moment since before after secret history asked (a ∷ b ∷ questions) sent one is keeps = absurd (omega arith)
-keeps_the_one moment since before after secret history asked (a ∷ []) sent one is keeps = record {
+pub keeps_the_one : {D : Type 0} (bench : Ghosts D) (before after : D) (secret : SecretView) (history : List Answered) (asked : Asked) (questions : List Asked) (sent : List ℕ)
+    → length questions ≡ 1 → asked ≡ get_or questions 0 asked → KeepsOne bench before after secret history asked sent → Keeps bench before after secret history questions sent
+keeps_the_one bench before after secret history asked [] sent one is keeps = absurd (omega arith)
+keeps_the_one bench before after secret history asked (a ∷ b ∷ questions) sent one is keeps = absurd (omega arith)
+keeps_the_one bench before after secret history asked (a ∷ []) sent one is keeps = record {
   outcomes = keeps.outcome ∷ [];
   due = (subst (λ (q : Asked). IsOutcome (table_of secret) history q keeps.outcome) is keeps.due, tt);
-  moments = subst (λ (list : List Answered). LeavesOnly moment since before after (IsBeforeOrAfter secret.shape history list sent)) (ap (λ (q : Asked). record_of q keeps.outcome) is ∙ sym (append-nil (record_of a keeps.outcome))) keeps.moments;
+  moments = subst (λ (list : List Answered). LeavesOnly bench before after (IsBeforeOrAfter secret.shape history list sent)) (ap (λ (q : Asked). record_of q keeps.outcome) is ∙ sym (append-nil (record_of a keeps.outcome))) keeps.moments;
 }
 
 -- while a store is usable the records of its core are its history

@@ -5,7 +5,8 @@ use Rattle.audit_types.specs.declared.records.Answered.{Answered}
 use Rattle.audit_types.specs.History.{Table, IsLegal, setting_of}
 use Rattle.audit_core.specs.Audited.{Audited}
 use Rattle.table_load.specs.Cells.{SecretView, IsSecret}
-use Rattle.bench_core.specs.Bench.{LeavesOnly}
+use Rattle.bench_core.specs.declared.bench.Bench.{Ghosts}
+use Rattle.bench_core.specs.Calls.{LeavesOnly}
 use Rattle.journal_form.specs.Journal.{StandsAt}
 use Rattle.answer_journal.specs.Contents.{JournalContents}
 use Rattle.answer_journal.specs.Moments.{IsBeforeOrAfter}
@@ -44,13 +45,13 @@ IsAsLeft file store = StandsAt file store.secret.shape store.history store.journ
 
 -- what a crash finds while a group of questions is decided and kept: nothing was sent, and the image stands for the
 -- history before the group or for that with the group's records
-pub record Keeps {D : Type 0} (moment : D → ℕ) (since : D → ℕ → List ℕ → List ℕ → Type 0) (before after : D) (secret : SecretView) (history : List Answered) (questions : List Asked) (sent : List ℕ) : Type 0 where
+pub record Keeps {D : Type 0} (bench : Ghosts D) (before after : D) (secret : SecretView) (history : List Answered) (questions : List Asked) (sent : List ℕ) : Type 0 where
   pub outcomes : List Outcome
   pub due : AreOutcomes (table_of secret) history questions outcomes
-  pub moments : LeavesOnly moment since before after (IsBeforeOrAfter secret.shape history (records_of questions outcomes) sent)
+  pub moments : LeavesOnly bench before after (IsBeforeOrAfter secret.shape history (records_of questions outcomes) sent)
 
 -- what a crash finds while one question is decided and its answer kept
-pub record KeepsOne {D : Type 0} (moment : D → ℕ) (since : D → ℕ → List ℕ → List ℕ → Type 0) (before after : D) (secret : SecretView) (history : List Answered) (asked : Asked) (sent : List ℕ) : Type 0 where
+pub record KeepsOne {D : Type 0} (bench : Ghosts D) (before after : D) (secret : SecretView) (history : List Answered) (asked : Asked) (sent : List ℕ) : Type 0 where
   pub outcome : Outcome
   pub due : IsOutcome (table_of secret) history asked outcome
-  pub moments : LeavesOnly moment since before after (IsBeforeOrAfter secret.shape history (record_of asked outcome) sent)
+  pub moments : LeavesOnly bench before after (IsBeforeOrAfter secret.shape history (record_of asked outcome) sent)

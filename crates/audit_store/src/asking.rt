@@ -4,7 +4,7 @@ ghost use Rattle.audit_types.specs.declared.records.Verdict.TheVariants.{Release
 ghost use Rattle.audit_types.specs.Judgement.{IsWithinWidth};
 ghost use Rattle.audit_types.specs.History.{FitsShape, IsLegal, IsDecisionAfter, known_of, setting_of};
 ghost use Rattle.bench_core.specs.Causes.{Rose};
-ghost use Rattle.bench_core.specs.Bench.{IsQuiet, LeavesOnly};
+ghost use Rattle.bench_core.specs.Calls.{IsQuiet, LeavesOnly};
 ghost use Rattle.journal_form.specs.Journal.{StandsAt};
 ghost use Rattle.answer_journal.specs.Moments.{IsBeforeOrAfter};
 ghost use Rattle.audit_store.specs.Outcomes.{IsOutcome, record_of};
@@ -67,10 +67,10 @@ pub fn keep<B: Bench>(
     ensures usable { OnOk result (journal.new.usable ≡ true) }
     ensures counted { OnOk result (journal.new.count ≡ length core.old.history + 1) }
 
-    ensures any_moment { B.told → IsQuiet (B.file bench.old) (B.leaves bench.old) → (IsErrOf result StoreFault.NoMemory → ⊥)
-        → LeavesOnly B.moment B.since bench.old bench.new (IsBeforeOrAfter journal.old.shape core.old.history (answered.now ∷ []) (B.sent bench.old)) }
+    ensures any_moment { B.told → IsQuiet B.Bench bench.old → (IsErrOf result StoreFault.NoMemory → ⊥)
+        → LeavesOnly B.Bench bench.old bench.new (IsBeforeOrAfter journal.old.shape core.old.history (answered.now ∷ []) (B.sent bench.old)) }
     ensures done { B.told → OnOk result (StandsAt (B.file bench.new) journal.old.shape (core.old.history ++ answered.now ∷ []) journal.new.gate) }
-    ensures quiet { B.told → OnOk result (IsQuiet (B.file bench.new) (B.leaves bench.new)) }
+    ensures quiet { B.told → OnOk result (IsQuiet B.Bench bench.new) }
     ensures sent { B.sent bench.new ≡ B.sent bench.old }
     ensures ticks { B.told → OnOk result (B.moment bench.new ≡ B.moment bench.old + 4) }
     ensures no_memory { IsErrOf result StoreFault.NoMemory → bench.new ≡ bench.old }
@@ -118,12 +118,12 @@ pub fn settle<B: Bench>(
     ensures usable { OnOk result (journal.new.usable ≡ true) }
     ensures counted { OnOk result (journal.new.count ≡ length core.new.history) }
 
-    ensures any_moment { B.told → IsQuiet (B.file bench.old) (B.leaves bench.old) → (IsErrOf result StoreFault.NoMemory → ⊥)
-        → KeepsOne B.moment B.since bench.old bench.new secret.now core.old.history asked.now (B.sent bench.old) }
-    ensures moments { B.told → IsQuiet (B.file bench.old) (B.leaves bench.old)
-        → IfOk result (λ outcome. LeavesOnly B.moment B.since bench.old bench.new (IsBeforeOrAfter secret.now.shape core.old.history (record_of asked.now outcome) (B.sent bench.old))) }
+    ensures any_moment { B.told → IsQuiet B.Bench bench.old → (IsErrOf result StoreFault.NoMemory → ⊥)
+        → KeepsOne B.Bench bench.old bench.new secret.now core.old.history asked.now (B.sent bench.old) }
+    ensures moments { B.told → IsQuiet B.Bench bench.old
+        → IfOk result (λ outcome. LeavesOnly B.Bench bench.old bench.new (IsBeforeOrAfter secret.now.shape core.old.history (record_of asked.now outcome) (B.sent bench.old))) }
     ensures stands { B.told → OnOk result (StandsAt (B.file bench.new) secret.now.shape core.new.history journal.new.gate) }
-    ensures quiet { B.told → IsQuiet (B.file bench.old) (B.leaves bench.old) → OnOk result (IsQuiet (B.file bench.new) (B.leaves bench.new)) }
+    ensures quiet { B.told → IsQuiet B.Bench bench.old → OnOk result (IsQuiet B.Bench bench.new) }
     ensures sent { B.sent bench.new ≡ B.sent bench.old }
     ensures ticks { B.told → IfOk result (λ outcome. B.moment bench.new ≡ B.moment bench.old + 4 * length (record_of asked.now outcome)) }
     ensures unasked { IfOk result (λ outcome. record_of asked.now outcome ≡ [] → bench.new ≡ bench.old) }

@@ -3,7 +3,7 @@ ghost use Rattle.std.specs.Prelude.{◌≡◌, ◌≤◌, ◌+◌, ◌*◌, ◌+
 ghost use Rattle.audit_types.specs.declared.records.Answered.{Answered};
 ghost use Rattle.audit_types.specs.History.{FitsShape, IsLegal, setting_of};
 ghost use Rattle.bench_core.specs.Causes.{Rose};
-ghost use Rattle.bench_core.specs.Bench.{IsQuiet, LeavesOnly};
+ghost use Rattle.bench_core.specs.Calls.{IsQuiet, LeavesOnly};
 ghost use Rattle.journal_form.specs.Journal.{StandsFor};
 ghost use Rattle.answer_journal.specs.Moments.{IsBeforeOrAfter, IsUntouched};
 ghost use Rattle.audit_store.specs.Outcomes.{AreOutcomes, records_of};
@@ -101,7 +101,7 @@ impl Store {
         ensures file { B.file bench.new ≡ B.file bench.old }
         ensures sent { B.sent bench.new ≡ B.sent bench.old }
         ensures crash { (image : List ℕ) → B.leaves bench.new image → B.leaves bench.old image }
-        ensures untouched { B.told → IsQuiet (B.file bench.old) (B.leaves bench.old) → LeavesOnly B.moment B.since bench.old bench.new (IsUntouched (B.file bench.old) (B.sent bench.old)) }
+        ensures untouched { B.told → IsQuiet B.Bench bench.old → LeavesOnly B.Bench bench.old bench.new (IsUntouched (B.file bench.old) (B.sent bench.old)) }
         ensures failed { IsErrOf result StartFault.Failed → Rose (B.faults bench.old) (B.faults bench.new) }
         ensures later { B.faults bench.old ≤ B.faults bench.new }
     {
@@ -139,11 +139,11 @@ impl Store {
 
         // A crash at any moment leaves the history before, or that with the records of the group; where outcomes are given,
         // with theirs. A group that makes no record leaves the bench as it was, any other takes four calls.
-        ensures any_moment { B.told → IsQuiet (B.file bench.old) (B.leaves bench.old) → (IsErrOf result StoreFault.NoMemory → ⊥)
-            → Keeps B.moment B.since bench.old bench.new self.old.secret self.old.history asked.now (B.sent bench.old) }
-        ensures moments { B.told → IsQuiet (B.file bench.old) (B.leaves bench.old)
-            → IfOk result (λ v. LeavesOnly B.moment B.since bench.old bench.new (IsBeforeOrAfter self.old.secret.shape self.old.history (records_of asked.now v.items) (B.sent bench.old))) }
-        ensures quiet { B.told → IsQuiet (B.file bench.old) (B.leaves bench.old) → OnOk result (IsQuiet (B.file bench.new) (B.leaves bench.new)) }
+        ensures any_moment { B.told → IsQuiet B.Bench bench.old → (IsErrOf result StoreFault.NoMemory → ⊥)
+            → Keeps B.Bench bench.old bench.new self.old.secret self.old.history asked.now (B.sent bench.old) }
+        ensures moments { B.told → IsQuiet B.Bench bench.old
+            → IfOk result (λ v. LeavesOnly B.Bench bench.old bench.new (IsBeforeOrAfter self.old.secret.shape self.old.history (records_of asked.now v.items) (B.sent bench.old))) }
+        ensures quiet { B.told → IsQuiet B.Bench bench.old → OnOk result (IsQuiet B.Bench bench.new) }
         ensures sent { B.sent bench.new ≡ B.sent bench.old }
         ensures ticks { B.told → IfOk result (λ v. B.moment bench.new ≡ B.moment bench.old + 4 * length (records_of asked.now v.items)) }
         ensures unasked { IfOk result (λ v. records_of asked.now v.items ≡ [] → bench.new ≡ bench.old) }

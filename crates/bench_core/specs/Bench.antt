@@ -21,10 +21,6 @@ pub record Torn (at count : ℕ) (old new : List ℕ) : Type 0 where
 abbrev pub Follows : (List ℕ → List ℕ → Type 0) → (List ℕ → Type 0) → (List ℕ → Type 0) → Type 0
 Follows step old new = (image : List ℕ) → new image → (before : List ℕ) × old before × step before image
 
--- a crash leaves this file and nothing else
-abbrev pub IsQuiet : List ℕ → (List ℕ → Type 0) → Type 0
-IsQuiet file leaves = (image : List ℕ) → leaves image → image ≡ file
-
 -- what a crash in a call on the file finds: the image, and what was sent before
 abbrev pub Unsent : (List ℕ → Type 0) → List ℕ → List ℕ → List ℕ → Type 0
 Unsent leaves before image sent = leaves image × (sent ≡ before)
@@ -38,10 +34,3 @@ pub record Elapses (before now : ℕ) (past since : ℕ → List ℕ → List �
   pub later : before ≤ now
   pub nothing_else : (t : ℕ) (image sent : List ℕ) → t ≤ before → since t image sent → past t image sent ⊎ within image sent
   pub keeps : (t : ℕ) (image sent : List ℕ) → t ≤ before → past t image sent → since t image sent
-
--- each pair at a moment since old has P
-pub record LeavesOnly {D : Type 0} (moment : D → ℕ) (since : D → ℕ → List ℕ → List ℕ → Type 0) (old new : D) (P : List ℕ → List ℕ → Type 0) : Type 0 where
-  pub later : moment old ≤ moment new
-  pub each : (image sent : List ℕ) → since new (moment old) image sent → P image sent
-  -- for a call that began earlier
-  pub before : (t : ℕ) (image sent : List ℕ) → t ≤ moment old → since new t image sent → since old t image sent ⊎ P image sent

@@ -2,6 +2,7 @@ pub mod Causes
 pub mod Source
 pub mod Crash
 pub mod Bench
+pub mod Calls
 pub mod Moments
 pub mod Machine
 pub mod MachineLaws

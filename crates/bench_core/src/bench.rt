@@ -1,7 +1,7 @@
 //! The journal's file, and where replies go.
 ghost use Rattle.std.specs.Prelude.{◌≡◌, ◌≤◌, ◌+◌, ◌-◌, ◌++◌, List, ℕ, length, take, drop, min, IfOk, OnOk, OnErr};
 ghost use Rattle.bench_core.specs.Causes.{HasCause};
-ghost use Rattle.bench_core.specs.Bench.{AppendsFront, Holds, Torn, Follows, IsQuiet, Unsent, Sending, Elapses};
+ghost use Rattle.bench_core.specs.Bench.{AppendsFront, Holds, Torn, Follows, Unsent, Sending, Elapses};
 
 use crate::Failed;
 
@@ -65,7 +65,7 @@ pub trait Bench {
 
     /// After it, a crash leaves what a read gives.
     fn sync(&mut self) -> Result<(), Failed>
-        ensures stable { told → OnOk result (IsQuiet (file self.old) (leaves self.new)) }
+        ensures stable { told → OnOk result ((image : List ℕ) → leaves self.new image → image ≡ file self.old) }
         ensures file { file self.new ≡ file self.old }
         ensures sent { sent self.new ≡ sent self.old }
         ensures crash { (image : List ℕ) → leaves self.new image → leaves self.old image }

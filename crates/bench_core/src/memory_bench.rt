@@ -1,7 +1,7 @@
 //! A bench in memory that fails at stated calls, and where its room is full.
 ghost use Rattle.std.specs.Prelude.{◌≡◌, ◌≢◌, ◌↔◌, ◌⊎◌, ◌<◌, ◌≤◌, ◌+◌, ◌-◌, ◌/◌, ◌^◌, ◌++◌, ◌∷◌, [], List, ℕ, length, IfOk, IsErr, OnErr, OnOk, IsTrue, min, take, drop, None, Some, false};
 ghost use Rattle.bench_core.specs.Causes.{HasCause, next_count};
-ghost use Rattle.bench_core.specs.Bench.{AppendsFront, Holds, Torn, Follows, IsQuiet, Unsent, Sending, Elapses};
+ghost use Rattle.bench_core.specs.Bench.{AppendsFront, Holds, Torn, Follows, Unsent, Sending, Elapses};
 ghost use Rattle.bench_core.specs.Machine.{wrote, unwritten, synced, sending, other, written};
 ghost use Rattle.bench_core.specs.BenchContents.{state_of, file_of, sent_of, IsTornFile, may_leave, found_since, call_fails, send_fails, write_fails, is_stopped, passed, failed, failed_write, failed_send};
 
@@ -384,7 +384,7 @@ impl Bench for MemoryBench {
     }
 
     fn sync(&mut self) -> Result<(), Failed>
-        ensures stable { Unit {0} → OnOk result (IsQuiet (file_of self.old) (may_leave self.new)) }
+        ensures stable { Unit {0} → OnOk result ((image : List ℕ) → may_leave self.new image → image ≡ file_of self.old) }
         ensures file { file_of self.new ≡ file_of self.old }
         ensures sent { sent_of self.new ≡ sent_of self.old }
         ensures crash { (image : List ℕ) → may_leave self.new image → may_leave self.old image }

@@ -1,6 +1,6 @@
 use Rattle.std.proofs.Common.{ap, subst, ◌∙◌}
 use Rattle.std.proofs.lemmas.Result.{on_ok_weaker}
-use Rattle.bench_core.specs.Bench.{LeavesOnly}
+use Rattle.bench_core.specs.Calls.{LeavesOnly}
 use Rattle.journal_form.specs.Header.{IsWholeShape}
 use Rattle.answer_journal.specs.Append.{Appending, appended}
 use Rattle.answer_journal.proofs.Makes.{header_behind, opened, opening_moments}
@@ -13,8 +13,8 @@ returns-clause-any_moment g c = λ told quiet.
     let sent = g.B.Bench.sent c.args.bench.now in
     let closed = c.requires.closed told in
     let shaped : IsWholeShape shape = c.write_header.ensures.whole in
-    opening_moments file shape shaped closed.0 closed.1 g.B.Bench.moment g.B.Bench.since c.args.bench.now c.append_bytes.new.bench sent
-    (subst (λ group. LeavesOnly g.B.Bench.moment g.B.Bench.since c.args.bench.now c.append_bytes.new.bench (Appending 0 group file sent)) (header_behind shape c.write_header.new.out shaped.eight c.write_header.ensures.bytes) (c.append_bytes.ensures.any_moment told quiet))
+    opening_moments file shape shaped closed.0 closed.1 g.B.Bench c.args.bench.now c.append_bytes.new.bench sent
+    (subst (λ group. LeavesOnly g.B.Bench c.args.bench.now c.append_bytes.new.bench (Appending 0 group file sent)) (header_behind shape c.write_header.new.out shaped.eight c.write_header.ensures.bytes) (c.append_bytes.ensures.any_moment told quiet))
 
 pub returns-clause-done : goal.returns-clause-done
 returns-clause-done g c = λ told.

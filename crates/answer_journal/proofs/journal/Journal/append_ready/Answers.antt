@@ -13,7 +13,7 @@ returns-in_err-append_bytes-clause-any_moment g c = λ history told stands count
     let gate : c.self.inside.gate ≡ c.args.self.now.gate = ap (λ (j : JournalContents). j.gate) c.self.view_is in
     let here = subst (λ (k : ℕ). StandsAt file shape history k) (sym gate) stands in
     let room : length history + length list ≤ 65536 = omega (arith, counted, c.requires.few) in
-    at_every_moment file c.bytes-bytes.result.now shape c.args.ready.now.shape history list c.self.inside.gate here c.bytes-bytes.ensures c.requires.shape room g.B.Bench.moment g.B.Bench.since c.args.bench.now c.append_bytes.new.bench sent (c.append_bytes.ensures.any_moment told quiet)
+    at_every_moment file c.bytes-bytes.result.now shape c.args.ready.now.shape history list c.self.inside.gate here c.bytes-bytes.ensures c.requires.shape room g.B.Bench c.args.bench.now c.append_bytes.new.bench sent (c.append_bytes.ensures.any_moment told quiet)
 
 pub returns-clause-any_moment : goal.returns-clause-any_moment
 returns-clause-any_moment g c = λ history told stands counted quiet.
@@ -24,7 +24,7 @@ returns-clause-any_moment g c = λ history told stands counted quiet.
     let gate : c.self.inside.gate ≡ c.args.self.now.gate = ap (λ (j : JournalContents). j.gate) c.self.view_is in
     let here = subst (λ (k : ℕ). StandsAt file shape history k) (sym gate) stands in
     let room : length history + length list ≤ 65536 = omega (arith, counted, c.requires.few) in
-    at_every_moment file c.bytes-bytes.result.now shape c.args.ready.now.shape history list c.self.inside.gate here c.bytes-bytes.ensures c.requires.shape room g.B.Bench.moment g.B.Bench.since c.args.bench.now c.append_bytes.new.bench sent (c.append_bytes.ensures.any_moment told quiet)
+    at_every_moment file c.bytes-bytes.result.now shape c.args.ready.now.shape history list c.self.inside.gate here c.bytes-bytes.ensures c.requires.shape room g.B.Bench c.args.bench.now c.append_bytes.new.bench sent (c.append_bytes.ensures.any_moment told quiet)
 
 pub returns-clause-done : goal.returns-clause-done
 returns-clause-done g c = λ history told stands counted.

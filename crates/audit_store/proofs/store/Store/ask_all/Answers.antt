@@ -15,9 +15,9 @@ returns-in-Ok-settle-clause-any_moment g c = λ told quiet some.
     let sent = g.B.Bench.sent c.args.bench.now in
     let bench = c.args.bench.now in
     let one = c.in-Ok-settle.ensures.any_moment told quiet (given_or_failed c.in-Ok-settle.outcome NoMemory) in
-    let here = subst (λ (h : List Answered). KeepsOne g.B.Bench.moment g.B.Bench.since bench c.settle.new.bench c.self.inside.secret h c.index-asked-0.result sent) history one in
-    let there = subst (λ (s : SecretView). KeepsOne g.B.Bench.moment g.B.Bench.since bench c.settle.new.bench s old.history c.index-asked-0.result sent) secret here in
-    keeps_the_one g.B.Bench.moment g.B.Bench.since bench c.settle.new.bench old.secret old.history c.index-asked-0.result c.args.asked.now sent c.requires.one c.index-asked-0.is there
+    let here = subst (λ (h : List Answered). KeepsOne g.B.Bench bench c.settle.new.bench c.self.inside.secret h c.index-asked-0.result sent) history one in
+    let there = subst (λ (s : SecretView). KeepsOne g.B.Bench bench c.settle.new.bench s old.history c.index-asked-0.result sent) secret here in
+    keeps_the_one g.B.Bench bench c.settle.new.bench old.secret old.history c.index-asked-0.result c.args.asked.now sent c.requires.one c.index-asked-0.is there
 
 pub returns-in-Err-settle-clause-any_moment : goal.returns-in-Err-settle-clause-any_moment
 returns-in-Err-settle-clause-any_moment g c = λ told quiet some.
@@ -28,6 +28,6 @@ returns-in-Err-settle-clause-any_moment g c = λ told quiet some.
     let sent = g.B.Bench.sent c.args.bench.now in
     let bench = c.args.bench.now in
     let one = c.in-Err-settle.ensures.any_moment told quiet (other_error c.in-Err-settle.refusal NoMemory some) in
-    let here = subst (λ (h : List Answered). KeepsOne g.B.Bench.moment g.B.Bench.since bench c.settle.new.bench c.self.inside.secret h c.index-asked-0.result sent) history one in
-    let there = subst (λ (s : SecretView). KeepsOne g.B.Bench.moment g.B.Bench.since bench c.settle.new.bench s old.history c.index-asked-0.result sent) secret here in
-    keeps_the_one g.B.Bench.moment g.B.Bench.since bench c.settle.new.bench old.secret old.history c.index-asked-0.result c.args.asked.now sent c.requires.one c.index-asked-0.is there
+    let here = subst (λ (h : List Answered). KeepsOne g.B.Bench bench c.settle.new.bench c.self.inside.secret h c.index-asked-0.result sent) history one in
+    let there = subst (λ (s : SecretView). KeepsOne g.B.Bench bench c.settle.new.bench s old.history c.index-asked-0.result sent) secret here in
+    keeps_the_one g.B.Bench bench c.settle.new.bench old.secret old.history c.index-asked-0.result c.args.asked.now sent c.requires.one c.index-asked-0.is there
