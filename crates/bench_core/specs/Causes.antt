@@ -1,5 +1,5 @@
 -- Why a call may answer that it failed.
-use Rattle.std.specs.Prelude.{ℕ, ◌+◌, ◌-◌, ◌^◌, ◌≤◌, min, Result, OnErr}
+use Rattle.std.specs.Prelude.{◌≡◌, ℕ, ◌+◌, ◌-◌, ◌^◌, ◌≤◌, min, Result, OnOk, OnErr}
 
 -- one more, or the same at the type's end
 abbrev pub next_count : ℕ → ℕ
@@ -9,7 +9,8 @@ next_count count = min (count + 1) (2 ^ 64 - 1)
 abbrev pub Rose : ℕ → ℕ → Type 0
 Rose before now = next_count before ≤ now
 
--- the count of faults hasn't fallen, and has risen where the call failed
+-- the count of faults has risen where the call failed, and is as it was where it didn't
 pub record HasCause {T E : Type 0} (before now : ℕ) (result : Result T E) : Type 0 where
   pub later : before ≤ now
   pub failed : OnErr result (Rose before now)
+  pub steady : OnOk result (now ≡ before)

@@ -1,8 +1,8 @@
 //! The outside of the auditor: where bytes come from, and where replies go.
 //!
 //! `Source` and `Bench` are the two traits that everything above reads and sends through. An object whose kind doesn't
-//! tell its content, as a file, promises nothing of it; an object in memory promises all. A call answers `Failed` only
-//! where the object's count of faults rose (`cause`).
+//! tell its content, as a file, promises nothing of it; an object in memory promises all. A call answers `Failed`
+//! exactly where the object's count of faults rose, unless that stands at its type's end (`cause`).
 #![tactic(auto)]
 
 mod bench;

@@ -3,7 +3,7 @@ ghost use Rattle.std.specs.Prelude.{◌≡◌, ◌<◌, ◌≤◌, ◌^◌, List
 ghost use Rattle.bench_core.specs.Causes.{HasCause};
 ghost use Rattle.bench_core.specs.Source.{Reads};
 
-/// A call of the outside failed. The count of faults of the object that was called has risen.
+/// A call of the outside failed. The count of faults of the object that was called has risen, as it does at no other answer.
 #[derive(Clone, Copy, Debug, PartialEq, Eq)]
 pub struct Failed;
 
