@@ -4,13 +4,13 @@ use Rattle.std.specs.Prelude.{slice_set}
 use Rattle.std.specs.List.{filter}
 use Rattle.std.proofs.lemmas.Bool.{eq-eqb, ne_eqb}
 use Rattle.std.proofs.lemmas.List.{append-nil, length-set, map-append}
-use Rattle.std.proofs.lemmas.List.Elements.{filter-append}
+use Rattle.std.proofs.lemmas.List.Elements.{All-push, filter-append}
 use Rattle.std.proofs.lemmas.Option.{none-some, slice_get_read}
 use Rattle.audit_types.specs.declared.shapes.Shape.{Shape}
 use Rattle.audit_types.specs.declared.records.Answered.{Answered}
 use Rattle.audit_types.specs.Shapes.{columns, kind_at}
 use Rattle.audit_types.specs.Column.{Known, Answer, with_answer}
-use Rattle.audit_types.specs.History.{answers_of, answer_in, known_of, setting_of}
+use Rattle.audit_types.specs.History.{FitsShape, answers_of, answer_in, known_of, setting_of}
 use Rattle.audit_core.specs.declared.column.Column.{Column}
 use Rattle.audit_core.specs.Columns.{AreColumnsAfter, IsCore, known_in, known_at_first}
 use Rattle.audit_core.proofs.OwnAnswers.{led_by, answers_of-cons}
@@ -57,8 +57,8 @@ module _ (shape : Shape) (history : List Answered) (r : Answered) where
 
   -- where the record's own column takes its answer, the columns are those after it
   pub record_taken : (list : List Column) (old new : Column) → IsCore shape list history → r.column < columns shape → old ≡ get_or list r.column old →
-      known_in new ≡ with_answer (known_in old) r.rows.list r.answer → IsCore shape (slice_set list r.column new) (history ++ r ∷ [])
-  record_taken list old new core below reads takes =
+      known_in new ≡ with_answer (known_in old) r.rows.list r.answer → FitsShape shape r.column r.rows → IsCore shape (slice_set list r.column new) (history ++ r ∷ [])
+  record_taken list old new core below reads takes fits =
       let known = column_at shape history (columns shape) list r.column old core.columns_after below reads in
       record {
         valid = core.valid;
@@ -71,4 +71,5 @@ module _ (shape : Shape) (history : List Answered) (r : Answered) where
             | inr (apart, old_there) ↦ core.columns_after.each place column old_there ∙ sym (other_column place apart)
           ];
         };
+        fit = All-push (λ (a : Answered). FitsShape shape a.column a.rows) history r core.fit fits;
       }

@@ -1,12 +1,12 @@
 -- What each column of a core knows.
-use Rattle.std.specs.Prelude.{◌≡◌, ℕ, List, [], length, slice_get, Some}
+use Rattle.std.specs.Prelude.{◌≡◌, ℕ, List, [], length, slice_get, Some, All}
 use Rattle.audit_types.specs.declared.shapes.Kind.{Kind}
 use Rattle.audit_types.specs.declared.shapes.Kind.TheVariants.{Sum, Max}
 use Rattle.audit_types.specs.declared.shapes.Shape.{Shape}
 use Rattle.audit_types.specs.declared.records.Answered.{Answered}
 use Rattle.audit_types.specs.Shapes.{IsShape, columns, kind_at}
 use Rattle.audit_types.specs.Column.{Known}
-use Rattle.audit_types.specs.History.{answers_of, known_of, setting_of}
+use Rattle.audit_types.specs.History.{FitsShape, answers_of, known_of, setting_of}
 use Rattle.audit_core.specs.declared.column.Column.{Column}
 use Rattle.audit_core.specs.declared.column.Column.TheVariants.{Sum as SumColumn, Max as MaxColumn}
 use Rattle.audit_core.specs.declared.column.ColumnRef.{ColumnRef}
@@ -31,6 +31,7 @@ pub record AreColumnsAfter (shape : Shape) (history : List Answered) (count : �
 pub record IsCore (shape : Shape) (list : List Column) (history : List Answered) : Type 0 where
   pub valid : IsShape shape
   pub columns_after : AreColumnsAfter shape history (columns shape) list
+  pub fit : All (λ r. FitsShape shape r.column r.rows) history
 
 -- the kind of a column, the rows of the table, and the answers of the column's part of the history
 pub record HasItsPart (audited : Audited) (place : ℕ) (kind : Kind) (known : Known) : Type 0 where

@@ -1,3 +1,4 @@
 pub mod Audited
 pub mod Columns
 pub mod Laws
+pub mod Outcomes

@@ -1,5 +1,5 @@
 //! All secret columns and their history.
-ghost use Rattle.std.specs.Prelude.{◌≡◌, ◌<◌, ◌++◌, [], ◌∷◌, IfOk, OnOk, OnErr};
+ghost use Rattle.std.specs.Prelude.{◌≡◌, ◌<◌, ◌++◌, [], ◌∷◌, All, IfOk, OnOk, OnErr};
 ghost use Rattle.audit_types.specs.Shapes.{IsShape, columns};
 ghost use Rattle.audit_types.specs.Judgement.{IsWithinWidth};
 ghost use Rattle.audit_types.specs.History.{FitsShape, IsPossibleHistory, IsDecisionAfter, IsJudgementAfter, known_of, setting_of};
@@ -39,7 +39,7 @@ fn first_columns(alloc: Global, shape: &Shape) -> Result<Vec<Column>, NoMemory>
     let mut list = Vec::new(alloc);
     for place in 0..shape.columns() {
         let column = Column::new(alloc, shape.kind(place), shape.rows)?;
-        list.push(column).map_err(|_| NoMemory)?;
+        list.push(column)?;
     }
     Ok(list)
 }
@@ -75,8 +75,8 @@ impl Core {
         ensures ok { OnOk result (self.new ≡ record self.old { history = self.old.history ++ answered.now ∷ [] }) }
         ensures err { OnErr result (self.new ≡ self.old) }
     {
-        // Room first, so that nothing can fail behind the column's own step.
-        self.history.reserve(1).map_err(|_| NoMemory)?;
+        // Room first, so that nothing can fail after the column's own step.
+        self.history.reserve(1)?;
         self.columns[answered.column as usize].accept(&answered.rows, answered.answer)?;
         self.history.push_reserved(*answered);
         Ok(())
@@ -84,7 +84,8 @@ impl Core {
 
     /// The records, in order.
     pub fn history(&self) -> &[Answered]
-        ensures { result.now ≡ self.now.history }
+        ensures is { result.now ≡ self.now.history }
+        ensures fit { All (λ r. FitsShape self.now.setting.shape r.column r.rows) result.now }
     {
         &self.history
     }

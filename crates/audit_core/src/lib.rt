@@ -7,9 +7,11 @@
 mod all_columns;
 mod column;
 pub mod laws;
+mod outcome;
 
 pub use all_columns::Core;
 pub use column::ColumnRef;
+pub use outcome::Outcome;
 
 #[cfg(test)]
 mod tests;

@@ -9,7 +9,8 @@ use Rattle.line_wire.specs.Cutter.{TakesLine, StopsAt}
 use Rattle.line_wire.proofs.LineLaws.{whole-piece}
 use Rattle.audit_session.specs.Session.{Replied, records_of, bytes_of, AreReplies, groups}
 use Rattle.audit_session.specs.Stops.{StopsBehind}
-use Rattle.audit_session.specs.Replies.{Database, IsDue}
+use Rattle.audit_session.specs.Replies.{IsDue}
+use Rattle.table_load.specs.Database.{Database}
 use Rattle.audit_session.specs.Deciding.{Answers, Answering}
 use Rattle.audit_session.specs.Ends.{Serves, ServesWhole, ServesSome, ServesLimited, limited}
 use Rattle.audit_session.proofs.RepliesInOrder.{records_of-append, bytes_of-append, length-replies, replies-append}

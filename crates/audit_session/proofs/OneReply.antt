@@ -16,10 +16,10 @@ use Rattle.predicate_lang.specs.Trees.{Tree, tree_of}
 use Rattle.predicate_lang.specs.Places.{Means, IsPlace}
 use Rattle.predicate_lang.proofs.LeastPlace.{refused_means_nothing}
 use Rattle.set_index.specs.Asked.{meaning}
-use Rattle.audit_store.specs.declared.outcome.Outcome.{Outcome}
-use Rattle.audit_store.specs.declared.outcome.Outcome.TheVariants.{Answer, Denied, Full}
-use Rattle.audit_store.specs.Outcomes.{IsOutcome}
-use Rattle.audit_store.specs.Stores.{table_of}
+use Rattle.audit_core.specs.declared.outcome.Outcome.{Outcome}
+use Rattle.audit_core.specs.declared.outcome.Outcome.TheVariants.{Answer, Denied, Full}
+use Rattle.audit_core.specs.Outcomes.{IsOutcome}
+use Rattle.table_load.specs.Database.{secret_table}
 use Rattle.line_wire.specs.Lines.{CountedLine, text, long}
 use Rattle.line_wire.specs.Questions.{Written, counted, taken, text_of, question_of}
 use Rattle.line_wire.specs.Requests.{Requests, Refuses, HasColumnFault, HasBadCondition, column_fault, IsRequest, secret_of}
@@ -33,7 +33,9 @@ use Rattle.line_wire.specs.declared.reply.Reply.{Reply}
 use Rattle.line_wire.specs.declared.reply.Reply.TheVariants as reply
 use Rattle.line_wire.specs.Reply.{reply_bytes}
 use Rattle.audit_session.specs.Session.{Replied}
-use Rattle.audit_session.specs.Replies.{IsDue, IsTold, IsAnswered, TellsOutcome, Tells, added_by, asked_over, base_of, only, refusal}
+use Rattle.audit_session.specs.Replies.{IsDue, IsTold, IsAnswered, TellsOutcome, Tells, asked_over, only, refusal}
+use Rattle.audit_core.specs.Outcomes.{record_of}
+use Rattle.table_load.specs.Database.{base_of}
 use Rattle.audit_session.specs.Laws.{AreAnswersAlike, OneReplyIsDue, DecidedAlike, EqualAnswersEqualReplies}
 use Rattle.audit_session.proofs.OneMean.{one_mean}
 use Rattle.audit_session.proofs.Telling.{some_row}
@@ -82,7 +84,7 @@ module _ (forms : NarrowOrWide) (table twin : Table) (same : twin.setting ≡ ta
 
   -- what becomes of a question over both
   outcomes_alike : (x y : Outcome) (answer other : Reply) (a b : Replied Answered) → IsOutcome table history asked x → IsOutcome twin history asked y → TellsOutcome take (length asked.rows.list) x answer → TellsOutcome take (length asked.rows.list) y other
-      → a ≡ record { bytes = reply_bytes answer; added = added_by asked x } → b ≡ record { bytes = reply_bytes other; added = added_by asked y } → (a ≡ b) ⊎ AreAnswersAlike table twin a b
+      → a ≡ record { bytes = reply_bytes answer; added = record_of asked x } → b ≡ record { bytes = reply_bytes other; added = record_of asked y } → (a ≡ b) ⊎ AreAnswersAlike table twin a b
   outcomes_alike Full Full answer other a b first second tells told a_is b_is = inl (same_only answer other a b (tells ∙ sym told) a_is b_is)
   outcomes_alike Full (Denied w) answer other a b first second tells told a_is b_is = absurd (omega (arith, first, second.0))
   outcomes_alike Full (Answer y) answer other a b first second tells told a_is b_is = absurd (omega (arith, first, second.0))
@@ -210,16 +212,16 @@ OneMeaning = (columns : List Column) (text : List ℕ) (s t : Tree) → Means co
 
 module _ (forms : NarrowOrWide) (meanings : OneMeaning) (columns : List Column) (public : PublicView) (secret twin : SecretView) (same : twin.shape ≡ secret.shape) (history : List Answered) where
   -- one question was asked, and means one tree
-  asked_alike : (o : Option Written) (r q : Request) (a b : Replied Answered) → Requests columns o r → Requests columns o q → IsAnswered public (table_of secret) history r a → IsAnswered public (table_of twin) history q b
-      → (a ≡ b) ⊎ AreAnswersAlike (table_of secret) (table_of twin) a b
+  asked_alike : (o : Option Written) (r q : Request) (a b : Replied Answered) → Requests columns o r → Requests columns o q → IsAnswered public (secret_table secret) history r a → IsAnswered public (secret_table twin) history q b
+      → (a ≡ b) ⊎ AreAnswersAlike (secret_table secret) (secret_table twin) a b
   asked_alike o r q a b first second r_is q_is =
       let one = one_question o second.question first.question second.writes first.writes in
       let means = subst (λ (w : Written). Means columns (text_of w) second.tree) one second.means in
       let tree = meanings columns (text_of first.question) second.tree first.tree means first.means in
       let is = subst (λ (w : Written). IsRequest columns w first.tree q) one (subst (λ (t : Tree). IsRequest columns second.question t q) tree second.is) in
-      requests_alike forms (table_of secret) (table_of twin) (ap setting_of same) history columns public first.question first.tree r q a b first.is is r_is q_is
+      requests_alike forms (secret_table secret) (secret_table twin) (ap setting_of same) history columns public first.question first.tree r q a b first.is is r_is q_is
 
-  pub due_alike : (line : CountedLine) (a b : Replied Answered) → IsDue (base_of columns public secret) history line a → IsDue (base_of columns public twin) history line b → (a ≡ b) ⊎ AreAnswersAlike (table_of secret) (table_of twin) a b
+  pub due_alike : (line : CountedLine) (a b : Replied Answered) → IsDue (base_of columns public secret) history line a → IsDue (base_of columns public twin) history line b → (a ≡ b) ⊎ AreAnswersAlike (secret_table secret) (secret_table twin) a b
   due_alike long a b first second = inl (first ∙ sym second)
   due_alike (text line) a b (inl first) (inl second) =
       inl (first.replied_is ∙ ap (λ (r : Reply). only r) (one_fault columns (question_of line) first.fault second.fault first.answer second.answer first.refuses second.refuses first.told second.told) ∙ sym second.replied_is)
@@ -237,7 +239,7 @@ equal_answers table twin a b alike value =
 
 pub one_due : NarrowOrWide → OneMeaning → OneReplyIsDue
 one_due forms meanings base history line a b first second =
-    ⊎_elim (λ same. same) (λ alike. equal_answers (table_of base.secret) (table_of base.secret) a b alike (alike.first.is_true ∙ sym alike.second.is_true)) (due_alike forms meanings base.columns base.public base.secret base.secret refl history line a b first second)
+    ⊎_elim (λ same. same) (λ alike. equal_answers (secret_table base.secret) (secret_table base.secret) a b alike (alike.first.is_true ∙ sym alike.second.is_true)) (due_alike forms meanings base.columns base.public base.secret base.secret refl history line a b first second)
 
 pub decided_alike : NarrowOrWide → OneMeaning → DecidedAlike
 decided_alike forms meanings base twin history line a b columns public shape first second =

@@ -15,7 +15,9 @@ use Rattle.line_wire.specs.Cutter.{Cutter, TakesLine}
 use Rattle.audit_session.specs.declared.serving.EndFault.{EndFault}
 use Rattle.audit_session.specs.declared.serving.EndFault.TheVariants as end
 use Rattle.audit_session.specs.Stops.{StopsBehind}
-use Rattle.audit_session.specs.Replies.{Database, IsDue, base_of}
+use Rattle.audit_session.specs.Replies.{IsDue}
+use Rattle.table_load.specs.Database.{base_of}
+use Rattle.table_load.specs.Database.{Database}
 use Rattle.audit_session.specs.Deciding.{Answers, StandsAnswered, Answering}
 use Rattle.audit_session.specs.Ends.{Ends, ServesSome}
 use Rattle.audit_session.proofs.StopsOfGroups.{stop_between}

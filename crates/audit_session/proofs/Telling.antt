@@ -14,10 +14,11 @@ use Rattle.audit_types.specs.History.{list_of}
 use Rattle.bench_core.specs.Bench.{LeavesOnly}
 use Rattle.bench_core.specs.Moments.{weakens}
 use Rattle.table_load.specs.Cells.{SecretView, IsSecret}
-use Rattle.audit_store.specs.declared.outcome.Outcome.{Outcome}
-use Rattle.audit_store.specs.declared.outcome.Outcome.TheVariants.{Answer, Denied, Full}
-use Rattle.audit_store.specs.Outcomes.{IsOutcome}
-use Rattle.audit_store.specs.Stores.{StoreContents, IsAsLeft, IsStore, table_of}
+use Rattle.audit_core.specs.declared.outcome.Outcome.{Outcome}
+use Rattle.audit_core.specs.declared.outcome.Outcome.TheVariants.{Answer, Denied, Full}
+use Rattle.audit_core.specs.Outcomes.{IsOutcome}
+use Rattle.audit_store.specs.Stores.{StoreContents, IsAsLeft, IsStore}
+use Rattle.table_load.specs.Database.{secret_table}
 use Rattle.line_wire.specs.Reply.{reply_bytes, IsInRange}
 use Rattle.line_wire.specs.Requests.{kind_for}
 use Rattle.line_wire.specs.declared.reply.Reply.{Reply}
@@ -25,7 +26,8 @@ use Rattle.line_wire.specs.declared.reply.Reply.TheVariants as reply
 use Rattle.line_wire.specs.declared.question.Take.{Take}
 use Rattle.line_wire.specs.declared.question.Take.TheVariants.{Sum, Avg, Max}
 use Rattle.audit_session.specs.Session.{Replied}
-use Rattle.audit_session.specs.Replies.{IsTold, TellsOutcome, Tells, added_by, only}
+use Rattle.audit_session.specs.Replies.{IsTold, TellsOutcome, Tells, only}
+use Rattle.audit_core.specs.Outcomes.{record_of}
 use Rattle.audit_session.specs.Deciding.{MakesRecord, Decides, Deciding, Guards, Stands, most_of}
 use Rattle.audit_session.proofs.Means.{some_mean}
 
@@ -35,7 +37,7 @@ some_row [] some = absurd (some refl)
 some_row (r ∷ rows) some = omega arith
 
 -- a denial is none of a question that is released
-pub never_released : (secret : SecretView) (history : List Answered) (asked : Asked) (outcome : Outcome) → IsOutcome (table_of secret) history asked outcome → outcome ≢ Denied Released
+pub never_released : (secret : SecretView) (history : List Answered) (asked : Asked) (outcome : Outcome) → IsOutcome (secret_table secret) history asked outcome → outcome ≢ Denied Released
 never_released secret history asked Full due = λ (e : Full ≡ Denied Released). cc
 never_released secret history asked (Denied verdict) due = λ (e : Denied verdict ≡ Denied Released). let same : verdict ≡ Released = cc in due.1 same
 never_released secret history asked (Answer answer) due = λ (e : Answer answer ≡ Denied Released). cc
@@ -59,7 +61,7 @@ module _ (sums : SumsAreSmall) (maxima : MaximaAreSmall) (secret : SecretView) (
 
 -- an answer that is due is small
 pub outcome_small : (secret : SecretView) (history : List Answered) (asked : Asked) (take : Take) (outcome : Outcome) → ((z : ℤ) → z ≡ truth (kind_at secret.shape asked.column) (list_of secret.lists asked.column) asked.rows.list → unsigned_abs z ≤ most_of take)
-    → IsOutcome (table_of secret) history asked outcome → (answer : ℤ) → outcome ≡ Answer answer → unsigned_abs answer ≤ most_of take
+    → IsOutcome (secret_table secret) history asked outcome → (answer : ℤ) → outcome ≡ Answer answer → unsigned_abs answer ≤ most_of take
 outcome_small secret history asked take Full small due answer e = absurd cc
 outcome_small secret history asked take (Denied verdict) small due answer e = absurd cc
 outcome_small secret history asked take (Answer z) small due answer e = let same : z ≡ answer = cc in subst (λ (y : ℤ). unsigned_abs y ≤ most_of take) same (small z due.2)
@@ -79,10 +81,10 @@ some_told take size (Answer answer) some due = some_telling take size answer som
 
 -- a record that a question makes is that of a reply that is due
 pub told_makes : (secret : SecretView) (history : List Answered) (take : Take) (asked : Asked) (replied : Replied Answered) → asked.rows.list ≢ [] → MakesRecord secret history asked replied
-    → (told : Replied Answered) × IsTold (table_of secret) history take asked told × (told.added ≡ replied.added)
+    → (told : Replied Answered) × IsTold (secret_table secret) history take asked told × (told.added ≡ replied.added)
 told_makes secret history take asked replied some makes =
     let told = some_told take (length asked.rows.list) makes.0 (some_row asked.rows.list some) (never_released secret history asked makes.0 makes.1) in
-    let whole : Replied Answered = record { bytes = reply_bytes told.0; added = added_by asked makes.0 } in
+    let whole : Replied Answered = record { bytes = reply_bytes told.0; added = record_of asked makes.0 } in
     (whole, inr (some, record { outcome = makes.0; due = makes.1; answer = told.0; tells = told.1; replied_is = refl }), sym makes.2)
 
 -- what is due in one word is due in another
@@ -107,10 +109,10 @@ pub decides_only : (due : Replied Answered → Type 0) (history : List Answered)
 decides_only due history answer is range = record { added = None; is_due = is; history_is = sym (append-nil history); in_range = range }
 
 -- the reply that tells what becomes of a question
-pub decides_told : (secret : SecretView) (history now : List Answered) (take : Take) (asked : Asked) (outcome : Outcome) (answer : Reply) → asked.rows.list ≢ [] → IsOutcome (table_of secret) history asked outcome
-    → now ≡ history ++ option_to_list (added_by asked outcome) → TellsOutcome take (length asked.rows.list) outcome answer → IsInRange answer → Decides (IsTold (table_of secret) history take asked) history now answer
+pub decides_told : (secret : SecretView) (history now : List Answered) (take : Take) (asked : Asked) (outcome : Outcome) (answer : Reply) → asked.rows.list ≢ [] → IsOutcome (secret_table secret) history asked outcome
+    → now ≡ history ++ option_to_list (record_of asked outcome) → TellsOutcome take (length asked.rows.list) outcome answer → IsInRange answer → Decides (IsTold (secret_table secret) history take asked) history now answer
 decides_told secret history now take asked outcome answer some due history_is tells range = record {
-  added = added_by asked outcome;
+  added = record_of asked outcome;
   is_due = inr (some, record { outcome = outcome; due = due; answer = answer; tells = tells; replied_is = refl });
   history_is = history_is;
   in_range = range;

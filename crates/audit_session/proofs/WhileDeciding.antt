@@ -10,33 +10,26 @@ use Rattle.bench_core.specs.Moments.{started, weakens}
 use Rattle.journal_form.specs.Journal.{StandsFor}
 use Rattle.answer_journal.specs.Moments.{IsBeforeOrAfter}
 use Rattle.table_load.specs.Cells.{SecretView}
-use Rattle.audit_store.specs.declared.outcome.Outcome.{Outcome}
-use Rattle.audit_store.specs.declared.outcome.Outcome.TheVariants.{Answer, Denied, Full}
+use Rattle.audit_core.specs.declared.outcome.Outcome.{Outcome}
 use Rattle.audit_store.specs.declared.outcome.StoreFault.{StoreFault}
 use Rattle.audit_store.specs.declared.outcome.StoreFault.TheVariants.{Failed, NoMemory}
-use Rattle.audit_store.specs.Outcomes.{AreOutcomes, record_of, records_of}
-use Rattle.audit_store.specs.Stores.{Keeps, table_of}
+use Rattle.audit_core.specs.Outcomes.{AreOutcomes, record_of, records_made}
+use Rattle.audit_store.specs.Stores.{Keeps}
+use Rattle.table_load.specs.Database.{secret_table}
 use Rattle.audit_session.specs.Session.{Replied}
-use Rattle.audit_session.specs.Replies.{added_by}
 use Rattle.audit_session.specs.Deciding.{Deciding, MakesRecord}
 
--- an outcome's record, as a list
-added_is : (asked : Asked) (outcome : Outcome) → record_of asked outcome ≡ option_to_list (added_by asked outcome)
-added_is asked Full = refl
-added_is asked (Denied verdict) = refl
-added_is asked (Answer answer) = refl
-
 -- while one question is decided
-deciding_one : (secret : SecretView) (history : List Answered) (asked : Asked) (outcomes : List Outcome) (before image sent : List ℕ) → AreOutcomes (table_of secret) history (asked ∷ []) outcomes
-    → IsBeforeOrAfter secret.shape history (records_of (asked ∷ []) outcomes) before image sent → Deciding (MakesRecord secret history asked) (λ image history. StandsFor image secret.shape history) history before image sent
+deciding_one : (secret : SecretView) (history : List Answered) (asked : Asked) (outcomes : List Outcome) (before image sent : List ℕ) → AreOutcomes (secret_table secret) history (asked ∷ []) outcomes
+    → IsBeforeOrAfter secret.shape history (records_made (asked ∷ []) outcomes) before image sent → Deciding (MakesRecord secret history asked) (λ image history. StandsFor image secret.shape history) history before image sent
 deciding_one secret history asked [] before image sent are found = absurd are
 deciding_one secret history asked (outcome ∷ outcomes) before image sent are found = (found.0, ⊎_elim (λ old. inl old) (λ new. inr (replied, (outcome, are.0, refl), subst (λ (list : List Answered). StandsFor image secret.shape (history ++ list)) same new)) found.1)
   where
     replied : Replied Answered
-    replied = record { bytes = []; added = added_by asked outcome }
+    replied = record { bytes = []; added = record_of asked outcome }
 
-    same : records_of (asked ∷ []) (outcome ∷ outcomes) ≡ option_to_list (added_by asked outcome)
-    same = append-nil (record_of asked outcome) ∙ added_is asked outcome
+    same : records_made (asked ∷ []) (outcome ∷ outcomes) ≡ option_to_list (record_of asked outcome)
+    same = append-nil (option_to_list (record_of asked outcome))
 
 -- a refusal is want of memory or another
 pub by_fault : {X Claim : Type 0} (fault : StoreFault) → (IsErrOf {T = X} (Err fault) NoMemory → Claim) → ((IsErrOf {T = X} (Err fault) NoMemory → ⊥) → Claim) → Claim

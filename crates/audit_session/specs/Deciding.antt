@@ -12,9 +12,10 @@ use Rattle.bench_core.specs.Bench.{IsQuiet, AppendsFront}
 use Rattle.audit_session.specs.declared.serving.Line.{Line}
 use Rattle.audit_session.specs.declared.serving.Line.TheVariants.{Text, Long}
 use Rattle.line_wire.specs.Lines.{CountedLine, text, long}
-use Rattle.audit_store.specs.declared.outcome.Outcome.{Outcome}
-use Rattle.audit_store.specs.Outcomes.{IsOutcome}
-use Rattle.audit_store.specs.Stores.{StoreContents, IsAsLeft, IsStore, table_of}
+use Rattle.audit_core.specs.declared.outcome.Outcome.{Outcome}
+use Rattle.audit_core.specs.Outcomes.{IsOutcome}
+use Rattle.audit_store.specs.Stores.{StoreContents, IsAsLeft, IsStore}
+use Rattle.table_load.specs.Database.{secret_table}
 use Rattle.line_wire.specs.Reply.{reply_bytes, IsInRange}
 use Rattle.line_wire.specs.Requests.{kind_for}
 use Rattle.line_wire.specs.declared.request.Request.{Request}
@@ -23,7 +24,7 @@ use Rattle.line_wire.specs.declared.reply.Reply.{Reply}
 use Rattle.line_wire.specs.declared.question.Take.{Take}
 use Rattle.line_wire.specs.declared.question.Take.TheVariants.{Sum, Avg, Max}
 use Rattle.audit_session.specs.Session.{Replied}
-use Rattle.audit_session.specs.Replies.{added_by}
+use Rattle.audit_core.specs.Outcomes.{record_of}
 
 -- the reply is due, and the record that it makes, if it makes one, is behind the history
 pub record Decides (due : Replied Answered → Type 0) (history now : List Answered) (answer : Reply) : Type 0 where
@@ -54,7 +55,7 @@ Deciding {R} due stands history before image sent =
 
 -- a reply that makes the record of what may become of a question
 abbrev pub MakesRecord : SecretView → List Answered → Asked → Replied Answered → Type 0
-MakesRecord secret history asked replied = (outcome : Outcome) × IsOutcome (table_of secret) history asked outcome × (replied.added ≡ added_by asked outcome)
+MakesRecord secret history asked replied = (outcome : Outcome) × IsOutcome (secret_table secret) history asked outcome × (replied.added ≡ record_of asked outcome)
 
 -- the greatest size of an answer over a table
 abbrev pub most_of : Take → ℕ

@@ -8,7 +8,8 @@ use Rattle.audit_session.specs.declared.serving.EndFault.{EndFault}
 use Rattle.audit_session.specs.declared.serving.EndFault.TheVariants as end
 use Rattle.line_wire.specs.Lines.{CountedLine, counted_lines, whole_lines}
 use Rattle.audit_session.specs.Session.{Replied, records_of, bytes_of, AreReplies, groups}
-use Rattle.audit_session.specs.Replies.{Database, IsDue}
+use Rattle.audit_session.specs.Replies.{IsDue}
+use Rattle.table_load.specs.Database.{Database}
 
 -- lines were answered: their replies are what was sent meanwhile, and the history has their records
 pub record Serves (base : Database) (history : List Answered) (lines : List CountedLine) (now : List Answered) (before after : List ℕ) : Type 0 where

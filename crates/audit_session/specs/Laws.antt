@@ -7,15 +7,16 @@ use Rattle.schema_json.specs.Columns.{AreColumns}
 use Rattle.schema_json.specs.SecretShape.{shape_of}
 use Rattle.table_load.specs.Cells.{IsSecret}
 use Rattle.journal_form.specs.Journal.{StandsFor}
-use Rattle.audit_store.specs.Outcomes.{true_answer}
-use Rattle.audit_store.specs.Stores.{table_of}
+use Rattle.audit_core.specs.Outcomes.{true_answer}
+use Rattle.table_load.specs.Database.{secret_table}
 use Rattle.line_wire.specs.Lines.{CountedLine}
 use Rattle.line_wire.specs.Reply.{reply_bytes}
 use Rattle.line_wire.specs.declared.reply.Reply.{Reply}
 use Rattle.line_wire.specs.declared.question.Take.{Take}
 use Rattle.audit_session.specs.Session.{Replied, records_of, AreReplies}
 use Rattle.audit_session.specs.Stops.{Stop}
-use Rattle.audit_session.specs.Replies.{Database, IsDue, Tells}
+use Rattle.audit_session.specs.Replies.{IsDue, Tells}
+use Rattle.table_load.specs.Database.{Database}
 
 -- a schema's columns, and secrets of the shape that they give the table
 pub record IsDatabase (base : Database) : Type 0 where
@@ -25,15 +26,15 @@ pub record IsDatabase (base : Database) : Type 0 where
 -- answering lines keeps a history legal
 abbrev pub RepliesKeepLegal : Type 0
 RepliesKeepLegal =
-    (base : Database) (history : List Answered) (lines : List CountedLine) (replies : List (Replied Answered)) → IsDatabase base → IsLegal (table_of base.secret) history →
-    AreReplies (IsDue base) history lines replies → IsLegal (table_of base.secret) (history ++ records_of replies)
+    (base : Database) (history : List Answered) (lines : List CountedLine) (replies : List (Replied Answered)) → IsDatabase base → IsLegal (secret_table base.secret) history →
+    AreReplies (IsDue base) history lines replies → IsLegal (secret_table base.secret) (history ++ records_of replies)
 
 -- at each stop of a session over a legal history, every history for which the image stands is legal and discloses nothing
 abbrev pub StopsAreLegal : Type 0
 StopsAreLegal =
-    (base : Database) (batch : ℕ) (history : List Answered) (lines : List CountedLine) (image sent : List ℕ) (found : List Answered) → IsDatabase base → IsSecret base.secret → IsLegal (table_of base.secret) history →
+    (base : Database) (batch : ℕ) (history : List Answered) (lines : List CountedLine) (image sent : List ℕ) (found : List Answered) → IsDatabase base → IsSecret base.secret → IsLegal (secret_table base.secret) history →
     Stop (IsDue base) (λ image history. StandsFor image base.secret.shape history) batch history lines image sent → StandsFor image base.secret.shape found →
-    IsLegal (table_of base.secret) found × IsUndisclosed (table_of base.secret) found
+    IsLegal (secret_table base.secret) found × IsUndisclosed (secret_table base.secret) found
 
 -- ---- one reply is due
 
@@ -61,7 +62,7 @@ pub record AreAnswersAlike (table twin : Table) (a b : Replied Answered) : Type 
 abbrev pub DecidedAlike : Type 0
 DecidedAlike =
     (base twin : Database) (history : List Answered) (line : CountedLine) (a b : Replied Answered) → twin.columns ≡ base.columns → twin.public ≡ base.public → twin.secret.shape ≡ base.secret.shape →
-    IsDue base history line a → IsDue twin history line b → (a ≡ b) ⊎ AreAnswersAlike (table_of base.secret) (table_of twin.secret) a b
+    IsDue base history line a → IsDue twin history line b → (a ≡ b) ⊎ AreAnswersAlike (secret_table base.secret) (secret_table twin.secret) a b
 
 -- and where the answers are equal, so are the replies and their records
 abbrev pub EqualAnswersEqualReplies : Type 0

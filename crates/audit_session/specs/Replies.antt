@@ -7,13 +7,13 @@ use Rattle.audit_types.specs.declared.records.Answered.{Answered}
 use Rattle.audit_types.specs.declared.records.Verdict.TheVariants.{Released, DeniedUnsafe, DeniedWide}
 use Rattle.audit_types.specs.History.{Table}
 use Rattle.schema_json.specs.Columns.{Column}
-use Rattle.table_load.specs.Cells.{PublicView, SecretView}
+use Rattle.table_load.specs.Cells.{PublicView}
 use Rattle.predicate_lang.specs.Trees.{tree_of}
 use Rattle.set_index.specs.Asked.{meaning}
-use Rattle.audit_store.specs.declared.outcome.Outcome.{Outcome}
-use Rattle.audit_store.specs.declared.outcome.Outcome.TheVariants.{Answer, Denied, Full}
-use Rattle.audit_store.specs.Outcomes.{IsOutcome}
-use Rattle.audit_store.specs.Stores.{table_of}
+use Rattle.audit_core.specs.declared.outcome.Outcome.{Outcome}
+use Rattle.audit_core.specs.declared.outcome.Outcome.TheVariants.{Answer, Denied, Full}
+use Rattle.audit_core.specs.Outcomes.{IsOutcome, record_of}
+use Rattle.table_load.specs.Database.{Database, secret_table}
 use Rattle.line_wire.specs.Lines.{CountedLine, text, long}
 use Rattle.line_wire.specs.Reply.{reply_bytes}
 use Rattle.line_wire.specs.Questions.{question_of}
@@ -27,15 +27,6 @@ use Rattle.line_wire.specs.declared.request.Request.TheVariants as request
 use Rattle.line_wire.specs.declared.request.LineFault.{LineFault}
 use Rattle.line_wire.specs.declared.request.LineFault.TheVariants as fault
 use Rattle.audit_session.specs.Session.{Replied}
-
--- what a schema's file and a table's file mean together
-pub record Database : Type 0 where
-  pub columns : List Column
-  pub public : PublicView
-  pub secret : SecretView
-
-abbrev pub base_of : List Column → PublicView → SecretView → Database
-base_of columns public secret = record { columns = columns; public = public; secret = secret }
 
 -- a reply that makes no record
 abbrev pub only : Reply → Replied Answered
@@ -80,19 +71,13 @@ TellsOutcome take size (Denied DeniedUnsafe) told = told ≡ reply.Unsafe
 TellsOutcome take size (Denied DeniedWide) told = told ≡ reply.Wide
 TellsOutcome take size (Answer answer) told = Tells take size answer told
 
--- the record that an outcome makes: an answer makes one
-abbrev pub added_by : Asked → Outcome → Option Answered
-added_by asked Full = None
-added_by asked (Denied verdict) = None
-added_by asked (Answer answer) = Some (record { column = asked.column; rows = asked.rows; answer = answer })
-
 -- a reply tells what becomes of a question over the secrets of a table
 pub record IsOutcomeTold (table : Table) (history : List Answered) (take : Take) (asked : Asked) (replied : Replied Answered) : Type 0 where
   pub outcome : Outcome
   pub due : IsOutcome table history asked outcome
   pub answer : Reply
   pub tells : TellsOutcome take (length asked.rows.list) outcome answer
-  pub replied_is : replied ≡ record { bytes = reply_bytes answer; added = added_by asked outcome }
+  pub replied_is : replied ≡ record { bytes = reply_bytes answer; added = record_of asked outcome }
 
 -- what is due to a question of a secret column: word that no row satisfies its condition, or what becomes of the question
 abbrev pub IsTold : Table → List Answered → Take → Asked → Replied Answered → Type 0
@@ -118,7 +103,7 @@ pub record IsRefused (columns : List Column) (line : List ℕ) (replied : Replie
 pub record IsServed (base : Database) (history : List Answered) (line : List ℕ) (replied : Replied Answered) : Type 0 where
   pub request : Request
   pub requests : Requests base.columns (question_of line) request
-  pub answered : IsAnswered base.public (table_of base.secret) history request replied
+  pub answered : IsAnswered base.public (secret_table base.secret) history request replied
 
 -- the reply that is due to a counted line after a history
 abbrev pub IsDue : Database → List Answered → CountedLine → Replied Answered → Type 0

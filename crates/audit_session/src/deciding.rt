@@ -10,14 +10,17 @@ ghost use Rattle.table_load.specs.Cells.{FitsSchema};
 ghost use Rattle.bench_core.specs.Causes.{Rose};
 ghost use Rattle.bench_core.specs.Bench.{IsQuiet, LeavesOnly};
 ghost use Rattle.journal_form.specs.Journal.{StandsFor};
-ghost use Rattle.audit_store.specs.Outcomes.{IsOutcome};
-ghost use Rattle.audit_store.specs.Stores.{IsAsLeft, IsStore, table_of};
-ghost use Rattle.audit_store.specs.declared.outcome.Outcome.TheVariants.{Answer, Denied};
+ghost use Rattle.audit_core.specs.Outcomes.{IsOutcome};
+ghost use Rattle.audit_store.specs.Stores.{IsAsLeft, IsStore};
+ghost use Rattle.table_load.specs.Database.{secret_table};
+ghost use Rattle.audit_core.specs.declared.outcome.Outcome.TheVariants.{Answer, Denied};
 ghost use Rattle.line_wire.specs.Lines.{text};
 ghost use Rattle.line_wire.specs.Reply.{IsInRange};
 ghost use Rattle.line_wire.specs.Requests.{IsWithin, kind_for};
 ghost use Rattle.audit_session.specs.Deciding.{Decides, Stands, Guards, Deciding, IsAskable, MakesRecord, most_of};
-ghost use Rattle.audit_session.specs.Replies.{IsDue, IsTold, IsAnswered, TellsOutcome, added_by, base_of, refusal};
+ghost use Rattle.audit_session.specs.Replies.{IsDue, IsTold, IsAnswered, TellsOutcome, refusal};
+ghost use Rattle.audit_core.specs.Outcomes.{record_of};
+ghost use Rattle.table_load.specs.Database.{base_of};
 
 use crate::averages::average;
 use audit_store::{Outcome, Store, StoreFault};
@@ -56,8 +59,8 @@ fn decide<B: Bench>(store: &mut Store, bench: &mut B, asked: Asked) -> Result<Ou
     requires usable { store.old.usable ≡ true }
     requires fits { FitsShape store.old.secret.shape asked.column asked.rows }
     requires stands { B.told → IsAsLeft (B.file bench.old) store.old }
-    ensures outcome { IfOk result (IsOutcome (table_of store.old.secret) store.old.history asked) }
-    ensures history { IfOk result (λ outcome. store.new.history ≡ store.old.history ++ option_to_list (added_by asked outcome)) }
+    ensures outcome { IfOk result (IsOutcome (secret_table store.old.secret) store.old.history asked) }
+    ensures history { IfOk result (λ outcome. store.new.history ≡ store.old.history ++ option_to_list (record_of asked outcome)) }
     ensures stands { OnOk result (Stands B.told B.file B.leaves B.moment bench.old bench.new store.old store.new) }
     ensures kept { Guards B.sent B.faults bench.old bench.new store.old store.new }
     ensures moments { B.told → IsQuiet (B.file bench.old) (B.leaves bench.old)
@@ -87,11 +90,11 @@ fn ask<B: Bench>(
     requires same_n { asked.rows.n ≡ store.old.secret.shape.rows }
     requires rows { AreRows asked.rows.n asked.rows.list }
     requires stands { B.told → IsAsLeft (B.file bench.old) store.old }
-    ensures reply { IfOk result (Decides (IsTold (table_of store.old.secret) store.old.history take asked) store.old.history store.new.history) }
+    ensures reply { IfOk result (Decides (IsTold (secret_table store.old.secret) store.old.history take asked) store.old.history store.new.history) }
     ensures stands { OnOk result (Stands B.told B.file B.leaves B.moment bench.old bench.new store.old store.new) }
     ensures kept { Guards B.sent B.faults bench.old bench.new store.old store.new }
     ensures moments { B.told → IsQuiet (B.file bench.old) (B.leaves bench.old)
-        → LeavesOnly B.moment B.since bench.old bench.new (Deciding (IsTold (table_of store.old.secret) store.old.history take asked) (λ image history. StandsFor image store.old.secret.shape history) store.old.history (B.sent bench.old)) }
+        → LeavesOnly B.moment B.since bench.old bench.new (Deciding (IsTold (secret_table store.old.secret) store.old.history take asked) (λ image history. StandsFor image store.old.secret.shape history) store.old.history (B.sent bench.old)) }
     ensures err { OnErr result (store.new.history ≡ store.old.history) }
     ensures no_memory { IsErrOf result StoreFault.NoMemory → bench.new ≡ bench.old }
     ensures failed { IsErrOf result StoreFault.Failed → Rose (B.faults bench.old) (B.faults bench.new) }
@@ -119,11 +122,11 @@ fn answer<B: Bench>(
     requires same_rows { index.now.rows ≡ store.old.secret.shape.rows }
     requires askable { IsAskable index.now store.old.secret.shape request }
     requires stands { B.told → IsAsLeft (B.file bench.old) store.old }
-    ensures reply { IfOk result (Decides (IsAnswered index.now (table_of store.old.secret) store.old.history request) store.old.history store.new.history) }
+    ensures reply { IfOk result (Decides (IsAnswered index.now (secret_table store.old.secret) store.old.history request) store.old.history store.new.history) }
     ensures stands { OnOk result (Stands B.told B.file B.leaves B.moment bench.old bench.new store.old store.new) }
     ensures kept { Guards B.sent B.faults bench.old bench.new store.old store.new }
     ensures moments { B.told → IsQuiet (B.file bench.old) (B.leaves bench.old)
-        → LeavesOnly B.moment B.since bench.old bench.new (Deciding (IsAnswered index.now (table_of store.old.secret) store.old.history request) (λ image history. StandsFor image store.old.secret.shape history) store.old.history (B.sent bench.old)) }
+        → LeavesOnly B.moment B.since bench.old bench.new (Deciding (IsAnswered index.now (secret_table store.old.secret) store.old.history request) (λ image history. StandsFor image store.old.secret.shape history) store.old.history (B.sent bench.old)) }
     ensures err { OnErr result (store.new.history ≡ store.old.history) }
     ensures no_memory { IsErrOf result StoreFault.NoMemory → bench.new ≡ bench.old }
     ensures failed { IsErrOf result StoreFault.Failed → Rose (B.faults bench.old) (B.faults bench.new) }

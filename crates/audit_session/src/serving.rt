@@ -7,10 +7,12 @@ ghost use Rattle.table_load.specs.Cells.{FitsSchema};
 ghost use Rattle.bench_core.specs.Causes.{HasCause, Rose};
 ghost use Rattle.bench_core.specs.Bench.{IsQuiet, LeavesOnly, Sending, Elapses};
 ghost use Rattle.journal_form.specs.Journal.{StandsFor};
-ghost use Rattle.audit_store.specs.Stores.{IsAsLeft, IsStore, table_of};
+ghost use Rattle.audit_store.specs.Stores.{IsAsLeft, IsStore};
+ghost use Rattle.table_load.specs.Database.{secret_table};
 ghost use Rattle.line_wire.specs.Lines.{counted_lines};
 ghost use Rattle.line_wire.specs.Reply.{reply_bytes, IsInRange};
-ghost use Rattle.audit_session.specs.Replies.{IsDue, base_of};
+ghost use Rattle.audit_session.specs.Replies.{IsDue};
+ghost use Rattle.table_load.specs.Database.{base_of};
 ghost use Rattle.audit_session.specs.Deciding.{Decides, Stands, Guards, Deciding, Answers, StandsAnswered, Answering, line_of, IsShort};
 ghost use Rattle.audit_session.specs.Stops.{StopsBehind};
 ghost use Rattle.audit_session.specs.Ends.{Serves, ServesWhole, ServesSome, ServesLimited, Ends, Reads, Rests};
@@ -205,7 +207,7 @@ pub fn serve<P: Source, B: Bench>(
     ensures any_moment { P.told → B.told → IsQuiet (B.file bench.old) (B.leaves bench.old)
         → LeavesOnly B.moment B.since bench.old bench.new (StopsBehind (IsDue (base_of schema.now.columns index.now store.old.secret)) (λ image history. StandsFor image store.old.secret.shape history) 1 store.old.history (counted_lines (P.left source.old)) (B.sent bench.old)) }
     ensures legal { P.told → B.told → IsQuiet (B.file bench.old) (B.leaves bench.old) → (image sent : List ℕ) (history : List Answered) → B.since bench.new (B.moment bench.old) image sent → StandsFor image store.old.secret.shape history
-        → IsLegal (table_of store.old.secret) history × IsUndisclosed (table_of store.old.secret) history }
+        → IsLegal (secret_table store.old.secret) history × IsUndisclosed (secret_table store.old.secret) history }
     ensures secret { store.new.secret ≡ store.old.secret }
     ensures is { IsStore store.new }
 

@@ -14,9 +14,9 @@ use Rattle.answer_journal.specs.Faults.{GaveUp, IsDueOrGaveUp}
 use Rattle.answer_journal.specs.Moments.{IsMade}
 use Rattle.audit_store.specs.declared.starting.StartFault.{StartFault}
 use Rattle.audit_store.specs.declared.starting.StartFault.TheVariants.{NotMade, Damaged, OtherShape, Untrue, Illegal, Failed, NoMemory}
-use Rattle.audit_store.specs.Outcomes.{true_answer}
+use Rattle.audit_core.specs.Outcomes.{true_answer}
 use Rattle.audit_store.specs.Starting.{IsFirstUntrue, IsFirstIllegal, StartCause, HistoryCause, GivesUp, RefusedUnlessFailed, start_fault}
-use Rattle.audit_store.specs.Stores.{table_of}
+use Rattle.table_load.specs.Database.{secret_table}
 
 -- what a reading of the journal gives up with
 pub gave_up : (fault : BackFault) → GaveUp fault → GivesUp (start_fault fault)
@@ -87,14 +87,14 @@ module _ (shape : Shape) (history : List Answered) (secret : SecretView) where
   one_cause (OtherShape kept now) (Untrue b k n) some cause other = absurd (other_shape kept now cause other.0)
   one_cause (OtherShape kept now) (Illegal b) some cause other = absurd (other_shape kept now cause other.0)
   one_cause (Untrue a kept now) (OtherShape k n) some cause other = absurd (other_shape k n other cause.0)
-  one_cause (Untrue a kept now) (Untrue b k n) some cause other = inl (untrue_once (table_of secret) history a b kept now k n cause.1 other.1)
-  one_cause (Untrue a kept now) (Illegal b) some cause other = absurd (untrue_or_illegal (table_of secret) history a b kept now cause.1 other.1)
+  one_cause (Untrue a kept now) (Untrue b k n) some cause other = inl (untrue_once (secret_table secret) history a b kept now k n cause.1 other.1)
+  one_cause (Untrue a kept now) (Illegal b) some cause other = absurd (untrue_or_illegal (secret_table secret) history a b kept now cause.1 other.1)
   one_cause (Illegal a) (OtherShape k n) some cause other = absurd (other_shape k n other cause.0)
-  one_cause (Illegal a) (Untrue b k n) some cause other = absurd (untrue_or_illegal (table_of secret) history b a k n other.1 cause.1)
-  one_cause (Illegal a) (Illegal b) some cause other = inl (illegal_once (table_of secret) history a b cause.1 other.1)
+  one_cause (Illegal a) (Untrue b k n) some cause other = absurd (untrue_or_illegal (secret_table secret) history b a k n other.1 cause.1)
+  one_cause (Illegal a) (Illegal b) some cause other = inl (illegal_once (secret_table secret) history a b cause.1 other.1)
 
   -- a legal history of the secrets' shape has none
-  pub legal_has_no_cause : (fault : StartFault) → shape ≡ secret.shape → IsLegal (table_of secret) history → HistoryCause fault shape history secret → GivesUp fault
+  pub legal_has_no_cause : (fault : StartFault) → shape ≡ secret.shape → IsLegal (secret_table secret) history → HistoryCause fault shape history secret → GivesUp fault
   legal_has_no_cause NotMade same legal cause = absurd cause
   legal_has_no_cause (Damaged at) same legal cause = absurd cause
   legal_has_no_cause (OtherShape kept now) same legal cause = other_shape kept now cause same
@@ -122,8 +122,8 @@ module _ (file : List ℕ) (secret : SecretView) where
   due_of_history shape history (Damaged at) made whole once some cause = whole at cause.0 cause.1
   due_of_history shape history (OtherShape kept now) made whole once some cause = let same = once kept cause.0 cause.1.0 cause.1.1 in (sym same.0, cause.2.0, cause.2.1)
   due_of_history shape history (Untrue place kept now) made whole once some cause =
-      let same = once secret.shape cause.0 cause.1.0 cause.1.1 in (same.0, subst (λ h. IsFirstUntrue (table_of secret) h place kept now) (sym same.1) cause.2)
+      let same = once secret.shape cause.0 cause.1.0 cause.1.1 in (same.0, subst (λ h. IsFirstUntrue (secret_table secret) h place kept now) (sym same.1) cause.2)
   due_of_history shape history (Illegal place) made whole once some cause =
-      let same = once secret.shape cause.0 cause.1.0 cause.1.1 in (same.0, subst (λ h. IsFirstIllegal (table_of secret) h place) (sym same.1) cause.2)
+      let same = once secret.shape cause.0 cause.1.0 cause.1.1 in (same.0, subst (λ h. IsFirstIllegal (secret_table secret) h place) (sym same.1) cause.2)
   due_of_history shape history Failed made whole once some cause = absurd (some tt)
   due_of_history shape history NoMemory made whole once some cause = absurd (some tt)

@@ -10,7 +10,7 @@ use Rattle.audit_types.specs.Laws.{LegalIsPossible}
 use Rattle.audit_core.specs.Laws.{LegalGrows}
 use Rattle.table_load.specs.Cells.{SecretView, AreNumbers, IsSecret}
 use Rattle.audit_store.specs.Starting.{IsTrue, IsReleasedAfter}
-use Rattle.audit_store.specs.Stores.{table_of}
+use Rattle.table_load.specs.Database.{secret_table}
 
 as_long : (n : ℕ) (lists : Secrets) → AllByRecursion (AreNumbers n) lists → AllByRecursion (λ w. length w ≡ n) lists
 as_long n [] all = tt
@@ -21,8 +21,8 @@ pub secrets_are : (secret : SecretView) → IsSecret secret → AreSecrets secre
 secrets_are secret is = record { one_each = is.one_each; numbers = as_long secret.shape.rows secret.lists is.numbers }
 
 -- so a legal history of them is possible
-pub legal_is_possible : (secret : SecretView) (history : List Answered) → LegalIsPossible → IsSecret secret → IsLegal (table_of secret) history → IsPossibleHistory (table_of secret).setting history
-legal_is_possible secret history law is legal = law (table_of secret) history (secrets_are secret is) legal
+pub legal_is_possible : (secret : SecretView) (history : List Answered) → LegalIsPossible → IsSecret secret → IsLegal (secret_table secret) history → IsPossibleHistory (secret_table secret).setting history
+legal_is_possible secret history law is legal = law (secret_table secret) history (secrets_are secret is) legal
 
 module _ (table : Table) (list : List Answered) (k : ℕ) (legal : IsLegal table (take k list)) where
   -- a record more that fits, is true and was to be released

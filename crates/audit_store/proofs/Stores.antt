@@ -1,5 +1,6 @@
 -- What is true of every store.
 use Rattle.std.proofs.Common.{◌≡◌, ℕ, Bool, true, Result, Ok, Err, List, [], ◌∷◌, get_or, append-nil, length, take, sym, ap, subst, ◌∙◌, arith}
+use Rattle.std.specs.Option.{option_to_list}
 use Rattle.std.proofs.Math.Seq.{take-length}
 use Rattle.audit_types.specs.declared.records.Asked.{Asked}
 use Rattle.audit_types.specs.declared.records.Answered.{Answered}
@@ -10,14 +11,15 @@ use Rattle.bench_core.specs.declared.bench.Bench.{Ghosts}
 use Rattle.bench_core.specs.Calls.{LeavesOnly}
 use Rattle.answer_journal.specs.Contents.{JournalContents}
 use Rattle.answer_journal.specs.Moments.{IsBeforeOrAfter}
-use Rattle.audit_store.specs.Outcomes.{IsOutcome, record_of}
-use Rattle.audit_store.specs.Stores.{StoreContents, IsStore, IsAuditedBy, Keeps, KeepsOne, table_of}
+use Rattle.audit_core.specs.Outcomes.{IsOutcome, record_of}
+use Rattle.audit_store.specs.Stores.{StoreContents, IsStore, IsAuditedBy, Keeps, KeepsOne}
+use Rattle.table_load.specs.Database.{secret_table}
 
 -- a store of these secrets and records over this journal, which may be asked
 abbrev pub store_of : SecretView → List Answered → JournalContents → StoreContents
 store_of secret history journal = record { secret = secret; history = history; journal = journal; usable = true }
 
-pub is_store : (secret : SecretView) (history : List Answered) (journal : JournalContents) → IsSecret secret → IsLegal (table_of secret) history → journal.usable ≡ true → journal.shape ≡ secret.shape → length history ≡ journal.count
+pub is_store : (secret : SecretView) (history : List Answered) (journal : JournalContents) → IsSecret secret → IsLegal (secret_table secret) history → journal.usable ≡ true → journal.shape ≡ secret.shape → length history ≡ journal.count
     → IsStore (store_of secret history journal)
 is_store secret history journal numbers legal usable shape counted = record {
   numbers = numbers;
@@ -43,8 +45,8 @@ keeps_the_one bench before after secret history asked [] sent one is keeps = abs
 keeps_the_one bench before after secret history asked (a ∷ b ∷ questions) sent one is keeps = absurd (omega arith)
 keeps_the_one bench before after secret history asked (a ∷ []) sent one is keeps = record {
   outcomes = keeps.outcome ∷ [];
-  due = (subst (λ (q : Asked). IsOutcome (table_of secret) history q keeps.outcome) is keeps.due, tt);
-  moments = subst (λ (list : List Answered). LeavesOnly bench before after (IsBeforeOrAfter secret.shape history list sent)) (ap (λ (q : Asked). record_of q keeps.outcome) is ∙ sym (append-nil (record_of a keeps.outcome))) keeps.moments;
+  due = (subst (λ (q : Asked). IsOutcome (secret_table secret) history q keeps.outcome) is keeps.due, tt);
+  moments = subst (λ (list : List Answered). LeavesOnly bench before after (IsBeforeOrAfter secret.shape history list sent)) (ap (λ (q : Asked). option_to_list (record_of q keeps.outcome)) is ∙ sym (append-nil (option_to_list (record_of a keeps.outcome)))) keeps.moments;
 }
 
 -- while a store is usable the records of its core are its history

@@ -11,8 +11,9 @@ use Rattle.answer_journal.specs.declared.journal.BackFault.{BackFault}
 use Rattle.answer_journal.specs.declared.journal.BackFault.TheVariants as back
 use Rattle.audit_store.specs.declared.starting.StartFault.{StartFault}
 use Rattle.audit_store.specs.declared.starting.StartFault.TheVariants.{NotMade, Damaged, OtherShape, Untrue, Illegal, Failed, NoMemory}
-use Rattle.audit_store.specs.Outcomes.{true_answer}
-use Rattle.audit_store.specs.Stores.{StoreContents, table_of}
+use Rattle.audit_core.specs.Outcomes.{true_answer}
+use Rattle.audit_store.specs.Stores.{StoreContents}
+use Rattle.table_load.specs.Database.{secret_table}
 
 -- a record has the true answer
 abbrev pub IsTrue : Table → Answered → Type 0
@@ -52,8 +53,8 @@ abbrev pub StartCause : StartFault → List ℕ → SecretView → Type 0
 StartCause NotMade file secret = ¬ (IsMade file)
 StartCause (Damaged at) file secret = IsMade file × BreaksAt file at
 StartCause (OtherShape kept now) file secret = StandsForOne file kept (λ _. (now ≡ secret.shape) × (kept ≢ now))
-StartCause (Untrue place kept now) file secret = StandsForOne file secret.shape (λ history. IsFirstUntrue (table_of secret) history place kept now)
-StartCause (Illegal place) file secret = StandsForOne file secret.shape (λ history. IsFirstIllegal (table_of secret) history place)
+StartCause (Untrue place kept now) file secret = StandsForOne file secret.shape (λ history. IsFirstUntrue (secret_table secret) history place kept now)
+StartCause (Illegal place) file secret = StandsForOne file secret.shape (λ history. IsFirstIllegal (secret_table secret) history place)
 StartCause Failed file secret = Unit {0}
 StartCause NoMemory file secret = Unit {0}
 
@@ -62,8 +63,8 @@ abbrev pub HistoryCause : StartFault → Shape → List Answered → SecretView 
 HistoryCause NotMade shape history secret = ⊥
 HistoryCause (Damaged at) shape history secret = ⊥
 HistoryCause (OtherShape kept now) shape history secret = (kept ≡ shape) × (now ≡ secret.shape) × (kept ≢ now)
-HistoryCause (Untrue place kept now) shape history secret = (shape ≡ secret.shape) × IsFirstUntrue (table_of secret) history place kept now
-HistoryCause (Illegal place) shape history secret = (shape ≡ secret.shape) × IsFirstIllegal (table_of secret) history place
+HistoryCause (Untrue place kept now) shape history secret = (shape ≡ secret.shape) × IsFirstUntrue (secret_table secret) history place kept now
+HistoryCause (Illegal place) shape history secret = (shape ≡ secret.shape) × IsFirstIllegal (secret_table secret) history place
 HistoryCause Failed shape history secret = ⊥
 HistoryCause NoMemory shape history secret = Unit {0}
 

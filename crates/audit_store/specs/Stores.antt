@@ -1,17 +1,19 @@
 -- A store, as contracts see it: the secrets that it guards, what was released of them, and the journal behind it.
 use Rattle.std.specs.Prelude.{◌≡◌, ℕ, ◌≤◌, Bool, true, List, length}
+use Rattle.std.specs.Option.{option_to_list}
 use Rattle.audit_types.specs.declared.records.Asked.{Asked}
 use Rattle.audit_types.specs.declared.records.Answered.{Answered}
-use Rattle.audit_types.specs.History.{Table, IsLegal, setting_of}
+use Rattle.audit_types.specs.History.{IsLegal, setting_of}
 use Rattle.audit_core.specs.Audited.{Audited}
 use Rattle.table_load.specs.Cells.{SecretView, IsSecret}
+use Rattle.table_load.specs.Database.{secret_table}
 use Rattle.bench_core.specs.declared.bench.Bench.{Ghosts}
 use Rattle.bench_core.specs.Calls.{LeavesOnly}
 use Rattle.journal_form.specs.Journal.{StandsAt}
 use Rattle.answer_journal.specs.Contents.{JournalContents}
 use Rattle.answer_journal.specs.Moments.{IsBeforeOrAfter}
-use Rattle.audit_store.specs.declared.outcome.Outcome.{Outcome}
-use Rattle.audit_store.specs.Outcomes.{IsOutcome, AreOutcomes, record_of, records_of}
+use Rattle.audit_core.specs.declared.outcome.Outcome.{Outcome}
+use Rattle.audit_core.specs.Outcomes.{IsOutcome, AreOutcomes, record_of, records_made}
 
 -- the secrets, the released records in order, the journal, and whether questions may be asked
 pub record StoreContents : Type 0 where
@@ -20,14 +22,10 @@ pub record StoreContents : Type 0 where
   pub journal : JournalContents
   pub usable : Bool
 
--- the table whose secrets these are
-abbrev pub table_of : SecretView → Table
-table_of secret = record { setting = setting_of secret.shape; secrets = secret.lists }
-
 -- what is true of every store: its history is legal, and while it is usable its journal is that of its table and history
 pub record IsStore (store : StoreContents) : Type 0 where
   pub numbers : IsSecret store.secret
-  pub legal : IsLegal (table_of store.secret) store.history
+  pub legal : IsLegal (secret_table store.secret) store.history
   pub journal_usable : store.usable ≡ true → store.journal.usable ≡ true
   pub same_shape : store.usable ≡ true → store.journal.shape ≡ store.secret.shape
   pub counted : store.usable ≡ true → store.journal.count ≡ length store.history
@@ -47,11 +45,11 @@ IsAsLeft file store = StandsAt file store.secret.shape store.history store.journ
 -- history before the group or for that with the group's records
 pub record Keeps {D : Type 0} (bench : Ghosts D) (before after : D) (secret : SecretView) (history : List Answered) (questions : List Asked) (sent : List ℕ) : Type 0 where
   pub outcomes : List Outcome
-  pub due : AreOutcomes (table_of secret) history questions outcomes
-  pub moments : LeavesOnly bench before after (IsBeforeOrAfter secret.shape history (records_of questions outcomes) sent)
+  pub due : AreOutcomes (secret_table secret) history questions outcomes
+  pub moments : LeavesOnly bench before after (IsBeforeOrAfter secret.shape history (records_made questions outcomes) sent)
 
 -- what a crash finds while one question is decided and its answer kept
 pub record KeepsOne {D : Type 0} (bench : Ghosts D) (before after : D) (secret : SecretView) (history : List Answered) (asked : Asked) (sent : List ℕ) : Type 0 where
   pub outcome : Outcome
-  pub due : IsOutcome (table_of secret) history asked outcome
-  pub moments : LeavesOnly bench before after (IsBeforeOrAfter secret.shape history (record_of asked outcome) sent)
+  pub due : IsOutcome (secret_table secret) history asked outcome
+  pub moments : LeavesOnly bench before after (IsBeforeOrAfter secret.shape history (option_to_list (record_of asked outcome)) sent)

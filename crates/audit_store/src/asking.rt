@@ -1,5 +1,6 @@
 //! Deciding a question, and keeping its answer.
 ghost use Rattle.std.specs.Prelude.{◌≡◌, ◌≢◌, ◌<◌, ◌≤◌, ◌+◌, ◌*◌, ◌++◌, [], ◌∷◌, ℕ, List, true, length, take, IfOk, OnOk, IsErrOf};
+ghost use Rattle.std.specs.Option.{option_to_list};
 ghost use Rattle.audit_types.specs.declared.records.Verdict.TheVariants.{Released};
 ghost use Rattle.audit_types.specs.Judgement.{IsWithinWidth};
 ghost use Rattle.audit_types.specs.History.{FitsShape, IsLegal, IsDecisionAfter, known_of, setting_of};
@@ -7,13 +8,13 @@ ghost use Rattle.bench_core.specs.Causes.{Rose};
 ghost use Rattle.bench_core.specs.Calls.{IsQuiet, LeavesOnly};
 ghost use Rattle.journal_form.specs.Journal.{StandsAt};
 ghost use Rattle.answer_journal.specs.Moments.{IsBeforeOrAfter};
-ghost use Rattle.audit_store.specs.Outcomes.{IsOutcome, record_of};
+ghost use Rattle.audit_core.specs.Outcomes.{IsOutcome, record_of};
 ghost use Rattle.audit_store.specs.Stores.{KeepsOne};
-ghost use Rattle.audit_store.specs.Stores.{table_of};
+ghost use Rattle.table_load.specs.Database.{secret_table};
 
-use crate::outcome::{Outcome, StoreFault};
+use crate::outcome::StoreFault;
 use answer_journal::Journal;
-use audit_core::Core;
+use audit_core::{Core, Outcome};
 use audit_core::laws::released_records;
 use audit_types::laws::true_answers;
 use audit_types::{Answered, Asked, NoMemory, Verdict};
@@ -26,9 +27,9 @@ const MOST_RECORDS: usize = 65_536;
 /// What becomes of a question after the records of the core. The decision reads no secret, and the answer is read after it.
 pub fn outcome_of(secret: &Secret, core: &Core, asked: &Asked) -> Result<Outcome, NoMemory>
     requires same_setting { core.now.setting ≡ setting_of secret.now.shape }
-    requires legal { IsLegal (table_of secret.now) core.now.history }
+    requires legal { IsLegal (secret_table secret.now) core.now.history }
     requires fits { FitsShape secret.now.shape asked.now.column asked.now.rows }
-    ensures { IfOk result (λ outcome. IsOutcome (table_of secret.now) core.now.history asked.now outcome) }
+    ensures { IfOk result (λ outcome. IsOutcome (secret_table secret.now) core.now.history asked.now outcome) }
 {
     true_answers();
     // The secrets say of themselves that they are a table's.
@@ -101,16 +102,16 @@ pub fn settle<B: Bench>(
     asked: &Asked,
 ) -> Result<Outcome, StoreFault>
     requires same_setting { core.old.setting ≡ setting_of secret.now.shape }
-    requires legal { IsLegal (table_of secret.now) core.old.history }
+    requires legal { IsLegal (secret_table secret.now) core.old.history }
     requires fits { FitsShape secret.now.shape asked.now.column asked.now.rows }
     requires usable { journal.old.usable ≡ true }
     requires shape { journal.old.shape ≡ secret.now.shape }
     requires counted { journal.old.count ≡ length core.old.history }
     requires stands { B.told → StandsAt (B.file bench.old) secret.now.shape core.old.history journal.old.gate }
 
-    ensures outcome { IfOk result (λ outcome. IsOutcome (table_of secret.now) core.old.history asked.now outcome) }
-    ensures history { IfOk result (λ outcome. core.new.history ≡ core.old.history ++ record_of asked.now outcome) }
-    ensures legal { OnOk result (IsLegal (table_of secret.now) core.new.history) }
+    ensures outcome { IfOk result (λ outcome. IsOutcome (secret_table secret.now) core.old.history asked.now outcome) }
+    ensures history { IfOk result (λ outcome. core.new.history ≡ core.old.history ++ option_to_list (record_of asked.now outcome)) }
+    ensures legal { OnOk result (IsLegal (secret_table secret.now) core.new.history) }
     ensures begins { take (length core.old.history) core.new.history ≡ core.old.history }
     ensures setting { core.new.setting ≡ core.old.setting }
     ensures within { length core.old.history ≤ length core.new.history }
@@ -121,12 +122,12 @@ pub fn settle<B: Bench>(
     ensures any_moment { B.told → IsQuiet B.Bench bench.old → (IsErrOf result StoreFault.NoMemory → ⊥)
         → KeepsOne B.Bench bench.old bench.new secret.now core.old.history asked.now (B.sent bench.old) }
     ensures moments { B.told → IsQuiet B.Bench bench.old
-        → IfOk result (λ outcome. LeavesOnly B.Bench bench.old bench.new (IsBeforeOrAfter secret.now.shape core.old.history (record_of asked.now outcome) (B.sent bench.old))) }
+        → IfOk result (λ outcome. LeavesOnly B.Bench bench.old bench.new (IsBeforeOrAfter secret.now.shape core.old.history (option_to_list (record_of asked.now outcome)) (B.sent bench.old))) }
     ensures stands { B.told → OnOk result (StandsAt (B.file bench.new) secret.now.shape core.new.history journal.new.gate) }
     ensures quiet { B.told → IsQuiet B.Bench bench.old → OnOk result (IsQuiet B.Bench bench.new) }
     ensures sent { B.sent bench.new ≡ B.sent bench.old }
-    ensures ticks { B.told → IfOk result (λ outcome. B.moment bench.new ≡ B.moment bench.old + 4 * length (record_of asked.now outcome)) }
-    ensures unasked { IfOk result (λ outcome. record_of asked.now outcome ≡ [] → bench.new ≡ bench.old) }
+    ensures ticks { B.told → IfOk result (λ outcome. B.moment bench.new ≡ B.moment bench.old + 4 * length (option_to_list (record_of asked.now outcome))) }
+    ensures unasked { IfOk result (λ outcome. option_to_list (record_of asked.now outcome) ≡ [] → bench.new ≡ bench.old) }
     ensures no_memory { IsErrOf result StoreFault.NoMemory → bench.new ≡ bench.old }
     ensures failed { IsErrOf result StoreFault.Failed → Rose (B.faults bench.old) (B.faults bench.new) }
     ensures later { B.faults bench.old ≤ B.faults bench.new }

@@ -9,7 +9,8 @@ mod outcome;
 mod starting;
 mod store;
 
-pub use outcome::{Outcome, StoreFault};
+pub use audit_core::Outcome;
+pub use outcome::StoreFault;
 pub use starting::StartFault;
 pub use store::Store;
 

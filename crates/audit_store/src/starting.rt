@@ -3,7 +3,7 @@ ghost use Rattle.std.specs.Prelude.{◌≡◌, ◌≤◌, true, false, Ok, lengt
 ghost use Rattle.audit_types.specs.History.{FitsShape, IsLegal, IsPossibleHistory, IsDecisionAfter, setting_of};
 ghost use Rattle.audit_types.specs.declared.records.Verdict.TheVariants.{Released};
 ghost use Rattle.audit_store.specs.Starting.{AreTrue, HistoryCause, start_fault};
-ghost use Rattle.audit_store.specs.Stores.{table_of};
+ghost use Rattle.table_load.specs.Database.{secret_table};
 
 use answer_journal::BackFault;
 use audit_core::Core;
@@ -49,7 +49,7 @@ impl From<BackFault> for StartFault {
 fn test_truth(secret: &Secret, list: &[Answered]) -> Result<(), StartFault>
     requires fit { All (λ r. FitsShape secret.now.shape r.column r.rows) list.now }
     requires few { length list.now ≤ 65536 }
-    ensures ok { OnOk result (AreTrue (table_of secret.now) list.now) }
+    ensures ok { OnOk result (AreTrue (secret_table secret.now) list.now) }
     ensures err { IfErr result (λ fault. HistoryCause fault secret.now.shape list.now secret.now) }
 {
     for (place, answered) in list.iter().enumerate() {
@@ -88,8 +88,8 @@ fn is_released(core: &Core, answered: &Answered) -> Result<bool, NoMemory>
 fn replay(alloc: Global, secret: &Secret, list: &[Answered]) -> Result<Core, StartFault>
     requires fit { All (λ r. FitsShape secret.now.shape r.column r.rows) list.now }
     requires few { length list.now ≤ 65536 }
-    requires are_true { AreTrue (table_of secret.now) list.now }
-    ensures ok { IfOk result (λ core. (core ≡ record { setting = setting_of secret.now.shape; history = list.now }) × IsLegal (table_of secret.now) list.now) }
+    requires are_true { AreTrue (secret_table secret.now) list.now }
+    ensures ok { IfOk result (λ core. (core ≡ record { setting = setting_of secret.now.shape; history = list.now }) × IsLegal (secret_table secret.now) list.now) }
     ensures err { IfErr result (λ fault. HistoryCause fault secret.now.shape list.now secret.now) }
 {
     true_answers();
@@ -120,7 +120,7 @@ fn replay(alloc: Global, secret: &Secret, list: &[Answered]) -> Result<Core, Sta
 pub fn audited(alloc: Global, secret: &Secret, list: &[Answered]) -> Result<Core, StartFault>
     requires fit { All (λ r. FitsShape secret.now.shape r.column r.rows) list.now }
     requires few { length list.now ≤ 65536 }
-    ensures ok { IfOk result (λ core. (core ≡ record { setting = setting_of secret.now.shape; history = list.now }) × IsLegal (table_of secret.now) list.now) }
+    ensures ok { IfOk result (λ core. (core ≡ record { setting = setting_of secret.now.shape; history = list.now }) × IsLegal (secret_table secret.now) list.now) }
     ensures err { IfErr result (λ fault. HistoryCause fault secret.now.shape list.now secret.now) }
 {
     match test_truth(secret, list) {

@@ -6,16 +6,17 @@ ghost use Rattle.bench_core.specs.Causes.{Rose};
 ghost use Rattle.bench_core.specs.Calls.{IsQuiet, LeavesOnly};
 ghost use Rattle.journal_form.specs.Journal.{StandsFor};
 ghost use Rattle.answer_journal.specs.Moments.{IsBeforeOrAfter, IsUntouched};
-ghost use Rattle.audit_store.specs.Outcomes.{AreOutcomes, records_of};
-ghost use Rattle.audit_store.specs.Stores.{IsAsLeft, IsStore, Keeps, table_of};
+ghost use Rattle.audit_core.specs.Outcomes.{AreOutcomes, records_made};
+ghost use Rattle.audit_store.specs.Stores.{IsAsLeft, IsStore, Keeps};
+ghost use Rattle.table_load.specs.Database.{secret_table};
 ghost use Rattle.audit_store.specs.Starting.{StartCause, HistoryCause, GivesUp, StartsUnlessFailed, RefusedUnlessFailed};
 ghost use Rattle.audit_store.specs.declared.starting.StartFault.{StartFault};
 
 use crate::asking::settle;
-use crate::outcome::{Outcome, StoreFault};
+use crate::outcome::StoreFault;
 use crate::starting::{StartFault, audited};
 use answer_journal::Journal;
-use audit_core::Core;
+use audit_core::{Core, Outcome};
 use audit_types::{Answered, Asked};
 use bench_core::Bench;
 use std::alloc::Global;
@@ -59,7 +60,7 @@ fn opened(
     ensures is { IfOk result (λ store. IsStore store) }
     ensures err { IfErr result (λ fault. HistoryCause fault journal.shape list.now secret) }
     ensures due { (fault : StartFault) → (GivesUp fault → ⊥) → HistoryCause fault journal.shape list.now secret → RefusedUnlessFailed fault result }
-    ensures opens { journal.shape ≡ secret.shape → IsLegal (table_of secret) list.now → StartsUnlessFailed result }
+    ensures opens { journal.shape ≡ secret.shape → IsLegal (secret_table secret) list.now → StartsUnlessFailed result }
 {
     let kept = journal.shape();
     let now = secret.shape();
@@ -95,7 +96,7 @@ impl Store {
         // Each refusal has its cause in the file, and each cause has its refusal; a legal history is never refused.
         ensures cause { (fault : StartFault) → B.told → result ≡ Err fault → StartCause fault (B.file bench.old) secret }
         ensures due { (fault : StartFault) → B.told → (GivesUp fault → ⊥) → StartCause fault (B.file bench.old) secret → RefusedUnlessFailed fault result }
-        ensures opens { (history : List Answered) → B.told → StandsFor (B.file bench.old) secret.shape history → IsLegal (table_of secret) history → StartsUnlessFailed result }
+        ensures opens { (history : List Answered) → B.told → StandsFor (B.file bench.old) secret.shape history → IsLegal (secret_table secret) history → StartsUnlessFailed result }
 
         // Nothing is written and nothing sent.
         ensures file { B.file bench.new ≡ B.file bench.old }
@@ -124,8 +125,8 @@ impl Store {
         requires stands { B.told → IsAsLeft (B.file bench.old) self.old }
 
         // One outcome for each question, and the history has the records that they make.
-        ensures outcomes { IfOk result (λ v. AreOutcomes (table_of self.old.secret) self.old.history asked.now v.items) }
-        ensures history { IfOk result (λ v. self.new.history ≡ self.old.history ++ records_of asked.now v.items) }
+        ensures outcomes { IfOk result (λ v. AreOutcomes (secret_table self.old.secret) self.old.history asked.now v.items) }
+        ensures history { IfOk result (λ v. self.new.history ≡ self.old.history ++ records_made asked.now v.items) }
         ensures stands { B.told → OnOk result (IsAsLeft (B.file bench.new) self.new) }
         ensures usable { OnOk result (self.new.usable ≡ true) }
 
@@ -142,11 +143,11 @@ impl Store {
         ensures any_moment { B.told → IsQuiet B.Bench bench.old → (IsErrOf result StoreFault.NoMemory → ⊥)
             → Keeps B.Bench bench.old bench.new self.old.secret self.old.history asked.now (B.sent bench.old) }
         ensures moments { B.told → IsQuiet B.Bench bench.old
-            → IfOk result (λ v. LeavesOnly B.Bench bench.old bench.new (IsBeforeOrAfter self.old.secret.shape self.old.history (records_of asked.now v.items) (B.sent bench.old))) }
+            → IfOk result (λ v. LeavesOnly B.Bench bench.old bench.new (IsBeforeOrAfter self.old.secret.shape self.old.history (records_made asked.now v.items) (B.sent bench.old))) }
         ensures quiet { B.told → IsQuiet B.Bench bench.old → OnOk result (IsQuiet B.Bench bench.new) }
         ensures sent { B.sent bench.new ≡ B.sent bench.old }
-        ensures ticks { B.told → IfOk result (λ v. B.moment bench.new ≡ B.moment bench.old + 4 * length (records_of asked.now v.items)) }
-        ensures unasked { IfOk result (λ v. records_of asked.now v.items ≡ [] → bench.new ≡ bench.old) }
+        ensures ticks { B.told → IfOk result (λ v. B.moment bench.new ≡ B.moment bench.old + 4 * length (records_made asked.now v.items)) }
+        ensures unasked { IfOk result (λ v. records_made asked.now v.items ≡ [] → bench.new ≡ bench.old) }
     {
         self.usable = false;
         let mut outcomes = match Vec::with_capacity(self.alloc, 1) {

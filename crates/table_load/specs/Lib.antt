@@ -7,3 +7,4 @@ pub mod Tables
 pub mod Kept
 pub mod Steps
 pub mod Loaded
+pub mod Database

@@ -3,7 +3,8 @@ use Rattle.std.specs.Option.{option_to_list}
 use Rattle.journal_form.specs.Journal.{StandsFor}
 use Rattle.line_wire.specs.Reply.{reply_bytes}
 use Rattle.audit_session.specs.Deciding.{line_of}
-use Rattle.audit_session.specs.Replies.{IsDue, base_of}
+use Rattle.audit_session.specs.Replies.{IsDue}
+use Rattle.table_load.specs.Database.{base_of}
 use Rattle.audit_session.proofs.WhileAnswering.{only_decided, then_sent, left_stands}
 use Rattle.audit_session.proofs.serving.answer_line.Goals as goal
 

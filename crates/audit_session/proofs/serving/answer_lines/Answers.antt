@@ -1,6 +1,6 @@
 use Rattle.std.proofs.Common.{◌++◌, length, length-append, refl, ◌∙◌, ap, arith}
 use Rattle.line_wire.specs.Lines.{text, long, counted_lines}
-use Rattle.audit_session.specs.Replies.{base_of}
+use Rattle.table_load.specs.Database.{base_of}
 use Rattle.audit_session.proofs.AnsweredLines.{served_at_input, served_at_limit}
 use Rattle.audit_session.proofs.NextLines.{takes_text, takes_long, takes_none, counts_text, counts_long, stops_input, stops_limit, limit_within, input_is}
 use Rattle.audit_session.proofs.Served.{served_first, next_turn, turn_moments, refused_end, right_nil}

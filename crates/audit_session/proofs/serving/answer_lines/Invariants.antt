@@ -1,5 +1,5 @@
 use Rattle.std.proofs.Common.{◌+◌, ◌-◌, ◌^◌, length}
-use Rattle.audit_session.specs.Replies.{base_of}
+use Rattle.table_load.specs.Database.{base_of}
 use Rattle.audit_session.proofs.Served.{Served}
 use Rattle.audit_session.proofs.serving.answer_lines.Given as goal
 

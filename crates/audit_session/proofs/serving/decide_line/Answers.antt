@@ -6,7 +6,8 @@ use Rattle.audit_session.specs.declared.serving.Line.{Line}
 use Rattle.audit_types.specs.declared.records.Answered.{Answered}
 use Rattle.audit_session.specs.Session.{Replied}
 use Rattle.audit_session.specs.Deciding.{Decides, Deciding, line_of}
-use Rattle.audit_session.specs.Replies.{IsDue, base_of}
+use Rattle.audit_session.specs.Replies.{IsDue}
+use Rattle.table_load.specs.Database.{base_of}
 use Rattle.audit_session.proofs.serving.decide_line.Goals as goal
 
 pub returns-in-Text-clause-reply : goal.returns-in-Text-clause-reply

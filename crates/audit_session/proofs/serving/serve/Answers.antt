@@ -1,5 +1,5 @@
 use Rattle.line_wire.specs.Lines.{counted_lines}
-use Rattle.audit_session.specs.Replies.{base_of}
+use Rattle.table_load.specs.Database.{base_of}
 use Rattle.audit_session.proofs.Served.{stops_first}
 use Rattle.audit_session.proofs.serving.serve.Goals as goal
 

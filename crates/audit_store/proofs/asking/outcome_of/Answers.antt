@@ -17,7 +17,7 @@ returns-in-Ok-Released c =
     let possible = legal_is_possible secret history c.true_answers.ensures.legal c.shape.ensures.is c.requires.legal in
     let told = c.in-Ok-Released.ensures.decided (subst (λ (s : Setting). IsPossibleHistory s history) (sym setting) possible) in
     let released = subst (λ (v : Verdict). IsDecisionAfter c.args.core.now.setting history column rows v) c.in-Ok-Released.field-0-is told in
-    let few : length history < 65536 = omega (arith, ap length c.history.ensures, c.if-history-ge-MOST_RECORDS.false) in
+    let few : length history < 65536 = omega (arith, ap length c.history.ensures.is, c.if-history-ge-MOST_RECORDS.false) in
     let in_range : FitsSigned w64 c.truth.result = search rules in
     (few, subst (λ (s : Setting). IsDecisionAfter s history column rows Released) setting released, to_z-of_z in_range ∙ c.truth.ensures)
 
@@ -31,5 +31,5 @@ returns-in-Ok-DeniedUnsafe c =
     let possible = legal_is_possible secret history c.true_answers.ensures.legal c.shape.ensures.is c.requires.legal in
     let told = c.in-Ok-DeniedUnsafe.ensures.decided (subst (λ (s : Setting). IsPossibleHistory s history) (sym setting) possible) in
     let denied = subst (λ (v : Verdict). IsDecisionAfter c.args.core.now.setting history column rows v) c.in-Ok-DeniedUnsafe.field-0-is told in
-    let few : length history < 65536 = omega (arith, ap length c.history.ensures, c.if-history-ge-MOST_RECORDS.false) in
+    let few : length history < 65536 = omega (arith, ap length c.history.ensures.is, c.if-history-ge-MOST_RECORDS.false) in
     (few, (λ e. cc), subst (λ (s : Setting). IsDecisionAfter s history column rows DeniedUnsafe) setting denied)

@@ -4,14 +4,14 @@ use Rattle.std.proofs.Math.Facts.{to_z-of_z}
 use Rattle.audit_types.specs.declared.records.Answered.{Answered}
 use Rattle.audit_types.specs.History.{IsLegal}
 use Rattle.audit_core.specs.Audited.{Audited}
-use Rattle.audit_store.specs.declared.outcome.Outcome.{Outcome}
-use Rattle.audit_store.specs.Outcomes.{IsOutcome}
-use Rattle.audit_store.specs.Stores.{table_of}
+use Rattle.audit_core.specs.declared.outcome.Outcome.{Outcome}
+use Rattle.audit_core.specs.Outcomes.{IsOutcome}
+use Rattle.table_load.specs.Database.{secret_table}
 use Rattle.audit_store.proofs.asking.settle.Goals as goal
 
 pub returns-in-Ok-clause-legal : goal.returns-in-Ok-clause-legal
 returns-in-Ok-clause-legal g c =
-    let table = table_of c.args.secret.now in
+    let table = secret_table c.args.secret.now in
     let history = c.args.core.now.history in
     let asked = c.args.asked.now in
     let in_range : FitsSigned w64 c.in-Ok-Answer.answer = search rules in

@@ -6,7 +6,7 @@ use Rattle.audit_types.specs.declared.records.Answered.{Answered}
 use Rattle.audit_types.specs.History.{FitsShape}
 use Rattle.audit_core.specs.Audited.{Audited}
 use Rattle.audit_store.specs.Starting.{IsTrue, IsReleasedAfter}
-use Rattle.audit_store.specs.Stores.{table_of}
+use Rattle.table_load.specs.Database.{secret_table}
 use Rattle.audit_store.proofs.LegalHistories.{legal_is_possible, legal_more, released_before}
 use Rattle.audit_store.proofs.starting.replay.Goals as goal
 
@@ -24,7 +24,7 @@ returns-in-Ok-false-clause-err c =
     let i = c.loop-place.invariant in
     let list = c.args.list.now in
     let r = c.index-list-place.result in
-    let table = table_of c.args.secret.now in
+    let table = secret_table c.args.secret.now in
     let denied : IsReleasedAfter table (take c.loop-place.place list) r → ⊥ = rw (i.same_setting, i.so_far) at (c.in-Ok-false.ensures.no (ap said c.in-Ok-false.field-0-test)) in (
       refl,
       record {
@@ -42,7 +42,7 @@ loop-place-preserved c =
     let list = c.args.list.now in
     let place = c.loop-place.place in
     let r = c.index-list-place.result in
-    let table = table_of c.args.secret.now in
+    let table = secret_table c.args.secret.now in
     let released : IsReleasedAfter table (take place list) r = rw (i.same_setting, i.so_far) at (c.in-Ok-true.ensures.yes (ap said c.in-Ok-true.field-0-test)) in
     let inside = c.loop-place-test.true in
     let here : get_or list place r ≡ r = sym c.index-list-place.is in

@@ -1,6 +1,6 @@
 use Rattle.std.proofs.Common.{◌≡◌, take}
 use Rattle.audit_types.specs.History.{IsLegal, setting_of}
-use Rattle.audit_store.specs.Stores.{table_of}
+use Rattle.table_load.specs.Database.{secret_table}
 use Rattle.audit_store.proofs.starting.replay.Given as goal
 
 -- the core has the records so far, and they are legal
@@ -8,5 +8,5 @@ abbrev pub invariant-loop-place : goal.invariant-loop-place
 invariant-loop-place l = record {
   same_setting : l.core.setting ≡ setting_of l.secret.shape;
   so_far : l.core.history ≡ take l.place l.list;
-  legal : IsLegal (table_of l.secret) (take l.place l.list);
+  legal : IsLegal (secret_table l.secret) (take l.place l.list);
 }

@@ -4,6 +4,8 @@ use Rattle.std.specs.Int.{w64}
 use Rattle.std.proofs.lemmas.Int.{to_z-of_z}
 use Rattle.audit_types.specs.Column.{with_answer}
 use Rattle.audit_types.specs.Shapes.{columns}
+use Rattle.audit_types.specs.History.{FitsShape}
+use Rattle.audit_core.specs.Audited.{Audited}
 use Rattle.audit_core.specs.Columns.{IsCore, known_in}
 use Rattle.audit_core.proofs.ColumnsAfter.{record_taken}
 use Rattle.audit_core.proofs.all_columns.Core.take.Goals as goal
@@ -16,4 +18,5 @@ invariant_of-self-2 c =
     let records = c.push_reserved.ensures.items ∙ ap (λ l. l ++ r ∷ []) c.reserve.ensures.items in
     subst (IsCore c.self.inside.shape _) (sym records)
     (record_taken c.self.inside.shape c.self.inside.history.items r c.self.inside.columns.items c.index_mut.result.now c.accept.new.self c.self.invariant below c.index_mut.ensures.value
-    (c.in_ok-accept.ensures.ok ∙ ap (with_answer (known_in c.index_mut.result.now) r.rows.list) (to_z-of_z w64 r.answer fits)))
+    (c.in_ok-accept.ensures.ok ∙ ap (with_answer (known_in c.index_mut.result.now) r.rows.list) (to_z-of_z w64 r.answer fits))
+    (subst (λ (a : Audited). FitsShape a.setting.shape r.column r.rows) (sym c.self.view_is) c.requires.fits))

@@ -4,7 +4,7 @@ use Rattle.audit_types.specs.declared.records.Answered.{Answered}
 use Rattle.audit_types.specs.History.{IsLegal}
 use Rattle.audit_store.specs.declared.starting.StartFault.{StartFault}
 use Rattle.audit_store.specs.Starting.{HistoryCause, GivesUp}
-use Rattle.audit_store.specs.Stores.{table_of}
+use Rattle.table_load.specs.Database.{secret_table}
 use Rattle.audit_store.proofs.Causes.{gave_up, cause_in_file, due_of_reading, due_of_history}
 use Rattle.audit_store.proofs.store.Store.start.Goals as goal
 
@@ -28,7 +28,7 @@ returns-in-Ok-clause-due g c = λ fault told some cause.
 pub returns-in-Ok-clause-opens : goal.returns-in-Ok-clause-opens
 returns-in-Ok-clause-opens g c = λ history told stands legal.
     let same = c.in-Ok.ensures.whole c.args.secret.shape history stands.0 told stands.1 in
-    c.opened.ensures.opens same.0 (subst (λ (h : List Answered). IsLegal (table_of c.args.secret) h) (sym (c.deref.ensures.value ∙ same.1)) legal)
+    c.opened.ensures.opens same.0 (subst (λ (h : List Answered). IsLegal (secret_table c.args.secret) h) (sym (c.deref.ensures.value ∙ same.1)) legal)
 
 pub returns-in-Err-clause-due : goal.returns-in-Err-clause-due
 returns-in-Err-clause-due g c = λ fault told some cause.
