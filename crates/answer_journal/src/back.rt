@@ -1,5 +1,5 @@
 //! Reading the journal of a bench back.
-ghost use Rattle.std.specs.Prelude.{◌≡◌, ◌≤◌, ℕ, List, true, length, take, All, IfOk, IfErr, MatchResult, IsErrOf, Err};
+ghost use Rattle.std.specs.Prelude.{◌≡◌, ◌≤◌, ◌+◌, ℕ, List, true, length, take, All, IfOk, IfErr, OnOk, MatchResult, IsErrOf, Err};
 ghost use Rattle.audit_types.specs.declared.shapes.Shape.{Shape};
 ghost use Rattle.audit_types.specs.declared.records.Answered.{Answered};
 ghost use Rattle.audit_types.specs.History.{FitsShape};
@@ -29,25 +29,17 @@ fn front_of<B: Bench>(alloc: Global, bench: &mut B) -> Result<Vec<u8>, BackFault
     ensures sent { B.sent bench.new ≡ B.sent bench.old }
     ensures crash { (image : List ℕ) → B.leaves bench.new image → B.leaves bench.old image }
     ensures untouched { B.told → IsQuiet B.Bench bench.old → LeavesOnly B.Bench bench.old bench.new (IsUntouched (B.file bench.old) (B.sent bench.old)) }
+    ensures ticks { B.told → OnOk result (B.moment bench.new ≡ B.moment bench.old + 2) }
     ensures failed { IsErrOf result BackFault.Failed → Rose (B.faults bench.old) (B.faults bench.new) }
+    ensures steady { (IsErrOf result BackFault.Failed → ⊥) → B.faults bench.new ≡ B.faults bench.old }
     ensures later { B.faults bench.old ≤ B.faults bench.new }
     ensures err { IfErr result (λ fault. GaveUp fault) }
 {
-    let length = match bench.length() {
-        Ok(length) => length,
-        Err(_) => return Err(BackFault::Failed),
-    };
-    let mut bytes = match vec![in alloc; 0; length.min(MOST_BYTES) as usize] {
-        Ok(bytes) => bytes,
-        Err(_) => return Err(BackFault::NoMemory),
-    };
-    match bench.read_at(0, &mut bytes) {
-        Ok(count) => {
-            bytes.truncate(count);
-            Ok(bytes)
-        }
-        Err(_) => Err(BackFault::Failed),
-    }
+    let length = bench.length()?;
+    let mut bytes = vec![in alloc; 0; length.min(MOST_BYTES) as usize]?;
+    let count = bench.read_at(0, &mut bytes)?;
+    bytes.truncate(count);
+    Ok(bytes)
 }
 
 // What the bench's file stands for.
@@ -59,14 +51,14 @@ fn contents_of<B: Bench>(alloc: Global, bench: &mut B) -> Result<Contents, BackF
     ensures sent { B.sent bench.new ≡ B.sent bench.old }
     ensures crash { (image : List ℕ) → B.leaves bench.new image → B.leaves bench.old image }
     ensures untouched { B.told → IsQuiet B.Bench bench.old → LeavesOnly B.Bench bench.old bench.new (IsUntouched (B.file bench.old) (B.sent bench.old)) }
+    ensures ticks { B.told → OnOk result (B.moment bench.new ≡ B.moment bench.old + 2) }
     ensures failed { IsErrOf result BackFault.Failed → Rose (B.faults bench.old) (B.faults bench.new) }
+    ensures steady { (IsErrOf result BackFault.Failed → ⊥) → B.faults bench.new ≡ B.faults bench.old }
     ensures later { B.faults bench.old ≤ B.faults bench.new }
 {
     the_front_tells();
-    match front_of(alloc, bench) {
-        Ok(bytes) => read_all(alloc, &bytes),
-        Err(fault) => Err(fault),
-    }
+    let bytes = front_of(alloc, bench)?;
+    read_all(alloc, &bytes)
 }
 
 impl Journal {
@@ -96,7 +88,9 @@ impl Journal {
         ensures sent { B.sent bench.new ≡ B.sent bench.old }
         ensures crash { (image : List ℕ) → B.leaves bench.new image → B.leaves bench.old image }
         ensures untouched { B.told → IsQuiet B.Bench bench.old → LeavesOnly B.Bench bench.old bench.new (IsUntouched (B.file bench.old) (B.sent bench.old)) }
+        ensures ticks { B.told → OnOk result (B.moment bench.new ≡ B.moment bench.old + 2) }
         ensures failed { IsErrOf result BackFault.Failed → Rose (B.faults bench.old) (B.faults bench.new) }
+        ensures steady { (IsErrOf result BackFault.Failed → ⊥) → B.faults bench.new ≡ B.faults bench.old }
         ensures later { B.faults bench.old ≤ B.faults bench.new }
     {
         one_reading();

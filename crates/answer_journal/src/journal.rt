@@ -6,6 +6,7 @@ ghost use Rattle.bench_core.specs.Causes.{HasCause, Rose};
 ghost use Rattle.bench_core.specs.Calls.{IsQuiet, LeavesOnly};
 ghost use Rattle.journal_form.specs.Journal.{StandsAt};
 ghost use Rattle.answer_journal.specs.Contents.{IsJournal, ReadyContents};
+ghost use Rattle.answer_journal.specs.Append.{AppendsGroup};
 ghost use Rattle.answer_journal.specs.Moments.{IsBeforeOrAfter};
 
 use crate::append::append_bytes;
@@ -13,7 +14,7 @@ use crate::ready::Ready;
 use audit_types::{Answered, NoMemory, Shape};
 use bench_core::{Bench, Failed};
 use journal_form::laws::bytes_of_records;
-use std::alloc::Global;
+use std::alloc::{AllocError, Global};
 use std::marker::Model;
 
 /// Why a group was not appended.
@@ -23,6 +24,26 @@ pub enum AppendFault {
     Failed,
     /// Nothing was called and nothing changed.
     NoMemory,
+}
+
+impl From<NoMemory> for AppendFault {
+    ghost use Rattle.answer_journal.specs.declared.journal.AppendFault.TheVariants.{NoMemory};
+
+    ghost from_gives = { λ _ e. e ≡ NoMemory };
+
+    fn from(_e: NoMemory) -> AppendFault {
+        AppendFault::NoMemory
+    }
+}
+
+impl From<Failed> for AppendFault {
+    ghost use Rattle.answer_journal.specs.declared.journal.AppendFault.TheVariants.{Failed};
+
+    ghost from_gives = { λ _ e. e ≡ Failed };
+
+    fn from(_e: Failed) -> AppendFault {
+        AppendFault::Failed
+    }
 }
 
 /// Why a journal was not read back.
@@ -35,6 +56,26 @@ pub enum BackFault {
     /// A call of the bench failed.
     Failed,
     NoMemory,
+}
+
+impl From<AllocError> for BackFault {
+    ghost use Rattle.answer_journal.specs.declared.journal.BackFault.TheVariants.{NoMemory};
+
+    ghost from_gives = { λ _ e. e ≡ NoMemory };
+
+    fn from(_e: AllocError) -> BackFault {
+        BackFault::NoMemory
+    }
+}
+
+impl From<Failed> for BackFault {
+    ghost use Rattle.answer_journal.specs.declared.journal.BackFault.TheVariants.{Failed};
+
+    ghost from_gives = { λ _ e. e ≡ Failed };
+
+    fn from(_e: Failed) -> BackFault {
+        BackFault::Failed
+    }
 }
 
 /// Where the journal of a bench ends, so that the next group may be appended there.
@@ -118,6 +159,7 @@ impl Journal {
 
         ensures done { (history : List Answered) → B.told → StandsAt (B.file bench.old) self.old.shape history self.old.gate → length history ≡ self.old.count
             → OnOk result (StandsAt (B.file bench.new) self.new.shape (history ++ ready.now.list) self.new.gate) }
+        ensures written { B.told → OnOk result (AppendsGroup self.old.shape ready.now.list self.old.gate (B.file bench.old) (B.file bench.new)) }
         ensures quiet { B.told → OnOk result (IsQuiet B.Bench bench.new) }
         ensures sent { B.sent bench.new ≡ B.sent bench.old }
         ensures ticks { B.told → OnOk result (B.moment bench.new ≡ B.moment bench.old + 4) }
@@ -154,6 +196,7 @@ impl Journal {
 
         ensures done { (history : List Answered) → B.told → StandsAt (B.file bench.old) self.old.shape history self.old.gate → length history ≡ self.old.count
             → OnOk result (StandsAt (B.file bench.new) self.new.shape (history ++ list.now) self.new.gate) }
+        ensures written { B.told → OnOk result (AppendsGroup self.old.shape list.now self.old.gate (B.file bench.old) (B.file bench.new)) }
         ensures quiet { B.told → OnOk result (IsQuiet B.Bench bench.new) }
         ensures sent { B.sent bench.new ≡ B.sent bench.old }
         ensures ticks { B.told → OnOk result (B.moment bench.new ≡ B.moment bench.old + 4) }
@@ -161,18 +204,15 @@ impl Journal {
         // Where memory is wanted nothing was called and nothing changed. It doesn't fail by itself.
         ensures no_memory { IsErrOf result AppendFault.NoMemory → (bench.new ≡ bench.old) × (self.new ≡ self.old) }
         ensures failed { IsErrOf result AppendFault.Failed → Rose (B.faults bench.old) (B.faults bench.new) × (self.new.usable ≡ false) }
+        ensures steady { (IsErrOf result AppendFault.Failed → ⊥) → B.faults bench.new ≡ B.faults bench.old }
         ensures later { B.faults bench.old ≤ B.faults bench.new }
 
         ensures shape { self.new.shape ≡ self.old.shape }
         ensures counted { OnOk result (self.new.count ≡ self.old.count + length list.now) }
         ensures usable { OnOk result (self.new.usable ≡ true) }
     {
-        match self.ready(list) {
-            Err(NoMemory) => Err(AppendFault::NoMemory),
-            Ok(ready) => match self.append_ready(bench, &ready) {
-                Ok(()) => Ok(()),
-                Err(Failed) => Err(AppendFault::Failed),
-            },
-        }
+        let ready = self.ready(list)?;
+        self.append_ready(bench, &ready)?;
+        Ok(())
     }
 }

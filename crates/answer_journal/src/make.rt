@@ -1,9 +1,10 @@
 //! Making the journal of a table beside it.
-ghost use Rattle.std.specs.Prelude.{◌≡◌, ◌≢◌, ◌<◌, ◌≤◌, ℕ, List, [], ◌∷◌, ◌++◌, length, slice_index, IfOk, OnOk, OnErr, IsErr, IsErrOf};
+ghost use Rattle.std.specs.Prelude.{◌≡◌, ◌≢◌, ◌<◌, ◌≤◌, ℕ, List, [], ◌∷◌, ◌++◌, length, slice_index, ◌+◌, IfOk, Ok, OnOk, OnErr, IsErr, IsErrOf};
 ghost use Rattle.audit_types.specs.Shapes.{IsShape};
 ghost use Rattle.bench_core.specs.Causes.{HasCause, Rose};
 ghost use Rattle.bench_core.specs.Calls.{IsQuiet, LeavesOnly};
 ghost use Rattle.journal_form.specs.Journal.{StandsAt};
+ghost use Rattle.answer_journal.specs.Make.{empty_journal, calls_to_make};
 ghost use Rattle.answer_journal.specs.Moments.{IsAlready, IsUnmadeOrEmpty, IsShort, IsFound, IsUntouched};
 
 use crate::append::append_bytes;
@@ -21,6 +22,16 @@ pub enum MakeFault {
     Failed,
 }
 
+impl From<Failed> for MakeFault {
+    ghost use Rattle.answer_journal.specs.declared.make.MakeFault.TheVariants.{Failed};
+
+    ghost from_gives = { λ _ e. e ≡ Failed };
+
+    fn from(_e: Failed) -> MakeFault {
+        MakeFault::Failed
+    }
+}
+
 /// What stands where a journal is to be made: one, or more than a fresh one's bytes; as many bytes as a fresh one, behind
 /// a closed header gate; or fewer.
 #[derive(Clone, Copy, Debug, PartialEq, Eq)]
@@ -32,6 +43,8 @@ pub enum Found {
 
 fn look<B: Bench>(bench: &mut B) -> Result<Found, Failed>
     ensures found { B.told → IfOk result (λ what. IsFound what (B.file bench.old)) }
+    ensures short { B.told → result ≡ Ok Found.Short → B.moment bench.new ≡ B.moment bench.old + 1 }
+    ensures closed { B.told → result ≡ Ok Found.Closed → B.moment bench.new ≡ B.moment bench.old + 2 }
     ensures untouched { B.told → IsQuiet B.Bench bench.old → LeavesOnly B.Bench bench.old bench.new (IsUntouched (B.file bench.old) (B.sent bench.old)) }
     ensures file { B.file bench.new ≡ B.file bench.old }
     ensures sent { B.sent bench.new ≡ B.sent bench.old }
@@ -59,6 +72,7 @@ fn shut<B: Bench>(bench: &mut B) -> Result<(), Failed>
     requires { B.told → IsShort (B.file bench.old) }
     ensures any_moment { B.told → IsQuiet B.Bench bench.old → LeavesOnly B.Bench bench.old bench.new (λ image sent. (sent ≡ B.sent bench.old) × IsShort image) }
     ensures done { B.told → OnOk result (IsShort (B.file bench.new) × (0 < length (B.file bench.new)) × (slice_index (B.file bench.new) 0 ≡ 0)) }
+    ensures ticks { B.told → OnOk result (B.moment bench.new ≡ B.moment bench.old + 2) }
     ensures quiet { B.told → OnOk result (IsQuiet B.Bench bench.new) }
     ensures sent { B.sent bench.new ≡ B.sent bench.old }
     ensures cause { HasCause (B.faults bench.old) (B.faults bench.new) result }
@@ -72,8 +86,11 @@ fn shut<B: Bench>(bench: &mut B) -> Result<(), Failed>
 fn open<B: Bench>(bench: &mut B, shape: &Shape) -> Result<(), Failed>
     requires shape { IsShape shape.now }
     requires closed { B.told → (0 < length (B.file bench.old)) × (slice_index (B.file bench.old) 0 ≢ 1) }
+    requires fits { B.told → length (B.file bench.old) ≤ 21 }
     ensures any_moment { B.told → IsQuiet B.Bench bench.old → LeavesOnly B.Bench bench.old bench.new (IsUnmadeOrEmpty shape.now (B.sent bench.old)) }
     ensures done { B.told → OnOk result (StandsAt (B.file bench.new) shape.now [] 20) }
+    ensures written { B.told → OnOk result (B.file bench.new ≡ empty_journal shape.now) }
+    ensures ticks { B.told → OnOk result (B.moment bench.new ≡ B.moment bench.old + 4) }
     ensures quiet { B.told → OnOk result (IsQuiet B.Bench bench.new) }
     ensures sent { B.sent bench.new ≡ B.sent bench.old }
     ensures cause { HasCause (B.faults bench.old) (B.faults bench.new) result }
@@ -89,6 +106,8 @@ fn make_short<B: Bench>(bench: &mut B, shape: &Shape) -> Result<(), Failed>
     requires short { B.told → IsShort (B.file bench.old) }
     ensures any_moment { B.told → IsQuiet B.Bench bench.old → LeavesOnly B.Bench bench.old bench.new (IsUnmadeOrEmpty shape.now (B.sent bench.old)) }
     ensures done { B.told → OnOk result (StandsAt (B.file bench.new) shape.now [] 20) }
+    ensures written { B.told → OnOk result (B.file bench.new ≡ empty_journal shape.now) }
+    ensures ticks { B.told → OnOk result (B.moment bench.new ≡ B.moment bench.old + 6) }
     ensures quiet { B.told → OnOk result (IsQuiet B.Bench bench.new) }
     ensures sent { B.sent bench.new ≡ B.sent bench.old }
     ensures cause { HasCause (B.faults bench.old) (B.faults bench.new) result }
@@ -111,20 +130,19 @@ impl Journal {
         // A crash at any moment leaves a file that isn't made, or the made one.
         ensures any_moment { B.told → (IsAlready (B.file bench.old) → ⊥) → IsQuiet B.Bench bench.old → LeavesOnly B.Bench bench.old bench.new (IsUnmadeOrEmpty shape.now (B.sent bench.old)) }
         ensures done { B.told → OnOk result (StandsAt (B.file bench.new) shape.now [] 20) }
+        ensures written { B.told → OnOk result (B.file bench.new ≡ empty_journal shape.now) }
+        ensures ticks { B.told → OnOk result (B.moment bench.new ≡ B.moment bench.old + calls_to_make (B.file bench.old)) }
         ensures quiet { B.told → OnOk result (IsQuiet B.Bench bench.new) }
         ensures sent { B.sent bench.new ≡ B.sent bench.old }
         ensures failed { IsErrOf result MakeFault.Failed → Rose (B.faults bench.old) (B.faults bench.new) }
+        ensures steady { (IsErrOf result MakeFault.Failed → ⊥) → B.faults bench.new ≡ B.faults bench.old }
         ensures later { B.faults bench.old ≤ B.faults bench.new }
     {
-        let made = match look(bench) {
-            Err(Failed) => return Err(MakeFault::Failed),
-            Ok(Found::Already) => return Err(MakeFault::AlreadyThere),
-            Ok(Found::Closed) => open(bench, shape),
-            Ok(Found::Short) => make_short(bench, shape),
-        };
-        match made {
-            Ok(()) => Ok(()),
-            Err(Failed) => Err(MakeFault::Failed),
+        match look(bench)? {
+            Found::Already => return Err(MakeFault::AlreadyThere),
+            Found::Closed => open(bench, shape)?,
+            Found::Short => make_short(bench, shape)?,
         }
+        Ok(())
     }
 }

@@ -7,16 +7,16 @@ use Rattle.answer_journal.specs.Faults.{IsFaultOf}
 use Rattle.answer_journal.proofs.Dues.{fault_of_file}
 use Rattle.answer_journal.proofs.back.contents_of.Goals as goal
 
-pub returns-in-Ok-clause-ok : goal.returns-in-Ok-clause-ok
-returns-in-Ok-clause-ok g c = λ told.
+pub returns-clause-ok : goal.returns-clause-ok
+returns-clause-ok g c = λ told.
     let file = g.B.Bench.file c.args.bench.now in
-    let front : c.deref.result.now ≡ take most_bytes file = c.deref.ensures.value ∙ c.in-Ok.ensures.bytes told in
+    let front : c.deref.result.now ≡ take most_bytes file = c.deref.ensures.value ∙ c.in_ok-bytes.ensures.bytes told in
     IfOk-weaker c.read_all.result (λ (j : Contents). StandsAt c.deref.result.now j.shape j.list.items j.gate) (λ (j : Contents). StandsAt file j.shape j.list.items j.gate)
     (λ j stands. c.the_front_tells.ensures.stands file j.shape j.list.items j.gate (subst (λ (l : List ℕ). StandsAt l j.shape j.list.items j.gate) front stands)) c.read_all.ensures.ok
 
-pub returns-in-Ok-clause-err : goal.returns-in-Ok-clause-err
-returns-in-Ok-clause-err g c = λ told.
+pub returns-clause-err : goal.returns-clause-err
+returns-clause-err g c = λ told.
     let file = g.B.Bench.file c.args.bench.now in
-    let front : c.deref.result.now ≡ take most_bytes file = c.deref.ensures.value ∙ c.in-Ok.ensures.bytes told in
+    let front : c.deref.result.now ≡ take most_bytes file = c.deref.ensures.value ∙ c.in_ok-bytes.ensures.bytes told in
     IfErr-weaker c.read_all.result (λ (f : BackFault). IsFaultOf c.deref.result.now f) (λ (f : BackFault). IsFaultOf file f)
     (λ fault is. fault_of_file file fault c.the_front_tells.ensures.breaks (subst (λ (l : List ℕ). IsFaultOf l fault) front is)) c.read_all.ensures.err
