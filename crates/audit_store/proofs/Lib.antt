@@ -1,3 +1,4 @@
 pub mod LegalHistories
 pub mod Stores
+pub mod Outcomes
 pub mod Causes

@@ -1,18 +1,13 @@
 -- What is true of every store.
-use Rattle.std.proofs.Common.{◌≡◌, ℕ, Bool, true, Result, Ok, Err, List, [], ◌∷◌, get_or, append-nil, length, take, sym, ap, subst, ◌∙◌, arith}
-use Rattle.std.specs.Option.{option_to_list}
+use Rattle.std.proofs.Common.{◌≡◌, ℕ, Bool, true, List, ◌-◌, ◌++◌, length, length-drop, take, drop, sym, ap, ◌∙◌, arith}
 use Rattle.std.proofs.Math.Seq.{take-length}
-use Rattle.audit_types.specs.declared.records.Asked.{Asked}
+use Rattle.std.proofs.lemmas.List.{take-append-drop, take_all}
 use Rattle.audit_types.specs.declared.records.Answered.{Answered}
 use Rattle.audit_types.specs.History.{IsLegal, setting_of}
 use Rattle.audit_core.specs.Audited.{Audited}
 use Rattle.table_load.specs.Cells.{SecretView, IsSecret}
-use Rattle.bench_core.specs.declared.bench.Bench.{Ghosts}
-use Rattle.bench_core.specs.Calls.{LeavesOnly}
 use Rattle.answer_journal.specs.Contents.{JournalContents}
-use Rattle.answer_journal.specs.Moments.{IsBeforeOrAfter}
-use Rattle.audit_core.specs.Outcomes.{IsOutcome, record_of}
-use Rattle.audit_store.specs.Stores.{StoreContents, IsStore, IsAuditedBy, Keeps, KeepsOne}
+use Rattle.audit_store.specs.Stores.{StoreContents, IsStore, IsAuditedBy}
 use Rattle.table_load.specs.Database.{secret_table}
 
 -- a store of these secrets and records over this journal, which may be asked
@@ -38,34 +33,12 @@ all_released secret core history released core_is released_is =
       record { same_setting = ap (λ (a : Audited). a.setting) core_is; within = omega (arith, long); all = λ _. long },
     )
 
--- what a crash finds while the one question of a group is decided and kept
-pub keeps_the_one : {D : Type 0} (bench : Ghosts D) (before after : D) (secret : SecretView) (history : List Answered) (asked : Asked) (questions : List Asked) (sent : List ℕ)
-    → length questions ≡ 1 → asked ≡ get_or questions 0 asked → KeepsOne bench before after secret history asked sent → Keeps bench before after secret history questions sent
-keeps_the_one bench before after secret history asked [] sent one is keeps = absurd (omega arith)
-keeps_the_one bench before after secret history asked (a ∷ b ∷ questions) sent one is keeps = absurd (omega arith)
-keeps_the_one bench before after secret history asked (a ∷ []) sent one is keeps = record {
-  outcomes = keeps.outcome ∷ [];
-  due = (subst (λ (q : Asked). IsOutcome (secret_table secret) history q keeps.outcome) is keeps.due, tt);
-  moments = subst (λ (list : List Answered). LeavesOnly bench before after (IsBeforeOrAfter secret.shape history list sent)) (ap (λ (q : Asked). option_to_list (record_of q keeps.outcome)) is ∙ sym (append-nil (option_to_list (record_of a keeps.outcome)))) keeps.moments;
-}
-
 -- while a store is usable the records of its core are its history
 pub core_is_history : (secret : SecretView) (core : Audited) (released : ℕ) (usable : Bool) (history : List Answered) → IsAuditedBy secret core released usable → usable ≡ true → take released core.history ≡ history → core.history ≡ history
 core_is_history secret core released usable history audited is_usable view = sym (ap (λ n. take n core.history) (audited.all is_usable) ∙ take-length core.history) ∙ view
 
-abbrev given : {A E : Type 0} → A → Result A E
-given x = Ok x
-
-abbrev failed : {A E : Type 0} → E → Result A E
-failed e = Err e
-
--- an answer is no error
-pub given_or_failed : {A E : Type 0} (x : A) (e : E) → given x ≡ failed e → ⊥
-given_or_failed x e same = cc
-
-same_error : {A E : Type 0} (x y : E) → failed {A = A} x ≡ failed y → x ≡ y
-same_error x y same = cc
-
--- an error that isn't this one isn't it in another result
-pub other_error : {A B E : Type 0} (x y : E) → (failed {A = A} x ≡ failed y → ⊥) → failed {A = B} x ≡ failed y → ⊥
-other_error x y apart same = apart (ap failed (same_error x y same))
+-- the records that were released, and those that the core took after them
+pub released_and_more : (old new : List Answered) (released : ℕ) → released ≡ length old → take (length old) new ≡ old → take released old ++ take (length new - released) (drop released new) ≡ new
+released_and_more old new released long begins =
+    let more : take (length new - released) (drop released new) ≡ drop released new = take_all (length new - released) (drop released new) (omega (arith, length-drop released new)) in
+    ap (λ t. take released old ++ t) more ∙ ap (λ t. t ++ drop released new) (ap (λ n. take n old) long ∙ take-length old ∙ sym begins ∙ ap (λ n. take n new) (sym long)) ∙ take-append-drop released new

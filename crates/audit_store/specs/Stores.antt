@@ -1,6 +1,5 @@
 -- A store, as contracts see it: the secrets that it guards, what was released of them, and the journal behind it.
-use Rattle.std.specs.Prelude.{◌≡◌, ℕ, ◌≤◌, Bool, true, List, length}
-use Rattle.std.specs.Option.{option_to_list}
+use Rattle.std.specs.Prelude.{◌≡◌, ℕ, ◌≤◌, Bool, true, List, [], ◌∷◌, length}
 use Rattle.audit_types.specs.declared.records.Asked.{Asked}
 use Rattle.audit_types.specs.declared.records.Answered.{Answered}
 use Rattle.audit_types.specs.History.{IsLegal, setting_of}
@@ -13,7 +12,7 @@ use Rattle.journal_form.specs.Journal.{StandsAt}
 use Rattle.answer_journal.specs.Contents.{JournalContents}
 use Rattle.answer_journal.specs.Moments.{IsBeforeOrAfter}
 use Rattle.audit_core.specs.declared.outcome.Outcome.{Outcome}
-use Rattle.audit_core.specs.Outcomes.{IsOutcome, AreOutcomes, record_of, records_made}
+use Rattle.audit_core.specs.Outcomes.{AreOutcomes, records_made}
 
 -- the secrets, the released records in order, the journal, and whether questions may be asked
 pub record StoreContents : Type 0 where
@@ -41,15 +40,14 @@ pub record IsAuditedBy (secret : SecretView) (core : Audited) (released : ℕ) (
 abbrev pub IsAsLeft : List ℕ → StoreContents → Type 0
 IsAsLeft file store = StandsAt file store.secret.shape store.history store.journal.gate
 
+-- the calls of the bench for a group of records: four, and none where there is no record
+abbrev pub calls_for : List Answered → ℕ
+calls_for [] = 0
+calls_for (r ∷ records) = 4
+
 -- what a crash finds while a group of questions is decided and kept: nothing was sent, and the image stands for the
 -- history before the group or for that with the group's records
 pub record Keeps {D : Type 0} (bench : Ghosts D) (before after : D) (secret : SecretView) (history : List Answered) (questions : List Asked) (sent : List ℕ) : Type 0 where
   pub outcomes : List Outcome
   pub due : AreOutcomes (secret_table secret) history questions outcomes
   pub moments : LeavesOnly bench before after (IsBeforeOrAfter secret.shape history (records_made questions outcomes) sent)
-
--- what a crash finds while one question is decided and its answer kept
-pub record KeepsOne {D : Type 0} (bench : Ghosts D) (before after : D) (secret : SecretView) (history : List Answered) (asked : Asked) (sent : List ℕ) : Type 0 where
-  pub outcome : Outcome
-  pub due : IsOutcome (secret_table secret) history asked outcome
-  pub moments : LeavesOnly bench before after (IsBeforeOrAfter secret.shape history (option_to_list (record_of asked outcome)) sent)

@@ -1,5 +1,5 @@
 //! The store.
-ghost use Rattle.std.specs.Prelude.{◌≡◌, ◌≤◌, ◌+◌, ◌*◌, ◌++◌, [], ◌∷◌, ℕ, List, true, false, length, take, All, IfOk, IfErr, OnOk, OnErr, IsErrOf, Err};
+ghost use Rattle.std.specs.Prelude.{◌≡◌, ◌<◌, ◌≤◌, ◌+◌, ◌++◌, [], ◌∷◌, ℕ, List, true, false, length, take, All, IfOk, IfErr, OnOk, OnErr, IsErrOf, Err};
 ghost use Rattle.audit_types.specs.declared.records.Answered.{Answered};
 ghost use Rattle.audit_types.specs.History.{FitsShape, IsLegal, setting_of};
 ghost use Rattle.bench_core.specs.Causes.{Rose};
@@ -7,12 +7,12 @@ ghost use Rattle.bench_core.specs.Calls.{IsQuiet, LeavesOnly};
 ghost use Rattle.journal_form.specs.Journal.{StandsFor};
 ghost use Rattle.answer_journal.specs.Moments.{IsBeforeOrAfter, IsUntouched};
 ghost use Rattle.audit_core.specs.Outcomes.{AreOutcomes, records_made};
-ghost use Rattle.audit_store.specs.Stores.{IsAsLeft, IsStore, Keeps};
+ghost use Rattle.audit_store.specs.Stores.{IsAsLeft, IsStore, Keeps, calls_for};
 ghost use Rattle.table_load.specs.Database.{secret_table};
 ghost use Rattle.audit_store.specs.Starting.{StartCause, HistoryCause, GivesUp, StartsUnlessFailed, RefusedUnlessFailed};
 ghost use Rattle.audit_store.specs.declared.starting.StartFault.{StartFault};
 
-use crate::asking::settle;
+use crate::asking::{decide_all, keep};
 use crate::outcome::StoreFault;
 use crate::starting::{StartFault, audited};
 use answer_journal::Journal;
@@ -103,7 +103,9 @@ impl Store {
         ensures sent { B.sent bench.new ≡ B.sent bench.old }
         ensures crash { (image : List ℕ) → B.leaves bench.new image → B.leaves bench.old image }
         ensures untouched { B.told → IsQuiet B.Bench bench.old → LeavesOnly B.Bench bench.old bench.new (IsUntouched (B.file bench.old) (B.sent bench.old)) }
+        ensures ticks { B.told → OnOk result (B.moment bench.new ≡ B.moment bench.old + 2) }
         ensures failed { IsErrOf result StartFault.Failed → Rose (B.faults bench.old) (B.faults bench.new) }
+        ensures steady { (IsErrOf result StartFault.Failed → ⊥) → B.faults bench.new ≡ B.faults bench.old }
         ensures later { B.faults bench.old ≤ B.faults bench.new }
     {
         match Journal::read_back(alloc, bench) {
@@ -112,15 +114,17 @@ impl Store {
         }
     }
 
-    /// Decides a question against the history. An answer is in the journal before it is given: its record is appended in
-    /// four calls of the bench, and all memory is taken before the first of them. After a refusal the store isn't usable.
+    /// Decides 1 to 64 questions in order, each after the history and the answers before it in the group. The records of
+    /// the answers are in the journal before an answer is given: they are appended as one group, in four calls of the
+    /// bench, and all memory is taken before the first of them. After a refusal the store isn't usable.
     pub fn ask_all<B: Bench>(
         &mut self,
         bench: &mut B,
         asked: &[Asked],
     ) -> Result<Vec<Outcome>, StoreFault>
         requires usable { self.old.usable ≡ true }
-        requires one { length asked.now ≡ 1 }
+        requires some { 0 < length asked.now }
+        requires few { length asked.now ≤ 64 }
         requires fit { All (λ a. FitsShape self.old.secret.shape a.column a.rows) asked.now }
         requires stands { B.told → IsAsLeft (B.file bench.old) self.old }
 
@@ -134,6 +138,7 @@ impl Store {
         ensures kept { OnErr result ((self.new.history ≡ self.old.history) × (self.new.usable ≡ false)) }
         ensures no_memory { IsErrOf result StoreFault.NoMemory → bench.new ≡ bench.old }
         ensures failed { IsErrOf result StoreFault.Failed → Rose (B.faults bench.old) (B.faults bench.new) }
+        ensures steady { (IsErrOf result StoreFault.Failed → ⊥) → B.faults bench.new ≡ B.faults bench.old }
         ensures later { B.faults bench.old ≤ B.faults bench.new }
         ensures secret { self.new.secret ≡ self.old.secret }
         ensures is { IsStore self.new }
@@ -146,30 +151,16 @@ impl Store {
             → IfOk result (λ v. LeavesOnly B.Bench bench.old bench.new (IsBeforeOrAfter self.old.secret.shape self.old.history (records_made asked.now v.items) (B.sent bench.old))) }
         ensures quiet { B.told → IsQuiet B.Bench bench.old → OnOk result (IsQuiet B.Bench bench.new) }
         ensures sent { B.sent bench.new ≡ B.sent bench.old }
-        ensures ticks { B.told → IfOk result (λ v. B.moment bench.new ≡ B.moment bench.old + 4 * length (records_made asked.now v.items)) }
+        ensures ticks { B.told → IfOk result (λ v. B.moment bench.new ≡ B.moment bench.old + calls_for (records_made asked.now v.items)) }
         ensures unasked { IfOk result (λ v. records_made asked.now v.items ≡ [] → bench.new ≡ bench.old) }
     {
         self.usable = false;
-        let mut outcomes = match Vec::with_capacity(self.alloc, 1) {
-            Ok(outcomes) => outcomes,
-            Err(_) => return Err(StoreFault::NoMemory),
-        };
-        let question = &asked[0];
-        match settle(
-            &self.secret,
-            &mut self.journal,
-            &mut self.core,
-            bench,
-            question,
-        ) {
-            Ok(outcome) => {
-                outcomes.push_reserved(outcome);
-                self.released = self.core.history().len() as u32;
-                self.usable = true;
-                Ok(outcomes)
-            }
-            Err(refusal) => Err(refusal),
-        }
+        let outcomes = decide_all(self.alloc, &self.secret, &mut self.core, asked)?;
+        let group = &self.core.history()[self.released as usize..];
+        keep(&mut self.journal, bench, group)?;
+        self.released = self.core.history().len() as u32;
+        self.usable = true;
+        Ok(outcomes)
     }
 
     /// Whether questions may be asked. After a refused `ask_all` they may not.

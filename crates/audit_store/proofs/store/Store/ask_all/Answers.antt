@@ -1,33 +1,24 @@
-use Rattle.std.proofs.Common.{◌≡◌, List, ap, subst, ◌∙◌}
+use Rattle.std.proofs.Common.{◌≡◌, true, List, ◌-◌, ◌++◌, length, take, drop, sym, ap, subst, ◌∙◌}
+use Rattle.std.proofs.Math.Seq.{take-length}
 use Rattle.audit_types.specs.declared.records.Answered.{Answered}
-use Rattle.table_load.specs.Cells.{SecretView}
-use Rattle.audit_store.specs.declared.outcome.StoreFault.TheVariants.{NoMemory}
-use Rattle.audit_store.specs.Stores.{StoreContents, KeepsOne}
-use Rattle.audit_store.proofs.Stores.{core_is_history, keeps_the_one, given_or_failed, other_error}
+use Rattle.audit_types.specs.declared.shapes.Shape.{Shape}
+use Rattle.journal_form.specs.Journal.{StandsAt}
+use Rattle.audit_store.specs.Stores.{StoreContents}
+use Rattle.audit_store.proofs.Stores.{released_and_more}
 use Rattle.audit_store.proofs.store.Store.ask_all.Goals as goal
 
-pub returns-in-Ok-settle-clause-any_moment : goal.returns-in-Ok-settle-clause-any_moment
-returns-in-Ok-settle-clause-any_moment g c = λ told quiet some.
-    let old = c.args.self.now in
+pub returns-clause-stands : goal.returns-clause-stands
+returns-clause-stands g c = λ told.
     let i = c.self.inside in
-    let history = core_is_history i.secret i.core i.released i.usable old.history c.self.invariant.1 (ap (λ (s : StoreContents). s.usable) c.self.view_is ∙ c.requires.usable) (ap (λ (s : StoreContents). s.history) c.self.view_is) in
-    let secret : c.self.inside.secret ≡ old.secret = ap (λ (s : StoreContents). s.secret) c.self.view_is in
-    let sent = g.B.Bench.sent c.args.bench.now in
-    let bench = c.args.bench.now in
-    let one = c.in-Ok-settle.ensures.any_moment told quiet (given_or_failed c.in-Ok-settle.outcome NoMemory) in
-    let here = subst (λ (h : List Answered). KeepsOne g.B.Bench bench c.settle.new.bench c.self.inside.secret h c.index-asked-0.result sent) history one in
-    let there = subst (λ (s : SecretView). KeepsOne g.B.Bench bench c.settle.new.bench s old.history c.index-asked-0.result sent) secret here in
-    keeps_the_one g.B.Bench bench c.settle.new.bench old.secret old.history c.index-asked-0.result c.args.asked.now sent c.requires.one c.index-asked-0.is there
-
-pub returns-in-Err-settle-clause-any_moment : goal.returns-in-Err-settle-clause-any_moment
-returns-in-Err-settle-clause-any_moment g c = λ told quiet some.
-    let old = c.args.self.now in
-    let i = c.self.inside in
-    let history = core_is_history i.secret i.core i.released i.usable old.history c.self.invariant.1 (ap (λ (s : StoreContents). s.usable) c.self.view_is ∙ c.requires.usable) (ap (λ (s : StoreContents). s.history) c.self.view_is) in
-    let secret : c.self.inside.secret ≡ old.secret = ap (λ (s : StoreContents). s.secret) c.self.view_is in
-    let sent = g.B.Bench.sent c.args.bench.now in
-    let bench = c.args.bench.now in
-    let one = c.in-Err-settle.ensures.any_moment told quiet (other_error c.in-Err-settle.refusal NoMemory some) in
-    let here = subst (λ (h : List Answered). KeepsOne g.B.Bench bench c.settle.new.bench c.self.inside.secret h c.index-asked-0.result sent) history one in
-    let there = subst (λ (s : SecretView). KeepsOne g.B.Bench bench c.settle.new.bench s old.history c.index-asked-0.result sent) secret here in
-    keeps_the_one g.B.Bench bench c.settle.new.bench old.secret old.history c.index-asked-0.result c.args.asked.now sent c.requires.one c.index-asked-0.is there
+    let file = g.B.Bench.file c.args.bench.now in
+    let usable : i.usable ≡ true = ap (λ (s : StoreContents). s.usable) c.self.view_is ∙ c.requires.usable in
+    let shape : i.journal.shape ≡ i.secret.shape = c.self.invariant.0.same_shape usable in
+    let history = take i.released i.core.history in
+    let whole = c.decide_all.new.core.history in
+    let before : StandsAt file i.secret.shape history i.journal.gate = subst (λ (s : StoreContents). StandsAt file s.secret.shape s.history s.journal.gate) (sym c.self.view_is) (c.requires.stands told) in
+    let here : StandsAt file i.journal.shape history i.journal.gate = subst (λ (s : Shape). StandsAt file s history i.journal.gate) (sym shape) before in
+    let all : history ++ take (length whole - i.released) (drop i.released whole) ≡ whole = released_and_more i.core.history whole i.released (c.self.invariant.1.all usable) c.in_ok-outcomes.ensures.begins in
+    let same : whole ≡ take (length c.history-2.result.now) whole = sym (ap (λ (l : List Answered). take (length l) whole) c.history-2.ensures.is ∙ take-length whole) in
+    let done = c.in_ok-keep.ensures.done history told here (sym (c.self.invariant.0.counted usable)) in
+    let ended = subst (λ (h : List Answered). StandsAt (g.B.Bench.file c.keep.new.bench) c.keep.new.journal.shape h c.keep.new.journal.gate) (ap (λ (l : List Answered). history ++ take (length l - i.released) (drop i.released l)) c.history.ensures.is ∙ all ∙ same) done in
+    subst (λ (s : Shape). StandsAt (g.B.Bench.file c.keep.new.bench) s (take (length c.history-2.result.now) whole) c.keep.new.journal.gate) (c.in_ok-keep.ensures.shape ∙ shape) ended

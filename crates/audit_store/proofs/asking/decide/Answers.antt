@@ -7,16 +7,16 @@ use Rattle.audit_core.specs.Audited.{Audited}
 use Rattle.audit_core.specs.declared.outcome.Outcome.{Outcome}
 use Rattle.audit_core.specs.Outcomes.{IsOutcome}
 use Rattle.table_load.specs.Database.{secret_table}
-use Rattle.audit_store.proofs.asking.settle.Goals as goal
+use Rattle.audit_store.proofs.asking.decide.Goals as goal
 
-pub returns-in-Ok-clause-legal : goal.returns-in-Ok-clause-legal
-returns-in-Ok-clause-legal g c =
+pub returns-in_ok-take-in-Answer-clause-legal : goal.returns-in_ok-take-in-Answer-clause-legal
+returns-in_ok-take-in-Answer-clause-legal c =
     let table = secret_table c.args.secret.now in
     let history = c.args.core.now.history in
     let asked = c.args.asked.now in
-    let in_range : FitsSigned w64 c.in-Ok-Answer.answer = search rules in
-    let r : Answered = record { column = asked.column; rows = asked.rows; answer = to_z w64 (of_z w64 c.in-Ok-Answer.answer) } in
-    let outcome = subst (λ (o : Outcome). IsOutcome table history asked o) c.in-Ok-Answer.field-0-is c.in-Ok-Answer.ensures in
-    let grown = ap (λ (a : Audited). a.history) c.in-Ok.ensures.core in
+    let in_range : FitsSigned w64 c.in-Answer.answer = search rules in
+    let r : Answered = record { column = asked.column; rows = asked.rows; answer = to_z w64 (of_z w64 c.in-Answer.answer) } in
+    let outcome = subst (λ (o : Outcome). IsOutcome table history asked o) c.in-Answer.is c.in_ok-answer.ensures in
+    let grown = ap (λ (a : Audited). a.history) c.in_ok-take-in-Answer.ensures.ok in
     let more = c.released_records.ensures table history r c.requires.legal outcome.0 (record { fits = c.requires.fits; true_answer = to_z-of_z in_range ∙ outcome.2; released = outcome.1 }) in
     subst (λ (h : List Answered). IsLegal table h) (sym grown) more
