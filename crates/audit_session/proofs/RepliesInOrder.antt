@@ -3,7 +3,7 @@ use Rattle.std.proofs.Common.{◌≡◌, List, [], ◌∷◌, ◌++◌, length, 
 use Rattle.std.specs.Option.{option_to_list}
 use Rattle.std.proofs.lemmas.List.{append-nil}
 use Rattle.std.proofs.lemmas.List.Concat.{flat_map-append}
-use Rattle.audit_session.specs.Session.{Replied, records_of, bytes_of, AreReplies}
+use Rattle.question_plan.specs.Session.{Replied, records_of, bytes_of, AreReplies}
 
 -- the records and the bytes of replies behind others
 pub records_of-append : {R : Type 0} (xs ys : List (Replied R)) → records_of (xs ++ ys) ≡ records_of xs ++ records_of ys

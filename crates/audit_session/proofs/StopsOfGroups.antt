@@ -1,7 +1,7 @@
 -- Stops while a group is decided, and while its replies are sent.
 use Rattle.std.proofs.Common.{◌≡◌, ℕ, ◌+◌, ◌-◌, ◌*◌, List, [], ◌++◌, take, drop, sym, ◌∙◌, ap, subst, append_assoc, take-append-drop, arith}
 use Rattle.std.proofs.lemmas.List.{append-nil}
-use Rattle.audit_session.specs.Session.{Replied, records_of, bytes_of, AreReplies, groups}
+use Rattle.question_plan.specs.Session.{Replied, records_of, bytes_of, AreReplies, groups}
 use Rattle.audit_session.specs.Stops.{IsFront, Stop}
 use Rattle.audit_session.proofs.RepliesInOrder.{bytes_of-append}
 

@@ -1,15 +1,12 @@
 -- How a session ends.
 use Rattle.std.specs.Prelude.{◌≡◌, ℕ, ◌+◌, ◌*◌, ◌≤◌, ◌<◌, ◌^◌, List, [], ◌++◌, length, take, Result, Ok, Err}
 use Rattle.audit_types.specs.declared.records.Answered.{Answered}
-use Rattle.journal_form.specs.Journal.{StandsFor}
-use Rattle.bench_core.specs.Bench.{IsQuiet}
-use Rattle.audit_store.specs.Stores.{StoreContents}
+use Rattle.table_load.specs.Database.{Database}
+use Rattle.line_wire.specs.Lines.{CountedLine, counted_lines, whole_lines}
+use Rattle.question_plan.specs.Session.{Replied, records_of, bytes_of, AreReplies, groups, commits}
+use Rattle.question_plan.specs.Replies.{IsDue}
 use Rattle.audit_session.specs.declared.serving.EndFault.{EndFault}
 use Rattle.audit_session.specs.declared.serving.EndFault.TheVariants as end
-use Rattle.line_wire.specs.Lines.{CountedLine, counted_lines, whole_lines}
-use Rattle.audit_session.specs.Session.{Replied, records_of, bytes_of, AreReplies, groups}
-use Rattle.audit_session.specs.Replies.{IsDue}
-use Rattle.table_load.specs.Database.{Database}
 
 -- lines were answered: their replies are what was sent meanwhile, and the history has their records
 pub record Serves (base : Database) (history : List Answered) (lines : List CountedLine) (now : List Answered) (before after : List ℕ) : Type 0 where
@@ -44,12 +41,18 @@ pub record ServesLimited (base : Database) (history : List Answered) (batch : �
   pub serves : Serves base history (groups batch count (whole_lines (limited input))) now before after
 
 -- which lines were answered, by the end
-abbrev pub Ends : Result (Unit {0}) EndFault → Database → List Answered → List ℕ → List ℕ → List Answered → List ℕ → List ℕ → Type 0
-Ends (Ok done) base history input left now before after = Serves base history (counted_lines input) now before after
-Ends (Err end.Input) base history input left now before after = ServesWhole base history 1 input left now before after
-Ends (Err end.Limit) base history input left now before after = ServesLimited base history 1 input now before after
-Ends (Err end.NoMemory) base history input left now before after = ServesSome base history 1 (counted_lines input) now before after
-Ends (Err end.Bench) base history input left now before after = Unit {0}
+abbrev pub Ends : ℕ → Result (Unit {0}) EndFault → Database → List Answered → List ℕ → List ℕ → List Answered → List ℕ → List ℕ → Type 0
+Ends batch (Ok done) base history input left now before after = Serves base history (counted_lines input) now before after
+Ends batch (Err end.Input) base history input left now before after = ServesWhole base history batch input left now before after
+Ends batch (Err end.Limit) base history input left now before after = ServesLimited base history batch input now before after
+Ends batch (Err end.NoMemory) base history input left now before after = ServesSome base history batch (counted_lines input) now before after
+Ends batch (Err end.Bench) base history input left now before after = Unit {0}
+
+-- the calls of the bench: one for each line's reply, and four for each group in which some reply makes a record
+pub record TakesCalls (base : Database) (history : List Answered) (batch : ℕ) (lines : List CountedLine) (before after : ℕ) : Type 0 where
+  pub replies : List (Replied Answered)
+  pub due : AreReplies (IsDue base) history lines replies
+  pub calls : after ≡ before + length lines + 4 * commits batch replies
 
 -- how much of the input there was, by the end
 abbrev pub Reads : Result (Unit {0}) EndFault → List ℕ → List ℕ → Type 0
@@ -58,8 +61,3 @@ Reads (Err end.Input) input left = length input ≤ 2 ^ 30 + length left
 Reads (Err end.Limit) input left = 2 ^ 30 + length left < length input
 Reads (Err end.NoMemory) input left = Unit {0}
 Reads (Err end.Bench) input left = Unit {0}
-
--- the file stands for the history, and a quiet bench is still quiet
-pub record Rests {D : Type 0} (told : Type 0) (file : D → List ℕ) (leaves : D → List ℕ → Type 0) (old new : D) (store : StoreContents) : Type 0 where
-  pub stands : told → StandsFor (file new) store.secret.shape store.history
-  pub quiet : told → IsQuiet (file old) (leaves old) → IsQuiet (file new) (leaves new)

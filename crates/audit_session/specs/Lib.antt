@@ -1,6 +1,5 @@
-pub mod Session
 pub mod Stops
-pub mod Replies
-pub mod Deciding
 pub mod Ends
+pub mod Lives
+pub mod Events
 pub mod Laws

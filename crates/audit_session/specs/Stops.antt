@@ -1,10 +1,19 @@
 -- What a stop of a session leaves, at whatever moment: an image of the journal's file, and the bytes sent.
-use Rattle.std.specs.Prelude.{◌≡◌, ℕ, ◌-◌, ◌*◌, List, ◌++◌, take}
-use Rattle.audit_session.specs.Session.{Replied, records_of, bytes_of, AreReplies, groups}
+use Rattle.std.specs.Prelude.{◌≡◌, ℕ, ◌-◌, ◌*◌, ◌<◌, ◌≤◌, List, ◌++◌, take}
+use Rattle.audit_types.specs.declared.records.Answered.{Answered}
+use Rattle.table_load.specs.Database.{Database}
+use Rattle.journal_form.specs.Journal.{StandsFor}
+use Rattle.line_wire.specs.Lines.{CountedLine}
+use Rattle.question_plan.specs.Session.{Replied, records_of, bytes_of, AreReplies, groups}
+use Rattle.question_plan.specs.Replies.{IsDue}
 
--- these bytes begin those
-pub record IsFront (front whole : List ℕ) : Type 0 where
-  pub rest : List ℕ
+-- how many lines are answered together
+abbrev pub IsBatch : ℕ → Type 0
+IsBatch batch = (0 < batch) × (batch ≤ 64)
+
+-- this begins that
+pub record IsFront {X : Type 0} (front whole : List X) : Type 0 where
+  pub rest : List X
   pub is : whole ≡ front ++ rest
 
 -- the image stands for the history with the records of some groups of lines, and their replies were sent, those of the
@@ -17,6 +26,10 @@ pub record Stop {R L : Type 0} (rule : List R → L → Replied R → Type 0) (s
   pub begun : IsFront (bytes_of (take ((count - 1) * batch) replies)) sent
   pub so_far : IsFront sent (bytes_of replies)
 
--- the same of a bench that had sent something before the call
-abbrev pub StopsBehind : {R L : Type 0} → (List R → L → Replied R → Type 0) → (List ℕ → List R → Type 0) → ℕ → List R → List L → List ℕ → List ℕ → List ℕ → Type 0
-StopsBehind rule stands batch history lines before image sent = (new : List ℕ) × (sent ≡ before ++ new) × Stop rule stands batch history lines image new
+-- the image stands for this history of the table
+abbrev pub stands_over : Database → List ℕ → List Answered → Type 0
+stands_over base image history = StandsFor image base.secret.shape history
+
+-- a stop of a session over a table, of a bench that had sent something before
+abbrev pub StopsOver : Database → ℕ → List Answered → List CountedLine → List ℕ → List ℕ → List ℕ → Type 0
+StopsOver base batch history lines before image sent = (new : List ℕ) × (sent ≡ before ++ new) × Stop (IsDue base) (stands_over base) batch history lines image new

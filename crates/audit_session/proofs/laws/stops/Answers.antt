@@ -1,7 +1,7 @@
 use Rattle.std.proofs.Common.{◌++◌, ◌≡◌, subst, sym}
 use Rattle.audit_types.specs.History.{IsLegal}
 use Rattle.table_load.specs.Database.{secret_table}
-use Rattle.audit_session.specs.Session.{records_of, groups}
+use Rattle.question_plan.specs.Session.{records_of, groups}
 use Rattle.audit_session.proofs.laws.stops.Goals as goal
 
 pub returns : goal.returns

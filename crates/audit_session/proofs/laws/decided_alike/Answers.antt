@@ -1,8 +1,0 @@
-use Rattle.audit_session.proofs.OneReply as replies
-use Rattle.audit_session.proofs.laws.decided_alike.Goals as goal
-
-pub returns-clause-alike : goal.returns-clause-alike
-returns-clause-alike c = replies.decided_alike c.narrow_or_wide.ensures c.one_meaning.ensures
-
-pub returns-clause-equal : goal.returns-clause-equal
-returns-clause-equal c = replies.equal_answers

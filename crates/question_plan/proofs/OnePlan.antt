@@ -1,0 +1,156 @@
+-- A line comes to one plan, whatever is secret.
+use Rattle.std.proofs.Common.{◌≡◌, ℕ, ◌<◌, List, [], ◌∷◌, length, Option, Some, None, refl, sym, ◌∙◌, ap, subst, arith, inl, inr}
+use Rattle.audit_types.specs.declared.records.Asked.{Asked}
+use Rattle.schema_json.specs.Columns.{Column}
+use Rattle.table_load.specs.Cells.{PublicView}
+use Rattle.predicate_lang.specs.Trees.{Tree, tree_of}
+use Rattle.predicate_lang.specs.Places.{Means, IsPlace}
+use Rattle.predicate_lang.proofs.LeastPlace.{refused_means_nothing}
+use Rattle.set_index.specs.Asked.{meaning}
+use Rattle.line_wire.specs.Lines.{CountedLine, text, long}
+use Rattle.line_wire.specs.Questions.{Written, counted, taken, text_of, question_of}
+use Rattle.line_wire.specs.Requests.{Requests, Refuses, HasColumnFault, HasBadCondition, column_fault, IsRequest, secret_of}
+use Rattle.line_wire.specs.declared.question.Take.{Take}
+use Rattle.line_wire.specs.declared.question.Take.TheVariants.{Sum, Avg, Max}
+use Rattle.line_wire.specs.declared.request.Request.{Request}
+use Rattle.line_wire.specs.declared.request.Request.TheVariants as request
+use Rattle.line_wire.specs.declared.request.LineFault.{LineFault}
+use Rattle.line_wire.specs.declared.request.LineFault.TheVariants as fault
+use Rattle.line_wire.specs.declared.reply.Reply.{Reply}
+use Rattle.line_wire.specs.declared.reply.Reply.TheVariants as reply
+use Rattle.question_plan.specs.declared.planning.Plan.{Plan}
+use Rattle.question_plan.specs.declared.planning.Plan.TheVariants.{Ready, Ask}
+use Rattle.question_plan.specs.Replies.{IsPlan, plan_of, question_over, refusal}
+
+-- ---- questions over some rows
+
+-- a question is asked over some row
+question_some : (t take : Take) (column n : ℕ) (rows : List ℕ) (asked : Asked) → question_over t column n rows ≡ Ask take asked → 0 < length asked.rows.list
+question_some t take column n [] asked is = absurd (cc)
+question_some t take column n (row ∷ rows) asked is =
+    let same : record { column = column; rows = record { n = n; list = row ∷ rows } } ≡ asked = cc in
+    subst (λ (a : Asked). 0 < length a.rows.list) same (omega arith)
+
+request_some : (public : PublicView) (r : Request) (take : Take) (asked : Asked) → plan_of public r ≡ Ask take asked → 0 < length asked.rows.list
+request_some public (request.Count p) take asked is = absurd (cc)
+request_some public (request.Sum c p) take asked is = question_some Sum take c public.rows (meaning public (tree_of p)) asked is
+request_some public (request.Avg c p) take asked is = question_some Avg take c public.rows (meaning public (tree_of p)) asked is
+request_some public (request.Max c p) take asked is = question_some Max take c public.rows (meaning public (tree_of p)) asked is
+
+pub asked_some : (columns : List Column) (public : PublicView) (line : CountedLine) (take : Take) (asked : Asked) → IsPlan columns public line (Ask take asked) → 0 < length asked.rows.list
+asked_some columns public long take asked is = absurd (cc)
+asked_some columns public (text line) take asked (inl refused) = absurd (let e = refused.plan_is in cc)
+asked_some columns public (text line) take asked (inr requested) = request_some public requested.request take asked (sym requested.plan_is)
+
+-- ---- requests that one question means
+
+module _ (columns : List Column) (public : PublicView) where
+  over_same : (take : Take) (column other : ℕ) (t u : Tree) → column ≡ other → t ≡ u → question_over take column public.rows (meaning public t) ≡ question_over take other public.rows (meaning public u)
+  over_same take column other t u one tree =
+      ap (λ (c : ℕ). question_over take c public.rows (meaning public t)) one ∙ ap (λ (v : Tree). question_over take other public.rows (meaning public v)) tree
+
+  some_same : (x y : ℕ) (o : Option ℕ) → o ≡ Some x → o ≡ Some y → x ≡ y
+  some_same x y o first second = let both : Some x ≡ Some y = sym first ∙ second in cc
+
+  requests_same : (w : Written) (t : Tree) (r q : Request) → IsRequest columns w t r → IsRequest columns w t q → plan_of public r ≡ plan_of public q
+  requests_same (counted condition) t (request.Count p) (request.Count q) r_is q_is = ap (λ (u : Tree). Ready (reply.Count (length (meaning public u)))) (r_is ∙ sym q_is)
+  requests_same (counted condition) t (request.Count p) (request.Sum d q) r_is q_is = absurd q_is
+  requests_same (counted condition) t (request.Count p) (request.Avg d q) r_is q_is = absurd q_is
+  requests_same (counted condition) t (request.Count p) (request.Max d q) r_is q_is = absurd q_is
+  requests_same (counted condition) t (request.Sum c p) q r_is q_is = absurd r_is
+  requests_same (counted condition) t (request.Avg c p) q r_is q_is = absurd r_is
+  requests_same (counted condition) t (request.Max c p) q r_is q_is = absurd r_is
+  requests_same (taken k name condition) t (request.Count p) q r_is q_is = absurd r_is
+  requests_same (taken k name condition) t (request.Sum c p) (request.Count q) r_is q_is = absurd q_is
+  requests_same (taken k name condition) t (request.Sum c p) (request.Sum d q) r_is q_is = over_same Sum c d (tree_of p) (tree_of q) (some_same c d (secret_of columns name) r_is.1 q_is.1) (r_is.2 ∙ sym q_is.2)
+  requests_same (taken k name condition) t (request.Sum c p) (request.Avg d q) r_is q_is = absurd (let e : Sum ≡ Avg = sym r_is.0 ∙ q_is.0 in cc)
+  requests_same (taken k name condition) t (request.Sum c p) (request.Max d q) r_is q_is = absurd (let e : Sum ≡ Max = sym r_is.0 ∙ q_is.0 in cc)
+  requests_same (taken k name condition) t (request.Avg c p) (request.Count q) r_is q_is = absurd q_is
+  requests_same (taken k name condition) t (request.Avg c p) (request.Sum d q) r_is q_is = absurd (let e : Avg ≡ Sum = sym r_is.0 ∙ q_is.0 in cc)
+  requests_same (taken k name condition) t (request.Avg c p) (request.Avg d q) r_is q_is = over_same Avg c d (tree_of p) (tree_of q) (some_same c d (secret_of columns name) r_is.1 q_is.1) (r_is.2 ∙ sym q_is.2)
+  requests_same (taken k name condition) t (request.Avg c p) (request.Max d q) r_is q_is = absurd (let e : Avg ≡ Max = sym r_is.0 ∙ q_is.0 in cc)
+  requests_same (taken k name condition) t (request.Max c p) (request.Count q) r_is q_is = absurd q_is
+  requests_same (taken k name condition) t (request.Max c p) (request.Sum d q) r_is q_is = absurd (let e : Max ≡ Sum = sym r_is.0 ∙ q_is.0 in cc)
+  requests_same (taken k name condition) t (request.Max c p) (request.Avg d q) r_is q_is = absurd (let e : Max ≡ Avg = sym r_is.0 ∙ q_is.0 in cc)
+  requests_same (taken k name condition) t (request.Max c p) (request.Max d q) r_is q_is = over_same Max c d (tree_of p) (tree_of q) (some_same c d (secret_of columns name) r_is.1 q_is.1) (r_is.2 ∙ sym q_is.2)
+
+-- ---- refusals
+
+one_question : (o : Option Written) (w v : Written) → o ≡ Some w → o ≡ Some v → w ≡ v
+one_question o w v first second = let both : Some w ≡ Some v = sym first ∙ second in cc
+
+no_question : (o : Option Written) (w : Written) → o ≡ None → o ≡ Some w → ⊥
+no_question o w first second = let both : None ≡ Some w = sym first ∙ second in cc
+
+no_fault : (o : Option LineFault) (f : LineFault) → o ≡ None → o ≡ Some f → ⊥
+no_fault o f first second = let both : None ≡ Some f = sym first ∙ second in cc
+
+module _ (columns : List Column) (o : Option Written) where
+  -- a fault of the column, and another
+  column_twice : (f g : LineFault) → HasColumnFault columns o f → HasColumnFault columns o g → f ≡ g
+  column_twice f g first second =
+      let both : Some f ≡ Some g = sym first.bad ∙ ap (column_fault columns) (one_question o first.question second.question first.writes second.writes) ∙ second.bad in cc
+
+  column_condition : (f : LineFault) (at : ℕ) → HasColumnFault columns o f → HasBadCondition columns o at → ⊥
+  column_condition f at first second = no_fault (column_fault columns second.question) f second.good (ap (column_fault columns) (one_question o second.question first.question second.writes first.writes) ∙ first.bad)
+
+  condition_twice : (at other : ℕ) → HasBadCondition columns o at → HasBadCondition columns o other → at ≡ other
+  condition_twice at other first second =
+      let place = subst (λ (w : Written). IsPlace columns (text_of w) other) (one_question o second.question first.question second.writes first.writes) second.place in
+      omega (arith, first.place.least other place.refuses, place.least at first.place.refuses)
+
+  -- a question has one first fault
+  same_fault : (f g : LineFault) (a b : Reply) → Refuses columns o f → Refuses columns o g → refusal f ≡ Some a → refusal g ≡ Some b → f ≡ g
+  same_fault fault.NoMemory g a b first second a_is b_is = absurd cc
+  same_fault f fault.NoMemory a b first second a_is b_is = absurd cc
+  same_fault fault.Line fault.Line a b first second a_is b_is = refl
+  same_fault fault.Line fault.Column a b first second a_is b_is = absurd (no_question o second.question first second.writes)
+  same_fault fault.Line fault.Kind a b first second a_is b_is = absurd (no_question o second.question first second.writes)
+  same_fault fault.Line (fault.Condition n) a b first second a_is b_is = absurd (no_question o second.question first second.writes)
+  same_fault fault.Column fault.Line a b first second a_is b_is = absurd (no_question o first.question second first.writes)
+  same_fault fault.Column fault.Column a b first second a_is b_is = refl
+  same_fault fault.Column fault.Kind a b first second a_is b_is = column_twice fault.Column fault.Kind first second
+  same_fault fault.Column (fault.Condition n) a b first second a_is b_is = absurd (column_condition fault.Column n first second)
+  same_fault fault.Kind fault.Line a b first second a_is b_is = absurd (no_question o first.question second first.writes)
+  same_fault fault.Kind fault.Column a b first second a_is b_is = column_twice fault.Kind fault.Column first second
+  same_fault fault.Kind fault.Kind a b first second a_is b_is = refl
+  same_fault fault.Kind (fault.Condition n) a b first second a_is b_is = absurd (column_condition fault.Kind n first second)
+  same_fault (fault.Condition m) fault.Line a b first second a_is b_is = absurd (no_question o first.question second first.writes)
+  same_fault (fault.Condition m) fault.Column a b first second a_is b_is = absurd (column_condition fault.Column m second first)
+  same_fault (fault.Condition m) fault.Kind a b first second a_is b_is = absurd (column_condition fault.Kind m second first)
+  same_fault (fault.Condition m) (fault.Condition n) a b first second a_is b_is = ap (λ (at : ℕ). fault.Condition at) (condition_twice m n first second)
+
+  one_fault : (f g : LineFault) (a b : Reply) → Refuses columns o f → Refuses columns o g → refusal f ≡ Some a → refusal g ≡ Some b → a ≡ b
+  one_fault f g a b first second a_is b_is = let both : Some a ≡ Some b = sym a_is ∙ ap refusal (same_fault f g a b first second a_is b_is) ∙ b_is in cc
+
+  -- and none where it is asked
+  asked_or_refused : (f : LineFault) (a : Reply) (r : Request) → Refuses columns o f → refusal f ≡ Some a → Requests columns o r → ⊥
+  asked_or_refused fault.Line a r refuses is asks = no_question o asks.question refuses asks.writes
+  asked_or_refused fault.Column a r refuses is asks = no_fault (column_fault columns asks.question) fault.Column asks.good (ap (column_fault columns) (one_question o asks.question refuses.question asks.writes refuses.writes) ∙ refuses.bad)
+  asked_or_refused fault.Kind a r refuses is asks = no_fault (column_fault columns asks.question) fault.Kind asks.good (ap (column_fault columns) (one_question o asks.question refuses.question asks.writes refuses.writes) ∙ refuses.bad)
+  asked_or_refused (fault.Condition at) a r refuses is asks =
+      refused_means_nothing columns (text_of refuses.question) asks.tree at (subst (λ (w : Written). Means columns (text_of w) asks.tree) (one_question o asks.question refuses.question asks.writes refuses.writes) asks.means) refuses.place.refuses
+  asked_or_refused fault.NoMemory a r refuses is asks = cc
+
+-- ---- lines
+
+-- no text means two trees
+abbrev pub OneMeaning : Type 0
+OneMeaning = (columns : List Column) (text : List ℕ) (s t : Tree) → Means columns text s → Means columns text t → s ≡ t
+
+module _ (meanings : OneMeaning) (columns : List Column) (public : PublicView) where
+  one_request : (o : Option Written) (r q : Request) → Requests columns o r → Requests columns o q → plan_of public r ≡ plan_of public q
+  one_request o r q first second =
+      let one = one_question o second.question first.question second.writes first.writes in
+      let means = subst (λ (w : Written). Means columns (text_of w) second.tree) one second.means in
+      let tree = meanings columns (text_of first.question) second.tree first.tree means first.means in
+      let is = subst (λ (w : Written). IsRequest columns w first.tree q) one (subst (λ (t : Tree). IsRequest columns second.question t q) tree second.is) in
+      requests_same columns public first.question first.tree r q first.is is
+
+  pub one_plan : (line : CountedLine) (p q : Plan) → IsPlan columns public line p → IsPlan columns public line q → p ≡ q
+  one_plan long p q first second = first ∙ sym second
+  one_plan (text line) p q (inl first) (inl second) =
+      first.plan_is ∙ ap (λ (r : Reply). Ready r) (one_fault columns (question_of line) first.fault second.fault first.answer second.answer first.refuses second.refuses first.told second.told) ∙ sym second.plan_is
+  one_plan (text line) p q (inl first) (inr second) = absurd (asked_or_refused columns (question_of line) first.fault first.answer second.request first.refuses first.told second.requests)
+  one_plan (text line) p q (inr first) (inl second) = absurd (asked_or_refused columns (question_of line) second.fault second.answer first.request second.refuses second.told first.requests)
+  one_plan (text line) p q (inr first) (inr second) = first.plan_is ∙ one_request (question_of line) first.request second.request first.requests second.requests ∙ sym second.plan_is

@@ -1,0 +1,124 @@
+-- The replies that are due to one line over tables that differ in their secrets alone.
+use Rattle.std.proofs.Common.{◌≡◌, ℕ, ℤ, ◌<◌, List, length, Some, refl, sym, ◌∙◌, ap, subst, arith, inl, inr, ◌⊎◌, ⊎_elim}
+use Rattle.audit_types.specs.declared.shapes.Kind.{Kind}
+use Rattle.audit_types.specs.declared.shapes.Kind.TheVariants as kind
+use Rattle.audit_types.specs.declared.records.Asked.{Asked}
+use Rattle.audit_types.specs.declared.records.Answered.{Answered}
+use Rattle.audit_types.specs.declared.records.Verdict.{Verdict}
+use Rattle.audit_types.specs.declared.records.Verdict.TheVariants.{Released, DeniedUnsafe, DeniedWide}
+use Rattle.audit_types.specs.Column.{Known}
+use Rattle.audit_types.specs.Judgement.{IsDecision, IsWideFor, IsWithinWidthFor, sets_with}
+use Rattle.audit_types.specs.History.{Table, Setting, setting_of, known_of}
+use Rattle.sum_basis.specs.Laws.{NarrowOrWide}
+use Rattle.audit_core.specs.declared.outcome.Outcome.{Outcome}
+use Rattle.audit_core.specs.declared.outcome.Outcome.TheVariants.{Answer, Denied, Full}
+use Rattle.audit_core.specs.Outcomes.{IsOutcome, record_of}
+use Rattle.schema_json.specs.Columns.{Column}
+use Rattle.table_load.specs.Cells.{PublicView, SecretView}
+use Rattle.table_load.specs.Database.{base_of, secret_table}
+use Rattle.line_wire.specs.Lines.{CountedLine}
+use Rattle.line_wire.specs.Reply.{reply_bytes}
+use Rattle.line_wire.specs.declared.question.Take.{Take}
+use Rattle.line_wire.specs.declared.question.Take.TheVariants.{Sum, Avg, Max}
+use Rattle.line_wire.specs.declared.reply.Reply.{Reply}
+use Rattle.question_plan.specs.declared.planning.Plan.{Plan}
+use Rattle.question_plan.specs.declared.planning.Plan.TheVariants.{Ready, Ask}
+use Rattle.question_plan.specs.Session.{Replied}
+use Rattle.question_plan.specs.Replies.{IsDue, IsPlan, IsReplyOf, TellsOutcome, Tells, only}
+use Rattle.question_plan.specs.Laws.{AreAnswersAlike, OneReplyIsDue, DecidedAlike, EqualAnswersEqualReplies}
+use Rattle.question_plan.proofs.OneMean.{one_mean}
+use Rattle.question_plan.proofs.OnePlan.{OneMeaning, asked_some, one_plan}
+
+-- one reply tells an answer
+one_telling : (take : Take) (size : ℕ) (answer : ℤ) (a b : Reply) → 0 < size → Tells take size answer a → Tells take size answer b → a ≡ b
+one_telling Sum size answer a b some first second = first ∙ sym second
+one_telling Avg size answer a b some first second = one_mean answer size a b some first second
+one_telling Max size answer a b some first second = first ∙ sym second
+
+-- a sum or a maximum isn't both too wide and within width
+never_both : NarrowOrWide → (k : Kind) (known : Known) (rows : List ℕ) → IsWideFor k known rows → IsWithinWidthFor k known rows → ⊥
+never_both forms kind.Sum known rows wide within = (forms known.n (sets_with known rows)).1 within wide
+never_both forms kind.Max known rows wide within = wide
+
+-- a decision is one
+one_decision : NarrowOrWide → (known : Known) (rows : List ℕ) (v w : Verdict) → IsDecision known rows v → IsDecision known rows w → v ≡ w
+one_decision forms known rows DeniedWide DeniedWide first second = refl
+one_decision forms known rows DeniedWide DeniedUnsafe first second = absurd (never_both forms known.kind known rows first second.0)
+one_decision forms known rows DeniedWide Released first second = absurd (never_both forms known.kind known rows first second.0)
+one_decision forms known rows DeniedUnsafe DeniedWide first second = absurd (never_both forms known.kind known rows second first.0)
+one_decision forms known rows DeniedUnsafe DeniedUnsafe first second = refl
+one_decision forms known rows DeniedUnsafe Released first second = absurd (second.1 first.1)
+one_decision forms known rows Released DeniedWide first second = absurd (never_both forms known.kind known rows second first.0)
+one_decision forms known rows Released DeniedUnsafe first second = absurd (first.1 second.1)
+one_decision forms known rows Released Released first second = refl
+
+-- two replies that tell one denial, or that the history is full
+one_denial : (take : Take) (asked : Asked) (size : ℕ) (v : Verdict) (a b : Reply) → TellsOutcome take size (Denied v) a → TellsOutcome take size (Denied v) b → a ≡ b
+one_denial take asked size Released a b first second = absurd first
+one_denial take asked size DeniedUnsafe a b first second = first ∙ sym second
+one_denial take asked size DeniedWide a b first second = first ∙ sym second
+
+module _ (forms : NarrowOrWide) (table twin : Table) (same : twin.setting ≡ table.setting) (history : List Answered) (take : Take) (asked : Asked) (some : 0 < length asked.rows.list) where
+  rows : List ℕ
+  rows = asked.rows.list
+
+  -- the decision of the twin is that of the table
+  one_verdict : (v w : Verdict) → IsDecision (known_of table.setting history asked.column) asked.rows.list v → IsDecision (known_of twin.setting history asked.column) asked.rows.list w → v ≡ w
+  one_verdict v w first second =
+      one_decision forms (known_of table.setting history asked.column) asked.rows.list v w first (subst (λ (s : Setting). IsDecision (known_of s history asked.column) asked.rows.list w) same second)
+
+  -- a reply that makes no record, by two names
+  same_only : (answer other : Reply) (a b : Replied Answered) → answer ≡ other → a ≡ only answer → b ≡ only other → a ≡ b
+  same_only answer other a b is first second = first ∙ ap (λ (r : Reply). only r) is ∙ sym second
+
+  -- what becomes of a question over both
+  outcomes_alike : (x y : Outcome) (answer other : Reply) (a b : Replied Answered) → IsOutcome table history asked x → IsOutcome twin history asked y → TellsOutcome take (length asked.rows.list) x answer → TellsOutcome take (length asked.rows.list) y other
+      → a ≡ record { bytes = reply_bytes answer; added = record_of asked x } → b ≡ record { bytes = reply_bytes other; added = record_of asked y } → (a ≡ b) ⊎ AreAnswersAlike table twin a b
+  outcomes_alike Full Full answer other a b first second tells told a_is b_is = inl (same_only answer other a b (tells ∙ sym told) a_is b_is)
+  outcomes_alike Full (Denied w) answer other a b first second tells told a_is b_is = absurd (omega (arith, first, second.0))
+  outcomes_alike Full (Answer y) answer other a b first second tells told a_is b_is = absurd (omega (arith, first, second.0))
+  outcomes_alike (Denied v) Full answer other a b first second tells told a_is b_is = absurd (omega (arith, first.0, second))
+  outcomes_alike (Answer x) Full answer other a b first second tells told a_is b_is = absurd (omega (arith, first.0, second))
+  outcomes_alike (Denied v) (Denied w) answer other a b first second tells told a_is b_is =
+      let one = one_verdict v w first.2 second.2 in
+      inl (same_only answer other a b (one_denial take asked (length asked.rows.list) v answer other tells (subst (λ (u : Verdict). TellsOutcome take (length asked.rows.list) (Denied u) other) (sym one) told)) a_is b_is)
+  outcomes_alike (Denied v) (Answer y) answer other a b first second tells told a_is b_is = absurd (first.1 (one_verdict v Released first.2 second.1))
+  outcomes_alike (Answer x) (Denied w) answer other a b first second tells told a_is b_is = absurd (second.1 (sym (one_verdict Released w first.1 second.2)))
+  outcomes_alike (Answer x) (Answer y) answer other a b first second tells told a_is b_is = inr (record {
+    take = take;
+    asked = asked;
+    some = some;
+    first = record { answer = x; is_true = first.2; told = answer; tells = tells; replied_is = a_is };
+    second = record { answer = y; is_true = second.2; told = other; tells = told; replied_is = b_is };
+  })
+
+-- what a plan comes to over both
+replies_alike : NarrowOrWide → (plan : Plan) (table twin : Table) → twin.setting ≡ table.setting → (history : List Answered) (a b : Replied Answered) → ((take : Take) (asked : Asked) → plan ≡ Ask take asked → 0 < length asked.rows.list)
+    → IsReplyOf plan table history a → IsReplyOf plan twin history b → (a ≡ b) ⊎ AreAnswersAlike table twin a b
+replies_alike forms (Ready answer) table twin same history a b some first second = inl (first ∙ sym second)
+replies_alike forms (Ask take asked) table twin same history a b some first second =
+    outcomes_alike forms table twin same history take asked (some take asked refl) first.outcome second.outcome first.answer second.answer a b first.due second.due first.tells second.tells first.replied_is second.replied_is
+
+pub due_alike : NarrowOrWide → OneMeaning → (columns : List Column) (public : PublicView) (secret twin : SecretView) → twin.shape ≡ secret.shape → (history : List Answered) (line : CountedLine) (a b : Replied Answered)
+    → IsDue (base_of columns public secret) history line a → IsDue (base_of columns public twin) history line b → (a ≡ b) ⊎ AreAnswersAlike (secret_table secret) (secret_table twin) a b
+due_alike forms meanings columns public secret twin same history line a b first second =
+    replies_alike forms first.plan (secret_table secret) (secret_table twin) (ap setting_of same) history a b
+    (λ take asked is. asked_some columns public line take asked (subst (λ (p : Plan). IsPlan columns public line p) is first.planned)) first.reply
+    (subst (λ (p : Plan). IsReplyOf p (secret_table twin) history b) (one_plan meanings columns public line second.plan first.plan second.planned first.planned) second.reply)
+
+-- two replies that tell equal answers are equal
+pub equal_answers : EqualAnswersEqualReplies
+equal_answers table twin a b alike value =
+    let told = one_telling alike.take (length alike.asked.rows.list) alike.first.answer alike.first.told alike.second.told alike.some alike.first.tells
+    (subst (λ (z : ℤ). Tells alike.take (length alike.asked.rows.list) z alike.second.told) (sym value) alike.second.tells) in
+    let whole : Reply → ℤ → Replied Answered = λ r z. record { bytes = reply_bytes r; added = Some (record { column = alike.asked.column; rows = alike.asked.rows; answer = z }) } in
+    alike.first.replied_is ∙ ap (λ (r : Reply). whole r alike.first.answer) told ∙ ap (λ (z : ℤ). whole alike.second.told z) value ∙ sym alike.second.replied_is
+
+pub one_due : NarrowOrWide → OneMeaning → OneReplyIsDue
+one_due forms meanings base history line a b first second =
+    ⊎_elim (λ same. same) (λ alike. equal_answers (secret_table base.secret) (secret_table base.secret) a b alike (alike.first.is_true ∙ sym alike.second.is_true)) (due_alike forms meanings base.columns base.public base.secret base.secret refl history line a b first second)
+
+pub decided_alike : NarrowOrWide → OneMeaning → DecidedAlike
+decided_alike forms meanings base twin history line a b twins first second =
+    due_alike forms meanings base.columns base.public base.secret twin.secret twins.shape history line a b first
+    (subst (λ (p : PublicView). IsDue (base_of base.columns p twin.secret) history line b) twins.public (subst (λ (cs : List Column). IsDue (base_of cs twin.public twin.secret) history line b) twins.columns second))

@@ -1,0 +1,5 @@
+use Rattle.question_plan.proofs.OneReply.{one_due}
+use Rattle.question_plan.proofs.laws.one_reply.Goals as goal
+
+pub returns : goal.returns
+returns c = one_due c.narrow_or_wide.ensures c.one_meaning.ensures

@@ -1,0 +1,4 @@
+pub mod Session
+pub mod Replies
+pub mod Plans
+pub mod Laws

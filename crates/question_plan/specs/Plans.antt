@@ -1,0 +1,49 @@
+-- What can be done with a plan.
+use Rattle.std.specs.Prelude.{◌≡◌, ◌≢◌, ◌≤◌, ℕ, unsigned_abs, List}
+use Rattle.audit_types.specs.declared.records.Asked.{Asked}
+use Rattle.audit_types.specs.declared.records.Verdict.TheVariants.{Released}
+use Rattle.audit_types.specs.Limits.{most_number, most_answer}
+use Rattle.audit_types.specs.History.{FitsShape}
+use Rattle.audit_types.specs.Shapes.{kind_at}
+use Rattle.audit_core.specs.declared.outcome.Outcome.{Outcome}
+use Rattle.audit_core.specs.declared.outcome.Outcome.TheVariants.{Answer, Denied, Full}
+use Rattle.schema_json.specs.Columns.{Column}
+use Rattle.schema_json.specs.SecretShape.{shape_of}
+use Rattle.predicate_lang.specs.Trees.{Tree, tree_of}
+use Rattle.line_wire.specs.Reply.{IsInRange}
+use Rattle.line_wire.specs.Requests.{kind_for}
+use Rattle.line_wire.specs.declared.question.Take.{Take}
+use Rattle.line_wire.specs.declared.question.Take.TheVariants.{Sum, Avg, Max}
+use Rattle.line_wire.specs.declared.request.Request.{Request}
+use Rattle.line_wire.specs.declared.request.Request.TheVariants as request
+use Rattle.question_plan.specs.declared.planning.Plan.{Plan}
+use Rattle.question_plan.specs.declared.planning.Plan.TheVariants.{Ready, Ask}
+
+-- the condition of a request
+abbrev pub condition_of : Request → Tree
+condition_of (request.Count p) = tree_of p
+condition_of (request.Sum column p) = tree_of p
+condition_of (request.Avg column p) = tree_of p
+condition_of (request.Max column p) = tree_of p
+
+-- a question that can be decided over each table of so many rows: it fits, and its column answers what is taken of it
+pub record IsAskable (columns : List Column) (rows : ℕ) (take : Take) (asked : Asked) : Type 0 where
+  pub fits : FitsShape (shape_of columns rows) asked.column asked.rows
+  pub own_kind : kind_at (shape_of columns rows) asked.column ≡ kind_for take
+
+-- the reply can be written, or the question decided
+abbrev pub CanBeServed : List Column → ℕ → Plan → Type 0
+CanBeServed columns rows (Ready answer) = IsInRange answer
+CanBeServed columns rows (Ask take asked) = IsAskable columns rows take asked
+
+-- the greatest size of an answer over a table
+abbrev pub most_of : Take → ℕ
+most_of Sum = most_answer
+most_of Avg = most_answer
+most_of Max = most_number
+
+-- a reply can tell the outcome: a denial isn't one of a released question, and an answer is one over a table
+abbrev pub CanBeTold : Take → Outcome → Type 0
+CanBeTold take Full = Unit {0}
+CanBeTold take (Denied verdict) = verdict ≢ Released
+CanBeTold take (Answer answer) = unsigned_abs answer ≤ most_of take

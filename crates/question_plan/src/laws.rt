@@ -1,0 +1,36 @@
+//! Laws of the replies that are due. Each function computes nothing: its contract is the law.
+ghost use Rattle.question_plan.specs.Laws.{RepliesKeepLegal, OutcomesCanBeTold, SomeReplyTells, OneReplyIsDue, DecidedAlike, EqualAnswersEqualReplies};
+
+/// Answering lines keeps a history legal: each record that a reply makes may follow those before it.
+pub fn answered_lines()
+    ensures { RepliesKeepLegal }
+{
+    schema_json::laws::secret_columns();
+    audit_core::laws::released_records();
+}
+
+/// What becomes of a question that a plan asks can be told, and some reply tells it.
+pub fn told_outcomes()
+    ensures can { OutcomesCanBeTold }
+    ensures some { SomeReplyTells }
+{
+    table_load::sizes_of_answers();
+}
+
+/// One reply is due to a line after a history.
+pub fn one_reply()
+    ensures { OneReplyIsDue }
+{
+    predicate_lang::one_meaning();
+    sum_basis::laws::narrow_or_wide();
+}
+
+/// Over tables that differ in their secrets alone the replies to a line after one history are equal, or both tell the answer
+/// to one question: whether it is answered doesn't depend on the secrets. Where the answers are equal, so are the replies.
+pub fn decided_alike()
+    ensures alike { DecidedAlike }
+    ensures equal { EqualAnswersEqualReplies }
+{
+    predicate_lang::one_meaning();
+    sum_basis::laws::narrow_or_wide();
+}

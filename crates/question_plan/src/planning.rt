@@ -1,0 +1,93 @@
+//! Planning a line.
+ghost use Rattle.std.specs.Prelude.{◌≡◌, ◌≤◌, true, length, IfOk, MatchResult, Some};
+ghost use Rattle.audit_types.specs.Limits.{most_rows};
+ghost use Rattle.table_load.specs.Cells.{FitsSchema};
+ghost use Rattle.set_index.specs.Asked.{fits_public};
+ghost use Rattle.line_wire.specs.Lines.{text};
+ghost use Rattle.line_wire.specs.Reply.{IsInRange};
+ghost use Rattle.line_wire.specs.Requests.{IsWithin};
+ghost use Rattle.question_plan.specs.Plans.{CanBeServed, condition_of};
+ghost use Rattle.question_plan.specs.Replies.{IsPlan, plan_of, question_over, refusal};
+
+use audit_types::{Asked, NoMemory};
+use line_wire::{LineFault, Reply, Request, Take, read_line_request};
+use schema_json::Schema;
+use set_index::{Index, reads_what_fits};
+use std::alloc::Global;
+
+/// What a line comes to before any history is known.
+#[derive(Clone, Copy)]
+pub enum Plan {
+    /// The reply, which is due after every history.
+    Ready(Reply),
+    /// The question that has to be decided. An answer is told as what is taken of the column.
+    Ask { take: Take, asked: Asked },
+}
+
+// What a question of a secret column comes to.
+fn plan_question(take: Take, asked: Asked) -> Plan
+    ensures { result ≡ question_over take asked.column asked.rows.n asked.rows.list }
+{
+    if asked.rows.is_empty() {
+        Plan::Ready(Reply::Empty)
+    } else {
+        Plan::Ask { take, asked }
+    }
+}
+
+// What a request comes to.
+fn plan_request(index: &Index, request: Request) -> Plan
+    requires { fits_public index.now (condition_of request) ≡ true }
+    ensures { result ≡ plan_of index.now request }
+{
+    match request {
+        Request::Count { pred } => Plan::Ready(Reply::Count(index.rows_of(&pred).len())),
+        Request::Sum { column, pred } => {
+            let rows = index.rows_of(&pred);
+            plan_question(Take::Sum, Asked { column, rows })
+        }
+        Request::Avg { column, pred } => {
+            let rows = index.rows_of(&pred);
+            plan_question(Take::Avg, Asked { column, rows })
+        }
+        Request::Max { column, pred } => {
+            let rows = index.rows_of(&pred);
+            plan_question(Take::Max, Asked { column, rows })
+        }
+    }
+}
+
+// The reply that tells why a line is refused.
+fn refused(fault: LineFault) -> Result<Reply, NoMemory>
+    requires { IsWithin 8192 fault }
+    ensures { IfOk result (λ reply. (refusal fault ≡ Some reply) × IsInRange reply) }
+{
+    match fault {
+        LineFault::Line => Ok(Reply::Line),
+        LineFault::Column => Ok(Reply::Column),
+        LineFault::Kind => Ok(Reply::Kind),
+        LineFault::Condition { at } => Ok(Reply::Condition { at }),
+        LineFault::NoMemory => Err(NoMemory),
+    }
+}
+
+/// Plans a line by the schema and the public part alone. A question that it gives can be decided over each table of the
+/// schema with as many rows, and a reply that it gives can be written.
+pub fn plan_line(
+    alloc: Global,
+    schema: &Schema,
+    index: &Index,
+    line: &[u8],
+) -> Result<Plan, NoMemory>
+    requires short { length line.now ≤ 8192 }
+    requires fits { FitsSchema schema.now.columns index.now }
+    requires few { index.now.rows ≤ most_rows }
+    ensures planned { IfOk result (IsPlan schema.now.columns index.now (text line.now)) }
+    ensures served { IfOk result (CanBeServed schema.now.columns index.now.rows) }
+{
+    reads_what_fits();
+    match read_line_request(alloc, schema, line) {
+        Ok(request) => Ok(plan_request(index, request)),
+        Err(fault) => Ok(Plan::Ready(refused(fault)?)),
+    }
+}
