@@ -17,6 +17,7 @@ pub record Turn {S : Type 0} (told : Type 0) (left : S → List ℕ) (faults : S
   pub taken : told → now.taken + length (left source) ≡ old.taken + length (left first)
   pub grown : old.taken + length now.pending + length now.text ≤ now.taken + length old.pending
   pub later : faults first ≤ faults source
+  pub steady : faults source ≡ faults first
   pub once : old.ended ≡ true → (source ≡ first) × (now.ended ≡ true)
 
 -- bytes that were passed are no longer at hand

@@ -1,5 +1,5 @@
 //! The cutter of lines.
-ghost use Rattle.std.specs.Prelude.{◌≡◌, ◌<◌, ◌≤◌, ◌+◌, ◌-◌, ◌^◌, ◌++◌, [], List, ℕ, length, take, drop, IfOk, IfErr, OnOk, OnErr, MatchOption, false, true};
+ghost use Rattle.std.specs.Prelude.{◌≡◌, ◌≢◌, ◌<◌, ◌≤◌, ◌+◌, ◌-◌, ◌^◌, ◌++◌, [], List, ℕ, length, take, drop, Err, IfOk, IfErr, OnOk, OnErr, MatchOption, false, true};
 ghost use Rattle.bench_core.specs.Causes.{HasCause, Rose};
 ghost use Rattle.bench_core.specs.Source.{Reads};
 ghost use Rattle.line_wire.specs.Lines.{line_of, counted_lines};
@@ -101,8 +101,9 @@ impl Lines {
         ensures advances { IfOk result (Advances self.old self.new) }
         ensures within { self.new.taken ≤ 2 ^ 30 + length self.new.pending }
 
-        // It doesn't give up by itself.
+        // It doesn't give up by itself, and passes over no failed read.
         ensures later { P.faults source.old ≤ P.faults source.new }
+        ensures steady { result ≢ Err LineStop.Input → P.faults source.new ≡ P.faults source.old }
         ensures input { result ≡ Err LineStop.Input → Rose (P.faults source.old) (P.faults source.new) }
 
         // Once a read gave 0, no call reads again.

@@ -15,6 +15,7 @@ loop-self-init g c =
       taken = λ told. rw cleared.same.0 refl;
       grown = omega (arith, ap (λ (l : List ℕ). length l) cleared.same.2, ap (λ (l : List ℕ). length l) cleared.text, cleared.same.0);
       later = omega arith;
+      steady = refl;
       once = λ is. (refl, cleared.same.1 ∙ is);
     }
 
@@ -43,6 +44,7 @@ loop-self-preserved-in_default g c =
       taken = λ told. rw taken (turn.taken told);
       grown = omega (arith, grown_feed c.args.self.now c.loop-self.self c.absorb.new.self turn.grown absorbed.passes absorbed.same.0, size, taken, finished.same.0, ap (λ (l : List ℕ). length l) finished.counts.1);
       later = turn.later;
+      steady = turn.steady;
       once = λ is. ((turn.once is).0, ended ∙ (turn.once is).1);
     }
 
@@ -74,6 +76,7 @@ loop-self-preserved g c =
           omega (arith, was, read, refilled.taken, absorbed.same.0);
       grown = omega (arith, grown_none c.args.self.now c.loop-self.self c.absorb.new.self turn.grown absorbed.passes.0 absorbed.same.0, ap (λ (l : List ℕ). length l) refilled.text, ap (λ (l : List ℕ). length l) absorbed.passes.1, refilled.taken);
       later = omega (arith, turn.later, refilled.cause.later);
+      steady = refilled.cause.steady ∙ turn.steady;
       once = λ is. absurd (both_ways _ open_end (absorbed.same.1 ∙ (turn.once is).1));
     }
 
