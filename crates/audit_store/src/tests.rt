@@ -1,10 +1,12 @@
 //! A worked history over the secrets of six people, and journals that aren't those of their table.
-ghost use Rattle.std.specs.Prelude.{◌≡◌, ◌≢◌, ◌<◌, ◌≤◌, []};
+ghost use Rattle.std.specs.Prelude.{◌≡◌, ◌≢◌, ◌<◌, ◌≤◌, [], All, IfOk, OnOk};
+ghost use Rattle.audit_types.specs.Shapes.{IsShape};
+ghost use Rattle.audit_types.specs.History.{FitsShape};
 ghost use Rattle.bench_core.specs.BenchContents.{file_of};
 ghost use Rattle.audit_store.specs.Stores.{IsAsLeft};
 
 use super::*;
-use audit_types::{Asked, RowSet, Shape, Verdict};
+use audit_types::{Asked, NoMemory, RowSet, Shape, Verdict};
 use bench_core::{MemoryBench, Room};
 use schema_json::read_schema;
 use std::alloc::Global;
@@ -67,14 +69,15 @@ fn six_people(rt: &impl Abort, alloc: Global) -> Secret {
     secret_of(rt, alloc, SCHEMA, SIX)
 }
 
-// A journal of 65,536 records, each the sum 3 over both of two rows, in groups of 64.
-fn full_journal(alloc: Global) -> Result<Vec<u8>, Fail> {
+// A journal of 65,535 records, each the sum 3 over both of two rows, in groups of 64 and a last one of 63.
+fn nearly_full_journal(alloc: Global) -> Result<Vec<u8>, Fail> {
     let mut bytes = vec![in alloc;
         1, 83, 81, 65, 74, 82, 78, 76, 1, 0, 2, 1, 1, 0, 0, 0, 0, 0, 0, 0,
     ]?;
-    for _ in 0..1_024 {
-        bytes.extend_from_slice(&[1, 64])?;
-        for _ in 0..64 {
+    for group in 0..1_024 {
+        let count = if group == 1_023 { 63 } else { 64 };
+        bytes.extend_from_slice(&[1, count])?;
+        for _ in 0..count {
             bytes.extend_from_slice(&[0, 0, 0, 0, 0, 0, 0, 0, 3, 3])?;
         }
     }
@@ -98,61 +101,98 @@ fn set(rt: &impl Abort, n: u16, rows: &[u16]) -> RowSet
     set
 }
 
+// Questions, each of a column and rows.
+fn questions(
+    rt: &impl Abort,
+    alloc: Global,
+    shape: Shape,
+    cases: &[(u8, &[u16])],
+) -> Result<Vec<Asked>, NoMemory>
+    requires { IsShape shape }
+    ensures { IfOk result (λ v. All (λ a. FitsShape shape a.column a.rows) v.items) }
+{
+    let mut list = Vec::new(alloc);
+    for &(column, rows) in cases {
+        assert!(rt; column < shape.columns());
+        let rows = set(rt, shape.rows, rows);
+        let _n = rows.n();
+        list.push(Asked { column, rows })?;
+    }
+    Ok(list)
+}
+
+// What becomes of a group of questions where nothing fails.
 fn ask(
     rt: &impl Abort,
+    alloc: Global,
     store: &mut Store,
     bench: &mut MemoryBench,
-    column: u8,
-    rows: &[u16],
-) -> Outcome
+    cases: &[(u8, &[u16])],
+) -> Result<Vec<Outcome>, NoMemory>
     requires { IsAsLeft (file_of bench.old) store.old }
-    ensures { IsAsLeft (file_of bench.new) store.new }
+    ensures { OnOk result (IsAsLeft (file_of bench.new) store.new) }
 {
-    let shape = store.secret().shape();
-    assert!(rt; store.usable());
-    assert!(rt; column < shape.columns());
-    let rows = set(rt, shape.rows, rows);
-    let _n = rows.n();
-    match store.ask_all(bench, &[Asked { column, rows }]) {
-        Ok(outcomes) => {
-            assert!(rt; outcomes.len() == 1);
-            outcomes[0]
-        }
+    let asked = questions(rt, alloc, store.secret().shape(), cases)?;
+    assert!(rt; store.usable() && !asked.is_empty() && asked.len() <= 64);
+    match store.ask_all(bench, &asked) {
+        Ok(outcomes) => Ok(outcomes),
         Err(_) => panic!(rt; "nothing is wanting"),
     }
 }
 
 #[test]
-fn each_question_is_decided_after_the_answers_before_it(rt: HostRuntime) -> Result<(), Fail> {
+fn a_group_is_decided_in_order_and_appended_at_once(rt: HostRuntime) -> Result<(), Fail> {
     let alloc = rt.alloc();
     let mut bench = MemoryBench::new(alloc, &MADE, ROOM, Vec::new(alloc), None)?;
     let Ok(mut store) = Store::start(alloc, six_people(&rt, alloc), &mut bench) else {
         panic!(rt; "the journal was made for this table");
     };
-    let denied = Outcome::Denied(Verdict::DeniedUnsafe);
-
-    // A column, rows, and what becomes of the question.
-    let cases = [
-        (0, [0].as_slice(), denied),
-        (1, &[0], denied),
-        (0, &[0, 1], Outcome::Answer(300)),
-        (0, &[0, 1, 2, 3, 4, 5], Outcome::Answer(2_100)),
-        (0, &[1, 3, 5], Outcome::Answer(1_200)),
-        (0, &[2, 3], Outcome::Answer(700)),
+    let group = [
+        (0, [0].as_slice()),
+        (1, &[0]),
+        (0, &[0, 1]),
+        (0, &[0, 1, 2, 3, 4, 5]),
+        (0, &[1, 3, 5]),
+        (0, &[2, 3]),
         // 1,200 less this sum would be the salary of row 5.
-        (0, &[1, 3], denied),
-        (1, &[0, 1, 2, 3, 4, 5], Outcome::Answer(9)),
-        (1, &[0, 1], Outcome::Answer(9)),
-        (1, &[2, 3, 4, 5], Outcome::Answer(9)),
+        (0, &[1, 3]),
+        (1, &[0, 1, 2, 3, 4, 5]),
+        (1, &[0, 1]),
+        (1, &[2, 3, 4, 5]),
         // The true answer would be harmless. An answer of 8 would leave row 1 alone with the 9 of rows 0 and 1.
-        (1, &[0, 2], denied),
-        (0, &[0, 1], Outcome::Answer(300)),
+        (1, &[0, 2]),
+        (0, &[0, 1]),
     ];
-    for (column, rows, outcome) in cases {
-        assert_eq!(rt; ask(&rt, &mut store, &mut bench, column, rows), outcome);
-    }
+    let denied = Outcome::Denied(Verdict::DeniedUnsafe);
+    let expected = [
+        denied,
+        denied,
+        Outcome::Answer(300),
+        Outcome::Answer(2_100),
+        Outcome::Answer(1_200),
+        Outcome::Answer(700),
+        denied,
+        Outcome::Answer(9),
+        Outcome::Answer(9),
+        Outcome::Answer(9),
+        denied,
+        Outcome::Answer(300),
+    ];
+    let outcomes = ask(&rt, alloc, &mut store, &mut bench, &group)?;
+    assert_eq!(rt; outcomes.as_slice(), expected.as_slice());
     assert_eq!(rt; store.history().len(), 8);
-    assert_eq!(rt; store.core().history().len(), 8);
+
+    // Opening takes two calls, and a group four. A group of denials takes none.
+    assert_eq!(rt; bench.calls(), 6);
+    let outcomes = ask(
+        &rt,
+        alloc,
+        &mut store,
+        &mut bench,
+        &[(0, &[1, 3]), (1, &[0])],
+    )?;
+    assert_eq!(rt; outcomes.as_slice(), [denied, denied].as_slice());
+    assert_eq!(rt; bench.calls(), 6);
     Ok(())
 }
 
@@ -163,10 +203,8 @@ fn an_answer_is_in_the_journal_when_it_is_given(rt: HostRuntime) -> Result<(), F
     let Ok(mut store) = Store::start(alloc, six_people(&rt, alloc), &mut bench) else {
         panic!(rt; "the journal was made for this table");
     };
-    assert_eq!(rt;
-        ask(&rt, &mut store, &mut bench, 0, &[0, 1]),
-        Outcome::Answer(300)
-    );
+    let outcomes = ask(&rt, alloc, &mut store, &mut bench, &[(0, &[0, 1])])?;
+    assert_eq!(rt; outcomes.as_slice(), [Outcome::Answer(300)].as_slice());
     assert_eq!(rt; bench.file(), WITH_ONE.as_slice());
     let mut image = bench.crashed(2)?;
     let Ok(again) = Store::start(alloc, six_people(&rt, alloc), &mut image) else {
@@ -237,22 +275,26 @@ fn a_failed_append_releases_nothing(rt: HostRuntime) -> Result<(), Fail> {
 }
 
 #[test]
-fn a_full_history_takes_no_record(rt: HostRuntime) -> Result<(), Fail> {
+fn the_last_record_fits_in_the_middle_of_a_group(rt: HostRuntime) -> Result<(), Fail> {
     let alloc = rt.alloc();
-    let bytes = full_journal(alloc)?;
+    let bytes = nearly_full_journal(alloc)?;
     let room = Room {
         file: 700_000,
         ..ROOM
     };
-    assert_eq!(rt; bytes.len(), 657_429);
+    assert_eq!(rt; bytes.len(), 657_419);
     let mut bench = MemoryBench::new(alloc, &bytes, room, Vec::new(alloc), None)?;
     let two = secret_of(&rt, alloc, PAIR, b"k,v\n0,1\n1,2\n");
     let Ok(mut store) = Store::start(alloc, two, &mut bench) else {
         panic!(rt; "all records are true and released");
     };
+    let group = [(0, [0, 1].as_slice()), (0, &[0, 1]), (0, &[0])];
+    let outcomes = ask(&rt, alloc, &mut store, &mut bench, &group)?;
+    let expected = [Outcome::Answer(3), Outcome::Full, Outcome::Full];
+    assert_eq!(rt; outcomes.as_slice(), expected.as_slice());
     assert_eq!(rt; store.history().len(), 65_536);
-    assert_eq!(rt; ask(&rt, &mut store, &mut bench, 0, &[0, 1]), Outcome::Full);
-    assert_eq!(rt; ask(&rt, &mut store, &mut bench, 0, &[0]), Outcome::Full);
-    assert_eq!(rt; bench.file().len(), 657_429);
+
+    // The open gate, the count, a record of ten bytes and the next gate, where one gate stood.
+    assert_eq!(rt; bench.file().len(), 657_431);
     Ok(())
 }
