@@ -1,5 +1,6 @@
 -- A store, as contracts see it: the secrets that it guards, what was released of them, and the journal behind it.
 use Rattle.std.specs.Prelude.{◌≡◌, ℕ, ◌≤◌, Bool, true, List, [], ◌∷◌, length}
+use Rattle.audit_types.specs.declared.shapes.Shape.{Shape}
 use Rattle.audit_types.specs.declared.records.Asked.{Asked}
 use Rattle.audit_types.specs.declared.records.Answered.{Answered}
 use Rattle.audit_types.specs.History.{IsLegal, setting_of}
@@ -9,6 +10,7 @@ use Rattle.table_load.specs.Database.{secret_table}
 use Rattle.bench_core.specs.declared.bench.Bench.{Ghosts}
 use Rattle.bench_core.specs.Calls.{LeavesOnly}
 use Rattle.journal_form.specs.Journal.{StandsAt}
+use Rattle.answer_journal.specs.Append.{AppendsGroup}
 use Rattle.answer_journal.specs.Contents.{JournalContents}
 use Rattle.answer_journal.specs.Moments.{IsBeforeOrAfter}
 use Rattle.audit_core.specs.declared.outcome.Outcome.{Outcome}
@@ -44,6 +46,11 @@ IsAsLeft file store = StandsAt file store.secret.shape store.history store.journ
 abbrev pub calls_for : List Answered → ℕ
 calls_for [] = 0
 calls_for (r ∷ records) = 4
+
+-- the file is as it was where there is no record, and else has the records as one group behind the gate
+abbrev pub HasGroup : Shape → List Answered → ℕ → List ℕ → List ℕ → Type 0
+HasGroup shape [] gate old new = new ≡ old
+HasGroup shape (r ∷ records) gate old new = AppendsGroup shape (r ∷ records) gate old new
 
 -- what a crash finds while a group of questions is decided and kept: nothing was sent, and the image stands for the
 -- history before the group or for that with the group's records

@@ -12,7 +12,7 @@ ghost use Rattle.bench_core.specs.Calls.{IsQuiet, LeavesOnly};
 ghost use Rattle.journal_form.specs.Journal.{StandsAt};
 ghost use Rattle.answer_journal.specs.Moments.{IsBeforeOrAfter};
 ghost use Rattle.table_load.specs.Database.{secret_table};
-ghost use Rattle.audit_store.specs.Stores.{calls_for};
+ghost use Rattle.audit_store.specs.Stores.{HasGroup, calls_for};
 
 use crate::outcome::StoreFault;
 use answer_journal::Journal;
@@ -116,6 +116,7 @@ pub fn keep<B: Bench>(
         → LeavesOnly B.Bench bench.old bench.new (IsBeforeOrAfter journal.old.shape history group.now (B.sent bench.old)) }
     ensures done { (history : List Answered) → B.told → StandsAt (B.file bench.old) journal.old.shape history journal.old.gate → length history ≡ journal.old.count
         → OnOk result (StandsAt (B.file bench.new) journal.new.shape (history ++ group.now) journal.new.gate) }
+    ensures written { B.told → OnOk result (HasGroup journal.old.shape group.now journal.old.gate (B.file bench.old) (B.file bench.new)) }
     ensures quiet { B.told → IsQuiet B.Bench bench.old → OnOk result (IsQuiet B.Bench bench.new) }
     ensures sent { B.sent bench.new ≡ B.sent bench.old }
     ensures ticks { B.told → OnOk result (B.moment bench.new ≡ B.moment bench.old + calls_for group.now) }

@@ -7,7 +7,7 @@ ghost use Rattle.bench_core.specs.Calls.{IsQuiet, LeavesOnly};
 ghost use Rattle.journal_form.specs.Journal.{StandsFor};
 ghost use Rattle.answer_journal.specs.Moments.{IsBeforeOrAfter, IsUntouched};
 ghost use Rattle.audit_core.specs.Outcomes.{AreOutcomes, records_made};
-ghost use Rattle.audit_store.specs.Stores.{IsAsLeft, IsStore, Keeps, calls_for};
+ghost use Rattle.audit_store.specs.Stores.{IsAsLeft, IsStore, Keeps, HasGroup, calls_for};
 ghost use Rattle.table_load.specs.Database.{secret_table};
 ghost use Rattle.audit_store.specs.Starting.{StartCause, HistoryCause, GivesUp, StartsUnlessFailed, RefusedUnlessFailed};
 ghost use Rattle.audit_store.specs.declared.starting.StartFault.{StartFault};
@@ -149,6 +149,7 @@ impl Store {
             → Keeps B.Bench bench.old bench.new self.old.secret self.old.history asked.now (B.sent bench.old) }
         ensures moments { B.told → IsQuiet B.Bench bench.old
             → IfOk result (λ v. LeavesOnly B.Bench bench.old bench.new (IsBeforeOrAfter self.old.secret.shape self.old.history (records_made asked.now v.items) (B.sent bench.old))) }
+        ensures written { B.told → IfOk result (λ v. HasGroup self.old.secret.shape (records_made asked.now v.items) self.old.journal.gate (B.file bench.old) (B.file bench.new)) }
         ensures quiet { B.told → IsQuiet B.Bench bench.old → OnOk result (IsQuiet B.Bench bench.new) }
         ensures sent { B.sent bench.new ≡ B.sent bench.old }
         ensures ticks { B.told → IfOk result (λ v. B.moment bench.new ≡ B.moment bench.old + calls_for (records_made asked.now v.items)) }

@@ -1,13 +1,14 @@
 -- What a call of the cutter keeps from turn to turn.
-use Rattle.std.proofs.Common.{◌≡◌, ℕ, suc, ◌+◌, ◌<◌, ◌≤◌, true, Option, Some, None, List, [], ◌∷◌, ◌++◌, length, ap, ◌∙◌, arith, length-append}
+use Rattle.std.proofs.Common.{◌≡◌, ℕ, suc, ◌+◌, ◌<◌, ◌≤◌, ◌⊎◌, inl, inr, true, Option, Some, None, List, [], ◌∷◌, ◌++◌, length, sym, ap, ◌∙◌, arith, append-nil, length-append}
 use Rattle.std.specs.Prelude.{MatchOption}
 use Rattle.std.specs.Option.{unwrap_or}
-use Rattle.line_wire.specs.Lines.{CountedLine, text, long, line_of}
+use Rattle.line_wire.specs.Lines.{CountedLine, text, long, line_of, whole_lines}
 use Rattle.line_wire.specs.Cutter.{Cutter, IsWithin, PassesFeed, PassesNone, Reached}
 use Rattle.line_wire.specs.Steps.{Gives, Advances}
 use Rattle.line_wire.specs.declared.lines.Next.{Next}
 use Rattle.line_wire.specs.declared.lines.Next.TheVariants as next
 use Rattle.line_wire.proofs.LineLaws.{kept-le}
+use Rattle.line_wire.proofs.Reaching.{to_feed, to_more, to_next, no_whole}
 
 -- what holds at each turn of a call
 pub record Turn {S : Type 0} (told : Type 0) (left : S → List ℕ) (faults : S → ℕ) (old now : Cutter) (first source : S) : Type 0 where
@@ -16,8 +17,10 @@ pub record Turn {S : Type 0} (told : Type 0) (left : S → List ℕ) (faults : S
   pub same : told → now.ended ≡ true → left source ≡ []
   pub taken : told → now.taken + length (left source) ≡ old.taken + length (left first)
   pub grown : old.taken + length now.pending + length now.text ≤ now.taken + length old.pending
-  pub later : faults first ≤ faults source
+  -- no read failed so far
   pub steady : faults source ≡ faults first
+  -- nothing was read so far, or no whole line was at hand
+  pub unread : ((source ≡ first) × Reached (old.pending ++ []) now []) ⊎ (whole_lines (old.pending ++ []) ≡ [])
   pub once : old.ended ≡ true → (source ≡ first) × (now.ended ≡ true)
 
 -- bytes that were passed are no longer at hand
@@ -54,3 +57,19 @@ advances_last (Some next.Line) old now new grown taken pending gives = omega (ar
 advances_last (Some next.Long) old now new grown taken pending gives = omega (arith, grown, taken, ap (λ (l : List ℕ). length l) pending, some_byte now.text long gives.0)
 advances_last (Some next.End) old now new grown taken pending gives = absurd gives
 advances_last None old now new grown taken pending gives = tt
+
+-- where all bytes at hand were passed without a read, no whole line was among them
+pub none_at_hand : (rest : List ℕ) (old now : Cutter) → Reached rest old [] → PassesNone old now → now.pending ≡ [] → whole_lines rest ≡ []
+none_at_hand rest old now so_far passes dry =
+    let stop = no_whole rest now [] (to_more rest old now [] so_far passes) in
+    ap whole_lines (stop.split ∙ ap (λ l. stop.front ++ (l ++ [])) dry ∙ append-nil stop.front) ∙ stop.none
+
+-- what a turn without a read leaves at hand
+pub still_unread : {S : Type 0} (old now new : Cutter) (first source : S) → ((source ≡ first) × Reached (old.pending ++ []) now []) ⊎ (whole_lines (old.pending ++ []) ≡ []) → PassesNone now new → new.pending ≡ [] → whole_lines old.pending ≡ []
+still_unread old now new first source (inl here) passes dry = ap whole_lines (sym (append-nil old.pending)) ∙ none_at_hand (old.pending ++ []) now new here.1 passes dry
+still_unread old now new first source (inr none) passes dry = ap whole_lines (sym (append-nil old.pending)) ∙ none
+
+pub next_unread : {S : Type 0} (old now fed new : Cutter) (first source : S) → ((source ≡ first) × Reached (old.pending ++ []) now []) ⊎ (whole_lines (old.pending ++ []) ≡ []) → PassesFeed now fed → line_of fed.text ≡ [] → new.text ≡ [] → new.pending ≡ fed.pending
+    → ((source ≡ first) × Reached (old.pending ++ []) new []) ⊎ (whole_lines (old.pending ++ []) ≡ [])
+next_unread old now fed new first source (inl here) passes none empty same = inl (here.0, to_next _ _ _ _ (to_feed _ _ _ _ here.1 passes) none empty same)
+next_unread old now fed new first source (inr none_whole) passes none empty same = inr none_whole

@@ -2,7 +2,7 @@
 ghost use Rattle.std.specs.Prelude.{◌≡◌, ◌≢◌, ◌<◌, ◌≤◌, ◌+◌, ◌-◌, ◌^◌, ◌++◌, [], List, ℕ, length, take, drop, Err, IfOk, IfErr, OnOk, OnErr, MatchOption, false, true};
 ghost use Rattle.bench_core.specs.Causes.{HasCause, Rose};
 ghost use Rattle.bench_core.specs.Source.{Reads};
-ghost use Rattle.line_wire.specs.Lines.{line_of, counted_lines};
+ghost use Rattle.line_wire.specs.Lines.{line_of, counted_lines, whole_lines};
 ghost use Rattle.line_wire.specs.Cutter.{IsFeedless, IsFirstFeed};
 
 use crate::buffer::{Buffer, LONGEST};
@@ -106,6 +106,9 @@ impl Lines {
         ensures steady { result ≢ Err LineStop.Input → P.faults source.new ≡ P.faults source.old }
         ensures input { result ≡ Err LineStop.Input → Rose (P.faults source.old) (P.faults source.new) }
 
+        // Nothing is read while a whole line is at hand.
+        ensures at_hand { whole_lines self.old.pending ≢ [] → source.new ≡ source.old }
+
         // Once a read gave 0, no call reads again.
         ensures once { self.old.ended ≡ true → (source.new ≡ source.old) × (self.new.ended ≡ true) × (result ≡ Err LineStop.Input → ⊥) }
     {
@@ -200,14 +203,10 @@ impl Lines {
         ensures grows { OnOk result (self.new.ended ≡ false → self.old.taken < self.new.taken) }
         ensures text { self.new.text ≡ self.old.text }
     {
-        match self.buffer.fill(source) {
-            Ok(count) => {
-                self.taken += count as u64;
-                self.ended = count == 0;
-                Ok(())
-            }
-            Err(Failed) => Err(Failed),
-        }
+        let count = self.buffer.fill(source)?;
+        self.taken += count as u64;
+        self.ended = count == 0;
+        Ok(())
     }
 }
 

@@ -1,8 +1,9 @@
-use Rattle.std.proofs.Common.{ℕ, List, length, refl, sym, ◌∙◌, ap, arith, length-append}
+use Rattle.std.proofs.Common.{ℕ, List, length, inl, inr, refl, sym, ◌∙◌, ap, arith, append-nil, length-append}
 use Rattle.std.proofs.lemmas.Bool.{both_ways}
+use Rattle.line_wire.specs.Lines.{whole_lines}
 use Rattle.line_wire.specs.Cutter.{Cutter}
 use Rattle.line_wire.proofs.Reaching.{starts, to_feed, to_more, to_read, to_next, no_whole, answers_fed, answers_last, none_left, counts_from}
-use Rattle.line_wire.proofs.Turning.{grown_feed, grown_none, advances_fed, advances_last}
+use Rattle.line_wire.proofs.Turning.{grown_feed, grown_none, advances_fed, advances_last, still_unread, next_unread}
 use Rattle.line_wire.proofs.lines.Lines.next.Goals as goal
 
 pub loop-self-init : goal.loop-self-init
@@ -14,8 +15,8 @@ loop-self-init g c =
       same = λ told is. c.requires.same told (sym cleared.same.1 ∙ is);
       taken = λ told. rw cleared.same.0 refl;
       grown = omega (arith, ap (λ (l : List ℕ). length l) cleared.same.2, ap (λ (l : List ℕ). length l) cleared.text, cleared.same.0);
-      later = omega arith;
       steady = refl;
+      unread = inl (refl, rw (← cleared.same.2) (starts _ _ cleared.text));
       once = λ is. (refl, cleared.same.1 ∙ is);
     }
 
@@ -43,8 +44,8 @@ loop-self-preserved-in_default g c =
       same = λ told is. turn.same told (sym ended ∙ is);
       taken = λ told. rw taken (turn.taken told);
       grown = omega (arith, grown_feed c.args.self.now c.loop-self.self c.absorb.new.self turn.grown absorbed.passes absorbed.same.0, size, taken, finished.same.0, ap (λ (l : List ℕ). length l) finished.counts.1);
-      later = turn.later;
       steady = turn.steady;
+      unread = next_unread c.args.self.now c.loop-self.self c.absorb.new.self c.finish.new.self _ _ turn.unread absorbed.passes finished.counts.0 finished.counts.1 finished.same.2;
       once = λ is. ((turn.once is).0, ended ∙ (turn.once is).1);
     }
 
@@ -75,8 +76,8 @@ loop-self-preserved g c =
           let read = ap (λ (l : List ℕ). length l) (refilled.bytes told) ∙ length-append c.refill.new.self.pending (g.P.Source.left c.refill.new.source) in
           omega (arith, was, read, refilled.taken, absorbed.same.0);
       grown = omega (arith, grown_none c.args.self.now c.loop-self.self c.absorb.new.self turn.grown absorbed.passes.0 absorbed.same.0, ap (λ (l : List ℕ). length l) refilled.text, ap (λ (l : List ℕ). length l) absorbed.passes.1, refilled.taken);
-      later = omega (arith, turn.later, refilled.cause.later);
       steady = refilled.cause.steady ∙ turn.steady;
+      unread = inr (ap whole_lines (append-nil c.args.self.now.pending) ∙ still_unread c.args.self.now c.loop-self.self c.absorb.new.self _ _ turn.unread absorbed.passes.0 absorbed.passes.1);
       once = λ is. absurd (both_ways _ open_end (absorbed.same.1 ∙ (turn.once is).1));
     }
 
@@ -104,3 +105,8 @@ returns-then-self-clause-advances g c =
 
 pub returns-in-Some-clause-counted : goal.returns-in-Some-clause-counted
 returns-in-Some-clause-counted g c = λ told. counts_from _ _ _ _ (returns-in-Some-clause-answer g c told)
+
+pub returns-in-Err-clause-at_hand : goal.returns-in-Err-clause-at_hand
+returns-in-Err-clause-at_hand g c = λ some.
+    let absorbed = c.in-Dry.ensures in
+    absurd (some (still_unread c.args.self.now c.loop-self.self c.absorb.new.self _ _ c.loop-self.invariant.unread absorbed.passes.0 absorbed.passes.1))
