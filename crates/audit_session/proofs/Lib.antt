@@ -1,6 +1,16 @@
 pub mod RepliesInOrder
 pub mod StopsOfGroups
 pub mod FirstStop
+pub mod Planned
+pub mod ToldPlans
+pub mod Sending
+pub mod ToldInTurn
+pub mod GatheredLines
+pub mod Commits
+pub mod GroupStops
+pub mod EndsByFault
+pub mod DecidedGroup
+pub mod Served
 pub mod NextLines
 pub mod OneReplyEach
 pub mod KeptBeforeSent

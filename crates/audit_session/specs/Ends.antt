@@ -2,7 +2,15 @@
 use Rattle.std.specs.Prelude.{◌≡◌, ℕ, ◌+◌, ◌*◌, ◌≤◌, ◌<◌, ◌^◌, List, [], ◌++◌, length, take, Result, Ok, Err}
 use Rattle.audit_types.specs.declared.records.Answered.{Answered}
 use Rattle.table_load.specs.Database.{Database}
+use Rattle.bench_core.specs.declared.bench.Bench.{Ghosts}
+use Rattle.bench_core.specs.Calls.{IsQuiet}
+use Rattle.journal_form.specs.Journal.{StandsFor}
+use Rattle.audit_store.specs.Stores.{StoreContents}
+use Rattle.audit_store.specs.declared.outcome.StoreFault.{StoreFault}
+use Rattle.audit_store.specs.declared.outcome.StoreFault.TheVariants as store
 use Rattle.line_wire.specs.Lines.{CountedLine, counted_lines, whole_lines}
+use Rattle.line_wire.specs.declared.lines.LineStop.{LineStop}
+use Rattle.line_wire.specs.declared.lines.LineStop.TheVariants as stop
 use Rattle.question_plan.specs.Session.{Replied, records_of, bytes_of, AreReplies, groups, commits}
 use Rattle.question_plan.specs.Replies.{IsDue}
 use Rattle.audit_session.specs.declared.serving.EndFault.{EndFault}
@@ -61,3 +69,17 @@ Reads (Err end.Input) input left = length input ≤ 2 ^ 30 + length left
 Reads (Err end.Limit) input left = 2 ^ 30 + length left < length input
 Reads (Err end.NoMemory) input left = Unit {0}
 Reads (Err end.Bench) input left = Unit {0}
+
+-- the end that a refusal of the store, or of the cutter of lines, makes
+abbrev pub store_end : StoreFault → EndFault
+store_end store.Failed = end.Bench
+store_end store.NoMemory = end.NoMemory
+
+abbrev pub line_end : LineStop → EndFault
+line_end stop.Input = end.Input
+line_end stop.Limit = end.Limit
+
+-- the file stands for the history, and a quiet bench is still quiet
+pub record Rests {B : Type 0} (bench : Ghosts B) (old new : B) (store : StoreContents) : Type 0 where
+  pub stands : bench.told → StandsFor (bench.file new) store.secret.shape store.history
+  pub quiet : bench.told → IsQuiet bench old → IsQuiet bench new

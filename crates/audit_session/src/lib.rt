@@ -6,7 +6,11 @@
 //! tables that differ in their secrets alone are decided alike.
 #![tactic(auto)]
 
+mod answering;
+mod gathering;
 pub mod laws;
 mod serving;
+#[cfg(test)]
+mod tests;
 
 pub use serving::{EndFault, serve};

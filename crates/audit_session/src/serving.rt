@@ -1,5 +1,6 @@
 //! The serving loop.
-ghost use Rattle.std.specs.Prelude.{◌≡◌, ◌≢◌, ◌<◌, ◌≤◌, ◌+◌, ◌^◌, [], List, ℕ, true, length, OnOk, Err};
+ghost use Rattle.std.specs.Prelude.{◌≡◌, ◌≢◌, ◌<◌, ◌≤◌, ◌+◌, ◌^◌, [], List, ℕ, true, false, length, OnOk, Err};
+ghost use Rattle.std.specs.Vec.{vec_capacity};
 ghost use Rattle.audit_types.specs.declared.records.Answered.{Answered};
 ghost use Rattle.audit_types.specs.History.{IsLegal, IsUndisclosed};
 ghost use Rattle.schema_json.specs.SecretShape.{shape_of};
@@ -11,11 +12,16 @@ ghost use Rattle.journal_form.specs.Journal.{StandsFor};
 ghost use Rattle.audit_store.specs.Stores.{IsAsLeft, IsStore};
 ghost use Rattle.line_wire.specs.Lines.{counted_lines};
 ghost use Rattle.audit_session.specs.Stops.{IsBatch, StopsOver};
-ghost use Rattle.audit_session.specs.Ends.{Serves, ServesWhole, ServesSome, ServesLimited, TakesCalls};
+ghost use Rattle.audit_session.specs.Ends.{Serves, ServesWhole, ServesSome, ServesLimited, TakesCalls, Ends, Reads, Rests, store_end, line_end};
+ghost use Rattle.audit_session.specs.Groups.{StopsAmong};
 
+use crate::answering::answer;
+use crate::gathering::{Group, gather};
 use crate::laws::stops;
-use audit_store::Store;
-use bench_core::{Bench, Source};
+use audit_store::{Store, StoreFault};
+use audit_types::NoMemory;
+use bench_core::{Bench, Failed, Source};
+use line_wire::{LineStop, Lines};
 use schema_json::Schema;
 use set_index::Index;
 use std::alloc::Global;
@@ -30,6 +36,90 @@ pub enum EndFault {
     /// The input has more than 2^30 bytes.
     Limit,
     NoMemory,
+}
+
+impl From<StoreFault> for EndFault {
+    ghost from_gives = { λ fault e. e ≡ store_end fault };
+
+    fn from(fault: StoreFault) -> EndFault {
+        match fault {
+            StoreFault::Failed => EndFault::Bench,
+            StoreFault::NoMemory => EndFault::NoMemory,
+        }
+    }
+}
+
+impl From<LineStop> for EndFault {
+    ghost from_gives = { λ stop e. e ≡ line_end stop };
+
+    fn from(stop: LineStop) -> EndFault {
+        match stop {
+            LineStop::Input => EndFault::Input,
+            LineStop::Limit => EndFault::Limit,
+        }
+    }
+}
+
+impl From<Failed> for EndFault {
+    ghost use Rattle.audit_session.specs.declared.serving.EndFault.{EndFault};
+
+    ghost from_gives = { λ _ e. e ≡ EndFault.Bench };
+
+    fn from(_e: Failed) -> EndFault {
+        EndFault::Bench
+    }
+}
+
+impl From<NoMemory> for EndFault {
+    ghost use Rattle.audit_session.specs.declared.serving.EndFault.{EndFault};
+
+    ghost from_gives = { λ _ e. e ≡ EndFault.NoMemory };
+
+    fn from(_e: NoMemory) -> EndFault {
+        EndFault::NoMemory
+    }
+}
+
+// Answers the groups that are still to come.
+fn answer_groups<P: Source, B: Bench>(
+    alloc: Global,
+    lines: &mut Lines,
+    group: &mut Group,
+    schema: &Schema,
+    index: &Index,
+    store: &mut Store,
+    source: &mut P,
+    bench: &mut B,
+    batch: u8,
+) -> Result<(), EndFault>
+    requires fresh { (lines.old.taken ≡ 0) × (lines.old.pending ≡ []) × (lines.old.ended ≡ false) }
+    requires room { vec_capacity group.old.replies ≡ batch }
+    requires batch { IsBatch batch }
+    requires usable { store.old.usable ≡ true }
+    requires is { IsStore store.old }
+    requires fits { FitsSchema schema.now.columns index.now }
+    requires shape { store.old.secret.shape ≡ shape_of schema.now.columns index.now.rows }
+    requires stands { B.told → IsAsLeft (B.file bench.old) store.old }
+    ensures ends { P.told → B.told → Ends batch result (base_of schema.now.columns index.now store.old.secret) store.old.history (P.left source.old) (P.left source.new) store.new.history (B.sent bench.old) (B.sent bench.new) }
+    ensures reads { P.told → Reads result (P.left source.old) (P.left source.new) }
+    ensures rests { result ≢ Err EndFault.Bench → Rests B.Bench bench.old bench.new store.new }
+    ensures again { OnOk result ((store.new.usable ≡ true) × (B.told → IsAsLeft (B.file bench.new) store.new)) }
+    ensures calls { P.told → B.told → OnOk result (TakesCalls (base_of schema.now.columns index.now store.old.secret) store.old.history batch (counted_lines (P.left source.old)) (B.moment bench.old) (B.moment bench.new)) }
+    ensures moments { B.told → IsQuiet B.Bench bench.old
+        → LeavesOnly B.Bench bench.old bench.new (StopsAmong P.told (base_of schema.now.columns index.now store.old.secret) batch store.old.history (counted_lines (P.left source.old)) (B.sent bench.old)) }
+    ensures kept { (store.new.secret ≡ store.old.secret) × IsStore store.new }
+    ensures later { (P.faults source.old ≤ P.faults source.new) × (B.faults bench.old ≤ B.faults bench.new) }
+    ensures input { result ≡ Err EndFault.Input → Rose (P.faults source.old) (P.faults source.new) }
+    ensures bench { result ≡ Err EndFault.Bench → Rose (B.faults bench.old) (B.faults bench.new) }
+    ensures steady { (result ≢ Err EndFault.Input → P.faults source.new ≡ P.faults source.old) × (result ≢ Err EndFault.Bench → B.faults bench.new ≡ B.faults bench.old) }
+{
+    loop {
+        let more = gather(alloc, lines, schema, index, source, batch, group)?;
+        answer(alloc, store, bench, group)?;
+        if !more {
+            return Ok(());
+        }
+    }
 }
 
 /// Answers the counted lines of the input in groups of `batch`; at the end of the input the last group may be shorter. The
@@ -90,5 +180,9 @@ pub fn serve<P: Source, B: Bench>(
     let _columns = schema.count();
     let _history = store.history();
     stops();
-    Err(EndFault::NoMemory)
+    let mut lines = Lines::new(alloc)?;
+    let mut group = Group::new(alloc, batch)?;
+    answer_groups(
+        alloc, &mut lines, &mut group, schema, index, store, source, bench, batch,
+    )
 }

@@ -95,7 +95,7 @@ module _ (grows : LegalGrows) (places : PlacesAreColumns) (base : Database) (is_
 
   -- so does the reply of a plan
   reply_keeps : (plan : Plan) (history : List Answered) (replied : Replied Answered) → ((take : Take) (asked : Asked) → plan ≡ Ask take asked → FitsShape base.secret.shape asked.column asked.rows) → IsLegal (secret_table base.secret) history
-      → IsReplyOf plan (secret_table base.secret) history replied → IsLegal (secret_table base.secret) (history ++ option_to_list replied.added)
+      → IsReplyOf (secret_table base.secret) history plan replied → IsLegal (secret_table base.secret) (history ++ option_to_list replied.added)
   reply_keeps (Ready answer) history replied fit legal reply = nothing_keeps history replied (ap (λ (r : Replied Answered). r.added) reply) legal
   reply_keeps (Ask take asked) history replied fit legal reply =
       only_keeps history replied (record_of asked reply.outcome) (ap (λ (r : Replied Answered). r.added) reply.replied_is) (outcome_keeps history asked reply.outcome (fit take asked refl) legal reply.due)

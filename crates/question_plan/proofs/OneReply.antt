@@ -94,7 +94,7 @@ module _ (forms : NarrowOrWide) (table twin : Table) (same : twin.setting ≡ ta
 
 -- what a plan comes to over both
 replies_alike : NarrowOrWide → (plan : Plan) (table twin : Table) → twin.setting ≡ table.setting → (history : List Answered) (a b : Replied Answered) → ((take : Take) (asked : Asked) → plan ≡ Ask take asked → 0 < length asked.rows.list)
-    → IsReplyOf plan table history a → IsReplyOf plan twin history b → (a ≡ b) ⊎ AreAnswersAlike table twin a b
+    → IsReplyOf table history plan a → IsReplyOf twin history plan b → (a ≡ b) ⊎ AreAnswersAlike table twin a b
 replies_alike forms (Ready answer) table twin same history a b some first second = inl (first ∙ sym second)
 replies_alike forms (Ask take asked) table twin same history a b some first second =
     outcomes_alike forms table twin same history take asked (some take asked refl) first.outcome second.outcome first.answer second.answer a b first.due second.due first.tells second.tells first.replied_is second.replied_is
@@ -104,7 +104,7 @@ pub due_alike : NarrowOrWide → OneMeaning → (columns : List Column) (public 
 due_alike forms meanings columns public secret twin same history line a b first second =
     replies_alike forms first.plan (secret_table secret) (secret_table twin) (ap setting_of same) history a b
     (λ take asked is. asked_some columns public line take asked (subst (λ (p : Plan). IsPlan columns public line p) is first.planned)) first.reply
-    (subst (λ (p : Plan). IsReplyOf p (secret_table twin) history b) (one_plan meanings columns public line second.plan first.plan second.planned first.planned) second.reply)
+    (subst (λ (p : Plan). IsReplyOf (secret_table twin) history p b) (one_plan meanings columns public line second.plan first.plan second.planned first.planned) second.reply)
 
 -- two replies that tell equal answers are equal
 pub equal_answers : EqualAnswersEqualReplies

@@ -5,7 +5,6 @@ use Rattle.audit_types.specs.declared.records.Asked.{Asked}
 use Rattle.audit_types.specs.declared.records.Answered.{Answered}
 use Rattle.audit_types.specs.declared.records.Verdict.TheVariants.{Released, DeniedUnsafe, DeniedWide}
 use Rattle.audit_types.specs.declared.shapes.Kind.{Kind}
-use Rattle.audit_types.specs.declared.shapes.Shape.{Shape}
 use Rattle.audit_types.specs.Rows.{AreRows}
 use Rattle.audit_types.specs.Shapes.{columns, kind_at}
 use Rattle.audit_types.specs.Truth.{truth, sum_over, greatest_over}
@@ -50,9 +49,7 @@ module _ (sums : SumsAreSmall) (maxima : MaximaAreSmall) (secret : SecretView) (
   can_be_told history (Answer z) due = answer_small z due.2
 
 pub outcomes_can_be_told : SumsAreSmall → MaximaAreSmall → OutcomesCanBeTold
-outcomes_can_be_told sums maxima secret columns rows history take asked outcome is shape askable due =
-    can_be_told sums maxima secret is take asked (subst (λ (s : Shape). FitsShape s asked.column asked.rows) (sym shape) askable.fits)
-    (subst (λ (s : Shape). kind_at s asked.column ≡ kind_for take) (sym shape) askable.own_kind) history outcome due
+outcomes_can_be_told sums maxima secret history take asked outcome is askable due = can_be_told sums maxima secret is take asked askable.fits askable.own_kind history outcome due
 
 -- each outcome has a reply that tells it
 some_telling : (take : Take) (size : ℕ) (answer : ℤ) → 0 < size → (told : Reply) × Tells take size answer told

@@ -5,8 +5,6 @@ use Rattle.audit_types.specs.declared.records.Answered.{Answered}
 use Rattle.audit_types.specs.History.{Table, IsLegal}
 use Rattle.audit_core.specs.declared.outcome.Outcome.{Outcome}
 use Rattle.audit_core.specs.Outcomes.{IsOutcome, true_answer}
-use Rattle.schema_json.specs.Columns.{Column}
-use Rattle.schema_json.specs.SecretShape.{shape_of}
 use Rattle.table_load.specs.Cells.{SecretView, IsSecret}
 use Rattle.table_load.specs.Database.{Database, IsDatabase, AreTwins, secret_table}
 use Rattle.line_wire.specs.Lines.{CountedLine}
@@ -28,8 +26,8 @@ RepliesKeepLegal =
 -- what becomes of a question that can be decided over a table can be told
 abbrev pub OutcomesCanBeTold : Type 0
 OutcomesCanBeTold =
-    (secret : SecretView) (columns : List Column) (rows : ℕ) (history : List Answered) (take : Take) (asked : Asked) (outcome : Outcome) → IsSecret secret → secret.shape ≡ shape_of columns rows →
-    IsAskable columns rows take asked → IsOutcome (secret_table secret) history asked outcome → CanBeTold take outcome
+    (secret : SecretView) (history : List Answered) (take : Take) (asked : Asked) (outcome : Outcome) → IsSecret secret → IsAskable secret.shape take asked →
+    IsOutcome (secret_table secret) history asked outcome → CanBeTold take outcome
 
 -- and then some reply tells it
 abbrev pub SomeReplyTells : Type 0

@@ -1,5 +1,6 @@
 -- What can be done with a plan.
-use Rattle.std.specs.Prelude.{◌≡◌, ◌≢◌, ◌≤◌, ℕ, unsigned_abs, List}
+use Rattle.std.specs.Prelude.{◌≡◌, ◌≢◌, ◌≤◌, ℕ, unsigned_abs}
+use Rattle.audit_types.specs.declared.shapes.Shape.{Shape}
 use Rattle.audit_types.specs.declared.records.Asked.{Asked}
 use Rattle.audit_types.specs.declared.records.Verdict.TheVariants.{Released}
 use Rattle.audit_types.specs.Limits.{most_number, most_answer}
@@ -7,8 +8,6 @@ use Rattle.audit_types.specs.History.{FitsShape}
 use Rattle.audit_types.specs.Shapes.{kind_at}
 use Rattle.audit_core.specs.declared.outcome.Outcome.{Outcome}
 use Rattle.audit_core.specs.declared.outcome.Outcome.TheVariants.{Answer, Denied, Full}
-use Rattle.schema_json.specs.Columns.{Column}
-use Rattle.schema_json.specs.SecretShape.{shape_of}
 use Rattle.predicate_lang.specs.Trees.{Tree, tree_of}
 use Rattle.line_wire.specs.Reply.{IsInRange}
 use Rattle.line_wire.specs.Requests.{kind_for}
@@ -26,15 +25,15 @@ condition_of (request.Sum column p) = tree_of p
 condition_of (request.Avg column p) = tree_of p
 condition_of (request.Max column p) = tree_of p
 
--- a question that can be decided over each table of so many rows: it fits, and its column answers what is taken of it
-pub record IsAskable (columns : List Column) (rows : ℕ) (take : Take) (asked : Asked) : Type 0 where
-  pub fits : FitsShape (shape_of columns rows) asked.column asked.rows
-  pub own_kind : kind_at (shape_of columns rows) asked.column ≡ kind_for take
+-- a question that can be decided over each table of a shape: it fits, and its column answers what is taken of it
+pub record IsAskable (shape : Shape) (take : Take) (asked : Asked) : Type 0 where
+  pub fits : FitsShape shape asked.column asked.rows
+  pub own_kind : kind_at shape asked.column ≡ kind_for take
 
--- the reply can be written, or the question decided
-abbrev pub CanBeServed : List Column → ℕ → Plan → Type 0
-CanBeServed columns rows (Ready answer) = IsInRange answer
-CanBeServed columns rows (Ask take asked) = IsAskable columns rows take asked
+-- the reply can be written, or the question decided over each table of the shape
+abbrev pub CanBeServed : Shape → Plan → Type 0
+CanBeServed shape (Ready answer) = IsInRange answer
+CanBeServed shape (Ask take asked) = IsAskable shape take asked
 
 -- the greatest size of an answer over a table
 abbrev pub most_of : Take → ℕ

@@ -115,12 +115,12 @@ pub record IsOutcomeTold (table : Table) (history : List Answered) (take : Take)
   pub replied_is : replied ≡ record { bytes = reply_bytes answer; added = record_of asked outcome }
 
 -- the reply of a plan: a question's tells what becomes of it
-abbrev pub IsReplyOf : Plan → Table → List Answered → Replied Answered → Type 0
-IsReplyOf (Ready answer) table history replied = replied ≡ only answer
-IsReplyOf (Ask take asked) table history replied = IsOutcomeTold table history take asked replied
+abbrev pub IsReplyOf : Table → List Answered → Plan → Replied Answered → Type 0
+IsReplyOf table history (Ready answer) replied = replied ≡ only answer
+IsReplyOf table history (Ask take asked) replied = IsOutcomeTold table history take asked replied
 
 -- the reply that is due to a counted line after a history: that of what the line comes to
 pub record IsDue (base : Database) (history : List Answered) (line : CountedLine) (replied : Replied Answered) : Type 0 where
   pub plan : Plan
   pub planned : IsPlan base.columns base.public line plan
-  pub reply : IsReplyOf plan (secret_table base.secret) history replied
+  pub reply : IsReplyOf (secret_table base.secret) history plan replied

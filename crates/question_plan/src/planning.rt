@@ -1,6 +1,7 @@
 //! Planning a line.
 ghost use Rattle.std.specs.Prelude.{◌≡◌, ◌≤◌, true, length, IfOk, MatchResult, Some};
 ghost use Rattle.audit_types.specs.Limits.{most_rows};
+ghost use Rattle.schema_json.specs.SecretShape.{shape_of};
 ghost use Rattle.table_load.specs.Cells.{FitsSchema};
 ghost use Rattle.set_index.specs.Asked.{fits_public};
 ghost use Rattle.line_wire.specs.Lines.{text};
@@ -83,7 +84,7 @@ pub fn plan_line(
     requires fits { FitsSchema schema.now.columns index.now }
     requires few { index.now.rows ≤ most_rows }
     ensures planned { IfOk result (IsPlan schema.now.columns index.now (text line.now)) }
-    ensures served { IfOk result (CanBeServed schema.now.columns index.now.rows) }
+    ensures served { IfOk result (CanBeServed (shape_of schema.now.columns index.now.rows)) }
 {
     reads_what_fits();
     match read_line_request(alloc, schema, line) {

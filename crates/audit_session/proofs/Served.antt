@@ -1,0 +1,269 @@
+-- What the loop over groups keeps from turn to turn.
+use Rattle.std.proofs.Common.{◌≡◌, ℕ, ◌+◌, ◌*◌, ◌^◌, ◌<◌, ◌≤◌, Bool, true, false, List, [], ◌∷◌, ◌++◌, length, refl, sym, ◌∙◌, ap, subst, arith, inl, inr, ◌⊎◌, ⊎_elim, append_assoc, length-append}
+use Rattle.std.proofs.Math.Nat.{suc-mul}
+use Rattle.std.proofs.lemmas.Bool.{false≢true}
+use Rattle.std.proofs.lemmas.List.{append-nil}
+use Rattle.audit_types.specs.declared.records.Answered.{Answered}
+use Rattle.bench_core.specs.declared.bench.Bench.{Ghosts}
+use Rattle.bench_core.specs.declared.source.Source.{Ghosts as SourceGhosts}
+use Rattle.bench_core.specs.Calls.{IsQuiet, LeavesOnly}
+use Rattle.bench_core.specs.Moments.{weakens, joins}
+use Rattle.schema_json.specs.Columns.{Column}
+use Rattle.table_load.specs.Cells.{PublicView, SecretView}
+use Rattle.table_load.specs.Database.{Database, base_of, secret_table}
+use Rattle.audit_store.specs.Stores.{StoreContents, IsAsLeft, IsStore, calls_for}
+use Rattle.line_wire.specs.Lines.{CountedLine, counted_lines, whole_lines}
+use Rattle.line_wire.specs.Cutter.{Cutter}
+use Rattle.question_plan.specs.declared.planning.Plan.{Plan}
+use Rattle.question_plan.specs.Session.{Replied, records_of, bytes_of, AreReplies, commits, groups}
+use Rattle.question_plan.specs.Replies.{IsDue, IsReplyOf}
+use Rattle.audit_session.specs.Stops.{StopsOver}
+use Rattle.audit_session.specs.Ends.{Serves, ServesWhole, ServesSome, ServesLimited, TakesCalls, limited}
+use Rattle.audit_session.specs.Groups.{IsRead, ReadsLines, CutsShort, Gathers, InGroup, AnswersGroup, StandsOn, StopsAmong, stands_of}
+use Rattle.audit_session.proofs.RepliesInOrder.{bytes_of-append, length-replies}
+use Rattle.audit_session.proofs.FirstStop.{stops_first}
+use Rattle.audit_session.proofs.Planned.{length-plans}
+use Rattle.audit_session.proofs.GatheredLines.{reads_none, reads_more}
+use Rattle.audit_session.proofs.GroupStops.{stops_among, all_due, history_more, first_groups}
+use Rattle.audit_session.proofs.Commits.{commits_more}
+use Rattle.audit_session.proofs.EndsByFault.{limited_is}
+
+-- bytes are left where a group was cut short at the limit
+pub cut_not_over : (batch : ℕ) (rest pending left : List ℕ) → CutsShort batch rest (pending ++ left) → 0 < length pending → rest ≡ [] → ⊥
+cut_not_over batch rest pending left cut some none = omega (arith, ap (λ (l : List ℕ). length l) (sym none ∙ cut.split), length-append cut.read (pending ++ left), length-append pending left, some)
+
+-- the lines of the groups that were answered, and their replies
+pub record AnsweredLines (told : Type 0) (base : Database) (batch : ℕ) (history : List Answered) (input rest : List ℕ) (ended : Bool) (now : List Answered) : Type 0 where
+  pub lines : List CountedLine
+  pub reads : told → ReadsLines input rest ended lines
+  pub count : ℕ
+  pub many : length lines ≡ count * batch
+  pub replies : List (Replied Answered)
+  pub due : AreReplies (IsDue base) history lines replies
+  pub history_is : now ≡ history ++ records_of replies
+
+-- what holds at each turn of the loop
+pub record Served {P B : Type 0} (source : SourceGhosts P) (bench : Ghosts B) (columns : List Column) (public : PublicView) (batch : ℕ) (lines : Cutter) (first_store store : StoreContents) (first_source from : P) (first at : B) : Type 0 where
+  pub same : source.told → lines.ended ≡ true → source.left from ≡ []
+  pub taken : source.told → lines.taken + length (source.left from) ≡ length (source.left first_source)
+  pub within : lines.taken ≤ 2 ^ 30 + length lines.pending
+  pub usable : store.usable ≡ true
+  pub secret : store.secret ≡ first_store.secret
+  pub is : IsStore store
+  pub as_left : bench.told → IsAsLeft (bench.file at) store
+  pub quiet : bench.told → IsQuiet bench first → IsQuiet bench at
+  pub answered : AnsweredLines source.told (base_of columns public first_store.secret) batch first_store.history (source.left first_source) (lines.pending ++ source.left from) lines.ended store.history
+  pub sent_is : bench.told → bench.sent at ≡ bench.sent first ++ bytes_of answered.replies
+  pub calls : bench.told → bench.moment at ≡ bench.moment first + length answered.lines + 4 * commits batch answered.replies
+  pub moments : bench.told → IsQuiet bench first → LeavesOnly bench first at (StopsAmong source.told (base_of columns public first_store.secret) batch first_store.history (counted_lines (source.left first_source)) (bench.sent first))
+  pub source_steady : source.faults from ≡ source.faults first_source
+  pub bench_steady : bench.faults at ≡ bench.faults first
+
+-- before the first group
+pub first_moments : {B : Type 0} (told : Type 0) (bench : Ghosts B) (columns : List Column) (public : PublicView) (batch : ℕ) (store : StoreContents) (all : List CountedLine) (at : B)
+    → ((image bytes : List ℕ) → bench.since at (bench.moment at) image bytes → bench.leaves at image × (bytes ≡ bench.sent at)) → IsQuiet bench at → IsAsLeft (bench.file at) store
+    → LeavesOnly bench at at (StopsAmong told (base_of columns public store.secret) batch store.history all (bench.sent at))
+first_moments told bench columns public batch store all at only_now quiet stands =
+    let stops : (ls : List CountedLine) → LeavesOnly bench at at (StopsOver (base_of columns public store.secret) batch store.history ls (bench.sent at)) =
+    λ ls. stops_first bench at (base_of columns public store.secret) batch store.history ls only_now quiet (store.journal.gate, stands) in
+    record {
+      later = omega arith;
+      each = λ image bytes was. (([], (stops []).each image bytes was), λ t. (stops all).each image bytes was);
+      before = λ t image bytes le was. inl was;
+    }
+
+pub nothing_served : {P B : Type 0} (source : SourceGhosts P) (bench : Ghosts B) (columns : List Column) (public : PublicView) (batch : ℕ) (lines : Cutter) (store : StoreContents) (from : P) (at : B)
+    → (lines.taken ≡ 0) × (lines.pending ≡ []) × (lines.ended ≡ false) → store.usable ≡ true → IsStore store → (bench.told → IsAsLeft (bench.file at) store)
+    → ((image bytes : List ℕ) → bench.since at (bench.moment at) image bytes → bench.leaves at image × (bytes ≡ bench.sent at))
+    → Served source bench columns public batch lines store store from from at at
+nothing_served source bench columns public batch lines store from at fresh usable is stands only_now = record {
+  same = λ told ended. absurd (false≢true (sym fresh.2 ∙ ended));
+  taken = λ told. omega (arith, fresh.0);
+  within = omega (arith, fresh.0);
+  usable = usable;
+  secret = refl;
+  is = is;
+  as_left = stands;
+  quiet = λ told quiet. quiet;
+  answered = record {
+    lines = [];
+    reads = λ told. subst (λ (rest : List ℕ). ReadsLines (source.left from) rest lines.ended []) (ap (λ (l : List ℕ). l ++ source.left from) (sym fresh.1)) (reads_none (source.left from) lines.ended);
+    count = 0;
+    many = omega arith;
+    replies = [];
+    due = tt;
+    history_is = sym (append-nil store.history);
+  };
+  sent_is = λ told. sym (append-nil (bench.sent at));
+  calls = λ told. omega arith;
+  moments = λ told quiet. first_moments source.told bench columns public batch store (counted_lines (source.left from)) at only_now quiet (stands told);
+  source_steady = refl;
+  bench_steady = refl;
+}
+
+module _ {P B : Type 0} (source : SourceGhosts P) (bench : Ghosts B) (columns : List Column) (public : PublicView) (batch : ℕ) (lines : Cutter) (first_store store : StoreContents) (first_source from : P) (first at : B)
+    (served : Served source bench columns public batch lines first_store store first_source from first at) where
+  abbrev base : Database
+  base = base_of columns public first_store.secret
+
+  abbrev all : List CountedLine
+  all = counted_lines (source.left first_source)
+
+  -- ---- ends before the next group
+
+  -- the groups so far, where these are the first lines
+  groups_served : bench.told → (more : List CountedLine) → groups batch served.answered.count more ≡ served.answered.lines → Serves base first_store.history (groups batch served.answered.count more) store.history (bench.sent first) (bench.sent at)
+  groups_served told more is = record {
+    replies = served.answered.replies;
+    due = subst (λ (ls : List CountedLine). AreReplies (IsDue base) first_store.history ls served.answered.replies) (sym is) served.answered.due;
+    history_is = served.answered.history_is;
+    sent_is = served.sent_is told;
+  }
+
+  pub some_served : source.told → bench.told → ServesSome base first_store.history batch all store.history (bench.sent first) (bench.sent at)
+  some_served t u = record {
+    count = served.answered.count;
+    serves = groups_served u all (ap (λ (ls : List CountedLine). groups batch served.answered.count ls) (served.answered.reads t).counted ∙ first_groups batch served.answered.count served.answered.lines (counted_lines (lines.pending ++ source.left from)) served.answered.many);
+  }
+
+  -- a group was cut short where this is left
+  module _ (t : source.told) (u : bench.told) (left : List ℕ) (going : lines.ended ≡ true → lines.pending ++ source.left from ≡ [] → ⊥) (cut : CutsShort batch (lines.pending ++ source.left from) left) where
+    abbrev reads : ReadsLines (source.left first_source) (lines.pending ++ source.left from) lines.ended served.answered.lines
+    reads = served.answered.reads t
+
+    abbrev read : List ℕ
+    read = reads.read ++ cut.read
+
+    split : source.left first_source ≡ read ++ left
+    split = reads.split ∙ ap (λ (l : List ℕ). reads.read ++ l) cut.split ∙ sym (append_assoc reads.read cut.read left)
+
+    lines_are : whole_lines read ≡ served.answered.lines ++ whole_lines cut.read
+    lines_are = ⊎_elim (λ (is : IsRead reads.read served.answered.lines). is cut.read) (λ over. absurd (going over.0 over.1)) reads.whole
+
+    many_lines : length (whole_lines read) ≡ served.answered.count * batch + length (whole_lines cut.read)
+    many_lines = ap (λ (ls : List CountedLine). length ls) lines_are ∙ length-append served.answered.lines (whole_lines cut.read) ∙ ap (λ (n : ℕ). n + length (whole_lines cut.read)) served.answered.many
+
+    whole_groups : groups batch served.answered.count (whole_lines read) ≡ served.answered.lines
+    whole_groups = ap (λ (ls : List CountedLine). groups batch served.answered.count ls) lines_are ∙ first_groups batch served.answered.count served.answered.lines (whole_lines cut.read) served.answered.many
+
+    begun : served.answered.count * batch ≤ length (whole_lines read)
+    begun = omega (arith, many_lines)
+
+    rest : length (whole_lines read) < (served.answered.count + 1) * batch
+    rest =
+        let size : (served.answered.count + 1) * batch ≡ served.answered.count * batch + batch = ap (λ (n : ℕ). n * batch) (omega arith) ∙ suc-mul served.answered.count batch in
+        omega (arith, many_lines, size, cut.few)
+
+    pub served_whole : ServesWhole base first_store.history batch (source.left first_source) left store.history (bench.sent first) (bench.sent at)
+    served_whole = record { read = read; split = split; count = served.answered.count; begun = begun; rest = rest; serves = groups_served u (whole_lines read) whole_groups }
+
+    below_limit : (pending behind : List ℕ) (taken : ℕ) → left ≡ pending ++ behind → taken ≡ 2 ^ 30 + length pending → taken + length behind ≡ length (source.left first_source) → limited (source.left first_source) ≡ read
+    below_limit pending behind taken is over all = limited_is (source.left first_source) read left split
+        (omega (arith, ap (λ (l : List ℕ). length l) split, length-append read left, ap (λ (l : List ℕ). length l) is, length-append pending behind, over, all))
+
+    pub served_limited : (pending behind : List ℕ) (taken : ℕ) → left ≡ pending ++ behind → taken ≡ 2 ^ 30 + length pending → taken + length behind ≡ length (source.left first_source) → ServesLimited base first_store.history batch (source.left first_source) store.history (bench.sent first) (bench.sent at)
+    served_limited pending behind taken left_is over total =
+        let is = below_limit pending behind taken left_is over total in
+        let P : List ℕ → Type 0 = λ l. (served.answered.count * batch ≤ length (whole_lines l)) × (length (whole_lines l) < (served.answered.count + 1) * batch) × Serves base first_store.history (groups batch served.answered.count (whole_lines l)) store.history (bench.sent first) (bench.sent at) in
+        let here : P (limited (source.left first_source)) = subst P (sym is) (begun, rest, groups_served u (whole_lines read) whole_groups) in
+        record { count = served.answered.count; begun = here.0; rest = here.1; serves = here.2 }
+
+  -- ---- a group more
+
+  module _ (lines_now : Cutter) (ended_now : Bool) (source_now : P) (plans : List Plan) (gathers : Gathers source.told columns public (lines.pending ++ source.left from) (lines_now.pending ++ source.left source_now) ended_now plans)
+      (few : length plans ≤ batch) (some : 0 < batch) (once : lines.ended ≡ true → ended_now ≡ true) where
+    abbrev behind : List CountedLine
+    behind = counted_lines (lines_now.pending ++ source.left source_now)
+
+    reads_now : source.told → ReadsLines (source.left first_source) (lines_now.pending ++ source.left source_now) ended_now (served.answered.lines ++ gathers.lines)
+    reads_now t = reads_more (source.left first_source) (lines.pending ++ source.left from) (lines_now.pending ++ source.left source_now) lines.ended ended_now served.answered.lines gathers.lines (served.answered.reads t) (gathers.reads t) once
+
+    all_are : source.told → all ≡ served.answered.lines ++ (gathers.lines ++ behind)
+    all_are t = (reads_now t).counted ∙ append_assoc served.answered.lines gathers.lines behind
+
+    as_many : length gathers.lines ≡ length plans
+    as_many = length-plans columns public gathers.lines plans gathers.planned
+
+    -- of the store as it was before the group
+    over_first : (claim : SecretView → Type 0) → claim store.secret → claim first_store.secret
+    over_first claim holds = subst claim served.secret holds
+
+    -- while it is answered
+    pub turn_moments : (new : B) → (source.told → (length plans ≡ batch) ⊎ (behind ≡ [])) → bench.told → IsQuiet bench first
+        → LeavesOnly bench at new (InGroup (IsReplyOf (secret_table store.secret)) (stands_of store.secret) store.history plans (bench.sent at))
+        → LeavesOnly bench first new (StopsAmong source.told base batch first_store.history all (bench.sent first))
+    turn_moments new ends u quiet moments =
+        joins bench first at new _ (served.moments u quiet)
+        (weakens bench at new _ _ (λ image bytes found.
+        stops_among base batch served.answered.count first_store.history store.history served.answered.lines gathers.lines served.answered.replies plans served.answered.many few served.answered.due served.answered.history_is gathers.planned
+        source.told all behind (bench.sent first) (bench.sent at) image bytes all_are ends (served.sent_is u) found)
+        (over_first (λ s. LeavesOnly bench at new (InGroup (IsReplyOf (secret_table s)) (stands_of s) store.history plans (bench.sent at))) moments))
+
+    module _ (now : List Answered) (new : B) (answers : AnswersGroup bench at new (secret_table store.secret) store.history now plans) where
+      due_now : AreReplies (IsDue base) first_store.history (served.answered.lines ++ gathers.lines) (served.answered.replies ++ answers.replies)
+      due_now = all_due base batch served.answered.count first_store.history store.history served.answered.lines gathers.lines served.answered.replies plans served.answered.many few served.answered.due served.answered.history_is gathers.planned answers.replies
+          (over_first (λ s. AreReplies (IsReplyOf (secret_table s)) store.history plans answers.replies) answers.due)
+
+      history_now : now ≡ first_store.history ++ records_of (served.answered.replies ++ answers.replies)
+      history_now = answers.history_is ∙ ap (λ (h : List Answered). h ++ records_of answers.replies) served.answered.history_is ∙ history_more first_store.history served.answered.replies answers.replies
+
+      sent_now : bench.told → bench.sent new ≡ bench.sent first ++ bytes_of (served.answered.replies ++ answers.replies)
+      sent_now u = answers.sent_is u ∙ ap (λ (l : List ℕ). l ++ bytes_of answers.replies) (served.sent_is u) ∙ append_assoc (bench.sent first) (bytes_of served.answered.replies) (bytes_of answers.replies)
+          ∙ ap (λ (l : List ℕ). bench.sent first ++ l) (sym (bytes_of-append served.answered.replies answers.replies))
+
+      calls_now : bench.told → bench.moment new ≡ bench.moment first + length (served.answered.lines ++ gathers.lines) + 4 * commits batch (served.answered.replies ++ answers.replies)
+      calls_now u =
+          let long : length served.answered.replies ≡ served.answered.count * batch = length-replies (IsDue base) first_store.history served.answered.lines served.answered.replies served.answered.due ∙ served.answered.many in
+          let more : length answers.replies ≡ length plans = length-replies (IsReplyOf (secret_table store.secret)) store.history plans answers.replies answers.due in
+          omega (arith, answers.calls u, served.calls u, as_many, length-append served.answered.lines gathers.lines, commits_more batch served.answered.count served.answered.replies some long answers.replies (omega (arith, more, few)))
+
+      -- the group was whole
+      pub next_turn : (store_now : StoreContents) → store_now.history ≡ now → ended_now ≡ lines_now.ended → length plans ≡ batch → (source.told → lines_now.ended ≡ true → source.left source_now ≡ []) → (source.told → lines_now.taken + length (source.left source_now) ≡ lines.taken + length (source.left from))
+          → lines_now.taken ≤ 2 ^ 30 + length lines_now.pending → source.faults source_now ≡ source.faults from → StandsOn bench at new store_now → store_now.secret ≡ store.secret → IsStore store_now → bench.faults new ≡ bench.faults at
+          → (bench.told → IsQuiet bench at → LeavesOnly bench at new (InGroup (IsReplyOf (secret_table store.secret)) (stands_of store.secret) store.history plans (bench.sent at)))
+          → Served source bench columns public batch lines_now first_store store_now first_source source_now first new
+      next_turn store_now is is_ended full same taken within source_steady stands secret of_store bench_steady moments = record {
+        same = same;
+        taken = λ t. taken t ∙ served.taken t;
+        within = within;
+        usable = stands.usable;
+        secret = secret ∙ served.secret;
+        is = of_store;
+        as_left = stands.as_left;
+        quiet = λ u quiet. stands.quiet u (served.quiet u quiet);
+        answered = record {
+          lines = served.answered.lines ++ gathers.lines;
+          reads = λ t. subst (λ (b : Bool). ReadsLines (source.left first_source) (lines_now.pending ++ source.left source_now) b (served.answered.lines ++ gathers.lines)) is_ended (reads_now t);
+          count = served.answered.count + 1;
+          many =
+              let size : (served.answered.count + 1) * batch ≡ served.answered.count * batch + batch = ap (λ (n : ℕ). n * batch) (omega arith) ∙ suc-mul served.answered.count batch in
+              omega (arith, length-append served.answered.lines gathers.lines, served.answered.many, as_many, full, size);
+          replies = served.answered.replies ++ answers.replies;
+          due = due_now;
+          history_is = is ∙ history_now;
+        };
+        sent_is = sent_now;
+        calls = calls_now;
+        moments = λ u quiet. turn_moments new (λ t. inl full) u quiet (moments u (served.quiet u quiet));
+        source_steady = source_steady ∙ served.source_steady;
+        bench_steady = bench_steady ∙ served.bench_steady;
+      }
+
+      -- the group was the last one
+      lines_are_all : source.told → behind ≡ [] → served.answered.lines ++ gathers.lines ≡ all
+      lines_are_all t none = sym ((reads_now t).counted ∙ ap (λ (ls : List CountedLine). (served.answered.lines ++ gathers.lines) ++ ls) none ∙ append-nil (served.answered.lines ++ gathers.lines))
+
+      pub all_served : source.told → bench.told → behind ≡ [] → (last : List Answered) → last ≡ now → Serves base first_store.history all last (bench.sent first) (bench.sent new)
+      all_served t u none last is = record {
+        replies = served.answered.replies ++ answers.replies;
+        due = subst (λ (ls : List CountedLine). AreReplies (IsDue base) first_store.history ls (served.answered.replies ++ answers.replies)) (lines_are_all t none) due_now;
+        history_is = is ∙ history_now;
+        sent_is = sent_now u;
+      }
+
+      pub all_calls : source.told → bench.told → behind ≡ [] → TakesCalls base first_store.history batch all (bench.moment first) (bench.moment new)
+      all_calls t u none = record {
+        replies = served.answered.replies ++ answers.replies;
+        due = subst (λ (ls : List CountedLine). AreReplies (IsDue base) first_store.history ls (served.answered.replies ++ answers.replies)) (lines_are_all t none) due_now;
+        calls = subst (λ (ls : List CountedLine). bench.moment new ≡ bench.moment first + length ls + 4 * commits batch (served.answered.replies ++ answers.replies)) (lines_are_all t none) (calls_now u);
+      }

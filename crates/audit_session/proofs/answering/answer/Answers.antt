@@ -1,0 +1,17 @@
+use Rattle.std.proofs.Common.{◌≡◌, ◌+◌, ◌++◌, List, length, sym, ap, subst}
+use Rattle.std.specs.List.{flat_map}
+use Rattle.line_wire.specs.Reply.{reply_bytes}
+use Rattle.line_wire.specs.declared.reply.Reply.{Reply}
+use Rattle.audit_session.proofs.DecidedGroup.{group_answered}
+use Rattle.audit_session.proofs.answering.answer.Goals as goal
+
+pub returns-clause-answers : goal.returns-clause-answers
+returns-clause-answers g c =
+    let store = c.args.store.now in
+    let mid = c.decide.new.bench in
+    let e = c.in_ok-decide.ensures in
+    let sent = c.in_ok-send_all.ensures in
+    let told = c.deref.ensures.value in
+    group_answered g.B.Bench c.args.bench.now mid store.secret store.history c.args.group.now.plans.items c.decide.new.store.history c.decide.new.group.replies.items e.decides e.sent c.send_all.new.bench
+    (λ t. subst (λ (rs : List Reply). g.B.Bench.sent c.send_all.new.bench ≡ g.B.Bench.sent mid ++ flat_map reply_bytes rs) told (sent.all t))
+    (λ t. subst (λ (rs : List Reply). g.B.Bench.moment c.send_all.new.bench ≡ g.B.Bench.moment mid + length rs) told (sent.ticks t))

@@ -1,0 +1,64 @@
+use Rattle.std.proofs.Common.{◌≡◌, ◌≤◌, ◌+◌, ◌++◌, List, length, sym, ◌∙◌, ap, subst, arith, rules}
+use Rattle.std.specs.Prelude.{All}
+use Rattle.audit_types.specs.declared.records.Asked.{Asked}
+use Rattle.audit_types.specs.History.{FitsShape}
+use Rattle.audit_core.specs.declared.outcome.Outcome.{Outcome}
+use Rattle.audit_core.specs.Outcomes.{AreOutcomes, records_made}
+use Rattle.table_load.specs.Database.{secret_table}
+use Rattle.audit_store.specs.Stores.{Keeps, calls_for}
+use Rattle.question_plan.specs.declared.planning.Plan.{Plan}
+use Rattle.audit_session.specs.Groups.{AreTold, CanAllBeTold, questions_of}
+use Rattle.audit_session.proofs.ToldPlans.{can_all, few_questions, questions_fit}
+use Rattle.audit_session.proofs.DecidedGroup.{by_fault, told_group, while_kept, nothing_called}
+use Rattle.audit_session.proofs.answering.decide.Goals as goal
+
+pub outcomes_of-requires-clause-few : goal.outcomes_of-requires-clause-few
+outcomes_of-requires-clause-few g c =
+    let asked : c.deref.result.now ≡ questions_of c.args.group.now.plans.items = c.deref.ensures.value ∙ c.requires.questions in
+    omega (arith, ap (λ (l : List Asked). length l) asked, few_questions c.args.group.now.plans.items, c.requires.few)
+
+pub outcomes_of-requires-clause-fit : goal.outcomes_of-requires-clause-fit
+outcomes_of-requires-clause-fit g c =
+    let asked : c.deref.result.now ≡ questions_of c.args.group.now.plans.items = c.deref.ensures.value ∙ c.requires.questions in
+    subst (λ (l : List Asked). All (λ (a : Asked). FitsShape c.args.store.now.secret.shape a.column a.rows) l) (sym asked) (questions_fit c.args.store.now.secret.shape c.args.group.now.plans.items c.requires.served)
+
+pub returns-in_err-outcomes-clause-moments : goal.returns-in_err-outcomes-clause-moments
+returns-in_err-outcomes-clause-moments g c = λ told quiet.
+    let store = c.args.store.now in
+    let plans = c.args.group.now.plans.items in
+    let asked : c.deref.result.now ≡ questions_of plans = c.deref.ensures.value ∙ c.requires.questions in
+    let e = c.in_err-outcomes.ensures in
+    by_fault c.in_err-outcomes.field-0.0
+    (λ memory. nothing_called g.B.Bench c.args.bench.now c.outcomes_of.new.bench store.secret store.history plans (e.no_memory memory) (λ image bytes was. g.met.B.Bench.only_now c.args.bench.now image bytes was) quiet (store.journal.gate, c.requires.stands told))
+    (λ other. while_kept g.B.Bench c.args.bench.now c.outcomes_of.new.bench store.secret store.history plans c.told_outcomes.ensures.can c.told_outcomes.ensures.some c.requires.is.numbers c.requires.served (g.B.Bench.sent c.args.bench.now)
+    (subst (λ (l : List Asked). Keeps g.B.Bench c.args.bench.now c.outcomes_of.new.bench store.secret store.history l (g.B.Bench.sent c.args.bench.now)) asked (e.any_moment told quiet other)))
+
+pub tell_all-requires-clause-can : goal.tell_all-requires-clause-can
+tell_all-requires-clause-can g c =
+    let store = c.args.store.now in
+    let plans = c.args.group.now.plans.items in
+    let asked : c.deref.result.now ≡ questions_of plans = c.deref.ensures.value ∙ c.requires.questions in
+    let due = subst (λ (l : List Asked). AreOutcomes (secret_table store.secret) store.history l c.in_ok-outcomes.outcomes.items) asked c.in_ok-outcomes.ensures.outcomes in
+    let can : CanAllBeTold plans c.in_ok-outcomes.outcomes.items = can_all c.told_outcomes.ensures.can store.secret c.requires.is.numbers store.history plans c.in_ok-outcomes.outcomes.items c.requires.served due in
+    subst (λ (os : List Outcome). CanAllBeTold c.deref-2.result.now os) (sym c.deref-3.ensures.value) (subst (λ (ps : List Plan). CanAllBeTold ps c.in_ok-outcomes.outcomes.items) (sym c.deref-2.ensures.value) can)
+
+pub returns-clause-decides : goal.returns-clause-decides
+returns-clause-decides g c =
+    let store = c.args.store.now in
+    let plans = c.args.group.now.plans.items in
+    let outcomes = c.in_ok-outcomes.outcomes.items in
+    let asked : c.deref.result.now ≡ questions_of plans = c.deref.ensures.value ∙ c.requires.questions in
+    let e = c.in_ok-outcomes.ensures in
+    let due = subst (λ (l : List Asked). AreOutcomes (secret_table store.secret) store.history l outcomes) asked e.outcomes in
+    let told = subst (λ (os : List Outcome). AreTold plans os c.tell_all.new.replies.items) c.deref-3.ensures.value (subst (λ (ps : List Plan). AreTold ps c.deref-3.result.now c.tell_all.new.replies.items) c.deref-2.ensures.value c.tell_all.ensures.told) in
+    told_group g.B.Bench c.args.bench.now c.outcomes_of.new.bench store.secret store.history plans c.outcomes_of.new.store.history outcomes c.tell_all.new.replies.items due told
+    (e.history ∙ ap (λ (l : List Asked). store.history ++ records_made l outcomes) asked)
+    (λ t. e.ticks t ∙ ap (λ (l : List Asked). g.B.Bench.moment c.args.bench.now + calls_for (records_made l outcomes)) asked)
+
+pub returns-clause-moments : goal.returns-clause-moments
+returns-clause-moments g c = λ told quiet.
+    let store = c.args.store.now in
+    let plans = c.args.group.now.plans.items in
+    let asked : c.deref.result.now ≡ questions_of plans = c.deref.ensures.value ∙ c.requires.questions in
+    while_kept g.B.Bench c.args.bench.now c.outcomes_of.new.bench store.secret store.history plans c.told_outcomes.ensures.can c.told_outcomes.ensures.some c.requires.is.numbers c.requires.served (g.B.Bench.sent c.args.bench.now)
+    (subst (λ (l : List Asked). Keeps g.B.Bench c.args.bench.now c.outcomes_of.new.bench store.secret store.history l (g.B.Bench.sent c.args.bench.now)) asked (c.in_ok-outcomes.ensures.any_moment told quiet (search rules)))

@@ -1,0 +1,136 @@
+use Rattle.std.proofs.Common.{◌≡◌, ◌+◌, ◌^◌, ◌<◌, ◌≤◌, ◌++◌, ◌||◌, [], Bool, true, false, not, List, Result, Ok, Err, length, refl, sym, ◌∙◌, ap, subst, arith, rules}
+use Rattle.audit_types.specs.declared.records.Answered.{Answered}
+use Rattle.table_load.specs.Database.{base_of}
+use Rattle.line_wire.specs.Lines.{counted_lines}
+use Rattle.audit_session.specs.declared.serving.EndFault.{EndFault}
+use Rattle.audit_session.specs.declared.serving.EndFault.TheVariants as end
+use Rattle.audit_session.specs.Ends.{Ends, Reads, ServesSome}
+use Rattle.audit_session.specs.Groups.{Gathers}
+use Rattle.audit_session.proofs.EndsByFault.{ends_by, reads_by}
+use Rattle.audit_session.proofs.GatheredLines.{still_ended, whole_or_last}
+use Rattle.audit_session.proofs.Served.{nothing_served, some_served, served_whole, served_limited, cut_not_over, turn_moments, next_turn, all_served, all_calls}
+use Rattle.audit_session.proofs.serving.answer_groups.Goals as goal
+
+abbrev ended_by : EndFault → Result (Unit {0}) EndFault
+ended_by fault = Err fault
+
+abbrev given : Bool → Result Bool EndFault
+given more = Ok more
+
+pub loop-more-init : goal.loop-more-init
+loop-more-init g c = record {
+  served = nothing_served g.P.Source g.B.Bench c.args.schema.now.columns c.args.index.now c.args.batch c.args.lines.now c.args.store.now c.args.source.now c.args.bench.now c.requires.fresh c.requires.usable c.requires.is c.requires.stands
+      (λ image bytes was. g.met.B.Bench.only_now c.args.bench.now image bytes was);
+  room = c.requires.room;
+}
+
+pub returns-in_err-more-clause-ends : goal.returns-in_err-more-clause-ends
+returns-in_err-more-clause-ends g c = λ t u.
+    let e = c.in_err-more.ensures in
+    let fault = c.in_err-more.field-0.0 in
+    let same : c.from_residual.result ≡ ended_by fault = search rules in
+    let base = base_of c.args.schema.now.columns c.args.index.now c.args.store.now.secret in
+    let input = g.P.Source.left c.args.source.now in
+    let left = g.P.Source.left c.gather.new.source in
+    let before = g.B.Bench.sent c.args.bench.now in
+    let after = g.B.Bench.sent c.loop-more.bench in
+    let s = c.loop-more.invariant.served in
+    let rest = c.loop-more.lines.pending ++ g.P.Source.left c.loop-more.source in
+    let now = c.gather.new.lines in
+    subst (λ (r : Result (Unit {0}) EndFault). Ends c.args.batch r base c.args.store.now.history input left c.loop-more.store.history before after) (sym same)
+    (ends_by {X = Bool} c.args.batch base c.args.store.now.history input left c.loop-more.store.history before after fault
+    (λ is. served_whole g.P.Source g.B.Bench c.args.schema.now.columns c.args.index.now c.args.batch c.loop-more.lines c.args.store.now c.loop-more.store c.args.source.now c.loop-more.source c.args.bench.now c.loop-more.bench s t u left
+    (λ ended none. (e.once ended).1 is) (e.input t is))
+    (λ is. served_limited g.P.Source g.B.Bench c.args.schema.now.columns c.args.index.now c.args.batch c.loop-more.lines c.args.store.now c.loop-more.store c.args.source.now c.loop-more.source c.args.bench.now c.loop-more.bench s t u (now.pending ++ left)
+    (λ ended none. cut_not_over c.args.batch rest now.pending left (e.limit t is) (e.over is).1 none) (e.limit t is) now.pending left now.taken refl (e.over is).0 (e.taken t ∙ s.taken t))
+    (λ is. some_served g.P.Source g.B.Bench c.args.schema.now.columns c.args.index.now c.args.batch c.loop-more.lines c.args.store.now c.loop-more.store c.args.source.now c.loop-more.source c.args.bench.now c.loop-more.bench s t u))
+
+pub returns-in_err-more-clause-reads : goal.returns-in_err-more-clause-reads
+returns-in_err-more-clause-reads g c = λ t.
+    let e = c.in_err-more.ensures in
+    let fault = c.in_err-more.field-0.0 in
+    let same : c.from_residual.result ≡ ended_by fault = search rules in
+    let input = g.P.Source.left c.args.source.now in
+    let left = g.P.Source.left c.gather.new.source in
+    subst (λ (r : Result (Unit {0}) EndFault). Reads r input left) (sym same)
+    (reads_by {X = Bool} input left fault (λ is. omega (arith, e.taken t, c.loop-more.invariant.served.taken t, e.read is)) (λ is. omega (arith, e.taken t, c.loop-more.invariant.served.taken t, (e.over is).0, (e.over is).1)))
+
+pub returns-in_err-answer-clause-ends : goal.returns-in_err-answer-clause-ends
+returns-in_err-answer-clause-ends g c = λ t u.
+    let e = c.in_err-answer.ensures in
+    let fault = c.in_err-answer.field-0.0 in
+    let same : c.from_residual-in_err-answer.result ≡ ended_by fault = search rules in
+    let base = base_of c.args.schema.now.columns c.args.index.now c.args.store.now.secret in
+    let input = g.P.Source.left c.args.source.now in
+    let left = g.P.Source.left c.gather.new.source in
+    let before = g.B.Bench.sent c.args.bench.now in
+    let some = some_served g.P.Source g.B.Bench c.args.schema.now.columns c.args.index.now c.args.batch c.loop-more.lines c.args.store.now c.loop-more.store c.args.source.now c.loop-more.source c.args.bench.now c.loop-more.bench c.loop-more.invariant.served t u in
+    subst (λ (r : Result (Unit {0}) EndFault). Ends c.args.batch r base c.args.store.now.history input left c.answer.new.store.history before (g.B.Bench.sent c.answer.new.bench)) (sym same)
+    (ends_by {X = Unit {0}} c.args.batch base c.args.store.now.history input left c.answer.new.store.history before (g.B.Bench.sent c.answer.new.bench) fault
+    (λ is. absurd (e.others.0 is)) (λ is. absurd (e.others.1 is))
+    (λ is.
+    let still = e.no_memory is in
+    subst (λ (h : List Answered). ServesSome base c.args.store.now.history c.args.batch (counted_lines input) h before (g.B.Bench.sent c.answer.new.bench)) (sym still.1)
+    (subst (λ b. ServesSome base c.args.store.now.history c.args.batch (counted_lines input) c.loop-more.store.history before (g.B.Bench.sent b)) (sym still.0) some)))
+
+pub returns-in_err-answer-clause-moments : goal.returns-in_err-answer-clause-moments
+returns-in_err-answer-clause-moments g c = λ u quiet.
+    let e = c.in_ok-more.ensures in
+    let now = c.gather.new.lines in
+    let plans = c.gather.new.group.plans.items in
+    let rest = now.pending ++ g.P.Source.left c.gather.new.source in
+    turn_moments g.P.Source g.B.Bench c.args.schema.now.columns c.args.index.now c.args.batch c.loop-more.lines c.args.store.now c.loop-more.store c.args.source.now c.loop-more.source c.args.bench.now c.loop-more.bench c.loop-more.invariant.served
+    now (not c.in_ok-more.more || now.ended) c.gather.new.source plans e.gathers e.most c.requires.batch.0 (λ ended. still_ended c.in_ok-more.more now.ended (e.once ended).0) c.answer.new.bench
+    (whole_or_last {E = EndFault} g.P.Source.told c.args.batch c.in_ok-more.more plans rest e.whole e.last) u quiet (c.in_err-answer.ensures.moments u (c.loop-more.invariant.served.quiet u quiet))
+
+pub returns-then-not-more-clause-ends : goal.returns-then-not-more-clause-ends
+returns-then-not-more-clause-ends g c = λ t u.
+    let e = c.in_ok-more.ensures in
+    let now = c.gather.new.lines in
+    let plans = c.gather.new.group.plans.items in
+    let more_is : c.in_ok-more.more ≡ false = search rules in
+    all_served g.P.Source g.B.Bench c.args.schema.now.columns c.args.index.now c.args.batch c.loop-more.lines c.args.store.now c.loop-more.store c.args.source.now c.loop-more.source c.args.bench.now c.loop-more.bench c.loop-more.invariant.served
+    now (not c.in_ok-more.more || now.ended) c.gather.new.source plans e.gathers e.most c.requires.batch.0 (λ ended. still_ended c.in_ok-more.more now.ended (e.once ended).0) c.answer.new.store.history c.answer.new.bench c.in_ok-answer.ensures.answers
+    t u (ap counted_lines (e.last t (ap given more_is))) c.answer.new.store.history refl
+
+pub returns-then-not-more-clause-rests : goal.returns-then-not-more-clause-rests
+returns-then-not-more-clause-rests g c = λ no. record {
+  stands = λ u. (c.answer.new.store.journal.gate, c.in_ok-answer.ensures.stands.as_left u);
+  quiet = λ u quiet. c.in_ok-answer.ensures.stands.quiet u (c.loop-more.invariant.served.quiet u quiet);
+}
+
+pub returns-then-not-more-clause-calls : goal.returns-then-not-more-clause-calls
+returns-then-not-more-clause-calls g c = λ t u.
+    let e = c.in_ok-more.ensures in
+    let now = c.gather.new.lines in
+    let plans = c.gather.new.group.plans.items in
+    let more_is : c.in_ok-more.more ≡ false = search rules in
+    all_calls g.P.Source g.B.Bench c.args.schema.now.columns c.args.index.now c.args.batch c.loop-more.lines c.args.store.now c.loop-more.store c.args.source.now c.loop-more.source c.args.bench.now c.loop-more.bench c.loop-more.invariant.served
+    now (not c.in_ok-more.more || now.ended) c.gather.new.source plans e.gathers e.most c.requires.batch.0 (λ ended. still_ended c.in_ok-more.more now.ended (e.once ended).0) c.answer.new.store.history c.answer.new.bench c.in_ok-answer.ensures.answers
+    t u (ap counted_lines (e.last t (ap given more_is)))
+
+pub returns-then-not-more-clause-moments : goal.returns-then-not-more-clause-moments
+returns-then-not-more-clause-moments g c = λ u quiet.
+    let e = c.in_ok-more.ensures in
+    let now = c.gather.new.lines in
+    let plans = c.gather.new.group.plans.items in
+    let rest = now.pending ++ g.P.Source.left c.gather.new.source in
+    turn_moments g.P.Source g.B.Bench c.args.schema.now.columns c.args.index.now c.args.batch c.loop-more.lines c.args.store.now c.loop-more.store c.args.source.now c.loop-more.source c.args.bench.now c.loop-more.bench c.loop-more.invariant.served
+    now (not c.in_ok-more.more || now.ended) c.gather.new.source plans e.gathers e.most c.requires.batch.0 (λ ended. still_ended c.in_ok-more.more now.ended (e.once ended).0) c.answer.new.bench
+    (whole_or_last {E = EndFault} g.P.Source.told c.args.batch c.in_ok-more.more plans rest e.whole e.last) u quiet (c.in_ok-answer.ensures.moments u (c.loop-more.invariant.served.quiet u quiet))
+
+pub loop-more-preserved : goal.loop-more-preserved
+loop-more-preserved g c =
+    let e = c.in_ok-more.ensures in
+    let a = c.in_ok-answer.ensures in
+    let now = c.gather.new.lines in
+    let plans = c.gather.new.group.plans.items in
+    let more_is : c.in_ok-more.more ≡ true = search rules in
+    let steady = e.steady (search rules) in
+    let bench_steady = a.steady (search rules) in
+    record {
+      served = next_turn g.P.Source g.B.Bench c.args.schema.now.columns c.args.index.now c.args.batch c.loop-more.lines c.args.store.now c.loop-more.store c.args.source.now c.loop-more.source c.args.bench.now c.loop-more.bench c.loop-more.invariant.served
+          now (not c.in_ok-more.more || now.ended) c.gather.new.source plans e.gathers e.most c.requires.batch.0 (λ ended. still_ended c.in_ok-more.more now.ended (e.once ended).0) c.answer.new.store.history c.answer.new.bench a.answers
+          c.answer.new.store refl (ap (λ (b : Bool). not b || now.ended) more_is) (e.whole (ap given more_is)) e.same e.taken e.within steady a.stands a.secret a.is bench_steady a.moments;
+      room = a.room ∙ e.room ∙ c.loop-more.invariant.room;
+    }

@@ -1,0 +1,137 @@
+-- A group of lines: what was read, what the lines come to, and what is left of the store and the bench.
+use Rattle.std.specs.Prelude.{◌≡◌, ◌⊎◌, ℕ, ◌+◌, ◌<◌, ◌≤◌, Bool, true, List, [], ◌∷◌, ◌++◌, length, Option, Some, None}
+use Rattle.std.specs.List.{flat_map}
+use Rattle.audit_types.specs.Limits.{most_rows}
+use Rattle.audit_types.specs.declared.records.Asked.{Asked}
+use Rattle.audit_types.specs.declared.records.Answered.{Answered}
+use Rattle.audit_types.specs.History.{Table}
+use Rattle.audit_core.specs.declared.outcome.Outcome.{Outcome}
+use Rattle.schema_json.specs.Columns.{Column}
+use Rattle.schema_json.specs.SecretShape.{shape_of}
+use Rattle.table_load.specs.Cells.{PublicView, SecretView}
+use Rattle.table_load.specs.Database.{Database}
+use Rattle.journal_form.specs.Journal.{StandsFor}
+use Rattle.bench_core.specs.declared.bench.Bench.{Ghosts}
+use Rattle.bench_core.specs.Bench.{AppendsFront}
+use Rattle.bench_core.specs.Calls.{IsQuiet}
+use Rattle.audit_store.specs.Stores.{StoreContents, IsAsLeft, calls_for}
+use Rattle.line_wire.specs.Lines.{CountedLine, counted_lines, whole_lines}
+use Rattle.line_wire.specs.Reply.{reply_bytes, IsInRange}
+use Rattle.line_wire.specs.declared.reply.Reply.{Reply}
+use Rattle.question_plan.specs.declared.planning.Plan.{Plan}
+use Rattle.question_plan.specs.declared.planning.Plan.TheVariants.{Ready, Ask}
+use Rattle.question_plan.specs.Session.{Replied, records_of, bytes_of, AreReplies}
+use Rattle.question_plan.specs.Replies.{IsPlan, IsReplyOf, TellsOutcome}
+use Rattle.question_plan.specs.Plans.{CanBeServed, CanBeTold}
+use Rattle.audit_session.specs.Stops.{StopsOver}
+
+-- ---- reading
+
+-- whatever stands after these bytes, their whole lines are these
+abbrev pub IsRead : List ℕ → List CountedLine → Type 0
+IsRead read lines = (more : List ℕ) → whole_lines (read ++ more) ≡ lines ++ whole_lines more
+
+-- the first counted lines of the rest, and what is left of it
+pub record ReadsLines (rest left : List ℕ) (ended : Bool) (lines : List CountedLine) : Type 0 where
+  pub read : List ℕ
+  pub split : rest ≡ read ++ left
+  pub counted : counted_lines rest ≡ lines ++ counted_lines left
+  pub whole : IsRead read lines ⊎ ((ended ≡ true) × (left ≡ []))
+
+-- fewer whole lines than a group has stand among the bytes before what is left
+pub record CutsShort (batch : ℕ) (rest left : List ℕ) : Type 0 where
+  pub read : List ℕ
+  pub split : rest ≡ read ++ left
+  pub few : length (whole_lines read) < batch
+
+-- what lines come to, one plan for each
+abbrev pub ArePlans : List Column → PublicView → List CountedLine → List Plan → Type 0
+ArePlans columns public [] [] = Unit {0}
+ArePlans columns public [] (plan ∷ plans) = ⊥
+ArePlans columns public (line ∷ lines) [] = ⊥
+ArePlans columns public (line ∷ lines) (plan ∷ plans) = IsPlan columns public line plan × ArePlans columns public lines plans
+
+-- lines were read, where the source tells them the first of the rest, and these are their plans
+pub record Gathers (told : Type 0) (columns : List Column) (public : PublicView) (rest left : List ℕ) (ended : Bool) (plans : List Plan) : Type 0 where
+  pub lines : List CountedLine
+  pub planned : ArePlans columns public lines plans
+  pub reads : told → ReadsLines rest left ended lines
+
+-- what comes next: a line and its plan, or nothing is left
+abbrev pub GivesNext : Type 0 → List Column → PublicView → List ℕ → List ℕ → Bool → Option Plan → Type 0
+GivesNext told columns public rest left ended (Some plan) = CanBeServed (shape_of columns public.rows) plan × Gathers told columns public rest left ended (plan ∷ [])
+GivesNext told columns public rest left ended None = told → (left ≡ []) × (counted_lines rest ≡ [])
+
+-- a line took a byte at least
+abbrev pub TakesByte : ℕ → ℕ → Option Plan → Type 0
+TakesByte before now (Some plan) = before < now
+TakesByte before now None = Unit {0}
+
+-- ---- deciding
+
+-- the question of a plan, if it asks one
+abbrev pub question_in : Plan → List Asked
+question_in (Ready answer) = []
+question_in (Ask take asked) = asked ∷ []
+
+-- the questions of plans, in order
+abbrev pub questions_of : List Plan → List Asked
+questions_of plans = flat_map question_in plans
+
+-- each reply can be written, and each outcome be told
+abbrev pub CanAllBeTold : List Plan → List Outcome → Type 0
+CanAllBeTold [] [] = Unit {0}
+CanAllBeTold [] (outcome ∷ outcomes) = ⊥
+CanAllBeTold (Ready answer ∷ plans) outcomes = IsInRange answer × CanAllBeTold plans outcomes
+CanAllBeTold (Ask take asked ∷ plans) [] = ⊥
+CanAllBeTold (Ask take asked ∷ plans) (outcome ∷ outcomes) = (0 < length asked.rows.list) × (length asked.rows.list ≤ most_rows) × CanBeTold take outcome × CanAllBeTold plans outcomes
+
+-- one reply for each plan: that of a question tells its outcome
+abbrev pub AreTold : List Plan → List Outcome → List Reply → Type 0
+AreTold [] [] [] = Unit {0}
+AreTold [] [] (reply ∷ replies) = ⊥
+AreTold [] (outcome ∷ outcomes) replies = ⊥
+AreTold (plan ∷ plans) outcomes [] = ⊥
+AreTold (Ready answer ∷ plans) outcomes (reply ∷ replies) = (reply ≡ answer) × AreTold plans outcomes replies
+AreTold (Ask take asked ∷ plans) [] (reply ∷ replies) = ⊥
+AreTold (Ask take asked ∷ plans) (outcome ∷ outcomes) (reply ∷ replies) = TellsOutcome take (length asked.rows.list) outcome reply × AreTold plans outcomes replies
+
+-- the replies of a group, as they are told, and the history with their records
+pub record DecidesGroup {B : Type 0} (bench : Ghosts B) (old new : B) (table : Table) (history now : List Answered) (plans : List Plan) (told : List Reply) : Type 0 where
+  pub replies : List (Replied Answered)
+  pub due : AreReplies (IsReplyOf table) history plans replies
+  pub history_is : now ≡ history ++ records_of replies
+  pub bytes_are : bytes_of replies ≡ flat_map reply_bytes told
+  pub many : length told ≡ length plans
+  pub calls : bench.told → bench.moment new ≡ bench.moment old + calls_for (records_of replies)
+
+-- the store is usable, and the bench is as it left it
+pub record StandsOn {B : Type 0} (bench : Ghosts B) (old new : B) (store : StoreContents) : Type 0 where
+  pub usable : store.usable ≡ true
+  pub as_left : bench.told → IsAsLeft (bench.file new) store
+  pub quiet : bench.told → IsQuiet bench old → IsQuiet bench new
+
+-- the image stands for this history of the secrets' table
+abbrev pub stands_of : SecretView → List ℕ → List Answered → Type 0
+stands_of secret image history = StandsFor image secret.shape history
+
+-- ---- answering
+
+-- what a crash finds while a group is answered: the image stands for the history before and nothing was sent, or it stands
+-- for that with the records of the group's replies, and a front of these was sent
+abbrev pub InGroup : {R L : Type 0} → (List R → L → Replied R → Type 0) → (List ℕ → List R → Type 0) → List R → List L → List ℕ → List ℕ → List ℕ → Type 0
+InGroup {R} rule stands history lines before image sent =
+    ((sent ≡ before) × stands image history) ⊎ ((replies : List (Replied R)) × AreReplies rule history lines replies × stands image (history ++ records_of replies) × AppendsFront before (bytes_of replies) sent)
+
+-- the replies of a group were sent, one call for each and four for its records, and the history has these
+pub record AnswersGroup {B : Type 0} (bench : Ghosts B) (old new : B) (table : Table) (history now : List Answered) (plans : List Plan) : Type 0 where
+  pub replies : List (Replied Answered)
+  pub due : AreReplies (IsReplyOf table) history plans replies
+  pub history_is : now ≡ history ++ records_of replies
+  pub sent_is : bench.told → bench.sent new ≡ bench.sent old ++ bytes_of replies
+  pub calls : bench.told → bench.moment new ≡ bench.moment old + length plans + calls_for (records_of replies)
+
+-- a stop of a session over the lines that were read; they are the first of these where the source tells them
+abbrev pub StopsAmong : Type 0 → Database → ℕ → List Answered → List CountedLine → List ℕ → List ℕ → List ℕ → Type 0
+StopsAmong told base batch history lines before image sent =
+    ((read : List CountedLine) × StopsOver base batch history read before image sent) × (told → StopsOver base batch history lines before image sent)
