@@ -1,17 +1,21 @@
 -- What files mean is one table, and what a run leaves that answered nothing.
-use Rattle.std.proofs.Common.{◌≡◌, ℕ, List, [], Result, Ok, refl, sym, ◌∙◌, ap, subst, unwrap_or}
+use Rattle.std.proofs.Common.{◌≡◌, ℕ, ◌-◌, ◌*◌, List, [], ◌++◌, take, Result, Ok, refl, sym, ◌∙◌, ap, subst, unwrap_or}
 use Rattle.std.specs.Result.{result_ok}
+use Rattle.std.proofs.Math.Nat.{zero-mul}
+use Rattle.std.proofs.Math.Seq.{take-nil}
 use Rattle.std.proofs.lemmas.List.{append-nil}
 use Rattle.audit_types.specs.declared.records.Answered.{Answered}
 use Rattle.schema_json.specs.Columns.{Column}
 use Rattle.schema_json.specs.Reading.{schema_of}
 use Rattle.table_load.specs.Cells.{PublicView, SecretView, TableView}
-use Rattle.table_load.specs.Tables as tables
+use Rattle.table_load.specs.Database.{Database, base_of}
+use Rattle.table_load.specs.Tables.{table_of}
 use Rattle.journal_form.specs.Journal.{StandsFor}
 use Rattle.answer_journal.specs.Moments.{IsUntouched}
 use Rattle.line_wire.specs.Lines.{CountedLine, counted_lines}
-use Rattle.audit_session.specs.Replies.{Database, base_of, IsDue}
-use Rattle.audit_session.specs.Stops.{StopsBehind}
+use Rattle.question_plan.specs.Session.{Replied, bytes_of, AreReplies, groups}
+use Rattle.question_plan.specs.Replies.{IsDue}
+use Rattle.audit_session.specs.Stops.{StopsOver}
 use Rattle.audit_session.specs.Ends.{ServesSome}
 use Rattle.auditor_top.specs.Commands.{AreFilesOf}
 use Rattle.auditor_top.specs.Ends.{StandsForWhat}
@@ -21,35 +25,38 @@ same_ok : {X E : Type 0} (r : Result X E) (x y : X) → r ≡ Ok x → r ≡ Ok 
 same_ok r x y is other = ap (λ s. unwrap_or (result_ok s) x) (sym is ∙ other)
 
 -- the files mean one table
-pub same_base : (schema table : List ℕ) (columns : List Column) (meant : TableView) (base : Database) → schema_of schema ≡ Ok columns → tables.table_of columns table ≡ Ok meant → AreFilesOf schema table base → base ≡ base_of columns meant.public meant.secret
+pub same_base : (schema table : List ℕ) (columns : List Column) (meant : TableView) (base : Database) → schema_of schema ≡ Ok columns → table_of columns table ≡ Ok meant → AreFilesOf schema table base → base ≡ base_of columns meant.public meant.secret
 same_base schema table columns meant base schema_is table_is files =
     let one : base.columns ≡ columns = same_ok (schema_of schema) base.columns columns files.schema_is schema_is in
     let view : TableView = record { public = base.public; secret = base.secret } in
-    let two : view ≡ meant = same_ok (tables.table_of columns table) view meant (subst (λ (cs : List Column). tables.table_of cs table ≡ Ok view) one files.table_is) table_is in
+    let two : view ≡ meant = same_ok (table_of columns table) view meant (subst (λ (cs : List Column). table_of cs table ≡ Ok view) one files.table_is) table_is in
     ap (λ (cs : List Column). base_of cs base.public base.secret) one ∙ ap (λ (v : TableView). base_of columns v.public v.secret) two
 
 -- the same, by parts that are equal
 pub same_parts : (base : Database) (columns : List Column) (public other : PublicView) (secret hidden : SecretView) → base ≡ base_of columns public secret → other ≡ public → hidden ≡ secret → base ≡ base_of columns other hidden
 same_parts base columns public other secret hidden is same kept = is ∙ ap (λ (p : PublicView). base_of columns p secret) (sym same) ∙ ap (λ (s : SecretView). base_of columns other s) (sym kept)
 
+-- no group of lines has no replies
+none_due : (base : Database) (batch : ℕ) (history : List Answered) (lines : List CountedLine) → AreReplies (IsDue base) history (groups batch 0 lines) []
+none_due base batch history lines = subst (λ (ls : List CountedLine). AreReplies (IsDue base) history ls []) (sym (ap (λ n. take n lines) (zero-mul batch))) tt
+
 -- no line was answered
-pub nothing_served : (base : Database) (history : List Answered) (input sent file : List ℕ) → StandsFor file base.secret.shape history → StandsForWhat file base (λ now. ServesSome base history 1 (counted_lines input) now sent sent)
-nothing_served base history input sent file stands =
-    (history, record { count = 0; serves = record { replies = []; due = tt; history_is = sym (append-nil history); sent_is = sym (append-nil sent) } }, stands)
+pub nothing_served : (base : Database) (batch : ℕ) (history : List Answered) (input sent file : List ℕ) → StandsFor file base.secret.shape history → StandsForWhat file base (λ now. ServesSome base history batch (counted_lines input) now sent sent)
+nothing_served base batch history input sent file stands =
+    (history, record { count = 0; serves = record { replies = []; due = none_due base batch history (counted_lines input); history_is = sym (append-nil history); sent_is = sym (append-nil sent) } }, stands)
 
 -- a file that is left as it was is a stop before the first line
-pub untouched_stops : (base : Database) (history : List Answered) (lines : List CountedLine) (file before image sent : List ℕ) → StandsFor file base.secret.shape history → IsUntouched file before image sent
-    → StopsBehind (IsDue base) (λ image now. StandsFor image base.secret.shape now) 1 history lines before image sent
-untouched_stops base history lines file before image sent stands same =
+pub untouched_stops : (base : Database) (batch : ℕ) (history : List Answered) (lines : List CountedLine) (file before image sent : List ℕ) → StandsFor file base.secret.shape history → IsUntouched file before image sent → StopsOver base batch history lines before image sent
+untouched_stops base batch history lines file before image sent stands same =
     let shape = base.secret.shape in (
       [],
       same.0 ∙ sym (append-nil before),
       record {
         count = 0;
         replies = [];
-        due = tt;
+        due = none_due base batch history lines;
         stands_for = subst (λ (now : List Answered). StandsFor image shape now) (sym (append-nil history)) (subst (λ (f : List ℕ). StandsFor f shape history) (sym same.1) stands);
-        begun = record { rest = []; is = refl };
+        begun = record { rest = []; is = sym (ap (λ (rs : List (Replied Answered)). bytes_of rs ++ []) (take-nil ((0 - 1) * batch))) };
         so_far = record { rest = []; is = refl };
       },
     )

@@ -1,106 +1,175 @@
--- What each end of the steps of a run comes to, by cases on the status.
-use Rattle.std.proofs.Common.{rules, ◌≡◌, ◌≢◌, ℕ, ◌^◌, ◌≤◌, List, Result, Ok, Err, OnOk, length, refl, inl, inr, arith, subst}
+-- What the fault of each step of a run comes to, by cases on that fault.
+use Rattle.std.proofs.Common.{rules, ◌≡◌, ◌≢◌, ℕ, ◌+◌, ◌^◌, ◌<◌, ◌≤◌, List, [], Result, Ok, Err, IsErrOf, OnOk, length, refl, sym, ◌∙◌, ap, inl, inr, arith, subst}
 use Rattle.audit_types.specs.declared.records.Answered.{Answered}
+use Rattle.bench_core.specs.Causes.{Rose}
 use Rattle.schema_json.specs.Columns.{Column}
 use Rattle.table_load.specs.Cells.{TableView, SecretView}
+use Rattle.table_load.specs.Database.{Database}
 use Rattle.journal_form.specs.Journal.{StandsFor}
+use Rattle.answer_journal.specs.declared.make.MakeFault.{MakeFault}
+use Rattle.answer_journal.specs.declared.make.MakeFault.TheVariants as make
 use Rattle.audit_store.specs.Starting.{StartCause, StartsUnlessFailed}
 use Rattle.audit_store.specs.declared.starting.StartFault.{StartFault}
 use Rattle.audit_store.specs.declared.starting.StartFault.TheVariants as start
 use Rattle.line_wire.specs.Lines.{counted_lines}
-use Rattle.audit_session.specs.Replies.{Database}
 use Rattle.audit_session.specs.Ends.{Serves, ServesWhole, ServesSome, ServesLimited}
 use Rattle.audit_session.specs.declared.serving.EndFault.{EndFault}
-use Rattle.audit_session.specs.declared.serving.EndFault.TheVariants as fault
+use Rattle.audit_session.specs.declared.serving.EndFault.TheVariants as end
+use Rattle.auditor_top.specs.declared.files.FileFault.TheVariants as file
+use Rattle.auditor_top.specs.declared.opening.OpenFault.{OpenFault}
+use Rattle.auditor_top.specs.declared.opening.OpenFault.TheVariants as opening
 use Rattle.auditor_top.specs.declared.words.Command.TheVariants.{Serve}
 use Rattle.auditor_top.specs.declared.status.Which.TheVariants.{Schema, Table, Input}
 use Rattle.auditor_top.specs.declared.status.Status.{Status}
-use Rattle.auditor_top.specs.declared.status.Status.TheVariants.{Done, BadWords, BadSchema, BadTable, SourceFault, BenchFault, NotMade, AlreadyThere, Damaged, OtherShape, Untrue, Illegal, InputLimit, NoMemory}
-use Rattle.auditor_top.specs.Status.{started_with}
-use Rattle.auditor_top.specs.Ends.{Outside, ServeEnds, ended_with}
-use Rattle.auditor_top.specs.Run.{FaultOf, SchemaCause, TableCause, FileCause, HoldsLegal, InputCause, IsDoneOrWants}
-use Rattle.auditor_top.specs.Steps.{IsOfFiles}
+use Rattle.auditor_top.specs.declared.status.Status.TheVariants.{Done, BenchFault, NoMemory}
+use Rattle.auditor_top.specs.Status.{open_status, make_status, start_status, session_status}
+use Rattle.auditor_top.specs.Ends.{Outside, ServeEnds}
+use Rattle.auditor_top.specs.Causes.{FaultCounts, counts, FaultCause, SchemaCause, TableCause, FileCause, HoldsLegal, InputCause, NothingFailed, IsDoneOrWants}
 use Rattle.auditor_top.proofs.Bases.{nothing_served}
 
 -- an answer isn't good and bad
 not_both : {X E : Type 0} (x : X) (e : E) → Ok x ≡ Err e → ⊥
 not_both x e is = search rules
 
+-- counts of which one, or two, are as they were
+same_bench : (before : FaultCounts) (bench : ℕ) → bench ≡ before.bench → record before { bench = bench } ≡ before
+same_bench before bench is = ap (λ (n : ℕ). record before { bench = n }) is
+
+same_input : (before : FaultCounts) (input : ℕ) → input ≡ before.input → record before { input = input } ≡ before
+same_input before input is = ap (λ (n : ℕ). record before { input = n }) is
+
+same_both : (before : FaultCounts) (input bench : ℕ) → input ≡ before.input → bench ≡ before.bench → record before { input = input; bench = bench } ≡ before
+same_both before input bench is also = same_bench (record before { input = input }) bench also ∙ same_input before input is
+
+-- what is said after counts that are the same
+pub moved : (status : Status) (before : FaultCounts) (schema later_schema table later_table input bench spare : ℕ) → later_schema ≡ schema → later_table ≡ table
+    → FaultCause status before (counts schema table input bench spare) → FaultCause status before (counts later_schema later_table input bench spare)
+moved status before schema later_schema table later_table input bench spare is also cause =
+    subst (λ (s : ℕ). FaultCause status before (counts s later_table input bench spare)) (sym is) (subst (λ (t : ℕ). FaultCause status before (counts schema t input bench spare)) (sym also) cause)
+
+-- ---- opening the files
+
 -- the files have no fault, so what kept them closed was a failed source or want of memory
-pub unopened_ends : (status : Status) (columns : List Column) (meant : TableView) (base : Database) (history : List Answered) (at : Outside) → IsOfFiles status → SchemaCause status (Ok columns) → TableCause status (Ok meant)
-    → StandsFor at.file base.secret.shape history → ServeEnds status base history at at
-unopened_ends (BadSchema f) columns meant base history at of schema table stands = not_both columns f schema
-unopened_ends (BadTable f) columns meant base history at of schema table stands = not_both meant f table
-unopened_ends (SourceFault Schema) columns meant base history at of schema table stands = (refl, refl)
-unopened_ends (SourceFault Table) columns meant base history at of schema table stands = (refl, refl)
-unopened_ends NoMemory columns meant base history at of schema table stands = nothing_served base history at.input at.sent at.file stands
-unopened_ends Done columns meant base history at of schema table stands = absurd of
-unopened_ends BadWords columns meant base history at of schema table stands = absurd of
-unopened_ends (SourceFault Input) columns meant base history at of schema table stands = absurd of
-unopened_ends BenchFault columns meant base history at of schema table stands = absurd of
-unopened_ends NotMade columns meant base history at of schema table stands = absurd of
-unopened_ends AlreadyThere columns meant base history at of schema table stands = absurd of
-unopened_ends (Damaged place) columns meant base history at of schema table stands = absurd of
-unopened_ends (OtherShape kept now) columns meant base history at of schema table stands = absurd of
-unopened_ends (Untrue place kept now) columns meant base history at of schema table stands = absurd of
-unopened_ends (Illegal place) columns meant base history at of schema table stands = absurd of
-unopened_ends InputLimit columns meant base history at of schema table stands = absurd of
+pub unopened_ends : (fault : OpenFault) (columns : List Column) (meant : TableView) (base : Database) (batch : ℕ) (history : List Answered) (at : Outside) → SchemaCause (open_status fault) (Ok columns) → TableCause (open_status fault) (Ok meant)
+    → StandsFor at.file base.secret.shape history → ServeEnds batch (open_status fault) base history at at
+unopened_ends (opening.Schema file.Failed) columns meant base batch history at schema table stands = (refl, refl)
+unopened_ends (opening.Schema file.NoMemory) columns meant base batch history at schema table stands = nothing_served base batch history at.input at.sent at.file stands
+unopened_ends (opening.Schema (file.Bad f)) columns meant base batch history at schema table stands = absurd (not_both columns f schema)
+unopened_ends (opening.Table file.Failed) columns meant base batch history at schema table stands = (refl, refl)
+unopened_ends (opening.Table file.NoMemory) columns meant base batch history at schema table stands = nothing_served base batch history at.input at.sent at.file stands
+unopened_ends (opening.Table (file.Bad f)) columns meant base batch history at schema table stands = absurd (not_both meant f table)
+
+-- where no source failed either, it was want of memory
+pub unopened_wants : (fault : OpenFault) (columns : List Column) (meant : TableView) (before after : FaultCounts) → SchemaCause (open_status fault) (Ok columns) → TableCause (open_status fault) (Ok meant)
+    → FaultCause (open_status fault) before after → NothingFailed before after → IsDoneOrWants (open_status fault)
+unopened_wants (opening.Schema file.Failed) columns meant before after schema table rose none = absurd (none.schema rose.0)
+unopened_wants (opening.Schema file.NoMemory) columns meant before after schema table rose none = inr refl
+unopened_wants (opening.Schema (file.Bad f)) columns meant before after schema table rose none = absurd (not_both columns f schema)
+unopened_wants (opening.Table file.Failed) columns meant before after schema table rose none = absurd (none.table rose.0)
+unopened_wants (opening.Table file.NoMemory) columns meant before after schema table rose none = inr refl
+unopened_wants (opening.Table (file.Bad f)) columns meant before after schema table rose none = absurd (not_both meant f table)
+
+-- ---- starting the store
 
 -- a store that was to start, and wasn't, gave up
-pub unstarted_ends : (f : StartFault) (base : Database) (history : List Answered) (before after : Outside) → StartsUnlessFailed (Err f) → before.sent ≡ after.sent → StandsFor after.file base.secret.shape history → ServeEnds (started_with f) base history before after
-unstarted_ends start.NotMade base history before after opens same stands = absurd opens
-unstarted_ends (start.Damaged at) base history before after opens same stands = absurd opens
-unstarted_ends (start.OtherShape kept now) base history before after opens same stands = absurd opens
-unstarted_ends (start.Untrue place kept now) base history before after opens same stands = absurd opens
-unstarted_ends (start.Illegal place) base history before after opens same stands = absurd opens
-unstarted_ends start.Failed base history before after opens same stands = tt
-unstarted_ends start.NoMemory base history before after opens same stands =
-    subst (λ (sent : List ℕ). (now : List Answered) × ServesSome base history 1 (counted_lines before.input) now before.sent sent × StandsFor after.file base.secret.shape now) same (nothing_served base history before.input before.sent after.file stands)
+pub unstarted_ends : (f : StartFault) (base : Database) (batch : ℕ) (history : List Answered) (before after : Outside) → StartsUnlessFailed (Err f) → before.sent ≡ after.sent → StandsFor after.file base.secret.shape history
+    → ServeEnds batch (start_status f) base history before after
+unstarted_ends start.NotMade base batch history before after opens same stands = absurd opens
+unstarted_ends (start.Damaged at) base batch history before after opens same stands = absurd opens
+unstarted_ends (start.OtherShape kept now) base batch history before after opens same stands = absurd opens
+unstarted_ends (start.Untrue place kept now) base batch history before after opens same stands = absurd opens
+unstarted_ends (start.Illegal place) base batch history before after opens same stands = absurd opens
+unstarted_ends start.Failed base batch history before after opens same stands = tt
+unstarted_ends start.NoMemory base batch history before after opens same stands =
+    subst (λ (sent : List ℕ). (now : List Answered) × ServesSome base history batch (counted_lines before.input) now before.sent sent × StandsFor after.file base.secret.shape now) same (nothing_served base batch history before.input before.sent after.file stands)
+
+-- where the bench didn't fail either, it was want of memory
+pub unstarted_wants : (f : StartFault) (before after : FaultCounts) → StartsUnlessFailed (Err f) → FaultCause (start_status f) before after → NothingFailed before after → IsDoneOrWants (start_status f)
+unstarted_wants start.NotMade before after opens rose none = absurd opens
+unstarted_wants (start.Damaged at) before after opens rose none = absurd opens
+unstarted_wants (start.OtherShape kept now) before after opens rose none = absurd opens
+unstarted_wants (start.Untrue place kept now) before after opens rose none = absurd opens
+unstarted_wants (start.Illegal place) before after opens rose none = absurd opens
+unstarted_wants start.Failed before after opens rose none = absurd (none.bench rose.0)
+unstarted_wants start.NoMemory before after opens rose none = inr refl
 
 -- a store that isn't started has its cause in the file
-pub unstarted_cause : (f : StartFault) (file : List ℕ) (secret : SecretView) → StartCause f file secret → FileCause (started_with f) Serve file secret
-unstarted_cause start.NotMade file secret cause = cause
-unstarted_cause (start.Damaged at) file secret cause = cause
-unstarted_cause (start.OtherShape kept now) file secret cause = cause
-unstarted_cause (start.Untrue place kept now) file secret cause = cause
-unstarted_cause (start.Illegal place) file secret cause = cause
-unstarted_cause start.Failed file secret cause = tt
-unstarted_cause start.NoMemory file secret cause = tt
+pub unstarted_cause : (f : StartFault) (batch : ℕ) (file : List ℕ) (secret : SecretView) → StartCause f file secret → FileCause (start_status f) (Serve batch) file secret
+unstarted_cause start.NotMade batch file secret cause = cause
+unstarted_cause (start.Damaged at) batch file secret cause = cause
+unstarted_cause (start.OtherShape kept now) batch file secret cause = cause
+unstarted_cause (start.Untrue place kept now) batch file secret cause = cause
+unstarted_cause (start.Illegal place) batch file secret cause = cause
+unstarted_cause start.Failed batch file secret cause = tt
+unstarted_cause start.NoMemory batch file secret cause = tt
+
+-- the count of the bench rose where a call of it failed, and no other count changed
+pub unstarted_faults : {X : Type 0} (f : StartFault) (before : FaultCounts) (bench : ℕ) → (IsErrOf {T = X} (Err f) start.Failed → Rose before.bench bench) → ((IsErrOf {T = X} (Err f) start.Failed → ⊥) → bench ≡ before.bench)
+    → FaultCause (start_status f) before (record before { bench = bench })
+unstarted_faults start.NotMade before bench rose same = same_bench before bench (same (search rules))
+unstarted_faults (start.Damaged at) before bench rose same = same_bench before bench (same (search rules))
+unstarted_faults (start.OtherShape kept now) before bench rose same = same_bench before bench (same (search rules))
+unstarted_faults (start.Untrue place kept now) before bench rose same = same_bench before bench (same (search rules))
+unstarted_faults (start.Illegal place) before bench rose same = same_bench before bench (same (search rules))
+unstarted_faults start.Failed before bench rose same = (rose refl, refl)
+unstarted_faults start.NoMemory before bench rose same = same_bench before bench (same (search rules))
+
+-- ---- making a journal
+
+-- where the bench didn't fail, a journal or another file was there
+pub refused_is : (f : MakeFault) (status : Status) → status ≡ make_status f → status ≢ BenchFault → IsErrOf {T = Unit {0}} (Err f) make.AlreadyThere
+refused_is make.AlreadyThere status is fine = refl
+refused_is make.Failed status is fine = absurd (fine is)
+
+-- the count of the bench rose where a call of it failed, and no other count changed
+pub unmade_faults : (f : MakeFault) (before : FaultCounts) (bench : ℕ) → (IsErrOf {T = Unit {0}} (Err f) make.Failed → Rose before.bench bench) → ((IsErrOf {T = Unit {0}} (Err f) make.Failed → ⊥) → bench ≡ before.bench)
+    → FaultCause (make_status f) before (record before { bench = bench })
+unmade_faults make.AlreadyThere before bench rose same = same_bench before bench (same (search rules))
+unmade_faults make.Failed before bench rose same = (rose refl, refl)
+
+-- ---- answering lines
 
 -- a session over a legal history has that cause
-pub session_cause : {X : Type 0} (result : Result X EndFault) (file : List ℕ) (secret : SecretView) → HoldsLegal file secret → FileCause (ended_with result) Serve file secret
-session_cause (Ok x) file secret legal = legal
-session_cause (Err fault.Input) file secret legal = legal
-session_cause (Err fault.Bench) file secret legal = tt
-session_cause (Err fault.Limit) file secret legal = legal
-session_cause (Err fault.NoMemory) file secret legal = tt
+pub session_cause : {X : Type 0} (ended : Result X EndFault) (batch : ℕ) (file : List ℕ) (secret : SecretView) → HoldsLegal file secret → FileCause (session_status ended) (Serve batch) file secret
+session_cause (Ok done) batch file secret legal = legal
+session_cause (Err end.Input) batch file secret legal = legal
+session_cause (Err end.Bench) batch file secret legal = tt
+session_cause (Err end.Limit) batch file secret legal = legal
+session_cause (Err end.NoMemory) batch file secret legal = tt
 
 -- the ends of a session are those of the run
-pub session_ends : {X : Type 0} (result : Result X EndFault) (base : Database) (history now : List Answered) (before after : Outside) → OnOk result (Serves base history (counted_lines before.input) now before.sent after.sent)
-    → (result ≡ Err fault.Input → ServesWhole base history 1 before.input after.input now before.sent after.sent) → (result ≡ Err fault.Limit → ServesLimited base history 1 before.input now before.sent after.sent)
-    → (result ≡ Err fault.NoMemory → ServesSome base history 1 (counted_lines before.input) now before.sent after.sent) → (result ≢ Err fault.Bench → StandsFor after.file base.secret.shape now) → ServeEnds (ended_with result) base history before after
-session_ends (Ok x) base history now before after all whole limited some stands = (now, all, stands (not_both x fault.Bench))
-session_ends (Err fault.Input) base history now before after all whole limited some stands = (now, whole refl, stands (search rules))
-session_ends (Err fault.Bench) base history now before after all whole limited some stands = tt
-session_ends (Err fault.Limit) base history now before after all whole limited some stands = (now, limited refl, stands (search rules))
-session_ends (Err fault.NoMemory) base history now before after all whole limited some stands = (now, some refl, stands (search rules))
+pub session_ends : {X : Type 0} (ended : Result X EndFault) (base : Database) (batch : ℕ) (history now : List Answered) (before after : Outside) → OnOk ended (Serves base history (counted_lines before.input) now before.sent after.sent)
+    → (ended ≡ Err end.Input → ServesWhole base history batch before.input after.input now before.sent after.sent) → (ended ≡ Err end.Limit → ServesLimited base history batch before.input now before.sent after.sent)
+    → (ended ≡ Err end.NoMemory → ServesSome base history batch (counted_lines before.input) now before.sent after.sent) → (ended ≢ Err end.Bench → StandsFor after.file base.secret.shape now) → ServeEnds batch (session_status ended) base history before after
+session_ends (Ok done) base batch history now before after all whole limited some stands = (now, all, stands (not_both done end.Bench))
+session_ends (Err end.Input) base batch history now before after all whole limited some stands = (now, whole refl, stands (search rules))
+session_ends (Err end.Bench) base batch history now before after all whole limited some stands = tt
+session_ends (Err end.Limit) base batch history now before after all whole limited some stands = (now, limited refl, stands (search rules))
+session_ends (Err end.NoMemory) base batch history now before after all whole limited some stands = (now, some refl, stands (search rules))
 
--- where nothing is wrong and nothing fails, it is done, or there was no memory
-pub nothing_wrong : (status : Status) (base : Database) (history : List Answered) (before after : Outside) (schema table input bench : Type 0) → ServeEnds status base history before after → FaultOf status schema table input bench
-    → (schema → ⊥) → (table → ⊥) → (input → ⊥) → (bench → ⊥) → InputCause status before.input after.input → length before.input ≤ 2 ^ 30 → IsDoneOrWants status
-nothing_wrong Done base history before after schema table input bench ends failed no_schema no_table no_input no_bench cause within = inl refl
-nothing_wrong NoMemory base history before after schema table input bench ends failed no_schema no_table no_input no_bench cause within = inr refl
-nothing_wrong (SourceFault Schema) base history before after schema table input bench ends failed no_schema no_table no_input no_bench cause within = absurd (no_schema failed)
-nothing_wrong (SourceFault Table) base history before after schema table input bench ends failed no_schema no_table no_input no_bench cause within = absurd (no_table failed)
-nothing_wrong (SourceFault Input) base history before after schema table input bench ends failed no_schema no_table no_input no_bench cause within = absurd (no_input failed)
-nothing_wrong BenchFault base history before after schema table input bench ends failed no_schema no_table no_input no_bench cause within = absurd (no_bench failed)
-nothing_wrong InputLimit base history before after schema table input bench ends failed no_schema no_table no_input no_bench cause within = absurd (omega (arith, cause, within))
-nothing_wrong BadWords base history before after schema table input bench ends failed no_schema no_table no_input no_bench cause within = absurd ends
-nothing_wrong (BadSchema f) base history before after schema table input bench ends failed no_schema no_table no_input no_bench cause within = absurd ends
-nothing_wrong (BadTable f) base history before after schema table input bench ends failed no_schema no_table no_input no_bench cause within = absurd ends
-nothing_wrong NotMade base history before after schema table input bench ends failed no_schema no_table no_input no_bench cause within = absurd ends
-nothing_wrong AlreadyThere base history before after schema table input bench ends failed no_schema no_table no_input no_bench cause within = absurd ends
-nothing_wrong (Damaged place) base history before after schema table input bench ends failed no_schema no_table no_input no_bench cause within = absurd ends
-nothing_wrong (OtherShape kept now) base history before after schema table input bench ends failed no_schema no_table no_input no_bench cause within = absurd ends
-nothing_wrong (Untrue place kept now) base history before after schema table input bench ends failed no_schema no_table no_input no_bench cause within = absurd ends
-nothing_wrong (Illegal place) base history before after schema table input bench ends failed no_schema no_table no_input no_bench cause within = absurd ends
+-- the count of what failed rose, and no other changed
+pub session_faults : {X : Type 0} (ended : Result X EndFault) (before : FaultCounts) (input bench : ℕ) → (ended ≡ Err end.Input → Rose before.input input) → (ended ≢ Err end.Input → input ≡ before.input)
+    → (ended ≡ Err end.Bench → Rose before.bench bench) → (ended ≢ Err end.Bench → bench ≡ before.bench) → FaultCause (session_status ended) before (record before { input = input; bench = bench })
+session_faults (Ok done) before input bench input_rose input_same bench_rose bench_same = same_both before input bench (input_same (not_both done end.Input)) (bench_same (not_both done end.Bench))
+session_faults (Err end.Input) before input bench input_rose input_same bench_rose bench_same = (input_rose refl, same_bench (record before { input = input }) bench (bench_same (search rules)))
+session_faults (Err end.Bench) before input bench input_rose input_same bench_rose bench_same = (bench_rose refl, same_input (record before { bench = bench }) input (input_same (search rules)))
+session_faults (Err end.Limit) before input bench input_rose input_same bench_rose bench_same = same_both before input bench (input_same (search rules)) (bench_same (search rules))
+session_faults (Err end.NoMemory) before input bench input_rose input_same bench_rose bench_same = same_both before input bench (input_same (search rules)) (bench_same (search rules))
+
+-- how much of the input there was, by the end
+pub session_reads : {X : Type 0} (ended : Result X EndFault) (before after : List ℕ) → OnOk ended (after ≡ []) → OnOk ended (length before ≤ 2 ^ 30) → (ended ≡ Err end.Input → length before ≤ 2 ^ 30 + length after)
+    → (ended ≡ Err end.Limit → 2 ^ 30 + length after < length before) → InputCause (session_status ended) before after
+session_reads (Ok done) before after read within failed limit = (read, within)
+session_reads (Err end.Input) before after read within failed limit = failed refl
+session_reads (Err end.Bench) before after read within failed limit = tt
+session_reads (Err end.Limit) before after read within failed limit = limit refl
+session_reads (Err end.NoMemory) before after read within failed limit = tt
+
+-- where the input is within its limit and nothing failed, it is done, or there was no memory
+pub session_wants : {X : Type 0} (ended : Result X EndFault) (before after : FaultCounts) (input left : List ℕ) → FaultCause (session_status ended) before after → NothingFailed before after → InputCause (session_status ended) input left
+    → length input ≤ 2 ^ 30 → IsDoneOrWants (session_status ended)
+session_wants (Ok done) before after input left rose none cause within = inl refl
+session_wants (Err end.Input) before after input left rose none cause within = absurd (none.input rose.0)
+session_wants (Err end.Bench) before after input left rose none cause within = absurd (none.bench rose.0)
+session_wants (Err end.Limit) before after input left rose none cause within = absurd (omega (arith, cause, within))
+session_wants (Err end.NoMemory) before after input left rose none cause within = inr refl

@@ -1,32 +1,50 @@
--- The commands, and what a command is given.
-use Rattle.std.specs.Prelude.{◌≡◌, List, [], ◌∷◌, ℕ, Option, Some, None, if◌then◌else◌, Ok, bytes_eq, codes}
+-- The steps that a command takes, and what it is given.
+use Rattle.std.specs.Prelude.{◌≡◌, List, ℕ, Bool, true, false, Ok}
 use Rattle.audit_types.specs.declared.records.Answered.{Answered}
 use Rattle.audit_types.specs.History.{IsLegal}
 use Rattle.schema_json.specs.Reading.{schema_of}
-use Rattle.table_load.specs.Tables as tables
+use Rattle.table_load.specs.Database.{Database, secret_table}
+use Rattle.table_load.specs.Tables.{table_of}
 use Rattle.journal_form.specs.Journal.{StandsFor}
-use Rattle.audit_store.specs.Stores.{table_of}
-use Rattle.audit_session.specs.Replies.{Database}
 use Rattle.auditor_top.specs.declared.words.Command.{Command}
 use Rattle.auditor_top.specs.declared.words.Command.TheVariants.{Init, Serve}
 
--- the command that a word names
-abbrev pub command_named : List ℕ → Option Command
-command_named word = if bytes_eq word (codes "init") then Some Init else (if bytes_eq word (codes "serve") then Some Serve else None)
+-- ---- the steps of a command
 
--- the command that the words are, if they are one: each is one word
-abbrev pub command_of : List (List ℕ) → Option Command
-command_of [] = None
-command_of (word ∷ []) = command_named word
-command_of (word ∷ next ∷ words) = None
+-- it reads the schema's file, and then the table's
+abbrev pub reads_files : Command → Bool
+reads_files Init = true
+reads_files (Serve batch) = true
+
+-- it reads all columns of the table's file, and not the public ones alone
+abbrev pub reads_secrets : Command → Bool
+reads_secrets Init = true
+reads_secrets (Serve batch) = true
+
+-- it opens the journal
+abbrev pub opens_journal : Command → Bool
+opens_journal Init = false
+opens_journal (Serve batch) = true
+
+-- it reads the input
+abbrev pub reads_lines : Command → Bool
+reads_lines Init = false
+reads_lines (Serve batch) = true
+
+-- it writes the journal's file
+abbrev pub writes : Command → Bool
+writes Init = true
+writes (Serve batch) = true
+
+-- ---- what a command is given
 
 -- the files mean these columns and this table
 pub record AreFilesOf (schema table : List ℕ) (base : Database) : Type 0 where
   pub schema_is : schema_of schema ≡ Ok base.columns
-  pub table_is : tables.table_of base.columns table ≡ Ok (record { public = base.public; secret = base.secret })
+  pub table_is : table_of base.columns table ≡ Ok (record { public = base.public; secret = base.secret })
 
 -- the files are those of a table, and the journal's file stands for a legal history of it
 pub record ServesOver (schema table file : List ℕ) (base : Database) (history : List Answered) : Type 0 where
   pub files : AreFilesOf schema table base
   pub stands : StandsFor file base.secret.shape history
-  pub legal : IsLegal (table_of base.secret) history
+  pub legal : IsLegal (secret_table base.secret) history

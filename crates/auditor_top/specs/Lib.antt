@@ -1,7 +1,9 @@
+pub mod Causes
 pub mod Commands
 pub mod Ends
 pub mod Files
+pub mod Promise
 pub mod Reading
-pub mod Run
+pub mod Stages
 pub mod Status
-pub mod Steps
+pub mod Words

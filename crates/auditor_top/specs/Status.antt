@@ -1,12 +1,19 @@
--- The number and the text of each status.
-use Rattle.std.specs.Prelude.{ℕ, List, ◌++◌, codes, decimal}
+-- The number and the text of each status, and the status that a fault of a step comes to.
+use Rattle.std.specs.Prelude.{ℕ, List, ◌++◌, codes, decimal, Result, Ok, Err}
 use Rattle.std.specs.Fmt.{signed_decimal}
+use Rattle.answer_journal.specs.declared.make.MakeFault.{MakeFault}
+use Rattle.answer_journal.specs.declared.make.MakeFault.TheVariants as make
+use Rattle.audit_session.specs.declared.serving.EndFault.{EndFault}
+use Rattle.audit_session.specs.declared.serving.EndFault.TheVariants as end
 use Rattle.audit_store.specs.declared.starting.StartFault.{StartFault}
 use Rattle.audit_store.specs.declared.starting.StartFault.TheVariants as start
 use Rattle.schema_json.specs.Faults as schema
 use Rattle.table_load.specs.Faults as table
 use Rattle.table_load.specs.declared.faults.TableFault.{TableFault}
 use Rattle.table_load.specs.declared.faults.TableFault.TheVariants as fault
+use Rattle.auditor_top.specs.declared.files.FileFault.TheVariants as file
+use Rattle.auditor_top.specs.declared.opening.OpenFault.{OpenFault}
+use Rattle.auditor_top.specs.declared.opening.OpenFault.TheVariants as opening
 use Rattle.auditor_top.specs.declared.status.Which.TheVariants.{Schema, Table, Input}
 use Rattle.auditor_top.specs.declared.status.Status.{Status}
 use Rattle.auditor_top.specs.declared.status.Status.TheVariants.{Done, BadWords, BadSchema, BadTable, SourceFault, BenchFault, NotMade, AlreadyThere, Damaged, OtherShape, Untrue, Illegal, InputLimit, NoMemory}
@@ -67,12 +74,40 @@ status_text (Illegal place) = codes "record " ++ decimal place ++ codes " should
 status_text InputLimit = codes "input is too long"
 status_text NoMemory = codes "out of memory"
 
--- the status of a store that wasn't started
-abbrev pub started_with : StartFault → Status
-started_with start.NotMade = NotMade
-started_with (start.Damaged at) = Damaged at
-started_with (start.OtherShape kept now) = OtherShape kept now
-started_with (start.Untrue place kept now) = Untrue place kept now
-started_with (start.Illegal place) = Illegal place
-started_with start.Failed = BenchFault
-started_with start.NoMemory = NoMemory
+-- ---- the status that a fault of a step comes to
+
+-- of opening the files
+abbrev pub open_status : OpenFault → Status
+open_status (opening.Schema file.Failed) = SourceFault Schema
+open_status (opening.Schema file.NoMemory) = NoMemory
+open_status (opening.Schema (file.Bad fault)) = BadSchema fault
+open_status (opening.Table file.Failed) = SourceFault Table
+open_status (opening.Table file.NoMemory) = NoMemory
+open_status (opening.Table (file.Bad fault)) = BadTable fault
+
+-- of making a journal
+abbrev pub make_status : MakeFault → Status
+make_status make.AlreadyThere = AlreadyThere
+make_status make.Failed = BenchFault
+
+-- of starting a store
+abbrev pub start_status : StartFault → Status
+start_status start.NotMade = NotMade
+start_status (start.Damaged at) = Damaged at
+start_status (start.OtherShape kept now) = OtherShape kept now
+start_status (start.Untrue place kept now) = Untrue place kept now
+start_status (start.Illegal place) = Illegal place
+start_status start.Failed = BenchFault
+start_status start.NoMemory = NoMemory
+
+-- of answering lines
+abbrev pub end_status : EndFault → Status
+end_status end.Input = SourceFault Input
+end_status end.Bench = BenchFault
+end_status end.Limit = InputLimit
+end_status end.NoMemory = NoMemory
+
+-- of a session, by how it ended
+abbrev pub session_status : {X : Type 0} → Result X EndFault → Status
+session_status (Ok done) = Done
+session_status (Err fault) = end_status fault

@@ -1,11 +1,11 @@
 //! The two files that a run stands on: each is read whole, and then told what its bytes mean.
-ghost use Rattle.std.specs.Prelude.{◌≡◌, ◌≢◌, ◌≤◌, IfOk};
+ghost use Rattle.std.specs.Prelude.{◌≡◌, ◌≢◌, ◌≤◌, ◌+◌, length, IfOk, Err};
 ghost use Rattle.bench_core.specs.Causes.{Rose};
 ghost use Rattle.schema_json.specs.Reading.{schema_of};
 ghost use Rattle.schema_json.specs.SecretShape.{shape_of};
 ghost use Rattle.table_load.specs.Cells.{FitsSchema};
 ghost use Rattle.table_load.specs.Tables.{table_of};
-ghost use Rattle.auditor_top.specs.Files.{GivesSchema, GivesTable};
+ghost use Rattle.auditor_top.specs.Files.{GivesSchema, GivesTable, most_schema, most_table};
 
 use crate::reading::{ReadFault, read_all};
 use bench_core::Source;
@@ -24,19 +24,21 @@ pub enum FileFault<F: Drop> {
     Failed,
     /// There was no memory.
     NoMemory,
-    /// The bytes have this fault.
+    /// The bytes have this fault. It is never want of memory.
     Bad(F),
 }
 
-/// The schema that a source's bytes mean. No more than one byte above a schema's limit is kept.
+/// The schema that a source's bytes mean. It reads until the bytes are more than a schema may have.
 pub fn schema_from<P: Source>(
     alloc: Global,
     source: &mut P,
 ) -> Result<Schema, FileFault<SchemaFault>>
     ensures means { P.told → GivesSchema result (schema_of (P.left source.old)) }
     ensures own { result ≢ Err (FileFault.Bad SchemaFault.NoMemory) }
+    ensures within { P.told → result ≡ Err FileFault.Failed → length (P.left source.old) ≤ most_schema + length (P.left source.new) }
     ensures later { P.faults source.old ≤ P.faults source.new }
     ensures failed { result ≡ Err FileFault.Failed → Rose (P.faults source.old) (P.faults source.new) }
+    ensures steady { (result ≡ Err FileFault.Failed → ⊥) → P.faults source.new ≡ P.faults source.old }
 {
     let bytes = match read_all(alloc, source, MOST_SCHEMA) {
         Ok(bytes) => bytes,
@@ -50,7 +52,7 @@ pub fn schema_from<P: Source>(
     }
 }
 
-/// The table that a source's bytes mean over the columns of a schema.
+/// The table that a source's bytes mean over the columns of a schema. It reads until the bytes are more than a table may have.
 pub fn table_from<P: Source>(
     alloc: Global,
     schema: &Schema,
@@ -60,8 +62,10 @@ pub fn table_from<P: Source>(
     ensures fits { IfOk result (λ table. FitsSchema schema.now.columns table.public) }
     ensures shape { IfOk result (λ table. table.secret.shape ≡ shape_of schema.now.columns table.public.rows) }
     ensures own { result ≢ Err (FileFault.Bad TableFault.NoMemory) }
+    ensures within { P.told → result ≡ Err FileFault.Failed → length (P.left source.old) ≤ most_table + length (P.left source.new) }
     ensures later { P.faults source.old ≤ P.faults source.new }
     ensures failed { result ≡ Err FileFault.Failed → Rose (P.faults source.old) (P.faults source.new) }
+    ensures steady { (result ≡ Err FileFault.Failed → ⊥) → P.faults source.new ≡ P.faults source.old }
 {
     let bytes = match read_all(alloc, source, MOST_TABLE) {
         Ok(bytes) => bytes,

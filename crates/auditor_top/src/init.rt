@@ -1,20 +1,21 @@
 //! The command that makes the journal of a table.
-ghost use Rattle.std.specs.Prelude.{◌≡◌, ◌≢◌, ◌≤◌, [], List};
-ghost use Rattle.bench_core.specs.Causes.{Rose};
-ghost use Rattle.bench_core.specs.Bench.{IsQuiet, LeavesOnly};
+ghost use Rattle.std.specs.Prelude.{◌≡◌, ◌≢◌, ◌≤◌, ◌+◌, [], List, ℕ, Some, Ok, length};
+ghost use Rattle.bench_core.specs.Calls.{IsQuiet, LeavesOnly};
 ghost use Rattle.schema_json.specs.Columns.{Column};
 ghost use Rattle.schema_json.specs.Reading.{schema_of};
+ghost use Rattle.table_load.specs.Database.{Database};
 ghost use Rattle.table_load.specs.Tables.{table_of};
 ghost use Rattle.journal_form.specs.Journal.{StandsFor};
 ghost use Rattle.answer_journal.specs.Moments.{IsAlready, IsUnmadeOrEmpty, IsUntouched};
-ghost use Rattle.audit_session.specs.Replies.{Database};
+ghost use Rattle.auditor_top.specs.declared.words.Command.TheVariants.{Init};
 ghost use Rattle.auditor_top.specs.Commands.{AreFilesOf};
-ghost use Rattle.auditor_top.specs.Run.{FaultOf, SchemaCause, TableCause, BeforeTable, BeforeBench};
-ghost use Rattle.auditor_top.specs.Steps.{BeforeWriting, IsOfInit};
+ghost use Rattle.auditor_top.specs.Causes.{FaultCause, WordCause, SchemaCause, TableCause, FileCause, NeverFall, NothingFailed, IsDoneOrWants, counts};
+ghost use Rattle.auditor_top.specs.Files.{most_schema, most_table};
+ghost use Rattle.auditor_top.specs.Stages.{Before, reading_table, opening_journal};
 
 use crate::opening::open_table;
-use crate::status::Status;
-use answer_journal::{Journal, MakeFault};
+use crate::status::{Status, Which};
+use answer_journal::Journal;
 use bench_core::{Bench, Source};
 use schema_json::SchemaFault;
 use std::alloc::Global;
@@ -28,42 +29,50 @@ pub fn init<P: Source, B: Bench>(
     bench: &mut B,
 ) -> Status
     // Each status has its cause.
-    ensures of_init { IsOfInit result }
+    ensures word_cause { WordCause result (Some Init) }
     ensures schema_cause { P.told → SchemaCause result (schema_of (P.left schema.old)) }
     ensures table_cause { P.told → (columns : List Column) → schema_of (P.left schema.old) ≡ Ok columns
         → TableCause result (table_of columns (P.left table.old)) }
     ensures own_schema_fault { result ≢ Status.BadSchema SchemaFault.NoMemory }
     ensures own_table_fault { result ≢ Status.BadTable TableFault.NoMemory }
-    ensures already { B.told → result ≡ Status.AlreadyThere → IsAlready (B.file bench.old) }
-    ensures refused { B.told → IsAlready (B.file bench.old) → result ≢ Status.Done }
-    ensures faults { FaultOf result (Rose (P.faults schema.old) (P.faults schema.new)) (Rose (P.faults table.old) (P.faults table.new)) ⊥ (Rose (B.faults bench.old) (B.faults bench.new)) }
+    ensures schema_within { P.told → result ≡ Status.SourceFault Which.Schema → length (P.left schema.old) ≤ most_schema + length (P.left schema.new) }
+    ensures table_within { P.told → result ≡ Status.SourceFault Which.Table → length (P.left table.old) ≤ most_table + length (P.left table.new) }
+    ensures file_cause { P.told → B.told → (base : Database) → AreFilesOf (P.left schema.old) (P.left table.old) base
+        → FileCause result Init (B.file bench.old) base.secret }
+    ensures faults { (input spare : ℕ) → FaultCause result
+        (counts (P.faults schema.old) (P.faults table.old) input (B.faults bench.old) spare) (counts (P.faults schema.new) (P.faults table.new) input (B.faults bench.new) spare) }
+    ensures later { (input spare : ℕ) → NeverFall
+        (counts (P.faults schema.old) (P.faults table.old) input (B.faults bench.old) spare) (counts (P.faults schema.new) (P.faults table.new) input (B.faults bench.new) spare) }
 
-    // What stands behind it.
+    // What stands after it.
     ensures done { P.told → B.told → result ≡ Status.Done → (base : Database) → AreFilesOf (P.left schema.old) (P.left table.old) base
         → StandsFor (B.file bench.new) base.secret.shape [] }
-    ensures quiet { B.told → IsQuiet (B.file bench.old) (B.leaves bench.old) → result ≢ Status.BenchFault → IsQuiet (B.file bench.new) (B.leaves bench.new) }
-    ensures kept { B.told → BeforeWriting result (B.file bench.new ≡ B.file bench.old) }
+    ensures complete { P.told → B.told → (base : Database) → AreFilesOf (P.left schema.old) (P.left table.old) base → (IsAlready (B.file bench.old) → ⊥)
+        → (input spare : ℕ) → NothingFailed
+        (counts (P.faults schema.old) (P.faults table.old) input (B.faults bench.old) spare) (counts (P.faults schema.new) (P.faults table.new) input (B.faults bench.new) spare)
+        → IsDoneOrWants result }
+    ensures quiet { B.told → IsQuiet B.Bench bench.old → result ≢ Status.BenchFault → IsQuiet B.Bench bench.new }
+    ensures kept { B.told → result ≢ Status.Done → result ≢ Status.BenchFault → B.file bench.new ≡ B.file bench.old }
     ensures sent { B.sent bench.new ≡ B.sent bench.old }
 
     // At every moment the file is the old one, where something is there already. Otherwise it isn't a made journal, or
     // stands for the empty history.
-    ensures untouched { B.told → IsAlready (B.file bench.old) → IsQuiet (B.file bench.old) (B.leaves bench.old)
-        → LeavesOnly B.moment B.since bench.old bench.new (IsUntouched (B.file bench.old) (B.sent bench.old)) }
-    ensures any_moment { P.told → B.told → (IsAlready (B.file bench.old) → ⊥) → IsQuiet (B.file bench.old) (B.leaves bench.old) → (base : Database) → AreFilesOf (P.left schema.old) (P.left table.old) base
-        → LeavesOnly B.moment B.since bench.old bench.new (IsUnmadeOrEmpty base.secret.shape (B.sent bench.old)) }
+    ensures untouched { B.told → IsAlready (B.file bench.old) → IsQuiet B.Bench bench.old
+        → LeavesOnly B.Bench bench.old bench.new (IsUntouched (B.file bench.old) (B.sent bench.old)) }
+    ensures any_moment { P.told → B.told → (IsAlready (B.file bench.old) → ⊥) → IsQuiet B.Bench bench.old → (base : Database) → AreFilesOf (P.left schema.old) (P.left table.old) base
+        → LeavesOnly B.Bench bench.old bench.new (IsUnmadeOrEmpty base.secret.shape (B.sent bench.old)) }
 
-    // What it doesn't come to, it doesn't call.
-    ensures before_table { BeforeTable result (table.new ≡ table.old) }
-    ensures before_bench { BeforeBench result (bench.new ≡ bench.old) }
-    ensures later { (P.faults schema.old ≤ P.faults schema.new) × (P.faults table.old ≤ P.faults table.new) × (B.faults bench.old ≤ B.faults bench.new) }
+    // What it doesn't come to, it doesn't call. Memory is wanted only before the journal.
+    ensures before_table { Before reading_table result (table.new ≡ table.old) }
+    ensures before_bench { Before opening_journal result (bench.new ≡ bench.old) }
+    ensures no_memory { result ≡ Status.NoMemory → bench.new ≡ bench.old }
 {
     let opened = match open_table(alloc, schema, table) {
         Ok(opened) => opened,
-        Err(status) => return status,
+        Err(fault) => return Status::from(fault),
     };
     match Journal::make(bench, &opened.table.secret.shape()) {
         Ok(()) => Status::Done,
-        Err(MakeFault::AlreadyThere) => Status::AlreadyThere,
-        Err(MakeFault::Failed) => Status::BenchFault,
+        Err(fault) => Status::from(fault),
     }
 }

@@ -3,19 +3,36 @@ ghost use Rattle.std.specs.Prelude.{List, ℕ};
 ghost use Rattle.audit_types.specs.declared.records.Answered.{Answered};
 ghost use Rattle.audit_types.specs.History.{IsLegal, IsUndisclosed};
 ghost use Rattle.journal_form.specs.Journal.{StandsFor};
-ghost use Rattle.audit_store.specs.Stores.{table_of};
 ghost use Rattle.line_wire.specs.Lines.{CountedLine};
-ghost use Rattle.audit_session.specs.Replies.{Database, IsDue};
-ghost use Rattle.audit_session.specs.Stops.{StopsBehind};
+ghost use Rattle.table_load.specs.Database.{Database, secret_table};
+ghost use Rattle.audit_session.specs.Stops.{StopsOver};
 ghost use Rattle.auditor_top.specs.Commands.{AreFilesOf};
+ghost use Rattle.auditor_top.specs.Promise.{LivesKeepPromise, LivesGoOn, StopsMakeLives};
 
-/// Whatever a stop leaves after a legal history of a table is a legal history of it, and discloses no secret.
+/// Every history for which a stop over a legal history of a table leaves an image is a legal history of it, and discloses no
+/// secret.
 pub fn stops_are_legal()
-    ensures { (schema table before image sent : List ℕ) (base : Database) (history now : List Answered) (lines : List CountedLine) → AreFilesOf schema table base → IsLegal (table_of base.secret) history
-        → StopsBehind (IsDue base) (λ image now. StandsFor image base.secret.shape now) 1 history lines before image sent → StandsFor image base.secret.shape now
-        → IsLegal (table_of base.secret) now × IsUndisclosed (table_of base.secret) now }
+    ensures { (schema table before image sent : List ℕ) (base : Database) (batch : ℕ) (history now : List Answered) (lines : List CountedLine)
+        → AreFilesOf schema table base → IsLegal (secret_table base.secret) history
+        → StopsOver base batch history lines before image sent → StandsFor image base.secret.shape now
+        → IsLegal (secret_table base.secret) now × IsUndisclosed (secret_table base.secret) now }
 {
     schema_json::laws::columns_of_a_schema();
     table_load::laws::secrets_of_a_table();
     audit_session::laws::stops();
+}
+
+/// In every life over one table the last history is legal, discloses no secret, and keeps all that was sent. A stop makes the
+/// life one run longer, and the next run is given what a run has to be given.
+pub fn lives()
+    ensures keep { LivesKeepPromise }
+    ensures go_on { LivesGoOn }
+    ensures longer { StopsMakeLives }
+{
+    schema_json::laws::columns_of_a_schema();
+    table_load::laws::secrets_of_a_table();
+    journal_form::laws::one_reading();
+    question_plan::laws::answered_lines();
+    audit_core::laws::legal_histories();
+    table_load::lists_of_secrets();
 }

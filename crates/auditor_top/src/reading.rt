@@ -1,5 +1,5 @@
 //! Reads a source to its end, or past a limit.
-ghost use Rattle.std.specs.Prelude.{◌≡◌, ◌≤◌, IfOk};
+ghost use Rattle.std.specs.Prelude.{◌≡◌, ◌≤◌, ◌+◌, length, IfOk, Err};
 ghost use Rattle.bench_core.specs.Causes.{Rose};
 ghost use Rattle.auditor_top.specs.Reading.{ReadsAll};
 
@@ -17,11 +17,13 @@ pub enum ReadFault {
     NoMemory,
 }
 
-/// Reads all bytes of a source, or stops behind byte number `most`.
+/// Reads all bytes of a source, or stops after more than `most`.
 pub fn read_all<P: Source>(alloc: Global, source: &mut P, most: usize) -> Result<Vec<u8>, ReadFault>
     ensures bytes { P.told → IfOk result (λ v. ReadsAll most (P.left source.old) (P.left source.new) v.items) }
+    ensures within { P.told → result ≡ Err ReadFault.Failed → length (P.left source.old) ≤ most + length (P.left source.new) }
     ensures later { P.faults source.old ≤ P.faults source.new }
     ensures failed { result ≡ Err ReadFault.Failed → Rose (P.faults source.old) (P.faults source.new) }
+    ensures steady { (result ≡ Err ReadFault.Failed → ⊥) → P.faults source.new ≡ P.faults source.old }
 {
     let mut bytes = Vec::new(alloc);
     let mut piece = [0u8; PIECE];

@@ -2,6 +2,10 @@
 ghost use Rattle.std.specs.Prelude.{◌≡◌, IfOk, string_bytes};
 ghost use Rattle.auditor_top.specs.Status as spec;
 
+use crate::files::FileFault;
+use crate::opening::OpenFault;
+use answer_journal::MakeFault;
+use audit_session::EndFault;
 use audit_store::StartFault;
 use audit_types::{NoMemory, Shape};
 use schema_json::SchemaFault;
@@ -50,11 +54,44 @@ pub enum Status {
     NoMemory,
 }
 
+impl From<OpenFault> for Status {
+    ghost use Rattle.std.specs.Prelude.{◌≡◌};
+    ghost use Rattle.auditor_top.specs.Status.{open_status};
+
+    ghost from_gives = { λ fault status. status ≡ open_status fault };
+
+    fn from(fault: OpenFault) -> Status {
+        match fault {
+            OpenFault::Schema(FileFault::Failed) => Status::SourceFault(Which::Schema),
+            OpenFault::Schema(FileFault::Bad(fault)) => Status::BadSchema(fault),
+            OpenFault::Table(FileFault::Failed) => Status::SourceFault(Which::Table),
+            OpenFault::Table(FileFault::Bad(fault)) => Status::BadTable(fault),
+            OpenFault::Schema(FileFault::NoMemory) | OpenFault::Table(FileFault::NoMemory) => {
+                Status::NoMemory
+            }
+        }
+    }
+}
+
+impl From<MakeFault> for Status {
+    ghost use Rattle.std.specs.Prelude.{◌≡◌};
+    ghost use Rattle.auditor_top.specs.Status.{make_status};
+
+    ghost from_gives = { λ fault status. status ≡ make_status fault };
+
+    fn from(fault: MakeFault) -> Status {
+        match fault {
+            MakeFault::AlreadyThere => Status::AlreadyThere,
+            MakeFault::Failed => Status::BenchFault,
+        }
+    }
+}
+
 impl From<StartFault> for Status {
     ghost use Rattle.std.specs.Prelude.{◌≡◌};
-    ghost use Rattle.auditor_top.specs.Status.{started_with};
+    ghost use Rattle.auditor_top.specs.Status.{start_status};
 
-    ghost from_gives = { λ fault status. status ≡ started_with fault };
+    ghost from_gives = { λ fault status. status ≡ start_status fault };
 
     fn from(fault: StartFault) -> Status {
         match fault {
@@ -69,7 +106,23 @@ impl From<StartFault> for Status {
     }
 }
 
-// Where a fault of the table is, as it is told behind the fault's number.
+impl From<EndFault> for Status {
+    ghost use Rattle.std.specs.Prelude.{◌≡◌};
+    ghost use Rattle.auditor_top.specs.Status.{end_status};
+
+    ghost from_gives = { λ fault status. status ≡ end_status fault };
+
+    fn from(fault: EndFault) -> Status {
+        match fault {
+            EndFault::Input => Status::SourceFault(Which::Input),
+            EndFault::Bench => Status::BenchFault,
+            EndFault::Limit => Status::InputLimit,
+            EndFault::NoMemory => Status::NoMemory,
+        }
+    }
+}
+
+// Where a fault of the table is, as it is told after the fault's number.
 #[derive(Clone, Copy, Drop)]
 struct Place(TableFault);
 

@@ -9,15 +9,8 @@ returns-in-Ok-load-clause-means g c = λ told.
     ∙ ap (table_of c.args.schema.now.columns) (sym c.as_slice.ensures.value)
     ∙ c.in-Ok-load.ensures.table
 
-pub returns : goal.returns
-returns g c = record {
-  means = λ told.
-      sym (same_table c.args.schema.now.columns _ _ c.in-Ok.bytes.items (c.in-Ok.ensures.bytes told))
-      ∙ ap (table_of c.args.schema.now.columns) (sym c.as_slice.ensures.value)
-      ∙ own_table_fault c.in-Err.fault _ (search rules) c.in-Err.ensures.table;
-  fits = tt;
-  shape = tt;
-  own = search rules;
-  later = search rules;
-  failed = search rules;
-}
+pub returns-clause-means : goal.returns-clause-means
+returns-clause-means g c = λ told.
+    sym (same_table c.args.schema.now.columns _ _ c.in-Ok.bytes.items (c.in-Ok.ensures.bytes told))
+    ∙ ap (table_of c.args.schema.now.columns) (sym c.as_slice.ensures.value)
+    ∙ own_table_fault c.in-Err.fault _ (search rules) c.in-Err.ensures.table

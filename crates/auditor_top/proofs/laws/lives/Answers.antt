@@ -1,0 +1,23 @@
+use Rattle.std.proofs.Common.{[]}
+use Rattle.table_load.specs.Cells.{TableView}
+use Rattle.table_load.specs.Database.{IsDatabase, secret_table}
+use Rattle.auditor_top.proofs.WholeLives.{nothing_is_legal, all_kept, stays_legal, lead_push}
+use Rattle.auditor_top.proofs.laws.lives.Goals as goal
+
+pub returns-clause-keep : goal.returns-clause-keep
+returns-clause-keep c = λ schema table base runs last files life.
+    let columns = c.columns_of_a_schema.ensures schema base.columns files.schema_is in
+    let meant : TableView = record { public = base.public; secret = base.secret } in
+    let numbers = c.secrets_of_a_table.ensures.secret base.columns table meant columns files.table_is in
+    let is : IsDatabase base = record { schema = columns; shape = c.secrets_of_a_table.ensures.shape base.columns table meant files.table_is } in
+    let legal = stays_legal c.one_reading.ensures base c.answered_lines.ensures is [] runs last (nothing_is_legal (secret_table base.secret)) life in
+    record { legal = legal; undisclosed = c.legal_histories.ensures (secret_table base.secret) last (c.lists_of_secrets.ensures base.secret numbers) legal; kept = all_kept c.one_reading.ensures base [] runs last life }
+
+pub returns-clause-go_on : goal.returns-clause-go_on
+returns-clause-go_on c = λ schema table image base runs last files life stands.
+    record { files = files; stands = stands; legal = (returns-clause-keep c schema table base runs last files life).legal }
+
+pub returns-clause-longer : goal.returns-clause-longer
+returns-clause-longer c = λ schema table image base runs history run files life batch stands stop.
+    let longer = lead_push base [] runs history run life (record { batch = batch; image = image; stands = stands; stop = stop }) in
+    (longer, returns-clause-keep c schema table base _ run.last files longer)

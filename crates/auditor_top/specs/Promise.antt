@@ -1,0 +1,34 @@
+-- The promise: in every life of runs over one table each answer that left is true and kept, and no secret is disclosed.
+--
+-- A life is runs of `serve` one after another, each ended or stopped at any moment (IsLife of audit_session). What it keeps
+-- is KeepsPromise there: the last history is legal and undisclosed (audit_types), and of each run the bytes that it sent are
+-- a front of the replies due to its lines (IsDue of question_plan), whose records are all in the last history. The clause
+-- `lives` of `run` is GoesOn: whatever moment a run over a life is stopped at, the life with that run keeps the promise.
+use Rattle.std.specs.Prelude.{List, ℕ, [], ◌∷◌, ◌++◌}
+use Rattle.audit_types.specs.declared.records.Answered.{Answered}
+use Rattle.table_load.specs.Database.{Database}
+use Rattle.line_wire.specs.Lines.{counted_lines}
+use Rattle.question_plan.specs.Replies.{IsDue}
+use Rattle.audit_session.specs.Stops.{Stop, IsBatch, stands_over}
+use Rattle.audit_session.specs.Lives.{Run, IsLife, KeepsPromise}
+use Rattle.auditor_top.specs.Commands.{AreFilesOf, ServesOver}
+
+-- a life with one run more is a life, and keeps the promise
+abbrev pub GoesOn : Database → List Run → Run → Type 0
+GoesOn base runs run = IsLife base (runs ++ run ∷ []) run.last × KeepsPromise base (runs ++ run ∷ []) run.last
+
+-- every life over the table of two files keeps the promise
+abbrev pub LivesKeepPromise : Type 0
+LivesKeepPromise = (schema table : List ℕ) (base : Database) (runs : List Run) (last : List Answered) → AreFilesOf schema table base → IsLife base runs last → KeepsPromise base runs last
+
+-- the next run of a life is given what a run has to be given, whatever image the last one left
+abbrev pub LivesGoOn : Type 0
+LivesGoOn =
+    (schema table image : List ℕ) (base : Database) (runs : List Run) (last : List Answered) → AreFilesOf schema table base → IsLife base runs last → stands_over base image last →
+    ServesOver schema table image base last
+
+-- a stop after a life makes it one run longer
+abbrev pub StopsMakeLives : Type 0
+StopsMakeLives =
+    (schema table image : List ℕ) (base : Database) (runs : List Run) (history : List Answered) (run : Run) → AreFilesOf schema table base → IsLife base runs history → IsBatch run.batch →
+    stands_over base image run.last → Stop (IsDue base) (stands_over base) run.batch history (counted_lines run.input) image run.sent → GoesOn base runs run
