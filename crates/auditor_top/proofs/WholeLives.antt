@@ -1,15 +1,15 @@
 -- What every life keeps.
-use Rattle.std.proofs.Common.{◌≡◌, ℕ, List, [], ◌∷◌, ◌++◌, Some, refl, sym, ◌∙◌, ap, subst, append_assoc, arith}
+use Rattle.std.proofs.Common.{◌≡◌, ℕ, List, [], ◌∷◌, ◌++◌, refl, sym, ◌∙◌, ap, subst, append_assoc, arith}
 use Rattle.std.proofs.lemmas.List.{append-nil}
 use Rattle.audit_types.specs.declared.shapes.Shape.{Shape}
 use Rattle.audit_types.specs.declared.records.Answered.{Answered}
-use Rattle.audit_types.specs.History.{Table, IsLegal, IsLegalRecord}
+use Rattle.audit_types.specs.History.{Table, IsLegal}
 use Rattle.journal_form.specs.Journal.{StandsAt}
 use Rattle.table_load.specs.Database.{Database, IsDatabase, secret_table}
 use Rattle.question_plan.specs.Session.{records_of}
 use Rattle.audit_session.specs.Stops.{IsFront}
 use Rattle.question_plan.specs.Laws.{RepliesKeepLegal}
-use Rattle.audit_session.specs.Lives.{Run, GoesFrom, Lead, KeepAll, KeepsRun}
+use Rattle.audit_session.specs.Lives.{Run, GoesFrom, Lead, KeepAll}
 
 -- one file has one history
 abbrev pub OneReading : Type 0
@@ -40,8 +40,7 @@ module _ (one : OneReading) (base : Database) where
   all_kept first [] last lead = tt
   all_kept first (run ∷ runs) last lead =
       let stop = lead.0.stop in
-      let rest = first_in_last run.last runs last lead.1 in
-      (
+      let rest = first_in_last run.last runs last lead.1 in (
         rest,
         record { count = _; replies = stop.replies; due = stop.due; sent = stop.so_far; kept = subst (λ (h : List Answered). IsFront h last) (left_is first run lead.0) rest },
         all_kept run.last runs last lead.1,

@@ -114,7 +114,5 @@ pub fn serve<P: Source, I: Source, B: Bench>(
         Ok(store) => store,
         Err(fault) => return Status::from(fault),
     };
-    ended(audit_session::serve(
-        alloc, &schema, &index, &mut store, input, bench, batch,
-    ))
+    ended(audit_session::serve(alloc, &schema, &index, &mut store, input, bench, batch))
 }

@@ -1,4 +1,4 @@
-use Rattle.std.proofs.Common.{◌≡◌, ℕ, List, ◌++◌, Bool, true, false, Option, Some, map, string_bytes, refl, sym, ◌∙◌, ap, subst}
+use Rattle.std.proofs.Common.{◌≡◌, ℕ, List, ◌++◌, Option, Some, refl, sym, ◌∙◌, ap, subst}
 use Rattle.std.proofs.lemmas.List.{append_cancel_left}
 use Rattle.bench_core.specs.Calls.{LeavesOnly}
 use Rattle.line_wire.specs.Lines.{counted_lines}
@@ -7,7 +7,7 @@ use Rattle.audit_session.specs.Stops.{Stop, StopsOver, stands_over}
 use Rattle.auditor_top.specs.declared.words.Command.{Command}
 use Rattle.auditor_top.specs.declared.words.Command.TheVariants.{Init, Serve}
 use Rattle.auditor_top.specs.Words.{command_of}
-use Rattle.auditor_top.specs.Commands.{reads_files, reads_lines, writes}
+use Rattle.auditor_top.specs.Commands.{reads_lines}
 use Rattle.auditor_top.specs.Causes.{WordCause, FileCause}
 use Rattle.auditor_top.specs.Ends.{ServeEnds, outside}
 use Rattle.auditor_top.proofs.Named.{one_command, one_batch, not_false}
