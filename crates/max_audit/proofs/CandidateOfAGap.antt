@@ -9,7 +9,7 @@ use Rattle.std.proofs.lemmas.Int.{ints, by_lt_z}
 use Rattle.audit_types.specs.Column.{Answer, IsOneOf}
 use Rattle.audit_types.specs.Extremes.{IsCandidate}
 use Rattle.audit_types.specs.Extremes.IsCandidate.{first, equal, above, below}
-use Rattle.max_audit.proofs.Answers.{all_at, all_from}
+use Rattle.max_bounds.specs.AnswerLaws.{all_at, all_from}
 use Rattle.max_audit.proofs.AnswersInOneGap.{LiesAlike}
 
 -- a number is below another, equal or above

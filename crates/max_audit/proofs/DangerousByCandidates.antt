@@ -9,8 +9,8 @@ use Rattle.audit_types.specs.Column.{Answer, Agrees, GivesSameAnswers, IsWellFor
 use Rattle.audit_types.specs.Extremes.{upper_bound, is_bound}
 use Rattle.max_audit.specs.Witnesses.{highest}
 use Rattle.max_audit.specs.Laws.{LeavesLoneRow, DangerousByCandidates}
-use Rattle.max_audit.proofs.Answers.{all_at, all-push, all-front}
-use Rattle.max_audit.proofs.RowLists.{has_first, row_below, filter-has}
+use Rattle.max_bounds.specs.AnswerLaws.{all_at, all-push, all-front}
+use Rattle.max_bounds.specs.RowListLaws.{has_first, row_below, filter-has}
 use Rattle.max_audit.proofs.LoneRowsAreFixed.{lone_value}
 use Rattle.max_audit.proofs.OtherRowsAreFree.{highest_agrees_law, lone_or_free, possible_by_extremes}
 use Rattle.max_audit.proofs.AnswersInOneGap.{moved}
@@ -35,7 +35,7 @@ module _ (n : ℕ) (answers : List Answer) (rows : List ℕ) (well : IsWellForme
       record { agrees = record { one_each = agrees.one_each; same = parts.0 }; same = parts.1 }
 
   -- danger: the answer that shows it is possible and leaves the disclosed row lone
-  danger_leaves_lone_row : (danger : IsDangerous (known_max n answers) rows) → LeavesLoneRow (known_max n answers) rows (greatest_over danger.w rows)
+  pub danger_leaves_lone_row : (danger : IsDangerous (known_max n answers) rows) → LeavesLoneRow (known_max n answers) rows (greatest_over danger.w rows)
   danger_leaves_lone_row danger =
       let value = greatest_over danger.w rows in
       let agrees : Agrees (known_max n (answered value)) danger.w = record {
@@ -53,7 +53,7 @@ module _ (n : ℕ) (answers : List Answer) (rows : List ℕ) (well : IsWellForme
       }
 
   -- an answer that is possible and leaves a lone row makes the question dangerous
-  lone_row_endangers : (value : ℤ) → LeavesLoneRow (known_max n answers) rows value → IsDangerous (known_max n answers) rows
+  pub lone_row_endangers : (value : ℤ) → LeavesLoneRow (known_max n answers) rows value → IsDangerous (known_max n answers) rows
   lone_row_endangers value leaves =
       let last : Answer = record { rows = rows; value = value } in
       let w = highest n (answered value) in

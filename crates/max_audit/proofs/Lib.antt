@@ -1,5 +1,3 @@
-pub mod Answers
-pub mod RowLists
 pub mod Greatest
 pub mod UpperBounds
 pub mod LoneRowsAreFixed
@@ -7,6 +5,8 @@ pub mod OtherRowsAreFree
 pub mod AnswersInOneGap
 pub mod CandidateOfAGap
 pub mod DangerousByCandidates
+pub mod OneMore
+pub mod DangerousByExtremes
 pub mod CandidateLists
 pub mod Trials
 pub mod LeastFixed

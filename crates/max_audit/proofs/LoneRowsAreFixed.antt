@@ -11,10 +11,11 @@ use Rattle.audit_types.specs.Truth.{number_at, greatest_over}
 use Rattle.audit_types.specs.Column.{Answer, IsOneOf, known_max}
 use Rattle.audit_types.specs.Extremes.{upper_bound, is_bound, extremes, IsLone}
 use Rattle.max_audit.specs.Laws.{IsFixed}
-use Rattle.max_audit.proofs.Answers.{all_at}
-use Rattle.max_audit.proofs.RowLists.{first_or_later, has-filter}
+use Rattle.max_bounds.specs.AnswerLaws.{all_at}
+use Rattle.max_bounds.specs.RowListLaws.{first_or_later, has-filter}
 use Rattle.max_audit.proofs.Greatest.{reached}
-use Rattle.max_audit.proofs.UpperBounds.{Gives, below_bound, bound_below, bound_is}
+use Rattle.max_bounds.specs.BoundLaws.{bound_below, bound_is}
+use Rattle.max_audit.proofs.UpperBounds.{Gives, below_bound}
 
 -- where a list gives all answers, each answer has an extreme row with its value
 pub extreme_row : (w : List ℤ) (answers : List Answer) (a : Answer) → Gives w answers → IsOneOf a answers → a.rows ≢ [] →

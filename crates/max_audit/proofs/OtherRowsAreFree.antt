@@ -14,10 +14,11 @@ use Rattle.audit_types.specs.Column.{Answer, Agrees, IsOneOf, IsWellFormed, know
 use Rattle.audit_types.specs.Extremes.{upper_bound, is_bound, extremes, IsLone, IsConsistent}
 use Rattle.max_audit.specs.Witnesses.{bound_or_zero, highest, lowered_at}
 use Rattle.max_audit.specs.Laws.{PossibleByExtremes, FixedByLoneRows, HighestAgrees, LoneOrLowered, LoneOrFree}
-use Rattle.max_audit.proofs.Answers.{all_at, all_from, one_or_none}
-use Rattle.max_audit.proofs.RowLists.{row_below, filter-has, filter-ascends, only_or_not, other_row, some_row, not_empty}
+use Rattle.max_bounds.specs.AnswerLaws.{all_at, all_from, one_or_none}
+use Rattle.max_bounds.specs.RowListLaws.{row_below, filter-has, filter-ascends, only_or_not, other_row, some_row, not_empty}
 use Rattle.max_audit.proofs.Greatest.{greatest_is}
-use Rattle.max_audit.proofs.UpperBounds.{bound_below, bound_from, some_is}
+use Rattle.max_bounds.specs.BoundLaws.{bound_below}
+use Rattle.max_audit.proofs.UpperBounds.{bound_from, some_is}
 use Rattle.max_audit.proofs.LoneRowsAreFixed.{extreme_row, lone_rows_are_fixed}
 
 -- the number of a row in the highest list

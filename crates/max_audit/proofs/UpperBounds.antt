@@ -1,5 +1,5 @@
--- Upper bounds: a number that gives the answers is at most its row's bound, and the bound is at most each answer that holds the row.
-use Rattle.std.proofs.Common.{◌≡◌, ℕ, ℤ, Bool, true, false, cond, List, [], ◌∷◌, refl, sym, ap, ◌∙◌, subst, arith, inl, inr, Option, Some, None}
+-- Upper bounds: a number that gives the answers is at most its row's bound.
+use Rattle.std.proofs.Common.{◌≡◌, ℕ, ℤ, Bool, true, false, cond, List, [], ◌∷◌, refl, sym, subst, arith, Option, Some, None}
 use Rattle.std.specs.Prelude.{◌≤ℤ◌}
 use Rattle.std.specs.Int.{int_min}
 use Rattle.std.specs.List.{AllByRecursion}
@@ -8,7 +8,7 @@ use Rattle.std.proofs.lemmas.Bool.{true≢false}
 use Rattle.std.proofs.lemmas.Bool.Decides.{Decides-int_eq}
 use Rattle.audit_types.specs.Rows.{has_row}
 use Rattle.audit_types.specs.Truth.{number_at, greatest_over}
-use Rattle.audit_types.specs.Column.{Answer, IsOneOf}
+use Rattle.audit_types.specs.Column.{Answer}
 use Rattle.audit_types.specs.Extremes.{least_of, upper_bound, is_bound}
 use Rattle.max_audit.specs.Witnesses.{bound_or_zero}
 use Rattle.max_audit.proofs.Greatest.{at_most}
@@ -30,30 +30,6 @@ below_bound w (a ∷ answers) q b gives e =
     below_step (has_row a.rows q) (upper_bound answers q) a.value b (number_at w q)
     (λ there. let most = at_most w a.rows q there in subst (λ z. number_at w q ≤ℤ z) gives.0 most)
     (λ c f. below_bound w answers q c gives.1 f) e
-
--- the bound of a row is at most the first answer that holds it
-bound_step : (has : Bool) (o : Option ℤ) (value : ℤ) → has ≡ true → (b : ℤ) × (cond has (Some (least_of value o)) o ≡ Some b) × (b ≤ℤ value)
-bound_step true None value h = (value, refl, omega (arith, ints))
-bound_step true (Some c) value h = (int_min value c, refl, omega (arith, ints, clamps))
-bound_step false o value h = absurd cc
-
--- and stays below what it was below
-later_step : (has : Bool) (o : Option ℤ) (value top : ℤ) → (b : ℤ) × (o ≡ Some b) × (b ≤ℤ top) → (b : ℤ) × (cond has (Some (least_of value o)) o ≡ Some b) × (b ≤ℤ top)
-later_step true None value top (b, e, l) = absurd cc
-later_step true (Some c) value top (b, e, l) = let same : c ≡ b = cc in (int_min value c, refl, omega (arith, ints, clamps))
-later_step false o value top h = h
-
--- the bound of a row is at most the value of each answer that holds it
-pub bound_below : (answers : List Answer) (a : Answer) (q : ℕ) → IsOneOf a answers → has_row a.rows q ≡ true → (b : ℤ) × (upper_bound answers q ≡ Some b) × (b ≤ℤ a.value)
-bound_below [] a q one there = absurd one
-bound_below (x ∷ answers) a q (inl e) there =
-    subst (λ (y : Answer). (b : ℤ) × (upper_bound (x ∷ answers) q ≡ Some b) × (b ≤ℤ y.value)) e
-    (bound_step (has_row x.rows q) (upper_bound answers q) x.value (ap (λ (y : Answer). has_row y.rows q) e ∙ there))
-bound_below (x ∷ answers) a q (inr later) there = later_step (has_row x.rows q) (upper_bound answers q) x.value a.value (bound_below answers a q later there)
-
--- a bound that is this number
-pub bound_is : (o : Option ℤ) (b a : ℤ) → o ≡ Some b → b ≡ a → is_bound o a ≡ true
-bound_is o b a e f = rw e ((Decides-int_eq b a).1 f)
 
 -- where the bound is this number, it is the number that stands for it
 pub bound_from : (o : Option ℤ) (a : ℤ) → is_bound o a ≡ true → bound_or_zero o ≡ a

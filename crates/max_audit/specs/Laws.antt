@@ -4,6 +4,7 @@ use Rattle.audit_types.specs.Rows.{AreRows}
 use Rattle.audit_types.specs.Truth.{number_at}
 use Rattle.audit_types.specs.Column.{Known, Answer, Agrees, IsWellFormed, IsPossible, IsDangerous, known_max, with_answer}
 use Rattle.audit_types.specs.Extremes.{IsConsistent, IsLone, IsCandidate}
+use Rattle.max_bounds.specs.Outside.{IsDangerousByExtremes}
 use Rattle.max_audit.specs.Witnesses.{highest, lowered_at}
 
 -- answered maxima are possible exactly where each has an extreme row
@@ -56,3 +57,8 @@ pub record HasBadCandidate (known : Known) (rows : List ℕ) : Type 0 where
 abbrev pub DangerousByCandidates : Type 0
 DangerousByCandidates = (n : ℕ) (answers : List Answer) (rows : List ℕ) → IsWellFormed (known_max n answers) → AreRows n rows → rows ≢ [] →
     IsDangerous (known_max n answers) rows ↔ HasBadCandidate (known_max n answers) rows
+
+-- a maximum is dangerous exactly where the extreme rows of the answers before it tell so, with no number beyond these answers
+abbrev pub DangerousByExtremes : Type 0
+DangerousByExtremes = (n : ℕ) (answers : List Answer) (rows : List ℕ) → IsWellFormed (known_max n answers) → AreRows n rows → rows ≢ [] →
+    IsDangerous (known_max n answers) rows ↔ IsDangerousByExtremes answers rows

@@ -1,5 +1,5 @@
 //! Laws of answered maxima. Each function computes nothing: its contract is the law.
-ghost use Rattle.max_audit.specs.Laws.{PossibleByExtremes, FixedByLoneRows, HighestAgrees, LoneOrLowered, LoneOrFree, DangerousByCandidates};
+ghost use Rattle.max_audit.specs.Laws.{PossibleByExtremes, FixedByLoneRows, HighestAgrees, LoneOrLowered, LoneOrFree, DangerousByCandidates, DangerousByExtremes};
 
 /// Answered maxima are possible exactly where each has an extreme row: one whose upper bound is the answer.
 pub fn possible_by_extreme_rows()
@@ -22,4 +22,11 @@ pub fn others_are_free()
 /// is possible and leaves a lone row. So finitely many answers stand for all whole numbers.
 pub fn dangerous_by_candidates()
     ensures { DangerousByCandidates }
+{}
+
+/// A maximum is dangerous exactly where each answer has an extreme row, and there is a lone row, or one row of the set is
+/// above the others, or the set strands a row: it holds all extreme rows of some answer but one, and each answer that loses
+/// all of its own is lower. No candidate is tried, and the list of answers may be one that no table gives.
+pub fn dangerous_by_extremes()
+    ensures { DangerousByExtremes }
 {}

@@ -8,6 +8,7 @@ use Rattle.audit_types.specs.Rows.{has_row, AscendsFrom, AreRows}
 use Rattle.audit_types.specs.Column.{Answer}
 use Rattle.audit_types.specs.Extremes.{least_of, upper_bound}
 use Rattle.max_bounds.specs.Reaching.{bound_at, bound_with}
+use Rattle.max_bounds.specs.BoundLaws.{upper_bound-push}
 
 -- the rows of a table have a place in the array
 pub rows_within : (low n : ℕ) (rows : List ℕ) → n ≤ 1024 → AscendsFrom low n rows → AllByRecursion (λ q. q < 1024) rows
@@ -66,22 +67,6 @@ lowering_step answer rows before q rest bounds h = record {
 -- at the end the array has the bounds with the answer
 pub lowering_ends : (answer : ℤ) (rows : List ℕ) (before bounds : List (Option ℤ)) → IsLowering answer rows before [] bounds → (r : ℕ) → bound_at bounds r ≡ bound_with rows answer r (bound_at before r)
 lowering_ends answer rows before bounds h = h.lowered
-
--- the least of two answers and a bound, in either order
-either_first : (first last : Bool) (a b : ℤ) (o : Option ℤ) →
-    cond first (Some (least_of a (cond last (Some (least_of b o)) o))) (cond last (Some (least_of b o)) o)
-    ≡ cond last (Some (least_of b (cond first (Some (least_of a o)) o))) (cond first (Some (least_of a o)) o)
-either_first true true a b None = ap Some (omega (arith, ints, clamps))
-either_first true true a b (Some c) = ap Some (omega (arith, ints, clamps))
-either_first true false a b o = refl
-either_first false true a b o = refl
-either_first false false a b o = refl
-
--- the upper bound with one answer more behind the others
-pub upper_bound-push : (answers : List Answer) (x : Answer) (r : ℕ) → upper_bound (answers ++ x ∷ []) r ≡ bound_with x.rows x.value r (upper_bound answers r)
-upper_bound-push [] x r = refl
-upper_bound-push (a ∷ answers) x r =
-    rw (upper_bound-push answers x r) (either_first (has_row a.rows r) (has_row x.rows r) a.value x.value (upper_bound answers r))
 
 -- an array of bounds: that of each row in these answers
 pub record AreBounds (answers : List Answer) (bounds : List (Option ℤ)) : Type 0 where

@@ -7,9 +7,10 @@ use Rattle.std.specs.Option.{option_eq}
 use Rattle.std.specs.Ordering.{int_eq}
 use Rattle.audit_types.specs.Rows.{AreRows}
 use Rattle.audit_types.specs.Extremes.{is_bound}
-use Rattle.audit_types.specs.Column.{Answer, IsOneOf}
+use Rattle.audit_types.specs.Column.{Answer}
 use Rattle.max_bounds.specs.declared.survey.Trial.{Trial}
 use Rattle.max_bounds.specs.Reaching.{reaching, lone_of, lesser_of, IsLeast, IsAlone, TellsOf}
+use Rattle.max_bounds.specs.AnswerLaws.{all-push, all-front, one_of_front, one_of_last, front_or_last}
 use Rattle.max_bounds.proofs.Lowering.{rows_within, rows_at_most}
 
 -- the code's test of a bound
@@ -114,41 +115,18 @@ module _ (bound : ℕ → Option ℤ) where
       IsTrue after.consistent ↔ (IsTrue trial.consistent × (0 < count)) → after.lone ≡ lesser_of trial.lone only → TellsOf bound (answers ++ x ∷ []) after
   TellsOf-push answers x trial after count only h counted alone both least = record {
     consistent = (
-      (λ yes. let parts = both.0 yes in all-push answers (h.consistent.0 parts.0) (omega (arith, parts.1))),
-      (λ all. let parts = all-front answers all in both.1 (h.consistent.1 parts.0, omega (arith, parts.1))),
+      (λ yes. let parts = both.0 yes in all-push (λ a. 0 < length (reaching bound a.rows a.value)) answers x (h.consistent.0 parts.0) (omega (arith, parts.1))),
+      (λ all. let parts = all-front (λ a. 0 < length (reaching bound a.rows a.value)) answers x all in both.1 (h.consistent.1 parts.0, omega (arith, parts.1))),
     );
     lone = subst (IsLeast (IsAlone bound (answers ++ x ∷ []))) (sym least)
         (same_least (λ r. IsAlone bound answers r ⊎ (reaching bound x.rows x.value ≡ r ∷ [])) (IsAlone bound (answers ++ x ∷ [])) (lesser_of trial.lone only)
         (λ r either. elim either [
-          | inl (a, one, is) ↦ (a, one_of_front answers a one, is)
-          | inr is ↦ (x, one_of_last answers, is)
+          | inl (a, one, is) ↦ (a, one_of_front answers x a one, is)
+          | inr is ↦ (x, one_of_last answers x, is)
         ])
-        (λ r (a, one, is). elim (front_or_last answers a one) [
+        (λ r (a, one, is). elim (front_or_last answers x a one) [
           | inl front ↦ inl (a, front, is)
           | inr last ↦ inr (ap (λ (y : Answer). reaching bound y.rows y.value) last ∙ is)
         ])
         (lesser_is_least (IsAlone bound answers) (λ r. reaching bound x.rows x.value ≡ r ∷ []) trial.lone only h.lone (subst (IsLeast (λ r. reaching bound x.rows x.value ≡ r ∷ [])) (sym alone) (lone_is_least (reaching bound x.rows x.value)))));
   }
-    where
-      all-push : (xs : List Answer) → AllByRecursion (λ a. 0 < length (reaching bound a.rows a.value)) xs → 0 < length (reaching bound x.rows x.value) → AllByRecursion (λ a. 0 < length (reaching bound a.rows a.value)) (xs ++ x ∷ [])
-      all-push [] h p = (p, tt)
-      all-push (y ∷ xs) h p = (h.0, all-push xs h.1 p)
-
-      all-front : (xs : List Answer) → AllByRecursion (λ a. 0 < length (reaching bound a.rows a.value)) (xs ++ x ∷ []) → AllByRecursion (λ a. 0 < length (reaching bound a.rows a.value)) xs × (0 < length (reaching bound x.rows x.value))
-      all-front [] h = (tt, h.0)
-      all-front (y ∷ xs) h = let rest = all-front xs h.1 in ((h.0, rest.0), rest.1)
-
-      one_of_front : (xs : List Answer) (a : Answer) → IsOneOf a xs → IsOneOf a (xs ++ x ∷ [])
-      one_of_front [] a one = absurd one
-      one_of_front (y ∷ xs) a (inl e) = inl e
-      one_of_front (y ∷ xs) a (inr later) = inr (one_of_front xs a later)
-
-      one_of_last : (xs : List Answer) → IsOneOf x (xs ++ x ∷ [])
-      one_of_last [] = inl refl
-      one_of_last (y ∷ xs) = inr (one_of_last xs)
-
-      front_or_last : (xs : List Answer) (a : Answer) → IsOneOf a (xs ++ x ∷ []) → IsOneOf a xs ⊎ (x ≡ a)
-      front_or_last [] a (inl e) = inr e
-      front_or_last [] a (inr later) = absurd later
-      front_or_last (y ∷ xs) a (inl e) = inl (inl e)
-      front_or_last (y ∷ xs) a (inr later) = elim (front_or_last xs a later) [ inl one ↦ inl (inr one) | inr e ↦ inr e ]

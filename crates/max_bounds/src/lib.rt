@@ -6,6 +6,7 @@
 mod answered;
 mod bounds;
 mod extreme_rows;
+pub mod laws;
 mod survey;
 mod upper_bounds;
 

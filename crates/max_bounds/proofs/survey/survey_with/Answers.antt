@@ -5,7 +5,7 @@ use Rattle.std.proofs.lemmas.Int.{to_z-of_z}
 use Rattle.audit_types.specs.Column.{Answer}
 use Rattle.max_bounds.specs.Maxima.{answers_of, and_answer}
 use Rattle.max_bounds.specs.Reaching.{bound_at, bound_with, reaching, lone_of, TellsOf}
-use Rattle.max_bounds.proofs.Lowering.{upper_bound-push}
+use Rattle.max_bounds.specs.BoundLaws.{upper_bound-push}
 use Rattle.max_bounds.proofs.Surveys.{TellsOf-push}
 use Rattle.max_bounds.proofs.survey.survey_with.Goals as goal
 

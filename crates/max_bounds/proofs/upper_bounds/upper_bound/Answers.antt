@@ -2,7 +2,7 @@ use Rattle.std.proofs.Common.{ap, ◌∙◌}
 use Rattle.std.proofs.lemmas.List.{map_more}
 use Rattle.max_bounds.specs.Maxima.{answer_of}
 use Rattle.max_bounds.specs.Reaching.{bound_with}
-use Rattle.max_bounds.proofs.Lowering.{upper_bound-push}
+use Rattle.max_bounds.specs.BoundLaws.{upper_bound-push}
 use Rattle.max_bounds.proofs.upper_bounds.upper_bound.Goals as goal
 
 pub loop-pair-preserved : goal.loop-pair-preserved

@@ -1,4 +1,4 @@
--- Ascending lists of rows, filtered.
+-- Laws of ascending lists of rows, filtered.
 use Rattle.std.proofs.Common.{◌≡◌, ◌≢◌, ℕ, ◌+◌, ◌<◌, ◌≤◌, Bool, true, false, cond, ◌==◌, List, [], ◌∷◌, length, refl, sym, ap, ◌∙◌, arith, inl, inr, ◌⊎◌}
 use Rattle.std.specs.List.{filter}
 use Rattle.std.proofs.lemmas.Bool.{eqb-true, or_cases, eq-eqb, or_left, or_right, cases_eq, true≢false}

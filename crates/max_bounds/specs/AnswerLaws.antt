@@ -1,4 +1,4 @@
--- Facts about each answer of a list.
+-- Laws of what holds of each answer of a list.
 use Rattle.std.proofs.Common.{◌≡◌, List, [], ◌∷◌, ◌++◌, refl, subst, inl, inr, ◌⊎◌}
 use Rattle.std.specs.List.{AllByRecursion}
 use Rattle.audit_types.specs.Column.{Answer, IsOneOf}

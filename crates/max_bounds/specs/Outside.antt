@@ -1,0 +1,36 @@
+-- When a question on maxima is dangerous, told from the extreme rows of the answers before it.
+use Rattle.std.specs.Prelude.{◌≡◌, ◌≢◌, ◌⊎◌, ℕ, ℤ, ◌<ℤ◌, true, not, List, [], length, Option, Some, None}
+use Rattle.std.specs.List.{filter}
+use Rattle.audit_types.specs.Rows.{has_row}
+use Rattle.audit_types.specs.Column.{Answer, IsOneOf}
+use Rattle.audit_types.specs.Extremes.{upper_bound, extremes, IsConsistent, IsLone}
+
+-- the rows of a list that are outside a set
+abbrev pub outside : List ℕ → List ℕ → List ℕ
+outside set rows = filter (λ r. not (has_row set r)) rows
+
+-- a bound is below another, where a row without a bound stands above all
+abbrev pub IsBelowBound : Option ℤ → Option ℤ → Type 0
+IsBelowBound None bound = ⊥
+IsBelowBound (Some b) None = Unit {0}
+IsBelowBound (Some b) (Some c) = b <ℤ c
+
+-- the bound of one row of the set is above those of its other rows
+abbrev pub HasOneHighest : (ℕ → Option ℤ) → List ℕ → Type 0
+HasOneHighest bound rows = (r : ℕ) × (has_row rows r ≡ true) × ((q : ℕ) → has_row rows q ≡ true → q ≢ r → IsBelowBound (bound q) (bound r))
+
+-- of sets with their answers: of one set all rows but one lie in the question's, and each that lies there whole has a lower answer
+pub record IsStranded (extreme_rows : Answer → List ℕ) (answers : List Answer) (rows : List ℕ) (a : Answer) : Type 0 where
+  pub one : IsOneOf a answers
+  pub one_left : length (outside rows (extreme_rows a)) ≡ 1
+  pub lower : (b : Answer) → IsOneOf b answers → outside rows (extreme_rows b) ≡ [] → b.value <ℤ a.value
+
+-- some set is stranded
+abbrev pub HasStranded : (Answer → List ℕ) → List Answer → List ℕ → Type 0
+HasStranded extreme_rows answers rows = (a : Answer) × IsStranded extreme_rows answers rows a
+
+-- each answer has an extreme row; and some row is lone, or one row of the set is highest, or all extreme rows of some answer but
+-- one lie in the set while each answer that loses all of them is lower
+pub record IsDangerousByExtremes (answers : List Answer) (rows : List ℕ) : Type 0 where
+  pub consistent : IsConsistent answers
+  pub cause : ((r : ℕ) × IsLone answers r) ⊎ (HasOneHighest (upper_bound answers) rows ⊎ HasStranded (extremes answers) answers rows)
