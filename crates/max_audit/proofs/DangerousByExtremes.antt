@@ -15,26 +15,15 @@ use Rattle.audit_types.specs.Column.{Answer, IsOneOf, known_max}
 use Rattle.audit_types.specs.Extremes.{upper_bound, is_bound, extremes, IsLone, IsConsistent}
 use Rattle.max_bounds.specs.Outside.{outside, IsBelowBound, HasOneHighest, IsStranded, HasStranded, IsDangerousByExtremes}
 use Rattle.max_bounds.specs.AnswerLaws.{all_at, all_from, all-push, one_of_front, one_of_last, front_or_last}
-use Rattle.max_bounds.specs.RowListLaws.{has_first, has_later, first_or_later, filter-has, filter-ascends, only_or_not, other_row, some_row, not_empty}
+use Rattle.max_bounds.specs.RowListLaws.{has_first, has_later, first_or_later, filter-has, filter-ascends, only_or_not, other_row, some_row, not_empty, some_length, one_row}
 use Rattle.max_bounds.specs.BoundLaws.{exact_bound}
 use Rattle.max_audit.specs.Laws.{LeavesLoneRow, DangerousByExtremes}
-use Rattle.max_audit.proofs.OneMore.{IsAtLeast, asked, with_asked, keeps_extremes, lower_keeps, higher_loses, asked_has, has_asked}
+use Rattle.max_bounds.specs.OneMoreLaws.{IsAtLeast, asked, with_asked, keeps_extremes, lower_keeps, higher_loses, asked_has, has_asked}
 use Rattle.max_audit.proofs.DangerousByCandidates.{danger_leaves_lone_row, lone_row_endangers}
-
--- a list that is not empty has a row
-some_length : (rows : List ℕ) → (rows ≡ [] → ⊥) → 0 < length rows
-some_length [] full = absurd (full refl)
-some_length (r ∷ rows) full = omega arith
 
 -- an empty list has none
 none_in : (rows : List ℕ) → rows ≡ [] → 0 < length rows → ⊥
 none_in rows e some = let short = ap length e in absurd (omega arith)
-
--- the row of a list of one
-one_row : (rows : List ℕ) → length rows ≡ 1 → (r : ℕ) × (rows ≡ r ∷ [])
-one_row [] e = absurd (omega arith)
-one_row (r ∷ []) e = (r, refl)
-one_row (r ∷ q ∷ rows) e = absurd (omega arith)
 
 -- a list with one row, and no other, is that row
 just_one : (n : ℕ) (rows : List ℕ) (r : ℕ) → AreRows n rows → has_row rows r ≡ true → ((q : ℕ) → has_row rows q ≡ true → q ≢ r → ⊥) → rows ≡ r ∷ []
@@ -87,25 +76,31 @@ module _ (answers : List Answer) (rows : List ℕ) where
     -- a lone row of the new answer is the one highest
     highest_from : (r : ℕ) → extremes (with_asked answers rows x) (asked answers rows x) ≡ r ∷ [] → HasOneHighest (upper_bound answers) rows
     highest_from r only =
-        let first = has_asked answers rows x r (ap (λ l. has_row l r) only ∙ has_first r []) in
-        (r, first.0, λ q there apart.
-            below_from x (upper_bound answers q) (upper_bound answers r)
-            (λ high.
-            let found = ap (λ l. has_row l q) (sym only) ∙ asked_has answers rows x q there high in
-            elim (first_or_later r q [] found) [ inl same ↦ absurd (apart (sym same)) | inr none ↦ absurd (true≢false (sym none)) ])
-            first.1)
+        let first = has_asked answers rows x r (ap (λ l. has_row l r) only ∙ has_first r []) in (
+          r,
+          first.0,
+          λ q there apart.
+              below_from x (upper_bound answers q) (upper_bound answers r)
+              (λ high.
+              let found = ap (λ l. has_row l q) (sym only) ∙ asked_has answers rows x q there high in
+              elim (first_or_later r q [] found) [ inl same ↦ absurd (apart (sym same)) | inr none ↦ absurd (true≢false (sym none)) ])
+              first.1,
+        )
 
     -- a lone row of an earlier answer was lone, or is left by the set
     earlier_from : (a : Answer) (r : ℕ) → IsOneOf a answers → extremes (with_asked answers rows x) a ≡ r ∷ [] →
         ((q : ℕ) × IsLone answers q) ⊎ HasStranded (extremes answers) answers rows
     earlier_from a r one only = by_lt_z x a.value
-        (λ less. inr (a, record {
-          one = one;
-          one_left = ap length (sym (higher_loses answers rows x a one less) ∙ only);
-          lower = λ b among none. by_lt_z x b.value
-              (λ above. absurd (none_in (extremes (with_asked answers rows x) b) (higher_loses answers rows x b among above ∙ none) (still b (one_of_front answers (asked answers rows x) b among))))
-              (λ not. omega (arith, ints));
-        }))
+        (λ less. inr (
+          a,
+          record {
+            one = one;
+            one_left = ap length (sym (higher_loses answers rows x a one less) ∙ only);
+            lower = λ b among none. by_lt_z x b.value
+                (λ above. absurd (none_in (extremes (with_asked answers rows x) b) (higher_loses answers rows x b among above ∙ none) (still b (one_of_front answers (asked answers rows x) b among))))
+                (λ not. omega (arith, ints));
+          },
+        ))
         (λ not. inl (r, (a, one, sym (lower_keeps answers rows x a one (omega (arith, ints))) ∙ only)))
 
     to_extremes : IsDangerousByExtremes answers rows
@@ -132,14 +127,20 @@ limit_of bound (r ∷ rows) = more (bound r) refl (limit_of bound rows)
   where
     more : (o : Option ℤ) → bound r ≡ o → ((m : ℤ) × ((q : ℕ) (b : ℤ) → has_row rows q ≡ true → bound q ≡ Some b → b ≤ℤ m)) →
         (m : ℤ) × ((q : ℕ) (b : ℤ) → has_row (r ∷ rows) q ≡ true → bound q ≡ Some b → b ≤ℤ m)
-    more None none (m, low) = (m, λ q b there is. elim (first_or_later r q rows there) [
-      | inl same ↦ absurd (let clash : None ≡ Some b = sym none ∙ ap bound same ∙ is in cc)
-      | inr later ↦ low q b later is
-    ])
-    more (Some c) some (m, low) = (int_max c m, λ q b there is. elim (first_or_later r q rows there) [
-      | inl same ↦ let equal : Some c ≡ Some b = sym some ∙ ap bound same ∙ is in let is_c : c ≡ b = cc in omega (arith, ints, clamps)
-      | inr later ↦ let under = low q b later is in omega (arith, ints, clamps)
-    ])
+    more None none (m, low) = (
+      m,
+      λ q b there is. elim (first_or_later r q rows there) [
+        | inl same ↦ absurd (let clash : None ≡ Some b = sym none ∙ ap bound same ∙ is in cc)
+        | inr later ↦ low q b later is
+      ],
+    )
+    more (Some c) some (m, low) = (
+      int_max c m,
+      λ q b there is. elim (first_or_later r q rows there) [
+        | inl same ↦ let equal : Some c ≡ Some b = sym some ∙ ap bound same ∙ is in let is_c : c ≡ b = cc in omega (arith, ints, clamps)
+        | inr later ↦ let under = low q b later is in omega (arith, ints, clamps)
+      ],
+    )
 
 -- a row without a bound, or one with the greatest
 abbrev FreeOrGreatest : (ℕ → Option ℤ) → List ℕ → Type 0
@@ -151,24 +152,42 @@ free_or_greatest bound r [] = single (bound r) refl
   where
     single : (o : Option ℤ) → bound r ≡ o → FreeOrGreatest bound (r ∷ [])
     single None none = inl (r, has_first r [], none)
-    single (Some b) some = inr (r, b, has_first r [], some, λ q there. elim (first_or_later r q [] there) [
-      | inl same ↦ (b, ap bound (sym same) ∙ some, omega (arith, ints))
-      | inr later ↦ absurd (true≢false (sym later))
-    ])
+    single (Some b) some = inr (
+      r,
+      b,
+      has_first r [],
+      some,
+      λ q there. elim (first_or_later r q [] there) [
+        | inl same ↦ (b, ap bound (sym same) ∙ some, omega (arith, ints))
+        | inr later ↦ absurd (true≢false (sym later))
+      ],
+    )
 free_or_greatest bound r (s ∷ rows) = more (bound r) refl (free_or_greatest bound s rows)
   where
     more : (o : Option ℤ) → bound r ≡ o → FreeOrGreatest bound (s ∷ rows) → FreeOrGreatest bound (r ∷ s ∷ rows)
     more o is (inl (t, there, none)) = inl (t, has_later r t (s ∷ rows) there, none)
     more None none (inr (t, b, there, some, most)) = inl (r, has_first r (s ∷ rows), none)
     more (Some c) is (inr (t, b, there, some, most)) = by_lt_z b c
-        (λ less. inr (r, c, has_first r (s ∷ rows), is, λ q among. elim (first_or_later r q (s ∷ rows) among) [
-          | inl same ↦ (c, ap bound (sym same) ∙ is, omega (arith, ints))
-          | inr later ↦ let found = most q later in let under = found.2 in (found.0, found.1, omega (arith, ints))
-        ]))
-        (λ not. inr (t, b, has_later r t (s ∷ rows) there, some, λ q among. elim (first_or_later r q (s ∷ rows) among) [
-          | inl same ↦ (c, ap bound (sym same) ∙ is, omega (arith, ints))
-          | inr later ↦ most q later
-        ]))
+        (λ less. inr (
+          r,
+          c,
+          has_first r (s ∷ rows),
+          is,
+          λ q among. elim (first_or_later r q (s ∷ rows) among) [
+            | inl same ↦ (c, ap bound (sym same) ∙ is, omega (arith, ints))
+            | inr later ↦ let found = most q later in let under = found.2 in (found.0, found.1, omega (arith, ints))
+          ],
+        ))
+        (λ not. inr (
+          t,
+          b,
+          has_later r t (s ∷ rows) there,
+          some,
+          λ q among. elim (first_or_later r q (s ∷ rows) among) [
+            | inl same ↦ (c, ap bound (sym same) ∙ is, omega (arith, ints))
+            | inr later ↦ most q later
+          ],
+        ))
 
 -- one bound only
 same_bound : (o : Option ℤ) (b c : ℤ) → o ≡ Some b → o ≡ Some c → b ≡ c
@@ -178,20 +197,26 @@ same_bound o b c e f = let both : Some b ≡ Some c = sym e ∙ f in cc
 top_of : (answers : List Answer) (rows : List ℕ) → rows ≢ [] → (x : ℤ) × IsTop answers rows x
 top_of answers [] some = absurd (some refl)
 top_of answers (r ∷ rows) some = elim (free_or_greatest (upper_bound answers) r rows) [
-  | inl (t, there, none) ↦ let limit = limit_of (upper_bound answers) (r ∷ rows) in (limit.0 +ℤ pos 1, record {
-    under = λ q b among is. let low = limit.1 q b among is in omega (arith, ints);
-    row = t;
-    there = there;
-    high = subst (IsAtLeast (limit.0 +ℤ pos 1)) (sym none) tt;
-    free = λ u q b free in_set among is. let low = limit.1 q b among is in omega (arith, ints);
-  })
-  | inr (t, b, there, is_b, most) ↦ (b, record {
-    under = λ q c among is. let found = most q among in let low = found.2 in let same = same_bound (upper_bound answers q) found.0 c found.1 is in omega (arith, ints);
-    row = t;
-    there = there;
-    high = subst (IsAtLeast b) (sym is_b) (omega (arith, ints));
-    free = λ u q c free in_set among is. let found = most u in_set in absurd (let clash : None ≡ Some found.0 = sym free ∙ found.1 in cc);
-  })
+  | inl (t, there, none) ↦ let limit = limit_of (upper_bound answers) (r ∷ rows) in (
+    limit.0 +ℤ pos 1,
+    record {
+      under = λ q b among is. let low = limit.1 q b among is in omega (arith, ints);
+      row = t;
+      there = there;
+      high = subst (IsAtLeast (limit.0 +ℤ pos 1)) (sym none) tt;
+      free = λ u q b free in_set among is. let low = limit.1 q b among is in omega (arith, ints);
+    },
+  )
+  | inr (t, b, there, is_b, most) ↦ (
+    b,
+    record {
+      under = λ q c among is. let found = most q among in let low = found.2 in let same = same_bound (upper_bound answers q) found.0 c found.1 is in omega (arith, ints);
+      row = t;
+      there = there;
+      high = subst (IsAtLeast b) (sym is_b) (omega (arith, ints));
+      free = λ u q c free in_set among is. let found = most u in_set in absurd (let clash : None ≡ Some found.0 = sym free ∙ found.1 in cc);
+    },
+  )
 ]
 
 module _ (n : ℕ) (answers : List Answer) (rows : List ℕ) (are : AreRows n rows) (some : rows ≢ []) (consistent : IsConsistent answers) where

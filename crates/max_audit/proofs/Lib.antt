@@ -5,9 +5,7 @@ pub mod OtherRowsAreFree
 pub mod AnswersInOneGap
 pub mod CandidateOfAGap
 pub mod DangerousByCandidates
-pub mod OneMore
 pub mod DangerousByExtremes
 pub mod CandidateLists
-pub mod Trials
 pub mod LeastFixed
 pub mod Verdicts

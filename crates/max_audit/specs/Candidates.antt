@@ -1,9 +1,8 @@
 -- The finitely many answers that stand for all, as a list.
 use Rattle.std.specs.Prelude.{◌≡◌, ◌↔◌, ◌⊎◌, ℕ, ◌+◌, ◌<◌, ◌^◌, ℤ, pos, neg_ℤ, ◌-ℤ◌, ◌<ℤ◌, ◌≤ℤ◌, List, [], length, slice_index_or}
 use Rattle.std.specs.List.{Contains, AllByRecursion}
-use Rattle.audit_types.specs.Column.{Answer, IsOneOf, Known}
+use Rattle.audit_types.specs.Column.{Answer, IsOneOf}
 use Rattle.audit_types.specs.Extremes.{IsCandidate}
-use Rattle.max_audit.specs.Laws.{LeavesLoneRow}
 
 -- all candidates, in ascending order without repeats
 pub record AreCandidates (answers : List Answer) (list : List ℤ) : Type 0 where
@@ -19,7 +18,3 @@ IsBelowAll answers x = ((answers ≡ []) × (x ≡ pos 0))
 pub record IsNearRange (x : ℤ) : Type 0 where
   pub low : neg_ℤ (pos (2 ^ 63 + 1)) ≤ℤ x
   pub high : x ≤ℤ pos (2 ^ 63)
-
--- some number of the list, as the answer, is possible and leaves a lone row
-abbrev pub SomeLeavesLoneRow : Known → List ℕ → List ℤ → Type 0
-SomeLeavesLoneRow known rows list = (a : ℤ) × Contains list a × LeavesLoneRow known rows a

@@ -1,45 +1,19 @@
 //! A column of maxima and its audit.
-ghost use Rattle.std.specs.Prelude.{◌≡◌, ◌≢◌, ◌↔◌, ◌<◌, ◌≤◌, [], IfOk, OnOk, OnErr, IsTrue};
+ghost use Rattle.std.specs.Prelude.{◌≡◌, ◌≢◌, ◌<◌, ◌≤◌, [], IfOk, OnOk, OnErr};
 ghost use Rattle.std.specs.List.{All};
 ghost use Rattle.audit_types.specs.Column.{known_max, with_answer, IsPossible, IsWellFormed};
 ghost use Rattle.audit_types.specs.Extremes.{IsConsistent, IsLeastLone};
 ghost use Rattle.audit_types.specs.Judgement.{IsJudgement, IsDecision, IsWithinWidth};
 ghost use Rattle.audit_types.specs.declared.shapes.Kind.TheVariants.{Max};
 ghost use Rattle.audit_types.specs.declared.records.Verdict.TheVariants.{DeniedWide};
-ghost use Rattle.max_audit.specs.Laws.{IsLeastFixed, LeavesLoneRow};
-ghost use Rattle.max_audit.specs.Candidates.{AreCandidates, IsNearRange, SomeLeavesLoneRow};
+ghost use Rattle.max_audit.specs.Laws.{IsLeastFixed};
+ghost use Rattle.max_audit.specs.Candidates.{AreCandidates, IsNearRange};
 
 use crate::candidates::candidates_of;
 use audit_types::{ColumnAudit, NoMemory, RowSet, Verdict};
 use max_bounds::Bounds;
 use std::alloc::Global;
 use std::marker::Model;
-
-// Whether this answer to the question would be possible and leave a lone row.
-fn leaves_lone_row(bounds: &Bounds, rows: &RowSet, answer: i128) -> bool
-    requires same_n { rows.now.n ≡ bounds.now.n }
-    requires some { rows.now.list ≢ [] }
-    requires near { IsNearRange answer }
-    ensures exact { IsTrue result ↔ LeavesLoneRow (known_max bounds.now.n bounds.now.answers) rows.now.list answer }
-{
-    let trial = bounds.trial(rows, answer);
-    trial.consistent && trial.lone.is_some()
-}
-
-// Whether one of these answers would.
-fn some_leaves_lone_row(bounds: &Bounds, rows: &RowSet, answers: &[i128]) -> bool
-    requires same_n { rows.now.n ≡ bounds.now.n }
-    requires some { rows.now.list ≢ [] }
-    requires near { All IsNearRange answers.now }
-    ensures exact { IsTrue result ↔ SomeLeavesLoneRow (known_max bounds.now.n bounds.now.answers) rows.now.list answers.now }
-{
-    for answer in answers {
-        if leaves_lone_row(bounds, rows, *answer) {
-            return true;
-        }
-    }
-    false
-}
 
 /// The answered maxima of a column.
 #[derive(Drop)]
@@ -108,8 +82,7 @@ impl ColumnAudit for MaxColumn {
     {
         // A set says of itself that its rows are rows of the table.
         let _ = rows.n();
-        let candidates = self.candidates()?;
-        if some_leaves_lone_row(&self.bounds, rows, &candidates) {
+        if self.bounds.is_dangerous(rows) {
             Ok(Verdict::DeniedUnsafe)
         } else {
             Ok(Verdict::Released)

@@ -1,2 +1,10 @@
 pub mod Lowering
 pub mod Surveys
+pub mod Walks
+pub mod HighestBounds
+pub mod LostSets
+pub mod ReachedRows
+pub mod FallingCounts
+pub mod LoweredSets
+pub mod NextExtremes
+pub mod DangerCases

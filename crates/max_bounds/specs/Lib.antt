@@ -1,7 +1,9 @@
 pub mod Maxima
 pub mod Reaching
 pub mod Outside
+pub mod Kept
 pub mod Laws
 pub mod AnswerLaws
 pub mod RowListLaws
 pub mod BoundLaws
+pub mod OneMoreLaws

@@ -29,6 +29,15 @@ pub record IsStranded (extreme_rows : Answer → List ℕ) (answers : List Answe
 abbrev pub HasStranded : (Answer → List ℕ) → List Answer → List ℕ → Type 0
 HasStranded extreme_rows answers rows = (a : Answer) × IsStranded extreme_rows answers rows a
 
+-- a set has this answer and lies in the question's
+pub record IsWithin (rows : List ℕ) (value : ℤ) (a : Answer) : Type 0 where
+  pub same : a.value ≡ value
+  pub none_left : outside rows a.rows ≡ []
+
+-- some set does
+abbrev pub HasWithin : List Answer → List ℕ → ℤ → Type 0
+HasWithin answers rows value = (a : Answer) × IsOneOf a answers × IsWithin rows value a
+
 -- each answer has an extreme row; and some row is lone, or one row of the set is highest, or all extreme rows of some answer but
 -- one lie in the set while each answer that loses all of them is lower
 pub record IsDangerousByExtremes (answers : List Answer) (rows : List ℕ) : Type 0 where

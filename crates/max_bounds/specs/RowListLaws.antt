@@ -93,3 +93,14 @@ some_row (x ∷ rows) h = (x, has_first x rows)
 pub not_empty : (rows : List ℕ) (r : ℕ) → has_row rows r ≡ true → 0 < length rows
 not_empty [] r h = absurd (true≢false (sym h))
 not_empty (x ∷ rows) r h = omega arith
+
+-- a list that is not empty has a row
+pub some_length : (rows : List ℕ) → (rows ≡ [] → ⊥) → 0 < length rows
+some_length [] full = absurd (full refl)
+some_length (r ∷ rows) full = omega arith
+
+-- the row of a list of one
+pub one_row : (rows : List ℕ) → length rows ≡ 1 → (r : ℕ) × (rows ≡ r ∷ [])
+one_row [] e = absurd (omega arith)
+one_row (r ∷ []) e = (r, refl)
+one_row (r ∷ q ∷ rows) e = absurd (omega arith)

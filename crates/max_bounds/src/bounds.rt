@@ -2,12 +2,17 @@
 ghost use Rattle.std.specs.Prelude.{◌≡◌, ◌≢◌, ◌↔◌, ℕ, ◌+◌, ◌^◌, ◌<◌, ◌≤◌, pos, neg_ℤ, ◌≤ℤ◌, [], Some, IfOk, OnOk, OnErr, IsTrue, length, slice_get};
 ghost use Rattle.audit_types.specs.Column.{Answer};
 ghost use Rattle.audit_types.specs.Extremes.{upper_bound, extremes, IsConsistent, IsLeastLone};
+ghost use Rattle.std.specs.List.{AllByRecursion};
 ghost use Rattle.max_bounds.specs.Maxima.{Maxima, answers_of, and_answer};
+ghost use Rattle.max_bounds.specs.Outside.{IsDangerousByExtremes};
+ghost use Rattle.max_bounds.specs.Kept.{extreme_counts};
 
 use crate::answered::AnsweredMax;
-use crate::extreme_rows::extreme_rows;
+use crate::highest::one_highest;
+use crate::kept::{fall, insert};
+use crate::reach::{reach, settle};
+use crate::stranding::strands;
 use crate::survey::{Trial, survey, survey_with};
-use crate::upper_bounds::{upper_bound, upper_bounds};
 use audit_types::{NoMemory, RowSet};
 use std::alloc::Global;
 use std::marker::Model;
@@ -17,18 +22,24 @@ use std::marker::Model;
 pub struct Bounds {
     n: u16,
     pairs: Vec<AnsweredMax>,
+    // The bound of each row.
+    upper: Vec<Option<i64>>,
+    // The number of extreme rows of each pair, and the least of these numbers.
+    counts: Vec<u16>,
+    fewest: u16,
+    // Extreme rows of pairs, with their answer. Each pair has such a set of its own answer and with no other rows.
+    least: Vec<AnsweredMax>,
 }
 
 impl Model for Bounds {
-    ghost use Rattle.std.specs.Prelude.{◌≡◌, ◌≤◌};
-    ghost use Rattle.std.specs.List.{AllByRecursion};
     ghost use Rattle.max_bounds.specs.Maxima.{Maxima, answers_of};
+    ghost use Rattle.max_bounds.specs.Kept.{IsKept};
 
     ghost Value = { Maxima };
 
     ghost view = { λ b. record { n = b.n; answers = answers_of b.pairs.items } };
 
-    ghost invariant = { λ b. (b.n ≤ 1024) × AllByRecursion (λ p. p.rows.n ≡ b.n) b.pairs.items };
+    ghost invariant = { IsKept };
 }
 
 impl Bounds {
@@ -38,9 +49,14 @@ impl Bounds {
         requires at_most { n ≤ 1024 }
         ensures { IfOk result (λ bounds. bounds ≡ record { n = n; answers = [] }) }
     {
+        let upper = vec![in alloc; None; n as usize]?;
         Ok(Bounds {
             n,
             pairs: Vec::new(alloc),
+            upper,
+            counts: Vec::new(alloc),
+            fewest: u16::MAX,
+            least: Vec::new(alloc),
         })
     }
 
@@ -59,20 +75,47 @@ impl Bounds {
         ensures ok { OnOk result (self.new ≡ record self.old { answers = and_answer self.old.answers rows.now.list answer }) }
         ensures err { OnErr result (self.new ≡ self.old) }
     {
-        match self.pairs.push(AnsweredMax {
+        // A set says of its n that no row is past it.
+        let _ = rows.n();
+        self.pairs.reserve(1)?;
+        self.counts.reserve(1)?;
+        self.least.reserve(1)?;
+        let asked = AnsweredMax {
             rows: *rows,
             answer,
-        }) {
-            Ok(()) => Ok(()),
-            Err(_) => Err(NoMemory),
-        }
+        };
+        let affected = reach(&self.upper, rows, answer);
+        let fewest = fall(
+            &mut self.counts,
+            self.fewest,
+            &mut self.least,
+            &self.pairs,
+            &self.upper,
+            &asked,
+            &affected.falling,
+        );
+        settle(&mut self.upper, &affected.extremes, answer);
+        let count = affected.extremes.len();
+        self.fewest = fewest.min(count);
+        self.counts.push_reserved(count);
+        insert(&mut self.least, &affected.extremes, &asked, &self.pairs);
+        self.pairs.push_reserved(asked);
+        Ok(())
     }
 
     /// The answers, in order.
     pub fn pairs(&self) -> &[AnsweredMax]
-        ensures { answers_of result.now ≡ self.now.answers }
+        ensures answers { answers_of result.now ≡ self.now.answers }
+        ensures same_n { AllByRecursion (λ p. p.rows.n ≡ self.now.n) result.now }
     {
         &self.pairs
+    }
+
+    /// The number of extreme rows of each answer, in order. It takes no memory.
+    pub fn counts(&self) -> &[u16]
+        ensures { result.now ≡ extreme_counts self.now.answers }
+    {
+        &self.counts
     }
 
     /// The upper bound of a row: the least answer among the sets that hold it.
@@ -80,7 +123,7 @@ impl Bounds {
         requires { row < self.now.n }
         ensures { result ≡ upper_bound self.now.answers row }
     {
-        upper_bound(&self.pairs, row)
+        self.upper[row as usize]
     }
 
     /// How many rows of answer k are extreme: have this answer as their upper bound.
@@ -88,8 +131,7 @@ impl Bounds {
         requires { k < length self.now.answers }
         ensures { (a : Answer) → slice_get self.now.answers k ≡ Some a → result ≡ length (extremes self.now.answers a) }
     {
-        let pair = &self.pairs[k as usize];
-        extreme_rows(&upper_bounds(&self.pairs), &pair.rows, pair.answer as i128).count
+        self.counts[k as usize]
     }
 
     /// Whether each answer has an extreme row: some table gives them all exactly then.
@@ -116,5 +158,18 @@ impl Bounds {
         ensures lone { IsLeastLone (and_answer self.now.answers rows.now.list answer) result.lone }
     {
         survey_with(&self.pairs, rows, answer)
+    }
+
+    /// Whether some answer to a question on these rows would be possible and leave a lone row, told from the extreme rows of
+    /// the answers before it. It takes no memory.
+    pub fn is_dangerous(&self, rows: &RowSet) -> bool
+        requires same_n { rows.now.n ≡ self.now.n }
+        ensures { IsTrue result ↔ IsDangerousByExtremes self.now.answers rows.now.list }
+    {
+        if self.fewest < 2 {
+            // Some answer has no extreme row, or else one has a lone row.
+            return self.fewest == 1;
+        }
+        one_highest(&self.upper, rows) || strands(&self.least, rows)
     }
 }

@@ -5,8 +5,14 @@
 
 mod answered;
 mod bounds;
+mod counts;
 mod extreme_rows;
+mod highest;
+mod kept;
 pub mod laws;
+mod reach;
+mod sets;
+mod stranding;
 mod survey;
 mod upper_bounds;
 

@@ -1,6 +1,5 @@
-//! Upper bounds: of one row, and of all rows at once.
+//! The upper bounds of all rows at once.
 ghost use Rattle.std.specs.Prelude.{◌≡◌, ◌<◌, ℕ};
-ghost use Rattle.std.specs.List.{AllByRecursion};
 ghost use Rattle.audit_types.specs.Extremes.{least_of, upper_bound};
 ghost use Rattle.max_bounds.specs.Maxima.{answers_of};
 ghost use Rattle.max_bounds.specs.Reaching.{bound_at, bound_with};
@@ -41,30 +40,4 @@ pub(crate) fn upper_bounds(pairs: &[AnsweredMax]) -> UpperBounds
         lower(&mut bounds, &pair.rows, pair.answer as i128);
     }
     bounds
-}
-
-// The upper bound of a row with one answer more.
-fn lowered_by(pair: &AnsweredMax, row: u16, upper: Option<i64>) -> Option<i64>
-    requires { row < pair.now.rows.n }
-    ensures { result ≡ bound_with pair.now.rows.list pair.now.answer row upper }
-{
-    if !pair.rows.has(row) {
-        return upper;
-    }
-    match upper {
-        Some(bound) => Some(pair.answer.min(bound)),
-        None => Some(pair.answer),
-    }
-}
-
-/// The upper bound of one row, in a step for each set.
-pub(crate) fn upper_bound(pairs: &[AnsweredMax], row: u16) -> Option<i64>
-    requires within { AllByRecursion (λ p. row < p.rows.n) pairs.now }
-    ensures exact { result ≡ upper_bound (answers_of pairs.now) row }
-{
-    let mut upper = None;
-    for pair in pairs {
-        upper = lowered_by(pair, row, upper);
-    }
-    upper
 }

@@ -1,33 +1,28 @@
 use Rattle.std.proofs.Common.{sym, ◌∙◌}
 use Rattle.std.proofs.lemmas.Bool.{true≢false}
-use Rattle.max_audit.proofs.Verdicts.{tried_all, within, unsafe_is}
+use Rattle.max_audit.proofs.Verdicts.{danger_told, within, unsafe_is}
 use Rattle.max_audit.proofs.column.MaxColumnColumnAudit.probe.Goals as goal
 
-pub returns-then-some_leaves_lone_row-clause-judged : goal.returns-then-some_leaves_lone_row-clause-judged
-returns-then-some_leaves_lone_row-clause-judged c =
-    let tells = tried_all c.self.inside.bounds.n c.self.inside.bounds.answers c.args.self.now c.self.view_is c.args.rows.now.list c.args.rows.now.n c.deref.result.now c.in_ok-candidates.candidates.items
-    c.self.invariant c.n.ensures.are_rows c.requires.same_n c.requires.some c.in_ok-candidates.ensures.exact c.deref.ensures.value in
-    let danger = tells.0 (c.some_leaves_lone_row.ensures.exact.0 c.if-some_leaves_lone_row.true) in
-    (within _ _ c.args.self.now c.self.view_is c.args.rows.now.list, (unsafe_is _ _ c.args.self.now c.self.view_is c.args.rows.now.list).1 danger)
+pub returns-then-is_dangerous-clause-judged : goal.returns-then-is_dangerous-clause-judged
+returns-then-is_dangerous-clause-judged c =
+    let tells = danger_told c.self.inside.bounds.n c.self.inside.bounds.answers c.args.self.now c.self.view_is c.args.rows.now.list c.args.rows.now.n c.self.invariant c.n.ensures.are_rows c.requires.same_n c.requires.some in
+    (within _ _ c.args.self.now c.self.view_is c.args.rows.now.list, (unsafe_is _ _ c.args.self.now c.self.view_is c.args.rows.now.list).1 (tells.1 (c.is_dangerous.ensures.0 c.if-is_dangerous.true)))
 
-pub returns-then-some_leaves_lone_row-clause-decided : goal.returns-then-some_leaves_lone_row-clause-decided
-returns-then-some_leaves_lone_row-clause-decided c = λ possible.
-    let tells = tried_all c.self.inside.bounds.n c.self.inside.bounds.answers c.args.self.now c.self.view_is c.args.rows.now.list c.args.rows.now.n c.deref.result.now c.in_ok-candidates.candidates.items
-    c.self.invariant c.n.ensures.are_rows c.requires.same_n c.requires.some c.in_ok-candidates.ensures.exact c.deref.ensures.value in
-    (within _ _ c.args.self.now c.self.view_is c.args.rows.now.list, tells.0 (c.some_leaves_lone_row.ensures.exact.0 c.if-some_leaves_lone_row.true))
+pub returns-then-is_dangerous-clause-decided : goal.returns-then-is_dangerous-clause-decided
+returns-then-is_dangerous-clause-decided c = λ possible.
+    let tells = danger_told c.self.inside.bounds.n c.self.inside.bounds.answers c.args.self.now c.self.view_is c.args.rows.now.list c.args.rows.now.n c.self.invariant c.n.ensures.are_rows c.requires.same_n c.requires.some in
+    (within _ _ c.args.self.now c.self.view_is c.args.rows.now.list, tells.1 (c.is_dangerous.ensures.0 c.if-is_dangerous.true))
 
-pub returns-clause-judged : goal.returns-clause-judged
-returns-clause-judged c =
-    let tells = tried_all c.self.inside.bounds.n c.self.inside.bounds.answers c.args.self.now c.self.view_is c.args.rows.now.list c.args.rows.now.n c.deref.result.now c.in_ok-candidates.candidates.items
-    c.self.invariant c.n.ensures.are_rows c.requires.same_n c.requires.some c.in_ok-candidates.ensures.exact c.deref.ensures.value in (
+pub returns-else-is_dangerous-clause-judged : goal.returns-else-is_dangerous-clause-judged
+returns-else-is_dangerous-clause-judged c =
+    let tells = danger_told c.self.inside.bounds.n c.self.inside.bounds.answers c.args.self.now c.self.view_is c.args.rows.now.list c.args.rows.now.n c.self.invariant c.n.ensures.are_rows c.requires.same_n c.requires.some in (
       within _ _ c.args.self.now c.self.view_is c.args.rows.now.list,
-      λ unsafe. true≢false (sym (c.some_leaves_lone_row.ensures.exact.1 (tells.1 ((unsafe_is _ _ c.args.self.now c.self.view_is c.args.rows.now.list).0 unsafe))) ∙ c.if-some_leaves_lone_row.false),
+      λ unsafe. true≢false (sym (c.is_dangerous.ensures.1 (tells.0 ((unsafe_is _ _ c.args.self.now c.self.view_is c.args.rows.now.list).0 unsafe))) ∙ c.if-is_dangerous.false),
     )
 
-pub returns-clause-decided : goal.returns-clause-decided
-returns-clause-decided c = λ possible.
-    let tells = tried_all c.self.inside.bounds.n c.self.inside.bounds.answers c.args.self.now c.self.view_is c.args.rows.now.list c.args.rows.now.n c.deref.result.now c.in_ok-candidates.candidates.items
-    c.self.invariant c.n.ensures.are_rows c.requires.same_n c.requires.some c.in_ok-candidates.ensures.exact c.deref.ensures.value in (
+pub returns-else-is_dangerous-clause-decided : goal.returns-else-is_dangerous-clause-decided
+returns-else-is_dangerous-clause-decided c = λ possible.
+    let tells = danger_told c.self.inside.bounds.n c.self.inside.bounds.answers c.args.self.now c.self.view_is c.args.rows.now.list c.args.rows.now.n c.self.invariant c.n.ensures.are_rows c.requires.same_n c.requires.some in (
       within _ _ c.args.self.now c.self.view_is c.args.rows.now.list,
-      λ danger. true≢false (sym (c.some_leaves_lone_row.ensures.exact.1 (tells.1 danger)) ∙ c.if-some_leaves_lone_row.false),
+      λ danger. true≢false (sym (c.is_dangerous.ensures.1 (tells.0 danger)) ∙ c.if-is_dangerous.false),
     )

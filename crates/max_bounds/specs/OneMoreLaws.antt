@@ -1,4 +1,4 @@
--- What one answer more does to the extreme rows of each answer.
+-- Laws of one answer more: what it does to the extreme rows of each answer.
 --
 -- An answer that is not above the new one keeps its extreme rows. A higher one keeps those outside the new set. The new one has the rows of
 -- its set without a bound, and those with one that is not below it.
@@ -109,7 +109,7 @@ module _ (answers : List Answer) (rows : List ℕ) (x : ℤ) where
       ∙ sym (filter_twice (λ r. not (has_row rows r)) (λ r. is_bound (upper_bound answers r) p.value) p.rows)
 
   -- the bound of a row of the new set
-  bound_in_set : (r : ℕ) → has_row rows r ≡ true → upper_bound with_asked r ≡ Some (least_of x (upper_bound answers r))
+  pub bound_in_set : (r : ℕ) → has_row rows r ≡ true → upper_bound with_asked r ≡ Some (least_of x (upper_bound answers r))
   bound_in_set r there = upper_bound-push answers asked r ∙ ap (λ b. cond b (Some (least_of x (upper_bound answers r))) (upper_bound answers r)) there
 
   -- a row of the new set with no bound below the new answer is extreme for it

@@ -1,0 +1,127 @@
+-- Sets of which at most one row is left: the greatest answer of one so far, and whether a set of this answer is held whole.
+use Rattle.std.proofs.Common.{◌≡◌, ℕ, ◌<◌, ◌≤◌, ℤ, List, [], ◌∷◌, ◌++◌, length, refl, sym, ap, ◌∙◌, subst, arith, inl, inr, ◌⊎◌}
+use Rattle.std.specs.Prelude.{◌<ℤ◌, ◌≤ℤ◌}
+use Rattle.std.proofs.lemmas.Int.{ints, by_lt_z}
+use Rattle.audit_types.specs.Column.{Answer, IsOneOf}
+use Rattle.max_bounds.specs.Outside.{outside, IsStranded, HasStranded, IsWithin, HasWithin}
+use Rattle.max_bounds.specs.Kept.{Matters}
+use Rattle.max_bounds.specs.AnswerLaws.{one_of_front, one_of_last, front_or_last}
+use Rattle.max_bounds.specs.declared.stranding.Lost.{Lost}
+use Rattle.max_bounds.specs.declared.stranding.Lost.TheVariants.{Neither, AllButOne, Whole}
+
+-- the rows that are left of a set
+abbrev pub left_of : List ℕ → Answer → List ℕ
+left_of rows a = outside rows a.rows
+
+-- a set of which at most one row is left has an answer at most this
+abbrev pub IsMost : List Answer → List ℕ → ℤ → Type 0
+IsMost seen rows v = (b : Answer) → IsOneOf b seen → length (left_of rows b) ≤ 1 → b.value ≤ℤ v
+
+-- what is lost of the sets so far
+abbrev pub IsLost : List Answer → List ℕ → Lost → Type 0
+IsLost seen rows Neither = (b : Answer) → IsOneOf b seen → 1 < length (left_of rows b)
+IsLost seen rows (AllButOne v) = ((a : Answer) × IsStranded (λ b. b.rows) seen rows a × (a.value ≡ v)) × IsMost seen rows v
+IsLost seen rows (Whole v) = ((a : Answer) × IsOneOf a seen × (left_of rows a ≡ []) × (a.value ≡ v)) × IsMost seen rows v
+
+-- an empty list has no row
+none : (rows : List ℕ) → rows ≡ [] → length rows ≡ 0
+none rows e = ap length e
+
+module _ (seen : List Answer) (rows : List ℕ) (x : Answer) where
+  -- a bound on the answers, with one set more
+  most-push : (v : ℤ) → IsMost seen rows v → (length (left_of rows x) ≤ 1 → x.value ≤ℤ v) → IsMost (seen ++ x ∷ []) rows v
+  most-push v most here b one few = elim (front_or_last seen x b one) [
+    | inl front ↦ most b front few
+    | inr last ↦ subst (λ (y : Answer). y.value ≤ℤ v) last (here (subst (λ (y : Answer). length (left_of rows y) ≤ 1) (sym last) few))
+  ]
+
+  -- a set that matters has the greatest answer
+  most_here : (lost : Lost) → IsLost seen rows lost → Matters lost x.value → IsMost seen rows x.value
+  most_here Neither h matters b one few = let more = h b one in absurd (omega arith)
+  most_here (AllButOne v) h matters b one few = let low = h.1 b one few in omega (arith, ints)
+  most_here (Whole v) h matters b one few = let low = h.1 b one few in omega (arith, ints)
+
+  -- sets that are held whole are below a set that matters, if that is not held whole
+  whole_below : (lost : Lost) → IsLost seen rows lost → Matters lost x.value → (b : Answer) → IsOneOf b seen → left_of rows b ≡ [] → b.value <ℤ x.value
+  whole_below Neither h matters b one whole = let more = h b one in let short = none (left_of rows b) whole in absurd (omega arith)
+  whole_below (AllButOne v) h matters b one whole = let low = h.0.1.lower b one whole in let is = h.0.2 in omega (arith, ints)
+  whole_below (Whole v) h matters b one whole = let short = none (left_of rows b) whole in let low = h.1 b one (omega arith) in omega (arith, ints)
+
+  -- a stranded set stays so, with a set more that is not held whole, or is lower
+  stranded-push : (a : Answer) → IsStranded (λ b. b.rows) seen rows a → (left_of rows x ≡ [] → x.value <ℤ a.value) → IsStranded (λ b. b.rows) (seen ++ x ∷ []) rows a
+  stranded-push a h here = record {
+    one = one_of_front seen x a h.one;
+    one_left = h.one_left;
+    lower = λ b one whole. elim (front_or_last seen x b one) [
+      | inl front ↦ h.lower b front whole
+      | inr last ↦ subst (λ (y : Answer). y.value <ℤ a.value) last (here (ap (left_of rows) last ∙ whole))
+    ];
+  }
+
+  -- a set that does not matter
+  pub lost_passed : (lost : Lost) → IsLost seen rows lost → (Matters lost x.value → ⊥) → IsLost (seen ++ x ∷ []) rows lost
+  lost_passed Neither h not = absurd (not tt)
+  lost_passed (AllButOne v) h not = by_lt_z x.value v
+      (λ less. ((h.0.0, stranded-push h.0.0 h.0.1 (λ whole. let is = h.0.2 in omega (arith, ints)), h.0.2), most-push v h.1 (λ few. omega (arith, ints))))
+      (λ more. absurd (not (omega (arith, ints))))
+  lost_passed (Whole v) h not = by_lt_z v x.value
+      (λ less. absurd (not less))
+      (λ more. ((h.0.0, one_of_front seen x h.0.0 h.0.1, h.0.2, h.0.3), most-push v h.1 (λ few. omega (arith, ints))))
+
+  -- a set of which more rows are left
+  pub lost_more : (lost : Lost) → IsLost seen rows lost → 1 < length (left_of rows x) → IsLost (seen ++ x ∷ []) rows lost
+  lost_more Neither h more = λ b one. elim (front_or_last seen x b one) [
+    | inl front ↦ h b front
+    | inr last ↦ subst (λ (y : Answer). 1 < length (left_of rows y)) last more
+  ]
+  lost_more (AllButOne v) h more = ((h.0.0, stranded-push h.0.0 h.0.1 (λ whole. let short = none (left_of rows x) whole in absurd (omega arith)), h.0.2), most-push v h.1 (λ few. absurd (omega arith)))
+  lost_more (Whole v) h more = ((h.0.0, one_of_front seen x h.0.0 h.0.1, h.0.2, h.0.3), most-push v h.1 (λ few. absurd (omega arith)))
+
+  -- a set of which one row is left
+  pub lost_one : (lost : Lost) → IsLost seen rows lost → Matters lost x.value → length (left_of rows x) ≡ 1 → IsLost (seen ++ x ∷ []) rows (AllButOne x.value)
+  lost_one lost h matters one_left = (
+    (
+      x,
+      record {
+        one = one_of_last seen x;
+        one_left = one_left;
+        lower = λ b one whole. elim (front_or_last seen x b one) [
+          | inl front ↦ whole_below lost h matters b front whole
+          | inr last ↦ let short = none (left_of rows x) (ap (left_of rows) last ∙ whole) in absurd (omega arith)
+        ];
+      },
+      refl,
+    ),
+    most-push x.value (most_here lost h matters) (λ few. omega (arith, ints)),
+  )
+
+  -- a set that is held whole
+  pub lost_whole : (lost : Lost) → IsLost seen rows lost → Matters lost x.value → left_of rows x ≡ [] → IsLost (seen ++ x ∷ []) rows (Whole x.value)
+  lost_whole lost h matters whole = ((x, one_of_last seen x, whole, refl), most-push x.value (most_here lost h matters) (λ few. omega (arith, ints)))
+
+-- at the end: where the greatest answer has a set with one row left, and none held whole, that is stranded
+pub stranded_from : (sets : List Answer) (rows : List ℕ) (v : ℤ) → IsLost sets rows (AllButOne v) → HasStranded (λ b. b.rows) sets rows
+stranded_from sets rows v h = (h.0.0, h.0.1)
+
+-- and nowhere else
+pub none_from_neither : (sets : List Answer) (rows : List ℕ) → IsLost sets rows Neither → HasStranded (λ b. b.rows) sets rows → ⊥
+none_from_neither sets rows h (a, stranded) = let more = h a stranded.one in let one = stranded.one_left in absurd (omega arith)
+
+pub none_from_whole : (sets : List Answer) (rows : List ℕ) (v : ℤ) → IsLost sets rows (Whole v) → HasStranded (λ b. b.rows) sets rows → ⊥
+none_from_whole sets rows v h (a, stranded) =
+    let lower = stranded.lower h.0.0 h.0.1 h.0.2 in
+    let one = stranded.one_left in
+    let low = h.1 a stranded.one (omega arith) in
+    let is = h.0.3 in
+    absurd (omega (arith, ints))
+
+-- no set of none lies within
+pub within-none : (rows : List ℕ) (value : ℤ) → HasWithin [] rows value → ⊥
+within-none rows value (a, one, is) = one
+
+-- nor of more, where neither the sets before nor the last does
+pub within-push : (seen : List Answer) (x : Answer) (rows : List ℕ) (value : ℤ) → (HasWithin seen rows value → ⊥) → (IsWithin rows value x → ⊥) → HasWithin (seen ++ x ∷ []) rows value → ⊥
+within-push seen x rows value before last (a, one, is) = elim (front_or_last seen x a one) [
+  | inl front ↦ before (a, front, is)
+  | inr same ↦ last (subst (IsWithin rows value) (sym same) is)
+]

@@ -1,0 +1,82 @@
+-- Sets that lose the rows of a new answer.
+use Rattle.std.proofs.Common.{◌≡◌, ℕ, ◌<◌, ◌≤◌, ℤ, Bool, true, false, cond, not, ◌&&◌, List, [], ◌∷◌, ◌++◌, length, map, take, drop, set, get_or, zero, suc, ◌+◌, refl, sym, ap, ◌∙◌, subst, arith, inl, inr}
+use Rattle.std.specs.Prelude.{◌<ℤ◌, int_lt}
+use Rattle.std.specs.List.{filter, AllByRecursion}
+use Rattle.std.proofs.lemmas.List.{map_more, map-append, take_more_set}
+use Rattle.std.proofs.lemmas.Int.{ints}
+use Rattle.std.proofs.lemmas.Bool.{cases_lt, true≢false}
+use Rattle.audit_types.specs.Rows.{has_row, AreRows, intersection, complement}
+use Rattle.audit_types.specs.RowLaws.{ascending_same, AreRows-rows_that, has-rows_that, has-rows_that_above, none_above}
+use Rattle.audit_types.specs.Column.{Answer}
+use Rattle.max_bounds.specs.Outside.{outside}
+use Rattle.max_bounds.specs.Kept.{lowered_set}
+use Rattle.max_bounds.specs.Maxima.{answer_of, answers_of}
+use Rattle.max_bounds.specs.declared.answered.AnsweredMax.{AnsweredMax}
+use Rattle.max_bounds.proofs.FallingCounts.{same_here}
+use Rattle.max_bounds.specs.RowListLaws.{filter-has, has-filter, filter-ascends}
+
+-- tests that are true together are one
+pub same_test : (p q : Bool) → (p ≡ true → q ≡ true) → (q ≡ true → p ≡ true) → p ≡ q
+same_test true q f g = sym (f refl)
+same_test false true f g = g refl
+same_test false false f g = refl
+
+-- whether a filter has a row
+pub has_filtered : (test : ℕ → Bool) (rows : List ℕ) (q : ℕ) → has_row (filter test rows) q ≡ (has_row rows q && test q)
+has_filtered test rows q = same_test (has_row (filter test rows) q) (has_row rows q && test q)
+    (λ there. let found = filter-has test rows q there in both (has_row rows q) (test q) found.0 found.1)
+    (λ there. has-filter test rows q (first (has_row rows q) (test q) there) (second (has_row rows q) (test q) there))
+  where
+    both : (a b : Bool) → a ≡ true → b ≡ true → (a && b) ≡ true
+    both a b e f = rw (e, f) refl
+
+    first : (a b : Bool) → (a && b) ≡ true → a ≡ true
+    first true b e = refl
+    first false b e = e
+
+    second : (a b : Bool) → (a && b) ≡ true → b ≡ true
+    second true b e = e
+    second false b e = absurd (true≢false (sym e))
+
+-- the rows of a list that are among the others than a set's are those outside the set
+pub outside_is : (n : ℕ) (set rows : List ℕ) → AreRows n rows → intersection n rows (complement n set) ≡ outside set rows
+outside_is n set rows are = ascending_same 0 n n (intersection n rows (complement n set)) (outside set rows)
+    (AreRows-rows_that (λ r. has_row rows r && has_row (complement n set) r) n) (filter-ascends 0 n (λ r. not (has_row set r)) rows are) (λ r. elim (cases_lt r n) [
+      | inl below ↦
+          has-rows_that (λ q. has_row rows q && has_row (complement n set) q) n r below
+          ∙ ap (λ b. has_row rows r && b) (has-rows_that (λ q. not (has_row set q)) n r below)
+          ∙ sym (has_filtered (λ q. not (has_row set q)) rows r)
+      | inr above ↦
+          has-rows_that_above (λ q. has_row rows q && has_row (complement n set) q) n r above
+          ∙ sym (none_above 0 n (outside set rows) (filter-ascends 0 n (λ q. not (has_row set q)) rows are) r above)
+    ])
+
+-- a set with a higher answer loses them
+pub lowered : (n m : ℕ) (answer value : ℤ) (rows set others after : List ℕ) → n ≡ m → AreRows n set → others ≡ complement m rows → after ≡ intersection n set others → int_lt answer value ≡ true →
+    record { rows = after; value = value } ≡ lowered_set answer rows (record { rows = set; value = value })
+lowered n m answer value rows set others after same are flipped both higher =
+    let left : after ≡ outside rows set = both ∙ ap (intersection n set) (flipped ∙ ap (λ k. complement k rows) (sym same)) ∙ outside_is n rows set are in
+    ap (λ l. record { rows = l; value = value }) left ∙ ap (λ b. cond b (record { rows = outside rows set; value = value }) (record { rows = set; value = value })) (sym higher)
+
+-- and no other
+pub kept : (answer : ℤ) (rows : List ℕ) (a : Answer) → int_lt answer a.value ≡ false → a ≡ lowered_set answer rows a
+kept answer rows a higher = ap (λ b. cond b (record { rows = outside rows a.rows; value = a.value }) a) (sym higher)
+
+module _ (answer : ℤ) (rows : List ℕ) (old least : List AnsweredMax) (i : ℕ) (x y : AnsweredMax) (within : i < length least) (was : i < length old) (here : drop i least ≡ drop i old)
+    (is : x ≡ get_or least i x) (lowers : answer_of y ≡ lowered_set answer rows (answer_of x)) where
+  -- the sets so far, with one more
+  pub lowered_more : answers_of (take i least) ≡ map (lowered_set answer rows) (answers_of (take i old)) →
+      answers_of (take (i + 1) (set least i y)) ≡ map (lowered_set answer rows) (answers_of (take (i + 1) old))
+  lowered_more so_far =
+      let f = lowered_set answer rows in
+      let one : get_or old i x ≡ x = sym (same_here least old i x within was here) ∙ sym is in
+      ap answers_of (take_more_set least i y within) ∙ map-append answer_of (take i least) (y ∷ [])
+      ∙ ap (λ l. l ++ answer_of y ∷ []) so_far ∙ ap (λ a. map f (answers_of (take i old)) ++ a ∷ []) lowers
+      ∙ sym (map-append f (answers_of (take i old)) (answer_of x ∷ []))
+      ∙ ap (map f) (sym (map_more answer_of old i x was ∙ ap (λ z. answers_of (take i old) ++ answer_of z ∷ []) one))
+
+-- what holds of all, and of a new one, holds of all once one is replaced
+pub all-set : (P : AnsweredMax → Type 0) (xs : List AnsweredMax) (i : ℕ) (y : AnsweredMax) → AllByRecursion P xs → P y → AllByRecursion P (set xs i y)
+all-set P [] i y all p = tt
+all-set P (x ∷ xs) zero y all p = (p, all.1)
+all-set P (x ∷ xs) (suc i) y all p = (all.0, all-set P xs i y all.1 p)

@@ -1,0 +1,78 @@
+use Rattle.std.proofs.Common.{◌≡◌, ◌≤◌, ◌++◌, ◌∷◌, [], List, Some, arith, sym, ap, ◌∙◌, subst, length, map, cond, min, to_z, of_z}
+use Rattle.std.specs.Int.{w64}
+use Rattle.std.specs.List.{AllByRecursion}
+use Rattle.std.proofs.Math.Path.{fun_ext}
+use Rattle.std.proofs.lemmas.Int.{to_z-of_z}
+use Rattle.std.specs.Vec.{with_items}
+use Rattle.std.proofs.lemmas.List.{map-append, with_items_is}
+use Rattle.audit_types.specs.Rows.{AreRows, has_row}
+use Rattle.audit_types.specs.Column.{Answer}
+use Rattle.audit_types.specs.Extremes.{upper_bound, extremes}
+use Rattle.max_bounds.specs.Maxima.{Maxima, answer_of, answers_of, and_answer}
+use Rattle.max_bounds.specs.Reaching.{bound_at}
+use Rattle.max_bounds.specs.Kept.{rows_at_least, fewest_of, AreLeast, TellsExtremes}
+use Rattle.max_bounds.specs.AnswerLaws.{all-push}
+use Rattle.max_bounds.proofs.FallingCounts.{fewest_of-push}
+use Rattle.max_bounds.proofs.NextExtremes.{next_extremes, next_bounds, all_last}
+use Rattle.max_bounds.proofs.bounds.Bounds.add.Goals as goal
+
+pub insert-requires-clause-own : goal.insert-requires-clause-own
+insert-requires-clause-own c =
+    let answers = answers_of c.self.inside.pairs.items in
+    let rows = c.args.rows.now.list in
+    let x = to_z w64 (of_z w64 c.args.answer) in
+    let bounds : bound_at c.deref.result.now ≡ upper_bound answers = ap bound_at c.deref.ensures.value ∙ fun_ext c.self.invariant.bounds in
+    let before : answers ≡ answers_of c.deref-4.result.now = sym (ap answers_of (c.deref-4.ensures.value ∙ c.in_ok-reserve.ensures.items)) in
+    c.reach-affected.ensures.extremes ∙ ap (λ u. rows_at_least u x rows) bounds ∙ next_extremes answers rows x
+    ∙ ap (λ a. extremes (and_answer a rows x) (record { rows = rows; value = x })) before
+
+pub invariant_of-self-2 : goal.invariant_of-self-2
+invariant_of-self-2 c =
+    let answers = answers_of c.self.inside.pairs.items in
+    let rows = c.args.rows.now.list in
+    let x = to_z w64 (of_z w64 c.args.answer) in
+    let last : Answer = record { rows = rows; value = x } in
+    let more : List Answer = and_answer answers rows x in
+    let same_n : c.args.rows.now.n ≡ c.self.inside.n = c.requires.same_n ∙ sym (ap (λ (m : Maxima). m.n) c.self.view_is) in
+    let pairs_are = c.push_reserved-2.ensures.items ∙ ap (λ l. l ++ record { rows = c.args.rows.now; answer = x } ∷ []) c.in_ok-reserve.ensures.items in
+    let answers_are : answers_of c.push_reserved-2.new.self.items ≡ more = ap answers_of pairs_are ∙ map-append answer_of c.self.inside.pairs.items _ in
+    let bounds : bound_at c.deref.result.now ≡ upper_bound answers = ap bound_at c.deref.ensures.value ∙ fun_ext c.self.invariant.bounds in
+    let reached : c.reach-affected.result.extremes.list ≡ rows_at_least (upper_bound answers) x rows = c.reach-affected.ensures.extremes ∙ ap (λ u. rows_at_least u x rows) bounds in
+    let own : c.reach-affected.result.extremes.list ≡ extremes more last = reached ∙ next_extremes answers rows x in
+    let fallen : TellsExtremes (extremes more) answers c.fall-fewest.new.counts c.fall-fewest.result (answers_of c.fall-fewest.new.least) =
+    subst (λ l. TellsExtremes (extremes (and_answer (answers_of l) rows x)) (answers_of l) c.fall-fewest.new.counts c.fall-fewest.result (answers_of c.fall-fewest.new.least)) (c.deref-2.ensures.value ∙ c.in_ok-reserve.ensures.items) c.fall-fewest.ensures.tells in
+    let count : c.len-count.result ≡ length (extremes more last) = c.len-count.ensures ∙ ap length own in
+    let counts_are : c.push_reserved.new.self.items ≡ c.fall-fewest.new.counts ++ c.len-count.result ∷ [] =
+    c.push_reserved.ensures.items ∙ ap (λ l. l ++ c.len-count.result ∷ []) (with_items_is c.reserve-2.new.self c.fall-fewest.new.counts (c.fall-fewest.auto.counts ∙ c.deref_mut.ensures.len)) in
+    let upper_is : (with_items c.self.inside.upper c.settle.new.upper).items ≡ c.settle.new.upper = with_items_is c.self.inside.upper c.settle.new.upper (c.settle.auto.upper ∙ c.deref_mut-3.ensures.len) in
+    let small : c.len-count.result ≤ 65535 = omega (arith, c.len-count.type_inv) in
+    record {
+      at_most = c.self.invariant.at_most;
+      same_n = subst (AllByRecursion (λ p. p.rows.n ≡ c.self.inside.n)) (sym pairs_are) (all_last (λ p. p.rows.n ≡ c.self.inside.n) c.self.inside.pairs.items (record { rows = c.args.rows.now; answer = x }) c.self.invariant.same_n same_n);
+      are_rows = subst (AllByRecursion (λ a. AreRows c.self.inside.n a.rows)) (sym answers_are)
+          (all-push (λ a. AreRows c.self.inside.n a.rows) answers last c.self.invariant.are_rows (subst (λ n. AreRows n rows) same_n c.n.ensures.are_rows));
+      one_each = ap length upper_is ∙ c.settle.auto.upper ∙ ap length c.deref_mut-3.ensures.value ∙ c.self.invariant.one_each;
+      bounds = λ r. ap (λ l. bound_at l r) upper_is ∙ c.settle.ensures.settled r
+          ∙ ap (λ l. cond (has_row l r) (Some x) (bound_at c.deref_mut-3.result.now r)) reached
+          ∙ ap (λ o. cond (has_row (rows_at_least (upper_bound answers) x rows) r) (Some x) o) (ap (λ l. bound_at l r) c.deref_mut-3.ensures.value ∙ c.self.invariant.bounds r)
+          ∙ next_bounds answers rows x r ∙ ap (λ l. upper_bound l r) (sym answers_are);
+      same_n_least = subst (λ n. AllByRecursion (λ p. p.rows.n ≡ n) c.insert.new.least.items) same_n c.insert.ensures.same_n_least;
+      tells = subst (λ l. TellsExtremes (extremes l) l c.push_reserved.new.self.items c.min-self-inside.result (answers_of c.insert.new.least.items)) (sym answers_are) (record {
+        counted = counts_are ∙ ap (λ l. l ++ c.len-count.result ∷ []) fallen.counted ∙ ap (λ k. map (λ a. length (extremes more a)) answers ++ k ∷ []) count
+            ∙ sym (map-append (λ a. length (extremes more a)) answers (last ∷ []));
+        fewest_is = c.min-self-inside.ensures ∙ ap (λ f. min f c.len-count.result) fallen.fewest_is
+            ∙ sym (ap fewest_of counts_are ∙ fewest_of-push c.fall-fewest.new.counts c.len-count.result small);
+        are_least = subst (λ l. AreLeast (extremes (and_answer (answers_of l) rows x)) (and_answer (answers_of l) rows x) (answers_of c.insert.new.least.items)) (c.deref-4.ensures.value ∙ c.in_ok-reserve.ensures.items) c.insert.ensures.tells;
+      });
+    }
+
+pub returns-clause-ok : goal.returns-clause-ok
+returns-clause-ok c =
+    let answers = answers_of c.self.inside.pairs.items in
+    let rows = c.args.rows.now.list in
+    let x = to_z w64 (of_z w64 c.args.answer) in
+    let same : x ≡ c.args.answer = to_z-of_z w64 c.args.answer c.ranges.answer in
+    let pairs_are = c.push_reserved-2.ensures.items ∙ ap (λ l. l ++ record { rows = c.args.rows.now; answer = x } ∷ []) c.in_ok-reserve.ensures.items in
+    let answers_are : answers_of c.push_reserved-2.new.self.items ≡ and_answer answers rows x = ap answers_of pairs_are ∙ map-append answer_of c.self.inside.pairs.items _ in
+    ap (λ (l : List Answer). record { n = c.self.inside.n; answers = l }) (answers_are ∙ ap (and_answer answers rows) same)
+    ∙ ap (λ (m : Maxima). record { n = m.n; answers = and_answer m.answers rows c.args.answer }) c.self.view_is

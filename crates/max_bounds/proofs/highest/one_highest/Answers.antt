@@ -1,0 +1,54 @@
+use Rattle.std.proofs.Common.{◌∷◌, arith, sym, ◌∙◌, List, ℕ}
+use Rattle.std.proofs.lemmas.Bool.{true≢false}
+use Rattle.audit_types.specs.RowLaws.{walk_row, walk_more}
+use Rattle.max_bounds.specs.Reaching.{bound_at}
+use Rattle.max_bounds.proofs.Walks.{fresh, seen_before, equal_bounds, other_bounds, without_bound}
+use Rattle.max_bounds.proofs.HighestBounds.{highest_equal, highest_above, highest_below, two_free}
+use Rattle.max_bounds.proofs.highest.one_highest.Goals as goal
+
+pub bounds-upper-row : goal.bounds-upper-row
+bounds-upper-row c =
+    let below = walk_row c.args.rows.now.n (c.in-Some.first ∷ c.loop-row.yielded) c.loop-row.row-iterator c.next-in-loop-row.new.self c.args.rows.now.list c.in-Some-row.row
+    c.n.ensures.are_rows c.loop-row.invariant.together c.in-Some-row.ensures.steps in
+    omega arith
+
+pub returns-then-is_none : goal.returns-then-is_none
+returns-then-is_none c =
+    let seen : List ℕ = c.in-Some.first ∷ c.loop-row.yielded in
+    let q = c.in-Some-row.row in
+    let same = equal_bounds _ _ (sym c.eq.ensures ∙ c.if-eq.true) in
+    let new = fresh c.args.rows.now.n seen c.loop-row.row-iterator c.next-in-loop-row.new.self c.args.rows.now.list q c.n.ensures.are_rows c.loop-row.invariant.together c.in-Some-row.ensures.steps in (
+      (λ yes. absurd (true≢false (sym yes))),
+      (λ one. absurd (two_free (bound_at c.args.upper.now) seen c.loop-row.highest c.loop-row.alone q c.loop-row.invariant.highest c.args.rows.now.list
+          (λ p there. seen_before seen c.loop-row.row-iterator c.next-in-loop-row.new.self c.args.rows.now.list q p c.loop-row.invariant.together c.in-Some-row.ensures.steps there)
+          same (sym same ∙ without_bound _ c.is_none.result c.is_none.ensures c.if-is_none.true) new one)),
+    )
+
+pub loop-row-preserved-then-eq : goal.loop-row-preserved-then-eq
+loop-row-preserved-then-eq c =
+    let seen : List ℕ = c.in-Some.first ∷ c.loop-row.yielded in
+    let q = c.in-Some-row.row in
+    record {
+      together = walk_more seen c.loop-row.row-iterator c.next-in-loop-row.new.self c.args.rows.now.list q c.loop-row.invariant.together c.in-Some-row.ensures.steps;
+      highest = highest_equal (bound_at c.args.upper.now) seen c.loop-row.highest c.loop-row.alone q c.loop-row.invariant.highest (equal_bounds _ _ (sym c.eq.ensures ∙ c.if-eq.true))
+          (fresh c.args.rows.now.n seen c.loop-row.row-iterator c.next-in-loop-row.new.self c.args.rows.now.list q c.n.ensures.are_rows c.loop-row.invariant.together c.in-Some-row.ensures.steps);
+    }
+
+pub loop-row-preserved-then-is_above : goal.loop-row-preserved-then-is_above
+loop-row-preserved-then-is_above c =
+    let seen : List ℕ = c.in-Some.first ∷ c.loop-row.yielded in
+    let q = c.in-Some-row.row in
+    record {
+      together = walk_more seen c.loop-row.row-iterator c.next-in-loop-row.new.self c.args.rows.now.list q c.loop-row.invariant.together c.in-Some-row.ensures.steps;
+      highest = highest_above (bound_at c.args.upper.now) seen c.loop-row.highest c.loop-row.alone q c.loop-row.invariant.highest (c.is_above.ensures.0 c.if-is_above.true);
+    }
+
+pub loop-row-preserved : goal.loop-row-preserved
+loop-row-preserved c =
+    let seen : List ℕ = c.in-Some.first ∷ c.loop-row.yielded in
+    let q = c.in-Some-row.row in
+    record {
+      together = walk_more seen c.loop-row.row-iterator c.next-in-loop-row.new.self c.args.rows.now.list q c.loop-row.invariant.together c.in-Some-row.ensures.steps;
+      highest = highest_below (bound_at c.args.upper.now) seen c.loop-row.highest c.loop-row.alone q c.loop-row.invariant.highest (other_bounds _ _ (sym c.eq.ensures ∙ c.if-eq.false))
+          (λ above. true≢false (sym (c.is_above.ensures.1 above) ∙ c.if-is_above.false));
+    }

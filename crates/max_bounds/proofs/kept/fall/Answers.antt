@@ -1,0 +1,65 @@
+use Rattle.std.proofs.Common.{◌≡◌, ◌≤◌, ◌-◌, sym, ap, ◌∙◌, subst, length, map, [], rules, SFits}
+use Rattle.std.specs.Int.{w64}
+use Rattle.std.proofs.lemmas.Int.{to_z-of_z}
+use Rattle.std.proofs.Math.Path.{fun_ext}
+use Rattle.std.specs.List.{AllByRecursion}
+use Rattle.audit_types.specs.Rows.{AreRows}
+use Rattle.audit_types.specs.Column.{Answer}
+use Rattle.audit_types.specs.Extremes.{upper_bound, extremes}
+use Rattle.max_bounds.specs.Maxima.{answers_of, and_answer}
+use Rattle.max_bounds.specs.Reaching.{bound_at, reaching}
+use Rattle.max_bounds.specs.Kept.{rows_above, falls_of, lowered_set, AreLeast}
+use Rattle.max_bounds.specs.AnswerLaws.{all_at, all_from}
+use Rattle.max_bounds.proofs.NextExtremes.{none_falls, least_same, least_lowered, next_count, map_agree}
+use Rattle.max_bounds.proofs.kept.fall.Goals as goal
+
+pub returns-then-is_empty-clause-tells : goal.returns-then-is_empty-clause-tells
+returns-then-is_empty-clause-tells c =
+    let answers = answers_of c.args.pairs.now in
+    let rows = c.args.asked.now.rows.list in
+    let x = c.args.asked.now.answer in
+    let none : rows_above (upper_bound answers) x rows ≡ [] = ap (λ u. rows_above u x rows) (sym (fun_ext c.requires.bounds)) ∙ sym c.requires.falling ∙ c.is_empty.ensures.0 c.if-is_empty.true in
+    let same = none_falls answers rows x none in
+    record {
+      counted = c.requires.told.counted ∙ map_agree (λ a. length (extremes answers a)) (λ a. length (extremes (and_answer answers rows x) a)) answers (λ a one. ap length (sym (same a one)));
+      fewest_is = c.requires.told.fewest_is;
+      are_least = least_same answers rows x (answers_of c.args.least.now) same c.requires.told.are_least;
+    }
+
+pub lower_counts-requires-clause-same_n : goal.lower_counts-requires-clause-same_n
+lower_counts-requires-clause-same_n c = subst (λ n. AllByRecursion (λ p. p.rows.n ≡ n) c.args.pairs.now) (sym c.requires.same_n_falling) c.requires.same_n
+
+pub lower_counts-requires-clause-counted : goal.lower_counts-requires-clause-counted
+lower_counts-requires-clause-counted c =
+    c.requires.told.counted ∙ ap (λ u. map (λ (a : Answer). length (reaching u a.rows a.value)) (answers_of c.args.pairs.now)) (sym (fun_ext c.requires.bounds))
+
+pub lower_counts-requires-clause-few : goal.lower_counts-requires-clause-few
+lower_counts-requires-clause-few c =
+    let answers = answers_of c.args.pairs.now in
+    let rows = c.args.asked.now.rows.list in
+    let x = c.args.asked.now.answer in
+    let n = c.args.asked.now.rows.n in
+    let falling = ap (λ u. rows_above u x rows) (fun_ext c.requires.bounds) in
+    let few : AllByRecursion (λ a. length (falls_of (upper_bound answers) (rows_above (upper_bound answers) x rows) a) ≤ length (extremes answers a)) answers =
+    all_from (λ a. length (falls_of (upper_bound answers) (rows_above (upper_bound answers) x rows) a) ≤ length (extremes answers a)) answers
+    (λ a one. (next_count answers rows x n c.n.ensures.are_rows a one (all_at (λ b. AreRows n b.rows) answers a c.requires.are_rows one)).1) in
+    subst (λ l. AllByRecursion (λ a. length (falls_of (bound_at c.args.upper.now) l a) ≤ length (reaching (bound_at c.args.upper.now) a.rows a.value)) answers) (sym c.requires.falling)
+    (subst (λ u. AllByRecursion (λ a. length (falls_of u (rows_above u x rows) a) ≤ length (reaching u a.rows a.value)) answers) (sym (fun_ext c.requires.bounds)) few)
+
+pub returns-clause-tells : goal.returns-clause-tells
+returns-clause-tells c =
+    let answers = answers_of c.args.pairs.now in
+    let rows = c.args.asked.now.rows.list in
+    let x = c.args.asked.now.answer in
+    let n = c.args.asked.now.rows.n in
+    let fits : SFits w64 x = search rules in
+    let same = to_z-of_z w64 x fits in
+    record {
+      counted = c.lower_counts.ensures.lowered
+          ∙ ap (λ l. map (λ (a : Answer). length (reaching (bound_at c.args.upper.now) a.rows a.value) - length (falls_of (bound_at c.args.upper.now) l a)) answers) c.requires.falling
+          ∙ ap (λ u. map (λ (a : Answer). length (reaching u a.rows a.value) - length (falls_of u (rows_above u x rows) a)) answers) (fun_ext c.requires.bounds)
+          ∙ map_agree (λ a. length (extremes answers a) - length (falls_of (upper_bound answers) (rows_above (upper_bound answers) x rows) a)) (λ a. length (extremes (and_answer answers rows x) a)) answers
+          (λ a one. (next_count answers rows x n c.n.ensures.are_rows a one (all_at (λ b. AreRows n b.rows) answers a c.requires.are_rows one)).0);
+      fewest_is = c.fewest.ensures;
+      are_least = subst (AreLeast (extremes (and_answer answers rows x)) answers) (sym (c.lower_sets.ensures.lowered ∙ ap (λ a. map (lowered_set a rows) (answers_of c.args.least.now)) same)) (least_lowered answers rows x (answers_of c.args.least.now) c.requires.told.are_least);
+    }

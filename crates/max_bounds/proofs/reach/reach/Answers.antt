@@ -1,0 +1,54 @@
+use Rattle.std.proofs.Common.{◌≡◌, arith, ◌∙◌, to_z, of_z}
+use Rattle.std.specs.Int.{w64}
+use Rattle.std.proofs.lemmas.Int.{to_z-of_z}
+use Rattle.audit_types.specs.RowLaws.{walk_row, walk_more}
+use Rattle.max_bounds.specs.Reaching.{bound_at}
+use Rattle.max_bounds.specs.Kept.{is_at_least, is_above}
+use Rattle.max_bounds.proofs.Walks.{joined, walk_ends}
+use Rattle.max_bounds.proofs.reach.reach.Goals as goal
+
+pub bounds-upper-row : goal.bounds-upper-row
+bounds-upper-row c =
+    let below = walk_row c.args.rows.now.n c.loop-row.yielded c.loop-row.row-iterator c.next.new.self c.args.rows.now.list c.in-Some.row
+    c.n-n.ensures.are_rows c.loop-row.invariant.together c.in-Some.ensures.steps in
+    omega arith
+
+pub add_if-requires : goal.add_if-requires
+add_if-requires c =
+    let below = walk_row c.args.rows.now.n c.loop-row.yielded c.loop-row.row-iterator c.next.new.self c.args.rows.now.list c.in-Some.row
+    c.n-n.ensures.are_rows c.loop-row.invariant.together c.in-Some.ensures.steps in
+    omega (arith, c.loop-row.invariant.extremes_n)
+
+pub add_if-requires-in-loop-row : goal.add_if-requires-in-loop-row
+add_if-requires-in-loop-row c =
+    let below = walk_row c.args.rows.now.n c.loop-row.yielded c.loop-row.row-iterator c.next.new.self c.args.rows.now.list c.in-Some.row
+    c.n-n.ensures.are_rows c.loop-row.invariant.together c.in-Some.ensures.steps in
+    omega (arith, c.loop-row.invariant.falling_n)
+
+pub loop-row-preserved : goal.loop-row-preserved
+loop-row-preserved c =
+    let n = c.args.rows.now.n in
+    let rows = c.args.rows.now.list in
+    let answer = to_z w64 (of_z w64 c.args.answer) in
+    let bound = bound_at c.args.upper.now in
+    let more = walk_more c.loop-row.yielded c.loop-row.row-iterator c.next.new.self rows c.in-Some.row c.loop-row.invariant.together c.in-Some.ensures.steps in
+    record {
+      together = more;
+      extremes_n = c.add_if.ensures.n ∙ c.loop-row.invariant.extremes_n;
+      falling_n = c.add_if-in-loop-row.ensures.n ∙ c.loop-row.invariant.falling_n;
+      extremes = joined n c.loop-row.extremes.n (λ r. is_at_least answer (bound r)) c.loop-row.yielded c.next.new.self rows c.loop-row.extremes.list _ c.in-Some.row c.is_at_least.result
+          c.n-n.ensures.are_rows more c.loop-row.invariant.extremes_n c.loop-row.invariant.extremes c.is_at_least.ensures c.add_if.ensures.added;
+      falling = joined n c.loop-row.falling.n (λ r. is_above answer (bound r)) c.loop-row.yielded c.next.new.self rows c.loop-row.falling.list _ c.in-Some.row c.is_above.result
+          c.n-n.ensures.are_rows more c.loop-row.invariant.falling_n c.loop-row.invariant.falling c.is_above.ensures c.add_if-in-loop-row.ensures.added;
+    }
+
+pub returns : goal.returns
+returns c =
+    let same : to_z w64 (of_z w64 c.args.answer) ≡ c.args.answer = to_z-of_z w64 c.args.answer c.ranges.answer in
+    let all = walk_ends c.loop-row.yielded c.loop-row.row-iterator c.args.rows.now.list c.loop-row.invariant.together c.in-None.ensures.steps.0 in
+    record {
+      extremes_n = c.loop-row.invariant.extremes_n;
+      falling_n = c.loop-row.invariant.falling_n;
+      extremes = rw (all, same) at c.loop-row.invariant.extremes;
+      falling = rw (all, same) at c.loop-row.invariant.falling;
+    }

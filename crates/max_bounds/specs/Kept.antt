@@ -1,0 +1,87 @@
+-- What is kept of answered maxima beside the answers.
+use Rattle.std.specs.Prelude.{◌≡◌, ℕ, ◌<◌, ◌≤◌, ℤ, ◌<ℤ◌, ◌≤ℤ◌, Bool, true, false, not, ◌&&◌, int_lt, List, [], ◌∷◌, map, length, Option, Some, None, min, cond}
+use Rattle.std.specs.List.{filter, AllByRecursion}
+use Rattle.audit_types.specs.Rows.{AreRows, has_row}
+use Rattle.audit_types.specs.Column.{Answer, IsOneOf}
+use Rattle.audit_types.specs.Extremes.{upper_bound, is_bound, extremes}
+use Rattle.max_bounds.specs.Maxima.{answers_of}
+use Rattle.max_bounds.specs.Reaching.{bound_at, reaching}
+use Rattle.max_bounds.specs.Outside.{outside}
+use Rattle.max_bounds.specs.declared.answered.AnsweredMax.{AnsweredMax}
+use Rattle.max_bounds.specs.declared.bounds.Bounds.TheInside.{Inside}
+use Rattle.max_bounds.specs.declared.stranding.Left.{Left}
+use Rattle.max_bounds.specs.declared.stranding.Left.TheVariants.{Nothing, One, More}
+use Rattle.max_bounds.specs.declared.stranding.Lost.{Lost}
+use Rattle.max_bounds.specs.declared.stranding.Lost.TheVariants.{Neither, AllButOne, Whole}
+
+-- how many extreme rows each answer has
+abbrev pub extreme_counts : List Answer → List ℕ
+extreme_counts answers = map (λ a. length (extremes answers a)) answers
+
+-- how many rows of each set reach their bound
+abbrev pub reaching_counts : (ℕ → Option ℤ) → List Answer → List ℕ
+reaching_counts bound answers = map (λ a. length (reaching bound a.rows a.value)) answers
+
+-- the least count, and the largest 16-bit number where there is none
+abbrev pub fewest_of : List ℕ → ℕ
+fewest_of [] = 65535
+fewest_of (c ∷ counts) = min c (fewest_of counts)
+
+-- no bound, or one that is not below the answer
+abbrev pub is_at_least : ℤ → Option ℤ → Bool
+is_at_least answer None = true
+is_at_least answer (Some b) = not (int_lt b answer)
+
+-- a bound above the answer
+abbrev pub is_above : ℤ → Option ℤ → Bool
+is_above answer None = false
+is_above answer (Some b) = int_lt answer b
+
+-- the rows of a set that an answer has for its bound, once it joins the others
+abbrev pub rows_at_least : (ℕ → Option ℤ) → ℤ → List ℕ → List ℕ
+rows_at_least bound answer rows = filter (λ r. is_at_least answer (bound r)) rows
+
+-- the rows of a set whose bound the answer lowers
+abbrev pub rows_above : (ℕ → Option ℤ) → ℤ → List ℕ → List ℕ
+rows_above bound answer rows = filter (λ r. is_above answer (bound r)) rows
+
+-- the rows of an answer that reach their bound and are among the falling ones
+abbrev pub falls_of : (ℕ → Option ℤ) → List ℕ → Answer → List ℕ
+falls_of bound falling a = filter (λ r. has_row a.rows r && is_bound (bound r) a.value) falling
+
+-- a set with a higher answer loses its rows in the new set
+abbrev pub lowered_set : ℤ → List ℕ → Answer → Answer
+lowered_set answer rows a = cond (int_lt answer a.value) (record { rows = outside rows a.rows; value = a.value }) a
+
+-- whether rows are none, one or more
+abbrev pub IsLeft : List ℕ → Left → Type 0
+IsLeft rows Nothing = rows ≡ []
+IsLeft rows One = length rows ≡ 1
+IsLeft rows More = 1 < length rows
+
+-- whether a set with this answer can still change what is known to be lost
+abbrev pub Matters : Lost → ℤ → Type 0
+Matters Neither answer = Unit {0}
+Matters (AllButOne highest) answer = highest ≤ℤ answer
+Matters (Whole highest) answer = highest <ℤ answer
+
+-- sets that stand for the extreme rows of all answers: each is those of an answer, and each answer has such a set of its value, with no other row
+pub record AreLeast (extreme_rows : Answer → List ℕ) (answers sets : List Answer) : Type 0 where
+  pub each : (e : Answer) → IsOneOf e sets → (a : Answer) × IsOneOf a answers × (a.value ≡ e.value) × (extreme_rows a ≡ e.rows)
+  pub covered : (a : Answer) → IsOneOf a answers → (e : Answer) × IsOneOf e sets × (e.value ≡ a.value) × ((r : ℕ) → has_row e.rows r ≡ true → has_row (extreme_rows a) r ≡ true)
+
+-- the counts, the least of them, and the least sets tell of the extreme rows of these answers
+pub record TellsExtremes (extreme_rows : Answer → List ℕ) (answers : List Answer) (counts : List ℕ) (fewest : ℕ) (sets : List Answer) : Type 0 where
+  pub counted : counts ≡ map (λ a. length (extreme_rows a)) answers
+  pub fewest_is : fewest ≡ fewest_of counts
+  pub are_least : AreLeast extreme_rows answers sets
+
+-- what is true of the fields of all kept maxima
+pub record IsKept (b : Inside) : Type 0 where
+  pub at_most : b.n ≤ 1024
+  pub same_n : AllByRecursion (λ p. p.rows.n ≡ b.n) b.pairs.items
+  pub are_rows : AllByRecursion (λ a. AreRows b.n a.rows) (answers_of b.pairs.items)
+  pub one_each : length b.upper.items ≡ b.n
+  pub bounds : (r : ℕ) → bound_at b.upper.items r ≡ upper_bound (answers_of b.pairs.items) r
+  pub same_n_least : AllByRecursion (λ p. p.rows.n ≡ b.n) b.least.items
+  pub tells : TellsExtremes (extremes (answers_of b.pairs.items)) (answers_of b.pairs.items) b.counts.items b.fewest (answers_of b.least.items)

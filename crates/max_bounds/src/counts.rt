@@ -1,0 +1,65 @@
+//! How many extreme rows each answer has.
+ghost use Rattle.std.specs.Prelude.{◌≡◌, ◌<◌, ◌≤◌, ◌-◌, ◌&&◌, map, length};
+ghost use Rattle.std.specs.List.{AllByRecursion};
+ghost use Rattle.audit_types.specs.Rows.{has_row};
+ghost use Rattle.audit_types.specs.Extremes.{is_bound};
+ghost use Rattle.max_bounds.specs.Maxima.{answer_of, answers_of};
+ghost use Rattle.max_bounds.specs.Reaching.{bound_at, reaching};
+ghost use Rattle.max_bounds.specs.Kept.{reaching_counts, falls_of, fewest_of};
+
+use crate::answered::AnsweredMax;
+use audit_types::RowSet;
+
+// Whether a row with this bound is extreme for an answer.
+fn is_extreme(pair: &AnsweredMax, row: u16, bound: Option<i64>) -> bool
+    requires { row < pair.now.rows.n }
+    ensures { result ≡ (has_row pair.now.rows.list row && is_bound bound pair.now.answer) }
+{
+    pair.rows.has(row) && bound == Some(pair.answer)
+}
+
+// How many of the falling rows are extreme for an answer.
+fn falls(upper: &[Option<i64>], falling: &RowSet, pair: &AnsweredMax) -> u16
+    requires same_n { pair.now.rows.n ≡ falling.now.n }
+    requires within { falling.now.n ≤ length upper.now }
+    ensures { result ≡ length (falls_of (bound_at upper.now) falling.now.list (answer_of pair.now)) }
+{
+    // A set says of its n that no row is past it.
+    let _ = falling.n();
+    let mut count = 0;
+    for row in falling.iter() {
+        if is_extreme(pair, row, upper[row as usize]) {
+            count += 1;
+        }
+    }
+    count
+}
+
+/// Takes the falling rows from the counts of the answers that they are extreme for.
+pub(crate) fn lower_counts(
+    counts: &mut [u16],
+    pairs: &[AnsweredMax],
+    upper: &[Option<i64>],
+    falling: &RowSet,
+)
+    requires counted { counts.old ≡ reaching_counts (bound_at upper.now) (answers_of pairs.now) }
+    requires same_n { AllByRecursion (λ p. p.rows.n ≡ falling.now.n) pairs.now }
+    requires within { falling.now.n ≤ length upper.now }
+    requires few { AllByRecursion (λ a. length (falls_of (bound_at upper.now) falling.now.list a) ≤ length (reaching (bound_at upper.now) a.rows a.value)) (answers_of pairs.now) }
+    ensures lowered { counts.new ≡ map (λ a. length (reaching (bound_at upper.now) a.rows a.value) - length (falls_of (bound_at upper.now) falling.now.list a)) (answers_of pairs.now) }
+{
+    for (k, pair) in pairs.iter().enumerate() {
+        counts[k] -= falls(upper, falling, pair);
+    }
+}
+
+/// The least of the counts, and the largest number where there is none.
+pub(crate) fn fewest(counts: &[u16]) -> u16
+    ensures { result ≡ fewest_of counts.now }
+{
+    let mut fewest = u16::MAX;
+    for count in counts {
+        fewest = fewest.min(*count);
+    }
+    fewest
+}

@@ -1,0 +1,45 @@
+//! Whether one row of a set has the highest bound.
+ghost use Rattle.std.specs.Prelude.{◌↔◌, ◌≤◌, IsTrue, length};
+ghost use Rattle.max_bounds.specs.Reaching.{bound_at};
+ghost use Rattle.max_bounds.specs.Outside.{IsBelowBound, HasOneHighest};
+
+use audit_types::RowSet;
+
+// Whether a bound is above another. No bound is above every number.
+fn is_above(bound: Option<i64>, other: Option<i64>) -> bool
+    ensures { IsTrue result ↔ IsBelowBound other bound }
+{
+    match (bound, other) {
+        (_, None) => false,
+        (None, Some(_)) => true,
+        (Some(bound), Some(other)) => bound > other,
+    }
+}
+
+/// Whether the bound of one row of the set is above those of its other rows, where a row without a bound stands above all.
+pub(crate) fn one_highest(upper: &[Option<i64>], rows: &RowSet) -> bool
+    requires within { rows.now.n ≤ length upper.now }
+    ensures { IsTrue result ↔ HasOneHighest (bound_at upper.now) rows.now.list }
+{
+    // A set says of its n that no row is past it.
+    let _ = rows.n();
+    let mut left = rows.iter();
+    let Some(first) = left.next() else {
+        return false;
+    };
+    let mut highest = upper[first as usize];
+    let mut alone = true;
+    for row in left {
+        let bound = upper[row as usize];
+        if bound == highest {
+            if bound.is_none() {
+                return false;
+            }
+            alone = false;
+        } else if is_above(bound, highest) {
+            highest = bound;
+            alone = true;
+        }
+    }
+    alone
+}

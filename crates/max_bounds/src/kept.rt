@@ -1,0 +1,69 @@
+//! What is kept of the extreme rows of the answers, as an answer joins them.
+ghost use Rattle.std.specs.Prelude.{◌≡◌, ◌<◌, ◌≤◌, ℕ, length, vec_len, vec_capacity};
+ghost use Rattle.std.specs.List.{AllByRecursion};
+ghost use Rattle.audit_types.specs.Rows.{AreRows};
+ghost use Rattle.audit_types.specs.Extremes.{upper_bound, extremes};
+ghost use Rattle.max_bounds.specs.Maxima.{answer_of, answers_of, and_answer};
+ghost use Rattle.max_bounds.specs.Reaching.{bound_at};
+ghost use Rattle.max_bounds.specs.Kept.{rows_above, AreLeast, TellsExtremes};
+
+use crate::answered::AnsweredMax;
+use crate::counts::{fewest, lower_counts};
+use crate::sets::lower_sets;
+use crate::stranding::has_within;
+use audit_types::RowSet;
+
+/// Takes the falling rows of a new answer from the counts and the sets of the answers before it. The result is the least count.
+pub(crate) fn fall(
+    counts: &mut [u16],
+    least_count: u16,
+    least: &mut [AnsweredMax],
+    pairs: &[AnsweredMax],
+    upper: &[Option<i64>],
+    asked: &AnsweredMax,
+    falling: &RowSet,
+) -> u16
+    requires same_n { AllByRecursion (λ p. p.rows.n ≡ asked.now.rows.n) pairs.now }
+    requires same_n_least { AllByRecursion (λ p. p.rows.n ≡ asked.now.rows.n) least.old }
+    requires same_n_falling { falling.now.n ≡ asked.now.rows.n }
+    requires within { falling.now.n ≤ length upper.now }
+    requires are_rows { AllByRecursion (λ a. AreRows asked.now.rows.n a.rows) (answers_of pairs.now) }
+    requires bounds { (r : ℕ) → bound_at upper.now r ≡ upper_bound (answers_of pairs.now) r }
+    requires falling { falling.now.list ≡ rows_above (bound_at upper.now) asked.now.answer asked.now.rows.list }
+    requires told { TellsExtremes (extremes (answers_of pairs.now)) (answers_of pairs.now) counts.old least_count (answers_of least.old) }
+    ensures same_n_least { AllByRecursion (λ p. p.rows.n ≡ asked.now.rows.n) least.new }
+    ensures tells { TellsExtremes (extremes (and_answer (answers_of pairs.now) asked.now.rows.list asked.now.answer)) (answers_of pairs.now) counts.new result (answers_of least.new) }
+{
+    if falling.is_empty() {
+        return least_count;
+    }
+    // A set says of its n that no row is past it.
+    let _ = asked.rows.n();
+    lower_counts(counts, pairs, upper, falling);
+    lower_sets(least, &asked.rows, asked.answer);
+    fewest(counts)
+}
+
+/// Puts a new answer's own extreme rows behind the least sets, unless one of this answer lies in its set.
+pub(crate) fn insert(
+    least: &mut Vec<AnsweredMax>,
+    own: &RowSet,
+    asked: &AnsweredMax,
+    pairs: &[AnsweredMax],
+)
+    requires room { vec_len least.old < vec_capacity least.old }
+    requires same_n_least { AllByRecursion (λ p. p.rows.n ≡ asked.now.rows.n) least.old.items }
+    requires same_n { own.now.n ≡ asked.now.rows.n }
+    requires own { own.now.list ≡ extremes (and_answer (answers_of pairs.now) asked.now.rows.list asked.now.answer) (answer_of asked.now) }
+    requires told { AreLeast (extremes (and_answer (answers_of pairs.now) asked.now.rows.list asked.now.answer)) (answers_of pairs.now) (answers_of least.old.items) }
+    ensures same_n_least { AllByRecursion (λ p. p.rows.n ≡ asked.now.rows.n) least.new.items }
+    ensures tells { AreLeast (extremes (and_answer (answers_of pairs.now) asked.now.rows.list asked.now.answer))
+        (and_answer (answers_of pairs.now) asked.now.rows.list asked.now.answer) (answers_of least.new.items) }
+{
+    if !has_within(least, &asked.rows, asked.answer) {
+        least.push_reserved(AnsweredMax {
+            rows: *own,
+            answer: asked.answer,
+        });
+    }
+}

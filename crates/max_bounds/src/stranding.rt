@@ -1,0 +1,96 @@
+//! Sets of extreme rows that a question's set holds but for one row.
+ghost use Rattle.std.specs.Prelude.{◌≡◌, ◌↔◌, ℤ, IsTrue, []};
+ghost use Rattle.std.specs.List.{AllByRecursion};
+ghost use Rattle.max_bounds.specs.Maxima.{answer_of, answers_of};
+ghost use Rattle.max_bounds.specs.Outside.{outside, HasStranded, IsWithin, HasWithin};
+ghost use Rattle.max_bounds.specs.Kept.{IsLeft, Matters};
+
+use crate::answered::AnsweredMax;
+use audit_types::RowSet;
+
+/// How many rows of a set are left outside another, as far as it matters.
+#[derive(Clone, Copy)]
+pub(crate) enum Left {
+    Nothing,
+    One,
+    More,
+}
+
+fn left_outside(extremes: &RowSet, rows: &RowSet) -> Left
+    requires same_n { extremes.now.n ≡ rows.now.n }
+    ensures { IsLeft (outside rows.now.list extremes.now.list) result }
+{
+    // A set says of its n that no row is past it.
+    let _ = extremes.n();
+    let mut one = false;
+    for row in extremes.iter() {
+        if !rows.has(row) {
+            if one {
+                return Left::More;
+            }
+            one = true;
+        }
+    }
+    if one { Left::One } else { Left::Nothing }
+}
+
+// The greatest answer of a set of which at most one row is left, and whether a set of this answer is held whole.
+#[derive(Clone, Copy)]
+pub(crate) enum Lost {
+    Neither,
+    AllButOne(i64),
+    Whole(i64),
+}
+
+// Whether a set with this answer can still change it.
+fn matters(lost: Lost, answer: i64) -> bool
+    ensures { IsTrue result ↔ Matters lost answer }
+{
+    match lost {
+        Lost::Neither => true,
+        Lost::AllButOne(highest) => answer >= highest,
+        Lost::Whole(highest) => answer > highest,
+    }
+}
+
+/// Whether all rows of some set but one lie in the question's, and each set that lies there whole has a lower answer.
+pub(crate) fn strands(least: &[AnsweredMax], rows: &RowSet) -> bool
+    requires same_n { AllByRecursion (λ p. p.rows.n ≡ rows.now.n) least.now }
+    ensures { IsTrue result ↔ HasStranded (λ a. a.rows) (answers_of least.now) rows.now.list }
+{
+    let mut lost = Lost::Neither;
+    for set in least {
+        if matters(lost, set.answer) {
+            match left_outside(&set.rows, rows) {
+                Left::Nothing => lost = Lost::Whole(set.answer),
+                Left::One => lost = Lost::AllButOne(set.answer),
+                Left::More => {}
+            }
+        }
+    }
+    matches!(lost, Lost::AllButOne(_))
+}
+
+// Whether a set has this answer and lies in the question's.
+fn is_within(set: &AnsweredMax, rows: &RowSet, answer: i64) -> bool
+    requires same_n { set.now.rows.n ≡ rows.now.n }
+    ensures { IsTrue result ↔ IsWithin rows.now.list answer (answer_of set.now) }
+{
+    if set.answer != answer {
+        return false;
+    }
+    matches!(left_outside(&set.rows, rows), Left::Nothing)
+}
+
+/// Whether some set with this answer lies in the question's.
+pub(crate) fn has_within(least: &[AnsweredMax], rows: &RowSet, answer: i64) -> bool
+    requires same_n { AllByRecursion (λ p. p.rows.n ≡ rows.now.n) least.now }
+    ensures { IsTrue result ↔ HasWithin (answers_of least.now) rows.now.list answer }
+{
+    for set in least {
+        if is_within(set, rows, answer) {
+            return true;
+        }
+    }
+    false
+}
