@@ -96,3 +96,30 @@ fn candidates_of_nine_and_ten(rt: HostRuntime) -> Result<(), Fail> {
     assert_eq!(rt; column.candidates()?.as_slice(), [8, 9, 10, 11].as_slice());
     Ok(())
 }
+
+// The question holds all rows of one answer and one of two of the other. Where the first is 7 and the second 5, the answer is 7
+// and tells nothing of row 1. The other way round 6 would be possible, and leave row 1 alone with the 7.
+#[test]
+fn a_higher_answer_that_is_held_whole_shields_a_lower_one(rt: HostRuntime) -> Result<(), Fail> {
+    for (whole, split, verdict) in [
+        (7, 5, Verdict::Released),
+        (5, 7, Verdict::DeniedUnsafe),
+    ] {
+        let mut column = MaxColumn::new(rt.alloc(), 4)?;
+        column.accept(&set(&rt, 4, &[2, 3]), whole)?;
+        column.accept(&set(&rt, 4, &[0, 1]), split)?;
+        assert_eq!(rt; column.probe(&set(&rt, 4, &[0, 2, 3]))?, verdict);
+    }
+    Ok(())
+}
+
+// No table gives 5 and 3 over the same rows, and then no question is denied.
+#[test]
+fn nothing_is_denied_behind_impossible_answers(rt: HostRuntime) -> Result<(), Fail> {
+    let mut column = MaxColumn::new(rt.alloc(), 4)?;
+    let asked = set(&rt, 4, &[0, 1]);
+    column.accept(&asked, 5)?;
+    column.accept(&asked, 3)?;
+    assert_eq!(rt; column.probe(&set(&rt, 4, &[2]))?, Verdict::Released);
+    Ok(())
+}

@@ -1,16 +1,15 @@
 -- What the least count and the least sets tell of a question.
-use Rattle.std.proofs.Common.{not, true, ◌≡◌, ◌≢◌, ℕ, ◌<◌, ◌≤◌, ℤ, List, [], ◌∷◌, length, map, refl, sym, ap, ◌∙◌, subst, arith, inl, inr, ◌⊎◌, min}
-use Rattle.std.specs.Prelude.{◌<ℤ◌}
+use Rattle.std.proofs.Common.{not, true, ◌≡◌, ℕ, ◌<◌, ◌≤◌, List, [], ◌∷◌, length, map, refl, sym, ap, ◌∙◌, subst, arith, inl, inr}
 use Rattle.std.specs.List.{AllByRecursion}
 use Rattle.std.proofs.lemmas.Int.{ints}
 use Rattle.std.proofs.lemmas.Bool.{cases_lt, true≢false}
 use Rattle.audit_types.specs.Rows.{has_row, AreRows}
 use Rattle.audit_types.specs.Column.{Answer, IsOneOf}
 use Rattle.audit_types.specs.Extremes.{upper_bound, is_bound, extremes, IsConsistent, IsLone}
-use Rattle.max_bounds.specs.Outside.{outside, HasOneHighest, IsStranded, HasStranded, IsDangerousByExtremes}
-use Rattle.max_bounds.specs.Kept.{fewest_of, AreLeast, TellsExtremes}
+use Rattle.max_bounds.specs.Outside.{outside, HasOneHighest, HasStranded, IsDangerousByExtremes}
+use Rattle.max_bounds.specs.Kept.{fewest_of, TellsExtremes}
 use Rattle.max_bounds.specs.AnswerLaws.{all_at, all_from}
-use Rattle.max_bounds.specs.RowListLaws.{filter-has, has-filter, filter-ascends, only_or_not, other_row, some_row, not_empty, first_or_later, one_row, has_first, some_length}
+use Rattle.max_bounds.specs.RowListLaws.{filter-has, has-filter, filter-ascends, only_or_not, other_row, first_or_later, one_row, has_first, some_length}
 
 -- a list without a row is empty
 no_row : (rows : List ℕ) → ((r : ℕ) → has_row rows r ≡ true → ⊥) → rows ≡ []

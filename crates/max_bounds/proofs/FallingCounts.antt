@@ -1,6 +1,6 @@
 -- Counts of extreme rows that fall.
-use Rattle.std.proofs.Common.{◌≡◌, ℕ, ◌+◌, ◌-◌, ◌<◌, ◌≤◌, List, [], ◌∷◌, ◌++◌, length, map, refl, sym, ap, ◌∙◌, arith, get_or, set, take, drop, min, zero, suc, inl, inr, add-one, drop-cons, subst}
-use Rattle.std.proofs.lemmas.List.{map_more, map-append, take_more_set, drop-set-lt, get_or-map, get_or_default}
+use Rattle.std.proofs.Common.{◌≡◌, ℕ, ◌+◌, ◌<◌, ◌≤◌, List, [], ◌∷◌, ◌++◌, length, map, refl, sym, ap, ◌∙◌, arith, get_or, set, take, drop, min, zero, suc, inl, inr, add-one, drop-cons, subst}
+use Rattle.std.proofs.lemmas.List.{map_more, map-append, take_more_set, drop-set-lt, get_or-map}
 use Rattle.std.specs.List.{AllByRecursion}
 use Rattle.audit_types.specs.Column.{Answer, IsOneOf}
 use Rattle.max_bounds.specs.declared.answered.AnsweredMax.{AnsweredMax}

@@ -4,6 +4,7 @@ pub mod Walks
 pub mod HighestBounds
 pub mod LostSets
 pub mod ReachedRows
+pub mod Spans
 pub mod FallingCounts
 pub mod LoweredSets
 pub mod NextExtremes

@@ -1,9 +1,8 @@
 -- Sets that lose the rows of a new answer.
-use Rattle.std.proofs.Common.{◌≡◌, ℕ, ◌<◌, ◌≤◌, ℤ, Bool, true, false, cond, not, ◌&&◌, List, [], ◌∷◌, ◌++◌, length, map, take, drop, set, get_or, zero, suc, ◌+◌, refl, sym, ap, ◌∙◌, subst, arith, inl, inr}
-use Rattle.std.specs.Prelude.{◌<ℤ◌, int_lt}
+use Rattle.std.proofs.Common.{◌≡◌, ℕ, ◌<◌, ℤ, Bool, true, false, cond, not, ◌&&◌, List, [], ◌∷◌, ◌++◌, length, map, take, drop, set, get_or, zero, suc, ◌+◌, refl, sym, ap, ◌∙◌, inl, inr}
+use Rattle.std.specs.Prelude.{int_lt}
 use Rattle.std.specs.List.{filter, AllByRecursion}
 use Rattle.std.proofs.lemmas.List.{map_more, map-append, take_more_set}
-use Rattle.std.proofs.lemmas.Int.{ints}
 use Rattle.std.proofs.lemmas.Bool.{cases_lt, true≢false}
 use Rattle.audit_types.specs.Rows.{has_row, AreRows, intersection, complement}
 use Rattle.audit_types.specs.RowLaws.{ascending_same, AreRows-rows_that, has-rows_that, has-rows_that_above, none_above}

@@ -1,27 +1,25 @@
 -- The extreme rows of all answers once one more joins them.
-use Rattle.std.proofs.Common.{◌≡◌, ◌≢◌, ℕ, ◌+◌, ◌-◌, ◌<◌, ◌≤◌, ℤ, Bool, true, false, cond, not, ◌&&◌, List, [], ◌∷◌, ◌++◌, length, map, refl, sym, ap, ◌∙◌, subst, arith, inl, inr, ◌⊎◌, Option, Some, None, min}
+use Rattle.std.proofs.Common.{◌≡◌, ℕ, ◌-◌, ◌≤◌, ℤ, Bool, true, false, cond, not, ◌&&◌, List, [], ◌∷◌, ◌++◌, length, map, refl, sym, ap, ◌∙◌, arith, inl, inr, Option, Some, None}
 use Rattle.std.specs.Prelude.{◌<ℤ◌, ◌≤ℤ◌, int_lt}
 use Rattle.std.specs.Int.{int_min}
 use Rattle.std.specs.Ordering.{int_eq}
 use Rattle.std.specs.List.{filter, AllByRecursion}
 use Rattle.std.proofs.lemmas.Int.{ints, clamps, by_lt_z}
-use Rattle.std.proofs.lemmas.Bool.{true≢false, cases_lt}
+use Rattle.std.proofs.lemmas.Bool.{true≢false}
 use Rattle.std.proofs.lemmas.Bool.Decides.{Decides-int_eq}
-use Rattle.std.proofs.lemmas.List.{map-append}
 use Rattle.std.proofs.lemmas.List.Filters.{length-filter_both}
 use Rattle.audit_types.specs.Rows.{has_row, AreRows}
 use Rattle.audit_types.specs.RowLaws.{ascending_same}
 use Rattle.audit_types.specs.Column.{Answer, IsOneOf}
 use Rattle.audit_types.specs.Extremes.{least_of, upper_bound, is_bound, extremes}
 use Rattle.max_bounds.specs.Maxima.{and_answer}
-use Rattle.max_bounds.specs.Reaching.{bound_with}
-use Rattle.max_bounds.specs.Outside.{outside, IsWithin, HasWithin}
+use Rattle.max_bounds.specs.Outside.{outside, HasWithin}
 use Rattle.max_bounds.specs.Kept.{is_at_least, is_above, rows_at_least, rows_above, falls_of, lowered_set, AreLeast}
-use Rattle.max_bounds.specs.AnswerLaws.{all_at, one_of_front, one_of_last, front_or_last}
-use Rattle.max_bounds.specs.RowListLaws.{filter-has, has-filter, filter-ascends, not_empty}
+use Rattle.max_bounds.specs.AnswerLaws.{one_of_front, one_of_last, front_or_last}
+use Rattle.max_bounds.specs.RowListLaws.{filter-has, has-filter, filter-ascends}
 use Rattle.max_bounds.specs.BoundLaws.{upper_bound-push, exact_bound}
 use Rattle.max_bounds.specs.OneMoreLaws.{filters_agree_on, asked, bound_in_set, keeps_extremes, lower_keeps, higher_loses}
-use Rattle.max_bounds.proofs.Walks.{empty}
+use Rattle.max_bounds.proofs.Walks.{filter-none}
 use Rattle.max_bounds.proofs.LoweredSets.{has_filtered, same_test}
 
 -- what is at least a number, by the bound with it
@@ -80,14 +78,6 @@ first false b e = e
 second : (a b : Bool) → (a && b) ≡ true → b ≡ true
 second true b e = e
 second false b e = absurd (true≢false (sym e))
-
--- a filter that nothing passes
-filter-none : (test : ℕ → Bool) (rows : List ℕ) → ((r : ℕ) → has_row rows r ≡ true → test r ≡ false) → filter test rows ≡ []
-filter-none test rows fails = filters_agree_on test (λ r. false) rows fails ∙ nothing rows
-  where
-    nothing : (l : List ℕ) → filter (λ r. false) l ≡ []
-    nothing [] = refl
-    nothing (r ∷ l) = nothing l
 
 -- what holds of all, and of one more, holds of all with it
 pub all_last : {X : Type 0} (P : X → Type 0) (xs : List X) (y : X) → AllByRecursion P xs → P y → AllByRecursion P (xs ++ y ∷ [])

@@ -1,6 +1,6 @@
 -- Bounds of rows that get a new one.
-use Rattle.std.proofs.Common.{◌≡◌, ℕ, ◌<◌, ℤ, true, false, cond, ◌||◌, ◌==◌, List, [], ◌∷◌, ◌++◌, length, refl, sym, ap, ◌∙◌, arith, inl, inr, Option, Some, None, set, get_or-set_same, get_or-set_other}
-use Rattle.std.proofs.lemmas.Bool.{cases_eq, or_cases}
+use Rattle.std.proofs.Common.{◌≡◌, ℕ, ◌<◌, ℤ, true, false, cond, List, [], ◌∷◌, ◌++◌, length, refl, sym, ap, ◌∙◌, inl, inr, Option, Some, None, set, get_or-set_same, get_or-set_other}
+use Rattle.std.proofs.lemmas.Bool.{cases_eq}
 use Rattle.audit_types.specs.Rows.{has_row}
 use Rattle.max_bounds.specs.Reaching.{bound_at}
 use Rattle.max_bounds.proofs.Walks.{has-push, has-front, has-last}

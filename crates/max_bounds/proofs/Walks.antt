@@ -1,5 +1,5 @@
 -- Walks over the rows of a set, row by row.
-use Rattle.std.proofs.Common.{◌≡◌, ℕ, ◌+◌, ◌<◌, ◌≤◌, Bool, true, false, cond, not, ◌||◌, ◌==◌, ℤ, List, [], ◌∷◌, ◌++◌, length, length-append, refl, sym, ap, ◌∙◌, subst, arith, inl, inr, ◌⊎◌, append-nil, Option, Some, None}
+use Rattle.std.proofs.Common.{◌≡◌, ℕ, ◌+◌, ◌≤◌, Bool, true, false, cond, not, ◌||◌, ◌==◌, ℤ, List, [], ◌∷◌, ◌++◌, length, length-append, refl, sym, ap, ◌∙◌, subst, arith, inl, inr, ◌⊎◌, append-nil, Option, Some, None}
 use Rattle.std.specs.Option.{option_eq, is_some}
 use Rattle.std.specs.Ordering.{int_eq}
 use Rattle.std.specs.List.{filter}
@@ -10,6 +10,7 @@ use Rattle.std.proofs.lemmas.Bool.{or_cases, or_left, or_right, eqb-true, eq-eqb
 use Rattle.std.proofs.lemmas.Bool.Decides.{nat_tests, Decides-int_eq}
 use Rattle.audit_types.specs.Rows.{has_row, with_row, AscendsFrom, AreRows}
 use Rattle.audit_types.specs.RowLaws.{ascending_same, AreRows-rows_that, has-rows_that, has-rows_that_above, none_above, walk_more}
+use Rattle.max_bounds.specs.OneMoreLaws.{filters_agree_on}
 use Rattle.max_bounds.specs.RowListLaws.{filter-ascends}
 
 -- whether a list with one row more has a row
@@ -153,3 +154,11 @@ no_more test seen later rows together =
 pub empty : (rows : List ℕ) → length rows ≡ 0 → rows ≡ []
 empty [] e = refl
 empty (r ∷ rows) e = absurd (omega arith)
+
+-- a filter that nothing passes
+pub filter-none : (test : ℕ → Bool) (rows : List ℕ) → ((r : ℕ) → has_row rows r ≡ true → test r ≡ false) → filter test rows ≡ []
+filter-none test rows fails = filters_agree_on test (λ r. false) rows fails ∙ nothing rows
+  where
+    nothing : (l : List ℕ) → filter (λ r. false) l ≡ []
+    nothing [] = refl
+    nothing (r ∷ l) = nothing l

@@ -7,8 +7,8 @@ use Rattle.audit_types.specs.Extremes.{upper_bound, is_bound, extremes}
 use Rattle.max_bounds.specs.Maxima.{answers_of}
 use Rattle.max_bounds.specs.Reaching.{bound_at, reaching}
 use Rattle.max_bounds.specs.Outside.{outside}
-use Rattle.max_bounds.specs.declared.answered.AnsweredMax.{AnsweredMax}
 use Rattle.max_bounds.specs.declared.bounds.Bounds.TheInside.{Inside}
+use Rattle.max_bounds.specs.declared.counts.Span.{Span}
 use Rattle.max_bounds.specs.declared.stranding.Left.{Left}
 use Rattle.max_bounds.specs.declared.stranding.Left.TheVariants.{Nothing, One, More}
 use Rattle.max_bounds.specs.declared.stranding.Lost.{Lost}
@@ -48,6 +48,16 @@ rows_above bound answer rows = filter (λ r. is_above answer (bound r)) rows
 -- the rows of an answer that reach their bound and are among the falling ones
 abbrev pub falls_of : (ℕ → Option ℤ) → List ℕ → Answer → List ℕ
 falls_of bound falling a = filter (λ r. has_row a.rows r && is_bound (bound r) a.value) falling
+
+-- the bounds of these rows are within two numbers
+abbrev pub IsSpan : (ℕ → Option ℤ) → List ℕ → Span → Type 0
+IsSpan bound rows span = (r : ℕ) (b : ℤ) → has_row rows r ≡ true → bound r ≡ Some b → (span.low ≤ℤ b) × (b ≤ℤ span.high)
+
+-- the second two numbers span what the first do, and a bound
+pub record Widens (before : Span) (bound : Option ℤ) (after : Span) : Type 0 where
+  pub low : after.low ≤ℤ before.low
+  pub high : before.high ≤ℤ after.high
+  pub spans : (b : ℤ) → bound ≡ Some b → (after.low ≤ℤ b) × (b ≤ℤ after.high)
 
 -- a set with a higher answer loses its rows in the new set
 abbrev pub lowered_set : ℤ → List ℕ → Answer → Answer

@@ -71,6 +71,8 @@ fn the_least_answer_bounds_a_row(rt: HostRuntime) -> Result<(), Fail> {
     assert_eq!(rt; bounds.upper(1), Some(3));
     assert_eq!(rt; bounds.upper(3), None);
     assert_eq!(rt; bounds.lone_extreme(), Some(0));
+    assert_eq!(rt; bounds.counts(), [1, 2].as_slice());
+    assert!(rt; bounds.is_dangerous(&set(&rt, 4, &[2, 3])));
     // A number over rows 0 and 1 that differs from the first answer is impossible.
     let again = set(&rt, 4, &[0, 1]);
     assert_eq!(rt; bounds.trial(&again, 4).consistent, false);
@@ -85,5 +87,18 @@ fn the_least_answer_bounds_a_row(rt: HostRuntime) -> Result<(), Fail> {
             lone: Some(0)
         }
     );
+    Ok(())
+}
+
+// 3 over rows 0 and 1 lowers both, so that none is left to have the 5: no table gives these answers, and nothing is dangerous.
+#[test]
+fn impossible_answers_leave_no_extreme_row(rt: HostRuntime) -> Result<(), Fail> {
+    let mut bounds = Bounds::new(rt.alloc(), 4)?;
+    let asked = set(&rt, 4, &[0, 1]);
+    bounds.add(&asked, 5)?;
+    bounds.add(&asked, 3)?;
+    assert_eq!(rt; bounds.counts(), [0, 2].as_slice());
+    assert!(rt; !bounds.consistent());
+    assert!(rt; !bounds.is_dangerous(&set(&rt, 4, &[2])));
     Ok(())
 }

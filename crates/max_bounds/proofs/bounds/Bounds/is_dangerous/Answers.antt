@@ -1,4 +1,4 @@
-use Rattle.std.proofs.Common.{◌≡◌, ◌<◌, inl, inr, arith, sym, ap, ◌∙◌, subst, refl, ◌==◌}
+use Rattle.std.proofs.Common.{◌≡◌, ◌<◌, inl, inr, arith, sym, ap, ◌∙◌, subst, ◌==◌}
 use Rattle.std.specs.Prelude.{◌↔◌, IsTrue}
 use Rattle.std.specs.List.{AllByRecursion}
 use Rattle.std.proofs.Math.Path.{fun_ext}
