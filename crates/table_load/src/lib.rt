@@ -21,5 +21,5 @@ mod truth;
 pub use faults::TableFault;
 pub use laws::{lists_of_secrets, sizes_of_answers, spells};
 pub use loading::{Table, load, load_public};
-pub use publics::Public;
+pub use publics::{Column, Public};
 pub use secrets::Secret;

@@ -13,7 +13,7 @@ use std::vec::IntoIter;
 
 /// A column of a table, as everybody may see it.
 #[derive(Drop)]
-pub(crate) enum Column {
+pub enum Column {
     Hidden,
     Numbers(Vec<i64>),
     Texts(Vec<Vec<u8>>),
@@ -99,6 +99,13 @@ impl Public {
         ensures is { IsPublic self.now }
     {
         self.rows
+    }
+
+    /// The columns, by their places in the schema.
+    pub fn columns(&self) -> &[Column]
+        ensures { map cells_kept result.now ≡ self.now.columns }
+    {
+        self.columns.as_slice()
     }
 
     /// A number of a column of numbers, by the column's place in the schema.
