@@ -1,1 +1,6 @@
 pub mod Asked
+pub mod Ordered
+pub mod Ranges
+pub mod Marks
+pub mod KeptSorted
+pub mod KeptIndex

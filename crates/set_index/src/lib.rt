@@ -5,11 +5,12 @@
 #![tactic(auto)]
 
 mod asking;
-mod comparing;
 mod index;
 mod laws;
+mod sorted;
 #[cfg(test)]
 mod tests;
+mod values;
 
 pub use index::Index;
 pub use laws::{loads_what_fits, reads_what_fits};

@@ -4,7 +4,7 @@ use crate::index::Index;
 use predicate_lang::read_where;
 use schema_json::read_schema;
 use std::alloc::Global;
-use table_load::load_public;
+use table_load::{Column, load_public};
 
 const SCHEMA: &[u8] =
     b"{\"columns\":[{\"name\":\"dept\",\"is\":\"text\"},{\"name\":\"age\",\"is\":\"number\"},{\"name\":\"salary\",\"is\":\"sum\"}]}";
@@ -37,10 +37,58 @@ fn counts_the_rows_of_a_condition(rt: HostRuntime) {
         ("dept = 'Bob''s'", 1),
         ("dept = 'Sales, North' and age >= 41", 1),
         ("not dept != 'Sales, North' or age in (35, 1)", 3),
-        ("age < 30", 0),
-        ("age <= 30", 1),
+        ("age in (35, 30, 35)", 2),
     ];
     for (text, rows) in cases {
         assert_eq!(rt; count(rt.alloc(), TABLE, text), Some(rows), "of {text}");
     }
+}
+
+// How many rows are below a number, up to it, equal to it, unequal, above it and from it on.
+fn counts(alloc: Global, number: i64) -> Option<[u16; 6]> {
+    let mut counts = [0; 6];
+    for (k, op) in ["<", "<=", "=", "!=", ">", ">="].iter().enumerate() {
+        let text = format!(in alloc; "age {op} {number}").ok()?;
+        counts[k] = count(alloc, TABLE, text.as_str())?;
+    }
+    Some(counts)
+}
+
+#[test]
+fn ranges_end_where_values_do(rt: HostRuntime) {
+    let cases = [
+        // before the least, at it, between two, at the greatest, and after it
+        (29, [0, 0, 0, 3, 3, 3]),
+        (30, [0, 1, 1, 2, 2, 3]),
+        (33, [1, 1, 0, 3, 2, 2]),
+        (41, [2, 3, 1, 2, 0, 1]),
+        (42, [3, 3, 0, 3, 0, 0]),
+    ];
+    for (number, rows) in cases {
+        assert_eq!(rt; counts(rt.alloc(), number), Some(rows), "of {number}");
+    }
+}
+
+// Whether the rows of a public column are listed so.
+fn is_order(alloc: Global, place: u8, rows: &[u16]) -> bool {
+    let Ok(schema) = read_schema(alloc, SCHEMA) else {
+        return false;
+    };
+    let Ok(public) = load_public(alloc, &schema, TABLE) else {
+        return false;
+    };
+    let Ok(index) = Index::new(alloc, public) else {
+        return false;
+    };
+    match index.public().columns().get(place as usize) {
+        Some(Column::Numbers(_)) => index.order(place) == rows,
+        Some(Column::Texts(_)) => index.order(place) == rows,
+        _ => false,
+    }
+}
+
+#[test]
+fn lists_rows_by_value_and_then_by_row(rt: HostRuntime) {
+    assert!(rt; is_order(rt.alloc(), 0, &[2, 0, 1]));
+    assert!(rt; is_order(rt.alloc(), 1, &[0, 2, 1]));
 }

@@ -5,6 +5,6 @@ use Rattle.set_index.proofs.asking.rows_within.Given as goal
 
 abbrev pub invariant-loop-literal : goal.invariant-loop-literal
 invariant-loop-literal l = record {
-  n : l.rows.n ≡ l.public.rows;
-  met : l.rows.list ≡ meets_any l.public l.column (take l.literal-index l.literals);
+  n : l.rows.n ≡ l.index.rows;
+  met : l.rows.list ≡ meets_any l.index l.column (take l.literal-index l.literals);
 }

@@ -1,0 +1,96 @@
+-- A row compares so with a literal where its value's order to the literal passes.
+use Rattle.std.proofs.Common.{◌≡◌, ℕ, ℤ, pos, negsuc, Bool, true, false, cond, ◌&&◌, ◌||◌, not, List, [], get_or, int_lt, int_le, refl, sym, ap, ◌∙◌, arith}
+use Rattle.std.proofs.lemmas.Bool.{false≢true, true≢false}
+use Rattle.std.proofs.lemmas.Bool.Decides.{nat_tests}
+use Rattle.std.specs.Cmp.Lexicographic.{slice_cmp, texts_ties}
+use Rattle.std.specs.Ordering.{int_cmp, is_ge, is_gt, is_le, is_lt, nat_cmp}
+use Rattle.std.specs.declared.cmp.Ordering.TheVariants.{Less, Equal, Greater}
+use Rattle.predicate_lang.specs.Meaning.{compares, compares_text}
+use Rattle.predicate_lang.specs.declared.trees.Op.{Op}
+use Rattle.predicate_lang.specs.declared.trees.Op.TheVariants.{Eq, Ne, Lt, Le, Gt, Ge}
+use Rattle.predicate_lang.specs.declared.trees.Literal.TheVariants.{Number, Text}
+use Rattle.table_load.specs.Cells.{PublicView, Cells, numbers, texts, numbers_of, texts_of, cells_at}
+use Rattle.audit_types.specs.Rows.{rows_that}
+use Rattle.audit_types.specs.RowLaws.{rows_that_agree, rows_that_none}
+use Rattle.set_index.specs.Asked.{meets}
+use Rattle.set_index.specs.Ranges.{answers, is_equality}
+
+is_lt-cond : (p q : Bool) → p ≡ is_lt (cond p Less (cond q Greater Equal))
+is_lt-cond true q = refl
+is_lt-cond false true = refl
+is_lt-cond false false = refl
+
+is_le-cond : (p q : Bool) → (p || not q) ≡ is_le (cond p Less (cond q Greater Equal))
+is_le-cond true q = refl
+is_le-cond false true = refl
+is_le-cond false false = refl
+
+is_gt-cond : (p q : Bool) → (not p && q) ≡ is_gt (cond p Less (cond q Greater Equal))
+is_gt-cond true q = refl
+is_gt-cond false true = refl
+is_gt-cond false false = refl
+
+is_ge-cond : (p q : Bool) → not p ≡ is_ge (cond p Less (cond q Greater Equal))
+is_ge-cond true q = refl
+is_ge-cond false true = refl
+is_ge-cond false false = refl
+
+int_le-tests : (x y : ℤ) → int_le x y ≡ (int_lt x y || not (int_lt y x))
+int_le-tests (pos a) (pos b) = grind (arith, nat_tests)
+int_le-tests (pos a) (negsuc b) = refl
+int_le-tests (negsuc a) (pos b) = refl
+int_le-tests (negsuc a) (negsuc b) = grind (arith, nat_tests)
+
+int_lt-tests : (x y : ℤ) → int_lt y x ≡ (not (int_lt x y) && int_lt y x)
+int_lt-tests (pos a) (pos b) = grind (arith, nat_tests)
+int_lt-tests (pos a) (negsuc b) = refl
+int_lt-tests (negsuc a) (pos b) = refl
+int_lt-tests (negsuc a) (negsuc b) = grind (arith, nat_tests)
+
+int_le-not : (x y : ℤ) → int_le y x ≡ not (int_lt x y)
+int_le-not (pos a) (pos b) = grind (arith, nat_tests)
+int_le-not (pos a) (negsuc b) = refl
+int_le-not (negsuc a) (pos b) = refl
+int_le-not (negsuc a) (negsuc b) = grind (arith, nat_tests)
+
+answers-int : (o : Op) (x y : ℤ) → answers o (int_cmp x y) ≡ compares o x y
+answers-int Eq x y = refl
+answers-int Ne x y = refl
+answers-int Lt x y = sym (is_lt-cond (int_lt x y) (int_lt y x))
+answers-int Le x y = sym (int_le-tests x y ∙ is_le-cond (int_lt x y) (int_lt y x))
+answers-int Gt x y = sym (int_lt-tests x y ∙ is_gt-cond (int_lt x y) (int_lt y x))
+answers-int Ge x y = sym (int_le-not x y ∙ is_ge-cond (int_lt x y) (int_lt y x))
+
+-- a column of numbers
+pub meets-numbers : (p : PublicView) (place n : ℕ) (o : Op) (number : ℤ) (list : List ℤ) (rows : List ℕ) → cells_at p place ≡ numbers list → n ≡ p.rows → rows ≡ rows_that (λ r. answers o (int_cmp (get_or list r (pos 0)) number)) n → rows ≡ meets p place o (Number number)
+meets-numbers p place n o number list rows is same met =
+    met ∙ ap (rows_that (λ r. answers o (int_cmp (get_or list r (pos 0)) number))) same
+    ∙ rows_that_agree (λ r. answers o (int_cmp (get_or list r (pos 0)) number)) (λ r. compares o (get_or (numbers_of (cells_at p place)) r (pos 0)) number) p.rows
+    (λ r low. answers-int o (get_or list r (pos 0)) number ∙ ap (λ (cells : Cells). compares o (get_or (numbers_of cells) r (pos 0)) number) (sym is))
+
+answers-text : (o : Op) (x y : List ℕ) → is_equality o ≡ true → answers o (slice_cmp nat_cmp x y) ≡ compares_text o x y
+answers-text Eq x y is = sym (texts_ties x y)
+answers-text Ne x y is = ap not (sym (texts_ties x y))
+answers-text Lt x y is = absurd (false≢true is)
+answers-text Le x y is = absurd (false≢true is)
+answers-text Gt x y is = absurd (false≢true is)
+answers-text Ge x y is = absurd (false≢true is)
+
+-- a column of texts
+pub meets-texts : (p : PublicView) (place n : ℕ) (o : Op) (text : List ℕ) (list : List (List ℕ)) (rows : List ℕ) → is_equality o ≡ true → cells_at p place ≡ texts list → n ≡ p.rows → rows ≡ rows_that (λ r. answers o (slice_cmp nat_cmp (get_or list r []) text)) n → rows ≡ meets p place o (Text text)
+meets-texts p place n o text list rows equality is same met =
+    met ∙ ap (rows_that (λ r. answers o (slice_cmp nat_cmp (get_or list r []) text))) same
+    ∙ rows_that_agree (λ r. answers o (slice_cmp nat_cmp (get_or list r []) text)) (λ r. compares_text o (get_or (texts_of (cells_at p place)) r []) text) p.rows
+    (λ r low. answers-text o (get_or list r []) text equality ∙ ap (λ (cells : Cells). compares_text o (get_or (texts_of cells) r []) text) (sym is))
+
+never : (o : Op) (x y : List ℕ) → is_equality o ≡ false → compares_text o x y ≡ false
+never Eq x y is = absurd (true≢false is)
+never Ne x y is = absurd (true≢false is)
+never Lt x y is = refl
+never Le x y is = refl
+never Gt x y is = refl
+never Ge x y is = refl
+
+-- texts have no order
+pub meets-none : (p : PublicView) (place : ℕ) (o : Op) (text rows : List ℕ) → is_equality o ≡ false → rows ≡ [] → rows ≡ meets p place o (Text text)
+meets-none p place o text rows is none = none ∙ sym (rows_that_none (λ r. compares_text o (get_or (texts_of (cells_at p place)) r []) text) p.rows (λ r low. never o (get_or (texts_of (cells_at p place)) r []) text is))

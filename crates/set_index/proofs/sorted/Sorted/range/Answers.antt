@@ -1,0 +1,30 @@
+use Rattle.std.proofs.Common.{◌<◌, All, IsPermutation, [], true, sym, ap, subst, ◌∙◌}
+use Rattle.audit_types.specs.Rows.{complement, intersection, rows_that, union}
+use Rattle.set_index.specs.Marks.{SortedView, first_rows}
+use Rattle.set_index.specs.Ranges.{IsRange}
+use Rattle.set_index.proofs.Ranges.{part, part_below, range_walked, range_left}
+use Rattle.set_index.proofs.sorted.Sorted.range.Goals as goal
+
+pub add_rows-requires-clause-below : goal.add_rows-requires-clause-below
+add_rows-requires-clause-below c =
+    subst (λ n. All (λ r. r < n) (part c.deref.result.now c.args.from c.args.to)) (sym c.new-rows.ensures.n)
+    (subst (λ xs. All (λ r. r < c.self.inside.rows) (part xs c.args.from c.args.to)) (sym c.deref.ensures.value) (part_below _ _ _ _ c.self.invariant.each_once))
+
+pub returns-then-to-from-lt-STEP-clause-rows : goal.returns-then-to-from-lt-STEP-clause-rows
+returns-then-to-from-lt-STEP-clause-rows c test range =
+    let inside : IsRange test c.self.inside.order.items c.args.from c.args.to = subst (λ (v : SortedView). IsRange test v.order c.args.from c.args.to) (sym c.self.view_is) range in
+    c.add_rows.ensures.added
+    ∙ ap (λ n. union n c.new-rows.result.list (part c.deref.result.now c.args.from c.args.to)) c.new-rows.ensures.n
+    ∙ ap (λ xs. union c.self.inside.rows xs (part c.deref.result.now c.args.from c.args.to)) c.new-rows.ensures.empty
+    ∙ ap (λ xs. union c.self.inside.rows [] (part xs c.args.from c.args.to)) c.deref.ensures.value
+    ∙ range_walked c.self.inside.rows c.self.inside.order.items c.args.from c.args.to test c.self.invariant.each_once c.requires.ascends inside
+    ∙ ap (λ (v : SortedView). rows_that test v.rows) c.self.view_is
+
+pub returns-clause-rows : goal.returns-clause-rows
+returns-clause-rows c test range =
+    let once : IsPermutation (rows_that (λ r. true) c.args.self.now.rows) c.args.self.now.order = subst (λ (v : SortedView). IsPermutation (rows_that (λ r. true) v.rows) v.order) c.self.view_is c.self.invariant.each_once in
+    c.and_with.ensures.both
+    ∙ ap (λ n. intersection n c.flip.new.self.list c.first.result.list) (c.flip.ensures.n ∙ c.first-rows.ensures.n)
+    ∙ ap (λ xs. intersection c.args.self.now.rows xs c.first.result.list) (c.flip.ensures.others ∙ ap (λ n. complement n c.first-rows.result.list) c.first-rows.ensures.n ∙ ap (complement c.args.self.now.rows) c.first-rows.ensures.rows)
+    ∙ ap (intersection c.args.self.now.rows (complement c.args.self.now.rows (first_rows c.args.self.now.rows c.args.self.now.order c.args.from))) c.first.ensures.rows
+    ∙ range_left c.args.self.now.rows c.args.self.now.order c.args.from c.args.to test once c.requires.ascends range

@@ -1,0 +1,132 @@
+//! The rows of a column in ascending order of value, with the sets of the first of them.
+ghost use Rattle.std.specs.Prelude.{◌≡◌, ℕ, ◌<◌, ◌≤◌, Bool, true, false, length, IfOk};
+ghost use Rattle.std.specs.List.{All};
+ghost use Rattle.std.specs.List.Sorted.{IsPermutation, IsPartitionPoint};
+ghost use Rattle.std.specs.Ordering.{is_le, is_lt};
+ghost use Rattle.std.specs.declared.cmp.Ordering.{Ordering};
+ghost use Rattle.audit_types.specs.Limits.{most_rows};
+ghost use Rattle.audit_types.specs.Rows.{AreRows, rows_that, union};
+ghost use Rattle.set_index.specs.Marks.{first_rows};
+ghost use Rattle.set_index.specs.Ranges.{IsRange, answers};
+
+use audit_types::{NoMemory, RowSet};
+use predicate_lang::Op;
+use std::alloc::Global;
+use std::marker::Model;
+
+// How many rows of the order lie between two of the sets that are kept.
+const STEP: usize = 64;
+
+/// The rows of a table in some order. The set of the first `64 k` rows is kept for each `k`, so that a range costs a few
+/// words and at most 63 rows at each end, however long it is.
+#[derive(Drop)]
+pub(crate) struct Sorted {
+    rows: u16,
+    order: Vec<u16>,
+    marks: Vec<RowSet>,
+}
+
+impl Model for Sorted {
+    ghost use Rattle.set_index.specs.Marks.{SortedView};
+    ghost use Rattle.set_index.specs.KeptSorted.{sorted_view, IsKeptSorted};
+
+    ghost Value = { SortedView };
+
+    ghost view = { sorted_view };
+
+    ghost invariant = { IsKeptSorted };
+}
+
+// Adds the rows of a list.
+fn add_rows(rows: &mut RowSet, list: &[u16])
+    requires are_rows { AreRows rows.old.n rows.old.list }
+    requires below { All (λ r. r < rows.old.n) list.now }
+    ensures n { rows.new.n ≡ rows.old.n }
+    ensures added { rows.new.list ≡ union rows.old.n rows.old.list list.now }
+{
+    for row in list {
+        rows.add(*row);
+    }
+}
+
+impl Sorted {
+    /// Keeps rows in this order.
+    pub(crate) fn new(alloc: Global, rows: u16, order: Vec<u16>) -> Result<Sorted, NoMemory>
+        requires some { 0 < rows }
+        requires at_most { rows ≤ most_rows }
+        requires each_once { IsPermutation (rows_that (λ r. true) rows) order.items }
+        ensures rows { IfOk result (λ s. s.rows ≡ rows) }
+        ensures order { IfOk result (λ s. s.order ≡ order.items) }
+    {
+        let mut marks = Vec::new(alloc);
+        let mut first = RowSet::new(rows);
+        marks.push(first)?;
+        for k in 0..order.len() / STEP {
+            add_rows(&mut first, &order[STEP * k..STEP * (k + 1)]);
+            marks.push(first)?;
+        }
+        Ok(Sorted { rows, order, marks })
+    }
+
+    /// The rows in order.
+    pub(crate) fn order(&self) -> &[u16]
+        ensures order { result.now ≡ self.now.order }
+        ensures each_once { IsPermutation (rows_that (λ r. true) self.now.rows) self.now.order }
+    {
+        self.order.as_slice()
+    }
+
+    // The set of the first rows.
+    fn first(&self, count: usize) -> RowSet
+        requires { count ≤ length self.now.order }
+        ensures n { result.n ≡ self.now.rows }
+        ensures rows { result.list ≡ first_rows self.now.rows self.now.order count }
+    {
+        let mark = count / STEP;
+        let mut rows = self.marks[mark];
+        add_rows(&mut rows, &self.order[STEP * mark..count]);
+        rows
+    }
+
+    // The rows from one place of the order up to another, where these are the rows that pass a test.
+    fn range(&self, from: usize, to: usize) -> RowSet
+        requires ascends { from ≤ to }
+        requires within { to ≤ length self.now.order }
+        ensures n { result.n ≡ self.now.rows }
+        ensures rows { (test : ℕ → Bool) → IsRange test self.now.order from to → result.list ≡ rows_that test self.now.rows }
+    {
+        if to - from < STEP {
+            let mut rows = RowSet::new(self.rows);
+            add_rows(&mut rows, &self.order[from..to]);
+            return rows;
+        }
+        let mut rows = self.first(from);
+        rows.flip();
+        rows.and_with(&self.first(to));
+        rows
+    }
+
+    /// The rows that compare so with a value, where those below it end at a place of the order, and those up to it at
+    /// another.
+    pub(crate) fn compared(&self, op: Op, below: usize, within: usize) -> RowSet
+        requires ascends { below ≤ within }
+        requires within { within ≤ length self.now.order }
+        ensures n { result.n ≡ self.now.rows }
+        ensures rows { (value : ℕ → Ordering) → IsPartitionPoint (λ r. is_lt (value r) ≡ true) (λ r. is_lt (value r) ≡ false) self.now.order below
+            → IsPartitionPoint (λ r. is_le (value r) ≡ true) (λ r. is_le (value r) ≡ false) self.now.order within
+            → result.list ≡ rows_that (λ r. answers op (value r)) self.now.rows }
+    {
+        match op {
+            Op::Eq => self.range(below, within),
+            Op::Ne => {
+                let mut rows = self.range(below, within);
+                rows.flip();
+                rows
+            }
+            Op::Lt => self.range(0, below),
+            Op::Le => self.range(0, within),
+            Op::Gt => self.range(within, self.order.len()),
+            Op::Ge => self.range(below, self.order.len()),
+        }
+    }
+}
