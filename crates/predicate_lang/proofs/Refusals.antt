@@ -12,9 +12,9 @@ use Rattle.predicate_lang.specs.declared.trees.WhereFault.TheVariants.{Bad, NoMe
 use Rattle.predicate_lang.proofs.LeastPlace.{refused_means_nothing, refused_within}
 use Rattle.predicate_lang.proofs.OneWayToSpell.{one_tree}
 
-pub refused_put : (columns : List Column) (text : List ℕ) (test : Bool) (b : Build) (at : ℕ) (fault : WhereFault) → Goes test b at (Err fault) → (test ≡ false → IsPlace columns text at) → IsWhereFault columns text fault
-refused_put columns text test b at (Bad n) h place = subst (IsPlace columns text) (sym h.1) (place h.0)
-refused_put columns text test b at NoMemory h place = tt
+pub refused_put : {X : Type 0} (columns : List Column) (text : List ℕ) (test : Bool) (b : Build) (at : ℕ) (fault : WhereFault) (left : X → Build) → Goes {X = X} test b at (Err fault) left → (test ≡ false → IsPlace columns text at) → IsWhereFault columns text fault
+refused_put columns text test b at (Bad n) left h place = subst (IsPlace columns text) (sym h.1) (place h.0)
+refused_put columns text test b at NoMemory left h place = tt
 
 pub refused_finish : (columns : List Column) (text : List ℕ) (t : Option Tree) (end : ℕ) (fault : WhereFault) → Finishes t end (Err fault) → (t ≡ None → IsPlace columns text end) → IsWhereFault columns text fault
 refused_finish columns text t end (Bad n) h place = subst (IsPlace columns text) (sym h.1) (place h.0)

@@ -15,6 +15,7 @@ use Rattle.predicate_lang.specs.declared.building.Opened.{Opened}
 use Rattle.predicate_lang.specs.declared.building.Opened.TheVariants as opened
 use Rattle.predicate_lang.specs.declared.building.Spot.{Spot}
 use Rattle.predicate_lang.specs.declared.building.Spot.TheVariants as spot
+use Rattle.predicate_lang.specs.declared.building.Around.{Around}
 use Rattle.predicate_lang.specs.declared.building.State.{State}
 
 -- ---- what is kept
@@ -216,26 +217,33 @@ stand_of (spot.Comma c ls) = at_comma c ls
 stand_of (spot.Literal c ls) = at_literal c ls
 stand_of (spot.Whole p) = behind (tree_of p)
 
+-- what is kept around a place
+abbrev pub build_at : Around → Stand → Build
+build_at a stand = build (frames_of a.opened.items) (part_of a.ors) (part_of a.ands) stand
+
+abbrev pub build_with : Around → Spot → Build
+build_with a spot = build_at a (stand_of spot)
+
 abbrev pub build_of : State → Build
-build_of s = build (frames_of s.around.opened.items) (part_of s.around.ors) (part_of s.around.ands) (stand_of s.spot)
+build_of s = build_with s.around s.spot
 
 -- ---- what private calls answer
 
--- this state where the test holds, and else a refusal at the offset
-abbrev pub Goes : Bool → Build → ℕ → Result State WhereFault → Type 0
-Goes test b at (Ok s) = (test ≡ true) × (build_of s ≡ b)
-Goes test b at (Err (Bad n)) = (test ≡ false) × (n ≡ at)
-Goes test b at (Err NoMemory) = Unit {0}
+-- what is left is this where the test holds, and else a refusal at the offset
+abbrev pub Goes : {X : Type 0} → Bool → Build → ℕ → Result X WhereFault → (X → Build) → Type 0
+Goes test b at (Ok x) left = (test ≡ true) × (left x ≡ b)
+Goes test b at (Err (Bad n)) left = (test ≡ false) × (n ≡ at)
+Goes test b at (Err NoMemory) left = Unit {0}
 
--- the state behind a token at an offset, or its refusal there
-abbrev pub Puts : List Column → Build → Token → ℕ → Result State WhereFault → Type 0
-Puts columns b t at r = Goes (may_put columns b t) (put b t) at r
+-- what is left behind a token at an offset, or its refusal there
+abbrev pub Puts : {X : Type 0} → List Column → Build → Token → ℕ → Result X WhereFault → (X → Build) → Type 0
+Puts columns b t at r left = Goes (may_put columns b t) (put b t) at r left
 
--- this state
-abbrev pub Makes : Build → Result State WhereFault → Type 0
-Makes b (Ok s) = build_of s ≡ b
-Makes b (Err (Bad n)) = ⊥
-Makes b (Err NoMemory) = Unit {0}
+-- this is left
+abbrev pub Makes : {X : Type 0} → Build → Result X WhereFault → (X → Build) → Type 0
+Makes b (Ok x) left = left x ≡ b
+Makes b (Err (Bad n)) left = ⊥
+Makes b (Err NoMemory) left = Unit {0}
 
 -- this tree
 abbrev pub MakesTree : Tree → Result Pred WhereFault → Type 0

@@ -3,21 +3,20 @@ use Rattle.std.specs.Prelude.{ℕ, ◌+◌, ◌<◌, ◌≤◌, List, length, Re
 use Rattle.schema_json.specs.Columns.{Column}
 use Rattle.predicate_lang.specs.Trees.{tree_of}
 use Rattle.predicate_lang.specs.Places.{Means, IsWhereFault}
-use Rattle.predicate_lang.specs.Building.{build_of}
+use Rattle.predicate_lang.specs.Building.{Build}
 use Rattle.predicate_lang.specs.Reads.{HasRead}
-use Rattle.predicate_lang.specs.declared.building.State.{State}
 use Rattle.predicate_lang.specs.declared.trees.WhereFault.{WhereFault}
 use Rattle.predicate_lang.specs.declared.reading.Step.{Step}
 use Rattle.predicate_lang.specs.declared.reading.Step.TheVariants.{More, Whole}
 
 -- one token more was read, up to an offset
-pub record Advances (columns : List Column) (text : List ℕ) (from count : ℕ) (s : State) (end : ℕ) : Type 0 where
-  pub read : HasRead columns text end (count + 1) (build_of s)
+pub record Advances (columns : List Column) (text : List ℕ) (from count : ℕ) (b : Build) (end : ℕ) : Type 0 where
+  pub read : HasRead columns text end (count + 1) b
   pub longer : from < end
   pub within : end ≤ length text
   pub few : count + 1 ≤ 512
 
-abbrev pub Steps : List Column → List ℕ → ℕ → ℕ → Result Step WhereFault → Type 0
-Steps columns text from count (Ok (More s end)) = Advances columns text from count s end
-Steps columns text from count (Ok (Whole p)) = Means columns text (tree_of p)
-Steps columns text from count (Err fault) = IsWhereFault columns text fault
+abbrev pub Steps : List Column → List ℕ → ℕ → ℕ → Build → Result Step WhereFault → Type 0
+Steps columns text from count b (Ok (More end)) = Advances columns text from count b end
+Steps columns text from count b (Ok (Whole p)) = Means columns text (tree_of p)
+Steps columns text from count b (Err fault) = IsWhereFault columns text fault

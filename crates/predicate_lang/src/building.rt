@@ -3,12 +3,13 @@ ghost use Rattle.std.specs.Prelude.{◌≡◌, ◌∷◌, List, OnOk};
 ghost use Rattle.schema_json.specs.Columns.{Column, role_at};
 ghost use Rattle.predicate_lang.specs.Trees.{tree_of, is_of_role, has_operator};
 ghost use Rattle.predicate_lang.specs.Machine.{public_role};
-ghost use Rattle.predicate_lang.specs.Building.{Puts, Goes, Makes, MakesTree, Finishes, build_of, build, nothing_yet, built, whole, closed, add_and, add_or, part_of, frame_of, frames_of, is_under_not, is_in_bracket, negated, without_nots, at_operand, at_name, at_operator, at_in, at_comma, at_literal, behind, has_room};
+ghost use Rattle.predicate_lang.specs.Building.{Puts, Goes, Makes, MakesTree, Finishes, build_of, build_at, build_with, build, nothing_yet, built, whole, closed, add_and, add_or, part_of, frame_of, frames_of, is_under_not, is_in_bracket, negated, without_nots, at_operand, at_name, at_operator, at_in, at_comma, at_literal, behind, has_room};
 
 use crate::tokens::Token;
 use crate::trees::{Literal, Literals, Op, Pred, WhereFault};
 use schema_json::{Role, Schema};
 use std::alloc::Global;
+use std::mem;
 
 /// How many `not` and brackets may be open.
 const MOST_OPEN: usize = 64;
@@ -108,69 +109,41 @@ fn negate(alloc: Global, opened: &mut Vec<Opened>, operand: Pred) -> Result<Pred
     Ok(p)
 }
 
-/// The state behind a whole operand.
-fn behind_operand(alloc: Global, around: Around, operand: Pred) -> Result<State, WhereFault>
-    ensures { Makes (whole (frames_of around.opened.items) (part_of around.ors) (part_of around.ands) (tree_of operand)) result }
+/// Puts a whole operand behind what stands before it.
+fn behind_operand(alloc: Global, around: &mut Around, operand: Pred) -> Result<Spot, WhereFault>
+    ensures { Makes (whole (frames_of around.old.opened.items) (part_of around.old.ors) (part_of around.old.ands) (tree_of operand)) result (build_with around.new) }
 {
-    let Around {
-        mut opened,
-        ors,
-        ands,
-    } = around;
-    let p = negate(alloc, &mut opened, operand)?;
-    let p = and_of(alloc, ands, p)?;
-    Ok(State {
-        around: Around {
-            opened,
-            ors,
-            ands: None,
-        },
-        spot: Spot::Whole(p),
-    })
+    let p = negate(alloc, &mut around.opened, operand)?;
+    let p = and_of(alloc, around.ands.take(), p)?;
+    Ok(Spot::Whole(p))
 }
 
-/// The state behind one `not` or bracket more.
-fn behind_opening(around: Around, opening: Opened, at: u32) -> Result<State, WhereFault>
-    ensures { Goes (has_room (frames_of around.opened.items)) (build (frame_of opening ∷ frames_of around.opened.items) (part_of around.ors) (part_of around.ands) at_operand) at result }
+/// Opens one `not` or bracket more.
+fn behind_opening(around: &mut Around, opening: Opened, at: u32) -> Result<Spot, WhereFault>
+    ensures { Goes (has_room (frames_of around.old.opened.items)) (build (frame_of opening ∷ frames_of around.old.opened.items) (part_of around.old.ors) (part_of around.old.ands) at_operand) at result (build_with around.new) }
 {
-    let Around {
-        mut opened,
-        ors,
-        ands,
-    } = around;
-    if opened.len() >= MOST_OPEN {
+    if around.opened.len() >= MOST_OPEN {
         return Err(WhereFault::Bad { at });
     }
-    opened.push(opening)?;
-    Ok(State {
-        around: Around { opened, ors, ands },
-        spot: Spot::Operand,
-    })
+    around.opened.push(opening)?;
+    Ok(Spot::Operand)
 }
 
-/// The state behind a closing bracket.
+/// Closes the innermost bracket.
 #[tactic(auto, using(crate::proofs::Frames::frames_of_push))]
-fn behind_closing(alloc: Global, around: Around, inner: Pred, at: u32) -> Result<State, WhereFault>
-    ensures { Goes (is_in_bracket (frames_of around.opened.items)) (closed (frames_of around.opened.items) (part_of around.ors) (tree_of inner)) at result }
+fn behind_closing(
+    alloc: Global,
+    around: &mut Around,
+    inner: Pred,
+    at: u32,
+) -> Result<Spot, WhereFault>
+    ensures { Goes (is_in_bracket (frames_of around.old.opened.items)) (closed (frames_of around.old.opened.items) (part_of around.old.ors) (tree_of inner)) at result (build_with around.new) }
 {
-    let Around {
-        mut opened,
-        ors,
-        ands: _,
-    } = around;
-    match opened.pop() {
-        Some(
-            Opened::Bracket {
-                ors: ors_before,
-                ands,
-            },
-        ) => {
-            let p = or_of(alloc, ors, inner)?;
-            let around = Around {
-                opened,
-                ors: ors_before,
-                ands,
-            };
+    match around.opened.pop() {
+        Some(Opened::Bracket { ors, ands }) => {
+            let p = or_of(alloc, around.ors.take(), inner)?;
+            around.ors = ors;
+            around.ands = ands;
             behind_operand(alloc, around, p)
         }
         Some(Opened::Not) => Err(WhereFault::Bad { at }),
@@ -234,30 +207,23 @@ fn takes_literal(role: Option<Role>, literal: &Literal) -> bool
 fn on_operand(
     alloc: Global,
     schema: &Schema,
-    around: Around,
+    around: &mut Around,
     token: Token,
     at: u32,
-) -> Result<State, WhereFault>
-    ensures { Puts schema.now.columns (build (frames_of around.opened.items) (part_of around.ors) (part_of around.ands) at_operand) token at result }
+) -> Result<Spot, WhereFault>
+    ensures { Puts schema.now.columns (build_at around.old at_operand) token at result (build_with around.new) }
 {
     match token {
         Token::Not => behind_opening(around, Opened::Not, at),
         Token::OpenBracket => {
-            let Around { opened, ors, ands } = around;
-            let inside = Around {
-                opened,
-                ors: None,
-                ands: None,
-            };
-            behind_opening(inside, Opened::Bracket { ors, ands }, at)
+            let ors = around.ors.take();
+            let ands = around.ands.take();
+            behind_opening(around, Opened::Bracket { ors, ands }, at)
         }
         Token::All => behind_operand(alloc, around, Pred::All),
         Token::Column(Some(column)) => {
             if is_public(role_of(schema, column)) {
-                Ok(State {
-                    around,
-                    spot: Spot::Name(column),
-                })
+                Ok(Spot::Name(column))
             } else {
                 Err(WhereFault::Bad { at })
             }
@@ -268,24 +234,18 @@ fn on_operand(
 
 fn on_name(
     schema: &Schema,
-    around: Around,
+    around: &Around,
     column: u8,
     token: Token,
     at: u32,
-) -> Result<State, WhereFault>
-    ensures { Puts schema.now.columns (build (frames_of around.opened.items) (part_of around.ors) (part_of around.ands) (at_name column)) token at result }
+) -> Result<Spot, WhereFault>
+    ensures { Puts schema.now.columns (build_at around.now (at_name column)) token at result (build_with around.now) }
 {
     match token {
-        Token::In => Ok(State {
-            around,
-            spot: Spot::In(column),
-        }),
+        Token::In => Ok(Spot::In(column)),
         Token::Operator(op) => {
             if takes_operator(role_of(schema, column), op) {
-                Ok(State {
-                    around,
-                    spot: Spot::Operator(column, op),
-                })
+                Ok(Spot::Operator(column, op))
             } else {
                 Err(WhereFault::Bad { at })
             }
@@ -297,13 +257,13 @@ fn on_name(
 fn on_operator(
     alloc: Global,
     schema: &Schema,
-    around: Around,
+    around: &mut Around,
     column: u8,
     op: Op,
     token: Token,
     at: u32,
-) -> Result<State, WhereFault>
-    ensures { Puts schema.now.columns (build (frames_of around.opened.items) (part_of around.ors) (part_of around.ands) (at_operator column op)) token at result }
+) -> Result<Spot, WhereFault>
+    ensures { Puts schema.now.columns (build_at around.old (at_operator column op)) token at result (build_with around.new) }
 {
     match token {
         Token::Value(literal) => {
@@ -324,22 +284,19 @@ fn on_operator(
 
 fn on_in(
     alloc: Global,
-    around: Around,
+    around: &Around,
     column: u8,
     token: Token,
     at: u32,
-) -> Result<State, WhereFault>
-    ensures { (columns : List Column) → Puts columns (build (frames_of around.opened.items) (part_of around.ors) (part_of around.ands) (at_in column)) token at result }
+) -> Result<Spot, WhereFault>
+    ensures { (columns : List Column) → Puts columns (build_at around.now (at_in column)) token at result (build_with around.now) }
 {
     match token {
         Token::OpenBracket => {
             let literals = Literals {
                 list: Vec::new(alloc),
             };
-            Ok(State {
-                around,
-                spot: Spot::Comma(column, literals),
-            })
+            Ok(Spot::Comma(column, literals))
         }
         _ => Err(WhereFault::Bad { at }),
     }
@@ -347,23 +304,20 @@ fn on_in(
 
 fn on_comma(
     schema: &Schema,
-    around: Around,
+    around: &Around,
     column: u8,
     literals: Literals,
     token: Token,
     at: u32,
-) -> Result<State, WhereFault>
-    ensures { Puts schema.now.columns (build (frames_of around.opened.items) (part_of around.ors) (part_of around.ands) (at_comma column literals)) token at result }
+) -> Result<Spot, WhereFault>
+    ensures { Puts schema.now.columns (build_at around.now (at_comma column literals)) token at result (build_with around.now) }
 {
     match token {
         Token::Value(literal) => {
             if takes_literal(role_of(schema, column), &literal) {
                 let Literals { mut list } = literals;
                 list.push(literal)?;
-                Ok(State {
-                    around,
-                    spot: Spot::Literal(column, Literals { list }),
-                })
+                Ok(Spot::Literal(column, Literals { list }))
             } else {
                 Err(WhereFault::Bad { at })
             }
@@ -374,19 +328,16 @@ fn on_comma(
 
 fn on_literal(
     alloc: Global,
-    around: Around,
+    around: &mut Around,
     column: u8,
     literals: Literals,
     token: Token,
     at: u32,
-) -> Result<State, WhereFault>
-    ensures { (columns : List Column) → Puts columns (build (frames_of around.opened.items) (part_of around.ors) (part_of around.ands) (at_literal column literals)) token at result }
+) -> Result<Spot, WhereFault>
+    ensures { (columns : List Column) → Puts columns (build_at around.old (at_literal column literals)) token at result (build_with around.new) }
 {
     match token {
-        Token::Comma => Ok(State {
-            around,
-            spot: Spot::Comma(column, literals),
-        }),
+        Token::Comma => Ok(Spot::Comma(column, literals)),
         Token::CloseBracket => behind_operand(alloc, around, Pred::Within { column, literals }),
         _ => Err(WhereFault::Bad { at }),
     }
@@ -394,61 +345,40 @@ fn on_literal(
 
 fn on_whole(
     alloc: Global,
-    around: Around,
+    around: &mut Around,
     p: Pred,
     token: Token,
     at: u32,
-) -> Result<State, WhereFault>
-    ensures { (columns : List Column) → Puts columns (build (frames_of around.opened.items) (part_of around.ors) (part_of around.ands) (behind (tree_of p))) token at result }
+) -> Result<Spot, WhereFault>
+    ensures { (columns : List Column) → Puts columns (build_at around.old (behind (tree_of p))) token at result (build_with around.new) }
 {
     match token {
         Token::And => {
-            let Around {
-                opened,
-                ors,
-                ands: _,
-            } = around;
-            Ok(State {
-                around: Around {
-                    opened,
-                    ors,
-                    ands: Some(p),
-                },
-                spot: Spot::Operand,
-            })
+            around.ands = Some(p);
+            Ok(Spot::Operand)
         }
         Token::Or => {
-            let Around {
-                opened,
-                ors,
-                ands: _,
-            } = around;
-            let ors = or_of(alloc, ors, p)?;
-            Ok(State {
-                around: Around {
-                    opened,
-                    ors: Some(ors),
-                    ands: None,
-                },
-                spot: Spot::Operand,
-            })
+            let ors = or_of(alloc, around.ors.take(), p)?;
+            around.ors = Some(ors);
+            around.ands = None;
+            Ok(Spot::Operand)
         }
         Token::CloseBracket => behind_closing(alloc, around, p, at),
         _ => Err(WhereFault::Bad { at }),
     }
 }
 
-/// The state behind one token more, or its refusal at the token's offset.
-pub(crate) fn put(
+/// Where the token behind this one stands, or the refusal of this one at its offset.
+fn spot_behind(
     alloc: Global,
     schema: &Schema,
-    state: State,
+    around: &mut Around,
+    spot: Spot,
     token: Token,
     at: u32,
-) -> Result<State, WhereFault>
-    ensures { Puts schema.now.columns (build_of state) token at result }
+) -> Result<Spot, WhereFault>
+    ensures { Puts schema.now.columns (build_with around.old spot) token at result (build_with around.new) }
 {
-    let State { around, spot } = state;
     match spot {
         Spot::Operand => on_operand(alloc, schema, around, token, at),
         Spot::Name(column) => on_name(schema, around, column, token, at),
@@ -460,20 +390,30 @@ pub(crate) fn put(
     }
 }
 
-/// The predicate, where nothing is open or wanting, and else a refusal at the end of the text.
-pub(crate) fn finish(alloc: Global, state: State, end: u32) -> Result<Pred, WhereFault>
-    ensures { Finishes (built (build_of state)) end result }
+/// Takes one token more, or refuses it at its offset. After a refusal the state is of no use.
+pub(crate) fn put(
+    alloc: Global,
+    schema: &Schema,
+    state: &mut State,
+    token: Token,
+    at: u32,
+) -> Result<(), WhereFault>
+    ensures { Puts schema.now.columns (build_of state.old) token at result (λ _. build_of state.new) }
 {
-    let State { around, spot } = state;
-    let Around {
-        opened,
-        ors,
-        ands: _,
-    } = around;
-    match spot {
+    let spot = mem::replace(&mut state.spot, Spot::Operand);
+    let next = spot_behind(alloc, schema, &mut state.around, spot, token, at)?;
+    state.spot = next;
+    Ok(())
+}
+
+/// The predicate, where nothing is open or wanting, and else a refusal at the end of the text.
+pub(crate) fn finish(alloc: Global, state: &mut State, end: u32) -> Result<Pred, WhereFault>
+    ensures { Finishes (built (build_of state.old)) end result }
+{
+    match mem::replace(&mut state.spot, Spot::Operand) {
         Spot::Whole(p) => {
-            if opened.is_empty() {
-                or_of(alloc, ors, p)
+            if state.around.opened.is_empty() {
+                or_of(alloc, state.around.ors.take(), p)
             } else {
                 Err(WhereFault::Bad { at: end })
             }

@@ -16,10 +16,10 @@ use std::alloc::Global;
 /// How many tokens a predicate may have.
 const MOST_TOKENS: usize = 512;
 
-/// What one token more leads to.
+/// What one token more leads to: the offset behind it, or the predicate at the end.
 #[derive(Drop)]
 enum Step {
-    More { state: State, from: usize },
+    More(usize),
     Whole(Pred),
 }
 
@@ -30,13 +30,13 @@ fn take_token(
     text: &str,
     from: usize,
     count: usize,
-    state: State,
+    state: &mut State,
 ) -> Result<Step, WhereFault>
     requires short { length text.now ≤ 16384 }
     requires inside { from ≤ length text.now }
     requires few { count ≤ 512 }
-    requires read { HasRead schema.now.columns text.now from count (build_of state) }
-    ensures { Steps schema.now.columns text.now from count result }
+    requires read { HasRead schema.now.columns text.now from count (build_of state.old) }
+    ensures { Steps schema.now.columns text.now from count (build_of state.new) result }
 {
     match next_token(alloc, schema, text, from) {
         Ok(Some(Lexeme { token, at, end })) => {
@@ -44,7 +44,7 @@ fn take_token(
                 return Err(WhereFault::Bad { at });
             }
             match put(alloc, schema, state, token, at) {
-                Ok(state) => Ok(Step::More { state, from: end }),
+                Ok(()) => Ok(Step::More(end)),
                 Err(fault) => Err(fault),
             }
         }
@@ -80,14 +80,8 @@ pub fn read_where(alloc: Global, schema: &Schema, text: &str) -> Result<Pred, Wh
     let mut from = 0usize;
     let mut count = 0usize;
     'tokens: loop {
-        match take_token(alloc, schema, text, from, count, state) {
-            Ok(
-                Step::More {
-                    state: next,
-                    from: end,
-                },
-            ) => {
-                state = next;
+        match take_token(alloc, schema, text, from, count, &mut state) {
+            Ok(Step::More(end)) => {
                 from = end;
                 count += 1;
             }
