@@ -5,9 +5,10 @@ ghost use Rattle.std.specs.Io.{ReadsAtMost};
 ghost use Rattle.bench_core.specs.Causes.{HasCause};
 
 use bench_core::{Bench, Failed, Source};
-use std::fs::{Files, OpenFile, OpenOptions};
+use std::fs::{File, Files, OpenFile, OpenOptions};
 use std::io;
-use std::io::{Read, Seek, SeekFrom, Write};
+use std::io::{ErrorKind, Read, Seek, SeekFrom, Write};
+use std::os::unix::fs::OpenOptionsExt;
 
 // Hands on what std answers, and counts an error.
 fn count_error<T>(answer: io::Result<T>, faults: &mut u64) -> Result<T, Failed>
@@ -21,6 +22,19 @@ fn count_error<T>(answer: io::Result<T>, faults: &mut u64) -> Result<T, Failed>
             Err(Failed)
         }
     }
+}
+
+// A read that a signal interrupted is made again.
+fn read_on<S: Read>(source: &mut S, buf: &mut [u8]) -> io::Result<usize>
+    ensures { ReadsAtMost result buf.new }
+{
+    for _ in 0..u64::MAX {
+        match source.read(buf) {
+            Err(error) if error.kind() == ErrorKind::Interrupted => {}
+            answer => return answer,
+        }
+    }
+    Err(io::Error::from(ErrorKind::Interrupted))
 }
 
 /// A file that is read from its start to its end, opened at the first read.
@@ -54,10 +68,10 @@ fn read_file<R: Files>(
     ensures { ReadsAtMost result buf.new }
 {
     match file {
-        Some(file) => file.read(buf),
+        Some(file) => read_on(file, buf),
         None => {
-            let mut opened = OpenOptions::new().read(true).open(rt, path)?;
-            let count = opened.read(buf)?;
+            let mut opened = File::open(rt, path)?;
+            let count = read_on(&mut opened, buf)?;
             *file = Some(opened);
             Ok(count)
         }
@@ -102,9 +116,24 @@ impl<I: Read + Drop> Source for InputSource<I> {
     ghost faults = { λ s. s.faults };
 
     fn read(&mut self, buf: &mut [u8]) -> Result<usize, Failed> {
-        count_error(self.reader.read(buf), &mut self.faults)
+        count_error(read_on(&mut self.reader, buf), &mut self.faults)
     }
 }
+
+/// A file that one program at a time can have for itself.
+pub trait TryLock {
+    /// Takes the lock, which ends with the program, or fails where another open of the file has it. It waits for nothing.
+    fn try_lock(&self) -> io::Result<()>;
+}
+
+impl TryLock for File {
+    fn try_lock(&self) -> io::Result<()> {
+        Ok(File::try_lock(self)?)
+    }
+}
+
+// Where the journal stands.
+const FOLDER: &str = ".";
 
 /// The journal's file, opened for reading and writing at the first call on it and made where it isn't there, and standard
 /// output.
@@ -129,21 +158,38 @@ impl<'a, R: Files + Print> FileBench<'a, R> {
     }
 }
 
+// Opens the journal, and leaves nothing of it to a power cut.
+fn open_journal<R: Files>(rt: &R, path: &str) -> io::Result<R::File>
+where
+    R::File: TryLock,
+{
+    let file = OpenOptions::new()
+        .read(true)
+        .write(true)
+        .create(true)
+        .mode(0o600)
+        .open(rt, path)?;
+    // Before anything is read: who holds the lock may be writing.
+    file.try_lock()?;
+    // A run that was killed may have left what it wrote without a sync.
+    file.sync_all()?;
+    // That the journal is there at all is written in its folder, which has a sync of its own.
+    File::open(rt, FOLDER)?.sync_all()?;
+    Ok(file)
+}
+
 fn opened<'f, R: Files>(
     rt: &R,
     path: &str,
     file: &'f mut Option<R::File>,
-) -> io::Result<&'f mut R::File> {
+) -> io::Result<&'f mut R::File>
+where
+    R::File: TryLock,
+{
     if file.is_none() {
-        let made = OpenOptions::new()
-            .read(true)
-            .write(true)
-            .create(true)
-            .open(rt, path)?;
-        *file = Some(made);
+        *file = Some(open_journal(rt, path)?);
     }
-    file.as_mut()
-        .ok_or(io::Error::from(io::ErrorKind::NotFound))
+    file.as_mut().ok_or(io::Error::from(ErrorKind::NotFound))
 }
 
 fn length_of<F: OpenFile>(file: &F) -> io::Result<u64> {
@@ -157,7 +203,7 @@ fn read_whole<F: Read + Seek>(file: &mut F, at: u64, buf: &mut [u8]) -> io::Resu
     file.seek(SeekFrom::Start(at))?;
     let mut count = 0;
     while count < buf.len() {
-        match file.read(&mut buf[count..])? {
+        match read_on(file, &mut buf[count..])? {
             0 => break,
             more => count += more,
         }
@@ -177,7 +223,10 @@ fn write_out<R: Print>(rt: &R, piece: &[u8]) -> io::Result<()> {
     out.flush()
 }
 
-impl<R: Files + Print> Bench for FileBench<'_, R> {
+impl<R: Files + Print> Bench for FileBench<'_, R>
+where
+    R::File: TryLock,
+{
     ghost told = { ⊥ };
 
     ghost file = { λ _. [] };

@@ -2,6 +2,8 @@
 #![tactic(auto)]
 
 mod adapters;
+#[cfg(test)]
+mod tests;
 
 use adapters::{FileBench, FileSource, InputSource};
 use auditor_top::{Status, run, status_code, status_text};
