@@ -1,15 +1,18 @@
 #!/bin/sh
-# Builds the program, makes a journal beside copies of the demo's files in a fresh folder, asks the demo's questions, and
-# compares the replies with those due. The exit status tells.
+# Makes a journal beside copies of the demo's files in a fresh folder, asks the demo's questions, and compares the replies
+# with those due. The exit status tells. The program is built first where none is given.
+#
+#   demo/run.sh [PROGRAM]
 set -u
 demo=$(cd "$(dirname "$0")" && pwd)
-crate=$demo/../crates/auditor
-
-# The kit's `rt run` proves, builds and starts the program; with no word it ends at once.
-(cd "$crate" && rt run </dev/null >/dev/null 2>&1)
-program=$crate/out/auditor
-if [ ! -x "$program" ]; then
-    echo "demo: the program was not built" >&2
+if [ $# -gt 0 ]; then
+    program=$(cd "$(dirname "$1")" && pwd)/$(basename "$1")
+elif [ -f "$demo/build.sh" ]; then
+    top=$(dirname "$demo")
+    . "$demo/build.sh"
+    build || exit 1
+else
+    echo "demo: give the program" >&2
     exit 1
 fi
 
