@@ -1,0 +1,42 @@
+#!/bin/sh
+# Makes what is handed to those who have no kit: a folder and a tarball with the built program, its manual page, the pages on
+# formats and operations, and the demo; then unpacks the tarball in a fresh folder, and runs the demo out of it. Build the
+# program first: demo/run.sh does.
+#
+#   demo/package.sh [FOLDER]        the folder to make them in; the current one where none is given
+set -u
+demo=$(cd "$(dirname "$0")" && pwd)
+top=$(dirname "$demo")
+program=$top/crates/auditor/out/auditor
+if [ ! -x "$program" ]; then
+    echo "package: build the program first, as demo/run.sh does" >&2
+    exit 1
+fi
+
+# Whoever gets it has a C library, and nothing else that it could stand on.
+needed=$(readelf -d "$program" | sed -n 's/.*(NEEDED).*\[\(.*\)\]/\1/p')
+if [ "$needed" != libc.so.6 ]; then
+    echo "package: the program links" $needed >&2
+    exit 1
+fi
+
+name=auditor-$(uname -m)-linux
+cd "${1:-.}" || exit 1
+rm -rf "$name" "$name.tar.gz"
+mkdir -p "$name/bin" "$name/share/man/man1" "$name/share/doc/auditor/demo" || exit 1
+cp "$program" "$name/bin/auditor" || exit 1
+cp "$top/docs/auditor.1" "$name/share/man/man1/" || exit 1
+cp "$top/docs/FORMATS.md" "$top/docs/OPERATIONS.md" "$name/share/doc/auditor/" || exit 1
+for file in run.sh edges.sh schema.json table.csv questions.jsonl replies.jsonl; do
+    cp "$demo/$file" "$name/share/doc/auditor/demo/" || exit 1
+done
+tar --owner=0 --group=0 -czf "$name.tar.gz" "$name" || exit 1
+
+fresh=$(mktemp -d) || exit 1
+trap 'rm -rf "$fresh"' EXIT
+tar -xzf "$name.tar.gz" -C "$fresh" || exit 1
+env -i PATH=/usr/bin:/bin "$fresh/$name/share/doc/auditor/demo/run.sh" "$fresh/$name/bin/auditor" >"$fresh/said" || {
+    echo "package: the demo failed out of it" >&2
+    exit 1
+}
+echo "$(pwd)/$name.tar.gz: $(wc -c <"$name.tar.gz") bytes, the program $(wc -c <"$name/bin/auditor"); the demo ran out of it, $(wc -l <"$fresh/said") replies"
