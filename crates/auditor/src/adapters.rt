@@ -6,9 +6,9 @@ ghost use Rattle.bench_core.specs.Causes.{HasCause};
 
 use bench_core::{Bench, Failed, Source};
 use std::fs::{File, Files, OpenFile, OpenOptions};
-use std::io;
 use std::io::{ErrorKind, Read, Seek, SeekFrom, Write};
 use std::os::unix::fs::OpenOptionsExt;
+use std::{fs, io};
 
 // Hands on what std answers, and counts an error.
 fn count_error<T>(answer: io::Result<T>, faults: &mut u64) -> Result<T, Failed>
@@ -70,7 +70,7 @@ fn read_file<R: Files>(
     match file {
         Some(file) => read_on(file, buf),
         None => {
-            let mut opened = File::open(rt, path)?;
+            let mut opened = fs::open(rt, path)?;
             let count = read_on(&mut opened, buf)?;
             *file = Some(opened);
             Ok(count)
@@ -174,7 +174,7 @@ where
     // A run that was killed may have left what it wrote without a sync.
     file.sync_all()?;
     // That the journal is there at all is written in its folder, which has a sync of its own.
-    File::open(rt, FOLDER)?.sync_all()?;
+    fs::open(rt, FOLDER)?.sync_all()?;
     Ok(file)
 }
 
