@@ -1,0 +1,71 @@
+-- What was sent of a report's lines, and what more of them makes of it.
+use Rattle.std.proofs.Common.{◌≡◌, ℕ, ◌+◌, List, [], ◌∷◌, ◌++◌, length, take, refl, sym, ap, ◌∙◌, subst, arith, append_assoc, length-append}
+use Rattle.std.proofs.lemmas.List.{append-nil}
+use Rattle.std.proofs.Math.Seq.{take-length, take-append-add}
+use Rattle.std.specs.List.{concat}
+use Rattle.bench_core.specs.Bench.{AppendsFront}
+use Rattle.journal_audit.specs.Reports.{Audit, Subject, IsLineOn, AreLinesOn, Sends, SendsFront}
+
+-- the bytes of lines after others
+pub concat-append : (xs ys : List (List ℕ)) → concat (xs ++ ys) ≡ concat xs ++ concat ys
+concat-append [] ys = refl
+concat-append (x ∷ xs) ys = ap (λ l. x ++ l) (concat-append xs ys) ∙ sym (append_assoc x (concat xs) (concat ys))
+
+-- lines on these, after lines on others
+pub lines-append : (audit : Audit) (xs ys : List Subject) (ls ms : List (List ℕ)) → AreLinesOn audit xs ls → AreLinesOn audit ys ms → AreLinesOn audit (xs ++ ys) (ls ++ ms)
+lines-append audit [] ys [] ms first second = second
+lines-append audit [] ys (l ∷ ls) ms first second = absurd first
+lines-append audit (x ∷ xs) ys [] ms first second = absurd first
+lines-append audit (x ∷ xs) ys (l ∷ ls) ms first second = (first.0, lines-append audit xs ys ls ms first.1 second)
+
+-- nothing is sent of no line
+pub none_sent : (audit : Audit) (bytes : List ℕ) → Sends audit [] bytes bytes
+none_sent audit bytes = record { lines = []; are = tt; sent_is = sym (append-nil bytes) }
+
+-- the line on this was sent
+pub one_sent : (audit : Audit) (subject : Subject) (line before after : List ℕ) → IsLineOn audit subject line → after ≡ before ++ line → Sends audit (subject ∷ []) before after
+one_sent audit subject line before after is sent = record { lines = line ∷ []; are = (is, tt); sent_is = sent ∙ ap (λ l. before ++ l) (sym (append-nil line)) }
+
+-- a front of it was
+pub one_front : (audit : Audit) (subject : Subject) (line before after : List ℕ) → IsLineOn audit subject line → AppendsFront before line after → SendsFront audit (subject ∷ []) before after
+one_front audit subject line before after is sent = record {
+  first = subject ∷ []; others = []; all = refl;
+  lines = line ∷ []; are = (is, tt);
+  sent = subst (λ l. AppendsFront before l after) (sym (append-nil line)) sent;
+}
+
+-- lines and then more lines
+pub sent_then : (audit : Audit) (xs ys : List Subject) (a b c : List ℕ) → Sends audit xs a b → Sends audit ys b c → Sends audit (xs ++ ys) a c
+sent_then audit xs ys a b c first second = record {
+  lines = first.lines ++ second.lines;
+  are = lines-append audit xs ys first.lines second.lines first.are second.are;
+  sent_is = second.sent_is ∙ ap (λ l. l ++ concat second.lines) first.sent_is ∙ append_assoc a (concat first.lines) (concat second.lines) ∙ ap (λ l. a ++ l) (sym (concat-append first.lines second.lines));
+}
+
+-- whole lines are a front of them
+pub whole_front : (audit : Audit) (xs : List Subject) (a b : List ℕ) → Sends audit xs a b → SendsFront audit xs a b
+whole_front audit xs a b sends = record {
+  first = xs; others = []; all = sym (append-nil xs);
+  lines = sends.lines; are = sends.are;
+  sent = (length (concat sends.lines), sends.sent_is ∙ ap (λ l. a ++ l) (sym (take-length (concat sends.lines))));
+}
+
+-- a front of the first lines is one of all
+pub front_of_more : (audit : Audit) (xs ys : List Subject) (a b : List ℕ) → SendsFront audit xs a b → SendsFront audit (xs ++ ys) a b
+front_of_more audit xs ys a b front = record {
+  first = front.first; others = front.others ++ ys;
+  all = ap (λ l. l ++ ys) front.all ∙ append_assoc front.first front.others ys;
+  lines = front.lines; are = front.are; sent = front.sent;
+}
+
+-- whole lines and then a front of more
+pub then_front : (audit : Audit) (xs ys : List Subject) (a b c : List ℕ) → Sends audit xs a b → SendsFront audit ys b c → SendsFront audit (xs ++ ys) a c
+then_front audit xs ys a b c sends front = record {
+  first = xs ++ front.first; others = front.others;
+  all = ap (λ l. xs ++ l) front.all ∙ sym (append_assoc xs front.first front.others);
+  lines = sends.lines ++ front.lines;
+  are = lines-append audit xs front.first sends.lines front.lines sends.are front.are;
+  sent = (length (concat sends.lines) + front.sent.0,
+    front.sent.1 ∙ ap (λ l. l ++ take front.sent.0 (concat front.lines)) sends.sent_is ∙ append_assoc a (concat sends.lines) (take front.sent.0 (concat front.lines))
+    ∙ ap (λ l. a ++ l) (sym (take-append-add (concat sends.lines) (concat front.lines) front.sent.0) ∙ ap (λ l. take (length (concat sends.lines) + front.sent.0) l) (sym (concat-append sends.lines front.lines))));
+}

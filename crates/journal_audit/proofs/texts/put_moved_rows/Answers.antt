@@ -1,0 +1,32 @@
+use Rattle.std.proofs.Common.{◌≡◌, ◌++◌, ◌∙◌, sym, ap, arith, ℤ, pos, get_or, take, to_z, of_z}
+use Rattle.std.proofs.lemmas.Int.{to_z-of_z}
+use mir.Syntax.{w128}
+use Rattle.journal_audit.specs.Texts.{with_commas, moved_rows, at_row}
+use Rattle.journal_audit.proofs.Commas.{is_none, is_none-snoc, text_more, moved_by, not_moved_by}
+use Rattle.journal_audit.proofs.texts.put_moved_rows.Goals as goal
+use Rattle.journal_audit.proofs.texts.put_moved_rows.Goals.{then-number-ne0+in_ok-put_comma+in_ok-put_at_row, else-number-ne0}
+
+pub loop-row-preserved : goal.loop-row-preserved
+loop-row-preserved c =
+    let before = c.args.line.now.items in
+    let i = c.loop-row.row in
+    let d = c.args.direction.now in
+    let x : ℤ = get_or d i (pos 0) in
+    let texts = moved_rows 0 (take i d) in
+    let same : to_z w128 (of_z w128 x) ≡ x = grind (arith, to_z-of_z) in
+    elim c.if-number-ne0.branch [
+      | then-number-ne0+in_ok-put_comma+in_ok-put_at_row w ↦
+          let more = moved_by d i c.loop-row-test.true (λ e. w.if-number-ne0.true (ap (of_z w128) e)) in
+          let put = w.in_ok-put_at_row.ensures ∙ ap (λ z. w.put_comma.new.line.items ++ at_row i z) same ∙ ap (λ l. l ++ at_row i x) w.in_ok-put_comma.ensures in
+          record {
+            so_far = ap (λ v. v.items) w.line-is ∙ text_more before w.put_at_row.new.line.items c.loop-row.line.items c.loop-row.first texts (at_row i x) c.loop-row.invariant.so_far c.loop-row.invariant.none_before put
+                ∙ ap (λ t. before ++ with_commas t) (sym more);
+            none_before = w.first-is ∙ sym (ap is_none more ∙ is_none-snoc texts (at_row i x));
+          }
+      | else-number-ne0 w ↦
+          let stays = not_moved_by d i c.loop-row-test.true (sym same ∙ ap (to_z w128) w.if-number-ne0.false) in
+          record {
+            so_far = ap (λ v. v.items) w.line-is ∙ c.loop-row.invariant.so_far ∙ ap (λ t. before ++ with_commas t) (sym stays);
+            none_before = w.first-is ∙ c.loop-row.invariant.none_before ∙ ap is_none (sym stays);
+          }
+    ]

@@ -1,0 +1,22 @@
+use Rattle.std.proofs.Common.{◌≡◌, ◌++◌, ◌∙◌, sym, ap, arith, ℤ, pos, get_or, take, map, to_z, of_z}
+use Rattle.std.proofs.lemmas.Int.{to_z-of_z}
+use Rattle.std.specs.Fmt.{signed_decimal}
+use mir.Syntax.{w128}
+use Rattle.journal_audit.specs.Texts.{with_commas}
+use Rattle.journal_audit.proofs.Commas.{is_none, is_none-snoc, text_more, numbers_more}
+use Rattle.journal_audit.proofs.texts.put_numbers.Goals as goal
+
+pub loop-number-preserved : goal.loop-number-preserved
+loop-number-preserved c =
+    let before = c.args.line.now.items in
+    let i = c.loop-number.number-index in
+    let x : ℤ = get_or c.args.numbers.now i (pos 0) in
+    let texts = map signed_decimal (take i c.args.numbers.now) in
+    let same : to_z w128 (of_z w128 x) ≡ x = grind (arith, to_z-of_z) in
+    let more = numbers_more c.args.numbers.now i c.loop-number-test.true in
+    let put = c.in_ok-put_number.ensures ∙ ap (λ z. c.put_comma.new.line.items ++ signed_decimal z) same ∙ ap (λ l. l ++ signed_decimal x) c.in_ok-put_comma.ensures in
+    record {
+      so_far = text_more before c.put_number.new.line.items c.loop-number.line.items c.loop-number.first texts (signed_decimal x) c.loop-number.invariant.so_far c.loop-number.invariant.none_before put
+          ∙ ap (λ t. before ++ with_commas t) (sym more);
+      none_before = sym (ap is_none more ∙ is_none-snoc texts (signed_decimal x));
+    }

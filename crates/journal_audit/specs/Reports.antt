@@ -1,0 +1,107 @@
+-- The report of an audit: for each secret number a line, or a line for a column of them, that shows it to be free.
+use Rattle.std.specs.Prelude.{◌≡◌, ℕ, ℤ, List, [], ◌∷◌, ◌++◌, length, map, filter, slice_index_or}
+use Rattle.std.specs.List.{flat_map, concat, range_with_len}
+use Rattle.audit_types.specs.declared.shapes.Kind.{Kind}
+use Rattle.audit_types.specs.declared.shapes.Kind.TheVariants.{Sum, Max}
+use Rattle.audit_types.specs.declared.shapes.Shape.{Shape}
+use Rattle.audit_types.specs.declared.records.Answered.{Answered}
+use Rattle.audit_types.specs.Shapes.{columns, kind_at}
+use Rattle.audit_types.specs.Form.{Reduced}
+use Rattle.audit_types.specs.Direction.{IsCanonicalDirection}
+use Rattle.audit_types.specs.History.{answers_of}
+use Rattle.schema_json.specs.Columns.{Column, is_secret}
+use Rattle.max_audit.specs.Witnesses.{highest}
+use Rattle.bench_core.specs.Bench.{AppendsFront}
+use Rattle.journal_audit.specs.Texts.{direction_line, high_line, total_line}
+
+-- ---- what a report is about
+
+-- what a line is about: a row of a column of sums, a column of maxima, or all of it
+pub data Subject : Type 0 where
+  row_of : ℕ → ℕ → Subject
+  column_of : ℕ → Subject
+  totals : Subject
+
+-- what the lines on a column are about
+abbrev pub subjects_of : Shape → ℕ → Kind → List Subject
+subjects_of shape column Sum = map (λ row. row_of column row) (range_with_len 0 shape.rows)
+subjects_of shape column Max = column_of column ∷ []
+
+-- what the lines on the first columns are about
+abbrev pub subjects_before : Shape → ℕ → List Subject
+subjects_before shape count = flat_map (λ column. subjects_of shape column (kind_at shape column)) (range_with_len 0 count)
+
+-- what the lines of a report are about, in order
+abbrev pub subjects : Shape → List Subject
+subjects shape = subjects_before shape (columns shape) ++ totals ∷ []
+
+-- ---- the lines
+
+-- the names of the secret columns
+abbrev pub secret_names : List Column → List (List ℕ)
+secret_names schema = map (λ c. c.name) (filter (λ c. is_secret c.role) schema)
+
+-- the name of a secret column, by its place among them
+abbrev pub secret_name : List Column → ℕ → List ℕ
+secret_name schema column = slice_index_or (secret_names schema) column []
+
+-- the sets of a column in a history
+abbrev pub sets_of_column : ℕ → List Answered → List (List ℕ)
+sets_of_column column history = map (λ a. a.rows) (answers_of column history)
+
+-- what a report tells: a history over the secret columns of a schema, of this shape
+pub record Audit : Type 0 where
+  pub schema : List Column
+  pub shape : Shape
+  pub history : List Answered
+
+-- the line on a row of a column of sums has its canonical direction
+pub record IsRowLine (audit : Audit) (column row : ℕ) (line : List ℕ) : Type 0 where
+  pub form : List (List ℤ)
+  pub reduced : Reduced audit.shape.rows (sets_of_column column audit.history) form
+  pub direction : List ℤ
+  pub canonical : IsCanonicalDirection audit.shape.rows (sets_of_column column audit.history) form row direction
+  pub line_is : line ≡ direction_line (secret_name audit.schema column) row direction
+
+-- the line on this
+abbrev pub IsLineOn : Audit → Subject → List ℕ → Type 0
+IsLineOn audit (row_of column row) line = IsRowLine audit column row line
+IsLineOn audit (column_of column) line = line ≡ high_line (secret_name audit.schema column) (highest audit.shape.rows (answers_of column audit.history))
+IsLineOn audit totals line = line ≡ total_line (length audit.history) (columns audit.shape) audit.shape.rows
+
+-- a line on each
+abbrev pub AreLinesOn : Audit → List Subject → List (List ℕ) → Type 0
+AreLinesOn audit [] [] = Unit {0}
+AreLinesOn audit [] (line ∷ lines) = ⊥
+AreLinesOn audit (subject ∷ others) [] = ⊥
+AreLinesOn audit (subject ∷ others) (line ∷ lines) = IsLineOn audit subject line × AreLinesOn audit others lines
+
+-- ---- what was sent
+
+-- the lines on these were sent
+pub record Sends (audit : Audit) (about : List Subject) (before after : List ℕ) : Type 0 where
+  pub lines : List (List ℕ)
+  pub are : AreLinesOn audit about lines
+  pub sent_is : after ≡ before ++ concat lines
+
+-- a front of the lines on these was sent: it is one of the lines on the first of them
+pub record SendsFront (audit : Audit) (about : List Subject) (before after : List ℕ) : Type 0 where
+  pub first : List Subject
+  pub others : List Subject
+  pub all : about ≡ first ++ others
+  pub lines : List (List ℕ)
+  pub are : AreLinesOn audit first lines
+  pub sent : AppendsFront before (concat lines) after
+
+-- the report was sent
+abbrev pub Reports : Audit → List ℕ → List ℕ → Type 0
+Reports audit before after = Sends audit (subjects audit.shape) before after
+
+-- a front of it was
+abbrev pub ReportsFront : Audit → List ℕ → List ℕ → Type 0
+ReportsFront audit before after = SendsFront audit (subjects audit.shape) before after
+
+-- what a crash finds while lines are sent: the file as it was, and a front of the lines
+pub record SendsMeanwhile (audit : Audit) (about : List Subject) (file before image sent : List ℕ) : Type 0 where
+  pub same : image ≡ file
+  pub front : SendsFront audit about before sent
