@@ -1,5 +1,5 @@
 -- The report of an audit: for each secret number a line, or a line for a column of them, that shows it to be free.
-use Rattle.std.specs.Prelude.{◌≡◌, ℕ, ℤ, List, [], ◌∷◌, ◌++◌, length, map, filter, slice_index_or}
+use Rattle.std.specs.Prelude.{◌≡◌, ◌≤◌, ℕ, ℤ, List, [], ◌∷◌, ◌++◌, length, map, filter, slice_index_or, Result, Ok, Err, OnOk, OnErr}
 use Rattle.std.specs.List.{flat_map, concat, range_with_len}
 use Rattle.audit_types.specs.declared.shapes.Kind.{Kind}
 use Rattle.audit_types.specs.declared.shapes.Kind.TheVariants.{Sum, Max}
@@ -8,10 +8,17 @@ use Rattle.audit_types.specs.declared.records.Answered.{Answered}
 use Rattle.audit_types.specs.Shapes.{columns, kind_at}
 use Rattle.audit_types.specs.Form.{Reduced}
 use Rattle.audit_types.specs.Direction.{IsCanonicalDirection}
-use Rattle.audit_types.specs.History.{answers_of}
+use Rattle.audit_types.specs.History.{answers_of, setting_of}
+use Rattle.audit_core.specs.Audited.{Audited}
 use Rattle.schema_json.specs.Columns.{Column, is_secret}
 use Rattle.max_audit.specs.Witnesses.{highest}
+use Rattle.bench_core.specs.declared.bench.Bench.{Ghosts}
 use Rattle.bench_core.specs.Bench.{AppendsFront}
+use Rattle.bench_core.specs.Calls.{IsQuiet, LeavesOnly}
+use Rattle.bench_core.specs.Causes.{Rose}
+use Rattle.audit_store.specs.Stores.{StoreContents}
+use Rattle.journal_audit.specs.declared.faults.AuditFault.{AuditFault}
+use Rattle.journal_audit.specs.declared.faults.AuditFault.TheVariants as fault
 use Rattle.journal_audit.specs.Texts.{direction_line, high_line, total_line}
 
 -- ---- what a report is about
@@ -54,6 +61,14 @@ pub record Audit : Type 0 where
   pub schema : List Column
   pub shape : Shape
   pub history : List Answered
+
+-- what is told of a store over a schema
+abbrev pub audit_of : List Column → StoreContents → Audit
+audit_of schema store = record { schema = schema; shape = store.secret.shape; history = store.history }
+
+-- what the core of a usable store holds
+abbrev pub contents_of : StoreContents → Audited
+contents_of store = record { setting = setting_of store.secret.shape; history = store.history }
 
 -- the line on a row of a column of sums has its canonical direction
 pub record IsRowLine (audit : Audit) (column row : ℕ) (line : List ℕ) : Type 0 where
@@ -105,3 +120,14 @@ ReportsFront audit before after = SendsFront audit (subjects audit.shape) before
 pub record SendsMeanwhile (audit : Audit) (about : List Subject) (file before image sent : List ℕ) : Type 0 where
   pub same : image ≡ file
   pub front : SendsFront audit about before sent
+
+-- what sending the lines on these leaves of a bench: they were sent, or a front of them where it was refused, and nothing
+-- else changed
+pub record SendsLinesOn {D : Type 0} (bench : Ghosts D) (audit : Audit) (about : List Subject) (old new : D) (result : Result (Unit {0}) AuditFault) : Type 0 where
+  pub sends : bench.told → OnOk result (Sends audit about (bench.sent old) (bench.sent new))
+  pub part : bench.told → OnErr result (SendsFront audit about (bench.sent old) (bench.sent new))
+  pub moments : bench.told → IsQuiet bench old → LeavesOnly bench old new (SendsMeanwhile audit about (bench.file old) (bench.sent old))
+  pub file : bench.file new ≡ bench.file old
+  pub crash : (image : List ℕ) → bench.leaves new image → bench.leaves old image
+  pub later : bench.faults old ≤ bench.faults new
+  pub failed : result ≡ Err fault.Failed → Rose (bench.faults old) (bench.faults new)

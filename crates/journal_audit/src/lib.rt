@@ -1,4 +1,12 @@
-//! The report of an audit: each secret number is shown to be free by a list that was checked.
+//! The report of an audit: each secret number is shown to be free by a list that was checked before it is sent.
+//!
+//! `audit` is the one call. What its lines say is `Reports` of the specs; docs/FORMATS.md has their form.
 #![tactic(auto)]
 
+mod checking;
+mod faults;
+mod reporting;
 mod texts;
+
+pub use faults::AuditFault;
+pub use reporting::audit;

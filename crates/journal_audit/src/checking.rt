@@ -1,0 +1,103 @@
+//! Making the lists that show a secret to be free, and checking them.
+ghost use Rattle.std.specs.Prelude.{◌≡◌, ◌<◌, ◌==◌, List, ℤ, map, filter, None, IfOk, OnOk};
+ghost use Rattle.std.specs.List.{AllByRecursion, All};
+ghost use Rattle.audit_types.specs.Direction.{IsPinned, IsCanonicalDirection};
+ghost use Rattle.audit_types.specs.Extremes.{IsConsistent, IsLeastLone};
+ghost use Rattle.audit_types.specs.Form.{Reduced};
+ghost use Rattle.audit_types.specs.History.{answers_of, FitsShape};
+ghost use Rattle.max_audit.specs.Witnesses.{highest};
+ghost use Rattle.sum_audit.specs.Sets.{sets_of};
+ghost use Rattle.witness_check.specs.Directions.{lists_of};
+ghost use Rattle.journal_audit.specs.Texts.{direction_line, high_line};
+
+use crate::texts::{write_direction, write_high};
+use audit_types::{Answered, NoMemory, RowSet};
+use max_audit::MaxColumn;
+use std::alloc::{AllocError, Global};
+use sum_audit::SumColumn;
+use witness_build::{max_witness, sum_witness};
+use witness_check::{check_direction, check_pair};
+
+/// The sets of a column's records, in order.
+pub fn column_sets(
+    alloc: Global,
+    column: u8,
+    list: &[Answered],
+) -> Result<Vec<RowSet>, AllocError>
+    ensures { IfOk result (λ sets. sets.items ≡ map (λ r. r.rows) (filter (λ r. r.column == column) list.now)) }
+{
+    list.iter()
+        .filter(|record| record.column == column)
+        .map(|record| record.rows)
+        .collect(alloc)
+}
+
+/// Writes the line on a row of a column of sums: the canonical direction of the row, which was checked.
+pub fn write_row(
+    alloc: Global,
+    line: &mut Vec<u8>,
+    name: &str,
+    sums: &SumColumn,
+    sets: &[RowSet],
+    row: u16,
+) -> Result<(), NoMemory>
+    requires row { row < sums.now.n }
+    requires free { ¬ (IsPinned sums.now.n (sets_of sums.now.answers) row) }
+    requires same_n { AllByRecursion (λ s. s.n ≡ sums.now.n) sets.now }
+    requires sets { lists_of sets.now ≡ sets_of sums.now.answers }
+    ensures { OnOk result ((form : List (List ℤ)) × Reduced sums.now.n (sets_of sums.now.answers) form
+        × ((d : List ℤ) × IsCanonicalDirection sums.now.n (sets_of sums.now.answers) form row d × (line.new.items ≡ direction_line name.now row d))) }
+{
+    // The basis of a column is the reduced form of its sets.
+    let _form = sums.basis();
+    let direction = sum_witness(alloc, sums, row)?;
+    if !check_direction(sums.n(), sets, &direction, row) {
+        unreachable!();
+    }
+    write_direction(line, name, row, &direction)?;
+    Ok(())
+}
+
+// Checks for each row the pair of lists that shows it to be free.
+fn check_rows(
+    alloc: Global,
+    column: u8,
+    list: &[Answered],
+    maxima: &MaxColumn,
+) -> Result<(), NoMemory>
+    requires consistent { IsConsistent maxima.now.answers }
+    requires free { IsLeastLone maxima.now.answers None }
+    requires answers { maxima.now.answers ≡ answers_of column list.now }
+    requires same_n { AllByRecursion (λ r. r.rows.n ≡ maxima.now.n) list.now }
+{
+    let n = maxima.bounds().n();
+    for row in 0..n {
+        let pair = max_witness(alloc, maxima, row)?;
+        if !check_pair(n, column, list, &pair.lo, &pair.hi, row) {
+            unreachable!();
+        }
+    }
+    Ok(())
+}
+
+/// Writes the line on a column of maxima: the list with each row at its upper bound. For each row the pair of it and the list
+/// with that row less by 1 was checked.
+pub fn write_column(
+    alloc: Global,
+    line: &mut Vec<u8>,
+    name: &str,
+    column: u8,
+    list: &[Answered],
+    maxima: &MaxColumn,
+) -> Result<(), NoMemory>
+    requires consistent { IsConsistent maxima.now.answers }
+    requires free { IsLeastLone maxima.now.answers None }
+    requires answers { maxima.now.answers ≡ answers_of column list.now }
+    requires same_n { AllByRecursion (λ r. r.rows.n ≡ maxima.now.n) list.now }
+    ensures { OnOk result (line.new.items ≡ high_line name.now (highest maxima.now.n maxima.now.answers)) }
+{
+    check_rows(alloc, column, list, maxima)?;
+    let pair = max_witness(alloc, maxima, 0)?;
+    write_high(line, name, &pair.hi)?;
+    Ok(())
+}

@@ -1,0 +1,167 @@
+//! Sending a report, a line a send.
+ghost use Rattle.std.specs.Prelude.{◌≡◌, ◌<◌, ◌≤◌, [], ◌∷◌, ◌++◌, List, ℕ, true, Some, length, OnOk, OnErr};
+ghost use Rattle.audit_types.specs.Shapes.{columns, kind_at};
+ghost use Rattle.audit_types.specs.declared.shapes.Kind.TheVariants as kind;
+ghost use Rattle.schema_json.specs.Columns.{secret_place};
+ghost use Rattle.schema_json.specs.SecretShape.{shape_of};
+ghost use Rattle.bench_core.specs.Causes.{Rose};
+ghost use Rattle.bench_core.specs.Calls.{IsQuiet, LeavesOnly};
+ghost use Rattle.audit_core.specs.Columns.{HasItsPart};
+ghost use Rattle.audit_store.specs.Stores.{IsStore};
+ghost use Rattle.journal_audit.specs.Reports.{audit_of, contents_of, subjects_before, subjects_of, column_of, totals, Reports, ReportsFront, SendsMeanwhile, SendsLinesOn, subjects};
+
+use crate::checking::{column_sets, write_column, write_row};
+use crate::faults::AuditFault;
+use crate::texts::write_totals;
+use audit_core::ColumnRef;
+use audit_core::laws::free_numbers;
+use audit_store::Store;
+use bench_core::Bench;
+use max_audit::MaxColumn;
+use schema_json::Schema;
+use std::alloc::Global;
+use sum_audit::SumColumn;
+use table_load::lists_of_secrets;
+
+// Sends the lines on the rows of a column of sums.
+fn send_rows<B: Bench>(
+    alloc: Global,
+    schema: &Schema,
+    store: &Store,
+    place: u8,
+    column: u8,
+    sums: &SumColumn,
+    bench: &mut B,
+) -> Result<(), AuditFault>
+    requires named { secret_place schema.now.columns place ≡ Some column }
+    requires is { IsStore store.now }
+    requires below { column < columns store.now.secret.shape }
+    requires part { HasItsPart (contents_of store.now) column kind.Sum sums.now }
+    ensures { SendsLinesOn B.Bench (audit_of schema.now.columns store.now) (subjects_of store.now.secret.shape column kind.Sum) bench.old bench.new result }
+{
+    lists_of_secrets();
+    free_numbers();
+    let name = schema.name(place);
+    let sets = column_sets(alloc, column, store.history())?;
+    let mut line = Vec::new(alloc);
+    for row in 0..sums.n() {
+        write_row(alloc, &mut line, name, sums, &sets, row)?;
+        bench.send(&line)?;
+    }
+    Ok(())
+}
+
+// Sends the line on a column of maxima.
+fn send_highest<B: Bench>(
+    alloc: Global,
+    schema: &Schema,
+    store: &Store,
+    place: u8,
+    column: u8,
+    maxima: &MaxColumn,
+    bench: &mut B,
+) -> Result<(), AuditFault>
+    requires named { secret_place schema.now.columns place ≡ Some column }
+    requires is { IsStore store.now }
+    requires below { column < columns store.now.secret.shape }
+    requires part { HasItsPart (contents_of store.now) column kind.Max maxima.now }
+    ensures { SendsLinesOn B.Bench (audit_of schema.now.columns store.now) (column_of column ∷ []) bench.old bench.new result }
+{
+    lists_of_secrets();
+    free_numbers();
+    if let Some(_) = maxima.fixed() {
+        unreachable!();
+    }
+    let mut line = Vec::new(alloc);
+    let name = schema.name(place);
+    write_column(alloc, &mut line, name, column, store.history(), maxima)?;
+    bench.send(&line)?;
+    Ok(())
+}
+
+// Sends the lines on a secret column.
+fn send_column<B: Bench>(
+    alloc: Global,
+    schema: &Schema,
+    store: &Store,
+    place: u8,
+    column: u8,
+    bench: &mut B,
+) -> Result<(), AuditFault>
+    requires named { secret_place schema.now.columns place ≡ Some column }
+    requires usable { store.now.usable ≡ true }
+    requires is { IsStore store.now }
+    requires below { column < columns store.now.secret.shape }
+    ensures { SendsLinesOn B.Bench (audit_of schema.now.columns store.now) (subjects_of store.now.secret.shape column (kind_at store.now.secret.shape column)) bench.old bench.new result }
+{
+    match store.core().column(column) {
+        ColumnRef::Sum(sums) => send_rows(alloc, schema, store, place, column, sums, bench),
+        ColumnRef::Max(maxima) => send_highest(alloc, schema, store, place, column, maxima, bench),
+    }
+}
+
+// Sends the lines on all secret columns.
+fn send_columns<B: Bench>(
+    alloc: Global,
+    schema: &Schema,
+    store: &Store,
+    bench: &mut B,
+) -> Result<(), AuditFault>
+    requires usable { store.now.usable ≡ true }
+    requires is { IsStore store.now }
+    requires shape { store.now.secret.shape ≡ shape_of schema.now.columns store.now.secret.shape.rows }
+    ensures { SendsLinesOn B.Bench (audit_of schema.now.columns store.now) (subjects_before store.now.secret.shape (columns store.now.secret.shape)) bench.old bench.new result }
+{
+    schema_json::laws::shape_of_a_table();
+    for place in 0..schema.count() {
+        if let Some(column) = schema.secret(place) {
+            send_column(alloc, schema, store, place, column, bench)?;
+        }
+    }
+    Ok(())
+}
+
+// Sends the line of totals.
+fn send_totals<B: Bench>(
+    alloc: Global,
+    store: &Store,
+    schema: &Schema,
+    bench: &mut B,
+) -> Result<(), AuditFault>
+    ensures { SendsLinesOn B.Bench (audit_of schema.now.columns store.now) (totals ∷ []) bench.old bench.new result }
+{
+    let shape = store.secret().shape();
+    let mut line = Vec::new(alloc);
+    write_totals(&mut line, store.history().len(), shape.columns(), shape.rows)?;
+    bench.send(&line)?;
+    Ok(())
+}
+
+/// Sends the report of a store's history over the secret columns of a schema: a line a send, each list checked before its
+/// line leaves. Nothing is written.
+pub fn audit<B: Bench>(
+    alloc: Global,
+    schema: &Schema,
+    store: &Store,
+    bench: &mut B,
+) -> Result<(), AuditFault>
+    requires usable { store.now.usable ≡ true }
+    requires shape { store.now.secret.shape ≡ shape_of schema.now.columns store.now.secret.shape.rows }
+
+    // The report was sent, or a front of it: at the end, and at every moment.
+    ensures report { B.told → OnOk result (Reports (audit_of schema.now.columns store.now) (B.sent bench.old) (B.sent bench.new)) }
+    ensures part { B.told → OnErr result (ReportsFront (audit_of schema.now.columns store.now) (B.sent bench.old) (B.sent bench.new)) }
+    ensures any_moment { B.told → IsQuiet B.Bench bench.old
+        → LeavesOnly B.Bench bench.old bench.new (SendsMeanwhile (audit_of schema.now.columns store.now) (subjects store.now.secret.shape) (B.file bench.old) (B.sent bench.old)) }
+
+    // The file isn't touched.
+    ensures file { B.file bench.new ≡ B.file bench.old }
+    ensures crash { (image : List ℕ) → B.leaves bench.new image → B.leaves bench.old image }
+    ensures failed { result ≡ Err AuditFault.Failed → Rose (B.faults bench.old) (B.faults bench.new) }
+    ensures later { B.faults bench.old ≤ B.faults bench.new }
+{
+    // A store says of itself that its history is legal.
+    let _history = store.history();
+    send_columns(alloc, schema, store, bench)?;
+    send_totals(alloc, store, schema, bench)
+}
