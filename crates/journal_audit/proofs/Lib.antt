@@ -1,2 +1,6 @@
-pub mod Sending
 pub mod Commas
+pub mod Sending
+pub mod LinesOn
+pub mod SecretNames
+pub mod Subjects
+pub mod FreeColumns

@@ -69,3 +69,7 @@ then_front audit xs ys a b c sends front = record {
     front.sent.1 ∙ ap (λ l. l ++ take front.sent.0 (concat front.lines)) sends.sent_is ∙ append_assoc a (concat sends.lines) (take front.sent.0 (concat front.lines))
     ∙ ap (λ l. a ++ l) (sym (take-append-add (concat sends.lines) (concat front.lines) front.sent.0) ∙ ap (λ l. take (length (concat sends.lines) + front.sent.0) l) (sym (concat-append sends.lines front.lines))));
 }
+
+-- no byte is a front of any lines
+pub none_front : (audit : Audit) (about : List Subject) (bytes : List ℕ) → SendsFront audit about bytes bytes
+none_front audit about bytes = record { first = []; others = about; all = refl; lines = []; are = tt; sent = (0, sym (append-nil bytes)) }

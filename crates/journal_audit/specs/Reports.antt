@@ -13,7 +13,7 @@ use Rattle.audit_core.specs.Audited.{Audited}
 use Rattle.schema_json.specs.Columns.{Column, is_secret}
 use Rattle.max_audit.specs.Witnesses.{highest}
 use Rattle.bench_core.specs.declared.bench.Bench.{Ghosts}
-use Rattle.bench_core.specs.Bench.{AppendsFront}
+use Rattle.bench_core.specs.Bench.{AppendsFront, Elapses, Sending}
 use Rattle.bench_core.specs.Calls.{IsQuiet, LeavesOnly}
 use Rattle.bench_core.specs.Causes.{Rose}
 use Rattle.audit_store.specs.Stores.{StoreContents}
@@ -120,6 +120,16 @@ ReportsFront audit before after = SendsFront audit (subjects audit.shape) before
 pub record SendsMeanwhile (audit : Audit) (about : List Subject) (file before image sent : List ℕ) : Type 0 where
   pub same : image ≡ file
   pub front : SendsFront audit about before sent
+
+-- what sending one line leaves of a bench
+pub record SendsLine {D : Type 0} (bench : Ghosts D) (line : List ℕ) (old new : D) (result : Result (Unit {0}) AuditFault) : Type 0 where
+  pub sends : bench.told → OnOk result (bench.sent new ≡ bench.sent old ++ line)
+  pub part : bench.told → OnErr result (AppendsFront (bench.sent old) line (bench.sent new))
+  pub time : Elapses (bench.moment old) (bench.moment new) (bench.since old) (bench.since new) (Sending (bench.leaves new) (bench.sent old) line)
+  pub file : bench.file new ≡ bench.file old
+  pub crash : (image : List ℕ) → bench.leaves new image → bench.leaves old image
+  pub later : bench.faults old ≤ bench.faults new
+  pub failed : result ≡ Err fault.Failed → Rose (bench.faults old) (bench.faults new)
 
 -- what sending the lines on these leaves of a bench: they were sent, or a front of them where it was refused, and nothing
 -- else changed

@@ -90,6 +90,7 @@ pub fn write_column(
     list: &[Answered],
     maxima: &MaxColumn,
 ) -> Result<(), NoMemory>
+    requires some { 0 < maxima.now.n }
     requires consistent { IsConsistent maxima.now.answers }
     requires free { IsLeastLone maxima.now.answers None }
     requires answers { maxima.now.answers ≡ answers_of column list.now }

@@ -3,7 +3,6 @@ ghost use Rattle.std.specs.Prelude.{◌≡◌};
 ghost use Rattle.journal_audit.specs.declared.faults.AuditFault.TheVariants as fault;
 
 use audit_types::NoMemory;
-use bench_core::Failed;
 use std::alloc::AllocError;
 
 /// Why a report wasn't sent whole.
@@ -12,14 +11,6 @@ pub enum AuditFault {
     /// A send failed. The last line may have left in part.
     Failed,
     NoMemory,
-}
-
-impl From<Failed> for AuditFault {
-    ghost from_gives = { λ _ e. e ≡ fault.Failed };
-
-    fn from(_e: Failed) -> AuditFault {
-        AuditFault::Failed
-    }
 }
 
 impl From<NoMemory> for AuditFault {

@@ -8,7 +8,7 @@ ghost use Rattle.bench_core.specs.Causes.{Rose};
 ghost use Rattle.bench_core.specs.Calls.{IsQuiet, LeavesOnly};
 ghost use Rattle.audit_core.specs.Columns.{HasItsPart};
 ghost use Rattle.audit_store.specs.Stores.{IsStore};
-ghost use Rattle.journal_audit.specs.Reports.{audit_of, contents_of, subjects_before, subjects_of, column_of, totals, Reports, ReportsFront, SendsMeanwhile, SendsLinesOn, subjects};
+ghost use Rattle.journal_audit.specs.Reports.{audit_of, contents_of, subjects_before, subjects_of, column_of, totals, Reports, ReportsFront, SendsMeanwhile, SendsLine, SendsLinesOn, subjects};
 
 use crate::checking::{column_sets, write_column, write_row};
 use crate::faults::AuditFault;
@@ -16,12 +16,22 @@ use crate::texts::write_totals;
 use audit_core::ColumnRef;
 use audit_core::laws::free_numbers;
 use audit_store::Store;
-use bench_core::Bench;
+use bench_core::{Bench, Failed};
 use max_audit::MaxColumn;
 use schema_json::Schema;
 use std::alloc::Global;
 use sum_audit::SumColumn;
 use table_load::lists_of_secrets;
+
+// Sends a line.
+fn send_line<B: Bench>(bench: &mut B, line: &[u8]) -> Result<(), AuditFault>
+    ensures { SendsLine B.Bench line.now bench.old bench.new result }
+{
+    match bench.send(line) {
+        Ok(()) => Ok(()),
+        Err(Failed) => Err(AuditFault::Failed),
+    }
+}
 
 // Sends the lines on the rows of a column of sums.
 fn send_rows<B: Bench>(
@@ -46,7 +56,7 @@ fn send_rows<B: Bench>(
     let mut line = Vec::new(alloc);
     for row in 0..sums.n() {
         write_row(alloc, &mut line, name, sums, &sets, row)?;
-        bench.send(&line)?;
+        send_line(bench, &line)?;
     }
     Ok(())
 }
@@ -75,8 +85,7 @@ fn send_highest<B: Bench>(
     let mut line = Vec::new(alloc);
     let name = schema.name(place);
     write_column(alloc, &mut line, name, column, store.history(), maxima)?;
-    bench.send(&line)?;
-    Ok(())
+    send_line(bench, &line)
 }
 
 // Sends the lines on a secret column.
@@ -133,8 +142,7 @@ fn send_totals<B: Bench>(
     let shape = store.secret().shape();
     let mut line = Vec::new(alloc);
     write_totals(&mut line, store.history().len(), shape.columns(), shape.rows)?;
-    bench.send(&line)?;
-    Ok(())
+    send_line(bench, &line)
 }
 
 /// Sends the report of a store's history over the secret columns of a schema: a line a send, each list checked before its

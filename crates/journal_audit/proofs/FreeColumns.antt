@@ -1,0 +1,24 @@
+-- What a store's history leaves free in one column.
+use Rattle.std.proofs.Common.{◌≡◌, ℕ, suc, ◌<◌, List, [], ◌∷◌, length, map, refl, sym, ap, ◌∙◌, subst, arith, Some}
+use Rattle.std.specs.Prelude.{slice_get, ◌==◌}
+use Rattle.std.specs.List.{AllByRecursion, filter}
+use Rattle.audit_types.specs.Rows.{Rows}
+use Rattle.audit_types.specs.Column.{Answer}
+use Rattle.audit_types.specs.declared.records.Answered.{Answered}
+use Rattle.audit_types.specs.History.{Table, IsLegal, answers_of}
+use Rattle.witness_check.specs.Directions.{lists_of}
+use Rattle.journal_audit.specs.Reports.{sets_of_column}
+
+-- the sets of a column's records, as lists of rows
+pub lists_of_records : (records : List Answered) → lists_of (map (λ r. r.rows) records) ≡ map (λ (a : Answer). a.rows) (map (λ (r : Answered). record { rows = r.rows.list; value = r.answer }) records)
+lists_of_records [] = refl
+lists_of_records (r ∷ records) = ap (λ l. r.rows.list ∷ l) (lists_of_records records)
+
+-- what holds at each place holds of all
+pub all_by_place : {X : Type 0} (P : X → Type 0) (xs : List X) → ((i : ℕ) (x : X) → slice_get xs i ≡ Some x → P x) → AllByRecursion P xs
+all_by_place P [] each = tt
+all_by_place P (x ∷ xs) each = (each 0 x refl, all_by_place P xs (λ i y here. each (suc i) y here))
+
+-- a legal history's sets are over the table's rows
+pub same_n : (table : Table) (history : List Answered) → IsLegal table history → AllByRecursion (λ r. r.rows.n ≡ table.setting.shape.rows) history
+same_n table history legal = all_by_place (λ r. r.rows.n ≡ table.setting.shape.rows) history (λ i r here. (legal.each i r here).fits.same_n)
