@@ -4,3 +4,4 @@ pub mod LinesOn
 pub mod SecretNames
 pub mod Subjects
 pub mod FreeColumns
+pub mod RowLines

@@ -107,3 +107,11 @@ module _ {D : Type 0} (bench : Ghosts D) (only_now : NowOnly bench) (audit : Aud
         (λ image sent here. record { same = here.same; front = front_of_more audit xs ys (bench.sent a) sent here.front }) (first.moments told quiet);
     file = first.file; crash = first.crash; later = first.later; failed = first.failed;
   }
+
+  -- a refusal on this, after the first lines and before others
+  pub refused_among : (first this others all : List Subject) (a b c : D) (r : Result (Unit {0}) AuditFault) (e : AuditFault) → all ≡ first ++ this ++ others → r ≡ Err e
+      → SendsLinesOn bench audit first a b (Ok tt) → SendsLinesOn bench audit this b c (Err e) → SendsLinesOn bench audit all a c r
+  refused_among first this others all a b c r e split is before now =
+      subst (λ l. SendsLinesOn bench audit l a c r) (sym split)
+      (subst (λ r. SendsLinesOn bench audit (first ++ this ++ others) a c r) (sym is)
+      (refused (first ++ this) others a c e (and_then first this a b c before (Err e) now)))

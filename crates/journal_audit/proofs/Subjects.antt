@@ -1,5 +1,5 @@
 -- The subjects of a report, one column and one row at a time.
-use Rattle.std.proofs.Common.{◌≡◌, ℕ, zero, suc, ◌+◌, ◌-◌, ◌≤◌, List, [], ◌∷◌, ◌++◌, map, refl, sym, ap, ◌∙◌, subst, arith, append_assoc, add-zero, zero-add, add-one}
+use Rattle.std.proofs.Common.{◌≡◌, ℕ, zero, suc, ◌+◌, ◌-◌, ◌<◌, ◌≤◌, List, [], ◌∷◌, ◌++◌, map, refl, sym, ap, ◌∙◌, subst, arith, append_assoc, add-zero, zero-add, add-one}
 use Rattle.std.specs.List.{flat_map, range_with_len}
 use Rattle.std.proofs.lemmas.List.{append-nil}
 use Rattle.std.proofs.lemmas.List.FromFn.{map-range_with_len_more}
@@ -49,3 +49,9 @@ columns_after shape n m le =
     let count : n + (m - n) ≡ m = omega (arith, le) in
     let all = after_first (subjects_before shape) (λ k. (subjects_of shape k (kind_at shape k), subjects_before-more shape k)) n (m - n) in
     (all.0, ap (subjects_before shape) (sym count) ∙ all.1)
+
+-- a column among all columns
+pub column_among : (shape : Shape) (column count : ℕ) → column < count → (others : List Subject) × (subjects_before shape count ≡ subjects_before shape column ++ subjects_of shape column (kind_at shape column) ++ others)
+column_among shape column count below =
+    let rest = columns_after shape (column + 1) count (omega (arith, below)) in
+    (rest.0, rest.1 ∙ ap (λ l. l ++ rest.0) (subjects_before-more shape column))
