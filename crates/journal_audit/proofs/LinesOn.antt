@@ -34,8 +34,11 @@ module _ {D : Type 0} (bench : Ghosts D) (only_now : NowOnly bench) (audit : Aud
     sends = λ told. none_sent audit (bench.sent old);
     part = λ told. tt;
     moments = λ told quiet. found_now [] old quiet;
-    file = refl; crash = λ image left. left; later = omega arith;
+    file = refl;
+    crash = λ image left. left;
+    later = omega arith;
     failed = λ is. cc;
+    steady = λ other. refl;
   }
 
   -- want of memory before the next line
@@ -44,8 +47,11 @@ module _ {D : Type 0} (bench : Ghosts D) (only_now : NowOnly bench) (audit : Aud
     sends = λ told. tt;
     part = λ told. none_front audit about (bench.sent old);
     moments = λ told quiet. found_now about old quiet;
-    file = refl; crash = λ image left. left; later = omega arith;
+    file = refl;
+    crash = λ image left. left;
+    later = omega arith;
     failed = λ is. cc;
+    steady = λ other. refl;
   }
 
   -- a line's send
@@ -61,13 +67,21 @@ module _ {D : Type 0} (bench : Ghosts D) (only_now : NowOnly bench) (audit : Aud
       sends = λ told. one_sent audit subject line (bench.sent old) (bench.sent new) is (sends.sends told);
       part = λ told. tt;
       moments = λ told quiet. while_sending sends quiet;
-      file = sends.file; crash = sends.crash; later = sends.later; failed = sends.failed;
+      file = sends.file;
+      crash = sends.crash;
+      later = sends.later;
+      failed = sends.failed;
+      steady = sends.steady;
     }
     line_on (Err e) sends = record {
       sends = λ told. tt;
       part = λ told. one_front audit subject line (bench.sent old) (bench.sent new) is (sends.part told);
       moments = λ told quiet. while_sending sends quiet;
-      file = sends.file; crash = sends.crash; later = sends.later; failed = sends.failed;
+      file = sends.file;
+      crash = sends.crash;
+      later = sends.later;
+      failed = sends.failed;
+      steady = sends.steady;
     }
 
   module _ (xs ys : List Subject) (a b c : D) (first : SendsLinesOn bench audit xs a b (Ok tt)) where
@@ -77,9 +91,9 @@ module _ {D : Type 0} (bench : Ghosts D) (only_now : NowOnly bench) (audit : Aud
     while_both : (r : Result (Unit {0}) AuditFault) → SendsLinesOn bench audit ys b c r → bench.told → IsQuiet bench a → LeavesOnly bench a c (SendsMeanwhile audit (xs ++ ys) (bench.file a) (bench.sent a))
     while_both r second told quiet = joins bench a b c (SendsMeanwhile audit (xs ++ ys) (bench.file a) (bench.sent a))
         (weakens bench a b (SendsMeanwhile audit xs (bench.file a) (bench.sent a)) (SendsMeanwhile audit (xs ++ ys) (bench.file a) (bench.sent a))
-            (λ image sent here. record { same = here.same; front = front_of_more audit xs ys (bench.sent a) sent here.front }) (first.moments told quiet))
+        (λ image sent here. record { same = here.same; front = front_of_more audit xs ys (bench.sent a) sent here.front }) (first.moments told quiet))
         (weakens bench b c (SendsMeanwhile audit ys (bench.file b) (bench.sent b)) (SendsMeanwhile audit (xs ++ ys) (bench.file a) (bench.sent a))
-            (λ image sent here. record { same = here.same ∙ first.file; front = then_front audit xs ys (bench.sent a) (bench.sent b) sent (first.sends told) here.front }) (second.moments told (still_quiet quiet)))
+        (λ image sent here. record { same = here.same ∙ first.file; front = then_front audit xs ys (bench.sent a) (bench.sent b) sent (first.sends told) here.front }) (second.moments told (still_quiet quiet)))
 
     -- the first lines and then more
     pub and_then : (r : Result (Unit {0}) AuditFault) → SendsLinesOn bench audit ys b c r → SendsLinesOn bench audit (xs ++ ys) a c r
@@ -87,15 +101,21 @@ module _ {D : Type 0} (bench : Ghosts D) (only_now : NowOnly bench) (audit : Aud
       sends = λ told. sent_then audit xs ys (bench.sent a) (bench.sent b) (bench.sent c) (first.sends told) (second.sends told);
       part = λ told. tt;
       moments = while_both (Ok u) second;
-      file = second.file ∙ first.file; crash = λ image left. first.crash image (second.crash image left); later = omega (arith, first.later, second.later);
+      file = second.file ∙ first.file;
+      crash = λ image left. first.crash image (second.crash image left);
+      later = omega (arith, first.later, second.later);
       failed = λ is. cc;
+      steady = λ other. second.steady (λ is. cc) ∙ first.steady (λ is. cc);
     }
     and_then (Err e) second = record {
       sends = λ told. tt;
       part = λ told. then_front audit xs ys (bench.sent a) (bench.sent b) (bench.sent c) (first.sends told) (second.part told);
       moments = while_both (Err e) second;
-      file = second.file ∙ first.file; crash = λ image left. first.crash image (second.crash image left); later = omega (arith, first.later, second.later);
+      file = second.file ∙ first.file;
+      crash = λ image left. first.crash image (second.crash image left);
+      later = omega (arith, first.later, second.later);
       failed = λ is. let rose = second.failed is in omega (arith, rose, first.later);
+      steady = λ other. second.steady other ∙ first.steady (λ is. cc);
     }
 
   -- a refusal among the first lines is one among all
@@ -105,7 +125,11 @@ module _ {D : Type 0} (bench : Ghosts D) (only_now : NowOnly bench) (audit : Aud
     part = λ told. front_of_more audit xs ys (bench.sent a) (bench.sent b) (first.part told);
     moments = λ told quiet. weakens bench a b (SendsMeanwhile audit xs (bench.file a) (bench.sent a)) (SendsMeanwhile audit (xs ++ ys) (bench.file a) (bench.sent a))
         (λ image sent here. record { same = here.same; front = front_of_more audit xs ys (bench.sent a) sent here.front }) (first.moments told quiet);
-    file = first.file; crash = first.crash; later = first.later; failed = first.failed;
+    file = first.file;
+    crash = first.crash;
+    later = first.later;
+    failed = first.failed;
+    steady = first.steady;
   }
 
   -- a refusal on this, after the first lines and before others

@@ -59,7 +59,7 @@ one_more_secret cs place column is =
     let at = secret_at cs place column is in
     let front = filter (λ d. is_secret d.role) (take place cs) in
     let grown : secret_count (take (place + 1) cs) ≡ length (front ++ at.c ∷ []) =
-        ap secret_count at.at.one_more ∙ ap length (filter-append (λ d. is_secret d.role) (take place cs) (at.c ∷ []) ∙ ap (λ l. front ++ l) (kept_one at.c [] at.secret)) in
+    ap secret_count at.at.one_more ∙ ap length (filter-append (λ d. is_secret d.role) (take place cs) (at.c ∷ []) ∙ ap (λ l. front ++ l) (kept_one at.c [] at.secret)) in
     omega (arith, grown, length-append front (at.c ∷ []), at.counted)
 
 -- a public column adds none
@@ -87,6 +87,6 @@ name_is cs place column name is named =
     let names : List Column → List (List ℕ) = λ l. map (λ c. c.name) l in
     let own : name ≡ at.c.name = some_is name at.c.name (named ∙ ap (option_map (λ c. c.name)) at.at.here) in
     let all : secret_names cs ≡ names front ++ at.c.name ∷ names rest =
-        ap names (ap (filter (λ d. is_secret d.role)) at.at.all ∙ filter-append (λ d. is_secret d.role) (take place cs) (at.c ∷ at.at.others) ∙ ap (λ l. front ++ l) (kept_one at.c at.at.others at.secret))
-        ∙ map-append (λ c. c.name) front (at.c ∷ rest) in
+    ap names (ap (filter (λ d. is_secret d.role)) at.at.all ∙ filter-append (λ d. is_secret d.role) (take place cs) (at.c ∷ at.at.others) ∙ ap (λ l. front ++ l) (kept_one at.c at.at.others at.secret))
+    ∙ map-append (λ c. c.name) front (at.c ∷ rest) in
     own ∙ sym (get_or-append_seam (names front) at.c.name (names rest) []) ∙ ap (λ n. get_or (names front ++ at.c.name ∷ names rest) n []) (length-map front (λ c. c.name) ∙ sym at.counted) ∙ ap (λ l. get_or l column []) (sym all)

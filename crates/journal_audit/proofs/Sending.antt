@@ -29,8 +29,11 @@ one_sent audit subject line before after is sent = record { lines = line ∷ [];
 -- a front of it was
 pub one_front : (audit : Audit) (subject : Subject) (line before after : List ℕ) → IsLineOn audit subject line → AppendsFront before line after → SendsFront audit (subject ∷ []) before after
 one_front audit subject line before after is sent = record {
-  first = subject ∷ []; others = []; all = refl;
-  lines = line ∷ []; are = (is, tt);
+  first = subject ∷ [];
+  others = [];
+  all = refl;
+  lines = line ∷ [];
+  are = (is, tt);
   sent = subst (λ l. AppendsFront before l after) (sym (append-nil line)) sent;
 }
 
@@ -45,29 +48,38 @@ sent_then audit xs ys a b c first second = record {
 -- whole lines are a front of them
 pub whole_front : (audit : Audit) (xs : List Subject) (a b : List ℕ) → Sends audit xs a b → SendsFront audit xs a b
 whole_front audit xs a b sends = record {
-  first = xs; others = []; all = sym (append-nil xs);
-  lines = sends.lines; are = sends.are;
+  first = xs;
+  others = [];
+  all = sym (append-nil xs);
+  lines = sends.lines;
+  are = sends.are;
   sent = (length (concat sends.lines), sends.sent_is ∙ ap (λ l. a ++ l) (sym (take-length (concat sends.lines))));
 }
 
 -- a front of the first lines is one of all
 pub front_of_more : (audit : Audit) (xs ys : List Subject) (a b : List ℕ) → SendsFront audit xs a b → SendsFront audit (xs ++ ys) a b
 front_of_more audit xs ys a b front = record {
-  first = front.first; others = front.others ++ ys;
+  first = front.first;
+  others = front.others ++ ys;
   all = ap (λ l. l ++ ys) front.all ∙ append_assoc front.first front.others ys;
-  lines = front.lines; are = front.are; sent = front.sent;
+  lines = front.lines;
+  are = front.are;
+  sent = front.sent;
 }
 
 -- whole lines and then a front of more
 pub then_front : (audit : Audit) (xs ys : List Subject) (a b c : List ℕ) → Sends audit xs a b → SendsFront audit ys b c → SendsFront audit (xs ++ ys) a c
 then_front audit xs ys a b c sends front = record {
-  first = xs ++ front.first; others = front.others;
+  first = xs ++ front.first;
+  others = front.others;
   all = ap (λ l. xs ++ l) front.all ∙ sym (append_assoc xs front.first front.others);
   lines = sends.lines ++ front.lines;
   are = lines-append audit xs front.first sends.lines front.lines sends.are front.are;
-  sent = (length (concat sends.lines) + front.sent.0,
+  sent = (
+    length (concat sends.lines) + front.sent.0,
     front.sent.1 ∙ ap (λ l. l ++ take front.sent.0 (concat front.lines)) sends.sent_is ∙ append_assoc a (concat sends.lines) (take front.sent.0 (concat front.lines))
-    ∙ ap (λ l. a ++ l) (sym (take-append-add (concat sends.lines) (concat front.lines) front.sent.0) ∙ ap (λ l. take (length (concat sends.lines) + front.sent.0) l) (sym (concat-append sends.lines front.lines))));
+        ∙ ap (λ l. a ++ l) (sym (take-append-add (concat sends.lines) (concat front.lines) front.sent.0) ∙ ap (λ l. take (length (concat sends.lines) + front.sent.0) l) (sym (concat-append sends.lines front.lines))),
+  );
 }
 
 -- no byte is a front of any lines

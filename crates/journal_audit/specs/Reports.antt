@@ -130,6 +130,7 @@ pub record SendsLine {D : Type 0} (bench : Ghosts D) (line : List ℕ) (old new 
   pub crash : (image : List ℕ) → bench.leaves new image → bench.leaves old image
   pub later : bench.faults old ≤ bench.faults new
   pub failed : result ≡ Err fault.Failed → Rose (bench.faults old) (bench.faults new)
+  pub steady : ¬ (result ≡ Err fault.Failed) → bench.faults new ≡ bench.faults old
 
 -- what sending the lines on these leaves of a bench: they were sent, or a front of them where it was refused, and nothing
 -- else changed
@@ -141,3 +142,4 @@ pub record SendsLinesOn {D : Type 0} (bench : Ghosts D) (audit : Audit) (about :
   pub crash : (image : List ℕ) → bench.leaves new image → bench.leaves old image
   pub later : bench.faults old ≤ bench.faults new
   pub failed : result ≡ Err fault.Failed → Rose (bench.faults old) (bench.faults new)
+  pub steady : ¬ (result ≡ Err fault.Failed) → bench.faults new ≡ bench.faults old

@@ -19,11 +19,7 @@ use witness_build::{max_witness, sum_witness};
 use witness_check::{check_direction, check_pair};
 
 /// The sets of a column's records, in order.
-pub fn column_sets(
-    alloc: Global,
-    column: u8,
-    list: &[Answered],
-) -> Result<Vec<RowSet>, AllocError>
+pub fn column_sets(alloc: Global, column: u8, list: &[Answered]) -> Result<Vec<RowSet>, AllocError>
     ensures { IfOk result (λ sets. sets.items ≡ map (λ r. r.rows) (filter (λ r. r.column == column) list.now)) }
 {
     list.iter()

@@ -10,3 +10,6 @@ mod texts;
 
 pub use faults::AuditFault;
 pub use reporting::audit;
+
+#[cfg(test)]
+mod tests;

@@ -141,7 +141,12 @@ fn send_totals<B: Bench>(
 {
     let shape = store.secret().shape();
     let mut line = Vec::new(alloc);
-    write_totals(&mut line, store.history().len(), shape.columns(), shape.rows)?;
+    write_totals(
+        &mut line,
+        store.history().len(),
+        shape.columns(),
+        shape.rows,
+    )?;
     send_line(bench, &line)
 }
 
@@ -167,6 +172,7 @@ pub fn audit<B: Bench>(
     ensures crash { (image : List ℕ) → B.leaves bench.new image → B.leaves bench.old image }
     ensures failed { result ≡ Err AuditFault.Failed → Rose (B.faults bench.old) (B.faults bench.new) }
     ensures later { B.faults bench.old ≤ B.faults bench.new }
+    ensures steady { ¬ (result ≡ Err AuditFault.Failed) → B.faults bench.new ≡ B.faults bench.old }
 {
     // A store says of itself that its history is legal.
     let _history = store.history();

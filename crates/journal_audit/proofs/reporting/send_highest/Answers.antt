@@ -45,6 +45,6 @@ returns g c =
     let audit = audit_of c.args.schema.now.columns c.args.store.now in
     let named = name_is audit.schema c.args.place c.args.column c.name-name.result.now c.requires.named c.name-name.ensures in
     let line = c.deref.ensures.value ∙ c.in_ok-write_column.ensures ∙ ap (λ s. high_line s (highest c.args.maxima.now.n c.args.maxima.now.answers)) named
-        ∙ ap (λ n. high_line (secret_name audit.schema c.args.column) (highest n c.args.maxima.now.answers)) c.requires.part.n
-        ∙ ap (λ a. high_line (secret_name audit.schema c.args.column) (highest audit.shape.rows a)) c.requires.part.answers in
+    ∙ ap (λ n. high_line (secret_name audit.schema c.args.column) (highest n c.args.maxima.now.answers)) c.requires.part.n
+    ∙ ap (λ a. high_line (secret_name audit.schema c.args.column) (highest audit.shape.rows a)) c.requires.part.answers in
     line_on g.B.Bench g.met.B.Bench.only_now audit (column_of c.args.column) c.deref.result.now line c.args.bench.now c.send_line.new.bench c.send_line.result c.send_line.ensures
