@@ -14,7 +14,7 @@ use Rattle.answer_journal.specs.Moments.{IsAlready}
 use Rattle.audit_store.specs.Starting.{StartCause}
 use Rattle.audit_store.specs.declared.starting.StartFault.TheVariants as start
 use Rattle.auditor_top.specs.declared.words.Command.{Command}
-use Rattle.auditor_top.specs.declared.words.Command.TheVariants.{Init, Serve}
+use Rattle.auditor_top.specs.declared.words.Command.TheVariants.{Init, Serve, Audit}
 use Rattle.auditor_top.specs.Commands.{reads_files, opens_journal, reads_lines}
 use Rattle.auditor_top.specs.Stages.{Stage, reading_words, reading_schema, reading_table, opening_journal, reading_lines, ending, Reach, to, from, reached, Passed, Before}
 use Rattle.auditor_top.specs.declared.status.Which.TheVariants.{Schema, Table, Input}
@@ -66,6 +66,7 @@ HoldsLegal file secret = (history : List Answered) × StandsFor file secret.shap
 abbrev pub IsReadyFor : Command → List ℕ → SecretView → Type 0
 IsReadyFor Init file secret = ¬ (IsAlready file)
 IsReadyFor (Serve batch) file secret = HoldsLegal file secret
+IsReadyFor Audit file secret = HoldsLegal file secret
 
 -- what a status says of the journal's file
 abbrev pub FileCause : Status → Command → List ℕ → SecretView → Type 0

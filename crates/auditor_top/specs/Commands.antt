@@ -7,7 +7,7 @@ use Rattle.table_load.specs.Database.{Database, secret_table}
 use Rattle.table_load.specs.Tables.{table_of}
 use Rattle.journal_form.specs.Journal.{StandsFor}
 use Rattle.auditor_top.specs.declared.words.Command.{Command}
-use Rattle.auditor_top.specs.declared.words.Command.TheVariants.{Init, Serve}
+use Rattle.auditor_top.specs.declared.words.Command.TheVariants.{Init, Serve, Audit}
 
 -- ---- the steps of a command
 
@@ -15,26 +15,31 @@ use Rattle.auditor_top.specs.declared.words.Command.TheVariants.{Init, Serve}
 abbrev pub reads_files : Command → Bool
 reads_files Init = true
 reads_files (Serve batch) = true
+reads_files Audit = true
 
 -- it reads all columns of the table's file, and not the public ones alone
 abbrev pub reads_secrets : Command → Bool
 reads_secrets Init = true
 reads_secrets (Serve batch) = true
+reads_secrets Audit = true
 
 -- it opens the journal
 abbrev pub opens_journal : Command → Bool
 opens_journal Init = false
 opens_journal (Serve batch) = true
+opens_journal Audit = true
 
 -- it reads the input
 abbrev pub reads_lines : Command → Bool
 reads_lines Init = false
 reads_lines (Serve batch) = true
+reads_lines Audit = false
 
 -- it writes the journal's file
 abbrev pub writes : Command → Bool
 writes Init = true
 writes (Serve batch) = true
+writes Audit = false
 
 -- ---- what a command is given
 

@@ -11,6 +11,8 @@ use Rattle.schema_json.specs.Faults as schema
 use Rattle.table_load.specs.Faults as table
 use Rattle.table_load.specs.declared.faults.TableFault.{TableFault}
 use Rattle.table_load.specs.declared.faults.TableFault.TheVariants as fault
+use Rattle.journal_audit.specs.declared.faults.AuditFault.{AuditFault}
+use Rattle.journal_audit.specs.declared.faults.AuditFault.TheVariants as report
 use Rattle.auditor_top.specs.declared.files.FileFault.TheVariants as file
 use Rattle.auditor_top.specs.declared.opening.OpenFault.{OpenFault}
 use Rattle.auditor_top.specs.declared.opening.OpenFault.TheVariants as opening
@@ -106,6 +108,16 @@ end_status end.Input = SourceFault Input
 end_status end.Bench = BenchFault
 end_status end.Limit = InputLimit
 end_status end.NoMemory = NoMemory
+
+-- of sending a report
+abbrev pub report_status : AuditFault → Status
+report_status report.Failed = BenchFault
+report_status report.NoMemory = NoMemory
+
+-- of a report, by how it ended
+abbrev pub audit_status : {X : Type 0} → Result X AuditFault → Status
+audit_status (Ok done) = Done
+audit_status (Err fault) = report_status fault
 
 -- of a session, by how it ended
 abbrev pub session_status : {X : Type 0} → Result X EndFault → Status

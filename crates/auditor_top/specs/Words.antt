@@ -4,7 +4,7 @@ use Rattle.std.specs.List.{list_all}
 use Rattle.std.specs.Char.{is_ascii_digit}
 use Rattle.std.specs.Str.Parse.{digits_value}
 use Rattle.auditor_top.specs.declared.words.Command.{Command}
-use Rattle.auditor_top.specs.declared.words.Command.TheVariants.{Init, Serve}
+use Rattle.auditor_top.specs.declared.words.Command.TheVariants.{Init, Serve, Audit}
 
 -- the number that one to ten digits write
 abbrev pub number_of : List ℕ → Option ℕ
@@ -17,7 +17,7 @@ serve_with (Some batch) = if nat_le 1 batch && nat_le batch 64 then Some (Serve 
 
 -- the command that one word names; `serve` alone answers each line by itself
 abbrev pub command_named : List ℕ → Option Command
-command_named word = if bytes_eq word (codes "init") then Some Init else (if bytes_eq word (codes "serve") then Some (Serve 1) else None)
+command_named word = if bytes_eq word (codes "init") then Some Init else (if bytes_eq word (codes "serve") then Some (Serve 1) else (if bytes_eq word (codes "audit") then Some Audit else None))
 
 -- the command that a word names with an option and its value
 abbrev pub command_with : List ℕ → List ℕ → List ℕ → Option Command

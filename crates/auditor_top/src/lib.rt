@@ -3,6 +3,7 @@
 //! `run` is the one call, and the theorem of the product stands on its contract.
 #![tactic(auto)]
 
+mod auditing;
 mod files;
 mod init;
 pub mod laws;

@@ -12,16 +12,18 @@ ghost use Rattle.answer_journal.specs.Moments.{IsAlready, IsUnmadeOrEmpty, IsUnt
 ghost use Rattle.line_wire.specs.Lines.{counted_lines};
 ghost use Rattle.audit_session.specs.Stops.{StopsOver};
 ghost use Rattle.audit_session.specs.Lives.{Run, IsLife};
+ghost use Rattle.journal_audit.specs.Reports.{SendsMeanwhile, subjects};
 ghost use Rattle.auditor_top.specs.declared.words.Command.{Command};
-ghost use Rattle.auditor_top.specs.declared.words.Command.TheVariants.{Init, Serve};
+ghost use Rattle.auditor_top.specs.declared.words.Command.TheVariants.{Init, Serve, Audit};
 ghost use Rattle.auditor_top.specs.Words.{command_of, NamesCommand};
-ghost use Rattle.auditor_top.specs.Commands.{AreFilesOf, ServesOver, reads_files, reads_secrets, reads_lines, writes};
+ghost use Rattle.auditor_top.specs.Commands.{AreFilesOf, ServesOver, opens_journal, reads_files, reads_secrets, reads_lines, writes};
 ghost use Rattle.auditor_top.specs.Causes.{FaultCause, WordCause, SchemaCause, TableCause, FileCause, InputCause, NeverFall, NothingFailed, IsDoneOrWants, counts};
-ghost use Rattle.auditor_top.specs.Ends.{ServeEnds, outside};
+ghost use Rattle.auditor_top.specs.Ends.{AuditEnds, ServeEnds, audit_over, outside};
 ghost use Rattle.auditor_top.specs.Files.{most_schema, most_table};
 ghost use Rattle.auditor_top.specs.Promise.{GoesOn};
 ghost use Rattle.auditor_top.specs.Stages.{Before, reading_table, opening_journal, reading_lines};
 
+use crate::auditing::audit;
 use crate::init::init;
 use crate::laws::lives;
 use crate::serving::serve;
@@ -91,8 +93,16 @@ pub fn run<P: Source, I: Source, B: Bench>(
         → (image sent : List ℕ) (now : List Answered) → B.since bench.new (B.moment bench.old) image (B.sent bench.old ++ sent) → StandsFor image base.secret.shape now
         → GoesOn base runs (record { batch = batch; input = I.left input.old; last = now; sent = sent }) }
 
-    // Over any other file nothing began.
-    ensures nothing_began { P.told → B.told → (batch : ℕ) → NamesCommand words.now.items (Serve batch) → IsQuiet B.Bench bench.old
+    // `audit` over such files: the report of the history was sent, or a front of it, at the end and at every moment.
+    ensures audited { P.told → B.told → NamesCommand words.now.items Audit
+        → (base : Database) (history : List Answered) → ServesOver (P.left schema.old) (P.left table.old) (B.file bench.old) base history
+        → AuditEnds result base history (B.sent bench.old) (B.sent bench.new) }
+    ensures auditing { P.told → B.told → NamesCommand words.now.items Audit → IsQuiet B.Bench bench.old
+        → (base : Database) (history : List Answered) → ServesOver (P.left schema.old) (P.left table.old) (B.file bench.old) base history
+        → LeavesOnly B.Bench bench.old bench.new (SendsMeanwhile (audit_over base history) (subjects base.secret.shape) (B.file bench.old) (B.sent bench.old)) }
+
+    // Over any other file nothing began of a command that opens the journal.
+    ensures nothing_began { P.told → B.told → (command : Command) → NamesCommand words.now.items command → opens_journal command ≡ true → IsQuiet B.Bench bench.old
         → ((base : Database) (history : List Answered) → ServesOver (P.left schema.old) (P.left table.old) (B.file bench.old) base history → ⊥)
         → LeavesOnly B.Bench bench.old bench.new (IsUntouched (B.file bench.old) (B.sent bench.old)) }
 
@@ -132,6 +142,12 @@ pub fn run<P: Source, I: Source, B: Bench>(
         (counts (P.faults schema.old) (P.faults table.old) (I.faults input.old) (B.faults bench.old) (B.faults spare.old))
         (counts (P.faults schema.new) (P.faults table.new) (I.faults input.new) (B.faults bench.new) (B.faults spare.new))
         → IsDoneOrWants result }
+    ensures audits { P.told → B.told → NamesCommand words.now.items Audit
+        → (base : Database) (history : List Answered) → ServesOver (P.left schema.old) (P.left table.old) (B.file bench.old) base history
+        → NothingFailed
+        (counts (P.faults schema.old) (P.faults table.old) (I.faults input.old) (B.faults bench.old) (B.faults spare.old))
+        (counts (P.faults schema.new) (P.faults table.new) (I.faults input.new) (B.faults bench.new) (B.faults spare.new))
+        → IsDoneOrWants result }
     ensures makes { P.told → B.told → NamesCommand words.now.items Init
         → (base : Database) → AreFilesOf (P.left schema.old) (P.left table.old) base → (IsAlready (B.file bench.old) → ⊥)
         → NothingFailed
@@ -144,6 +160,7 @@ pub fn run<P: Source, I: Source, B: Bench>(
         None => Status::BadWords,
         Some(Command::Init) => init(alloc, schema, table, bench),
         Some(Command::Serve { batch }) => serve(alloc, schema, table, input, bench, batch),
+        Some(Command::Audit) => audit(alloc, schema, table, bench),
     }
 }
 

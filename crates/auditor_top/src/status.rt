@@ -8,6 +8,7 @@ use answer_journal::MakeFault;
 use audit_session::EndFault;
 use audit_store::StartFault;
 use audit_types::{NoMemory, Shape};
+use journal_audit::AuditFault;
 use schema_json::SchemaFault;
 use std::alloc::Global;
 use std::fmt;
@@ -118,6 +119,20 @@ impl From<EndFault> for Status {
             EndFault::Bench => Status::BenchFault,
             EndFault::Limit => Status::InputLimit,
             EndFault::NoMemory => Status::NoMemory,
+        }
+    }
+}
+
+impl From<AuditFault> for Status {
+    ghost use Rattle.std.specs.Prelude.{◌≡◌};
+    ghost use Rattle.auditor_top.specs.Status.{report_status};
+
+    ghost from_gives = { λ fault status. status ≡ report_status fault };
+
+    fn from(fault: AuditFault) -> Status {
+        match fault {
+            AuditFault::Failed => Status::BenchFault,
+            AuditFault::NoMemory => Status::NoMemory,
         }
     }
 }

@@ -12,6 +12,8 @@ pub enum Command {
     Init,
     /// Answer the lines of an input, so many together.
     Serve { batch: u8 },
+    /// Show each secret number to be free.
+    Audit,
 }
 
 // Each byte of the word is a digit.
@@ -49,6 +51,8 @@ fn command_named(word: &str) -> Option<Command>
         Some(Command::Init)
     } else if word == "serve" {
         Some(Command::Serve { batch: 1 })
+    } else if word == "audit" {
+        Some(Command::Audit)
     } else {
         None
     }

@@ -5,7 +5,7 @@ use Rattle.line_wire.specs.Lines.{counted_lines}
 use Rattle.question_plan.specs.Replies.{IsDue}
 use Rattle.audit_session.specs.Stops.{Stop, StopsOver, stands_over}
 use Rattle.auditor_top.specs.declared.words.Command.{Command}
-use Rattle.auditor_top.specs.declared.words.Command.TheVariants.{Init, Serve}
+use Rattle.auditor_top.specs.declared.words.Command.TheVariants.{Init, Serve, Audit}
 use Rattle.auditor_top.specs.Words.{command_of}
 use Rattle.auditor_top.specs.Commands.{reads_lines}
 use Rattle.auditor_top.specs.Causes.{WordCause, FileCause}
@@ -58,7 +58,7 @@ pub returns-in-Some-Serve-clause-undisclosed : goal.returns-in-Some-Serve-clause
 returns-in-Some-Serve-clause-undisclosed g c = λ ptold itold told batch asked quiet base history over. c.serve.ensures.undisclosed ptold itold told quiet base history over
 
 pub returns-in-Some-Serve-clause-nothing_began : goal.returns-in-Some-Serve-clause-nothing_began
-returns-in-Some-Serve-clause-nothing_began g c = λ ptold told batch asked quiet none. c.serve.ensures.nothing_began ptold told quiet none
+returns-in-Some-Serve-clause-nothing_began g c = λ ptold told command asked opens quiet none. c.serve.ensures.nothing_began ptold told quiet none
 
 pub returns-in-Some-Serve-clause-complete : goal.returns-in-Some-Serve-clause-complete
 returns-in-Some-Serve-clause-complete g c = λ ptold itold told batch asked base history over within none.
@@ -77,3 +77,17 @@ returns-in-Some-Serve-clause-lives g c = λ ptold itold told batch asked quiet b
     c.lives.ensures.longer (g.P.Source.left c.args.schema.now) (g.P.Source.left c.args.table.now) image base runs history (record { batch = batch; input = input; last = now; sent = sent }) over.files life
     (c.command_of.ensures.batch batch (c.command_of.ensures.named ∙ asked)) stands
     (subst (λ (bytes : List ℕ). Stop (IsDue base) (stands_over base) batch history (counted_lines input) image bytes) same stops.2)
+
+-- ---- `audit`
+
+pub returns-in-Some-Audit-clause-file : goal.returns-in-Some-Audit-clause-file
+returns-in-Some-Audit-clause-file g c = λ ptold told command asked base files.
+    let is = one_command c.command_of.result Audit command (c.in-Some-Audit.is ∙ ap (λ (k : Command). Some k) c.in-Some-Audit.field-0-is) (c.command_of.ensures.named ∙ asked) in
+    subst (λ (named : Command). FileCause c.audit.result named (g.B.Bench.file c.args.bench.now) base.secret) is (c.audit.ensures.file_cause ptold told base files)
+
+pub returns-in-Some-Audit-clause-audits : goal.returns-in-Some-Audit-clause-audits
+returns-in-Some-Audit-clause-audits g c = λ ptold told asked base history over none.
+    c.audit.ensures.complete ptold told base history over (g.I.Source.faults c.args.input.now) (g.B.Bench.faults c.args.spare.now) none
+
+pub returns-in-Some-Audit-clause-later : goal.returns-in-Some-Audit-clause-later
+returns-in-Some-Audit-clause-later g c = c.audit.ensures.later (g.I.Source.faults c.args.input.now) (g.B.Bench.faults c.args.spare.now)
