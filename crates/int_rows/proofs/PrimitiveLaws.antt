@@ -25,7 +25,7 @@ zero_or_not (pos zero) = inl refl
 zero_or_not (pos (suc n)) = inr (λ e. omega (arith, ints))
 zero_or_not (negsuc n) = inr (λ e. omega (arith, ints))
 
-false_if : (z : ℤ) → z ≢ pos 0 → is_zero z ≡ false
+pub false_if : (z : ℤ) → z ≢ pos 0 → is_zero z ≡ false
 false_if (pos zero) n = absurd (n refl)
 false_if (pos (suc m)) n = refl
 false_if (negsuc m) n = refl
@@ -54,7 +54,7 @@ is_zero-times c x n = elim (zero_or_not x) [
   | inr m ↦ false_if (c *ℤ x) (product_not_zero c x n m) ∙ sym (false_if x m)
 ]
 
-one_times : (xs : List ℤ) → xs ≡ map (λ x. pos 1 *ℤ x) xs
+pub one_times : (xs : List ℤ) → xs ≡ map (λ x. pos 1 *ℤ x) xs
 one_times [] = refl
 one_times (x ∷ xs) = ap (λ y. y ∷ xs) (sym (suc_ℤ-*ℤ (pos zero) x ∙ ap (λ z. z +ℤ x) (zero-*ℤ x) ∙ +ℤ_idl x)) ∙ ap (λ l. (pos 1 *ℤ x) ∷ l) (one_times xs)
 
@@ -100,7 +100,7 @@ ones_divide : (xs : List ℤ) → AllByRecursion (λ x. 1 ∣ unsigned_abs x) xs
 ones_divide [] = tt
 ones_divide (x ∷ xs) = (one-dvd (unsigned_abs x), ones_divide xs)
 
-content_one : (c : ℤ) (xs : List ℤ) → c ≢ pos 0 → IsContent (map (λ x. c *ℤ x) xs) (unsigned_abs c) → IsContent xs 1
+pub content_one : (c : ℤ) (xs : List ℤ) → c ≢ pos 0 → IsContent (map (λ x. c *ℤ x) xs) (unsigned_abs c) → IsContent xs 1
 content_one c xs n content = record {
   divides = ones_divide xs;
   greatest = λ d h. at_most_one d (unsigned_abs c) (size_above c n) (content.greatest (unsigned_abs c * d) (scaled_divisor c d xs h));

@@ -1,6 +1,6 @@
 //! Divisors and multiples of two numbers, and of all entries of a row.
-ghost use Rattle.std.specs.Prelude.{◌≡◌, ℕ, [], ◌∷◌, pos, ◌<◌, ◌≤◌, ◌^◌, ◌<ℤ◌, ◌≤ℤ◌, unsigned_abs, MatchOption};
-ghost use Rattle.std.specs.Int.{IsGcd};
+ghost use Rattle.std.specs.Prelude.{◌≡◌, ◌≢◌, ◌*ℤ◌, ℕ, [], ◌∷◌, pos, ◌<◌, ◌≤◌, ◌^◌, ◌<ℤ◌, ◌≤ℤ◌, unsigned_abs, MatchOption};
+ghost use Rattle.std.specs.Int.{IsGcd, ◌∣◌};
 ghost use Rattle.std.specs.List.{AllByRecursion};
 ghost use Rattle.audit_types.specs.Form.{IsContent, IsLeastCommonMultiple};
 
@@ -38,6 +38,16 @@ fn common_multiple(a: u128, b: u128) -> u128
 {
     let divisor = common_divisor(a, b);
     a / divisor * b
+}
+
+/// What a multiple of a number is a multiple by.
+pub fn quotient(multiple: i128, of: i128) -> i128
+    requires divides { unsigned_abs of ∣ unsigned_abs multiple }
+    requires not_zero { of ≢ pos 0 }
+    requires size { unsigned_abs multiple ≤ 2 ^ 126 }
+    ensures { multiple ≡ of *ℤ result }
+{
+    if of == 1 { multiple } else { multiple / of }
 }
 
 /// The least common multiple of two numbers, both at least 1. `None` exactly where it passes the limit.

@@ -6,7 +6,7 @@
 mod divisors;
 mod primitive;
 
-pub use divisors::{content, gcd, lcm_within};
+pub use divisors::{content, gcd, lcm_within, quotient};
 pub use primitive::make_primitive;
 
 #[cfg(test)]

@@ -55,14 +55,17 @@ module _ (n : ℕ) (new : List ℤ) where
   split_at (row ∷ form) zero h = refl
   split_at (row ∷ form) (suc k) h = ap (λ l. row ∷ l) (split_at form k (omega arith))
 
-  -- once a row is too large, the rest can still be cleared, if not by the code
-  pub too_large : (form made : List (List ℤ)) (k : ℕ) (row : List ℤ) → k < length form → IsPrimitive n new → AllByRecursion (IsPrimitive n) form → IsZeroAtPivots form new → ClearsFirst n form new k made → IsCleared n new (get_or form k []) row → ¬ (IsSmall row) → ClearsWide n form new
-  too_large form made k row h p q z first is large =
+  -- when the first rows and one more are cleared, the rest can be, if not by the code
+  pub rest_cleared : (form made : List (List ℤ)) (k : ℕ) (row : List ℤ) → k < length form → IsPrimitive n new → AllByRecursion (IsPrimitive n) form → IsZeroAtPivots form new → ClearsFirst n form new k made → IsCleared n new (get_or form k []) row
+      → (rest : List (List ℤ)) × AreCleared n new form (made ++ row ∷ rest)
+  rest_cleared form made k row h p q z first is =
       let parts = primitives_from form (suc k) q z in
       let rest = cleared_all n new (drop (suc k) form) p parts.0 parts.1 in
       let all = cleared-append (take k form) (get_or form k [] ∷ drop (suc k) form) made (row ∷ rest.0) first.cleared (is, rest.1) in
-      record {
-        rows = made ++ row ∷ rest.0;
-        cleared = subst (λ l. AreCleared n new l (made ++ row ∷ rest.0)) (sym (split_at form k h)) all;
-        wide = λ small. large (not_all made rest.0 row small);
-      }
+      (rest.0, subst (λ l. AreCleared n new l (made ++ row ∷ rest.0)) (sym (split_at form k h)) all)
+
+  -- a row that is too large makes them all wide
+  pub too_large : (form made : List (List ℤ)) (k : ℕ) (row : List ℤ) → k < length form → IsPrimitive n new → AllByRecursion (IsPrimitive n) form → IsZeroAtPivots form new → ClearsFirst n form new k made → IsCleared n new (get_or form k []) row → ¬ (IsSmall row) → ClearsWide n form new
+  too_large form made k row h p q z first is large =
+      let rest = rest_cleared form made k row h p q z first is in
+      record { rows = made ++ row ∷ rest.0; cleared = rest.1; wide = λ small. large (not_all made rest.0 row small) }

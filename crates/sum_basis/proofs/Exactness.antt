@@ -1,5 +1,5 @@
 -- One form of one space, whatever rows it is the space of: what the answers of `extend` say of the sets.
-use Rattle.std.proofs.Common.{◌≡◌, ◌↔◌, ℕ, ℤ, List, [], ◌∷◌, ◌++◌, map, refl, sym, subst}
+use Rattle.std.proofs.Common.{◌≡◌, ◌↔◌, ℕ, ℤ, List, [], ◌∷◌, ◌++◌, map, refl, sym, ap, ◌∙◌, subst}
 use Rattle.std.specs.List.{AllByRecursion}
 use Rattle.std.proofs.lemmas.List.{map-append}
 use Rattle.audit_types.specs.Form.{set_row, InSpan, IsReducedForm, IsNarrow, Reduced}
@@ -39,7 +39,7 @@ of_rows n rows old form row r =
     (all-push (InSpan (old ++ row ∷ [])) rows row (span_trans_all (old ++ row ∷ []) old rows second.0 r.spans) second.1)
 
 -- the row of one set more, among the rows of the sets
-more_sets : (n : ℕ) (sets : List (List ℕ)) (rows : List ℕ) (form : List (List ℤ)) → IsReducedForm n (map (set_row n) sets ++ set_row n rows ∷ []) form → Reduced n (sets ++ rows ∷ []) form
+pub more_sets : (n : ℕ) (sets : List (List ℕ)) (rows : List ℕ) (form : List (List ℤ)) → IsReducedForm n (map (set_row n) sets ++ set_row n rows ∷ []) form → Reduced n (sets ++ rows ∷ []) form
 more_sets n sets rows form r = subst (λ l. IsReducedForm n l form) (sym (map-append (set_row n) sets (rows ∷ []))) r
 
 -- the form stands for each list of sets that it stood for, with this set
@@ -76,3 +76,8 @@ pub wide_exactly : (old new : Echelon) (row : List ℤ) (grown : Grown) → IsSm
 wide_exactly old new row Same f narrow g = (λ e. absurd cc, λ w. absurd (never_wide old row f narrow g.0 w))
 wide_exactly old new row Added f narrow g = (λ e. absurd cc, λ w. absurd (w.2 (subst IsNarrow (forms_are_unique old.n (old.rows ++ row ∷ []) new.rows w.0 g.1.reduced w.1) g.1.narrow)))
 wide_exactly old new row Wide f narrow g = (λ e. g.2, λ w. refl)
+
+-- what a row does to a form, of the form as it is seen and the row of a set
+pub grows_at : (inside seen : Echelon) (row : List ℤ) (m : ℕ) (list : List ℕ) (grown : Grown) (new : Echelon) → inside ≡ seen → row ≡ set_row m list → m ≡ seen.n → Grows inside row grown new → Grows seen (set_row seen.n list) grown new
+grows_at inside seen row m list grown new e f same g =
+    subst (λ (s : Echelon). Grows s (set_row seen.n list) grown new) e (subst (λ (r : List ℤ). Grows inside r grown new) (f ∙ ap (λ k. set_row k list) same) g)

@@ -6,21 +6,13 @@ use Rattle.int_rows.proofs.ContentLaws.{all-front}
 use Rattle.sum_basis.specs.Basis.{Echelon}
 use Rattle.sum_basis.specs.Combination.{times}
 use Rattle.sum_basis.specs.Elimination.{IsSmallForm, IsZeroAtPivots, IsRemainder}
-use Rattle.sum_basis.specs.Growth.{GrowsTo, GrowsWide}
+use Rattle.sum_basis.specs.Growth.{GrowsTo, GrowsWide, IsNewRow}
 use Rattle.sum_basis.proofs.FormsAreUnique.{own, leads_from}
 use Rattle.sum_basis.proofs.Clearing.{line_zero, span_times, positive_not_zero, still_zero_at}
 use Rattle.sum_basis.proofs.Reduction.{span_line}
 use Rattle.sum_basis.proofs.Remainders.{in_span, nothing_left, span_to_left, span_from_left, made_zeros, made_line}
 use Rattle.sum_basis.proofs.UnitRows.{no_pivot}
 use Rattle.sum_basis.proofs.Exactness.{other_row}
-
--- a primitive row that spans with the form what the row of the set does
-pub record IsNewRow (old : Echelon) (v new : List ℤ) : Type 0 where
-  pub primitive : IsPrimitive old.n new
-  pub zeros : IsZeroAtPivots old.rows new
-  pub outside : ¬ (InSpan old.rows v)
-  pub there : InSpan (old.rows ++ v ∷ []) new
-  pub back : InSpan (old.rows ++ new ∷ []) v
 
 module _ (old : Echelon) (v left made : List ℤ) (f : IsSmallForm old.n old.rows) (rest : (m : ℕ) × (0 < m) × IsRemainder old.rows (times (pos m) v) left) (is : IsMadePrimitive left made) where
   -- where the primitive row is all zeros, the row of the set lies in the span

@@ -1,5 +1,7 @@
 -- Least common multiples of lists of numbers.
-use Rattle.std.proofs.Common.{◌≡◌, ℕ, zero, suc, ◌<◌, ◌+◌, ◌*◌, ◌/◌, ℤ, pos, negsuc, List, [], ◌∷◌, ◌++◌, length, take, get_or, refl, sym, ap, arith, subst}
+use Rattle.sum_basis.specs.declared.sparse.SparseRow.{SparseRow}
+use Rattle.std.proofs.lemmas.List.{map-append}
+use Rattle.std.proofs.Common.{◌≡◌, ℕ, zero, suc, ◌<◌, ◌+◌, ◌*◌, ◌/◌, ℤ, pos, negsuc, List, [], ◌∷◌, ◌++◌, ◌≤◌, ◌^◌, length, map, take, get_or, refl, sym, ap, arith, subst}
 use Rattle.std.specs.Prelude.{◌<ℤ◌, unsigned_abs}
 use Rattle.std.specs.Int.{◌∣◌}
 use Rattle.std.specs.List.{AllByRecursion}
@@ -59,7 +61,7 @@ pub least_unique : (xs : List ℕ) (m n : ℕ) → IsLeastCommonMultiple xs m �
 least_unique xs m n p q = dvd_antisymm (p.least n q.multiple) (q.least m p.multiple)
 
 -- what holds of all items holds of the first k
-all_taken : {X : Type 0} (P : X → Type 0) (xs : List X) (k : ℕ) → AllByRecursion P xs → AllByRecursion P (take k xs)
+pub all_taken : {X : Type 0} (P : X → Type 0) (xs : List X) (k : ℕ) → AllByRecursion P xs → AllByRecursion P (take k xs)
 all_taken P [] zero h = tt
 all_taken P [] (suc k) h = tt
 all_taken P (x ∷ xs) zero h = tt
@@ -99,3 +101,32 @@ passes rows k m limit leading first more =
     let divides : m ∣ all.0 = first.least all.0 (subst (AllByRecursion (λ x. x ∣ all.0)) (sym (pivot_entries-take rows k)) (all_taken (λ x. x ∣ all.0) (pivot_entries rows) k all.2.multiple)) in
     let most = le_of_dvd all.1 divides in
     (all.0, all.2, omega arith)
+
+-- the pivot entries of kept rows
+abbrev pub heads : List SparseRow → List ℕ
+heads rows = map (λ r. unsigned_abs r.head) rows
+
+-- the first k + 1 of them
+pub one_more_head : (rows : List SparseRow) (k : ℕ) (r : SparseRow) (m n : ℕ) → k < length rows → r ≡ get_or rows k r → IsLeastCommonMultiple (heads (take k rows)) m → IsLeastCommonMultiple (m ∷ unsigned_abs r.head ∷ []) n → IsLeastCommonMultiple (heads (take (k + 1) rows)) n
+one_more_head rows k r m n h is first both =
+    rw (take_more rows k r h, map-append (λ (x : SparseRow). unsigned_abs x.head) (take k rows) (get_or rows k r ∷ []))
+    (least-push (heads (take k rows)) (unsigned_abs (get_or rows k r).head) m n first (subst (λ (x : SparseRow). IsLeastCommonMultiple (m ∷ unsigned_abs x.head ∷ []) n) is both))
+
+-- they are above 0
+pub heads_positive : (rows : List SparseRow) → AllByRecursion (λ r. (pos 0 <ℤ r.head) × (unsigned_abs r.head ≤ 2 ^ 56)) rows → AllByRecursion (λ x. 0 < x) (heads rows)
+heads_positive [] h = tt
+heads_positive (r ∷ rows) h = (size_positive r.head h.0.0, heads_positive rows h.1)
+
+-- the multiple of all of them is no smaller than that of the first ones
+pub passes_list : (rows : List SparseRow) (k m limit : ℕ) → AllByRecursion (λ x. 0 < x) (heads rows) → IsLeastCommonMultiple (heads (take k rows)) m → limit < m → (all : ℕ) × IsLeastCommonMultiple (heads rows) all × (limit < all)
+passes_list rows k m limit positive first more =
+    let all = least_exists (heads rows) positive in
+    let divides : m ∣ all.0 = first.least all.0 (taken all.0 rows k all.2.multiple) in
+    let most = le_of_dvd all.1 divides in
+    (all.0, all.2, omega arith)
+  where
+    taken : (d : ℕ) (xs : List SparseRow) (i : ℕ) → AllByRecursion (λ x. x ∣ d) (heads xs) → AllByRecursion (λ x. x ∣ d) (heads (take i xs))
+    taken d [] zero h = tt
+    taken d [] (suc i) h = tt
+    taken d (x ∷ xs) zero h = tt
+    taken d (x ∷ xs) (suc i) h = (h.0, taken d xs i h.1)

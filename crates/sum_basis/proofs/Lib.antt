@@ -7,7 +7,6 @@ pub mod NarrowOrWide
 pub mod PrimitiveLines
 pub mod Reduction
 pub mod Spans
-pub mod Combining
 pub mod Reducing
 pub mod Multiples
 pub mod LeastMultiples
@@ -22,5 +21,17 @@ pub mod Exactness
 pub mod Extending
 pub mod UnitRowsInSpan
 pub mod Sizes
-pub mod MatrixRows
 pub mod Products
+pub mod Wide
+pub mod SparseRows
+pub mod ListContents
+pub mod ClearedLists
+pub mod KeptRows
+pub mod Joining
+pub mod KeptForms
+pub mod Listing
+pub mod Inserting
+pub mod AllCleared
+pub mod LookingAhead
+pub mod Merges
+pub mod SparseMultiples

@@ -16,7 +16,7 @@ pub one-times : (x : ℤ) → pos 1 *ℤ x ≡ x
 one-times x = suc_ℤ-*ℤ (pos 0) x ∙ ap (λ z. z +ℤ x) (zero-*ℤ x) ∙ +ℤ_idl x
 
 -- a factor of a small number is small
-factor_small : (x d times : ℤ) → x ≡ d *ℤ times → pos 0 <ℤ d → unsigned_abs x ≤ 2 ^ 56 → unsigned_abs times ≤ 2 ^ 56
+pub factor_small : (x d times : ℤ) → x ≡ d *ℤ times → pos 0 <ℤ d → unsigned_abs x ≤ 2 ^ 56 → unsigned_abs times ≤ 2 ^ 56
 factor_small x (pos n) times e p h =
     let size : unsigned_abs x ≡ n * unsigned_abs times = ap unsigned_abs e ∙ unsigned_abs-mul (pos n) times in
     let more = le-mul_of_pos_right (unsigned_abs times) (let above : 0 < n = omega (arith, ints) in above) in

@@ -27,30 +27,66 @@ pub length-set_row : (n : ℕ) (rows : List ℕ) → length (set_row n rows) ≡
 length-set_row n rows = length-map-range_with_len (λ r. cond (has_row rows r) (pos 1) (pos 0)) 0 n
 
 -- the entries below j are written
-pub record IsPartlyWritten (n : ℕ) (rows : List ℕ) (multiple : ℤ) (row : List ℤ) (j : ℕ) : Type 0 where
-  pub done : (k : ℕ) → k < j → number_at row k ≡ multiple *ℤ cond (has_row rows k) (pos 1) (pos 0)
+pub record IsPartlyWritten (n : ℕ) (rows : List ℕ) (row : List ℤ) (j : ℕ) : Type 0 where
+  pub done : (k : ℕ) → k < j → number_at row k ≡ cond (has_row rows k) (pos 1) (pos 0)
 
 -- one entry more is written
-pub one_more_written : (n : ℕ) (rows : List ℕ) (multiple : ℤ) (row : List ℤ) (j : ℕ) (v : ℤ) → j < length row → IsPartlyWritten n rows multiple row j → v ≡ multiple *ℤ cond (has_row rows j) (pos 1) (pos 0) → IsPartlyWritten n rows multiple (set row j v) (j + 1)
-one_more_written n rows multiple row j v inside so_far is = record {
+pub one_more_written : (n : ℕ) (rows : List ℕ) (row : List ℤ) (j : ℕ) (v : ℤ) → j < length row → IsPartlyWritten n rows row j → v ≡ cond (has_row rows j) (pos 1) (pos 0) → IsPartlyWritten n rows (set row j v) (j + 1)
+one_more_written n rows row j v inside so_far is = record {
   done = λ k h. elim (cases_eq k j) [
     | inl e ↦ rw e (get_or-set_same row j v (pos 0) inside ∙ is)
     | inr other ↦ get_or-set_other row j k v (pos 0) other ∙ so_far.done k (omega arith)
   ];
 }
 
--- when all are, the row is the multiple of the row of the set
-pub all_written : (n : ℕ) (rows : List ℕ) (multiple : ℤ) (row : List ℤ) (j : ℕ) → length row ≡ n → n ≤ j → IsPartlyWritten n rows multiple row j → row ≡ times multiple (set_row n rows)
-all_written n rows multiple row j l past so_far = same_rows row (times multiple (set_row n rows)) (l ∙ sym (length-map (set_row n rows) (λ x. multiple *ℤ x) ∙ length-set_row n rows)) entry
+-- when all are, the row is that of the set
+pub all_written : (n : ℕ) (rows : List ℕ) (row : List ℤ) (j : ℕ) → length row ≡ n → n ≤ j → IsPartlyWritten n rows row j → row ≡ set_row n rows
+all_written n rows row j l past so_far = same_rows row (set_row n rows) (l ∙ sym (length-set_row n rows)) entry
   where
-    entry : (k : ℕ) → number_at row k ≡ number_at (times multiple (set_row n rows)) k
+    entry : (k : ℕ) → number_at row k ≡ number_at (set_row n rows) k
     entry k = elim (cases_lt k n) [
-      | inl lt ↦ so_far.done k (omega arith) ∙ ap (λ z. multiple *ℤ z) (sym (number_at-set_row n rows k lt)) ∙ sym (number_at-times multiple (set_row n rows) k)
-      | inr le ↦ get_or_past row k (pos 0) (omega arith) ∙ sym (number_at-times multiple (set_row n rows) k ∙ ap (λ z. multiple *ℤ z) (get_or_past (set_row n rows) k (pos 0) (let all = length-set_row n rows in omega arith)) ∙ *ℤ-zero multiple)
+      | inl lt ↦ so_far.done k (omega arith) ∙ sym (number_at-set_row n rows k lt)
+      | inr le ↦ get_or_past row k (pos 0) (omega arith) ∙ sym (get_or_past (set_row n rows) k (pos 0) (let all = length-set_row n rows in omega arith))
     ]
 
+-- the entries below j are multiplied, and those from j on as they were
+pub record IsPartlyMultiplied (old row : List ℤ) (multiple : ℤ) (j : ℕ) : Type 0 where
+  pub done : (k : ℕ) → k < j → number_at row k ≡ multiple *ℤ number_at old k
+  pub left : (k : ℕ) → j ≤ k → number_at row k ≡ number_at old k
+
+-- one entry more is multiplied
+pub one_more_multiplied : (old row : List ℤ) (multiple : ℤ) (j : ℕ) (v : ℤ) → j < length row → IsPartlyMultiplied old row multiple j → v ≡ multiple *ℤ number_at row j → IsPartlyMultiplied old (set row j v) multiple (j + 1)
+one_more_multiplied old row multiple j v inside so_far is = record {
+  done = λ k h. elim (cases_eq k j) [
+    | inl e ↦ rw e (get_or-set_same row j v (pos 0) inside ∙ is ∙ ap (λ z. multiple *ℤ z) (so_far.left j (omega arith)))
+    | inr other ↦ get_or-set_other row j k v (pos 0) other ∙ so_far.done k (omega arith)
+  ];
+  left = λ k h. get_or-set_other row j k v (pos 0) (λ e. omega arith) ∙ so_far.left k (omega arith);
+}
+
+-- when all are, the row is the multiple
+pub all_multiplied : (old row : List ℤ) (multiple : ℤ) (j : ℕ) → length row ≡ length old → length old ≤ j → IsPartlyMultiplied old row multiple j → row ≡ times multiple old
+all_multiplied old row multiple j l past so_far = same_rows row (times multiple old) (l ∙ sym (length-map old (λ x. multiple *ℤ x))) entry
+  where
+    entry : (k : ℕ) → number_at row k ≡ number_at (times multiple old) k
+    entry k = elim (cases_lt k (length old)) [
+      | inl lt ↦ so_far.done k (omega arith) ∙ sym (number_at-times multiple old k)
+      | inr le ↦ get_or_past row k (pos 0) (omega arith) ∙ sym (number_at-times multiple old k ∙ ap (λ z. multiple *ℤ z) (get_or_past old k (pos 0) le) ∙ *ℤ-zero multiple)
+    ]
+
+-- a product with 0 or 1 is no greater than the factor
+product_at_most : (m b limit : ℕ) → m ≤ limit → b ≤ 1 → m * b ≤ limit
+product_at_most m zero limit p q = omega arith
+product_at_most m (suc zero) limit p q = omega arith
+product_at_most m (suc (suc b)) limit p q = absurd (omega arith)
+
+-- a small multiple of a row of zeros and ones has small entries
+pub multiple_small : (row : List ℤ) (multiple : ℤ) → ((j : ℕ) → unsigned_abs (number_at row j) ≤ 1) → unsigned_abs multiple ≤ 2 ^ 56 → IsSmall (times multiple row)
+multiple_small row multiple bits h = all_by_place (λ x. unsigned_abs x ≤ 2 ^ 56) (times multiple row)
+    (λ j. rw (number_at-times multiple row j, unsigned_abs-mul multiple (number_at row j)) (product_at_most (unsigned_abs multiple) (unsigned_abs (number_at row j)) (2 ^ 56) h (bits j)))
+
 -- its entries are at most 1
-bit_small : (n : ℕ) (rows : List ℕ) (j : ℕ) → unsigned_abs (number_at (set_row n rows) j) ≤ 1
+pub bit_small : (n : ℕ) (rows : List ℕ) (j : ℕ) → unsigned_abs (number_at (set_row n rows) j) ≤ 1
 bit_small n rows j = elim (cases_lt j n) [
   | inl lt ↦ rw (number_at-set_row n rows j lt) (bit (has_row rows j))
   | inr le ↦ rw (get_or_past (set_row n rows) j (pos 0) (let all = length-set_row n rows in omega arith)) (omega arith)
@@ -60,21 +96,6 @@ bit_small n rows j = elim (cases_lt j n) [
     bit true = omega arith
     bit false = omega arith
 
--- a product with 0 or 1 is no greater than the factor
-product_at_most : (m b limit : ℕ) → m ≤ limit → b ≤ 1 → m * b ≤ limit
-product_at_most m zero limit p q = omega arith
-product_at_most m (suc zero) limit p q = omega arith
-product_at_most m (suc (suc b)) limit p q = absurd (omega arith)
-
--- a small multiple of the row of a set has small entries
-pub set_row_small : (n : ℕ) (rows : List ℕ) (multiple : ℤ) → unsigned_abs multiple ≤ 2 ^ 56 → IsSmall (times multiple (set_row n rows))
-set_row_small n rows multiple h = all_by_place (λ x. unsigned_abs x ≤ 2 ^ 56) (times multiple (set_row n rows)) entry
-  where
-    entry : (j : ℕ) → unsigned_abs (number_at (times multiple (set_row n rows)) j) ≤ 2 ^ 56
-    entry j =
-        let size = ap unsigned_abs (number_at-times multiple (set_row n rows) j) ∙ unsigned_abs-mul multiple (number_at (set_row n rows) j) in
-        rw size (product_at_most (unsigned_abs multiple) (unsigned_abs (number_at (set_row n rows) j)) (2 ^ 56) h (bit_small n rows j))
-
 -- the pivot entries divide a multiple of their common multiple
 pub entries_divide : (form : List (List ℤ)) (v : List ℤ) (multiple : ℤ) → AllByRecursion (λ x. x ∣ unsigned_abs multiple) (pivot_entries form) → AllByRecursion (λ r. unsigned_abs (pivot_entry r) ∣ unsigned_abs (number_at (times multiple v) (pivot r))) form
 entries_divide [] v multiple h = tt
@@ -82,3 +103,7 @@ entries_divide (row ∷ form) v multiple h = (
   rw (number_at-times multiple v (pivot row), unsigned_abs-mul multiple (number_at v (pivot row))) (dvd-mul_right_of_dvd (unsigned_abs (pivot_entry row)) h.0 (unsigned_abs (number_at v (pivot row)))),
   entries_divide form v multiple h.1,
 )
+
+-- a row that is that of a set has zeros and ones
+pub set_bits : (n : ℕ) (rows : List ℕ) (row : List ℤ) → row ≡ set_row n rows → (j : ℕ) → unsigned_abs (number_at row j) ≤ 1
+set_bits n rows row e j = rw e (bit_small n rows j)

@@ -11,7 +11,7 @@ use Rattle.audit_types.specs.Truth.{number_at}
 use Rattle.audit_types.specs.Form.{InSpan, IsPrimitive, IsEchelon, pivot, pivot_entry}
 use Rattle.int_rows.proofs.ContentLaws.{all-push}
 use Rattle.sum_basis.specs.Basis.{Echelon, unit_row}
-use Rattle.sum_basis.specs.Elimination.{IsSmallForm}
+use Rattle.sum_basis.specs.Elimination.{IsSmallForm, IsLone}
 use Rattle.sum_basis.proofs.Products.{neg-times}
 use Rattle.sum_basis.proofs.Spans.{spans_from, in_span_from, spans_same, spans_times, spans_add, spans_down, span_zero}
 use Rattle.sum_basis.proofs.FormsAreUnique.{IsRowOf, stands_before, pivot_is, pivot_among, zeros_walk, zero_at_others, in_span_at, own, leads_from}
@@ -19,10 +19,6 @@ use Rattle.sum_basis.proofs.Reduction.{above_is}
 use Rattle.sum_basis.proofs.Multiples.{one-times}
 use Rattle.sum_basis.proofs.SetRows.{number_at-set_row, length-set_row}
 use Rattle.sum_basis.proofs.Ranks.{pivot_within}
-
--- the pivot entry is the only one that is not 0
-abbrev pub IsLone : List ℤ → Type 0
-IsLone row = (j : ℕ) → j ≢ pivot row → number_at row j ≡ pos 0
 
 -- a unit row has 1 at its place
 unit_here : (n i : ℕ) → i < n → number_at (unit_row n i) i ≡ pos 1
@@ -122,7 +118,7 @@ not_among (r ∷ form) (suc k) row h none (inl same) lone = none.0 (subst IsLone
 not_among (r ∷ form) (suc k) row h none (inr among) lone = not_among form k row (omega arith) none.1 among lone
 
 -- the row with a lone entry is a multiple of a unit row
-unit_in_span : (n : ℕ) (form : List (List ℤ)) (row : List ℤ) → IsPrimitive n row → InSpan form row → IsLone row → InSpan form (unit_row n (pivot row))
+pub unit_in_span : (n : ℕ) (form : List (List ℤ)) (row : List ℤ) → IsPrimitive n row → InSpan form row → IsLone row → InSpan form (unit_row n (pivot row))
 unit_in_span n form row p h lone = in_span_from form (unit_row n (pivot row)) (spans_down form m.0 (number_at (unit_row n (pivot row))) m.2 (spans_same form (number_at row) (λ j. pos m.0 *ℤ number_at (unit_row n (pivot row)) j) same (spans_from form row h)))
   where
     m : (m : ℕ) × (pivot_entry row ≡ pos m) × (0 < m)

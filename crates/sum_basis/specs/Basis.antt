@@ -1,7 +1,11 @@
 -- A reduced form, as contracts see it.
-use Rattle.std.specs.Prelude.{◌≡◌, ℕ, ◌<◌, ◌≤◌, ◌^◌, ℤ, pos, ◌<ℤ◌, List, [], ◌∷◌, Option, MatchOption, unsigned_abs}
-use Rattle.audit_types.specs.Form.{set_row, InSpan, IsLeastCommonMultiple, pivot_entries}
-use Rattle.sum_basis.specs.Matrix.{Matrix}
+use Rattle.std.specs.Prelude.{◌≡◌, ◌≢◌, ℕ, ◌<◌, ◌≤◌, ◌^◌, ℤ, pos, ◌<ℤ◌, List, [], ◌∷◌, Option, MatchOption, unsigned_abs}
+use Rattle.audit_types.specs.Form.{set_row, InSpan, IsLeastCommonMultiple, pivot, pivot_entries}
+use Rattle.std.specs.List.{AllByRecursion}
+use Rattle.sum_basis.specs.declared.sparse.SparseRow.{SparseRow}
+use Rattle.sum_basis.specs.Sparse.{entry_at, rows_of, IsListed, IsKept}
+use Rattle.sum_basis.specs.declared.sparse.FreeEntry.{FreeEntry}
+use Rattle.audit_types.specs.Truth.{number_at}
 use Rattle.sum_basis.specs.Elimination.{IsSmallForm}
 
 -- a number of columns, and reduced rows in the order of their pivots
@@ -20,12 +24,22 @@ IsLeastUnit form least =
     ((i : ℕ) → i < form.n → ¬ (InSpan form.rows (unit_row form.n i)))
     (λ i. (i < form.n) × InSpan form.rows (unit_row form.n i) × ((j : ℕ) → j < i → ¬ (InSpan form.rows (unit_row form.n j))))
 
--- what is true of the fields of every basis: the rows are a reduced form, and `common` is the multiple that makes it narrow
-pub record IsBasis (n : ℕ) (common : ℤ) (matrix : Matrix) : Type 0 where
+-- some unit row lies in the span
+abbrev pub HasUnitRow : Echelon → Type 0
+HasUnitRow form = (i : ℕ) × (i < form.n) × InSpan form.rows (unit_row form.n i)
+
+-- what is true of the fields of every form: the kept rows are a reduced form, and `common` is the multiple that makes it narrow
+pub record IsForm (n : ℕ) (common : ℤ) (rows : List SparseRow) : Type 0 where
   pub some : 0 < n
-  pub at_most : n ≤ 1024
-  pub width : matrix.width ≡ n
-  pub form : IsSmallForm n matrix.rows
+  pub at_most : n ≤ 2048
+  pub kept : AllByRecursion (IsKept n) rows
+  pub form : IsSmallForm n (rows_of n rows)
   pub positive : pos 0 <ℤ common
   pub small : unsigned_abs common ≤ 2 ^ 56
-  pub multiple : IsLeastCommonMultiple (pivot_entries matrix.rows) (unsigned_abs common)
+  pub multiple : IsLeastCommonMultiple (pivot_entries (rows_of n rows)) (unsigned_abs common)
+
+-- the entries of a row that are not 0, at the columns that are the pivot of no row, in ascending places
+pub record IsFreeList (n : ℕ) (rows : List (List ℤ)) (row : List ℤ) (entries : List FreeEntry) : Type 0 where
+  pub listed : IsListed 0 n entries
+  pub free : AllByRecursion (λ (e : FreeEntry). AllByRecursion (λ other. pivot other ≢ e.place) rows) entries
+  pub is : (j : ℕ) → AllByRecursion (λ other. pivot other ≢ j) rows → entry_at entries j ≡ number_at row j

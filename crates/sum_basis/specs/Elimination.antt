@@ -1,5 +1,5 @@
 -- What is done to a row, and to the rows of a form, when the row joins the form.
-use Rattle.std.specs.Prelude.{◌≡◌, ℕ, ◌≤◌, ◌^◌, ℤ, pos, ◌+ℤ◌, ◌*ℤ◌, List, [], ◌∷◌, unsigned_abs}
+use Rattle.std.specs.Prelude.{◌≡◌, ◌≢◌, ℕ, ◌≤◌, ◌^◌, ℤ, pos, ◌+ℤ◌, ◌*ℤ◌, List, [], ◌∷◌, unsigned_abs}
 use Rattle.std.specs.List.{AllByRecursion}
 use Rattle.audit_types.specs.Truth.{number_at}
 use Rattle.audit_types.specs.Form.{combined, InSpan, IsPrimitive, IsEchelon, pivot}
@@ -46,3 +46,7 @@ AreCleared n new [] [] = Unit {0}
 AreCleared n new [] (cleared ∷ more) = ⊥
 AreCleared n new (row ∷ rows) [] = ⊥
 AreCleared n new (row ∷ rows) (cleared ∷ more) = IsCleared n new row cleared × AreCleared n new rows more
+
+-- the pivot entry is the only one that is not 0
+abbrev pub IsLone : List ℤ → Type 0
+IsLone row = (j : ℕ) → j ≢ pivot row → number_at row j ≡ pos 0

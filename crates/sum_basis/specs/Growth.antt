@@ -1,12 +1,17 @@
 -- What becomes of a reduced form when a row is added.
 use Rattle.std.specs.Prelude.{◌≡◌, ℕ, ◌<◌, ◌≤◌, ◌++◌, ℤ, List, [], ◌∷◌, length, take, drop, slice_index_or, ◌⊎◌}
 use Rattle.std.specs.List.{AllByRecursion}
-use Rattle.audit_types.specs.Form.{InSpan, IsReducedForm, IsNarrow, Reduced, HasWideForm, pivot}
-use Rattle.sum_basis.specs.Basis.{Echelon}
-use Rattle.sum_basis.specs.Matrix.{Matrix}
-use Rattle.sum_basis.specs.Elimination.{IsSmall, AreCleared}
+use Rattle.audit_types.specs.Form.{InSpan, IsPrimitive, IsReducedForm, IsNarrow, Reduced, HasWideForm, pivot}
+use Rattle.sum_basis.specs.Basis.{Echelon, HasUnitRow}
+use Rattle.sum_basis.specs.Elimination.{IsSmall, IsZeroAtPivots, AreCleared}
 use Rattle.sum_basis.specs.declared.Grown.{Grown}
 use Rattle.sum_basis.specs.declared.Grown.TheVariants.{Same, Added, Wide}
+use Rattle.sum_basis.specs.declared.Prospect.{Prospect}
+use Rattle.sum_basis.specs.declared.Prospect.TheVariants as prospect
+use Rattle.sum_basis.specs.declared.form.Left.{Left}
+use Rattle.sum_basis.specs.declared.form.Left.TheVariants.{Nothing, Large, Entries}
+use Rattle.sum_basis.specs.Sparse.{row_of, IsNew}
+use Rattle.std.specs.Vec.{vec_capacity}
 
 -- the reduced form of the rows with this row is not narrow
 abbrev pub GrowsWide : Echelon → List ℤ → Type 0
@@ -30,11 +35,37 @@ GrowsFor sets rows old Same new = Reduced new.n (sets ++ rows ∷ []) new.rows
 GrowsFor sets rows old Added new = Reduced new.n (sets ++ rows ∷ []) new.rows
 GrowsFor sets rows old Wide new = HasWideForm old.n (sets ++ rows ∷ [])
 
--- the new row goes in at place k: the rows before it have a pivot that is not later, and the row there has a later one
-pub record IsPlace (form : List (List ℤ)) (at_pivot k : ℕ) : Type 0 where
-  pub within : k ≤ length form
-  pub before : AllByRecursion (λ row. pivot row ≤ at_pivot) (take k form)
-  pub after : k < length form → at_pivot < pivot (slice_index_or form k [])
+-- what is told of the form with a new row
+abbrev pub Foresees : Echelon → List ℤ → Prospect → Type 0
+Foresees old row prospect.Wide = GrowsWide old row
+Foresees old row prospect.Fixing = (new : Echelon) × GrowsTo old row new × HasUnitRow new
+Foresees old row prospect.Open = (new : Echelon) × GrowsTo old row new × ¬ (HasUnitRow new)
+
+-- what the form is with a row of its span
+abbrev pub IsAsItIs : Echelon → Prospect → Type 0
+IsAsItIs form prospect.Wide = ⊥
+IsAsItIs form prospect.Fixing = HasUnitRow form
+IsAsItIs form prospect.Open = ¬ (HasUnitRow form)
+
+-- the same as for sets, said of rows that the form stands for
+abbrev pub GrowsForRows : List (List ℤ) → List ℤ → Echelon → Grown → Echelon → Type 0
+GrowsForRows rows row old Same new = IsReducedForm new.n (rows ++ row ∷ []) new.rows
+GrowsForRows rows row old Added new = IsReducedForm new.n (rows ++ row ∷ []) new.rows
+GrowsForRows rows row old Wide new = (form : List (List ℤ)) × IsReducedForm old.n (rows ++ row ∷ []) form × ¬ (IsNarrow form)
+
+-- a primitive row that spans with the form what the row v does
+pub record IsNewRow (old : Echelon) (v new : List ℤ) : Type 0 where
+  pub primitive : IsPrimitive old.n new
+  pub zeros : IsZeroAtPivots old.rows new
+  pub outside : ¬ (InSpan old.rows v)
+  pub there : InSpan (old.rows ++ v ∷ []) new
+  pub back : InSpan (old.rows ++ new ∷ []) v
+
+-- what is left of a row: nothing, a row that is too large for the form to be narrow, or the list of a new row
+abbrev pub IsLeft : Echelon → List ℤ → Left → Type 0
+IsLeft old v Nothing = InSpan old.rows v
+IsLeft old v Large = ¬ (InSpan old.rows v) × GrowsWide old v
+IsLeft old v (Entries list) = IsNew old.n list.items × IsNewRow old v (row_of old.n list.items) × (old.n ≤ vec_capacity list)
 
 -- cleared at the new row's pivot, some row of the form has an entry above 2 ^ 56
 pub record ClearsWide (n : ℕ) (form : List (List ℤ)) (new : List ℤ) : Type 0 where
@@ -46,17 +77,3 @@ pub record ClearsWide (n : ℕ) (form : List (List ℤ)) (new : List ℤ) : Type
 pub record ClearsFirst (n : ℕ) (form : List (List ℤ)) (new : List ℤ) (k : ℕ) (rows : List (List ℤ)) : Type 0 where
   pub cleared : AreCleared n new (take k form) rows
   pub small : AllByRecursion IsSmall rows
-
--- the new row, or a row that is cleared for it, has an entry above 2 ^ 56
-abbrev pub HasLargeRow : ℕ → List (List ℤ) → List ℤ → Type 0
-HasLargeRow n form new = ¬ (IsSmall new) ⊎ ClearsWide n form new
-
--- the rows before the new row's place cleared, the new row, and the others as they are, with no entry above 2 ^ 56
-pub record IsGrown (n : ℕ) (form : List (List ℤ)) (new : List ℤ) (grown : Matrix) : Type 0 where
-  pub width : grown.width ≡ n
-  pub small : IsSmall new
-  pub place : ℕ
-  pub is_place : IsPlace form (pivot new) place
-  pub before : List (List ℤ)
-  pub clears : ClearsFirst n form new place before
-  pub rows : grown.rows ≡ (before ++ new ∷ []) ++ drop place form

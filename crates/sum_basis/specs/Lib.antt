@@ -2,5 +2,6 @@ pub mod Laws
 pub mod Basis
 pub mod Growth
 pub mod Combination
-pub mod Matrix
 pub mod Elimination
+pub mod Sparse
+pub mod Merging

@@ -6,11 +6,18 @@
 
 mod basis;
 mod elimination;
+mod form;
 mod growth;
 pub mod laws;
-mod row_list;
+mod cleared_list;
+mod merging;
+mod sparse;
 
 pub use basis::Basis;
+pub use form::Form;
+pub use sparse::FreeEntry;
+
+
 
 #[cfg(test)]
 mod tests;
@@ -24,4 +31,15 @@ pub enum Grown {
     Added,
     /// With this row the form would not be narrow: it stays as it was.
     Wide,
+}
+
+/// What the form would become with a new row.
+#[derive(Clone, Copy, Debug, PartialEq, Eq)]
+pub enum Prospect {
+    /// It would not be narrow.
+    Wide,
+    /// It would be narrow, and some unit row would lie in its span.
+    Fixing,
+    /// It would be narrow, and no unit row would lie in its span.
+    Open,
 }

@@ -1,0 +1,147 @@
+-- A row that joins a form: what is told of the primitive row holds of the row itself, and the form with it is narrow.
+use Rattle.std.proofs.Common.{◌≡◌, ◌≢◌, ℕ, ◌<◌, ◌≤◌, ◌^◌, ℤ, pos, List, [], ◌∷◌, ◌++◌, length, map, refl, sym, ap, ◌∙◌, subst, arith}
+use Rattle.std.specs.Prelude.{◌<ℤ◌, unsigned_abs}
+use Rattle.std.proofs.lemmas.Int.{ints}
+use Rattle.std.specs.Vec.{vec_capacity}
+use Rattle.std.specs.List.{AllByRecursion}
+use Rattle.audit_types.specs.Truth.{number_at}
+use Rattle.audit_types.specs.Form.{InSpan, IsPrimitive, IsReducedForm, IsNarrow, IsLeastCommonMultiple, pivot, pivot_entry, pivot_entries}
+use Rattle.sum_basis.specs.declared.sparse.FreeEntry.{FreeEntry}
+use Rattle.sum_basis.specs.declared.sparse.SparseRow.{SparseRow}
+use Rattle.sum_basis.specs.declared.Prospect.{Prospect}
+use Rattle.sum_basis.specs.declared.Prospect.TheVariants.{Wide, Fixing, Open}
+use Rattle.sum_basis.specs.Basis.{Echelon, IsForm}
+use Rattle.sum_basis.specs.Elimination.{IsSmall, IsSmallForm}
+use Rattle.sum_basis.specs.Growth.{Foresees, GrowsTo, GrowsWide, IsNewRow, IsAsItIs}
+use Rattle.sum_basis.specs.Sparse.{entry_at, row_of, rows_of, IsListed, entries_of, IsKept, IsNew}
+use Rattle.sum_basis.proofs.FormsAreUnique.{own, forms_are_unique}
+use Rattle.sum_basis.proofs.SpanKeepsForm.{span_keeps_form}
+use Rattle.sum_basis.proofs.Extending.{grows_to, grows_wide}
+use Rattle.sum_basis.proofs.LeastMultiples.{heads, least_unique, size_is}
+use Rattle.sum_basis.proofs.PrimitiveLines.{same_rows}
+use Rattle.sum_basis.proofs.SparseRows.{number_at-row_of, length-row_of, pivot_entry-row_of}
+use Rattle.sum_basis.proofs.ClearedLists.{head_small}
+
+-- what is told of the primitive row holds of the row
+pub foresees_from : (old : Echelon) (v made : List ℤ) (p : Prospect) → IsNewRow old v made → Foresees old made p → Foresees old v p
+foresees_from old v made Wide row h = grows_wide old v made row h
+foresees_from old v made Fixing row h = (h.0, grows_to old h.0 v made row h.1, h.2)
+foresees_from old v made Open row h = (h.0, grows_to old h.0 v made row h.1, h.2)
+
+-- a row in the span leaves the form as it is
+grows_same : (old : Echelon) (v : List ℤ) → IsSmallForm old.n old.rows → IsNarrow old.rows → InSpan old.rows v → GrowsTo old v old
+grows_same old v f narrow p = record {
+  n = refl;
+  reduced = span_keeps_form old.n old.rows old.rows v (record { primitive = f.primitive; echelon = f.echelon; within = own old.rows; spans = own old.rows }) p;
+  narrow = narrow;
+}
+
+pub foresees_same : (old : Echelon) (v : List ℤ) (p : Prospect) → IsSmallForm old.n old.rows → IsNarrow old.rows → InSpan old.rows v → IsAsItIs old p → Foresees old v p
+foresees_same old v Wide f narrow p is = absurd is
+foresees_same old v Fixing f narrow p is = (old, grows_same old v f narrow p, is)
+foresees_same old v Open f narrow p is = (old, grows_same old v f narrow p, is)
+
+-- what is not wide is narrow
+not_wide : (old : Echelon) (v : List ℤ) (p : Prospect) → Foresees old v p → ¬ (p ≡ Wide) → (new : Echelon) × GrowsTo old v new
+not_wide old v Wide h other = absurd (other refl)
+not_wide old v Fixing h other = (h.0, h.1)
+not_wide old v Open h other = (h.0, h.1)
+
+-- the pivot entries of kept rows
+pub heads_are : (n : ℕ) (rows : List SparseRow) → AllByRecursion (IsKept n) rows → pivot_entries (rows_of n rows) ≡ heads rows
+heads_are n [] h = refl
+heads_are n (r ∷ rows) h =
+    ap (λ (z : ℤ). unsigned_abs z ∷ pivot_entries (rows_of n rows)) (pivot_entry-row_of 0 n (record { place = r.pivot; value = r.head }) r.free.items h.0.listed)
+    ∙ ap (λ l. unsigned_abs r.head ∷ l) (heads_are n rows h.1)
+
+small_heads : (n : ℕ) (rows : List SparseRow) → AllByRecursion (IsKept n) rows → AllByRecursion IsSmall (rows_of n rows) → AllByRecursion (λ r. (pos 0 <ℤ r.head) × (unsigned_abs r.head ≤ 2 ^ 56)) rows
+small_heads n [] h s = tt
+small_heads n (r ∷ rows) h s = ((h.0.leading, head_small n r h.0 s.0), small_heads n rows h.1 s.1)
+
+-- what is true of the kept rows once a row has joined
+pub record IsJoined (n : ℕ) (rows : List SparseRow) : Type 0 where
+  pub form : IsSmallForm n (rows_of n rows)
+  pub narrow : IsNarrow (rows_of n rows)
+  pub small : AllByRecursion (λ r. (pos 0 <ℤ r.head) × (unsigned_abs r.head ≤ 2 ^ 56)) rows
+  pub same : pivot_entries (rows_of n rows) ≡ heads rows
+
+pub joined : (n : ℕ) (old : List (List ℤ)) (v : List ℤ) (p : Prospect) (rows : List SparseRow) → Foresees (record { n = n; rows = old }) v p → ¬ (p ≡ Wide) → IsReducedForm n (old ++ v ∷ []) (rows_of n rows) → AllByRecursion (IsKept n) rows → IsJoined n rows
+joined n old v p rows h other reduced kept =
+    let grown = not_wide (record { n = n; rows = old }) v p h other in
+    let same = forms_are_unique n (old ++ v ∷ []) grown.0.rows (rows_of n rows) grown.1.reduced reduced in
+    let narrow = subst IsNarrow same grown.1.narrow in
+    record {
+      form = record { primitive = reduced.primitive; echelon = reduced.echelon; entries = narrow.entries };
+      narrow = narrow;
+      small = small_heads n rows kept narrow.entries;
+      same = heads_are n rows kept;
+    }
+
+-- the multiple of the pivot entries is within the limit
+pub within_limit : (n : ℕ) (rows : List SparseRow) (m : ℕ) → IsJoined n rows → IsLeastCommonMultiple (heads rows) m → 2 ^ 56 < m → ⊥
+within_limit n rows m j least more =
+    let same = least_unique (heads rows) j.narrow.common m (subst (λ l. IsLeastCommonMultiple l j.narrow.common) j.same j.narrow.common_is) least in
+    let small = j.narrow.common_small in
+    omega arith
+
+-- the fields of the form with the row
+pub joined_form : (n : ℕ) (rows : List SparseRow) (m : ℕ) (common : ℤ) → 0 < n → n ≤ 2048 → AllByRecursion (IsKept n) rows → IsJoined n rows → IsLeastCommonMultiple (heads rows) m → common ≡ pos m → 0 < m → m ≤ 2 ^ 56 → IsForm n common rows
+joined_form n rows m common some most kept j least e positive small = record {
+  some = some;
+  at_most = most;
+  kept = kept;
+  form = j.form;
+  positive = positive_of m common e positive;
+  small = rw e small;
+  multiple = rw (e, j.same) least;
+}
+  where
+    positive_of : (k : ℕ) (z : ℤ) → z ≡ pos k → 0 < k → pos 0 <ℤ z
+    positive_of k z f h = omega (arith, ints)
+
+-- a list with the numbers of a row is the row
+pub listed_row : (n : ℕ) (row : List ℤ) (list : List FreeEntry) → length row ≡ n → IsListed 0 n list → ((j : ℕ) → entry_at list j ≡ number_at row j) → row_of n list ≡ row
+listed_row n row list l h is = same_rows (row_of n list) row (length-row_of n list ∙ sym l) (λ j. number_at-row_of 0 n list h j ∙ is j)
+
+-- the list of a row that is not all zeros is not empty
+pub some_entry : (n : ℕ) (list : List FreeEntry) → IsPrimitive n (row_of n list) → IsListed 0 n list → 0 < length list
+some_entry n [] p h = absurd (none (pivot_entry (row_of n [])) p.leading (number_at-row_of 0 n [] h (pivot (row_of n []))))
+  where
+    none : (z : ℤ) → pos 0 <ℤ z → z ≡ pos 0 → ⊥
+    none z q e = omega (arith, ints)
+some_entry n (e ∷ list) p h = omega arith
+
+-- so it is the list of a new row
+pub is_new_list : (n : ℕ) (row : List ℤ) (list : List FreeEntry) → length row ≡ n → IsListed 0 n list → ((j : ℕ) → entry_at list j ≡ number_at row j) → IsPrimitive n row → IsSmall row → IsNew n list
+is_new_list n row list l h is p small =
+    let same = listed_row n row list l h is in
+    let primitive = subst (IsPrimitive n) (sym same) p in
+    record { some = some_entry n list primitive h; listed = h; primitive = primitive; small = subst IsSmall (sym same) small }
+
+-- what is told of the list holds of the row, for the form as it is seen
+pub told : (seen : Echelon) (n : ℕ) (rows items : List SparseRow) (new list : List FreeEntry) (v : List ℤ) (p : Prospect) (room : ℕ) → record { n = n; rows = rows_of n items } ≡ seen → rows ≡ items → new ≡ list
+    → Foresees (record { n = n; rows = rows_of n rows }) (row_of n new) p → IsNew seen.n list × IsNewRow seen v (row_of seen.n list) × (seen.n ≤ room) → Foresees seen v p
+told seen n rows items new list v p room view e f h left =
+    let here = subst (λ (r : List SparseRow). Foresees (record { n = n; rows = rows_of n r }) (row_of n new) p) e h in
+    let there = subst (λ (l : List FreeEntry). Foresees (record { n = n; rows = rows_of n items }) (row_of n l) p) f here in
+    foresees_from seen v (row_of seen.n list) p left.1 (subst (λ (s : Echelon). Foresees s (row_of s.n list) p) view there)
+
+-- the rows once the row has joined
+pub after_growth : (n : ℕ) (rows items before grown : List SparseRow) (new list : List FreeEntry) (p : Prospect) → rows ≡ items → new ≡ list → before ≡ items
+    → Foresees (record { n = n; rows = rows_of n rows }) (row_of n new) p → ¬ (p ≡ Wide) → IsReducedForm n (rows_of n before ++ row_of n list ∷ []) (rows_of n grown) → AllByRecursion (IsKept n) grown → IsJoined n grown
+after_growth n rows items before grown new list p e f g h other reduced kept =
+    let here = subst (λ (r : List SparseRow). Foresees (record { n = n; rows = rows_of n r }) (row_of n new) p) e h in
+    let there = subst (λ (l : List FreeEntry). Foresees (record { n = n; rows = rows_of n items }) (row_of n l) p) f here in
+    joined n (rows_of n items) (row_of n list) p grown there other (subst (λ (r : List SparseRow). IsReducedForm n (rows_of n r ++ row_of n list ∷ []) (rows_of n grown)) g reduced) kept
+
+-- the form with the row
+pub grown_to : (seen : Echelon) (n : ℕ) (items before grown : List SparseRow) (list : List FreeEntry) (v : List ℤ) (room : ℕ) → record { n = n; rows = rows_of n items } ≡ seen → before ≡ items
+    → IsNew seen.n list × IsNewRow seen v (row_of seen.n list) × (seen.n ≤ room) → IsReducedForm n (rows_of n before ++ row_of n list ∷ []) (rows_of n grown) → IsJoined n grown
+    → ¬ (InSpan seen.rows v) × GrowsTo seen v (record { n = n; rows = rows_of n grown })
+grown_to seen n items before grown list v room view g left reduced j =
+    subst (λ (s : Echelon). IsNew s.n list × IsNewRow s v (row_of s.n list) × (s.n ≤ room) → ¬ (InSpan s.rows v) × GrowsTo s v (record { n = n; rows = rows_of n grown })) view
+    (λ h. (
+      h.1.outside,
+      grows_to (record { n = n; rows = rows_of n items }) (record { n = n; rows = rows_of n grown }) v (row_of n list) h.1
+          (record { n = refl; reduced = subst (λ (r : List SparseRow). IsReducedForm n (rows_of n r ++ row_of n list ∷ []) (rows_of n grown)) g reduced; narrow = j.narrow }),
+    )) left

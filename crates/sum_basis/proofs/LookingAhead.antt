@@ -1,0 +1,166 @@
+-- What is told of a form with a new row while its rows are cleared one after the other.
+use Rattle.std.proofs.Common.{◌≡◌, ◌≢◌, ◌↔◌, ℕ, zero, suc, ◌+◌, ◌<◌, ◌≤◌, ◌^◌, Bool, ℤ, pos, List, [], ◌∷◌, ◌++◌, length, map, take, get_or, refl, sym, ap, ◌∙◌, subst, arith, inl, inr, ◌⊎◌, IsTrue}
+use Rattle.std.specs.Prelude.{◌<ℤ◌, ◌≤ℤ◌, unsigned_abs}
+use Rattle.std.specs.Int.{◌∣◌}
+use Rattle.std.specs.List.{AllByRecursion}
+use Rattle.std.proofs.lemmas.Int.{ints}
+use Rattle.std.proofs.lemmas.Nat.Gcd.{dvd_refl, le_of_dvd}
+use Rattle.std.proofs.lemmas.List.{take_more}
+use Rattle.audit_types.specs.Truth.{number_at}
+use Rattle.audit_types.specs.Form.{InSpan, IsPrimitive, IsReducedForm, IsNarrow, IsLeastCommonMultiple, pivot, pivot_entry, pivot_entries}
+use Rattle.int_rows.proofs.ContentLaws.{all-push}
+use Rattle.sum_basis.specs.Basis.{Echelon, HasUnitRow}
+use Rattle.sum_basis.specs.Elimination.{IsSmall, IsSmallForm, IsZeroAtPivots, IsCleared, AreCleared, IsLone}
+use Rattle.sum_basis.specs.Growth.{ClearsFirst, ClearsWide, GrowsTo, GrowsWide}
+use Rattle.sum_basis.proofs.FormsAreUnique.{own, leads_from}
+use Rattle.sum_basis.proofs.PrimitiveLines.{size_positive}
+use Rattle.sum_basis.proofs.LeastMultiples.{least-push, least_positive, least_exists, least_unique, entries_positive, pivot_entries-push, all_taken, size_is}
+use Rattle.sum_basis.proofs.Placing.{placed, all_placed, parts_placed}
+use Rattle.sum_basis.proofs.Growing.{placed_is_reduced}
+use Rattle.sum_basis.proofs.ClearingFirst.{one_more_cleared, rest_cleared, too_large, no_rows}
+use Rattle.sum_basis.proofs.Clearing.{primitives}
+use Rattle.sum_basis.proofs.WideForms.{row_too_large, is_narrow}
+use Rattle.sum_basis.proofs.Ranks.{pivot_within}
+use Rattle.sum_basis.proofs.UnitRowsInSpan.{unit_in_span, no_unit}
+
+-- some row has one entry that is not 0
+abbrev pub SomeLone : List (List ℤ) → Type 0
+SomeLone [] = ⊥
+SomeLone (row ∷ rows) = IsLone row ⊎ SomeLone rows
+
+-- the first k rows of the form are cleared, and none is too large; and what their pivot entries and the lone ones among them come to
+pub record IsLooked (n : ℕ) (form : List (List ℤ)) (new : List ℤ) (k : ℕ) (common : ℤ) (fixing : Bool) : Type 0 where
+  pub made : List (List ℤ)
+  pub clears : ClearsFirst n form new k made
+  pub positive : pos 0 <ℤ common
+  pub within : unsigned_abs common ≤ 2 ^ 56
+  pub multiple : IsLeastCommonMultiple (pivot_entries (new ∷ made)) (unsigned_abs common)
+  pub lone : IsTrue fixing → SomeLone (new ∷ made)
+  pub none : ¬ (IsTrue fixing) → AllByRecursion (λ r. ¬ (IsLone r)) (new ∷ made)
+
+-- at the start only the new row was looked at
+pub nothing_looked : (n : ℕ) (form : List (List ℤ)) (new : List ℤ) (common : ℤ) (fixing : Bool) → IsPrimitive n new → unsigned_abs common ≤ 2 ^ 56 → common ≡ pivot_entry new → IsTrue fixing ↔ IsLone new → IsLooked n form new 0 common fixing
+nothing_looked n form new common fixing p small e lone = record {
+  made = [];
+  clears = no_rows n new form;
+  positive = subst (λ z. pos 0 <ℤ z) (sym e) p.leading;
+  within = small;
+  multiple = rw e (record { multiple = (dvd_refl (unsigned_abs (pivot_entry new)), tt); least = λ k all. all.0 });
+  lone = λ yes. inl (lone.0 yes);
+  none = λ no. (λ is. no (lone.1 is), tt);
+}
+
+-- a lone row among more
+some_push : (rows : List (List ℤ)) (row : List ℤ) → SomeLone rows ⊎ IsLone row → SomeLone (rows ++ row ∷ [])
+some_push [] row (inl none) = absurd none
+some_push [] row (inr is) = inl is
+some_push (r ∷ rows) row (inl (inl is)) = inl is
+some_push (r ∷ rows) row (inl (inr some)) = inr (some_push rows row (inl some))
+some_push (r ∷ rows) row (inr is) = inr (some_push rows row (inr is))
+
+-- one row more was looked at
+pub one_more_looked : (n : ℕ) (form : List (List ℤ)) (new : List ℤ) (k : ℕ) (common : ℤ) (fixing : Bool) (row : List ℤ) (m : ℕ) (multiple : ℤ) (lone also : Bool) → k < length form → IsLooked n form new k common fixing
+    → IsPrimitive n row → IsCleared n new (get_or form k []) row → IsSmall row → IsLeastCommonMultiple (unsigned_abs common ∷ unsigned_abs (pivot_entry row) ∷ []) m → multiple ≡ pos m → m ≤ 2 ^ 56 → IsTrue lone ↔ IsLone row
+    → IsTrue also ↔ (IsTrue fixing ⊎ IsTrue lone) → IsLooked n form new (k + 1) multiple also
+one_more_looked n form new k common fixing row m multiple lone also h l p is small least e within one both = record {
+  made = l.made ++ row ∷ [];
+  clears = one_more_cleared n new form l.made k row h l.clears is small;
+  positive = let above = least_positive (unsigned_abs common) (unsigned_abs (pivot_entry row)) m (size_positive common l.positive) (size_positive (pivot_entry row) p.leading) least in omega (arith, ints);
+  within = rw e within;
+  multiple = rw (e, pivot_entries-push (new ∷ l.made) row) (least-push (pivot_entries (new ∷ l.made)) (unsigned_abs (pivot_entry row)) (unsigned_abs common) m l.multiple least);
+  lone = λ yes. elim (both.0 yes) [ inl before ↦ some_push (new ∷ l.made) row (inl (l.lone before)) | inr here ↦ some_push (new ∷ l.made) row (inr (one.0 here)) ];
+  none = λ no. all-push (λ r. ¬ (IsLone r)) (new ∷ l.made) row (l.none (λ before. no (both.1 (inl before)))) (λ here. no (both.1 (inr (one.1 here))));
+}
+
+-- what divides for each row
+all_rows : (m : ℕ) (rows : List (List ℤ)) → AllByRecursion (λ x. x ∣ m) (pivot_entries rows) → AllByRecursion (λ r. unsigned_abs (pivot_entry r) ∣ m) rows
+all_rows m [] h = tt
+all_rows m (r ∷ rows) h = (h.0, all_rows m rows h.1)
+
+all_entries : (m : ℕ) (rows : List (List ℤ)) → AllByRecursion (λ r. unsigned_abs (pivot_entry r) ∣ m) rows → AllByRecursion (λ x. x ∣ m) (pivot_entries rows)
+all_entries m [] h = tt
+all_entries m (r ∷ rows) h = (h.0, all_entries m rows h.1)
+
+-- the rows in front of others
+all_before : (P : List ℤ → Type 0) (made rest : List (List ℤ)) (row : List ℤ) → AllByRecursion P (made ++ row ∷ rest) → AllByRecursion P made × P row
+all_before P [] rest row h = (tt, h.0)
+all_before P (r ∷ made) rest row h = let more = all_before P made rest row h.1 in ((h.0, more.0), more.1)
+
+module _ (form : Echelon) (new : List ℤ) (f : IsSmallForm form.n form.rows) (p : IsPrimitive form.n new) (z : IsZeroAtPivots form.rows new) where
+  -- a cleared row that is too large
+  pub looked_large : (k : ℕ) (common : ℤ) (fixing : Bool) (row : List ℤ) → k < length form.rows → IsLooked form.n form.rows new k common fixing → IsCleared form.n new (get_or form.rows k []) row → ¬ (IsSmall row) → GrowsWide form new
+  looked_large k common fixing row h l is large = row_too_large form new f p z (too_large form.n new form.rows l.made k row h p f.primitive z l.clears is large)
+
+  -- pivot entries whose multiple is too large
+  pub looked_multiple : (k : ℕ) (common : ℤ) (fixing : Bool) (row : List ℤ) (m : ℕ) → k < length form.rows → IsLooked form.n form.rows new k common fixing → IsCleared form.n new (get_or form.rows k []) row
+      → IsLeastCommonMultiple (unsigned_abs common ∷ unsigned_abs (pivot_entry row) ∷ []) m → 2 ^ 56 < m → GrowsWide form new
+  looked_multiple k common fixing row m h l is least more =
+      let rest = rest_cleared form.n new form.rows l.made k row h p f.primitive z l.clears is in
+      let all = l.made ++ row ∷ rest.0 in
+      let grown = placed new all in
+      let reduced = placed_is_reduced form.n form.rows all new f.primitive f.echelon p z rest.1 in
+      (
+        grown,
+        reduced,
+        λ narrow.
+            let least_of = least_exists (pivot_entries grown) (entries_positive grown (leads_from form.n grown reduced.primitive)) in
+            let same = least_unique (pivot_entries grown) narrow.common least_of.0 narrow.common_is least_of.2 in
+            let each = parts_placed (λ r. unsigned_abs (pivot_entry r) ∣ least_of.0) new all (all_rows least_of.0 grown least_of.2.multiple) in
+            let parts = all_before (λ r. unsigned_abs (pivot_entry r) ∣ least_of.0) l.made rest.0 row each.1 in
+            let first = l.multiple.least least_of.0 (each.0, all_entries least_of.0 l.made parts.0) in
+            let most = le_of_dvd least_of.1 (least.least least_of.0 (first, (parts.1, tt))) in
+            let small = narrow.common_small in
+            omega arith,
+      )
+
+  -- all rows were looked at
+  module _ (k : ℕ) (common : ℤ) (fixing : Bool) (past : length form.rows ≤ k) (l : IsLooked form.n form.rows new k common fixing) (small : IsSmall new) where
+    abbrev grown : List (List ℤ)
+    grown = placed new l.made
+
+    all_of : (xs : List (List ℤ)) (m : ℕ) → length xs ≤ m → take m xs ≡ xs
+    all_of [] zero h = refl
+    all_of [] (suc m) h = refl
+    all_of (x ∷ xs) zero h = absurd (omega arith)
+    all_of (x ∷ xs) (suc m) h = ap (λ t. x ∷ t) (all_of xs m (omega arith))
+
+    cleared : AreCleared form.n new form.rows l.made
+    cleared = subst (λ rows. AreCleared form.n new rows l.made) (all_of form.rows k past) l.clears.cleared
+
+    reduced : IsReducedForm form.n (form.rows ++ new ∷ []) grown
+    reduced = placed_is_reduced form.n form.rows l.made new f.primitive f.echelon p z cleared
+
+    small_form : IsSmallForm form.n grown
+    small_form = record { primitive = reduced.primitive; echelon = reduced.echelon; entries = all_placed IsSmall new l.made small l.clears.small }
+
+    least : IsLeastCommonMultiple (pivot_entries grown) (unsigned_abs common)
+    least = record {
+      multiple = all_entries (unsigned_abs common) grown (all_placed (λ r. unsigned_abs (pivot_entry r) ∣ unsigned_abs common) new l.made l.multiple.multiple.0 (all_rows (unsigned_abs common) l.made l.multiple.multiple.1));
+      least = λ m all. let parts = parts_placed (λ r. unsigned_abs (pivot_entry r) ∣ m) new l.made (all_rows m grown all) in l.multiple.least m (parts.0, all_entries m l.made parts.1);
+    }
+
+    abbrev pub foreseen : Echelon
+    foreseen = record { n = form.n; rows = placed new l.made }
+
+    -- the form with the new row is narrow
+    pub looked_grows : GrowsTo form new foreseen
+    looked_grows = record { n = refl; reduced = reduced; narrow = is_narrow form.n (unsigned_abs common) grown small_form least l.within }
+
+    -- a lone row has a unit row in the span
+    unit_of : (rows : List (List ℤ)) → AllByRecursion (InSpan grown) rows → AllByRecursion (IsPrimitive form.n) rows → SomeLone rows → HasUnitRow foreseen
+    unit_of [] span q none = absurd none
+    unit_of (row ∷ rows) span q (inl lone) = (pivot row, pivot_within form.n row q.0, unit_in_span form.n grown row q.0 span.0 lone)
+    unit_of (row ∷ rows) span q (inr some) = unit_of rows span.1 q.1 some
+
+    -- with one of them the new row fixes a number
+    pub looked_fixing : IsTrue fixing → HasUnitRow foreseen
+    looked_fixing told =
+        let inside = parts_placed (InSpan grown) new l.made (own grown) in
+        unit_of (new ∷ l.made) (inside.0, inside.1) (p, primitives form.n new form.rows l.made cleared) (l.lone told)
+
+    -- with none it fixes none
+    pub looked_open : ¬ (IsTrue fixing) → ¬ (HasUnitRow foreseen)
+    looked_open denied unit =
+        let none = l.none denied in
+        let all = all_placed (λ r. ¬ (IsLone r)) new l.made none.0 none.1 in
+        no_unit foreseen (length grown) small_form (omega arith) (record { none = all_taken (λ r. ¬ (IsLone r)) grown (length grown) all }) unit.0 unit.1 unit.2

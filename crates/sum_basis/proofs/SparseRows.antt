@@ -1,0 +1,247 @@
+-- Rows as lists of entries, and as whole rows.
+use Rattle.std.proofs.Common.{◌≡◌, ◌≢◌, ℕ, zero, suc, ◌+◌, ◌<◌, ◌≤◌, ◌^◌, cond, nat_eq, ℤ, pos, List, [], ◌∷◌, ◌++◌, length, take, drop, get_or, set, refl, sym, ap, ◌∙◌, subst, arith, inl, inr}
+use Rattle.std.specs.Prelude.{◌+ℤ◌, ◌-ℤ◌, ◌*ℤ◌, neg_ℤ, ◌<ℤ◌, unsigned_abs}
+use Rattle.std.specs.List.{AllByRecursion}
+use Rattle.std.proofs.lemmas.Int.{ints}
+use Rattle.std.proofs.lemmas.Bool.{cases_eq, cases_lt, eq-eqb, ne_eqb}
+use Rattle.std.proofs.lemmas.List.{get_or_past, get_or-set_same, get_or-set_other, take_more}
+use Rattle.std.proofs.lemmas.List.FromFn.{get_or-map-range_with_len, length-map-range_with_len}
+use Rattle.std.proofs.lemmas.List.Elements.{All-from_recursion}
+use Rattle.std.proofs.Math.IntN.{+ℤ_idl, +ℤ_idr, *ℤ-zero}
+use Rattle.audit_types.specs.Truth.{number_at}
+use Rattle.audit_types.specs.Form.{pivot, pivot_entry}
+use Rattle.sum_basis.specs.declared.sparse.FreeEntry.{FreeEntry}
+use Rattle.sum_basis.specs.Combination.{combine}
+use Rattle.sum_basis.specs.Elimination.{IsSmall}
+use Rattle.sum_basis.specs.Sparse.{entry_at, row_of, IsListed}
+use Rattle.sum_basis.proofs.Products.{times-add, neg-times}
+use Rattle.sum_basis.proofs.Multiples.{one-times}
+use Rattle.sum_basis.proofs.FormsAreUnique.{pivot_is}
+use Rattle.sum_basis.proofs.Sizes.{all_by_place, small_at}
+use Rattle.sum_basis.proofs.Reduction.{number_at-combine, length-combine}
+use Rattle.sum_basis.proofs.PrimitiveLines.{same_rows}
+
+-- what an entry has at its own place
+pub here : (e : FreeEntry) (j : ℕ) → e.place ≡ j → cond (nat_eq e.place j) e.value (pos 0) ≡ e.value
+here e j h = ap (λ b. cond b e.value (pos 0)) (eq-eqb e.place j h)
+
+-- and elsewhere
+pub elsewhere : (e : FreeEntry) (j : ℕ) → e.place ≢ j → cond (nat_eq e.place j) e.value (pos 0) ≡ pos 0
+elsewhere e j h = ap (λ b. cond b e.value (pos 0)) (ne_eqb e.place j h)
+
+-- two lists of entries have the sum of what they have
+pub entry_at-append : (xs ys : List FreeEntry) (j : ℕ) → entry_at (xs ++ ys) j ≡ entry_at xs j +ℤ entry_at ys j
+entry_at-append [] ys j = sym (+ℤ_idl (entry_at ys j))
+entry_at-append (e ∷ xs) ys j = let rest = entry_at-append xs ys j in omega (arith, ints)
+
+-- a list has nothing before its places
+pub zero_below : (from n : ℕ) (es : List FreeEntry) (j : ℕ) → IsListed from n es → j < from → entry_at es j ≡ pos 0
+zero_below from n [] j h l = refl
+zero_below from n (e ∷ es) j h l =
+    let at = h.0 in
+    let first = elsewhere e j (λ same. omega arith) in
+    let rest = zero_below (e.place + 1) n es j h.3 (omega arith) in
+    omega (arith, ints)
+
+-- and nothing past the columns
+pub zero_past : (from n : ℕ) (es : List FreeEntry) (j : ℕ) → IsListed from n es → n ≤ j → entry_at es j ≡ pos 0
+zero_past from n [] j h l = refl
+zero_past from n (e ∷ es) j h l =
+    let at = h.1 in
+    let first = elsewhere e j (λ same. omega arith) in
+    let rest = zero_past (e.place + 1) n es j h.3 l in
+    omega (arith, ints)
+
+-- the whole row has n numbers
+pub length-row_of : (n : ℕ) (es : List FreeEntry) → length (row_of n es) ≡ n
+length-row_of n es = length-map-range_with_len (entry_at es) 0 n
+
+-- each of which is what the list has there
+pub number_at-row_of : (from n : ℕ) (es : List FreeEntry) → IsListed from n es → (j : ℕ) → number_at (row_of n es) j ≡ entry_at es j
+number_at-row_of from n es h j = elim (cases_lt j n) [
+  | inl lt ↦ get_or-map-range_with_len (entry_at es) 0 n j j (pos 0) lt (omega arith)
+  | inr le ↦ get_or_past (row_of n es) j (pos 0) (let all = length-row_of n es in omega arith) ∙ sym (zero_past from n es j h le)
+]
+
+-- at its first place the list has the first value
+pub first_value : (from n : ℕ) (e : FreeEntry) (es : List FreeEntry) → IsListed from n (e ∷ es) → entry_at (e ∷ es) e.place ≡ e.value
+first_value from n e es h =
+    let first = here e e.place refl in
+    let rest = zero_below (e.place + 1) n es e.place h.3 (omega arith) in
+    omega (arith, ints)
+
+-- which is the pivot of the row
+pub pivot-row_of : (from n : ℕ) (e : FreeEntry) (es : List FreeEntry) → IsListed from n (e ∷ es) → pivot (row_of n (e ∷ es)) ≡ e.place
+pivot-row_of from n e es h =
+    pivot_is (row_of n (e ∷ es)) e.place
+    (λ j lt. number_at-row_of from n (e ∷ es) h j ∙ zero_below e.place n (e ∷ es) j (omega arith, h.1, h.2, h.3) lt)
+    (λ z. h.2 (sym (number_at-row_of from n (e ∷ es) h e.place ∙ first_value from n e es h) ∙ z))
+
+-- and the first value its pivot entry
+pub pivot_entry-row_of : (from n : ℕ) (e : FreeEntry) (es : List FreeEntry) → IsListed from n (e ∷ es) → pivot_entry (row_of n (e ∷ es)) ≡ e.value
+pivot_entry-row_of from n e es h = ap (number_at (row_of n (e ∷ es))) (pivot-row_of from n e es h) ∙ number_at-row_of from n (e ∷ es) h e.place ∙ first_value from n e es h
+
+-- there are no more entries than columns
+pub listed_length : (from n : ℕ) (es : List FreeEntry) → from ≤ n → IsListed from n es → length es + from ≤ n
+listed_length from n [] l h = omega arith
+listed_length from n (e ∷ es) l h = let at = h.0 in let inside = h.1 in let rest = listed_length (e.place + 1) n es (omega arith) h.3 in omega arith
+
+-- a list may begin sooner
+pub listed_from : (from start n : ℕ) (es : List FreeEntry) → start ≤ from → IsListed from n es → IsListed start n es
+listed_from from start n [] l h = tt
+listed_from from start n (e ∷ es) l h = let at = h.0 in (omega arith, h.1, h.2, h.3)
+
+-- and end later
+pub listed_to : (from m n : ℕ) (es : List FreeEntry) → m ≤ n → IsListed from m es → IsListed from n es
+listed_to from m n [] l h = tt
+listed_to from m n (e ∷ es) l h = let at = h.1 in (h.0, omega arith, h.2, listed_to (e.place + 1) m n es l h.3)
+
+-- one entry more, at a later place
+pub listed_push : (from m n : ℕ) (es : List FreeEntry) (e : FreeEntry) → from ≤ m → IsListed from m es → m ≤ e.place → e.place < n → e.value ≢ pos 0 → IsListed from n (es ++ e ∷ [])
+listed_push from m n [] e l h at inside some = (omega arith, inside, some, tt)
+listed_push from m n (x ∷ es) e l h at inside some = let last = h.1 in (h.0, omega arith, h.2, listed_push (x.place + 1) m n es e (omega arith) h.3 at inside some)
+
+-- where entry k stands
+pub record StandsWithin (from n : ℕ) (e : FreeEntry) : Type 0 where
+  pub after : from ≤ e.place
+  pub inside : e.place < n
+  pub some : e.value ≢ pos 0
+
+pub stands_within : (from n : ℕ) (es : List FreeEntry) (k : ℕ) (d : FreeEntry) → IsListed from n es → k < length es → StandsWithin from n (get_or es k d)
+stands_within from n [] k d h l = absurd (omega arith)
+stands_within from n (e ∷ es) zero d h l = record { after = h.0; inside = h.1; some = h.2 }
+stands_within from n (e ∷ es) (suc k) d h l =
+    let rest = stands_within (e.place + 1) n es k d h.3 (omega arith) in
+    let at = h.0 in let next = rest.after in
+    record { after = omega arith; inside = rest.inside; some = rest.some }
+
+-- the entries before entry k have nothing at its place
+pub front_zero : (from n : ℕ) (es : List FreeEntry) (k : ℕ) (d : FreeEntry) → IsListed from n es → k < length es → entry_at (take k es) (get_or es k d).place ≡ pos 0
+front_zero from n [] k d h l = absurd (omega arith)
+front_zero from n (e ∷ es) zero d h l = refl
+front_zero from n (e ∷ es) (suc k) d h l =
+    let next = (stands_within (e.place + 1) n es k d h.3 (omega arith)).after in
+    let first = elsewhere e (get_or es k d).place (λ same. omega arith) in
+    let rest = front_zero (e.place + 1) n es k d h.3 (omega arith) in
+    omega (arith, ints)
+
+-- what the first k + 1 entries have
+pub take_entry : (es : List FreeEntry) (k : ℕ) (d : FreeEntry) (j : ℕ) → k < length es → entry_at (take (k + 1) es) j ≡ entry_at (take k es) j +ℤ cond (nat_eq (get_or es k d).place j) (get_or es k d).value (pos 0)
+take_entry es k d j h =
+    let split = ap (λ l. entry_at l j) (take_more es k d h) ∙ entry_at-append (take k es) (get_or es k d ∷ []) j in
+    omega (arith, ints)
+
+-- a multiple of the first k entries is taken from the row
+pub record IsPartlyTaken (old row : List ℤ) (times : ℤ) (es : List FreeEntry) (k : ℕ) : Type 0 where
+  pub taken : (j : ℕ) → number_at row j ≡ number_at old j -ℤ times *ℤ entry_at (take k es) j
+
+-- none at the start
+pub none_taken : (old : List ℤ) (times : ℤ) (es : List FreeEntry) → IsPartlyTaken old old times es 0
+none_taken old times es = record { taken = λ j. let none = *ℤ-zero times in omega (arith, ints) }
+
+-- up to entry k the row is as it was at that entry's place
+pub not_yet_taken : (old row : List ℤ) (times : ℤ) (n : ℕ) (es : List FreeEntry) (k : ℕ) (d : FreeEntry) → IsListed 0 n es → k < length es → IsPartlyTaken old row times es k → number_at row (get_or es k d).place ≡ number_at old (get_or es k d).place
+not_yet_taken old row times n es k d h l part =
+    let is = part.taken (get_or es k d).place in
+    let none = ap (λ z. times *ℤ z) (front_zero 0 n es k d h l) ∙ *ℤ-zero times in
+    omega (arith, ints)
+
+-- one entry more is taken
+pub one_entry_taken : (old row : List ℤ) (times : ℤ) (es : List FreeEntry) (k : ℕ) (d : FreeEntry) (v : ℤ) → k < length es → (get_or es k d).place < length row → IsPartlyTaken old row times es k
+    → v ≡ number_at row (get_or es k d).place -ℤ times *ℤ (get_or es k d).value → IsPartlyTaken old (set row (get_or es k d).place v) times es (k + 1)
+one_entry_taken old row times es k d v h inside part is = record { taken = λ j. at j }
+  where
+    e : FreeEntry
+    e = get_or es k d
+
+    at : (j : ℕ) → number_at (set row e.place v) j ≡ number_at old j -ℤ times *ℤ entry_at (take (k + 1) es) j
+    at j =
+        let more = ap (λ z. times *ℤ z) (take_entry es k d j h) ∙ times-add times (entry_at (take k es) j) (cond (nat_eq e.place j) e.value (pos 0)) in
+        elim (cases_eq e.place j) [
+          | inl same ↦
+              let new = ap (number_at (set row e.place v)) (sym same) ∙ get_or-set_same row e.place v (pos 0) inside ∙ is ∙ ap (λ m. number_at row m -ℤ times *ℤ e.value) same in
+              let one = ap (λ z. times *ℤ z) (here e j same) in
+              let before = part.taken j in
+              omega (arith, ints)
+          | inr other ↦
+              let new = get_or-set_other row e.place j v (pos 0) (λ same. other (sym same)) in
+              let none = ap (λ z. times *ℤ z) (elsewhere e j other) ∙ *ℤ-zero times in
+              let before = part.taken j in
+              omega (arith, ints)
+        ]
+
+-- when all are, the row is less the multiple
+pub all_entries_taken : (old row : List ℤ) (times : ℤ) (es : List FreeEntry) (k : ℕ) → length row ≡ length old → IsListed 0 (length old) es → length es ≤ k → IsPartlyTaken old row times es k → row ≡ combine (pos 1) old times (row_of (length old) es)
+all_entries_taken old row times es k same h past part = same_rows row (combine (pos 1) old times whole) (same ∙ sym (length-combine (length old) (pos 1) old times whole refl (length-row_of (length old) es))) at
+  where
+    whole : List ℤ
+    whole = row_of (length old) es
+
+    all_of : (xs : List FreeEntry) (m : ℕ) → length xs ≤ m → take m xs ≡ xs
+    all_of [] zero l = refl
+    all_of [] (suc m) l = refl
+    all_of (x ∷ xs) zero l = absurd (omega arith)
+    all_of (x ∷ xs) (suc m) l = ap (λ t. x ∷ t) (all_of xs m (omega arith))
+
+    at : (j : ℕ) → number_at row j ≡ number_at (combine (pos 1) old times whole) j
+    at j =
+        let taken = part.taken j in
+        let list = ap (λ l. times *ℤ entry_at l j) (all_of es k past) in
+        let is = number_at-combine (pos 1) old times whole j in
+        let other = ap (λ z. times *ℤ z) (number_at-row_of 0 (length old) es h j) in
+        let once = one-times (number_at old j) in
+        let minus = neg-times times (number_at whole j) in
+        omega (arith, ints)
+
+-- small values make a small row
+pub small_row : (n : ℕ) (es : List FreeEntry) → IsListed 0 n es → AllByRecursion (λ e. unsigned_abs e.value ≤ 2 ^ 56) es → IsSmall (row_of n es)
+small_row n es h small = all_by_place (λ x. unsigned_abs x ≤ 2 ^ 56) (row_of n es) (λ j. rw (number_at-row_of 0 n es h j) (at 0 es j h small))
+  where
+    at : (from : ℕ) (xs : List FreeEntry) (j : ℕ) → IsListed from n xs → AllByRecursion (λ e. unsigned_abs e.value ≤ 2 ^ 56) xs → unsigned_abs (entry_at xs j) ≤ 2 ^ 56
+    at from [] j l all = omega arith
+    at from (e ∷ xs) j l all = elim (cases_eq e.place j) [
+      | inl same ↦
+          let first = here e j same in
+          let rest = zero_below (e.place + 1) n xs j l.3 (omega arith) in
+          let sum : entry_at (e ∷ xs) j ≡ e.value = omega (arith, ints) in
+          rw sum all.0
+      | inr other ↦
+          let first = elsewhere e j other in
+          let sum : entry_at (e ∷ xs) j ≡ entry_at xs j = omega (arith, ints) in
+          rw sum (at (e.place + 1) xs j l.3 all.1)
+    ]
+
+-- and a small row has small values
+pub small_values : (n : ℕ) (es : List FreeEntry) → IsListed 0 n es → IsSmall (row_of n es) → AllByRecursion (λ e. unsigned_abs e.value ≤ 2 ^ 56) es
+small_values n es h small = go 0 es h (λ j. subst (λ z. unsigned_abs z ≤ 2 ^ 56) (number_at-row_of 0 n es h j) (small_at (row_of n es) j small))
+  where
+    go : (from : ℕ) (xs : List FreeEntry) → IsListed from n xs → ((j : ℕ) → unsigned_abs (entry_at xs j) ≤ 2 ^ 56) → AllByRecursion (λ e. unsigned_abs e.value ≤ 2 ^ 56) xs
+    go from [] l all = tt
+    go from (e ∷ xs) l all = (
+      subst (λ z. unsigned_abs z ≤ 2 ^ 56) (first_value from n e xs l) (all e.place),
+      go (e.place + 1) xs l.3 (λ j. elim (cases_lt e.place j) [
+        | inl after ↦
+            let first = elsewhere e j (λ same. omega arith) in
+            let sum : entry_at (e ∷ xs) j ≡ entry_at xs j = omega (arith, ints) in
+            subst (λ z. unsigned_abs z ≤ 2 ^ 56) sum (all j)
+        | inr before ↦ rw (zero_below (e.place + 1) n xs j l.3 (omega arith)) (omega arith)
+      ]),
+    )
+
+-- the entries from entry k on
+pub drop_entry : (es : List FreeEntry) (k : ℕ) (d : FreeEntry) → k < length es → drop k es ≡ get_or es k d ∷ drop (suc k) es
+drop_entry [] k d h = absurd (omega arith)
+drop_entry (e ∷ es) zero d h = refl
+drop_entry (e ∷ es) (suc k) d h = drop_entry es k d (omega arith)
+
+-- what they have at the place of the first
+pub entry_found : (from n : ℕ) (es : List FreeEntry) (k : ℕ) (d : FreeEntry) (column : ℕ) → k < length es → IsListed from n (drop k es) → (get_or es k d).place ≡ column → entry_at (drop k es) column ≡ (get_or es k d).value
+entry_found from n es k d column h l same =
+    let listed = subst (IsListed from n) (drop_entry es k d h) l in
+    ap (λ xs. entry_at xs column) (drop_entry es k d h) ∙ ap (entry_at (get_or es k d ∷ drop (suc k) es)) (sym same) ∙ first_value from n (get_or es k d) (drop (suc k) es) listed
+
+-- and before it
+pub entry_passed : (from n : ℕ) (es : List FreeEntry) (k : ℕ) (d : FreeEntry) (column : ℕ) → k < length es → IsListed from n (drop k es) → column < (get_or es k d).place → entry_at (drop k es) column ≡ pos 0
+entry_passed from n es k d column h l before =
+    let listed = subst (IsListed from n) (drop_entry es k d h) l in
+    ap (λ xs. entry_at xs column) (drop_entry es k d h) ∙ zero_below (get_or es k d).place n (get_or es k d ∷ drop (suc k) es) column (omega arith, listed.1, listed.2, listed.3) before

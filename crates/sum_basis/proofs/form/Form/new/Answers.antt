@@ -1,0 +1,19 @@
+use Rattle.std.proofs.Common.{ℕ, ◌<◌, ◌≤◌, pos, [], sym, subst, arith}
+use Rattle.std.proofs.lemmas.Int.{ints}
+use Rattle.sum_basis.specs.Basis.{IsForm}
+use Rattle.sum_basis.proofs.LeastMultiples.{least-nil}
+use Rattle.sum_basis.proofs.form.Form.new.Goals as goal
+
+no_rows : (n : ℕ) → 0 < n → n ≤ 2048 → IsForm n (pos 1) []
+no_rows n some most = record {
+  some = some;
+  at_most = most;
+  kept = tt;
+  form = record { primitive = tt; echelon = tt; entries = tt };
+  positive = omega (arith, ints);
+  small = omega arith;
+  multiple = least-nil;
+}
+
+pub invariant_of-result : goal.invariant_of-result
+invariant_of-result c = subst (IsForm c.args.columns (pos 1)) (sym c.new.ensures.items) (no_rows c.args.columns c.requires.some c.requires.at_most)

@@ -1,0 +1,12 @@
+use Rattle.sum_basis.proofs.Joining.{told, foresees_same}
+use Rattle.sum_basis.proofs.form.Form.prospect.Goals as goal
+
+pub returns-in-Nothing : goal.returns-in-Nothing
+returns-in-Nothing c =
+    let left = rw c.in-Nothing.is at c.in_ok-settle.ensures.left in
+    foresees_same c.args.self.now c.args.row.now c.as_it_is.result c.settle.ensures.form c.settle.ensures.narrow left c.as_it_is.ensures
+
+pub returns-in_ok-room-in-Entries : goal.returns-in_ok-room-in-Entries
+returns-in_ok-room-in-Entries c =
+    let left = rw c.in-Entries.is at c.in_ok-settle.ensures.left in
+    told c.args.self.now c.self.inside.columns c.deref.result.now c.self.inside.rows.items c.deref-in-Entries.result.now c.in-Entries.new.items c.args.row.now c.look_ahead.result _ c.self.view_is c.deref.ensures.value c.deref-in-Entries.ensures.value c.look_ahead.ensures.foresees left

@@ -1,0 +1,44 @@
+use Rattle.std.proofs.Common.{◌≡◌, ◌≢◌, ℕ, ◌<◌, ◌≤◌, ℤ, List, ◌∷◌, length, take, get_or, sym, ap, ◌∙◌, subst, arith, rules}
+use Rattle.std.specs.Prelude.{insert, FitsSigned}
+use Rattle.std.specs.Int.{w128}
+use mir.Val.{to_z, of_z}
+use Rattle.std.proofs.lemmas.Int.{to_z-of_z}
+use Rattle.std.specs.List.{AllByRecursion}
+use Rattle.sum_basis.specs.declared.sparse.FreeEntry.{FreeEntry}
+use Rattle.sum_basis.specs.declared.sparse.SparseRow.{SparseRow}
+use Rattle.sum_basis.specs.Sparse.{row_of, rows_of, entries_of, IsKept}
+use Rattle.sum_basis.specs.Elimination.{AreCleared}
+use Rattle.sum_basis.proofs.Inserting.{all_inserted, without_first, kept_new, inserted_is_reduced}
+use Rattle.sum_basis.proofs.growth.grow_rows.Goals as goal
+
+pub unwrap-requires : goal.unwrap-requires
+unwrap-requires c = c.insert.ensures.succeeds (let len = c.clear_all.ensures.len in let cap = c.clear_all.ensures.capacity in let space = c.requires.space in omega arith)
+
+-- the new row as it is kept
+entries_are : (entries rest : List FreeEntry) (first : FreeEntry) (value : ℤ) → value ≡ first.value → entries ≡ first ∷ rest → entries ≡ record { place = first.place; value = value } ∷ rest
+entries_are entries rest first value e is = is ∙ ap (λ (v : ℤ). record { place = first.place; value = v } ∷ rest) (sym e)
+
+pub returns-clause-kept : goal.returns-clause-kept
+returns-clause-kept c =
+    let fits : FitsSigned w128 c.remove-first.result.value = search rules in
+    let r : SparseRow = record { pivot = c.remove-first.result.place; head = to_z w128 (of_z w128 c.remove-first.result.value); free = c.remove-first.new.self } in
+    let items = rw c.unwrap.ensures at c.insert.ensures.items in
+    let split = without_first c.args.new.items c.remove-first.result c.remove-first.new.self.items c.requires.new.some c.remove-first.ensures.value c.remove-first.ensures.items in
+    let is = entries_are c.args.new.items c.remove-first.new.self.items c.remove-first.result _ (to_z-of_z w128 c.remove-first.result.value fits) split.is in
+    let room : c.args.columns ≤ c.remove-first.new.self.cap = let cap = c.remove-first.ensures.capacity in let most = c.requires.new_room in omega arith in
+    subst (AllByRecursion (IsKept c.args.columns)) (sym items) (all_inserted (IsKept c.args.columns) c.clear_all.new.rows.items c.place_of-place.result r c.clear_all.ensures.kept (kept_new c.args.columns c.args.new.items r c.requires.new is room))
+
+pub returns-clause-reduced : goal.returns-clause-reduced
+returns-clause-reduced c =
+    let fits : FitsSigned w128 c.remove-first.result.value = search rules in
+    let r : SparseRow = record { pivot = c.remove-first.result.place; head = to_z w128 (of_z w128 c.remove-first.result.value); free = c.remove-first.new.self } in
+    let items = rw c.unwrap.ensures at c.insert.ensures.items in
+    let split = without_first c.args.new.items c.remove-first.result c.remove-first.new.self.items c.requires.new.some c.remove-first.ensures.value c.remove-first.ensures.items in
+    let is = entries_are c.args.new.items c.remove-first.new.self.items c.remove-first.result _ (to_z-of_z w128 c.remove-first.result.value fits) split.is in
+    let room : c.args.columns ≤ c.remove-first.new.self.cap = let cap = c.remove-first.ensures.capacity in let most = c.requires.new_room in omega arith in
+    let kept = kept_new c.args.columns c.args.new.items r c.requires.new is room in
+    rw items (inserted_is_reduced c.args.columns c.args.rows.now.items c.clear_all.new.rows.items c.args.new.items r c.place_of-place.result c.requires.form c.requires.new c.requires.zero c.clear_all.ensures.kept
+    (subst (λ (l : List FreeEntry). AreCleared c.args.columns (row_of c.args.columns l) (rows_of c.args.columns c.args.rows.now.items) (rows_of c.args.columns c.clear_all.new.rows.items)) c.deref.ensures.value c.clear_all.ensures.cleared)
+    is kept
+    (subst (λ (l : List SparseRow). AllByRecursion (λ x. x.pivot ≤ c.remove-first.result.place) (take c.place_of-place.result l)) c.deref-2.ensures.value c.place_of-place.ensures.before)
+    (subst (λ (l : List SparseRow). (d : SparseRow) → c.place_of-place.result < length l → c.remove-first.result.place < (get_or l c.place_of-place.result d).pivot) c.deref-2.ensures.value c.place_of-place.ensures.after))

@@ -1,0 +1,11 @@
+use Rattle.std.proofs.Common.{◌≤◌}
+use Rattle.std.specs.Vec.{vec_capacity}
+use Rattle.sum_basis.specs.Sparse.{row_of, rows_of}
+use Rattle.sum_basis.proofs.LookingAhead.{IsLooked}
+use Rattle.sum_basis.proofs.growth.look_ahead.Given as goal
+
+abbrev pub invariant-loop-row : goal.invariant-loop-row
+invariant-loop-row l = record {
+  looked : IsLooked l.columns (rows_of l.columns l.rows) (row_of l.columns l.new) l.row-index l.common l.fixing;
+  room : l.columns ≤ vec_capacity l.room;
+}

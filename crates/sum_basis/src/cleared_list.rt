@@ -1,0 +1,111 @@
+//! A kept row cleared at the pivot of a new one: its list, over its content.
+ghost use Rattle.std.specs.Prelude.{◌≡◌, ◌≢◌, ◌↔◌, ℕ, ◌<◌, ◌≤◌, ◌+◌, ◌^◌, ℤ, pos, ◌*ℤ◌, ◌<ℤ◌, List, [], ◌∷◌, length, map, unsigned_abs, slice_index_or, IsTrue, MatchOption};
+ghost use Rattle.std.specs.Int.{◌∣◌};
+ghost use Rattle.std.specs.List.{AllByRecursion};
+ghost use Rattle.std.specs.Vec.{vec_capacity};
+ghost use Rattle.audit_types.specs.Form.{IsContent, IsPrimitive, pivot_entry};
+ghost use Rattle.sum_basis.specs.Elimination.{IsSmall, IsCleared};
+ghost use Rattle.sum_basis.specs.Sparse.{entry_at, row_of, IsListed, entries_of, IsKept, scaled, IsNew, IsOverContent};
+
+use crate::merging::combine_into;
+use crate::sparse::{FreeEntry, SparseRow};
+use int_rows::{gcd, quotient};
+
+/// What the list has at a column.
+pub fn value_at(entries: &[FreeEntry], column: u16) -> i128
+    requires { IsListed 0 65536 entries.now }
+    ensures { result ≡ entry_at entries.now column }
+{
+    for e in entries {
+        if column <= e.place {
+            return if e.place == column { e.value } else { 0 };
+        }
+    }
+    0
+}
+
+// The greatest common divisor of the pivot entry and of all values.
+fn content(head: i128, entries: &[FreeEntry]) -> i128
+    requires head { (pos 0 <ℤ head) × (unsigned_abs head ≤ 2 ^ 126) }
+    requires entries { AllByRecursion (λ e. unsigned_abs e.value ≤ 2 ^ 126) entries.now }
+    ensures content { IsContent (head ∷ map (λ e. e.value) entries.now) (unsigned_abs result) }
+    ensures positive { pos 0 <ℤ result }
+    ensures small { unsigned_abs result ≤ 2 ^ 126 }
+{
+    let mut divisor = head;
+    for e in entries {
+        if divisor == 1 {
+            return 1;
+        }
+        divisor = gcd(divisor, e.value);
+    }
+    divisor
+}
+
+fn divide(entries: &mut Vec<FreeEntry>, by: i128)
+    requires divides { AllByRecursion (λ e. unsigned_abs by ∣ unsigned_abs e.value) entries.old.items }
+    requires not_zero { by ≢ pos 0 }
+    requires size { AllByRecursion (λ e. unsigned_abs e.value ≤ 2 ^ 126) entries.old.items }
+    ensures scaled { entries.old.items ≡ map (scaled by) entries.new.items }
+    ensures capacity { vec_capacity entries.new ≡ vec_capacity entries.old }
+{
+    for k in 0..entries.len() {
+        let e = entries[k];
+        let value = quotient(e.value, by);
+        entries[k] = FreeEntry {
+            place: e.place,
+            value,
+        };
+    }
+}
+
+// Divides the values by the content of the pivot entry and the values, and answers the pivot entry over it.
+fn over_content(head: i128, entries: &mut Vec<FreeEntry>) -> i128
+    requires head { (pos 0 <ℤ head) × (unsigned_abs head ≤ 2 ^ 126) }
+    requires entries { AllByRecursion (λ e. unsigned_abs e.value ≤ 2 ^ 126) entries.old.items }
+    ensures over { IsOverContent head entries.old.items result entries.new.items }
+    ensures capacity { vec_capacity entries.new ≡ vec_capacity entries.old }
+{
+    let divisor = content(head, entries);
+    if divisor == 1 {
+        return head;
+    }
+    divide(entries, divisor);
+    quotient(head, divisor)
+}
+
+/// A product of numbers within the limit.
+pub fn product(x: i128, y: i128) -> i128
+    requires x { unsigned_abs x ≤ 2 ^ 56 }
+    requires y { unsigned_abs y ≤ 2 ^ 56 }
+    ensures { result ≡ x *ℤ y }
+{
+    x * y
+}
+
+/// Writes the list of the row, cleared at the new row's pivot, and answers its pivot entry.
+pub fn clear_into(
+    out: &mut Vec<FreeEntry>,
+    columns: u16,
+    row: &SparseRow,
+    new: &[FreeEntry],
+    times: i128,
+) -> i128
+    requires empty { out.old.items ≡ [] }
+    requires room { columns ≤ vec_capacity out.old }
+    requires kept { IsKept columns row.now }
+    requires primitive { IsPrimitive columns (row_of columns (entries_of row.now)) }
+    requires small { IsSmall (row_of columns (entries_of row.now)) }
+    requires new { IsNew columns new.now }
+    requires before { row.now.pivot < (slice_index_or new.now 0 (record { place = 0; value = pos 0 })).place }
+    requires times { times ≡ entry_at row.now.free.items (slice_index_or new.now 0 (record { place = 0; value = pos 0 })).place }
+    ensures listed { IsListed 0 columns (record { place = row.now.pivot; value = result } ∷ out.new.items) }
+    ensures leading { pos 0 <ℤ result }
+    ensures cleared { IsCleared columns (row_of columns new.now) (row_of columns (entries_of row.now)) (row_of columns (record { place = row.now.pivot; value = result } ∷ out.new.items)) }
+    ensures capacity { vec_capacity out.new ≡ vec_capacity out.old }
+{
+    let by = new[0].value;
+    combine_into(out, columns, by, &row.free, times, new);
+    let head = product(by, row.head);
+    over_content(head, out)
+}

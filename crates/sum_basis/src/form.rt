@@ -1,0 +1,241 @@
+//! The reduced form of rows of whole numbers, kept as long as it is narrow.
+ghost use Rattle.std.specs.Prelude.{◌≡◌, ◌↔◌, ℕ, ◌<◌, ◌≤◌, ◌++◌, ◌^◌, ℤ, List, pos, [], ◌∷◌, length, map, IfOk, OnErr, IsTrue, MatchOption, slice_index_or, unsigned_abs};
+ghost use Rattle.std.specs.List.{AllByRecursion};
+ghost use Rattle.audit_types.specs.Form.{InSpan, IsNarrow, IsReducedForm, pivot, pivot_entries, IsLeastCommonMultiple};
+ghost use Rattle.audit_types.specs.Truth.{number_at};
+ghost use Rattle.sum_basis.specs.Basis.{IsLeastUnit, IsFreeList};
+ghost use Rattle.sum_basis.specs.Combination.{times};
+ghost use Rattle.sum_basis.specs.Elimination.{IsSmallForm, IsRemainder};
+ghost use Rattle.sum_basis.specs.Growth.{Grows, GrowsForRows, GrowsWide, Foresees, IsLeft, IsAsItIs};
+ghost use Rattle.sum_basis.specs.declared.Grown.TheVariants.{Same, Wide};
+
+use crate::elimination::{is_small, pivot_of, scale};
+use crate::growth::{common_multiple, grow_rows, look_ahead};
+use crate::cleared_list::value_at;
+use crate::sparse::{FreeEntry, SparseRow, copy_rows, list_of, reduce};
+use crate::{Grown, Prospect};
+use audit_types::NoMemory;
+use int_rows::make_primitive;
+use std::alloc::Global;
+use std::marker::Model;
+
+/// A reduced form that is narrow. It keeps no added row: it stands for each list of rows whose reduced form it is.
+#[derive(Drop)]
+pub struct Form {
+    columns: u16,
+    // The least common multiple of the pivot entries.
+    common: i128,
+    alloc: Global,
+    rows: Vec<SparseRow>,
+}
+
+impl Model for Form {
+    ghost use Rattle.sum_basis.specs.Basis.{Echelon, IsForm};
+    ghost use Rattle.sum_basis.specs.Sparse.{rows_of};
+
+    ghost Value = { Echelon };
+
+    ghost view = { λ f. record { n = f.columns; rows = rows_of f.columns f.rows.items } };
+
+    ghost invariant = { λ f. IsForm f.columns f.common f.rows.items };
+}
+
+// What is left of a row when the rows of a form are taken from it.
+#[derive(Drop)]
+enum Left {
+    Nothing,
+    // An entry of the primitive row is above the limit.
+    Large,
+    // The list of the primitive row.
+    Entries(Vec<FreeEntry>),
+}
+
+impl Form {
+    /// The form of no rows. It takes no memory yet.
+    pub fn new(alloc: Global, columns: u16) -> Result<Form, NoMemory>
+        requires some { 0 < columns }
+        requires at_most { columns ≤ 2048 }
+        ensures { IfOk result (λ form. form ≡ record { n = columns; rows = [] }) }
+    {
+        Ok(Form {
+            columns,
+            common: 1,
+            alloc,
+            rows: Vec::new(alloc),
+        })
+    }
+
+    // What the form leaves of a multiple of a row of zeros and ones: zeros exactly where the row lies in the span.
+    pub(crate) fn remainder(&self, row: &mut [i128])
+        requires length { length row.old ≡ self.now.n }
+        requires bits { (j : ℕ) → unsigned_abs (number_at row.old j) ≤ 1 }
+        ensures remainder { (m : ℕ) × (0 < m) × IsRemainder self.now.rows (times (pos m) row.old) row.new }
+        ensures small { (j : ℕ) → unsigned_abs (number_at row.new j) < 2 ^ 124 }
+        ensures length { length row.new ≡ self.now.n }
+
+        // What is true of every form.
+        ensures form { IsSmallForm self.now.n self.now.rows }
+        ensures narrow { IsNarrow self.now.rows }
+    {
+        scale(row, self.common);
+        reduce(row, &self.rows);
+    }
+
+    // The primitive row that the form leaves of a row of zeros and ones.
+    fn settle(&self, row: &mut [i128]) -> Result<Left, NoMemory>
+        requires length { length row.old ≡ self.now.n }
+        requires bits { (j : ℕ) → unsigned_abs (number_at row.old j) ≤ 1 }
+        ensures left { IfOk result (λ left. IsLeft self.now row.old left) }
+
+        // What is true of every form.
+        ensures form { IsSmallForm self.now.n self.now.rows }
+        ensures narrow { IsNarrow self.now.rows }
+    {
+        self.remainder(row);
+        make_primitive(row);
+        if pivot_of(row) == row.len() {
+            return Ok(Left::Nothing);
+        }
+        if !is_small(row) {
+            return Ok(Left::Large);
+        }
+        Ok(Left::Entries(list_of(self.alloc, row)?))
+    }
+
+    /// Tells what the form would become with a row of zeros and ones. The row is used up, and takes two lists of memory.
+    pub(crate) fn prospect(&self, row: &mut [i128]) -> Result<Prospect, NoMemory>
+        requires length { length row.old ≡ self.now.n }
+        requires bits { (j : ℕ) → unsigned_abs (number_at row.old j) ≤ 1 }
+        ensures { IfOk result (λ prospect. Foresees self.now row.old prospect) }
+    {
+        match self.settle(row)? {
+            Left::Nothing => Ok(self.as_it_is()),
+            Left::Large => Ok(Prospect::Wide),
+            Left::Entries(new) => {
+                let mut room = Vec::with_capacity(self.alloc, self.columns as usize)?;
+                Ok(look_ahead(&self.rows, self.columns, &new, &mut room))
+            }
+        }
+    }
+
+    // What the form is with a row of its span.
+    fn as_it_is(&self) -> Prospect
+        ensures { IsAsItIs self.now result }
+    {
+        match self.unit_row() {
+            Some(_) => Prospect::Fixing,
+            None => Prospect::Open,
+        }
+    }
+
+    /// Adds a row of zeros and ones, which is used up, unless the form would no longer be narrow.
+    pub(crate) fn join(&mut self, row: &mut [i128]) -> Result<Grown, NoMemory>
+        requires length { length row.old ≡ self.old.n }
+        requires bits { (j : ℕ) → unsigned_abs (number_at row.old j) ≤ 1 }
+        ensures grows { IfOk result (λ grown. Grows self.old row.old grown self.new) }
+        ensures n { self.new.n ≡ self.old.n }
+        ensures err { OnErr result (self.new ≡ self.old) }
+    {
+        let new = match self.settle(row)? {
+            Left::Nothing => return Ok(Grown::Same),
+            Left::Large => return Ok(Grown::Wide),
+            Left::Entries(new) => new,
+        };
+        let mut room = Vec::with_capacity(self.alloc, self.columns as usize)?;
+        if let Prospect::Wide = look_ahead(&self.rows, self.columns, &new, &mut room) {
+            return Ok(Grown::Wide);
+        }
+        self.rows.reserve(1)?;
+        grow_rows(&mut self.rows, self.columns, new, &mut room);
+        match common_multiple(&self.rows) {
+            Some(common) => self.common = common,
+            None => unreachable!(),
+        }
+        Ok(Grown::Added)
+    }
+
+    /// The least column whose unit row lies in the span.
+    pub fn unit_row(&self) -> Option<u16>
+        ensures { IsLeastUnit self.now result }
+    {
+        for row in &self.rows {
+            if row.free.is_empty() {
+                return Some(row.pivot);
+            }
+        }
+        None
+    }
+
+    /// The number of columns.
+    pub fn columns(&self) -> u16
+        ensures columns { result ≡ self.now.n }
+
+        // What is true of every form.
+        ensures some { 0 < self.now.n }
+        ensures at_most { self.now.n ≤ 2048 }
+        ensures form { IsSmallForm self.now.n self.now.rows }
+        ensures narrow { IsNarrow self.now.rows }
+    {
+        self.columns
+    }
+
+    /// The number of reduced rows.
+    pub fn rank(&self) -> u16
+        ensures rank { result ≡ length self.now.rows }
+        ensures at_most { length self.now.rows ≤ self.now.n }
+        ensures narrow { IsNarrow self.now.rows }
+    {
+        self.rows.len() as u16
+    }
+
+    /// The place of the first entry of row k that is not 0.
+    pub fn pivot(&self, k: u16) -> u16
+        requires { k < length self.now.rows }
+        ensures pivot { result ≡ pivot (slice_index_or self.now.rows k []) }
+        ensures within { result < self.now.n }
+    {
+        self.rows[k as usize].pivot
+    }
+
+    /// What reduced row k has at a column.
+    pub fn entry(&self, k: u16, column: u16) -> i128
+        requires k { k < length self.now.rows }
+        requires column { column < self.now.n }
+        ensures { result ≡ number_at (slice_index_or self.now.rows k []) column }
+    {
+        let row = &self.rows[k as usize];
+        if column == row.pivot {
+            row.head
+        } else {
+            value_at(&row.free, column)
+        }
+    }
+
+    /// The least common multiple of the pivot entries, 1 for no rows.
+    pub fn common(&self) -> i128
+        ensures { (m : ℕ) × (result ≡ pos m) × IsLeastCommonMultiple (pivot_entries self.now.rows) m × (0 < m) × (m ≤ 2 ^ 56) }
+    {
+        self.common
+    }
+
+    /// An equal form.
+    pub fn copy(&self) -> Result<Form, NoMemory>
+        ensures { IfOk result (λ form. form ≡ self.now) }
+    {
+        let rows = copy_rows(self.alloc, &self.rows, self.columns)?;
+        Ok(Form {
+            columns: self.columns,
+            common: self.common,
+            alloc: self.alloc,
+            rows,
+        })
+    }
+
+    /// The entries of reduced row k that are not 0, at the columns that are the pivot of no row, in ascending places.
+    pub fn free(&self, k: u16) -> &[FreeEntry]
+        requires { k < length self.now.rows }
+        ensures { IsFreeList self.now.n self.now.rows (slice_index_or self.now.rows k []) result.now }
+    {
+        &self.rows[k as usize].free
+    }
+}

@@ -1,0 +1,101 @@
+//! Two lists of entries combined, place by place.
+ghost use Rattle.std.specs.Prelude.{◌≡◌, ◌≢◌, ◌⊎◌, ℕ, ◌<◌, ◌≤◌, ◌+◌, ◌++◌, ◌^◌, cond, ℤ, pos, ◌-ℤ◌, ◌*ℤ◌, [], ◌∷◌, length, drop, unsigned_abs};
+ghost use Rattle.std.specs.List.{AllByRecursion};
+ghost use Rattle.std.specs.Vec.{vec_len, vec_capacity};
+ghost use Rattle.audit_types.specs.Truth.{is_zero};
+ghost use Rattle.sum_basis.specs.Merging.{first_place, first_value};
+ghost use Rattle.sum_basis.specs.Sparse.{entry_at, IsListed};
+
+use crate::sparse::FreeEntry;
+
+// The place of entry k, and the number of columns where there is none.
+fn place_from(entries: &[FreeEntry], k: usize, columns: u16) -> u16
+    ensures { result ≡ first_place columns (drop k entries.now) }
+{
+    if k < entries.len() { entries[k].place } else { columns }
+}
+
+// The value of entry k, if that stands at the place, and else 0.
+fn value_from(entries: &[FreeEntry], k: usize, place: u16) -> i128
+    ensures { result ≡ first_value (drop k entries.now) place }
+{
+    if k < entries.len() && entries[k].place == place {
+        entries[k].value
+    } else {
+        0
+    }
+}
+
+fn least(a: u16, b: u16) -> u16
+    ensures first { result ≤ a }
+    ensures second { result ≤ b }
+    ensures one { (result ≡ a) ⊎ (result ≡ b) }
+{
+    if a < b { a } else { b }
+}
+
+// One more than k, where there was a value.
+fn after(k: usize, value: i128) -> usize
+    requires { k < 65536 }
+    ensures { result ≡ cond (is_zero value) k (k + 1) }
+{
+    if value == 0 { k } else { k + 1 }
+}
+
+// As often the one as `by` says, less the other as often as `times` says.
+fn difference(by: i128, x: i128, times: i128, y: i128) -> i128
+    requires by { unsigned_abs by ≤ 2 ^ 56 }
+    requires x { unsigned_abs x ≤ 2 ^ 56 }
+    requires times { unsigned_abs times ≤ 2 ^ 56 }
+    requires y { unsigned_abs y ≤ 2 ^ 56 }
+    ensures { result ≡ by *ℤ x -ℤ times *ℤ y }
+{
+    by * x - times * y
+}
+
+/// Appends an entry, if it is not 0. There is room for it.
+pub fn put(out: &mut Vec<FreeEntry>, place: u16, value: i128)
+    requires { vec_len out.old < vec_capacity out.old }
+    ensures items { out.new.items ≡ cond (is_zero value) out.old.items (out.old.items ++ record { place = place; value = value } ∷ []) }
+    ensures capacity { vec_capacity out.new ≡ vec_capacity out.old }
+{
+    if value != 0 {
+        out.push_reserved(FreeEntry { place, value });
+    }
+}
+
+/// Writes into an empty list `by` times the one list less `times` times the other.
+pub fn combine_into(
+    out: &mut Vec<FreeEntry>,
+    columns: u16,
+    by: i128,
+    first: &[FreeEntry],
+    times: i128,
+    second: &[FreeEntry],
+)
+    requires empty { out.old.items ≡ [] }
+    requires room { columns ≤ vec_capacity out.old }
+    requires by { unsigned_abs by ≤ 2 ^ 56 }
+    requires first { IsListed 0 columns first.now }
+    requires first_small { AllByRecursion (λ e. unsigned_abs e.value ≤ 2 ^ 56) first.now }
+    requires times { unsigned_abs times ≤ 2 ^ 56 }
+    requires second { IsListed 0 columns second.now }
+    requires second_small { AllByRecursion (λ e. unsigned_abs e.value ≤ 2 ^ 56) second.now }
+    ensures listed { IsListed 0 columns out.new.items }
+    ensures combined { (j : ℕ) → entry_at out.new.items j ≡ by *ℤ entry_at first.now j -ℤ times *ℤ entry_at second.now j }
+    ensures capacity { vec_capacity out.new ≡ vec_capacity out.old }
+{
+    let mut i = 0;
+    let mut j = 0;
+    while i + j < first.len() + second.len() {
+        let place = least(
+            place_from(first, i, columns),
+            place_from(second, j, columns),
+        );
+        let x = value_from(first, i, place);
+        let y = value_from(second, j, place);
+        put(out, place, difference(by, x, times, y));
+        i = after(i, x);
+        j = after(j, y);
+    }
+}
