@@ -12,11 +12,12 @@ use Rattle.audit_types.specs.Form.{set_row, combined, InSpan, IsReducedForm, IsN
 use Rattle.audit_types.specs.Direction.{IsPinned}
 use Rattle.audit_types.specs.Judgement.{sets_with, IsJudgement, IsDecision, IsWide}
 use Rattle.sum_basis.specs.Basis.{Echelon, IsLeastUnit}
-use Rattle.sum_basis.specs.Growth.{GrowsFor}
-use Rattle.sum_basis.specs.declared.Grown.{Grown}
-use Rattle.sum_basis.specs.declared.Grown.TheVariants.{Same, Added, Wide}
+use Rattle.sum_basis.specs.Growth.{GrowsTo, Foresees}
+use Rattle.sum_basis.proofs.Exactness.{more_sets, of_rows}
+use Rattle.sum_basis.specs.declared.Prospect.{Prospect}
+use Rattle.sum_basis.specs.declared.Prospect.TheVariants.{Wide, Fixing, Open}
 use Rattle.sum_audit.specs.Laws.{IsLeastPinned}
-use Rattle.sum_audit.specs.Sets.{sets_of, IsSpanVerdict}
+use Rattle.sum_audit.specs.Sets.{sets_of, IsSpanVerdict, verdict_of}
 use Rattle.sum_audit.proofs.PinnedRows.{pinned_by_form}
 use Rattle.sum_audit.proofs.DangerousByPins.{dangerous_by_pins}
 
@@ -52,46 +53,6 @@ pub record IsRightVerdict (known : Known) (rows : List ℕ) (verdict : Verdict) 
 right : (n : ℕ) (answers : List Answer) (rows : List ℕ) (verdict : Verdict) → IsJudgement (known_sum n answers) rows verdict → IsRightVerdict (known_sum n answers) rows verdict
 right n answers rows verdict judged = record { judged = judged; decided = decided_at n answers rows verdict judged }
 
--- the coefficients of the first rows
-cut : List (List ℤ) → List ℤ → List ℤ
-cut [] cs = []
-cut (r ∷ rows) [] = []
-cut (r ∷ rows) (c ∷ cs) = c ∷ cut rows cs
-
-combined-cut : (rows more : List (List ℤ)) (cs : List ℤ) (j : ℕ) → combined (cut rows cs) (rows ++ more) j ≡ combined cs rows j
-unfolding cut
-combined-cut [] more [] j = refl
-combined-cut [] more (c ∷ cs) j = refl
-combined-cut (r ∷ rows) more [] j = refl
-combined-cut (r ∷ rows) more (c ∷ cs) j = ap (λ z. c *ℤ number_at r j +ℤ z) (combined-cut rows more cs j)
-
-within_more : (rows more form : List (List ℤ)) → AllByRecursion (InSpan rows) form → AllByRecursion (InSpan (rows ++ more)) form
-within_more rows more [] h = tt
-within_more rows more (f ∷ form) h = (
-  record { multiple = h.0.multiple; positive = h.0.positive; coefficients = cut rows h.0.coefficients; is = λ j. h.0.is j ∙ sym (combined-cut rows more h.0.coefficients j) },
-  within_more rows more form h.1,
-)
-
-spans_more : (form rows : List (List ℤ)) (row : List ℤ) → AllByRecursion (InSpan form) rows → InSpan form row → AllByRecursion (InSpan form) (rows ++ row ∷ [])
-spans_more form [] row h last = (last, tt)
-spans_more form (r ∷ rows) row h last = (h.0, spans_more form rows row h.1 last)
-
--- a set whose row lies in the span of the form leaves it as it is
-pub still_reduced : (n : ℕ) (sets : List (List ℕ)) (rows : List ℕ) (form : List (List ℤ)) → Reduced n sets form → InSpan form (set_row n rows) → Reduced n (sets ++ rows ∷ []) form
-still_reduced n sets rows form reduced span = subst (λ l. IsReducedForm n l form) (sym (map-append (set_row n) sets (rows ∷ []))) (record {
-  primitive = reduced.primitive;
-  echelon = reduced.echelon;
-  within = within_more (map (set_row n) sets) (set_row n rows ∷ []) form reduced.within;
-  spans = spans_more form (map (set_row n) sets) (set_row n rows) reduced.spans span;
-})
-
--- unless the form would be wide, it is that with the set
-pub grown_reduced : (sets : List (List ℕ)) (rows : List ℕ) (old new : Echelon) (grown : Grown) → (grown ≡ Same) ⊎ (grown ≡ Added) → GrowsFor sets rows old grown new → Reduced new.n (sets ++ rows ∷ []) new.rows
-grown_reduced sets rows old new Same is h = h
-grown_reduced sets rows old new Added is h = h
-grown_reduced sets rows old new Wide (inl e) h = absurd cc
-grown_reduced sets rows old new Wide (inr e) h = absurd cc
-
 module _ (n : ℕ) (answers : List Answer) (known : Known) (view : known_sum n answers ≡ known) (rows : List ℕ) (m : ℕ) (are : AllByRecursion (AreRows n) (sets_of answers)) (last : AreRows m rows) (same : m ≡ known.n) where
   same_n : m ≡ n
   same_n = same ∙ sym (ap (λ k. k.n) view)
@@ -102,18 +63,21 @@ module _ (n : ℕ) (answers : List Answer) (known : Known) (view : known_sum n a
       subst (λ k. IsRightVerdict k rows verdict) view (right n answers rows verdict
       (judged_at n answers rows are (subst (λ k. AreRows k rows) same_n last) form.rows verdict reduced narrow (subst (λ k. IsSpanVerdict (record { n = k; rows = form.rows }) verdict) e is)))
 
-  -- of the form as it is, where it spans the row of the asked set
-  pub right_by_span : (form : Echelon) (verdict : Verdict) → form.n ≡ n → Reduced n (sets_of answers) form.rows → InSpan form.rows (set_row form.n rows) → IsNarrow form.rows → IsSpanVerdict form verdict → IsRightVerdict known rows verdict
-  right_by_span form verdict e reduced span narrow is =
-      right_by_form form verdict e (still_reduced n (sets_of answers) rows form.rows reduced (subst (λ k. InSpan form.rows (set_row k rows)) e span)) narrow is
+  -- the form of the sets with the asked one
+  reduced_with : (form : Echelon) (new : List (List ℤ)) → form.n ≡ n → Reduced n (sets_of answers) form.rows → IsReducedForm form.n (form.rows ++ set_row form.n rows ∷ []) new → Reduced n (sets_of answers ++ rows ∷ []) new
+  reduced_with form new e reduced r =
+      more_sets n (sets_of answers) rows new (of_rows n (map (set_row n) (sets_of answers)) form.rows new (set_row n rows) reduced (subst (λ k. IsReducedForm k (form.rows ++ set_row k rows ∷ []) new) e r))
 
-  -- of a copy of it that took the asked set
-  pub right_by_growth : (form copy new : Echelon) (grown : Grown) (verdict : Verdict) → form.n ≡ n → Reduced n (sets_of answers) form.rows → copy ≡ form → new.n ≡ copy.n → (grown ≡ Same) ⊎ (grown ≡ Added) →
-      ((sets : List (List ℕ)) → Reduced copy.n sets copy.rows → GrowsFor sets rows copy grown new) → IsNarrow new.rows → IsSpanVerdict new verdict → IsRightVerdict known rows verdict
-  right_by_growth form copy new grown verdict e reduced equal kept fits stands narrow is =
-      let here : Reduced copy.n (sets_of answers) copy.rows = subst (λ k. Reduced k.n (sets_of answers) k.rows) (sym equal) (subst (λ k. Reduced k (sets_of answers) form.rows) (sym e) reduced) in
-      let new_n : new.n ≡ n = kept ∙ ap (λ k. k.n) equal ∙ e in
-      right_by_form new verdict new_n (subst (λ k. Reduced k (sets_of answers ++ rows ∷ []) new.rows) new_n (grown_reduced (sets_of answers) rows copy new grown fits (stands (sets_of answers) here))) narrow is
+  -- of a form that grows with the set
+  right_by_growth : (form new : Echelon) (verdict : Verdict) → form.n ≡ n → Reduced n (sets_of answers) form.rows → GrowsTo form (set_row form.n rows) new → IsSpanVerdict new verdict → IsRightVerdict known rows verdict
+  right_by_growth form new verdict e reduced g is = right_by_form new verdict (g.n ∙ e) (reduced_with form new.rows e reduced g.reduced) g.narrow is
+
+  -- of what the form would become with the asked set
+  pub right_by_prospect : (form : Echelon) (p : Prospect) → form.n ≡ n → Reduced n (sets_of answers) form.rows → Foresees form (set_row form.n rows) p → IsRightVerdict known rows (verdict_of p)
+  right_by_prospect form Wide e reduced h =
+      subst (λ k. IsRightVerdict k rows DeniedWide) view (right n answers rows DeniedWide (record { form = h.0; reduced = reduced_with form h.0 e reduced h.1; wide = h.2 }))
+  right_by_prospect form Fixing e reduced h = right_by_growth form h.0 DeniedUnsafe e reduced h.1 h.2
+  right_by_prospect form Open e reduced h = right_by_growth form h.0 Released e reduced h.1 (λ i l s. h.2 (i, l, s))
 
 -- the least unit row in the span of the form is the least pinned row
 least_at : (n : ℕ) (sets : List (List ℕ)) (form : List (List ℤ)) (least : Option ℕ) → AllByRecursion (AreRows n) sets → Reduced n sets form → IsLeastUnit (record { n = n; rows = form }) least → IsLeastPinned n sets least

@@ -5,6 +5,8 @@ use Rattle.audit_types.specs.declared.records.Verdict.TheVariants.{Released, Den
 use Rattle.audit_types.specs.Column.{Answer}
 use Rattle.audit_types.specs.Form.{InSpan}
 use Rattle.sum_basis.specs.Basis.{Echelon, unit_row}
+use Rattle.sum_basis.specs.declared.Prospect.{Prospect}
+use Rattle.sum_basis.specs.declared.Prospect.TheVariants.{Wide, Fixing, Open}
 
 -- the sets of answers, in order
 abbrev pub sets_of : List Answer → List (List ℕ)
@@ -15,3 +17,9 @@ abbrev pub IsSpanVerdict : Echelon → Verdict → Type 0
 IsSpanVerdict form DeniedWide = ⊥
 IsSpanVerdict form DeniedUnsafe = (i : ℕ) × (i < form.n) × InSpan form.rows (unit_row form.n i)
 IsSpanVerdict form Released = (i : ℕ) → i < form.n → ¬ (InSpan form.rows (unit_row form.n i))
+
+-- the verdict on a question, from what the form would become with its set
+abbrev pub verdict_of : Prospect → Verdict
+verdict_of Wide = DeniedWide
+verdict_of Fixing = DeniedUnsafe
+verdict_of Open = Released

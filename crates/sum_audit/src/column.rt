@@ -3,17 +3,17 @@ ghost use Rattle.std.specs.Prelude.{◌≡◌, ◌<◌, ◌≤◌, [], IfOk};
 ghost use Rattle.std.specs.List.{AllByRecursion};
 ghost use Rattle.audit_types.specs.Rows.{AreRows};
 ghost use Rattle.audit_types.specs.Column.{known_sum};
-ghost use Rattle.audit_types.specs.Form.{Reduced, IsNarrow};
+ghost use Rattle.audit_types.specs.Form.{Reduced};
 ghost use Rattle.audit_types.specs.declared.shapes.Kind.TheVariants.{Sum};
 ghost use Rattle.sum_audit.specs.Laws.{IsLeastPinned};
-ghost use Rattle.sum_audit.specs.Sets.{sets_of, IsSpanVerdict};
+ghost use Rattle.sum_audit.specs.Sets.{sets_of, verdict_of};
 ghost use Rattle.sum_audit.specs.Columns.{answers_of};
 
 use crate::answered::AnsweredSum;
 use audit_types::{ColumnAudit, NoMemory, RowSet, Verdict};
 use std::alloc::Global;
 use std::marker::Model;
-use sum_basis::{Basis, Grown};
+use sum_basis::{Basis, Grown, Prospect};
 
 /// The answered sums of a column.
 #[derive(Drop)]
@@ -83,15 +83,14 @@ impl SumColumn {
     }
 }
 
-// The verdict on a form. It looks for a row with one entry that is not 0, and at no set.
-fn verdict_on(form: &Basis) -> Verdict
-    ensures verdict { IsSpanVerdict form.now result }
-    ensures narrow { IsNarrow form.now.rows }
+// The verdict on a question, from what the form would become with its set.
+fn verdict_of(prospect: Prospect) -> Verdict
+    ensures { result ≡ verdict_of prospect }
 {
-    let _ = form.rank();
-    match form.unit_row() {
-        Some(_) => Verdict::DeniedUnsafe,
-        None => Verdict::Released,
+    match prospect {
+        Prospect::Wide => Verdict::DeniedWide,
+        Prospect::Fixing => Verdict::DeniedUnsafe,
+        Prospect::Open => Verdict::Released,
     }
 }
 
@@ -101,14 +100,8 @@ impl ColumnAudit for SumColumn {
     fn probe(&self, rows: &RowSet) -> Result<Verdict, NoMemory> {
         // A set says of itself that its rows are rows of the table.
         let _ = rows.n();
-        if self.basis.contains(rows) {
-            return Ok(verdict_on(&self.basis));
-        }
-        let mut basis = self.basis.copy()?;
-        match basis.extend(rows)? {
-            Grown::Wide => Ok(Verdict::DeniedWide),
-            Grown::Same | Grown::Added => Ok(verdict_on(&basis)),
-        }
+        let prospect = self.basis.prospect(rows)?;
+        Ok(verdict_of(prospect))
     }
 
     fn accept(&mut self, rows: &RowSet, answer: i64) -> Result<(), NoMemory> {
