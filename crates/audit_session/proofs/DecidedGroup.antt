@@ -4,14 +4,12 @@ use Rattle.std.specs.Prelude.{All, IsErrOf, Err}
 use Rattle.std.specs.List.{flat_map}
 use Rattle.std.proofs.lemmas.List.{append-nil}
 use Rattle.audit_types.specs.declared.records.Answered.{Answered}
-use Rattle.audit_types.specs.History.{Table}
 use Rattle.audit_core.specs.declared.outcome.Outcome.{Outcome}
 use Rattle.audit_core.specs.Outcomes.{AreOutcomes, records_made}
 use Rattle.bench_core.specs.declared.bench.Bench.{Ghosts}
 use Rattle.bench_core.specs.Bench.{AppendsFront}
 use Rattle.bench_core.specs.Calls.{IsQuiet, LeavesOnly}
 use Rattle.bench_core.specs.Moments.{started, weakens, joins}
-use Rattle.answer_journal.specs.Moments.{IsBeforeOrAfter}
 use Rattle.table_load.specs.Cells.{SecretView, IsSecret}
 use Rattle.table_load.specs.Database.{secret_table}
 use Rattle.journal_form.specs.Journal.{StandsFor}
@@ -22,7 +20,7 @@ use Rattle.line_wire.specs.Reply.{reply_bytes}
 use Rattle.line_wire.specs.declared.reply.Reply.{Reply}
 use Rattle.question_plan.specs.declared.planning.Plan.{Plan}
 use Rattle.question_plan.specs.declared.planning.Plan.TheVariants.{Ready, Ask}
-use Rattle.question_plan.specs.Session.{Replied, records_of, bytes_of, AreReplies}
+use Rattle.question_plan.specs.Session.{records_of}
 use Rattle.question_plan.specs.Replies.{IsReplyOf}
 use Rattle.question_plan.specs.Plans.{CanBeServed}
 use Rattle.question_plan.specs.Laws.{OutcomesCanBeTold, SomeReplyTells}

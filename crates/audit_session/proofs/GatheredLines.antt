@@ -1,5 +1,5 @@
 -- What was read of an input, while a group is gathered and after it.
-use Rattle.std.proofs.Common.{◌≡◌, ◌≢◌, ℕ, ◌+◌, ◌^◌, ◌<◌, ◌≤◌, Bool, true, false, not, ◌||◌, List, [], ◌∷◌, ◌++◌, length, Some, Result, Ok, refl, sym, ◌∙◌, ap, subst, arith, inl, inr, ◌⊎◌, ⊎_elim, append_assoc, length-append}
+use Rattle.std.proofs.Common.{◌≡◌, ℕ, ◌+◌, ◌^◌, ◌<◌, ◌≤◌, Bool, true, false, not, ◌||◌, List, [], ◌∷◌, ◌++◌, length, Some, Result, Ok, refl, sym, ◌∙◌, ap, subst, arith, inl, inr, ◌⊎◌, ⊎_elim, append_assoc, length-append}
 use Rattle.std.specs.Prelude.{All}
 use Rattle.std.proofs.lemmas.List.{append-nil}
 use Rattle.std.proofs.lemmas.List.Elements.{All-nil, All-push}
@@ -14,7 +14,7 @@ use Rattle.line_wire.specs.Cutter.{Cutter, TakesLine, StopsAt}
 use Rattle.line_wire.proofs.LineLaws.{whole-piece}
 use Rattle.question_plan.specs.declared.planning.Plan.{Plan}
 use Rattle.question_plan.specs.Plans.{CanBeServed}
-use Rattle.audit_session.specs.Groups.{IsRead, ReadsLines, CutsShort, ArePlans, Gathers, GivesNext, question_in, questions_of}
+use Rattle.audit_session.specs.Groups.{IsRead, ReadsLines, CutsShort, Gathers, GivesNext, question_in, questions_of}
 use Rattle.audit_session.proofs.Planned.{plans-append, length-plans}
 
 -- ---- lines that were read

@@ -1,25 +1,23 @@
 -- The replies to the plans of lines are those to the lines.
-use Rattle.std.proofs.Common.{◌≡◌, ℕ, ◌+◌, List, [], ◌∷◌, ◌++◌, length, refl, sym, ◌∙◌, ap, subst, arith, append_assoc}
+use Rattle.std.proofs.Common.{◌≡◌, ℕ, List, [], ◌∷◌, ◌++◌, length, refl, sym, ap, subst, arith}
 use Rattle.std.specs.Option.{option_to_list}
 use Rattle.std.specs.List.{flat_map}
 use Rattle.std.proofs.lemmas.List.{append-nil}
-use Rattle.std.proofs.lemmas.List.Concat.{flat_map-append}
-use Rattle.audit_types.specs.declared.records.Asked.{Asked}
 use Rattle.audit_types.specs.declared.records.Answered.{Answered}
 use Rattle.audit_types.specs.History.{Table}
 use Rattle.audit_core.specs.declared.outcome.Outcome.{Outcome}
-use Rattle.audit_core.specs.Outcomes.{AreOutcomes, IsOutcome, record_of, records_made}
+use Rattle.audit_core.specs.Outcomes.{AreOutcomes, record_of, records_made}
 use Rattle.schema_json.specs.Columns.{Column}
-use Rattle.table_load.specs.Cells.{PublicView, SecretView}
-use Rattle.table_load.specs.Database.{Database, base_of, secret_table}
+use Rattle.table_load.specs.Cells.{PublicView}
+use Rattle.table_load.specs.Database.{Database, secret_table}
 use Rattle.line_wire.specs.Lines.{CountedLine}
 use Rattle.line_wire.specs.Reply.{reply_bytes}
 use Rattle.line_wire.specs.declared.reply.Reply.{Reply}
 use Rattle.question_plan.specs.declared.planning.Plan.{Plan}
 use Rattle.question_plan.specs.declared.planning.Plan.TheVariants.{Ready, Ask}
 use Rattle.question_plan.specs.Session.{Replied, records_of, bytes_of, AreReplies}
-use Rattle.question_plan.specs.Replies.{IsDue, IsPlan, IsReplyOf, TellsOutcome, only}
-use Rattle.audit_session.specs.Groups.{ArePlans, AreTold, question_in, questions_of}
+use Rattle.question_plan.specs.Replies.{IsDue, IsReplyOf, only}
+use Rattle.audit_session.specs.Groups.{ArePlans, AreTold, questions_of}
 
 -- plans of lines, and of more lines
 pub plans-append : (columns : List Column) (public : PublicView) (lines more : List CountedLine) (plans others : List Plan) → ArePlans columns public lines plans → ArePlans columns public more others → ArePlans columns public (lines ++ more) (plans ++ others)

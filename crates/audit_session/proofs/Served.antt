@@ -1,5 +1,5 @@
 -- What the loop over groups keeps from turn to turn.
-use Rattle.std.proofs.Common.{◌≡◌, ℕ, ◌+◌, ◌*◌, ◌^◌, ◌<◌, ◌≤◌, Bool, true, false, List, [], ◌∷◌, ◌++◌, length, refl, sym, ◌∙◌, ap, subst, arith, inl, inr, ◌⊎◌, ⊎_elim, append_assoc, length-append}
+use Rattle.std.proofs.Common.{◌≡◌, ℕ, ◌+◌, ◌*◌, ◌^◌, ◌<◌, ◌≤◌, Bool, true, false, List, [], ◌++◌, length, refl, sym, ◌∙◌, ap, subst, arith, inl, ◌⊎◌, ⊎_elim, append_assoc, length-append}
 use Rattle.std.proofs.Math.Nat.{suc-mul}
 use Rattle.std.proofs.lemmas.Bool.{false≢true}
 use Rattle.std.proofs.lemmas.List.{append-nil}
@@ -11,7 +11,7 @@ use Rattle.bench_core.specs.Moments.{weakens, joins}
 use Rattle.schema_json.specs.Columns.{Column}
 use Rattle.table_load.specs.Cells.{PublicView, SecretView}
 use Rattle.table_load.specs.Database.{Database, base_of, secret_table}
-use Rattle.audit_store.specs.Stores.{StoreContents, IsAsLeft, IsStore, calls_for}
+use Rattle.audit_store.specs.Stores.{StoreContents, IsAsLeft, IsStore}
 use Rattle.line_wire.specs.Lines.{CountedLine, counted_lines, whole_lines}
 use Rattle.line_wire.specs.Cutter.{Cutter}
 use Rattle.question_plan.specs.declared.planning.Plan.{Plan}

@@ -1,4 +1,4 @@
-use Rattle.std.proofs.Common.{◌≡◌, ◌+◌, ◌++◌, List, length, sym, ap, subst}
+use Rattle.std.proofs.Common.{◌≡◌, ◌+◌, ◌++◌, List, length, subst}
 use Rattle.std.specs.List.{flat_map}
 use Rattle.line_wire.specs.Reply.{reply_bytes}
 use Rattle.line_wire.specs.declared.reply.Reply.{Reply}

@@ -1,4 +1,4 @@
-use Rattle.std.proofs.Common.{◌≡◌, ◌+◌, ◌<◌, ◌++◌, ◌∷◌, [], Bool, List, Option, Result, Err, length, sym, ◌∙◌, subst, arith, rules}
+use Rattle.std.proofs.Common.{◌≡◌, ◌+◌, ◌<◌, ◌++◌, Bool, List, Option, Result, Err, length, sym, ◌∙◌, subst, arith, rules}
 use Rattle.audit_types.specs.declared.records.Asked.{Asked}
 use Rattle.question_plan.specs.declared.planning.Plan.{Plan}
 use Rattle.audit_session.specs.declared.serving.EndFault.{EndFault}
