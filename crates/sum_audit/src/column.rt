@@ -32,7 +32,7 @@ impl Model for SumColumn {
 
     ghost view = { λ s. known_sum s.n (answers_of s.pairs.items) };
 
-    ghost invariant = { λ s. IsSumColumn s.n s.basis (answers_of s.pairs.items) };
+    ghost invariant = { λ s. IsSumColumn s.n s.basis s.pairs.items };
 }
 
 impl SumColumn {
@@ -62,7 +62,8 @@ impl SumColumn {
 
     /// The answers, in order.
     pub fn pairs(&self) -> &[AnsweredSum]
-        ensures { answers_of result.now ≡ self.now.answers }
+        ensures answers { answers_of result.now ≡ self.now.answers }
+        ensures same_n { AllByRecursion (λ pair. pair.rows.n ≡ self.now.n) result.now }
     {
         &self.pairs
     }

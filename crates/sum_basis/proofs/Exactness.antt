@@ -6,7 +6,7 @@ use Rattle.audit_types.specs.Form.{set_row, InSpan, IsReducedForm, IsNarrow, Red
 use Rattle.int_rows.proofs.ContentLaws.{all-push, all-front}
 use Rattle.sum_basis.specs.Basis.{Echelon}
 use Rattle.sum_basis.specs.Elimination.{IsSmallForm}
-use Rattle.sum_basis.specs.Growth.{Grows, GrowsFor, GrowsWide}
+use Rattle.sum_basis.specs.Growth.{Grows, GrowsFor, GrowsForRows, GrowsWide}
 use Rattle.sum_basis.specs.declared.Grown.{Grown}
 use Rattle.sum_basis.specs.declared.Grown.TheVariants.{Same, Added, Wide}
 use Rattle.sum_basis.proofs.Spans.{span_trans, span_trans_all}
@@ -81,3 +81,9 @@ wide_exactly old new row Wide f narrow g = (λ e. g.2, λ w. refl)
 pub grows_at : (inside seen : Echelon) (row : List ℤ) (m : ℕ) (list : List ℕ) (grown : Grown) (new : Echelon) → inside ≡ seen → row ≡ set_row m list → m ≡ seen.n → Grows inside row grown new → Grows seen (set_row seen.n list) grown new
 grows_at inside seen row m list grown new e f same g =
     subst (λ (s : Echelon). Grows s (set_row seen.n list) grown new) e (subst (λ (r : List ℤ). Grows inside r grown new) (f ∙ ap (λ k. set_row k list) same) g)
+
+-- the form stands for each list of rows that it stood for, with this row
+pub stands_for_rows : (old new : Echelon) (v : List ℤ) (grown : Grown) → Grows old v grown new → (rows : List (List ℤ)) → IsReducedForm old.n rows old.rows → GrowsForRows rows v old grown new
+stands_for_rows old new v Same g rows r = subst (λ (e : Echelon). IsReducedForm e.n (rows ++ v ∷ []) e.rows) (sym g.1) (span_keeps_form old.n rows old.rows v r (span_trans rows old.rows v r.within g.0))
+stands_for_rows old new v Added g rows r = subst (λ n. IsReducedForm n (rows ++ v ∷ []) new.rows) (sym g.1.n) (of_rows old.n rows old.rows new.rows v r g.1.reduced)
+stands_for_rows old new v Wide g rows r = (g.2.0, of_rows old.n rows old.rows g.2.0 v r g.2.1, g.2.2)

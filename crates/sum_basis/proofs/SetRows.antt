@@ -3,7 +3,8 @@ use Rattle.std.proofs.Common.{◌≡◌, ℕ, zero, suc, ◌+◌, ◌*◌, ◌<�
 use Rattle.std.specs.Prelude.{◌*ℤ◌, unsigned_abs}
 use Rattle.std.specs.Int.{◌∣◌}
 use Rattle.std.specs.List.{AllByRecursion}
-use Rattle.std.proofs.lemmas.List.{get_or-set_same, get_or-set_other, length-map, get_or_past}
+use Rattle.std.proofs.Common.{map, get_or, length-set}
+use Rattle.std.proofs.lemmas.List.{get_or-map, get_or-set_same, get_or-set_other, length-map, get_or_past}
 use Rattle.std.proofs.lemmas.List.FromFn.{get_or-map-range_with_len, length-map-range_with_len}
 use Rattle.std.proofs.lemmas.Bool.{cases_eq, cases_lt}
 use Rattle.std.proofs.lemmas.Int.{unsigned_abs-mul}
@@ -107,3 +108,34 @@ entries_divide (row ∷ form) v multiple h = (
 -- a row that is that of a set has zeros and ones
 pub set_bits : (n : ℕ) (rows : List ℕ) (row : List ℤ) → row ≡ set_row n rows → (j : ℕ) → unsigned_abs (number_at row j) ≤ 1
 set_bits n rows row e j = rw e (bit_small n rows j)
+
+-- the bits below j are written
+pub record ArePartlyWritten (bits : List ℕ) (row : List ℤ) (j : ℕ) : Type 0 where
+  pub same_length : length row ≡ length bits
+  pub done : (k : ℕ) → k < j → number_at row k ≡ number_at (map pos bits) k
+
+-- one bit more is written
+pub one_more_bit : (bits : List ℕ) (row : List ℤ) (j : ℕ) (v : ℤ) → j < length row → ArePartlyWritten bits row j → v ≡ pos (get_or bits j 0) → ArePartlyWritten bits (set row j v) (j + 1)
+one_more_bit bits row j v inside part is = record {
+  same_length = length-set row j v ∙ part.same_length;
+  done = λ k h. elim (cases_eq k j) [
+    | inl e ↦ rw e (get_or-set_same row j v (pos 0) inside ∙ is ∙ sym (get_or-map (λ (b : ℕ). pos b) bits j 0 (pos 0) (let same = part.same_length in omega arith)))
+    | inr other ↦ get_or-set_other row j k v (pos 0) other ∙ part.done k (omega arith)
+  ];
+}
+
+-- when all are, the row is theirs
+pub all_bits : (bits : List ℕ) (row : List ℤ) (j : ℕ) → length row ≤ j → ArePartlyWritten bits row j → row ≡ map pos bits
+all_bits bits row j past part = same_rows row (map pos bits) (part.same_length ∙ sym (length-map bits (λ (b : ℕ). pos b))) (λ k. elim (cases_lt k j) [
+  | inl lt ↦ part.done k lt
+  | inr le ↦ get_or_past row k (pos 0) (omega arith) ∙ sym (get_or_past (map pos bits) k (pos 0) (let all = length-map bits (λ (b : ℕ). pos b) in let same = part.same_length in omega arith))
+])
+
+-- bits are at most 1
+pub bits_small : (bits : List ℕ) (row : List ℤ) → row ≡ map pos bits → AllByRecursion (λ b. b ≤ 1) bits → (j : ℕ) → unsigned_abs (number_at row j) ≤ 1
+bits_small bits row e h j = rw e (at bits j h)
+  where
+    at : (xs : List ℕ) (k : ℕ) → AllByRecursion (λ b. b ≤ 1) xs → unsigned_abs (number_at (map pos xs) k) ≤ 1
+    at [] k g = omega arith
+    at (x ∷ xs) zero g = g.0
+    at (x ∷ xs) (suc k) g = at xs k g.1

@@ -1,5 +1,5 @@
 //! Whole rows: the row of a set, its pivot and its size.
-ghost use Rattle.std.specs.Prelude.{◌≡◌, ◌↔◌, ℕ, ◌≤◌, ◌^◌, length, unsigned_abs, IsTrue};
+ghost use Rattle.std.specs.Prelude.{◌≡◌, ◌↔◌, ℕ, ◌≤◌, ◌^◌, pos, map, length, unsigned_abs, IsTrue};
 ghost use Rattle.std.specs.List.{AllByRecursion};
 ghost use Rattle.audit_types.specs.Truth.{number_at};
 ghost use Rattle.audit_types.specs.Form.{set_row, pivot};
@@ -38,6 +38,16 @@ pub fn write_set(row: &mut [i128], set: &RowSet)
 {
     for j in 0..set.n() {
         row[j as usize] = if set.has(j) { 1 } else { 0 };
+    }
+}
+
+/// Writes a row of zeros and ones.
+pub fn write_bits(row: &mut [i128], bits: &[u8])
+    requires { length row.old ≡ length bits.now }
+    ensures { row.new ≡ map pos bits.now }
+{
+    for j in 0..row.len() {
+        row[j] = bits[j] as i128;
     }
 }
 

@@ -9,7 +9,7 @@ ghost use Rattle.sum_basis.specs.Elimination.{IsSmallForm, IsRemainder};
 ghost use Rattle.sum_basis.specs.Growth.{Grows, GrowsForRows, GrowsWide, Foresees, IsLeft, IsAsItIs};
 ghost use Rattle.sum_basis.specs.declared.Grown.TheVariants.{Same, Wide};
 
-use crate::elimination::{is_small, pivot_of, scale};
+use crate::elimination::{is_small, pivot_of, scale, write_bits};
 use crate::growth::{common_multiple, grow_rows, look_ahead};
 use crate::cleared_list::value_at;
 use crate::sparse::{FreeEntry, SparseRow, copy_rows, list_of, reduce};
@@ -152,6 +152,26 @@ impl Form {
             None => unreachable!(),
         }
         Ok(Grown::Added)
+    }
+
+    /// Adds a row of zeros and ones, unless the form would no longer be narrow.
+    pub fn add(&mut self, row: &[u8]) -> Result<Grown, NoMemory>
+        requires length { length row.now ≡ self.old.n }
+        requires bits { AllByRecursion (λ b. b ≤ 1) row.now }
+        ensures grows { IfOk result (λ grown. Grows self.old (map pos row.now) grown self.new) }
+        ensures stands { IfOk result (λ grown. (rows : List (List ℤ)) → IsReducedForm self.old.n rows self.old.rows → GrowsForRows rows (map pos row.now) self.old grown self.new) }
+        ensures n { self.new.n ≡ self.old.n }
+
+        // Both directions of the two answers that leave the form as it is.
+        ensures same { IfOk result (λ grown. (grown ≡ Same) ↔ InSpan self.old.rows (map pos row.now)) }
+        ensures wide { IfOk result (λ grown. (grown ≡ Wide) ↔ GrowsWide self.old (map pos row.now)) }
+        ensures err { OnErr result (self.new ≡ self.old) }
+    {
+        let mut room = [0; 2048];
+        let whole = &mut room[..self.columns() as usize];
+        write_bits(whole, row);
+        let grown = self.join(whole)?;
+        Ok(grown)
     }
 
     /// The least column whose unit row lies in the span.
