@@ -1,14 +1,14 @@
 -- A kept row cleared at the pivot of a new one, as whole rows.
-use Rattle.std.proofs.Common.{◌≡◌, ◌≢◌, ℕ, zero, suc, ◌+◌, ◌<◌, ◌≤◌, ◌^◌, Bool, true, false, cond, nat_eq, ◌*◌, ℤ, pos, negsuc, List, [], ◌∷◌, length, map, get_or, refl, sym, ap, ◌∙◌, subst, arith, inl, inr}
+use Rattle.std.proofs.Common.{◌≡◌, ℕ, zero, suc, ◌+◌, ◌<◌, ◌≤◌, ◌^◌, Bool, true, false, cond, nat_eq, ◌*◌, ℤ, pos, negsuc, List, [], ◌∷◌, length, get_or, sym, ap, ◌∙◌, subst, arith, inl, inr}
 use Rattle.std.specs.Prelude.{◌+ℤ◌, ◌-ℤ◌, ◌*ℤ◌, neg_ℤ, ◌<ℤ◌, unsigned_abs}
 use Rattle.std.specs.Int.{◌∣◌}
 use Rattle.std.specs.List.{AllByRecursion}
-use Rattle.std.proofs.lemmas.Int.{ints, unsigned_abs-mul}
+use Rattle.std.proofs.lemmas.Int.{ints}
 use Rattle.std.proofs.lemmas.Bool.{cases_eq, cases_lt}
 use Rattle.std.proofs.lemmas.List.{length-map}
 use Rattle.std.proofs.Math.Nat.{one-dvd}
 use Rattle.std.proofs.lemmas.Nat.Gcd.{dvd-zero}
-use Rattle.std.proofs.Math.IntN.{*ℤ-zero, *ℤ_comm, pos-*ℤ-pos, pos-*ℤ-negsuc}
+use Rattle.std.proofs.Math.IntN.{*ℤ-zero, pos-*ℤ-pos, pos-*ℤ-negsuc}
 use Rattle.audit_types.specs.Truth.{number_at}
 use Rattle.audit_types.specs.Form.{IsContent, IsPrimitive, pivot, pivot_entry}
 use Rattle.int_rows.proofs.PrimitiveLaws.{number_at-times}
@@ -16,13 +16,13 @@ use Rattle.sum_basis.specs.declared.sparse.FreeEntry.{FreeEntry}
 use Rattle.sum_basis.specs.declared.sparse.SparseRow.{SparseRow}
 use Rattle.sum_basis.specs.Combination.{combine, times as times_of}
 use Rattle.sum_basis.specs.Elimination.{IsSmall, IsCleared}
-use Rattle.sum_basis.specs.Sparse.{entry_at, row_of, IsListed, entries_of, IsKept, scaled, IsNew, IsOverContent}
-use Rattle.sum_basis.proofs.Products.{times-add, neg-times, times_assoc}
+use Rattle.sum_basis.specs.Sparse.{entry_at, row_of, IsListed, entries_of, IsKept, IsNew, IsOverContent}
+use Rattle.sum_basis.proofs.Products.{times-add, neg-times}
 use Rattle.sum_basis.proofs.Clearing.{positive_not_zero, cleared_from}
 use Rattle.sum_basis.proofs.PrimitiveLines.{same_rows}
 use Rattle.sum_basis.proofs.Reduction.{number_at-combine, length-combine}
 use Rattle.sum_basis.proofs.Sizes.{small_at, product_small}
-use Rattle.sum_basis.proofs.SparseRows.{here, elsewhere, zero_below, zero_past, number_at-row_of, length-row_of, pivot-row_of, pivot_entry-row_of, first_value, listed_from, listed_to, small_values}
+use Rattle.sum_basis.proofs.SparseRows.{elsewhere, zero_below, number_at-row_of, length-row_of, pivot-row_of, pivot_entry-row_of, first_value, listed_to, small_values}
 use Rattle.sum_basis.proofs.ListContents.{values, none, entry_at-scaled, listed_scaled}
 
 -- the first entry of a list that is not empty

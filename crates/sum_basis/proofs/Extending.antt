@@ -1,11 +1,11 @@
 -- The new row that a set gives, and what becomes of the form with it.
 use Rattle.std.proofs.Common.{◌≡◌, ◌≢◌, ℕ, ◌<◌, ℤ, pos, List, [], ◌∷◌, ◌++◌, length, sym, subst}
-use Rattle.audit_types.specs.Form.{InSpan, IsPrimitive, pivot, pivot_entry}
+use Rattle.audit_types.specs.Form.{InSpan, pivot, pivot_entry}
 use Rattle.int_rows.specs.Primitive.{IsMadePrimitive}
 use Rattle.int_rows.proofs.ContentLaws.{all-front}
 use Rattle.sum_basis.specs.Basis.{Echelon}
 use Rattle.sum_basis.specs.Combination.{times}
-use Rattle.sum_basis.specs.Elimination.{IsSmallForm, IsZeroAtPivots, IsRemainder}
+use Rattle.sum_basis.specs.Elimination.{IsSmallForm, IsRemainder}
 use Rattle.sum_basis.specs.Growth.{GrowsTo, GrowsWide, IsNewRow}
 use Rattle.sum_basis.proofs.FormsAreUnique.{own, leads_from}
 use Rattle.sum_basis.proofs.Clearing.{line_zero, span_times, positive_not_zero, still_zero_at}

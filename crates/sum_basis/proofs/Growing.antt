@@ -1,16 +1,14 @@
 -- A form with one row more: the rows before its place cleared, the row, and the others as they are.
-use Rattle.std.proofs.Common.{◌≡◌, ◌≢◌, ℕ, zero, suc, ◌<◌, ◌≤◌, Bool, true, false, cond, ℤ, pos, List, [], ◌∷◌, ◌++◌, length, take, drop, get_or, refl, sym, ap, ◌∙◌, arith, subst, append_assoc}
+use Rattle.std.proofs.Common.{◌≡◌, ◌≢◌, ℕ, zero, suc, ◌<◌, ◌≤◌, Bool, true, false, cond, ℤ, pos, List, [], ◌∷◌, ◌++◌, length, take, drop, get_or, refl, sym, ap, ◌∙◌, arith}
 use Rattle.std.specs.Prelude.{nat_lt}
 use Rattle.std.specs.List.{AllByRecursion}
 use Rattle.std.proofs.lemmas.Bool.{ltb-true, ltb-false}
-use Rattle.std.proofs.lemmas.List.{take-append-drop}
 use Rattle.audit_types.specs.Truth.{number_at}
 use Rattle.audit_types.specs.Form.{InSpan, IsPrimitive, IsEchelon, StandsBefore, IsReducedForm, pivot, pivot_entry}
 use Rattle.int_rows.proofs.ContentLaws.{all-push, all-front}
-use Rattle.sum_basis.specs.Elimination.{IsSmall, IsSmallForm, IsZeroAtPivots, AreCleared}
-use Rattle.sum_basis.proofs.FormsAreUnique.{zero_before, leads_from, own}
-use Rattle.sum_basis.proofs.Clearing.{cleared_already, still_echelon, still_zero, primitives, zeros_there, spans_there, spans_back, positive_not_zero}
-use Rattle.sum_basis.proofs.ClearingFirst.{cleared-append}
+use Rattle.sum_basis.specs.Elimination.{IsZeroAtPivots, AreCleared}
+use Rattle.sum_basis.proofs.FormsAreUnique.{leads_from, own}
+use Rattle.sum_basis.proofs.Clearing.{still_echelon, still_zero, primitives, zeros_there, spans_there, spans_back, positive_not_zero}
 use Rattle.sum_basis.proofs.Placing.{placed, all_placed, parts_placed, placed_echelon}
 
 -- with all rows cleared and the new one in its place, the rows are the reduced form

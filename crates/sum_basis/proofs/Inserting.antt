@@ -1,22 +1,19 @@
 -- A new kept row in its place among the cleared ones.
-use Rattle.std.proofs.Common.{◌≡◌, ◌≢◌, ℕ, zero, suc, ◌+◌, ◌<◌, ◌≤◌, ℤ, pos, List, [], ◌∷◌, ◌++◌, length, map, take, drop, get_or, refl, sym, ap, ◌∙◌, subst, arith}
+use Rattle.std.proofs.Common.{◌≡◌, ℕ, zero, suc, ◌<◌, ◌≤◌, pos, List, [], ◌∷◌, ◌++◌, length, take, drop, get_or, refl, sym, ap, ◌∙◌, subst, arith}
 use Rattle.std.specs.Prelude.{◌<ℤ◌, insert, remove}
 use Rattle.std.specs.Vec.{vec_capacity}
 use Rattle.std.specs.List.{AllByRecursion}
-use Rattle.std.proofs.lemmas.List.{take-append-drop, take-map, drop-map, map-append, length-map, get_or-map}
-use Rattle.audit_types.specs.Truth.{number_at}
-use Rattle.audit_types.specs.Form.{IsPrimitive, IsReducedForm, IsEchelon, pivot, pivot_entry}
+use Rattle.std.proofs.lemmas.List.{take-append-drop, take-map, drop-map, map-append}
+use Rattle.audit_types.specs.Form.{IsReducedForm, pivot, pivot_entry}
 use Rattle.sum_basis.specs.declared.sparse.FreeEntry.{FreeEntry}
 use Rattle.sum_basis.specs.declared.sparse.SparseRow.{SparseRow}
 use Rattle.sum_basis.specs.Elimination.{IsSmallForm, IsZeroAtPivots, AreCleared}
 use Rattle.sum_basis.specs.Sparse.{row_of, rows_of, IsListed, entries_of, IsKept, IsNew}
-use Rattle.sum_basis.proofs.Clearing.{still_echelon, still_zero, primitives}
+use Rattle.sum_basis.proofs.Clearing.{still_echelon, still_zero}
 use Rattle.sum_basis.proofs.Placing.{placed}
 use Rattle.sum_basis.proofs.Growing.{placed_is_reduced, placed_is, before_place, after_place}
 use Rattle.sum_basis.proofs.SparseRows.{pivot_entry-row_of}
 use Rattle.sum_basis.proofs.SparseMultiples.{kept_pivot}
-use Rattle.sum_basis.proofs.ListContents.{none}
-use Rattle.sum_basis.proofs.ClearedLists.{is_led}
 
 -- an item put in at a place
 insert_is : {X : Type 0} (xs : List X) (k : ℕ) (x : X) → insert xs k x ≡ take k xs ++ x ∷ drop k xs

@@ -1,8 +1,7 @@
 -- A row that joins a form: what is told of the primitive row holds of the row itself, and the form with it is narrow.
-use Rattle.std.proofs.Common.{◌≡◌, ◌≢◌, ℕ, ◌<◌, ◌≤◌, ◌^◌, ℤ, pos, List, [], ◌∷◌, ◌++◌, length, map, refl, sym, ap, ◌∙◌, subst, arith}
+use Rattle.std.proofs.Common.{◌≡◌, ℕ, ◌<◌, ◌≤◌, ◌^◌, ℤ, pos, List, [], ◌∷◌, ◌++◌, length, refl, sym, ap, ◌∙◌, subst, arith}
 use Rattle.std.specs.Prelude.{◌<ℤ◌, unsigned_abs}
 use Rattle.std.proofs.lemmas.Int.{ints}
-use Rattle.std.specs.Vec.{vec_capacity}
 use Rattle.std.specs.List.{AllByRecursion}
 use Rattle.audit_types.specs.Truth.{number_at}
 use Rattle.audit_types.specs.Form.{InSpan, IsPrimitive, IsReducedForm, IsNarrow, IsLeastCommonMultiple, pivot, pivot_entry, pivot_entries}
@@ -12,12 +11,12 @@ use Rattle.sum_basis.specs.declared.Prospect.{Prospect}
 use Rattle.sum_basis.specs.declared.Prospect.TheVariants.{Wide, Fixing, Open}
 use Rattle.sum_basis.specs.Basis.{Echelon, IsForm}
 use Rattle.sum_basis.specs.Elimination.{IsSmall, IsSmallForm}
-use Rattle.sum_basis.specs.Growth.{Foresees, GrowsTo, GrowsWide, IsNewRow, IsAsItIs}
-use Rattle.sum_basis.specs.Sparse.{entry_at, row_of, rows_of, IsListed, entries_of, IsKept, IsNew}
+use Rattle.sum_basis.specs.Growth.{Foresees, GrowsTo, IsNewRow, IsAsItIs}
+use Rattle.sum_basis.specs.Sparse.{entry_at, row_of, rows_of, IsListed, IsKept, IsNew}
 use Rattle.sum_basis.proofs.FormsAreUnique.{own, forms_are_unique}
 use Rattle.sum_basis.proofs.SpanKeepsForm.{span_keeps_form}
 use Rattle.sum_basis.proofs.Extending.{grows_to, grows_wide}
-use Rattle.sum_basis.proofs.LeastMultiples.{heads, least_unique, size_is}
+use Rattle.sum_basis.proofs.LeastMultiples.{heads, least_unique}
 use Rattle.sum_basis.proofs.PrimitiveLines.{same_rows}
 use Rattle.sum_basis.proofs.SparseRows.{number_at-row_of, length-row_of, pivot_entry-row_of}
 use Rattle.sum_basis.proofs.ClearedLists.{head_small}

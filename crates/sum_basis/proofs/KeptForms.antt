@@ -1,9 +1,9 @@
 -- A form as it is kept, and as its callers see it.
-use Rattle.std.proofs.Common.{◌≡◌, ◌≢◌, ℕ, zero, suc, ◌+◌, ◌<◌, ◌≤◌, cond, nat_eq, ℤ, pos, List, [], ◌∷◌, length, get_or, refl, sym, ap, ◌∙◌, subst, arith, inl, inr, ◌⊎◌}
-use Rattle.std.specs.Prelude.{◌+ℤ◌, ◌<ℤ◌}
+use Rattle.std.proofs.Common.{◌≡◌, ◌≢◌, ℕ, zero, suc, ◌+◌, ◌<◌, ◌≤◌, cond, nat_eq, ℤ, pos, List, [], ◌∷◌, length, get_or, refl, sym, ap, ◌∙◌, subst, arith, inl, inr}
+use Rattle.std.specs.Prelude.{◌+ℤ◌}
 use Rattle.std.specs.List.{AllByRecursion}
 use Rattle.std.proofs.lemmas.Int.{ints}
-use Rattle.std.proofs.lemmas.Bool.{cases_eq, eqb-true, eq-eqb}
+use Rattle.std.proofs.lemmas.Bool.{eqb-true, eq-eqb}
 use Rattle.std.proofs.lemmas.List.{length-map}
 use Rattle.std.proofs.lemmas.List.Elements.{All-from_recursion}
 use Rattle.audit_types.specs.Truth.{number_at}
@@ -37,9 +37,9 @@ each_entry P from n (e ∷ es) f h is each = (
   each e h.0 h.2 (sym (is e.place h.0) ∙ first_value from n e es h),
   each_entry P (e.place + 1) n es f h.3
       (λ j l.
-          let at = is j (let after = h.0 in omega arith) in
-          let first = elsewhere e j (λ same. omega arith) in
-          omega (arith, ints))
+      let at = is j (let after = h.0 in omega arith) in
+      let first = elsewhere e j (λ same. omega arith) in
+      omega (arith, ints))
       (λ x l some same. each x (let after = h.0 in omega arith) some same),
 )
 

@@ -1,9 +1,9 @@
 -- Kept rows at the pivot of a new one, small ones, and ones with one entry.
-use Rattle.std.proofs.Common.{◌≡◌, ◌≢◌, ◌↔◌, ℕ, zero, suc, ◌+◌, ◌<◌, ◌≤◌, ◌^◌, cond, nat_eq, ℤ, pos, List, [], ◌∷◌, length, get_or, refl, sym, ap, ◌∙◌, subst, arith, inl, inr}
-use Rattle.std.specs.Prelude.{◌+ℤ◌, ◌<ℤ◌, unsigned_abs}
+use Rattle.std.proofs.Common.{◌≡◌, ◌≢◌, ◌↔◌, ℕ, ◌+◌, ◌<◌, ◌≤◌, ◌^◌, ℤ, pos, List, [], ◌∷◌, length, get_or, refl, sym, ap, ◌∙◌, subst, arith, inl, inr}
+use Rattle.std.specs.Prelude.{◌<ℤ◌, unsigned_abs}
 use Rattle.std.specs.List.{AllByRecursion}
 use Rattle.std.proofs.lemmas.Int.{ints}
-use Rattle.std.proofs.lemmas.Bool.{cases_eq, cases_lt}
+use Rattle.std.proofs.lemmas.Bool.{cases_lt}
 use Rattle.audit_types.specs.Truth.{number_at}
 use Rattle.audit_types.specs.Form.{IsPrimitive, pivot, pivot_entry}
 use Rattle.sum_basis.specs.declared.sparse.FreeEntry.{FreeEntry}
@@ -13,9 +13,9 @@ use Rattle.sum_basis.specs.Sparse.{entry_at, row_of, rows_of, IsListed, entries_
 use Rattle.std.proofs.lemmas.List.{get_or-map, length-map}
 use Rattle.std.proofs.lemmas.List.Elements.{All-from_recursion}
 use Rattle.sum_basis.proofs.Clearing.{cleared_already}
-use Rattle.sum_basis.proofs.SparseRows.{here, elsewhere, zero_below, number_at-row_of, pivot-row_of, pivot_entry-row_of, first_value, small_row, small_values}
+use Rattle.sum_basis.proofs.SparseRows.{elsewhere, zero_below, number_at-row_of, pivot-row_of, first_value, small_row}
 use Rattle.sum_basis.proofs.ListContents.{none}
-use Rattle.sum_basis.proofs.ClearedLists.{IsLed, is_led}
+use Rattle.sum_basis.proofs.ClearedLists.{is_led}
 
 module _ (n : ℕ) (r : SparseRow) (new : List FreeEntry) (kept : IsKept n r) (is_new : IsNew n new) where
   -- a row with an entry at the new pivot has the earlier pivot
@@ -31,7 +31,7 @@ module _ (n : ℕ) (r : SparseRow) (new : List FreeEntry) (kept : IsKept n r) (i
       let led = is_led n new is_new.some is_new.listed in
       let place = (get_or new 0 none).place in
       let apart : r.pivot ≢ place = λ same. positive_not (pivot_entry (row_of n new)) is_new.primitive.leading
-          (ap (number_at (row_of n new)) (led.at_pivot ∙ sym same) ∙ number_at-row_of 0 n new is_new.listed r.pivot ∙ nothing) in
+      (ap (number_at (row_of n new)) (led.at_pivot ∙ sym same) ∙ number_at-row_of 0 n new is_new.listed r.pivot ∙ nothing) in
       let first = elsewhere (record { place = r.pivot; value = r.head }) place apart in
       let sum : entry_at (entries_of r) place ≡ pos 0 = omega (arith, ints) in
       cleared_already n (row_of n new) (row_of n (entries_of r)) primitive (ap (number_at (row_of n (entries_of r))) led.at_pivot ∙ number_at-row_of 0 n (entries_of r) kept.listed place ∙ sum)

@@ -1,7 +1,7 @@
 -- The content of a list of entries, and the list over a divisor.
 use Rattle.std.proofs.Math.IntN.{*ℤ-zero}
-use Rattle.std.proofs.Common.{◌≡◌, ◌≢◌, ℕ, zero, suc, ◌+◌, ◌<◌, ◌≤◌, ◌^◌, Bool, true, false, cond, nat_eq, ℤ, pos, List, [], ◌∷◌, ◌++◌, length, map, take, drop, get_or, set, refl, sym, ap, ◌∙◌, subst, arith, inl, inr}
-use Rattle.std.specs.Prelude.{◌+ℤ◌, ◌*ℤ◌, ◌<ℤ◌, unsigned_abs}
+use Rattle.std.proofs.Common.{◌≡◌, ℕ, zero, suc, ◌+◌, ◌<◌, ◌≤◌, Bool, true, false, cond, nat_eq, ℤ, pos, List, [], ◌∷◌, length, map, take, get_or, set, refl, sym, ap, ◌∙◌, subst, arith, inl, inr}
+use Rattle.std.specs.Prelude.{◌*ℤ◌, ◌<ℤ◌, unsigned_abs}
 use Rattle.std.specs.Int.{◌∣◌, IsGcd}
 use Rattle.std.specs.List.{AllByRecursion}
 use Rattle.std.proofs.lemmas.Int.{ints}
@@ -11,11 +11,11 @@ use Rattle.std.proofs.Math.Nat.{one-dvd}
 use Rattle.audit_types.specs.Form.{IsContent}
 use Rattle.int_rows.proofs.ContentLaws.{IsContent-push}
 use Rattle.sum_basis.specs.declared.sparse.FreeEntry.{FreeEntry}
-use Rattle.sum_basis.specs.Sparse.{entry_at, row_of, IsListed, scaled, IsOverContent}
+use Rattle.sum_basis.specs.Sparse.{entry_at, IsListed, scaled, IsOverContent}
 use Rattle.sum_basis.proofs.Multiples.{one-times}
 use Rattle.sum_basis.proofs.Clearing.{positive_not_zero}
 use Rattle.int_rows.proofs.PrimitiveLaws.{content_one}
-use Rattle.sum_basis.proofs.Products.{times-add, times_assoc}
+use Rattle.sum_basis.proofs.Products.{times-add}
 
 -- the values of a list
 abbrev pub values : List FreeEntry → List ℤ

@@ -1,20 +1,18 @@
 -- What is told of a form with a new row while its rows are cleared one after the other.
-use Rattle.std.proofs.Common.{◌≡◌, ◌≢◌, ◌↔◌, ℕ, zero, suc, ◌+◌, ◌<◌, ◌≤◌, ◌^◌, Bool, ℤ, pos, List, [], ◌∷◌, ◌++◌, length, map, take, get_or, refl, sym, ap, ◌∙◌, subst, arith, inl, inr, ◌⊎◌, IsTrue}
-use Rattle.std.specs.Prelude.{◌<ℤ◌, ◌≤ℤ◌, unsigned_abs}
+use Rattle.std.proofs.Common.{◌≡◌, ◌↔◌, ℕ, zero, suc, ◌+◌, ◌<◌, ◌≤◌, ◌^◌, Bool, ℤ, pos, List, [], ◌∷◌, ◌++◌, length, take, get_or, refl, sym, ap, subst, arith, inl, inr, ◌⊎◌, IsTrue}
+use Rattle.std.specs.Prelude.{◌<ℤ◌, unsigned_abs}
 use Rattle.std.specs.Int.{◌∣◌}
 use Rattle.std.specs.List.{AllByRecursion}
 use Rattle.std.proofs.lemmas.Int.{ints}
 use Rattle.std.proofs.lemmas.Nat.Gcd.{dvd_refl, le_of_dvd}
-use Rattle.std.proofs.lemmas.List.{take_more}
-use Rattle.audit_types.specs.Truth.{number_at}
-use Rattle.audit_types.specs.Form.{InSpan, IsPrimitive, IsReducedForm, IsNarrow, IsLeastCommonMultiple, pivot, pivot_entry, pivot_entries}
+use Rattle.audit_types.specs.Form.{InSpan, IsPrimitive, IsReducedForm, IsLeastCommonMultiple, pivot, pivot_entry, pivot_entries}
 use Rattle.int_rows.proofs.ContentLaws.{all-push}
 use Rattle.sum_basis.specs.Basis.{Echelon, HasUnitRow}
 use Rattle.sum_basis.specs.Elimination.{IsSmall, IsSmallForm, IsZeroAtPivots, IsCleared, AreCleared, IsLone}
-use Rattle.sum_basis.specs.Growth.{ClearsFirst, ClearsWide, GrowsTo, GrowsWide}
+use Rattle.sum_basis.specs.Growth.{ClearsFirst, GrowsTo, GrowsWide}
 use Rattle.sum_basis.proofs.FormsAreUnique.{own, leads_from}
 use Rattle.sum_basis.proofs.PrimitiveLines.{size_positive}
-use Rattle.sum_basis.proofs.LeastMultiples.{least-push, least_positive, least_exists, least_unique, entries_positive, pivot_entries-push, all_taken, size_is}
+use Rattle.sum_basis.proofs.LeastMultiples.{least-push, least_positive, least_exists, least_unique, entries_positive, pivot_entries-push, all_taken}
 use Rattle.sum_basis.proofs.Placing.{placed, all_placed, parts_placed}
 use Rattle.sum_basis.proofs.Growing.{placed_is_reduced}
 use Rattle.sum_basis.proofs.ClearingFirst.{one_more_cleared, rest_cleared, too_large, no_rows}
@@ -98,8 +96,7 @@ module _ (form : Echelon) (new : List ℤ) (f : IsSmallForm form.n form.rows) (p
       let rest = rest_cleared form.n new form.rows l.made k row h p f.primitive z l.clears is in
       let all = l.made ++ row ∷ rest.0 in
       let grown = placed new all in
-      let reduced = placed_is_reduced form.n form.rows all new f.primitive f.echelon p z rest.1 in
-      (
+      let reduced = placed_is_reduced form.n form.rows all new f.primitive f.echelon p z rest.1 in (
         grown,
         reduced,
         λ narrow.

@@ -1,5 +1,5 @@
 -- When the form with a new row is wide, and when it is narrow.
-use Rattle.std.proofs.Common.{ℕ, ◌<◌, ◌≤◌, ◌^◌, ℤ, List, arith, inl, inr}
+use Rattle.std.proofs.Common.{ℕ, ◌≤◌, ◌^◌, ℤ, List}
 use Rattle.audit_types.specs.Form.{IsPrimitive, IsNarrow, IsLeastCommonMultiple, pivot_entries}
 use Rattle.sum_basis.specs.Elimination.{IsSmall, IsSmallForm, IsZeroAtPivots}
 use Rattle.sum_basis.specs.Growth.{ClearsWide, GrowsWide}
@@ -7,7 +7,6 @@ use Rattle.sum_basis.specs.Basis.{Echelon}
 use Rattle.sum_basis.proofs.Clearing.{cleared_all}
 use Rattle.sum_basis.proofs.Placing.{placed, parts_placed}
 use Rattle.sum_basis.proofs.Growing.{placed_is_reduced}
-use Rattle.sum_basis.proofs.LeastMultiples.{least_unique}
 
 module _ (form : Echelon) (new : List ℤ) (f : IsSmallForm form.n form.rows) (p : IsPrimitive form.n new) (z : IsZeroAtPivots form.rows new) where
   -- the new row itself is a row of the form

@@ -1,7 +1,7 @@
 -- What becomes of a reduced form when a row is added.
-use Rattle.std.specs.Prelude.{◌≡◌, ℕ, ◌<◌, ◌≤◌, ◌++◌, ℤ, List, [], ◌∷◌, length, take, drop, slice_index_or, ◌⊎◌}
+use Rattle.std.specs.Prelude.{◌≡◌, ℕ, ◌≤◌, ◌++◌, ℤ, List, [], ◌∷◌, take}
 use Rattle.std.specs.List.{AllByRecursion}
-use Rattle.audit_types.specs.Form.{InSpan, IsPrimitive, IsReducedForm, IsNarrow, Reduced, HasWideForm, pivot}
+use Rattle.audit_types.specs.Form.{InSpan, IsPrimitive, IsReducedForm, IsNarrow, Reduced, HasWideForm}
 use Rattle.sum_basis.specs.Basis.{Echelon, HasUnitRow}
 use Rattle.sum_basis.specs.Elimination.{IsSmall, IsZeroAtPivots, AreCleared}
 use Rattle.sum_basis.specs.declared.Grown.{Grown}

@@ -42,8 +42,6 @@ impl Basis {
     }
 
     /// Adds the row of a set, unless the form would no longer be narrow.
-    ///
-    /// It takes memory for the new row and one more; the rows that change do so in place.
     pub fn extend(&mut self, rows: &RowSet) -> Result<Grown, NoMemory>
         requires { rows.now.n ≡ self.old.n }
         ensures grows { IfOk result (λ grown. Grows self.old (set_row self.old.n rows.now.list) grown self.new) }
@@ -62,7 +60,7 @@ impl Basis {
         Ok(grown)
     }
 
-    /// Tells what the form would become with the row of a set, and changes nothing. It takes memory for two rows.
+    /// Tells what the form would become with the row of a set.
     pub fn prospect(&self, rows: &RowSet) -> Result<Prospect, NoMemory>
         requires { rows.now.n ≡ self.now.n }
         ensures { IfOk result (λ prospect. Foresees self.now (set_row self.now.n rows.now.list) prospect) }

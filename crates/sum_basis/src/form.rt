@@ -9,9 +9,9 @@ ghost use Rattle.sum_basis.specs.Elimination.{IsSmallForm, IsRemainder};
 ghost use Rattle.sum_basis.specs.Growth.{Grows, GrowsForRows, GrowsWide, Foresees, IsLeft, IsAsItIs};
 ghost use Rattle.sum_basis.specs.declared.Grown.TheVariants.{Same, Wide};
 
+use crate::cleared_list::value_at;
 use crate::elimination::{is_small, pivot_of, scale, write_bits};
 use crate::growth::{common_multiple, grow_rows, look_ahead};
-use crate::cleared_list::value_at;
 use crate::sparse::{FreeEntry, SparseRow, copy_rows, list_of, reduce};
 use crate::{Grown, Prospect};
 use audit_types::NoMemory;
@@ -102,7 +102,7 @@ impl Form {
         Ok(Left::Entries(list_of(self.alloc, row)?))
     }
 
-    /// Tells what the form would become with a row of zeros and ones. The row is used up, and takes two lists of memory.
+    /// Tells what the form would become with a row of zeros and ones, which is used up.
     pub(crate) fn prospect(&self, row: &mut [i128]) -> Result<Prospect, NoMemory>
         requires length { length row.old ≡ self.now.n }
         requires bits { (j : ℕ) → unsigned_abs (number_at row.old j) ≤ 1 }

@@ -133,12 +133,7 @@ pub fn look_ahead(
 }
 
 // Clears all rows at the new row's pivot.
-fn clear_all(
-    rows: &mut Vec<SparseRow>,
-    columns: u16,
-    new: &[FreeEntry],
-    room: &mut Vec<FreeEntry>,
-)
+fn clear_all(rows: &mut Vec<SparseRow>, columns: u16, new: &[FreeEntry], room: &mut Vec<FreeEntry>)
     requires room { columns ≤ vec_capacity room.old }
     requires kept { AllByRecursion (IsKept columns) rows.old.items }
     requires form { IsSmallForm columns (rows_of columns rows.old.items) }

@@ -5,19 +5,17 @@
 #![tactic(auto)]
 
 mod basis;
+mod cleared_list;
 mod elimination;
 mod form;
 mod growth;
 pub mod laws;
-mod cleared_list;
 mod merging;
 mod sparse;
 
 pub use basis::Basis;
 pub use form::Form;
 pub use sparse::FreeEntry;
-
-
 
 #[cfg(test)]
 mod tests;

@@ -12,7 +12,11 @@ use crate::sparse::FreeEntry;
 fn place_from(entries: &[FreeEntry], k: usize, columns: u16) -> u16
     ensures { result ≡ first_place columns (drop k entries.now) }
 {
-    if k < entries.len() { entries[k].place } else { columns }
+    if k < entries.len() {
+        entries[k].place
+    } else {
+        columns
+    }
 }
 
 // The value of entry k, if that stands at the place, and else 0.

@@ -119,7 +119,11 @@ pub fn list_of(alloc: Global, row: &[i128]) -> Result<Vec<FreeEntry>, NoMemory>
 }
 
 /// Equal rows, each with room for one entry a column.
-pub fn copy_rows(alloc: Global, rows: &[SparseRow], columns: u16) -> Result<Vec<SparseRow>, NoMemory>
+pub fn copy_rows(
+    alloc: Global,
+    rows: &[SparseRow],
+    columns: u16,
+) -> Result<Vec<SparseRow>, NoMemory>
     requires { AllByRecursion (IsKept columns) rows.now }
     ensures same { IfOk result (λ copies. rows_of columns copies.items ≡ rows_of columns rows.now) }
     ensures kept { IfOk result (λ copies. AllByRecursion (IsKept columns) copies.items) }

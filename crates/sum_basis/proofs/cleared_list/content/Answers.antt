@@ -1,4 +1,4 @@
-use Rattle.std.proofs.Common.{◌≡◌, ◌<◌, ◌≤◌, ◌^◌, ℤ, ℕ, pos, get_or, sym, ap, ◌∙◌, subst, arith, rules, ◌∷◌, take, map}
+use Rattle.std.proofs.Common.{◌≡◌, ◌<◌, ℤ, ℕ, pos, get_or, ap, ◌∙◌, subst, arith, rules, ◌∷◌, take, map}
 use Rattle.std.specs.Prelude.{FitsSigned, unsigned_abs, ◌<ℤ◌}
 use Rattle.std.specs.Int.{w128, IsGcd}
 use mir.Val.{to_z, of_z}
@@ -28,7 +28,7 @@ loop-e-preserved c =
     let all = c.gcd-divisor.ensures in
     let is = to_z-of_z w128 c.gcd-divisor.result fits ∙ all.1 in
     let common : IsGcd (unsigned_abs (to_z w128 c.loop-e.divisor-bits)) (unsigned_abs (get_or c.args.entries.now c.loop-e.e-index (record { place = 0; value = pos 0 })).value) all.0 =
-        subst (λ (m : ℤ). IsGcd (unsigned_abs (to_z w128 c.loop-e.divisor-bits)) (unsigned_abs m) all.0) (to_z-of_z w128 (get_or c.args.entries.now c.loop-e.e-index (record { place = 0; value = pos 0 })).value value) all.2 in
+    subst (λ (m : ℤ). IsGcd (unsigned_abs (to_z w128 c.loop-e.divisor-bits)) (unsigned_abs m) all.0) (to_z-of_z w128 (get_or c.args.entries.now c.loop-e.e-index (record { place = 0; value = pos 0 })).value value) all.2 in
     record {
       content = rw (above all.0 _ is) (one_more_value (to_z w128 (of_z w128 c.args.head)) c.args.entries.now c.loop-e.e-index (unsigned_abs (to_z w128 c.loop-e.divisor-bits)) all.0 c.loop-e-test.true c.loop-e.invariant.content common);
       positive = positive all.0 _ is (positive_divisor _ _ all.0 (size_positive (to_z w128 c.loop-e.divisor-bits) c.loop-e.invariant.positive) common);

@@ -1,4 +1,4 @@
-use Rattle.std.proofs.Common.{◌≡◌, ◌≤◌, ◌^◌, ℤ, ℕ, pos, get_or, sym, ap, ◌∙◌, subst, arith, rules, length-set}
+use Rattle.std.proofs.Common.{◌≡◌, ◌≤◌, ◌^◌, ℤ, sym, ap, ◌∙◌, subst, arith, rules, length-set}
 use Rattle.std.specs.Prelude.{FitsSigned, unsigned_abs, ◌*ℤ◌}
 use Rattle.std.specs.Int.{w128, ◌∣◌}
 use mir.Val.{to_z, of_z}

@@ -1,12 +1,11 @@
-use Rattle.std.proofs.Common.{◌≡◌, ◌≤◌, ◌^◌, ℤ, ℕ, pos, ◌∷◌, map, List, get_or, sym, ap, ◌∙◌, subst, arith, rules}
+use Rattle.std.proofs.Common.{◌≡◌, ℤ, ◌∷◌, map, List, sym, ap, ◌∙◌, subst, rules}
 use Rattle.std.specs.Prelude.{FitsSigned, unsigned_abs, ◌*ℤ◌}
-use Rattle.std.specs.Int.{w128, ◌∣◌}
-use Rattle.std.specs.List.{AllByRecursion}
+use Rattle.std.specs.Int.{w128}
 use mir.Val.{to_z, of_z}
 use Rattle.std.proofs.lemmas.Int.{to_z-of_z}
 use Rattle.audit_types.specs.Form.{IsContent}
 use Rattle.sum_basis.specs.declared.sparse.FreeEntry.{FreeEntry}
-use Rattle.sum_basis.specs.Sparse.{scaled, IsOverContent}
+use Rattle.sum_basis.specs.Sparse.{scaled}
 use Rattle.sum_basis.proofs.ListContents.{values, over_one, over_content, all_divided_by}
 use Rattle.sum_basis.proofs.cleared_list.over_content.Goals as goal
 

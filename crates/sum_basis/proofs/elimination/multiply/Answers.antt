@@ -1,5 +1,5 @@
-use Rattle.std.proofs.Common.{◌≡◌, ◌≤◌, ◌^◌, ℤ, pos, get_or, ap, ◌∙◌, subst, arith, rules, length-set}
-use Rattle.std.specs.Prelude.{FitsSigned, unsigned_abs, ◌*ℤ◌}
+use Rattle.std.proofs.Common.{ℤ, pos, get_or, ap, ◌∙◌, subst, arith, rules, length-set}
+use Rattle.std.specs.Prelude.{FitsSigned, ◌*ℤ◌}
 use Rattle.std.specs.Int.{w128}
 use mir.Val.{to_z, of_z}
 use Rattle.std.proofs.lemmas.Int.{to_z-of_z}

@@ -1,4 +1,4 @@
-use Rattle.std.proofs.Common.{◌≡◌, ℤ, pos, sym, ap, ◌∙◌}
+use Rattle.std.proofs.Common.{ℤ, sym, ap, ◌∙◌}
 use Rattle.std.specs.Int.{w128}
 use mir.Val.{to_z}
 use Rattle.std.proofs.lemmas.Int.{to_z-of_z}

@@ -1,14 +1,13 @@
-use Rattle.std.proofs.Common.{◌≡◌, ◌≢◌, ◌↔◌, ℕ, ◌+◌, ◌<◌, ◌≤◌, ◌^◌, Bool, false, ℤ, pos, List, ◌∷◌, length, get_or, nat_eq, sym, ap, ◌∙◌, subst, arith, rules}
-use Rattle.std.specs.Prelude.{FitsSigned, unsigned_abs, ◌<ℤ◌, IsTrue}
+use Rattle.std.proofs.Common.{◌≡◌, ◌↔◌, ℕ, ◌+◌, ◌≤◌, ◌^◌, Bool, false, ℤ, List, ◌∷◌, length, get_or, nat_eq, sym, ap, ◌∙◌, subst, arith, rules}
+use Rattle.std.specs.Prelude.{FitsSigned, unsigned_abs, IsTrue}
 use Rattle.std.specs.Int.{w128}
 use Rattle.std.specs.List.{AllByRecursion}
-use mir.Val.{to_z, of_z}
+use mir.Val.{of_z}
 use Rattle.std.proofs.lemmas.Int.{to_z-of_z}
 use Rattle.std.proofs.lemmas.Bool.{eqb-true, eq-eqb, true≢false}
 use Rattle.int_rows.proofs.PrimitiveLaws.{zero_from_bits}
-use Rattle.audit_types.specs.Form.{pivot_entry}
 use Rattle.sum_basis.specs.declared.sparse.FreeEntry.{FreeEntry}
-use Rattle.sum_basis.specs.Elimination.{IsSmall, IsLone}
+use Rattle.sum_basis.specs.Elimination.{IsLone}
 use Rattle.sum_basis.specs.Sparse.{entry_at, row_of, IsListed, entries_of}
 use Rattle.sum_basis.proofs.SparseRows.{listed_from, listed_to, pivot_entry-row_of, small_values}
 use Rattle.sum_basis.proofs.ListContents.{none}
@@ -32,13 +31,14 @@ returns-then-times-eq0-clause-cleared c =
     let n = c.args.columns in
     let head : FitsSigned w128 c.args.row.now.head = search rules in
     let times : FitsSigned w128 c.value_at-times.result = search rules in
-    let nothing = sym c.value_at-times.ensures ∙ zero_from_bits c.value_at-times.result times c.if-times-eq0.true in
-    (
+    let nothing = sym c.value_at-times.ensures ∙ zero_from_bits c.value_at-times.result times c.if-times-eq0.true in (
       row_of n (entries_of r),
       cleared_as_it_is n r c.args.new.now c.requires.kept c.requires.new c.requires.zero c.requires.primitive (ap (λ l. entry_at l (get_or c.args.new.now 0 none).place) (sym c.deref.ensures.value) ∙ nothing),
-      (c.requires.small,
-      to_z-of_z w128 r.head head ∙ sym (pivot_entry-row_of 0 n (record { place = r.pivot; value = r.head }) r.free.items c.requires.kept.listed),
-      lone_by_length n r.free.len (record { place = r.pivot; value = r.head }) r.free.items c.is_empty.result c.requires.kept.listed r.free.ok.0 c.is_empty.ensures),
+      (
+        c.requires.small,
+        to_z-of_z w128 r.head head ∙ sym (pivot_entry-row_of 0 n (record { place = r.pivot; value = r.head }) r.free.items c.requires.kept.listed),
+        lone_by_length n r.free.len (record { place = r.pivot; value = r.head }) r.free.items c.is_empty.result c.requires.kept.listed r.free.ok.0 c.is_empty.ensures,
+      ),
     )
 
 pub clear_into-head-requires-clause-before : goal.clear_into-head-requires-clause-before
@@ -54,13 +54,14 @@ returns-then-is_small-clause-cleared c =
     let out = c.clear_into-head.new.out in
     let yes = c.is_small.ensures.0 (subst IsTrue (sym c.if-is_small.true) (search rules)) in
     let e : FreeEntry = record { place = c.args.row.now.pivot; value = c.clear_into-head.result } in
-    let listed = c.clear_into-head.ensures.listed in
-    (
+    let listed = c.clear_into-head.ensures.listed in (
       row_of n (e ∷ out.items),
       c.clear_into-head.ensures.cleared,
-      (small_list n e out.items listed (subst (λ (z : ℤ). unsigned_abs z ≤ 2 ^ 56) (to_z-of_z w128 c.clear_into-head.result head) yes.0) (subst (AllByRecursion (λ (f : FreeEntry). unsigned_abs f.value ≤ 2 ^ 56)) c.deref-2.ensures.value yes.1),
-      to_z-of_z w128 c.clear_into-head.result head ∙ sym (pivot_entry-row_of 0 n e out.items listed),
-      lone_by_length n out.len e out.items c.is_empty-then-is_small.result listed out.ok.0 c.is_empty-then-is_small.ensures),
+      (
+        small_list n e out.items listed (subst (λ (z : ℤ). unsigned_abs z ≤ 2 ^ 56) (to_z-of_z w128 c.clear_into-head.result head) yes.0) (subst (AllByRecursion (λ (f : FreeEntry). unsigned_abs f.value ≤ 2 ^ 56)) c.deref-2.ensures.value yes.1),
+        to_z-of_z w128 c.clear_into-head.result head ∙ sym (pivot_entry-row_of 0 n e out.items listed),
+        lone_by_length n out.len e out.items c.is_empty-then-is_small.result listed out.ok.0 c.is_empty-then-is_small.ensures,
+      ),
     )
 
 pub returns-else-is_small-clause-cleared : goal.returns-else-is_small-clause-cleared
@@ -69,8 +70,7 @@ returns-else-is_small-clause-cleared c =
     let n = c.args.columns in
     let out = c.clear_into-head.new.out in
     let e : FreeEntry = record { place = c.args.row.now.pivot; value = c.clear_into-head.result } in
-    let listed = c.clear_into-head.ensures.listed in
-    (
+    let listed = c.clear_into-head.ensures.listed in (
       row_of n (e ∷ out.items),
       c.clear_into-head.ensures.cleared,
       λ small.

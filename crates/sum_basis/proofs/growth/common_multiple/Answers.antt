@@ -1,8 +1,7 @@
-use Rattle.std.proofs.Common.{◌≡◌, ℕ, ℤ, List, [], ◌∷◌, ◌++◌, ◌+◌, ◌<◌, ◌≤◌, ◌^◌, pos, map, get_or, take, length, sym, ap, ◌∙◌, subst, arith, rules}
+use Rattle.std.proofs.Common.{◌≡◌, ℕ, ℤ, List, [], ◌∷◌, ◌+◌, ◌<◌, ◌≤◌, ◌^◌, pos, map, ap, ◌∙◌, subst, arith, rules}
 use Rattle.std.specs.Prelude.{◌<ℤ◌, ◌≤ℤ◌, FitsSigned, unsigned_abs}
 use Rattle.std.specs.Int.{w128}
-use Rattle.std.specs.List.{AllByRecursion}
-use mir.Val.{to_z, of_z}
+use mir.Val.{to_z}
 use Rattle.std.proofs.lemmas.Int.{ints, to_z-of_z}
 use Rattle.audit_types.specs.Form.{IsLeastCommonMultiple}
 use Rattle.sum_basis.specs.declared.sparse.SparseRow.{SparseRow}
@@ -25,7 +24,7 @@ returns-in_err-common c =
     let head : FitsSigned w128 c.row-item.result.head = search rules in
     let both = c.in_err-common.ensures in
     let first = one_more_head c.args.rows.now c.loop-row.row-index c.row-item.result _ both.0 c.loop-row-test.true c.row-item.is c.loop-row.invariant.multiple
-        (subst (λ (z : ℤ). IsLeastCommonMultiple (unsigned_abs (to_z w128 c.loop-row.common-bits) ∷ unsigned_abs z ∷ []) both.0) (to_z-of_z w128 c.row-item.result.head head) both.1) in
+    (subst (λ (z : ℤ). IsLeastCommonMultiple (unsigned_abs (to_z w128 c.loop-row.common-bits) ∷ unsigned_abs z ∷ []) both.0) (to_z-of_z w128 c.row-item.result.head head) both.1) in
     let all = passes_list c.args.rows.now (c.loop-row.row-index + 1) both.0 (2 ^ 56) (heads_positive c.args.rows.now c.requires) first (above (2 ^ 56) both.0 both.2) in
     (all.0, all.1, rw c.from_residual.ensures all.2)
 

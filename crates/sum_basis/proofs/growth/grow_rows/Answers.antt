@@ -1,12 +1,12 @@
-use Rattle.std.proofs.Common.{◌≡◌, ◌≢◌, ℕ, ◌<◌, ◌≤◌, ℤ, List, ◌∷◌, length, take, get_or, sym, ap, ◌∙◌, subst, arith, rules}
-use Rattle.std.specs.Prelude.{insert, FitsSigned}
+use Rattle.std.proofs.Common.{◌≡◌, ◌<◌, ◌≤◌, ℤ, List, ◌∷◌, length, take, get_or, sym, ap, ◌∙◌, subst, arith, rules}
+use Rattle.std.specs.Prelude.{FitsSigned}
 use Rattle.std.specs.Int.{w128}
 use mir.Val.{to_z, of_z}
 use Rattle.std.proofs.lemmas.Int.{to_z-of_z}
 use Rattle.std.specs.List.{AllByRecursion}
 use Rattle.sum_basis.specs.declared.sparse.FreeEntry.{FreeEntry}
 use Rattle.sum_basis.specs.declared.sparse.SparseRow.{SparseRow}
-use Rattle.sum_basis.specs.Sparse.{row_of, rows_of, entries_of, IsKept}
+use Rattle.sum_basis.specs.Sparse.{row_of, rows_of, IsKept}
 use Rattle.sum_basis.specs.Elimination.{AreCleared}
 use Rattle.sum_basis.proofs.Inserting.{all_inserted, without_first, kept_new, inserted_is_reduced}
 use Rattle.sum_basis.proofs.growth.grow_rows.Goals as goal

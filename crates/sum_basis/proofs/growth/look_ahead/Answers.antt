@@ -1,4 +1,4 @@
-use Rattle.std.proofs.Common.{◌≡◌, ◌≢◌, ◌↔◌, ℕ, ◌+◌, ◌<◌, ◌≤◌, ◌^◌, Bool, true, false, ℤ, pos, List, [], ◌∷◌, length, get_or, nat_eq, sym, ap, ◌∙◌, subst, arith, rules, IsTrue}
+use Rattle.std.proofs.Common.{◌≡◌, ℕ, ◌<◌, ◌≤◌, ◌^◌, ℤ, pos, List, [], ◌∷◌, length, get_or, nat_eq, sym, ◌∙◌, subst, arith, rules}
 use Rattle.std.specs.Prelude.{FitsSigned, unsigned_abs, ◌<ℤ◌, ◌≤ℤ◌}
 use Rattle.std.specs.Int.{w128}
 use mir.Val.{to_z, of_z}
@@ -10,8 +10,8 @@ use Rattle.audit_types.specs.Form.{IsPrimitive, IsLeastCommonMultiple, pivot, pi
 use Rattle.sum_basis.specs.declared.sparse.FreeEntry.{FreeEntry}
 use Rattle.sum_basis.specs.declared.sparse.SparseRow.{SparseRow}
 use Rattle.sum_basis.specs.Basis.{Echelon}
-use Rattle.sum_basis.specs.Elimination.{IsSmall, IsCleared, IsLone}
-use Rattle.sum_basis.specs.Sparse.{entry_at, row_of, rows_of, entries_of, IsKept, IsNew}
+use Rattle.sum_basis.specs.Elimination.{IsSmall, IsCleared}
+use Rattle.sum_basis.specs.Sparse.{row_of, rows_of, entries_of, IsKept, IsNew}
 use Rattle.sum_basis.proofs.Sizes.{small_at}
 use Rattle.sum_basis.proofs.LeastMultiples.{size_is}
 use Rattle.sum_basis.proofs.ListContents.{none}
@@ -114,10 +114,11 @@ returns-then-fixing-clause-foresees c =
     let form : Echelon = record { n = n; rows = rows_of n rows } in
     let past : length form.rows ≤ c.loop-row.row-index = let l = length-map rows (λ (x : SparseRow). row_of n (entries_of x)) in omega arith in
     let l = c.loop-row.invariant.looked in
-    let new = row_of n c.args.new.now in
-    (foreseen form new c.requires.form c.requires.new.primitive c.requires.zero c.loop-row.row-index (to_z w128 c.loop-row.common-bits) c.loop-row.fixing past l c.requires.new.small,
-    looked_grows form new c.requires.form c.requires.new.primitive c.requires.zero c.loop-row.row-index (to_z w128 c.loop-row.common-bits) c.loop-row.fixing past l c.requires.new.small,
-    looked_fixing form new c.requires.form c.requires.new.primitive c.requires.zero c.loop-row.row-index (to_z w128 c.loop-row.common-bits) c.loop-row.fixing past l c.requires.new.small c.if-fixing.true)
+    let new = row_of n c.args.new.now in (
+      foreseen form new c.requires.form c.requires.new.primitive c.requires.zero c.loop-row.row-index (to_z w128 c.loop-row.common-bits) c.loop-row.fixing past l c.requires.new.small,
+      looked_grows form new c.requires.form c.requires.new.primitive c.requires.zero c.loop-row.row-index (to_z w128 c.loop-row.common-bits) c.loop-row.fixing past l c.requires.new.small,
+      looked_fixing form new c.requires.form c.requires.new.primitive c.requires.zero c.loop-row.row-index (to_z w128 c.loop-row.common-bits) c.loop-row.fixing past l c.requires.new.small c.if-fixing.true,
+    )
 
 pub returns-else-fixing-clause-foresees : goal.returns-else-fixing-clause-foresees
 returns-else-fixing-clause-foresees c =
@@ -126,7 +127,8 @@ returns-else-fixing-clause-foresees c =
     let form : Echelon = record { n = n; rows = rows_of n rows } in
     let past : length form.rows ≤ c.loop-row.row-index = let l = length-map rows (λ (x : SparseRow). row_of n (entries_of x)) in omega arith in
     let l = c.loop-row.invariant.looked in
-    let new = row_of n c.args.new.now in
-    (foreseen form new c.requires.form c.requires.new.primitive c.requires.zero c.loop-row.row-index (to_z w128 c.loop-row.common-bits) c.loop-row.fixing past l c.requires.new.small,
-    looked_grows form new c.requires.form c.requires.new.primitive c.requires.zero c.loop-row.row-index (to_z w128 c.loop-row.common-bits) c.loop-row.fixing past l c.requires.new.small,
-    looked_open form new c.requires.form c.requires.new.primitive c.requires.zero c.loop-row.row-index (to_z w128 c.loop-row.common-bits) c.loop-row.fixing past l c.requires.new.small (λ t. true≢false (sym t ∙ c.if-fixing.false)))
+    let new = row_of n c.args.new.now in (
+      foreseen form new c.requires.form c.requires.new.primitive c.requires.zero c.loop-row.row-index (to_z w128 c.loop-row.common-bits) c.loop-row.fixing past l c.requires.new.small,
+      looked_grows form new c.requires.form c.requires.new.primitive c.requires.zero c.loop-row.row-index (to_z w128 c.loop-row.common-bits) c.loop-row.fixing past l c.requires.new.small,
+      looked_open form new c.requires.form c.requires.new.primitive c.requires.zero c.loop-row.row-index (to_z w128 c.loop-row.common-bits) c.loop-row.fixing past l c.requires.new.small (λ t. true≢false (sym t ∙ c.if-fixing.false)),
+    )

@@ -1,15 +1,14 @@
-use Rattle.std.proofs.Common.{◌≡◌, ℕ, ◌+◌, ◌<◌, ◌≤◌, Bool, cond, ℤ, List, ◌++◌, [], ◌∷◌, length, drop, sym, ap, ◌∙◌, subst, arith, rules, inl, inr, ◌⊎◌}
+use Rattle.std.proofs.Common.{◌≡◌, ℕ, ◌+◌, ◌<◌, ◌≤◌, cond, ℤ, List, ◌++◌, [], ◌∷◌, length, drop, ap, ◌∙◌, arith, rules, inl, inr, ◌⊎◌}
 use Rattle.std.specs.Prelude.{FitsSigned, ◌-ℤ◌, ◌*ℤ◌}
 use Rattle.std.specs.Int.{w128}
-use Rattle.std.specs.Vec.{vec_len, vec_capacity}
 use mir.Val.{to_z, of_z}
 use Rattle.std.proofs.lemmas.Int.{to_z-of_z}
 use Rattle.audit_types.specs.Truth.{is_zero}
 use Rattle.sum_basis.specs.declared.sparse.FreeEntry.{FreeEntry}
-use Rattle.sum_basis.specs.Sparse.{entry_at, IsListed}
+use Rattle.sum_basis.specs.Sparse.{entry_at}
 use Rattle.sum_basis.specs.Merging.{first_place, first_value}
 use Rattle.sum_basis.proofs.SparseRows.{listed_length, listed_to}
-use Rattle.sum_basis.proofs.Merges.{IsMerging, nothing_merged, out_length, place_inside, place_after, goes_on, one_place_merged, merged_all}
+use Rattle.sum_basis.proofs.Merges.{IsMerging, out_length, place_inside, place_after, goes_on, one_place_merged, merged_all}
 use Rattle.sum_basis.proofs.merging.combine_into.Goals.{After-least-place}
 use Rattle.sum_basis.proofs.merging.combine_into.Goals as goal
 

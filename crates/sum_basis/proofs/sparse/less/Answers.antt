@@ -1,4 +1,3 @@
-use Rattle.std.proofs.Common.{arith}
 use Rattle.sum_basis.proofs.Wide.{less_is}
 use Rattle.sum_basis.proofs.sparse.less.Goals as goal
 

@@ -1,7 +1,6 @@
-use Rattle.std.proofs.Common.{◌≡◌, ◌+◌, ◌<◌, ℕ, cond, ℤ, pos, List, [], ◌∷◌, ◌++◌, length, get_or, sym, ap, ◌∙◌, arith, rules, inl, inr}
+use Rattle.std.proofs.Common.{◌≡◌, ◌+◌, ℕ, cond, ℤ, pos, List, [], ◌∷◌, ◌++◌, get_or, sym, ap, ◌∙◌, arith, rules, inl, inr}
 use Rattle.std.specs.Prelude.{FitsSigned}
 use Rattle.std.specs.Int.{w128}
-use mir.Val.{to_z, of_z}
 use Rattle.std.proofs.lemmas.Int.{to_z-of_z}
 use Rattle.audit_types.specs.Truth.{number_at, is_zero}
 use Rattle.int_rows.proofs.PrimitiveLaws.{zero_or_not, false_if}

@@ -1,4 +1,4 @@
-use Rattle.std.proofs.Common.{◌≡◌, ◌≤◌, length}
+use Rattle.std.proofs.Common.{◌≡◌, length}
 use Rattle.std.specs.Vec.{vec_capacity}
 use Rattle.sum_basis.proofs.Listing.{IsPartlyListed}
 use Rattle.sum_basis.proofs.sparse.list_of.Given as goal

@@ -1,9 +1,8 @@
-use Rattle.std.proofs.Common.{◌≡◌, ◌<◌, ◌+◌, ◌^◌, ℤ, pos, get_or, length, subst, ap, ◌∙◌, arith, rules}
-use Rattle.std.specs.Prelude.{FitsSigned, unsigned_abs, ◌-ℤ◌, ◌*ℤ◌}
+use Rattle.std.proofs.Common.{ℤ, pos, get_or, length, subst, ap, ◌∙◌, arith, rules}
+use Rattle.std.specs.Prelude.{FitsSigned, ◌-ℤ◌, ◌*ℤ◌}
 use Rattle.std.specs.Int.{w128}
 use mir.Val.{to_z, of_z}
 use Rattle.std.proofs.lemmas.Int.{to_z-of_z}
-use Rattle.audit_types.specs.Truth.{number_at}
 use Rattle.sum_basis.proofs.SparseRows.{IsPartlyTaken, stands_within, not_yet_taken, one_entry_taken, all_entries_taken}
 use Rattle.sum_basis.proofs.sparse.subtract.Goals as goal
 

@@ -1,15 +1,13 @@
-use Rattle.std.proofs.Common.{◌≡◌, ◌≤◌, ◌+◌, ◌^◌, refl, ℤ, pos, get_or, length, set, sym, subst, ap, ◌∙◌, arith, rules, length-set, inl, inr}
+use Rattle.std.proofs.Common.{◌≡◌, ◌≤◌, ◌+◌, ◌^◌, refl, ℤ, pos, get_or, length, sym, subst, ap, ◌∙◌, arith, rules, length-set}
 use Rattle.std.specs.Prelude.{FitsSigned, unsigned_abs, ◌*ℤ◌}
 use Rattle.std.specs.Int.{w128}
 use Rattle.std.specs.List.{AllByRecursion}
 use mir.Val.{to_z, of_z}
 use Rattle.std.proofs.lemmas.Int.{to_z-of_z}
-use Rattle.std.proofs.lemmas.Bool.{cases_eq}
 use Rattle.int_rows.proofs.PrimitiveLaws.{zero_from_bits}
 use Rattle.audit_types.specs.Truth.{number_at}
 use Rattle.sum_basis.specs.declared.sparse.FreeEntry.{FreeEntry}
-use Rattle.sum_basis.specs.Sparse.{IsListed, entries_of, row_of}
-use Rattle.sum_basis.specs.Combination.{combine}
+use Rattle.sum_basis.specs.Sparse.{entries_of}
 use Rattle.sum_basis.proofs.Multiples.{factor_small}
 use Rattle.sum_basis.proofs.SparseRows.{small_values, listed_from}
 use Rattle.sum_basis.proofs.SparseMultiples.{less_by_entries, nothing_to_take}

@@ -1,6 +1,5 @@
-use Rattle.std.proofs.Common.{◌≡◌, ℕ, ◌<◌, ℤ, pos, List, length, sym, ap, ◌∙◌, subst}
+use Rattle.std.proofs.Common.{◌≡◌, ℕ, ℤ, pos, List, length, sym, ap, ◌∙◌, subst}
 use Rattle.std.proofs.lemmas.Bool.{eqb-true, eq-eqb}
-use Rattle.audit_types.specs.Truth.{number_at}
 use Rattle.audit_types.specs.Form.{set_row}
 use Rattle.sum_basis.specs.Combination.{times}
 use Rattle.sum_basis.specs.Basis.{Echelon}
@@ -25,8 +24,7 @@ returns c =
     let v = set_row c.args.self.now.n c.args.rows.now.list in
     let is = row_is c.args.rows.now.n c.args.self.now.n c.args.rows.now.list c.write_set.new.row c.write_set.ensures c.requires in
     let all = c.remainder.ensures.remainder in
-    let rest = subst (λ (row : List ℤ). IsRemainder c.args.self.now.rows (times (pos all.0) row) c.remainder.new.row) is (subst (λ (e : Echelon). IsRemainder e.rows (times (pos all.0) c.write_set.new.row) c.remainder.new.row) c.self.view_is all.2) in
-    (
+    let rest = subst (λ (row : List ℤ). IsRemainder c.args.self.now.rows (times (pos all.0) row) c.remainder.new.row) is (subst (λ (e : Echelon). IsRemainder e.rows (times (pos all.0) c.write_set.new.row) c.remainder.new.row) c.self.view_is all.2) in (
       λ yes. in_span c.args.self.now.rows v c.remainder.new.row all.0 all.1 rest (no_pivot c.remainder.new.row (sym c.pivot_of.ensures ∙ eqb-true c.pivot_of.result (length c.remainder.new.row) yes)),
       λ p.
           let small = subst (λ (e : Echelon). IsSmallForm e.n e.rows) c.self.view_is form in

@@ -1,7 +1,7 @@
 use Rattle.std.proofs.Common.{ℤ, List, pos, map, subst}
 use Rattle.sum_basis.specs.Growth.{Grows}
 use Rattle.sum_basis.proofs.SetRows.{bits_small}
-use Rattle.sum_basis.proofs.Exactness.{stands_for_rows, wide_exactly, same_exactly}
+use Rattle.sum_basis.proofs.Exactness.{stands_for_rows, wide_exactly}
 use Rattle.sum_basis.proofs.form.Form.add.Goals as goal
 
 pub join-requires-clause-bits : goal.join-requires-clause-bits

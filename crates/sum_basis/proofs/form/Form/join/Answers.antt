@@ -1,8 +1,7 @@
-use Rattle.std.proofs.Common.{◌≡◌, ◌<◌, ℕ, ℤ, pos, List, map, length, refl, sym, ap, ◌∙◌, subst, arith, rules}
+use Rattle.std.proofs.Common.{pos, List, refl, sym, ap, ◌∙◌, subst, rules}
 use Rattle.std.specs.Prelude.{FitsSigned, unsigned_abs, ◌<ℤ◌, ◌≤◌, ◌^◌}
 use Rattle.std.specs.Int.{w128}
 use Rattle.std.specs.List.{AllByRecursion}
-use mir.Val.{to_z, of_z}
 use Rattle.std.proofs.lemmas.Int.{to_z-of_z}
 use Rattle.audit_types.specs.Form.{IsLeastCommonMultiple}
 use Rattle.sum_basis.specs.declared.sparse.SparseRow.{SparseRow}
@@ -10,7 +9,7 @@ use Rattle.sum_basis.specs.declared.Prospect.{Prospect}
 use Rattle.sum_basis.specs.Basis.{Echelon}
 use Rattle.sum_basis.specs.Growth.{Foresees}
 use Rattle.sum_basis.proofs.LeastMultiples.{heads}
-use Rattle.sum_basis.proofs.Joining.{IsJoined, told, after_growth, grown_to, within_limit, joined_form}
+use Rattle.sum_basis.proofs.Joining.{told, after_growth, grown_to, within_limit, joined_form}
 use Rattle.sum_basis.proofs.form.Form.join.Goals as goal
 
 pub returns-in-Wide-clause-grows : goal.returns-in-Wide-clause-grows

@@ -1,4 +1,4 @@
-use Rattle.std.proofs.Common.{◌≡◌, ℕ, ◌<◌, ◌≤◌, ℤ, pos, List, length, sym, ap, ◌∙◌, subst, arith, rules}
+use Rattle.std.proofs.Common.{◌≡◌, ℕ, ℤ, pos, List, length, sym, ap, ◌∙◌, subst, arith, rules}
 use Rattle.std.specs.Prelude.{FitsSigned, unsigned_abs, ◌*ℤ◌}
 use Rattle.std.specs.Int.{w128, ◌∣◌}
 use Rattle.std.specs.List.{AllByRecursion}
@@ -54,8 +54,7 @@ returns-clause-remainder c =
     let is = is_multiple c.scale.new.row c.args.row.now c.self.inside.common fits c.scale.ensures in
     let n = long c.scale.new.row c.args.row.now c.self.inside.common c.self.inside.columns is (c.requires.length ∙ sym (ap (λ (e : Echelon). e.n) c.self.view_is)) in
     let rows = ap (λ (m : ℕ). rows_of m c.deref.result.now) n ∙ ap (rows_of c.self.inside.columns) c.deref.ensures.value ∙ ap (λ (e : Echelon). e.rows) c.self.view_is in
-    let row = is ∙ ap (λ (z : ℤ). times z c.args.row.now) (size_is c.self.inside.common c.self.invariant.positive) in
-    (
+    let row = is ∙ ap (λ (z : ℤ). times z c.args.row.now) (size_is c.self.inside.common c.self.invariant.positive) in (
       unsigned_abs c.self.inside.common,
       size_positive c.self.inside.common c.self.invariant.positive,
       subst (λ (form : List (List ℤ)). IsRemainder form (times (pos (unsigned_abs c.self.inside.common)) c.args.row.now) c.reduce.new.row) rows

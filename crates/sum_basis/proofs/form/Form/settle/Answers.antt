@@ -1,10 +1,9 @@
-use Rattle.std.proofs.Common.{◌≡◌, ◌≢◌, ℕ, ◌<◌, ◌≤◌, ◌^◌, Bool, true, false, ℤ, pos, List, length, refl, sym, ap, ◌∙◌, subst, arith, IsTrue}
+use Rattle.std.proofs.Common.{◌≡◌, ◌≢◌, ℕ, ◌≤◌, ◌^◌, Bool, true, ℤ, List, length, sym, ◌∙◌, subst, arith, IsTrue}
 use Rattle.std.specs.Prelude.{unsigned_abs}
 use Rattle.std.proofs.lemmas.Bool.{true≢false}
 use Rattle.audit_types.specs.Form.{pivot}
-use Rattle.sum_basis.specs.Elimination.{IsSmall}
 use Rattle.sum_basis.specs.Growth.{IsNewRow}
-use Rattle.sum_basis.specs.Sparse.{row_of, IsListed}
+use Rattle.sum_basis.specs.Sparse.{IsListed}
 use Rattle.sum_basis.proofs.Sizes.{all_by_place}
 use Rattle.sum_basis.proofs.WideForms.{new_too_large}
 use Rattle.sum_basis.proofs.Extending.{nothing_new, new_row, grows_wide}
@@ -36,8 +35,7 @@ returns-clause-left c =
     let list = c.in_ok-list_of.field-0.items in
     let listed = subst (λ (m : ℕ). IsListed 0 m list) long c.in_ok-list_of.ensures.listed in
     let small = c.is_small.ensures.0 (true_of c.is_small.result c.if-not-is_small.false) in
-    let same = listed_row n c.make_primitive.new.row list long listed c.in_ok-list_of.ensures.is in
-    (
+    let same = listed_row n c.make_primitive.new.row list long listed c.in_ok-list_of.ensures.is in (
       is_new_list n c.make_primitive.new.row list long listed c.in_ok-list_of.ensures.is row.primitive small,
       subst (IsNewRow c.args.self.now c.args.row.now) (sym same) row,
       (let room = c.in_ok-list_of.ensures.room in omega arith),
