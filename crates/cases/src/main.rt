@@ -1,0 +1,47 @@
+//! Runs scripts of cases through the program's top call, over files in memory, and prints each difference.
+//!
+//! Standard input names the scripts, a line each. docs/FORMATS.md has their format.
+#![tactic(auto)]
+
+mod content;
+mod outcome;
+mod pieces;
+mod playing;
+mod script;
+mod stage;
+mod stopping;
+mod terminal;
+
+use anyhow::{Context, Result};
+use outcome::Tally;
+use std::fs;
+use std::process::ExitCode;
+use std::rt::Files;
+
+fn main(rt: HostRuntime) -> ExitCode {
+    match run_listed(&rt) {
+        Ok(tally) if tally.failed == 0 && tally.passed > 0 => ExitCode::SUCCESS,
+        Ok(_) => ExitCode::FAILURE,
+        Err(error) => {
+            let _ = eprintln!(rt; "{error:#}");
+            ExitCode::from(2)
+        }
+    }
+}
+
+// Runs the scripts that standard input names, and prints how many cases passed.
+fn run_listed<R: Files + Input + Print + AllocGlobal>(rt: &R) -> Result<Tally> {
+    let mut tally = Tally::default();
+    for line in rt.lines(rt.alloc()) {
+        let path = line?;
+        run_script(rt, path.as_str(), &mut tally).context(format_args!("{path}"))?;
+    }
+    println!(rt; "{tally}")?;
+    Ok(tally)
+}
+
+fn run_script<R: Files + Print + AllocGlobal>(rt: &R, path: &str, tally: &mut Tally) -> Result<()> {
+    let text = fs::read_to_string(rt, path)?;
+    let script = toml::from_str(rt.alloc(), text.as_str())?;
+    playing::play(rt, path, &script, tally)
+}

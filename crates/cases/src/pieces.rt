@@ -1,0 +1,114 @@
+//! A source in memory of pieces that are given many times each, for inputs that are longer than memory should hold.
+ghost use Rattle.std.specs.Prelude.{◌≡◌, ◌≤◌, [], length, IfOk};
+ghost use Rattle.bench_core.specs.Causes.{HasCause};
+
+use bench_core::{Failed, Source};
+use std::alloc::{AllocError, Global};
+
+/// Bytes, so many times one after another.
+#[derive(Drop)]
+pub struct Piece {
+    pub bytes: Vec<u8>,
+    pub times: u64,
+}
+
+/// All the bytes, one piece after another.
+pub fn whole(alloc: Global, pieces: &Vec<Piece>) -> Result<Vec<u8>, AllocError> {
+    let mut bytes = Vec::new(alloc);
+    for piece in pieces {
+        for _ in 0..piece.times {
+            bytes.extend_from_slice(&piece.bytes)?;
+        }
+    }
+    Ok(bytes)
+}
+
+/// Gives its pieces in order, at most so many bytes at a read. The call of one number, from 0, fails.
+#[derive(Drop)]
+pub struct Pieces {
+    pieces: Vec<Piece>,
+    // The place of the piece that is given, how often it was given, and how many of its bytes since then.
+    place: usize,
+    given: u64,
+    from: usize,
+    most: usize,
+    failing: Option<u64>,
+    calls: u64,
+    faults: u64,
+}
+
+impl Pieces {
+    pub fn new(mut pieces: Vec<Piece>, most: usize, failing: Option<u64>) -> Self {
+        pieces.retain(|piece| piece.times > 0 && !piece.bytes.is_empty());
+        Pieces {
+            pieces,
+            place: 0,
+            given: 0,
+            from: 0,
+            most,
+            failing,
+            calls: 0,
+            faults: 0,
+        }
+    }
+
+    // Gives bytes of one piece, and none only at the end.
+    fn give_some(&mut self, buf: &mut [u8]) -> usize
+        ensures within { result ≤ length buf.new }
+        ensures faults { self.new.faults ≡ self.old.faults }
+    {
+        let Some(piece) = self.pieces.get(self.place) else {
+            return 0;
+        };
+        let Some(rest) = piece.bytes.get(self.from..) else {
+            return 0;
+        };
+        let count = rest.len().min(buf.len());
+        buf[..count].copy_from_slice(&rest[..count]);
+        if count < rest.len() {
+            self.from += count;
+            return count;
+        }
+        self.from = 0;
+        self.given = self.given.saturating_add(1);
+        if self.given >= piece.times {
+            self.given = 0;
+            self.place = self.place.saturating_add(1);
+        }
+        count
+    }
+
+    // Gives bytes until the buffer is full or the pieces end.
+    fn give(&mut self, buf: &mut [u8]) -> usize
+        ensures within { result ≤ length buf.new }
+        ensures faults { self.new.faults ≡ self.old.faults }
+    {
+        let mut count = 0;
+        while count < buf.len() {
+            match self.give_some(&mut buf[count..]) {
+                0 => break,
+                more => count += more,
+            }
+        }
+        count
+    }
+}
+
+impl Source for Pieces {
+    ghost told = { ⊥ };
+
+    ghost left = { λ _. [] };
+
+    ghost faults = { λ s. s.faults };
+
+    fn read(&mut self, buf: &mut [u8]) -> Result<usize, Failed> {
+        let call = self.calls;
+        self.calls = call.saturating_add(1);
+        if self.failing == Some(call) {
+            self.faults = self.faults.saturating_add(1);
+            return Err(Failed);
+        }
+        let most = self.most.min(buf.len());
+        Ok(self.give(&mut buf[..most]))
+    }
+}

@@ -1,0 +1,49 @@
+//! What a terminal shows: the lines that are typed, each after `> `, and the replies between them.
+use crate::pieces::Piece;
+use std::alloc::{AllocError, Global};
+
+/// What is typed, and what is shown in reply.
+#[derive(Drop)]
+pub struct Terminal {
+    pub typed: Vec<u8>,
+    pub shown: Vec<u8>,
+}
+
+impl Terminal {
+    pub fn read(alloc: Global, screen: &str) -> Result<Self, AllocError> {
+        let mut terminal = Terminal {
+            typed: Vec::new(alloc),
+            shown: Vec::new(alloc),
+        };
+        for line in screen.lines() {
+            match typed_line(line) {
+                Some(typed) => add_line(&mut terminal.typed, typed)?,
+                None => add_line(&mut terminal.shown, line)?,
+            }
+        }
+        Ok(terminal)
+    }
+
+    /// What is typed, as one piece.
+    pub fn pieces(&self, alloc: Global) -> Result<Vec<Piece>, AllocError> {
+        let typed = Piece {
+            bytes: self.typed.clone()?,
+            times: 1,
+        };
+        Ok(vec![in alloc; typed]?)
+    }
+}
+
+// A lone `>` is an empty line.
+fn typed_line(line: &str) -> Option<&str> {
+    if line == ">" {
+        return Some("");
+    }
+    line.strip_prefix("> ")
+}
+
+fn add_line(lines: &mut Vec<u8>, line: &str) -> Result<(), AllocError> {
+    lines.extend_from_slice(line.as_bytes())?;
+    lines.push(b'\n')?;
+    Ok(())
+}
