@@ -12,5 +12,3 @@ mod set;
 pub use group::{Group, GroupFault, read_group, write_group};
 pub use header::{read_header, write_header};
 
-#[cfg(test)]
-mod tests;

@@ -14,8 +14,6 @@ mod reading;
 mod reply;
 mod reply_reading;
 mod request;
-#[cfg(test)]
-mod tests;
 
 pub use lines::{LineStop, Lines, Next};
 pub use question::Take;

@@ -216,6 +216,3 @@ fn feed_at(bytes: &[u8]) -> Option<usize>
 {
     bytes.iter().position(|b| *b == b'\n')
 }
-
-#[cfg(test)]
-mod tests;

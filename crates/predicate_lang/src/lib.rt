@@ -11,8 +11,6 @@ mod laws;
 mod lexing;
 mod printing;
 mod reading;
-#[cfg(test)]
-mod tests;
 mod tokens;
 mod trees;
 

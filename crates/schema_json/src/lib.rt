@@ -10,8 +10,6 @@ mod names;
 mod reading;
 mod roles;
 mod schemas;
-#[cfg(test)]
-mod tests;
 
 pub use faults::SchemaFault;
 pub use reading::read_schema;

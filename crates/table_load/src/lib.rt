@@ -14,8 +14,6 @@ mod publics;
 mod reading;
 mod records;
 mod secrets;
-#[cfg(test)]
-mod tests;
 mod truth;
 
 pub use faults::TableFault;

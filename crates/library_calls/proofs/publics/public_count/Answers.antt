@@ -1,9 +1,10 @@
+-- A column more is counted where it is public.
 use Rattle.std.proofs.Common.{◌<◌, ℕ, cond, sym, ap, ◌∙◌, arith, length}
 use Rattle.std.proofs.lemmas.Bool.{not-false, not-true}
 use Rattle.schema_json.specs.Columns.{is_public}
 use Rattle.table_load.proofs.SchemaFits.{count_from}
-use Rattle.table_load.proofs.tests.public_count.Goals.{then-not-is_secret, else-not-is_secret}
-use Rattle.table_load.proofs.tests.public_count.Goals as goal
+use Rattle.library_calls.proofs.publics.public_count.Goals.{then-not-is_secret, else-not-is_secret}
+use Rattle.library_calls.proofs.publics.public_count.Goals as goal
 
 pub loop-place-preserved : goal.loop-place-preserved
 loop-place-preserved c =

@@ -1,3 +1,4 @@
+-- A column whose role has numbers has no texts.
 use Rattle.std.proofs.Common.{◌≡◌, ◌≢◌, ◌<◌, true, List, sym, ap, ◌∙◌, arith, length, subst}
 use Rattle.std.specs.List.{AllByRecursion}
 use Rattle.std.proofs.lemmas.Bool.{false≢true}
@@ -6,7 +7,7 @@ use Rattle.schema_json.specs.Columns.{Column}
 use Rattle.schema_json.specs.declared.roles.Role.TheVariants.{Text}
 use Rattle.table_load.specs.Reading.{has_numbers}
 use Rattle.table_load.proofs.SchemaPlaces.{here, role_is}
-use Rattle.table_load.proofs.tests.has_no_texts.Goals as goal
+use Rattle.library_calls.proofs.publics.has_no_texts.Goals as goal
 
 pub loop-place-preserved : goal.loop-place-preserved
 loop-place-preserved c = λ later.

@@ -1,6 +1,7 @@
+-- The public columns that are counted, and those from this place on, are all.
 use Rattle.std.proofs.Common.{◌≡◌, ◌≤◌, ◌+◌, drop}
 use Rattle.table_load.specs.Cells.{public_count}
-use Rattle.table_load.proofs.tests.public_count.Given as goal
+use Rattle.library_calls.proofs.publics.public_count.Given as goal
 
 abbrev pub invariant-loop-place : goal.invariant-loop-place
 invariant-loop-place l = record {
