@@ -42,8 +42,8 @@ module _ (value : ℕ → Ordering) (order : List ℕ) where
   abbrev EndsAt : (Ordering → Bool) → ℕ → Type 0
   EndsAt test at = IsPartitionPoint (λ r. test (value r) ≡ true) (λ r. test (value r) ≡ false) order at
 
-  pub equal_range : (below within : ℕ) → below ≤ within → within ≤ length order → EndsAt is_lt below → EndsAt is_le within → IsRange (λ r. is_eq (value r)) order below within
-  equal_range below within le inside less up = record {
+  equal_between : (below within : ℕ) → below ≤ within → within ≤ length order → EndsAt is_lt below → EndsAt is_le within → IsRange (λ r. is_eq (value r)) order below within
+  equal_between below within le inside less up = record {
     before = λ k d low high. less-eq _ (less.0 k d low high);
     inside = λ k d low high. between-eq _ (less.1 k d low (omega arith)) (up.0 k d (omega arith) high);
     after = λ k d low high. greater-eq _ (up.1 k d low high);
@@ -75,3 +75,6 @@ module _ (value : ℕ → Ordering) (order : List ℕ) where
     | inl low ↦ absurd (true≢false (sym (less-le _ (less.0 within 0 (omega arith) low)) ∙ up.1 within 0 (omega arith) (omega arith)))
     | inr high ↦ high
   ]
+
+  pub equal_range : (below within : ℕ) → below ≤ length order → within ≤ length order → EndsAt is_lt below → EndsAt is_le within → IsRange (λ r. is_eq (value r)) order below within
+  equal_range below within inside up_inside less up = equal_between below within (ends_ascend below within inside up_inside less up) up_inside less up

@@ -99,6 +99,30 @@ first_more n order from to le =
     rows_that_agree (λ r. has_row (first_rows n order from) r || has_row (part order from to) r) (has_row (take to order)) n (λ r low.
     ap (λ b. b || has_row (part order from to) r) (has-rows_that (has_row (take from order)) n r low) ∙ sym (has-take order from to r le))
 
+-- where the rows that pass are the first ones
+pub range_first : (n : ℕ) (order : List ℕ) (to : ℕ) (test : ℕ → Bool) → IsPermutation (rows_that (λ q. true) n) order → IsRange test order 0 to → first_rows n order to ≡ rows_that test n
+range_first n order to test once range =
+    sym (first_more n order 0 to (omega arith)) ∙ ap (λ xs. union n xs (part order 0 to)) (first_none n order) ∙ range_walked n order 0 to test once (omega arith) range
+
+rest_passes : (test : ℕ → Bool) (order : List ℕ) (from r : ℕ) → IsRange test order from (length order) → has_row (drop from order) r ≡ true → test r ≡ true
+rest_passes test order from r range =
+    alike test true (drop from order) r (λ k h.
+    ap test (get_or-drop from order k 0) ∙ range.inside (from + k) 0 (omega arith) (omega (arith, length-drop from order)))
+
+rest_row : (t front back : Bool) → (front || back) ≡ true → (front ≡ true → t ≡ false) → (back ≡ true → t ≡ true) → not front ≡ t
+rest_row t true back one f b = sym (f refl)
+rest_row t false true one f b = sym (b refl)
+rest_row t false false one f b = absurd (false≢true one)
+
+-- and where they are all but the first ones
+pub range_rest : (n : ℕ) (order : List ℕ) (from : ℕ) (test : ℕ → Bool) → IsPermutation (rows_that (λ q. true) n) order → IsRange test order from (length order) → complement n (first_rows n order from) ≡ rows_that test n
+range_rest n order from test once range =
+    complement_of n (has_row (take from order))
+    ∙ rows_that_agree (λ r. not (has_row (take from order) r)) test n (λ r low.
+    rest_row (test r) (has_row (take from order) r) (has_row (drop from order) r)
+    (sym (has-order order from r) ∙ sym (list_any-IsPermutation (λ x. x == r) (rows_that (λ q. true) n) order once) ∙ has-rows_that (λ q. true) n r low)
+    (before_fails test order from (length order) r range) (rest_passes test order from r range))
+
 same_row : (a b : ℕ) → (a == b) ≡ (b == a)
 same_row a b = grind (arith, nat_tests)
 

@@ -4,7 +4,7 @@ ghost use Rattle.table_load.specs.Cells.{cells_at, numbers, texts, HasNumbers, H
 ghost use Rattle.predicate_lang.specs.Trees.{tree_of};
 ghost use Rattle.predicate_lang.specs.declared.trees.Literal.TheVariants.{Number, Text};
 ghost use Rattle.set_index.specs.Asked.{meaning, meets, meets_any, fits_public, is_kept, are_kept};
-ghost use Rattle.set_index.specs.Ranges.{is_equality};
+ghost use Rattle.predicate_lang.specs.declared.trees.Op.TheVariants.{Eq};
 
 use crate::index::Index;
 use crate::values::{below_number, below_text, within_number, within_text};
@@ -81,6 +81,21 @@ fn rows_where(index: &Index, column: u8, op: Op, literal: &Literal) -> RowSet
     }
 }
 
+// The rows with this number.
+fn numbers_equal(index: &Index, column: u8, number: i64) -> RowSet
+    requires { HasNumbers (cells_at index.now column) }
+    ensures n { result.n ≡ index.now.rows }
+    ensures rows { result.list ≡ meets index.now column Eq (Number number) }
+{
+    let list = numbers_of(index.public(), column);
+    let sorted = index.sorted(column);
+    let order = sorted.order();
+    let below = below_number(order, list, number);
+    let within = within_number(order, list, number);
+    sorted.range(below, within)
+}
+
+// The rows that compare so with a number. Those on one side of it need one search alone.
 fn numbers_where(index: &Index, column: u8, op: Op, number: i64) -> RowSet
     requires { HasNumbers (cells_at index.now column) }
     ensures n { result.n ≡ index.now.rows }
@@ -88,38 +103,51 @@ fn numbers_where(index: &Index, column: u8, op: Op, number: i64) -> RowSet
 {
     let list = numbers_of(index.public(), column);
     let sorted = index.sorted(column);
-    let below = below_number(sorted.order(), list, number);
-    let within = within_number(sorted.order(), list, number);
-    sorted.compared(op, below, within)
-}
-
-// Whether it asks for what is equal or for what isn't. Texts have no order.
-fn is_equality(op: Op) -> bool
-    ensures { result ≡ is_equality op }
-{
+    let order = sorted.order();
     match op {
-        Op::Eq => true,
-        Op::Ne => true,
-        Op::Lt => false,
-        Op::Le => false,
-        Op::Gt => false,
-        Op::Ge => false,
+        Op::Eq => numbers_equal(index, column, number),
+        Op::Ne => {
+            let mut rows = numbers_equal(index, column, number);
+            rows.flip();
+            rows
+        }
+        Op::Lt => sorted.range(0, below_number(order, list, number)),
+        Op::Le => sorted.range(0, within_number(order, list, number)),
+        Op::Gt => sorted.range(within_number(order, list, number), order.len()),
+        Op::Ge => sorted.range(below_number(order, list, number), order.len()),
     }
 }
 
+// The rows with this text.
+fn texts_equal(index: &Index, column: u8, text: &[u8]) -> RowSet
+    requires { HasTexts (cells_at index.now column) }
+    ensures n { result.n ≡ index.now.rows }
+    ensures rows { result.list ≡ meets index.now column Eq (Text text.now) }
+{
+    let list = texts_of(index.public(), column);
+    let sorted = index.sorted(column);
+    let order = sorted.order();
+    let below = below_text(order, list, text);
+    let within = within_text(order, list, text);
+    sorted.range(below, within)
+}
+
+// Texts have no order.
+#[tactic(auto, using(crate::proofs::Meets::meets_none))]
 fn texts_where(index: &Index, column: u8, op: Op, text: &[u8]) -> RowSet
     requires { HasTexts (cells_at index.now column) }
     ensures n { result.n ≡ index.now.rows }
     ensures rows { result.list ≡ meets index.now column op (Text text.now) }
 {
-    if !is_equality(op) {
-        return RowSet::new(index.public().rows());
+    match op {
+        Op::Eq => texts_equal(index, column, text),
+        Op::Ne => {
+            let mut rows = texts_equal(index, column, text);
+            rows.flip();
+            rows
+        }
+        Op::Lt | Op::Le | Op::Gt | Op::Ge => RowSet::new(index.public().rows()),
     }
-    let list = texts_of(index.public(), column);
-    let sorted = index.sorted(column);
-    let below = below_text(sorted.order(), list, text);
-    let within = within_text(sorted.order(), list, text);
-    sorted.compared(op, below, within)
 }
 
 fn rows_within(index: &Index, column: u8, literals: &[Literal]) -> RowSet

@@ -1,16 +1,13 @@
 //! The rows of a column in ascending order of value, with the sets of the first of them.
-ghost use Rattle.std.specs.Prelude.{◌≡◌, ℕ, ◌<◌, ◌≤◌, Bool, true, false, length, IfOk};
+ghost use Rattle.std.specs.Prelude.{◌≡◌, ℕ, ◌<◌, ◌≤◌, Bool, true, length, IfOk};
 ghost use Rattle.std.specs.List.{All};
-ghost use Rattle.std.specs.List.Sorted.{IsPermutation, IsPartitionPoint};
-ghost use Rattle.std.specs.Ordering.{is_le, is_lt};
-ghost use Rattle.std.specs.declared.cmp.Ordering.{Ordering};
+ghost use Rattle.std.specs.List.Sorted.{IsPermutation};
 ghost use Rattle.audit_types.specs.Limits.{most_rows};
 ghost use Rattle.audit_types.specs.Rows.{AreRows, rows_that, union};
 ghost use Rattle.set_index.specs.Marks.{first_rows};
-ghost use Rattle.set_index.specs.Ranges.{IsRange, answers};
+ghost use Rattle.set_index.specs.Ranges.{IsRange};
 
 use audit_types::{NoMemory, RowSet};
-use predicate_lang::Op;
 use std::alloc::Global;
 use std::marker::Model;
 
@@ -88,13 +85,17 @@ impl Sorted {
         rows
     }
 
-    // The rows from one place of the order up to another, where these are the rows that pass a test.
-    fn range(&self, from: usize, to: usize) -> RowSet
+    /// The rows from one place of the order up to another, where these are the rows that pass a test.
+    pub(crate) fn range(&self, from: usize, to: usize) -> RowSet
         requires ascends { from ≤ to }
         requires within { to ≤ length self.now.order }
         ensures n { result.n ≡ self.now.rows }
         ensures rows { (test : ℕ → Bool) → IsRange test self.now.order from to → result.list ≡ rows_that test self.now.rows }
     {
+        let end = self.order.len();
+        if from == 0 {
+            return self.first(to);
+        }
         if to - from < STEP {
             let mut rows = RowSet::new(self.rows);
             add_rows(&mut rows, &self.order[from..to]);
@@ -102,31 +103,10 @@ impl Sorted {
         }
         let mut rows = self.first(from);
         rows.flip();
+        if to == end {
+            return rows;
+        }
         rows.and_with(&self.first(to));
         rows
-    }
-
-    /// The rows that compare so with a value, where those below it end at a place of the order, and those up to it at
-    /// another.
-    pub(crate) fn compared(&self, op: Op, below: usize, within: usize) -> RowSet
-        requires ascends { below ≤ within }
-        requires within { within ≤ length self.now.order }
-        ensures n { result.n ≡ self.now.rows }
-        ensures rows { (value : ℕ → Ordering) → IsPartitionPoint (λ r. is_lt (value r) ≡ true) (λ r. is_lt (value r) ≡ false) self.now.order below
-            → IsPartitionPoint (λ r. is_le (value r) ≡ true) (λ r. is_le (value r) ≡ false) self.now.order within
-            → result.list ≡ rows_that (λ r. answers op (value r)) self.now.rows }
-    {
-        match op {
-            Op::Eq => self.range(below, within),
-            Op::Ne => {
-                let mut rows = self.range(below, within);
-                rows.flip();
-                rows
-            }
-            Op::Lt => self.range(0, below),
-            Op::Le => self.range(0, within),
-            Op::Gt => self.range(within, self.order.len()),
-            Op::Ge => self.range(below, self.order.len()),
-        }
     }
 }

@@ -1,15 +1,47 @@
-use Rattle.std.proofs.Common.{◌≡◌, true, false, pos, slice_index_or, sym, ap, subst, ◌∙◌, rules, to_z, of_z, w64}
-use Rattle.std.specs.List.Sorted.{IsPartitionPoint}
+use Rattle.std.proofs.Common.{◌≡◌, length, pos, slice_index_or, sym, ap, ◌∙◌, rules, to_z, of_z, w64}
 use Rattle.std.specs.Ordering.{int_cmp, is_le, is_lt}
+use Rattle.predicate_lang.specs.declared.trees.Literal.TheVariants.{Number}
+use Rattle.predicate_lang.specs.declared.trees.Op.TheVariants.{Lt, Le, Gt, Ge}
 use Rattle.table_load.specs.Cells.{PublicView, cells_at}
-use Rattle.set_index.proofs.Meets.{meets-numbers}
+use Rattle.set_index.specs.Asked.{meets}
+use Rattle.set_index.proofs.Compared.{at_least_range, first_range, greater_range}
+use Rattle.set_index.proofs.Meets.{numbers_found, numbers_unequal}
 use Rattle.set_index.proofs.asking.numbers_where.Goals as goal
 
-pub returns-clause-rows : goal.returns-clause-rows
-returns-clause-rows c =
+pub returns-in-Ne-clause-rows : goal.returns-in-Ne-clause-rows
+returns-in-Ne-clause-rows c =
     let back : to_z w64 (of_z w64 c.args.number) ≡ c.args.number = search rules in
-    let less = subst (λ xs. IsPartitionPoint (λ r. is_lt (int_cmp (slice_index_or c.numbers_of-list.result.now r (pos 0)) c.args.number) ≡ true) (λ r. is_lt (int_cmp (slice_index_or c.numbers_of-list.result.now r (pos 0)) c.args.number) ≡ false) xs c.below_number-below.result) c.order.ensures.order (rw back at c.below_number-below.ensures.point) in
-    let up = subst (λ xs. IsPartitionPoint (λ r. is_le (int_cmp (slice_index_or c.numbers_of-list.result.now r (pos 0)) c.args.number) ≡ true) (λ r. is_le (int_cmp (slice_index_or c.numbers_of-list.result.now r (pos 0)) c.args.number) ≡ false) xs c.within_number-within.result) c.order-2.ensures.order (rw back at c.within_number-within.ensures.point) in
-    meets-numbers c.args.index.now c.args.column c.sorted-sorted.result.now.rows c.args.op c.args.number c.numbers_of-list.result.now c.compared.result.list
-    (ap (λ (p : PublicView). cells_at p c.args.column) (sym c.public.ensures) ∙ c.numbers_of-list.ensures) c.sorted-sorted.ensures.rows
-    (c.compared.ensures.rows (λ r. int_cmp (slice_index_or c.numbers_of-list.result.now r (pos 0)) c.args.number) less up)
+    numbers_unequal c.args.index.now c.args.column _ c.args.number _ _ (rw back at c.numbers_equal-rows.ensures.rows) c.numbers_equal-rows.ensures.n c.flip.ensures.others
+    ∙ ap (λ o. meets c.args.index.now c.args.column o (Number c.args.number)) (sym c.in-Ne.is)
+
+pub returns-in-Lt-clause-rows : goal.returns-in-Lt-clause-rows
+returns-in-Lt-clause-rows c =
+    let back : to_z w64 (of_z w64 c.args.number) ≡ c.args.number = search rules in
+    numbers_found c.args.index.now c.args.column _ Lt c.args.number c.numbers_of-list.result.now c.order-order.result.now c.sorted-sorted.result.now.order _ 0 c.below_number.result
+    (ap (λ (p : PublicView). cells_at p c.args.column) (sym c.public.ensures) ∙ c.numbers_of-list.ensures) c.sorted-sorted.ensures.rows c.order-order.ensures.order
+    (first_range (λ r. int_cmp (slice_index_or c.numbers_of-list.result.now r (pos 0)) c.args.number) c.order-order.result.now is_lt _ (rw back at c.below_number.ensures.point)) c.range.ensures.rows
+    ∙ ap (λ o. meets c.args.index.now c.args.column o (Number c.args.number)) (sym c.in-Lt.is)
+
+pub returns-in-Le-clause-rows : goal.returns-in-Le-clause-rows
+returns-in-Le-clause-rows c =
+    let back : to_z w64 (of_z w64 c.args.number) ≡ c.args.number = search rules in
+    numbers_found c.args.index.now c.args.column _ Le c.args.number c.numbers_of-list.result.now c.order-order.result.now c.sorted-sorted.result.now.order _ 0 c.within_number.result
+    (ap (λ (p : PublicView). cells_at p c.args.column) (sym c.public.ensures) ∙ c.numbers_of-list.ensures) c.sorted-sorted.ensures.rows c.order-order.ensures.order
+    (first_range (λ r. int_cmp (slice_index_or c.numbers_of-list.result.now r (pos 0)) c.args.number) c.order-order.result.now is_le _ (rw back at c.within_number.ensures.point)) c.range-in-Le.ensures.rows
+    ∙ ap (λ o. meets c.args.index.now c.args.column o (Number c.args.number)) (sym c.in-Le.is)
+
+pub returns-in-Gt-clause-rows : goal.returns-in-Gt-clause-rows
+returns-in-Gt-clause-rows c =
+    let back : to_z w64 (of_z w64 c.args.number) ≡ c.args.number = search rules in
+    numbers_found c.args.index.now c.args.column _ Gt c.args.number c.numbers_of-list.result.now c.order-order.result.now c.sorted-sorted.result.now.order _ c.within_number-in-Gt.result (length c.order-order.result.now)
+    (ap (λ (p : PublicView). cells_at p c.args.column) (sym c.public.ensures) ∙ c.numbers_of-list.ensures) c.sorted-sorted.ensures.rows c.order-order.ensures.order
+    (greater_range (λ r. int_cmp (slice_index_or c.numbers_of-list.result.now r (pos 0)) c.args.number) c.order-order.result.now _ (rw back at c.within_number-in-Gt.ensures.point)) c.range-in-Gt.ensures.rows
+    ∙ ap (λ o. meets c.args.index.now c.args.column o (Number c.args.number)) (sym c.in-Gt.is)
+
+pub returns-in-Ge-clause-rows : goal.returns-in-Ge-clause-rows
+returns-in-Ge-clause-rows c =
+    let back : to_z w64 (of_z w64 c.args.number) ≡ c.args.number = search rules in
+    numbers_found c.args.index.now c.args.column _ Ge c.args.number c.numbers_of-list.result.now c.order-order.result.now c.sorted-sorted.result.now.order _ c.below_number-in-Ge.result (length c.order-order.result.now)
+    (ap (λ (p : PublicView). cells_at p c.args.column) (sym c.public.ensures) ∙ c.numbers_of-list.ensures) c.sorted-sorted.ensures.rows c.order-order.ensures.order
+    (at_least_range (λ r. int_cmp (slice_index_or c.numbers_of-list.result.now r (pos 0)) c.args.number) c.order-order.result.now _ (rw back at c.below_number-in-Ge.ensures.point)) c.range-in-Ge.ensures.rows
+    ∙ ap (λ o. meets c.args.index.now c.args.column o (Number c.args.number)) (sym c.in-Ge.is)

@@ -1,8 +1,8 @@
-use Rattle.std.proofs.Common.{◌<◌, All, IsPermutation, [], true, sym, ap, subst, ◌∙◌}
+use Rattle.std.proofs.Common.{◌≡◌, ◌<◌, All, IsPermutation, [], true, length, sym, ap, subst, ◌∙◌, arith}
 use Rattle.audit_types.specs.Rows.{complement, intersection, rows_that, union}
 use Rattle.set_index.specs.Marks.{SortedView, first_rows}
 use Rattle.set_index.specs.Ranges.{IsRange}
-use Rattle.set_index.proofs.Ranges.{part, part_below, range_walked, range_left}
+use Rattle.set_index.proofs.Ranges.{part, part_below, range_first, range_left, range_rest, range_walked}
 use Rattle.set_index.proofs.sorted.Sorted.range.Goals as goal
 
 pub add_rows-requires-clause-below : goal.add_rows-requires-clause-below
@@ -20,11 +20,27 @@ returns-then-to-from-lt-STEP-clause-rows c test range =
     ∙ range_walked c.self.inside.rows c.self.inside.order.items c.args.from c.args.to test c.self.invariant.each_once c.requires.ascends inside
     ∙ ap (λ (v : SortedView). rows_that test v.rows) c.self.view_is
 
+pub returns-then-from-eq0-clause-rows : goal.returns-then-from-eq0-clause-rows
+returns-then-from-eq0-clause-rows c test range =
+    let once : IsPermutation (rows_that (λ r. true) c.args.self.now.rows) c.args.self.now.order = subst (λ (v : SortedView). IsPermutation (rows_that (λ r. true) v.rows) v.order) c.self.view_is c.self.invariant.each_once in
+    c.first.ensures.rows
+    ∙ range_first c.args.self.now.rows c.args.self.now.order c.args.to test once (subst (λ from. IsRange test c.args.self.now.order from c.args.to) c.if-from-eq0.true range)
+
+pub returns-then-to-end-clause-rows : goal.returns-then-to-end-clause-rows
+returns-then-to-end-clause-rows c test range =
+    let once : IsPermutation (rows_that (λ r. true) c.args.self.now.rows) c.args.self.now.order = subst (λ (v : SortedView). IsPermutation (rows_that (λ r. true) v.rows) v.order) c.self.view_is c.self.invariant.each_once in
+    let all : c.len-end.result ≡ length c.self.inside.order.items = omega (arith, c.len-end.ensures) in
+    let last : c.args.to ≡ length c.args.self.now.order = c.if-to-end.true ∙ all ∙ ap (λ (v : SortedView). length v.order) c.self.view_is in
+    c.flip.ensures.others
+    ∙ ap (λ n. complement n c.first-rows.result.list) c.first-rows.ensures.n
+    ∙ ap (complement c.args.self.now.rows) c.first-rows.ensures.rows
+    ∙ range_rest c.args.self.now.rows c.args.self.now.order c.args.from test once (subst (IsRange test c.args.self.now.order c.args.from) last range)
+
 pub returns-clause-rows : goal.returns-clause-rows
 returns-clause-rows c test range =
     let once : IsPermutation (rows_that (λ r. true) c.args.self.now.rows) c.args.self.now.order = subst (λ (v : SortedView). IsPermutation (rows_that (λ r. true) v.rows) v.order) c.self.view_is c.self.invariant.each_once in
     c.and_with.ensures.both
-    ∙ ap (λ n. intersection n c.flip.new.self.list c.first.result.list) (c.flip.ensures.n ∙ c.first-rows.ensures.n)
-    ∙ ap (λ xs. intersection c.args.self.now.rows xs c.first.result.list) (c.flip.ensures.others ∙ ap (λ n. complement n c.first-rows.result.list) c.first-rows.ensures.n ∙ ap (complement c.args.self.now.rows) c.first-rows.ensures.rows)
-    ∙ ap (intersection c.args.self.now.rows (complement c.args.self.now.rows (first_rows c.args.self.now.rows c.args.self.now.order c.args.from))) c.first.ensures.rows
+    ∙ ap (λ n. intersection n c.flip.new.self.list c.first-2.result.list) (c.flip.ensures.n ∙ c.first-rows.ensures.n)
+    ∙ ap (λ xs. intersection c.args.self.now.rows xs c.first-2.result.list) (c.flip.ensures.others ∙ ap (λ n. complement n c.first-rows.result.list) c.first-rows.ensures.n ∙ ap (complement c.args.self.now.rows) c.first-rows.ensures.rows)
+    ∙ ap (intersection c.args.self.now.rows (complement c.args.self.now.rows (first_rows c.args.self.now.rows c.args.self.now.order c.args.from))) c.first-2.ensures.rows
     ∙ range_left c.args.self.now.rows c.args.self.now.order c.args.from c.args.to test once c.requires.ascends range
