@@ -11,4 +11,3 @@ mod set;
 
 pub use group::{Group, GroupFault, read_group, write_group};
 pub use header::{read_header, write_header};
-

@@ -3,8 +3,7 @@ use predicate_lang::{print_where, read_where};
 use schema_json::{Schema, read_schema};
 use std::alloc::Global;
 
-const STAFF: &[u8] =
-    br#"{"columns":[{"name":"dept","is":"text"},{"name":"age","is":"number"}]}"#;
+const STAFF: &[u8] = br#"{"columns":[{"name":"dept","is":"text"},{"name":"age","is":"number"}]}"#;
 
 // Whether a condition is read, and printed as this text.
 fn prints(alloc: Global, schema: &Schema, text: &str, printed: &str) -> bool {

@@ -50,17 +50,17 @@ fn the_public_part_is_read_alone(rt: HostRuntime) {
     let schema = read_schema(rt.alloc(), STAFF).expect(&rt, "a schema");
     let cases = [
         (b"dept,age\nQA,30\nOPS,41\n".as_slice(), Ok(2)),
-        (
-            b"dept,age,salary\nQA,30,100\n",
-            Err(TableFault::Header),
-        ),
+        (b"dept,age,salary\nQA,30,100\n", Err(TableFault::Header)),
         (
             b"dept,age\nQA,x\n",
             Err(TableFault::NotNumber { line: 2, column: 1 }),
         ),
     ];
     for (bytes, rows) in cases {
-        assert_eq!(rt; load_public(rt.alloc(), &schema, bytes).map(|public| public.rows()), rows);
+        assert_eq!(rt;
+            load_public(rt.alloc(), &schema, bytes).map(|public| public.rows()),
+            rows
+        );
     }
 }
 
