@@ -19,9 +19,8 @@ use Rattle.auditor_top.specs.declared.files.FileFault.TheVariants as file
 use Rattle.auditor_top.specs.declared.opening.OpenFault.{OpenFault}
 use Rattle.auditor_top.specs.declared.opening.OpenFault.TheVariants as opening
 use Rattle.auditor_top.specs.declared.words.Command.TheVariants.{Serve}
-use Rattle.auditor_top.specs.declared.status.Which.TheVariants.{Schema, Table, Input}
 use Rattle.auditor_top.specs.declared.status.Status.{Status}
-use Rattle.auditor_top.specs.declared.status.Status.TheVariants.{BenchFault, NoMemory}
+use Rattle.auditor_top.specs.declared.status.Status.TheVariants.{BenchFault}
 use Rattle.auditor_top.specs.Status.{open_status, make_status, start_status, session_status}
 use Rattle.auditor_top.specs.Ends.{Outside, ServeEnds}
 use Rattle.auditor_top.specs.Causes.{FaultCounts, counts, FaultCause, SchemaCause, TableCause, FileCause, HoldsLegal, InputCause, NothingFailed, IsDoneOrWants}
