@@ -101,10 +101,7 @@ fn candidates_of_nine_and_ten(rt: HostRuntime) -> Result<(), Fail> {
 // and tells nothing of row 1. The other way round 6 would be possible, and leave row 1 alone with the 7.
 #[test]
 fn a_higher_answer_that_is_held_whole_shields_a_lower_one(rt: HostRuntime) -> Result<(), Fail> {
-    for (whole, split, verdict) in [
-        (7, 5, Verdict::Released),
-        (5, 7, Verdict::DeniedUnsafe),
-    ] {
+    for (whole, split, verdict) in [(7, 5, Verdict::Released), (5, 7, Verdict::DeniedUnsafe)] {
         let mut column = MaxColumn::new(rt.alloc(), 4)?;
         column.accept(&set(&rt, 4, &[2, 3]), whole)?;
         column.accept(&set(&rt, 4, &[0, 1]), split)?;
