@@ -1,6 +1,7 @@
 #!/bin/sh
-# Makes a journal beside copies of the demo's files in a fresh folder, asks the demo's questions, and compares the replies
-# with those due. The exit status tells. The program is built first where none is given.
+# Makes a journal beside copies of the demo's files in a fresh folder, asks the demo's questions, compares the replies with
+# those due, and has the report checked where there is a python3. The exit status tells. The program is built first where
+# none is given.
 #
 #   demo/run.sh [PROGRAM]
 set -u
@@ -23,4 +24,8 @@ cd "$folder" || exit 1
 "$program" init || { echo "demo: auditor init ended with status $?" >&2; exit 1; }
 "$program" serve <questions.jsonl >replies.jsonl || { echo "demo: auditor serve ended with status $?" >&2; exit 1; }
 cat replies.jsonl
-cmp replies.jsonl "$demo/replies.jsonl"
+cmp replies.jsonl "$demo/replies.jsonl" || exit 1
+"$program" audit >report.jsonl || { echo "demo: auditor audit ended with status $?" >&2; exit 1; }
+if command -v python3 >/dev/null; then
+    python3 "$demo/check_report.py" <report.jsonl >&2
+fi
