@@ -49,7 +49,7 @@ reached (OtherShape kept now) = to opening_journal
 reached (Untrue place kept now) = to opening_journal
 reached (Illegal place) = to opening_journal
 reached InputLimit = to reading_lines
-reached NoMemory = from reading_schema
+reached NoMemory = from reading_words
 
 -- a run that came so far has passed a stage
 abbrev pub has_passed : Stage → Reach → Bool

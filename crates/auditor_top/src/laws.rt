@@ -1,12 +1,14 @@
 //! Laws of runs. Each function computes nothing: its contract is the law.
-ghost use Rattle.std.specs.Prelude.{List, ℕ};
+ghost use Rattle.std.specs.Prelude.{◌≡◌, List, [], ◌∷◌, ◌++◌, ℕ, Some, codes};
 ghost use Rattle.audit_types.specs.declared.records.Answered.{Answered};
 ghost use Rattle.audit_types.specs.History.{IsLegal, IsUndisclosed};
 ghost use Rattle.journal_form.specs.Journal.{StandsFor};
 ghost use Rattle.line_wire.specs.Lines.{CountedLine};
 ghost use Rattle.table_load.specs.Database.{Database, secret_table};
-ghost use Rattle.audit_session.specs.Stops.{StopsOver};
+ghost use Rattle.audit_session.specs.Stops.{StopsOver, IsBatch};
 ghost use Rattle.auditor_top.specs.Commands.{AreFilesOf};
+ghost use Rattle.auditor_top.specs.declared.words.Command.TheVariants.{Init, Serve, Audit};
+ghost use Rattle.auditor_top.specs.Words.{command_of, number_of};
 ghost use Rattle.auditor_top.specs.Promise.{LivesKeepPromise, LivesGoOn, StopsMakeLives};
 
 /// Every history for which a stop over a legal history of a table leaves an image is a legal history of it, and discloses no
@@ -35,4 +37,17 @@ pub fn lives()
     question_plan::laws::answered_lines();
     audit_core::laws::legal_histories();
     table_load::lists_of_secrets();
+}
+
+/// The plain spellings of the commands are never refused: each command as one word, and `serve` with every number of 1 to 64
+/// for a batch, in a word of its own or after `=`.
+pub fn plain_words()
+    ensures init { command_of (codes "init" ∷ []) ≡ Some Init }
+    ensures serve { command_of (codes "serve" ∷ []) ≡ Some (Serve 1) }
+    ensures audit { command_of (codes "audit" ∷ []) ≡ Some Audit }
+    ensures batch { (word : List ℕ) (batch : ℕ) → number_of word ≡ Some batch → IsBatch batch
+        → command_of (codes "serve" ∷ codes "--batch" ∷ word ∷ []) ≡ Some (Serve batch) }
+    ensures batch_in_one_word { (word : List ℕ) (batch : ℕ) → number_of word ≡ Some batch → IsBatch batch
+        → command_of (codes "serve" ∷ (codes "--batch=" ++ word) ∷ []) ≡ Some (Serve batch) }
+{
 }

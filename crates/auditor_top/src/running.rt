@@ -25,10 +25,10 @@ ghost use Rattle.auditor_top.specs.Stages.{Before, reading_table, opening_journa
 
 use crate::auditing::audit;
 use crate::init::init;
-use crate::laws::lives;
+use crate::laws::{lives, stops_are_legal};
 use crate::serving::serve;
 use crate::status::{Status, Which};
-use crate::words::{Command, command_of};
+use crate::words::{Command, WordFault, read_words};
 use bench_core::{Bench, Source};
 use schema_json::SchemaFault;
 use std::alloc::Global;
@@ -128,7 +128,7 @@ pub fn run<P: Source, I: Source, B: Bench>(
     ensures before_bench { Before opening_journal result (bench.new ≡ bench.old) }
     ensures before_lines { Before reading_lines result ((input.new ≡ input.old) × (B.sent bench.new ≡ B.sent bench.old)) }
     ensures unwritten { B.told → Before reading_lines result (B.file bench.new ≡ B.file bench.old) }
-    ensures unread { command_of (map string_bytes words.now.items) ≡ None → schema.new ≡ schema.old }
+    ensures unread { command_of (map string_bytes words.now.items) ≡ None → (schema.new ≡ schema.old) × (table.new ≡ table.old) × (input.new ≡ input.old) × (bench.new ≡ bench.old) }
     ensures no_files { (command : Command) → NamesCommand words.now.items command → reads_files command ≡ false → (schema.new ≡ schema.old) × (table.new ≡ table.old) }
     ensures no_lines { (command : Command) → NamesCommand words.now.items command → reads_lines command ≡ false → input.new ≡ input.old }
     ensures never_written { B.told → (command : Command) → NamesCommand words.now.items command → writes command ≡ false → B.file bench.new ≡ B.file bench.old }
@@ -156,11 +156,13 @@ pub fn run<P: Source, I: Source, B: Bench>(
         → IsDoneOrWants result }
 {
     lives();
-    match command_of(words) {
-        None => Status::BadWords,
-        Some(Command::Init) => init(alloc, schema, table, bench),
-        Some(Command::Serve { batch }) => serve(alloc, schema, table, input, bench, batch),
-        Some(Command::Audit) => audit(alloc, schema, table, bench),
+    stops_are_legal();
+    match read_words(alloc, words) {
+        Err(WordFault::Bad) => Status::BadWords,
+        Err(WordFault::NoMemory) => Status::NoMemory,
+        Ok(Command::Init) => init(alloc, schema, table, bench),
+        Ok(Command::Serve { batch }) => serve(alloc, schema, table, input, bench, batch),
+        Ok(Command::Audit) => audit(alloc, schema, table, bench),
     }
 }
 

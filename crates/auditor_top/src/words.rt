@@ -1,9 +1,14 @@
 //! The words after the program's name.
-ghost use Rattle.std.specs.Prelude.{◌≡◌, ℕ, Some, map, string_bytes};
+ghost use Rattle.std.specs.Prelude.{◌≡◌, ℕ, None, map, option_map, string_bytes, IfOk};
 ghost use Rattle.std.specs.List.{list_all};
 ghost use Rattle.std.specs.Char.{is_ascii_digit};
+ghost use Rattle.clap.specs.Words.{app_of, found_of, rows_of};
 ghost use Rattle.audit_session.specs.Stops.{IsBatch};
-ghost use Rattle.auditor_top.specs.Words.{command_of, command_named, command_with, serve_with, number_of};
+ghost use Rattle.auditor_top.specs.Words.{auditor, command_of, command_in, command_named, command_with, serve_with, number_of, NamesCommand};
+
+use clap::error::ErrorKind;
+use clap::{Arg, ArgMatches, Error};
+use std::alloc::{AllocError, Global};
 
 /// What the program is asked to do.
 #[derive(Clone, Copy, Debug, PartialEq, Eq)]
@@ -14,6 +19,41 @@ pub enum Command {
     Serve { batch: u8 },
     /// Show each secret number to be free.
     Audit,
+}
+
+/// Why words gave no command.
+#[derive(Clone, Copy, Debug, PartialEq, Eq)]
+pub enum WordFault {
+    /// They are none.
+    Bad,
+    /// There was no memory to read them.
+    NoMemory,
+}
+
+impl From<AllocError> for WordFault {
+    ghost use Rattle.std.specs.Prelude.{◌≡◌};
+    ghost use Rattle.auditor_top.specs.declared.words.WordFault.TheVariants as word;
+
+    ghost from_gives = { λ _ fault. fault ≡ word.NoMemory };
+
+    fn from(_error: AllocError) -> WordFault {
+        WordFault::NoMemory
+    }
+}
+
+impl From<Error> for WordFault {
+    ghost use Rattle.std.specs.Prelude.{◌≡◌};
+    ghost use Rattle.clap.specs.Words.{kind_of};
+    ghost use Rattle.auditor_top.specs.Words.{word_fault};
+
+    ghost from_gives = { λ error fault. fault ≡ word_fault (kind_of error) };
+
+    fn from(error: Error) -> WordFault {
+        match error.kind() {
+            ErrorKind::OutOfMemory => WordFault::NoMemory,
+            _ => WordFault::Bad,
+        }
+    }
 }
 
 // Each byte of the word is a digit.
@@ -58,25 +98,53 @@ fn command_named(word: &str) -> Option<Command>
     }
 }
 
-// The command that a word names with an option and its value.
-fn command_with(word: &str, option: &str, value: &str) -> Option<Command>
-    ensures { result ≡ command_with word.now option.now value.now }
+// The command that a word names with its number and its batch, where it may have these.
+fn command_with(word: &str, number: Option<&str>, batch: Option<&str>) -> Option<Command>
+    ensures { result ≡ command_with word.now (option_map (λ s. s.now) number.entry) (option_map (λ s. s.now) batch.entry) }
 {
-    if word == "serve" && option == "--batch" {
-        serve_with(value)
-    } else {
-        None
+    match (number, batch) {
+        (None, None) => command_named(word),
+        (None, Some(batch)) => {
+            if word == "serve" {
+                serve_with(batch)
+            } else {
+                None
+            }
+        }
+        (Some(_), _) => None,
     }
 }
 
-/// The command that the words are, where they are one.
-pub fn command_of(words: &Vec<String>) -> Option<Command>
-    ensures named { result ≡ command_of (map string_bytes words.now.items) }
-    ensures batch { (batch : ℕ) → result ≡ Some (Command.Serve batch) → IsBatch batch }
+// The command that the values of a command line are.
+fn command_in(matches: &ArgMatches<'_>) -> Option<Command>
+    ensures { result ≡ command_in (rows_of (found_of matches.now)) }
 {
-    match words.as_slice() {
-        [word] => command_named(word.as_str()),
-        [word, option, value] => command_with(word.as_str(), option.as_str(), value.as_str()),
-        _ => None,
-    }
+    let word = matches.get_str("command")?;
+    command_with(word, matches.get_str("number"), matches.get_str("batch"))
+}
+
+// The command line: a word, perhaps a number, and perhaps a batch.
+fn command_line<'a>(alloc: Global) -> Result<clap::Command<'a>, AllocError>
+    ensures { IfOk result (λ line. app_of line ≡ auditor) }
+{
+    let command = Arg::new(alloc, "command").required(true);
+    let number = Arg::new(alloc, "number");
+    let batch = Arg::new(alloc, "batch").long("batch");
+    clap::Command::new(alloc, "auditor")
+        .no_binary_name(true)
+        .arg(command)?
+        .arg(number)?
+        .arg(batch)
+}
+
+/// The command that the words are, as `clap` reads them: an option may stand before or after the command, its value in the
+/// same word after `=` or in the next one.
+pub fn read_words(alloc: Global, words: &Vec<String>) -> Result<Command, WordFault>
+    ensures command { IfOk result (NamesCommand words.now.items) }
+    ensures batch { (batch : ℕ) → NamesCommand words.now.items (Command.Serve batch) → IsBatch batch }
+    ensures bad { result ≡ Err WordFault.Bad → command_of (map string_bytes words.now.items) ≡ None }
+{
+    let line = command_line(alloc)?;
+    let matches = line.try_get_matches_from(words.as_slice())?;
+    command_in(&matches).ok_or(WordFault::Bad)
 }

@@ -1,5 +1,4 @@
-use Rattle.std.proofs.Common.{rules, ◌≡◌, ◌≢◌, ℕ, List, Err, OnOk, OnErr, sym, ◌∙◌, ap, subst}
-use Rattle.audit_types.specs.declared.records.Answered.{Answered}
+use Rattle.std.proofs.Common.{rules, ◌≡◌, ℕ, List, OnOk, OnErr, sym, ◌∙◌, ap, subst}
 use Rattle.audit_types.specs.History.{IsLegal}
 use Rattle.bench_core.specs.Causes.{Rose}
 use Rattle.bench_core.specs.Calls.{IsQuiet, LeavesOnly}
@@ -12,7 +11,7 @@ use Rattle.answer_journal.specs.Moments.{IsUntouched}
 use Rattle.journal_audit.specs.Reports.{Audit, audit_of, subjects, Reports, ReportsFront, SendsMeanwhile}
 use Rattle.auditor_top.specs.declared.words.Command.TheVariants as command
 use Rattle.auditor_top.specs.declared.status.Status.{Status}
-use Rattle.auditor_top.specs.Status.{open_status, start_status, audit_status}
+use Rattle.auditor_top.specs.Status.{open_status, start_status}
 use Rattle.auditor_top.specs.Ends.{AuditEnds, audit_over}
 use Rattle.auditor_top.specs.Causes.{SchemaCause, TableCause, FileCause, FaultCause, HoldsLegal, IsDoneOrWants, counts}
 use Rattle.auditor_top.proofs.Bases.{same_base}

@@ -1,92 +1,133 @@
 use Rattle.std.proofs.Common.{◌≡◌, ℕ, List, ◌++◌, Option, Some, refl, sym, ◌∙◌, ap, subst}
 use Rattle.std.proofs.lemmas.List.{append_cancel_left}
 use Rattle.bench_core.specs.Calls.{LeavesOnly}
+use Rattle.bench_core.specs.Moments.{started}
 use Rattle.line_wire.specs.Lines.{counted_lines}
 use Rattle.question_plan.specs.Replies.{IsDue}
 use Rattle.audit_session.specs.Stops.{Stop, StopsOver, stands_over}
+use Rattle.journal_audit.specs.Reports.{subjects}
 use Rattle.auditor_top.specs.declared.words.Command.{Command}
 use Rattle.auditor_top.specs.declared.words.Command.TheVariants.{Init, Serve, Audit}
 use Rattle.auditor_top.specs.Commands.{reads_lines}
 use Rattle.auditor_top.specs.Causes.{WordCause, FileCause}
-use Rattle.auditor_top.specs.Ends.{ServeEnds, outside}
+use Rattle.auditor_top.specs.Ends.{ServeEnds, audit_over, outside}
+use Rattle.auditor_top.proofs.Bases.{nothing_served, untouched_stops}
+use Rattle.auditor_top.proofs.AuditEndings.{none_sent, untouched_report}
 use Rattle.auditor_top.proofs.Named.{one_command, one_batch, not_false}
 use Rattle.auditor_top.proofs.running.run.Goals as goal
 
+-- ---- no memory for the words
+
+pub returns-in-Err-NoMemory-clause-served : goal.returns-in-Err-NoMemory-clause-served
+returns-in-Err-NoMemory-clause-served g c = λ ptold itold told batch asked base history over.
+    nothing_served base batch history (g.I.Source.left c.args.input.now) (g.B.Bench.sent c.args.bench.now) (g.B.Bench.file c.args.bench.now) over.stands
+
+pub returns-in-Err-NoMemory-clause-any_moment : goal.returns-in-Err-NoMemory-clause-any_moment
+returns-in-Err-NoMemory-clause-any_moment g c = λ ptold itold told batch asked quiet base history over.
+    started g.B.Bench c.args.bench.now _
+    (λ image sent was.
+    let now = g.met.B.Bench.only_now c.args.bench.now image sent was in
+    untouched_stops base batch history (counted_lines (g.I.Source.left c.args.input.now)) (g.B.Bench.file c.args.bench.now) (g.B.Bench.sent c.args.bench.now) image sent over.stands (now.1, quiet image now.0))
+
+pub returns-in-Err-NoMemory-clause-undisclosed : goal.returns-in-Err-NoMemory-clause-undisclosed
+returns-in-Err-NoMemory-clause-undisclosed g c = λ ptold itold told batch asked quiet base history over image sent now was stands.
+    c.stops_are_legal.ensures _ _ _ image sent base batch history now _ over.files over.legal ((returns-in-Err-NoMemory-clause-any_moment g c ptold itold told batch asked quiet base history over).each image sent was) stands
+
+pub returns-in-Err-NoMemory-clause-lives : goal.returns-in-Err-NoMemory-clause-lives
+returns-in-Err-NoMemory-clause-lives g c = λ ptold itold told batch asked quiet base history over runs life image sent now was stands.
+    let input = g.I.Source.left c.args.input.now in
+    let before = g.B.Bench.sent c.args.bench.now in
+    let stops : StopsOver base batch history (counted_lines input) before image (before ++ sent) = (returns-in-Err-NoMemory-clause-any_moment g c ptold itold told batch asked quiet base history over).each image (before ++ sent) was in
+    let same : stops.0 ≡ sent = sym (append_cancel_left before sent stops.0 stops.1) in
+    c.lives.ensures.longer (g.P.Source.left c.args.schema.now) (g.P.Source.left c.args.table.now) image base runs history (record { batch = batch; input = input; last = now; sent = sent }) over.files life
+    (c.read_words.ensures.batch batch asked) stands
+    (subst (λ (bytes : List ℕ). Stop (IsDue base) (stands_over base) batch history (counted_lines input) image bytes) same stops.2)
+
+pub returns-in-Err-NoMemory-clause-audited : goal.returns-in-Err-NoMemory-clause-audited
+returns-in-Err-NoMemory-clause-audited g c = λ ptold told asked base history over. none_sent (audit_over base history) (subjects base.secret.shape) (g.B.Bench.sent c.args.bench.now)
+
+pub returns-in-Err-NoMemory-clause-auditing : goal.returns-in-Err-NoMemory-clause-auditing
+returns-in-Err-NoMemory-clause-auditing g c = λ ptold told asked quiet base history over.
+    started g.B.Bench c.args.bench.now _
+    (λ image sent was.
+    let now = g.met.B.Bench.only_now c.args.bench.now image sent was in
+    untouched_report (audit_over base history) (subjects base.secret.shape) (g.B.Bench.file c.args.bench.now) (g.B.Bench.sent c.args.bench.now) image sent (now.1, quiet image now.0))
+
 -- ---- `init`
 
-pub returns-in-Some-Init-clause-file : goal.returns-in-Some-Init-clause-file
-returns-in-Some-Init-clause-file g c = λ ptold told command asked base files.
-    let is = one_command c.command_of.result Init command (c.in-Some-Init.is ∙ ap (λ (k : Command). Some k) c.in-Some-Init.field-0-is) (c.command_of.ensures.named ∙ asked) in
+pub returns-in-Ok-Init-clause-file : goal.returns-in-Ok-Init-clause-file
+returns-in-Ok-Init-clause-file g c = λ ptold told command asked base files.
+    let is = one_command _ Init command (c.in-Ok-Init.ensures.command ∙ ap (λ (k : Command). Some k) c.in-Ok-Init.field-0-is) asked in
     subst (λ (named : Command). FileCause c.init.result named (g.B.Bench.file c.args.bench.now) base.secret) is (c.init.ensures.file_cause ptold told base files)
 
-pub returns-in-Some-Init-clause-makes : goal.returns-in-Some-Init-clause-makes
-returns-in-Some-Init-clause-makes g c = λ ptold told asked base files absent none.
+pub returns-in-Ok-Init-clause-makes : goal.returns-in-Ok-Init-clause-makes
+returns-in-Ok-Init-clause-makes g c = λ ptold told asked base files absent none.
     c.init.ensures.complete ptold told base files absent (g.I.Source.faults c.args.input.now) (g.B.Bench.faults c.args.spare.now) none
 
-pub returns-in-Some-Init-clause-later : goal.returns-in-Some-Init-clause-later
-returns-in-Some-Init-clause-later g c = c.init.ensures.later (g.I.Source.faults c.args.input.now) (g.B.Bench.faults c.args.spare.now)
+pub returns-in-Ok-Init-clause-later : goal.returns-in-Ok-Init-clause-later
+returns-in-Ok-Init-clause-later g c = c.init.ensures.later (g.I.Source.faults c.args.input.now) (g.B.Bench.faults c.args.spare.now)
 
 -- ---- `serve`
 
-pub returns-in-Some-Serve-clause-later : goal.returns-in-Some-Serve-clause-later
-returns-in-Some-Serve-clause-later g c = c.serve.ensures.later (g.B.Bench.faults c.args.spare.now)
+pub returns-in-Ok-Serve-clause-later : goal.returns-in-Ok-Serve-clause-later
+returns-in-Ok-Serve-clause-later g c = c.serve.ensures.later (g.B.Bench.faults c.args.spare.now)
 
-pub returns-in-Some-Serve-clause-words : goal.returns-in-Some-Serve-clause-words
-returns-in-Some-Serve-clause-words g c =
-    subst (λ (asked : Option Command). WordCause c.serve.result asked) (sym (c.in-Some-Serve.is ∙ ap (λ (k : Command). Some k) c.in-Some-Serve.field-0-is) ∙ c.command_of.ensures.named) c.serve.ensures.word_cause
+pub returns-in-Ok-Serve-clause-words : goal.returns-in-Ok-Serve-clause-words
+returns-in-Ok-Serve-clause-words g c =
+    subst (λ (asked : Option Command). WordCause c.serve.result asked) (sym (c.in-Ok-Serve.ensures.command ∙ ap (λ (k : Command). Some k) c.in-Ok-Serve.field-0-is)) c.serve.ensures.word_cause
 
-pub returns-in-Some-Serve-clause-file : goal.returns-in-Some-Serve-clause-file
-returns-in-Some-Serve-clause-file g c = λ ptold told command asked base files.
-    let is = one_command c.command_of.result (Serve c.in-Some-Serve.batch) command (c.in-Some-Serve.is ∙ ap (λ (k : Command). Some k) c.in-Some-Serve.field-0-is) (c.command_of.ensures.named ∙ asked) in
+pub returns-in-Ok-Serve-clause-file : goal.returns-in-Ok-Serve-clause-file
+returns-in-Ok-Serve-clause-file g c = λ ptold told command asked base files.
+    let is = one_command _ (Serve c.in-Ok-Serve.batch) command (c.in-Ok-Serve.ensures.command ∙ ap (λ (k : Command). Some k) c.in-Ok-Serve.field-0-is) asked in
     subst (λ (named : Command). FileCause c.serve.result named (g.B.Bench.file c.args.bench.now) base.secret) is (c.serve.ensures.file_cause ptold told base files)
 
-pub returns-in-Some-Serve-clause-served : goal.returns-in-Some-Serve-clause-served
-returns-in-Some-Serve-clause-served g c = λ ptold itold told batch asked base history over.
+pub returns-in-Ok-Serve-clause-served : goal.returns-in-Ok-Serve-clause-served
+returns-in-Ok-Serve-clause-served g c = λ ptold itold told batch asked base history over.
     let before = outside g.I.Source g.B.Bench c.args.input.now c.args.bench.now in
     let after = outside g.I.Source g.B.Bench c.serve.new.input c.serve.new.bench in
-    let is = one_batch c.command_of.result c.in-Some-Serve.batch batch (c.in-Some-Serve.is ∙ ap (λ (k : Command). Some k) c.in-Some-Serve.field-0-is) (c.command_of.ensures.named ∙ asked) in
+    let is = one_batch _ c.in-Ok-Serve.batch batch (c.in-Ok-Serve.ensures.command ∙ ap (λ (k : Command). Some k) c.in-Ok-Serve.field-0-is) asked in
     subst (λ (n : ℕ). ServeEnds n c.serve.result base history before after) is (c.serve.ensures.ends ptold itold told base history over)
 
-pub returns-in-Some-Serve-clause-any_moment : goal.returns-in-Some-Serve-clause-any_moment
-returns-in-Some-Serve-clause-any_moment g c = λ ptold itold told batch asked quiet base history over.
+pub returns-in-Ok-Serve-clause-any_moment : goal.returns-in-Ok-Serve-clause-any_moment
+returns-in-Ok-Serve-clause-any_moment g c = λ ptold itold told batch asked quiet base history over.
     let lines = counted_lines (g.I.Source.left c.args.input.now) in
-    let is = one_batch c.command_of.result c.in-Some-Serve.batch batch (c.in-Some-Serve.is ∙ ap (λ (k : Command). Some k) c.in-Some-Serve.field-0-is) (c.command_of.ensures.named ∙ asked) in
+    let is = one_batch _ c.in-Ok-Serve.batch batch (c.in-Ok-Serve.ensures.command ∙ ap (λ (k : Command). Some k) c.in-Ok-Serve.field-0-is) asked in
     subst (λ (n : ℕ). LeavesOnly g.B.Bench c.args.bench.now c.serve.new.bench (StopsOver base n history lines (g.B.Bench.sent c.args.bench.now))) is (c.serve.ensures.any_moment ptold itold told quiet base history over)
 
-pub returns-in-Some-Serve-clause-undisclosed : goal.returns-in-Some-Serve-clause-undisclosed
-returns-in-Some-Serve-clause-undisclosed g c = λ ptold itold told batch asked quiet base history over. c.serve.ensures.undisclosed ptold itold told quiet base history over
+pub returns-in-Ok-Serve-clause-undisclosed : goal.returns-in-Ok-Serve-clause-undisclosed
+returns-in-Ok-Serve-clause-undisclosed g c = λ ptold itold told batch asked quiet base history over. c.serve.ensures.undisclosed ptold itold told quiet base history over
 
-pub returns-in-Some-Serve-clause-nothing_began : goal.returns-in-Some-Serve-clause-nothing_began
-returns-in-Some-Serve-clause-nothing_began g c = λ ptold told command asked opens quiet none. c.serve.ensures.nothing_began ptold told quiet none
+pub returns-in-Ok-Serve-clause-nothing_began : goal.returns-in-Ok-Serve-clause-nothing_began
+returns-in-Ok-Serve-clause-nothing_began g c = λ ptold told command asked opens quiet none. c.serve.ensures.nothing_began ptold told quiet none
 
-pub returns-in-Some-Serve-clause-complete : goal.returns-in-Some-Serve-clause-complete
-returns-in-Some-Serve-clause-complete g c = λ ptold itold told batch asked base history over within none.
+pub returns-in-Ok-Serve-clause-complete : goal.returns-in-Ok-Serve-clause-complete
+returns-in-Ok-Serve-clause-complete g c = λ ptold itold told batch asked base history over within none.
     c.serve.ensures.complete ptold itold told base history over within (g.B.Bench.faults c.args.spare.now) none
 
-pub returns-in-Some-Serve-clause-no_lines : goal.returns-in-Some-Serve-clause-no_lines
-returns-in-Some-Serve-clause-no_lines g c = λ command asked none.
-    not_false reads_lines (Serve c.in-Some-Serve.batch) command (one_command c.command_of.result (Serve c.in-Some-Serve.batch) command (c.in-Some-Serve.is ∙ ap (λ (k : Command). Some k) c.in-Some-Serve.field-0-is) (c.command_of.ensures.named ∙ asked)) refl none
+pub returns-in-Ok-Serve-clause-no_lines : goal.returns-in-Ok-Serve-clause-no_lines
+returns-in-Ok-Serve-clause-no_lines g c = λ command asked none.
+    not_false reads_lines (Serve c.in-Ok-Serve.batch) command (one_command _ (Serve c.in-Ok-Serve.batch) command (c.in-Ok-Serve.ensures.command ∙ ap (λ (k : Command). Some k) c.in-Ok-Serve.field-0-is) asked) refl none
 
-pub returns-in-Some-Serve-clause-lives : goal.returns-in-Some-Serve-clause-lives
-returns-in-Some-Serve-clause-lives g c = λ ptold itold told batch asked quiet base history over runs life image sent now was stands.
+pub returns-in-Ok-Serve-clause-lives : goal.returns-in-Ok-Serve-clause-lives
+returns-in-Ok-Serve-clause-lives g c = λ ptold itold told batch asked quiet base history over runs life image sent now was stands.
     let input = g.I.Source.left c.args.input.now in
     let before = g.B.Bench.sent c.args.bench.now in
-    let stops : StopsOver base batch history (counted_lines input) before image (before ++ sent) = (returns-in-Some-Serve-clause-any_moment g c ptold itold told batch asked quiet base history over).each image (before ++ sent) was in
+    let stops : StopsOver base batch history (counted_lines input) before image (before ++ sent) = (returns-in-Ok-Serve-clause-any_moment g c ptold itold told batch asked quiet base history over).each image (before ++ sent) was in
     let same : stops.0 ≡ sent = sym (append_cancel_left before sent stops.0 stops.1) in
     c.lives.ensures.longer (g.P.Source.left c.args.schema.now) (g.P.Source.left c.args.table.now) image base runs history (record { batch = batch; input = input; last = now; sent = sent }) over.files life
-    (c.command_of.ensures.batch batch (c.command_of.ensures.named ∙ asked)) stands
+    (c.read_words.ensures.batch batch asked) stands
     (subst (λ (bytes : List ℕ). Stop (IsDue base) (stands_over base) batch history (counted_lines input) image bytes) same stops.2)
 
 -- ---- `audit`
 
-pub returns-in-Some-Audit-clause-file : goal.returns-in-Some-Audit-clause-file
-returns-in-Some-Audit-clause-file g c = λ ptold told command asked base files.
-    let is = one_command c.command_of.result Audit command (c.in-Some-Audit.is ∙ ap (λ (k : Command). Some k) c.in-Some-Audit.field-0-is) (c.command_of.ensures.named ∙ asked) in
+pub returns-in-Ok-Audit-clause-file : goal.returns-in-Ok-Audit-clause-file
+returns-in-Ok-Audit-clause-file g c = λ ptold told command asked base files.
+    let is = one_command _ Audit command (c.in-Ok-Audit.ensures.command ∙ ap (λ (k : Command). Some k) c.in-Ok-Audit.field-0-is) asked in
     subst (λ (named : Command). FileCause c.audit.result named (g.B.Bench.file c.args.bench.now) base.secret) is (c.audit.ensures.file_cause ptold told base files)
 
-pub returns-in-Some-Audit-clause-audits : goal.returns-in-Some-Audit-clause-audits
-returns-in-Some-Audit-clause-audits g c = λ ptold told asked base history over none.
+pub returns-in-Ok-Audit-clause-audits : goal.returns-in-Ok-Audit-clause-audits
+returns-in-Ok-Audit-clause-audits g c = λ ptold told asked base history over none.
     c.audit.ensures.complete ptold told base history over (g.I.Source.faults c.args.input.now) (g.B.Bench.faults c.args.spare.now) none
 
-pub returns-in-Some-Audit-clause-later : goal.returns-in-Some-Audit-clause-later
-returns-in-Some-Audit-clause-later g c = c.audit.ensures.later (g.I.Source.faults c.args.input.now) (g.B.Bench.faults c.args.spare.now)
+pub returns-in-Ok-Audit-clause-later : goal.returns-in-Ok-Audit-clause-later
+returns-in-Ok-Audit-clause-later g c = c.audit.ensures.later (g.I.Source.faults c.args.input.now) (g.B.Bench.faults c.args.spare.now)

@@ -1,0 +1,49 @@
+-- The command of some words.
+use Rattle.std.proofs.Common.{◌≡◌, [], ◌∷◌, Some, None, refl, codes}
+use Rattle.clap.proofs.OnLiterals.{clap_on_literals}
+use Rattle.auditor_top.specs.declared.words.Command.TheVariants.{Serve}
+use Rattle.auditor_top.specs.Words.{command_of}
+
+a_batch_in_one_word : command_of (codes "serve" ∷ codes "--batch=2" ∷ []) ≡ Some (Serve 2)
+unfolding command_of clap_on_literals
+a_batch_in_one_word = refl
+
+a_batch_with_a_zero : command_of (codes "serve" ∷ codes "--batch" ∷ codes "02" ∷ []) ≡ Some (Serve 2)
+unfolding command_of clap_on_literals
+a_batch_with_a_zero = refl
+
+too_large_a_batch : command_of (codes "serve" ∷ codes "--batch" ∷ codes "65" ∷ []) ≡ None
+unfolding command_of clap_on_literals
+too_large_a_batch = refl
+
+two_batches : command_of (codes "serve" ∷ codes "--batch" ∷ codes "2" ∷ codes "--batch" ∷ codes "3" ∷ []) ≡ None
+unfolding command_of clap_on_literals
+two_batches = refl
+
+the_batch_first : command_of (codes "--batch" ∷ codes "2" ∷ codes "serve" ∷ []) ≡ Some (Serve 2)
+unfolding command_of clap_on_literals
+the_batch_first = refl
+
+after_two_dashes : command_of (codes "--" ∷ codes "serve" ∷ []) ≡ Some (Serve 1)
+unfolding command_of clap_on_literals
+after_two_dashes = refl
+
+a_number_for_serve : command_of (codes "serve" ∷ codes "3" ∷ []) ≡ None
+unfolding command_of clap_on_literals
+a_number_for_serve = refl
+
+init_with_a_batch : command_of (codes "init" ∷ codes "--batch" ∷ codes "2" ∷ []) ≡ None
+unfolding command_of clap_on_literals
+init_with_a_batch = refl
+
+help_is_none : command_of (codes "--help" ∷ []) ≡ None
+unfolding command_of clap_on_literals
+help_is_none = refl
+
+an_empty_word : command_of (codes "" ∷ []) ≡ None
+unfolding command_of clap_on_literals
+an_empty_word = refl
+
+no_word : command_of [] ≡ None
+unfolding command_of clap_on_literals
+no_word = refl
