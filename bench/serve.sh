@@ -1,8 +1,9 @@
 #!/bin/sh
 # Times the built program on sums and maxima over random tables, beside an awk program that answers the same lines without
 # auditing and flushes each reply. Prints for each case the seconds, the questions a second and the peak of memory, with the
-# number of answers and denials; then the same of a run without questions, which opens the journal and decides each record
-# again. Build the program first: demo/run.sh does.
+# number of answers and denials: line by line, in groups of 64 lines over a journal of their own, which have to give the same
+# replies, and without questions, which opens the journal and decides each record again. What groups save is syncs, so let
+# TMPDIR be on a disk. Build the program first: demo/run.sh does.
 #
 #   bench/serve.sh [QUESTIONS]        2,000 where none is given; a quarter of them of maxima alone
 set -u
@@ -68,6 +69,10 @@ for rows in 200 1024; do
         "$program" init || exit 1
         echo "$rows rows, $kind"
         measure auditor "$program" serve
+        rm answers.journal
+        "$program" init || exit 1
+        measure groups "$program" serve --batch 64
+        cmp auditor.replies groups.replies || exit 1
         measure plain plain
         : >questions.jsonl
         measure opening "$program" serve
