@@ -9,8 +9,11 @@ use bench_core::{MemoryBench, Room};
 use std::alloc::Global;
 use std::rt::Files;
 
-/// How many bytes a run may write and send, and how many calls it may make.
+/// How many bytes a run may write, and how many calls it may make.
 pub const ROOM: u64 = 65_536;
+
+// How many bytes a run may send.
+const SENT: u64 = 262_144;
 
 // The most bytes that a source gives at a read, where the run doesn't say.
 const PIECE: usize = 65_536;
@@ -36,7 +39,7 @@ pub fn bench_over(
 ) -> Result<MemoryBench> {
     let room = Room {
         file: (start.len() as u64).saturating_add(ROOM),
-        sent: ROOM,
+        sent: SENT,
         calls: ROOM,
         written: ROOM,
     };
