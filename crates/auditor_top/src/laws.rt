@@ -49,5 +49,4 @@ pub fn plain_words()
         → command_of (codes "serve" ∷ codes "--batch" ∷ word ∷ []) ≡ Some (Serve batch) }
     ensures batch_in_one_word { (word : List ℕ) (batch : ℕ) → number_of word ≡ Some batch → IsBatch batch
         → command_of (codes "serve" ∷ (codes "--batch=" ++ word) ∷ []) ≡ Some (Serve batch) }
-{
-}
+{}

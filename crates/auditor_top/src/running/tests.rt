@@ -21,13 +21,8 @@ fn empty_bench(alloc: Global) -> Result<MemoryBench, Fail> {
 
 #[test]
 fn a_journal_is_made_and_asked_in_groups(rt: HostRuntime) -> Result<(), Fail> {
-<<<<<<< HEAD
     let mut bench = empty_bench(rt.alloc())?;
-    for words in [["init"].as_slice(), &["serve", "--batch", "2"]] {
-=======
-    let mut bench = bench_with(rt.alloc(), b"")?;
     for words in [["init"].as_slice(), &["serve", "--batch=2"]] {
->>>>>>> b0162c7 (auditor_top: words are read by clap)
         let mut list = Vec::new(rt.alloc());
         for word in words {
             list.push(String::from_str(rt.alloc(), word)?)?;
