@@ -1,0 +1,96 @@
+#!/usr/bin/env python3
+"""Checks that what the documents name is there: links, paths, edits, clauses and words of specs/.
+
+    docs/check.py           # prints each name that isn't there; exits with 1 where there is one
+"""
+import re
+import sys
+from pathlib import Path
+
+TOP = Path(__file__).resolve().parent.parent
+PAGES = [TOP / "README.md", *sorted(TOP.glob("docs/*.md")), *sorted(TOP.glob("crates/*/README.md")), TOP / "bench/README.md"]
+HISTORY = {"DECISIONS.md", "CHANGELOG.md"}  # they tell of what was, too
+
+
+def read(pattern):
+    return {path: path.read_text() for path in TOP.glob(pattern)}
+
+
+SOURCES = "\n".join(read("crates/*/src/**/*.rt").values())
+SPECS = "\n".join(read("crates/*/specs/**/*.antt").values())
+EDITS = {path.stem for path in TOP.glob("crates/*/must-fail/*.edit")}
+CLAUSES = set(re.findall(r"\bensures (\w+) \{", SOURCES)) | set(re.findall(r"\brequires (\w+) \{", SOURCES))
+CALLS = set(re.findall(r"\bfn (\w+)", SOURCES)) | set(re.findall(r"\b(?:struct|enum|trait) (\w+)", SOURCES))
+LAWS = set(re.findall(r"\bghost (\w+):", SOURCES)) | set(re.findall(r"\bghost fn (\w+)", SOURCES))
+WORDS = set(re.findall(r"(?m)^\s*(?:pub |abbrev |unfoldable |record |data |enum )*(\w+)\b", SPECS)) | CALLS
+
+
+def missing_links(page, text):
+    for target in re.findall(r"\]\(([^)#\s]+)\)", text):
+        if "://" not in target and not (page.parent / target).exists():
+            yield f"link {target}"
+
+
+def missing_paths(page, text):
+    for path in re.findall(r"(?<![\w./])((?:crates|docs|demo|bench)/[\w./-]*\w)", text):
+        if not (TOP / path).exists():
+            yield f"path {path}"
+
+
+def missing_edits(page, text):
+    for name in re.findall(r"\b(\w+)\.edit\b", text):
+        if name not in EDITS:
+            yield f"edit {name}"
+
+
+def missing_rows(page, text):
+    """The cells of an index of clauses: a sentence, clauses, words, edits."""
+    for row in re.findall(r"(?m)^\| (?!what is said|---)(.*) \|$", text):
+        cells = row.split(" | ")
+        if len(cells) != 4:
+            continue
+        for name in re.findall(r"`(\w+)`", cells[1]):
+            if name not in CLAUSES | CALLS | LAWS | WORDS:
+                yield f"clause {name}"
+        for name in re.findall(r"`(\w+)`", cells[2]):
+            if name not in WORDS:
+                yield f"word {name}"
+        for name in re.findall(r"\b[a-z0-9]+(?:_[a-z0-9]+){2,}\b", cells[3]):
+            if name not in EDITS and name not in CALLS:
+                yield f"edit {name}"
+
+
+def missing_entries(page, text):
+    """The clauses and definitions of an entry, each with its words behind it."""
+    for kind, lines in re.findall(r"(?m)^(Clause|Definition):((?:.*\n)(?: {15}.*\n)*)", text):
+        for name in re.findall(r"`(?:\w+::)?(\w+)`", lines):
+            known = WORDS if kind == "Definition" else CLAUSES | CALLS | LAWS | WORDS | CRATES
+            if name not in known:
+                yield f"{kind.lower()} {name}"
+
+
+def missing_tests(page, text):
+    for tried in re.findall(r"Tried by: (.*)", text):
+        for name in re.findall(r"`(\w+)`", tried):
+            if name not in CALLS | CRATES:
+                yield f"test {name}"
+
+
+CRATES = {path.name for path in TOP.glob("crates/*")}
+CHECKS = [missing_links, missing_paths, missing_edits, missing_rows, missing_entries, missing_tests]
+
+
+def main():
+    faults = [
+        f"{page.relative_to(TOP)}: {fault}"
+        for page in PAGES
+        if page.name not in HISTORY
+        for check in CHECKS
+        for fault in check(page, page.read_text())
+    ]
+    print("\n".join(faults) if faults else f"{len(PAGES)} pages, and all that they name is there")
+    return 1 if faults else 0
+
+
+if __name__ == "__main__":
+    sys.exit(main())
