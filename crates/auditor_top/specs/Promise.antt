@@ -1,21 +1,33 @@
--- The promise: in every life of runs over one table each answer that left is true and kept, and no secret is disclosed.
+-- The promise: in every life of runs over one table each answer that left is true and kept, no secret is disclosed, and no
+-- decision tells of the secrets.
 --
 -- A life is runs of `serve` one after another, each ended or stopped at any moment (IsLife of audit_session). What it keeps
 -- is KeepsPromise there: the last history is legal and undisclosed (audit_types), and of each run the bytes that it sent are
 -- a front of the replies due to its lines (IsDue of question_plan), whose records are all in the last history. The clause
 -- `lives` of `run` is GoesOn: whatever moment a run over a life is stopped at, the life with that run keeps the promise.
-use Rattle.std.specs.Prelude.{List, ℕ, [], ◌∷◌, ◌++◌}
+use Rattle.std.specs.Prelude.{◌≡◌, ◌⊎◌, List, ℕ, [], ◌∷◌, ◌++◌}
 use Rattle.audit_types.specs.declared.records.Answered.{Answered}
-use Rattle.table_load.specs.Database.{Database}
-use Rattle.line_wire.specs.Lines.{counted_lines}
+use Rattle.table_load.specs.Database.{Database, AreTwins, secret_table}
+use Rattle.line_wire.specs.Lines.{CountedLine, counted_lines}
+use Rattle.question_plan.specs.Laws.{AreAnswersAlike}
 use Rattle.question_plan.specs.Replies.{IsDue}
+use Rattle.question_plan.specs.Session.{Replied}
 use Rattle.audit_session.specs.Stops.{Stop, IsBatch, stands_over}
-use Rattle.audit_session.specs.Lives.{Run, IsLife, KeepsPromise}
+use Rattle.audit_session.specs.Lives.{Run, IsLife, KeepsPromise, AreAlike}
 use Rattle.auditor_top.specs.Commands.{AreFilesOf, ServesOver}
 
--- a life with one run more is a life, and keeps the promise
-abbrev pub GoesOn : Database → List Run → Run → Type 0
-GoesOn base runs run = IsLife base (runs ++ run ∷ []) run.last × KeepsPromise base (runs ++ run ∷ []) run.last
+-- a life decides as every life with the same batches, inputs and histories over a table that differs in its secrets alone:
+-- to the next line both give one reply, or each the true answer of its own table
+abbrev pub DecidesAlike : Database → List Run → List Answered → Type 0
+DecidesAlike base runs last =
+    (twin : Database) (others : List Run) (final : List Answered) (line : CountedLine) (a b : Replied Answered) → AreTwins base twin → IsLife twin others final → AreAlike runs others →
+    IsDue base last line a → IsDue twin final line b → (a ≡ b) ⊎ AreAnswersAlike (secret_table base.secret) (secret_table twin.secret) a b
+
+-- a life with one run more is a life, keeps the promise, and decides as every life like it
+pub record GoesOn (base : Database) (runs : List Run) (run : Run) : Type 0 where
+  pub life : IsLife base (runs ++ run ∷ []) run.last
+  pub keeps : KeepsPromise base (runs ++ run ∷ []) run.last
+  pub alike : DecidesAlike base (runs ++ run ∷ []) run.last
 
 -- every life over the table of two files keeps the promise
 abbrev pub LivesKeepPromise : Type 0

@@ -25,7 +25,8 @@ pub fn stops_are_legal()
 }
 
 /// In every life over one table the last history is legal, discloses no secret, and keeps all that was sent. A stop makes the
-/// life one run longer, and the next run is given what a run has to be given.
+/// life one run longer, and decided as over every table that differs in its secrets alone; the next run is given what a run
+/// has to be given.
 pub fn lives()
     ensures keep { LivesKeepPromise }
     ensures go_on { LivesGoOn }
@@ -37,6 +38,7 @@ pub fn lives()
     question_plan::laws::answered_lines();
     audit_core::laws::legal_histories();
     table_load::lists_of_secrets();
+    audit_session::laws::two_worlds();
 }
 
 /// The plain spellings of the commands are never refused: each command as one word, and `serve` with every number of 1 to 64

@@ -85,8 +85,8 @@ pub fn run<P: Source, I: Source, B: Bench>(
         → (image sent : List ℕ) (now : List Answered) → B.since bench.new (B.moment bench.old) image sent → StandsFor image base.secret.shape now
         → IsLegal (secret_table base.secret) now × IsUndisclosed (secret_table base.secret) now }
 
-    // After every life over the table that left this history, the life with this run is a life and keeps the promise,
-    // whatever moment the run is stopped at.
+    // After every life over the table that left this history, the life with this run is a life, keeps the promise, and decides
+    // as over every table that differs in its secrets alone, whatever moment the run is stopped at.
     ensures lives { P.told → I.told → B.told → (batch : ℕ) → NamesCommand words.now.items (Serve batch) → IsQuiet B.Bench bench.old
         → (base : Database) (history : List Answered) → ServesOver (P.left schema.old) (P.left table.old) (B.file bench.old) base history
         → (runs : List Run) → IsLife base runs history

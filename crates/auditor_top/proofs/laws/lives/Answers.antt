@@ -20,4 +20,8 @@ returns-clause-go_on c = λ schema table image base runs last files life stands.
 pub returns-clause-longer : goal.returns-clause-longer
 returns-clause-longer c = λ schema table image base runs history run files life batch stands stop.
     let longer = lead_push base [] runs history run life (record { batch = batch; image = image; stands = stands; stop = stop }) in
-    (longer, returns-clause-keep c schema table base _ run.last files longer)
+    record {
+      life = longer;
+      keeps = returns-clause-keep c schema table base _ run.last files longer;
+      alike = λ twin others final line a b twins other are. c.two_worlds.ensures.lives base twin _ others run.last final line a b twins longer other are;
+    }
