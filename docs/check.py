@@ -1,5 +1,6 @@
 #!/usr/bin/env python3
-"""Checks that what the documents name is there: links, paths, edits, clauses and words of specs/.
+"""Checks that what the documents name is there: links, paths, edits, clauses and words of specs/; that README shows replies of
+the demo, in order; and that the demo and the gate's case of the program have the same files.
 
     docs/check.py           # prints each name that isn't there; exits with 1 where there is one
 """
@@ -77,6 +78,22 @@ def missing_tests(page, text):
 
 
 CRATES = {path.name for path in TOP.glob("crates/*")}
+COPIES = {"schema.json": "data/schema.json", "table.csv": "data/table.csv", "questions.jsonl": "stdin", "replies.jsonl": "stdout"}
+
+
+def stale_transcript():
+    due = iter((TOP / "demo/replies.jsonl").read_text().splitlines())
+    for reply in re.findall(r"(?m)^ {4}(\{.*?\})(?: |$)", (TOP / "README.md").read_text()):
+        if reply not in due:
+            yield f"README.md: reply {reply}"
+
+
+def stale_copies():
+    for ours, gates in COPIES.items():
+        if (TOP / "demo" / ours).read_bytes() != (TOP / "crates/auditor" / gates).read_bytes():
+            yield f"demo/{ours}: other than crates/auditor/{gates}"
+
+
 CHECKS = [missing_links, missing_paths, missing_edits, missing_rows, missing_entries, missing_tests]
 
 
@@ -88,6 +105,7 @@ def main():
         for check in CHECKS
         for fault in check(page, page.read_text())
     ]
+    faults += [*stale_transcript(), *stale_copies()]
     print("\n".join(faults) if faults else f"{len(PAGES)} pages, and all that they name is there")
     return 1 if faults else 0
 
