@@ -5,10 +5,8 @@
 # demo/run.sh does.
 #
 #   bench/kill.sh [ROUNDS]        1,000 where none is given
-set -u
-here=$(cd "$(dirname "$0")" && pwd)
 rounds=${1:-1000}
-. "$here/setup.sh"
+. "$(dirname "$0")/setup.sh"
 echo '{"columns":[{"name":"age","is":"number"},{"name":"pay","is":"sum"},{"name":"best","is":"max"}]}' >schema.json
 
 # A table of sixty rows, a journal, and questions that no run comes to the end of.

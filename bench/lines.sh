@@ -1,10 +1,8 @@
 #!/bin/sh
 # Times the built program on a million count lines, beside an awk program that reads the same lines and flushes a reply
 # for each. Build the program first: demo/run.sh does.
-set -u
-here=$(cd "$(dirname "$0")" && pwd)
 lines=${1:-1000000}
-. "$here/setup.sh"
+. "$(dirname "$0")/setup.sh"
 printf '{"columns":[{"name":"age","is":"number"}]}' >schema.json
 printf 'age\n30\n41\n35\n52\n28\n44\n' >table.csv
 yes '{"ask":"count","where":"all"}' | head -n "$lines" >questions.jsonl

@@ -3,10 +3,8 @@
 # their times. Build the program first: demo/run.sh does. The plain one is built here, with cargo.
 #
 #   bench/pace.sh [--rounds 3] [--only 1024-intervals-max] [--opening]
-set -u
-here=$(cd "$(dirname "$0")" && pwd)
 # A sync is free in a folder that is kept in memory.
 [ -d /dev/shm ] && export TMPDIR=/dev/shm
-. "$here/setup.sh"
+. "$(dirname "$0")/setup.sh"
 cargo build --quiet --release --offline --manifest-path "$here/plain/Cargo.toml" || exit 1
 python3 "$here/pace.py" "$program" "$here/plain/target/release/plain" "$@"

@@ -6,10 +6,8 @@
 # TMPDIR be on a disk. Build the program first: demo/run.sh does.
 #
 #   bench/serve.sh [QUESTIONS]        2,000 where none is given; a quarter of them of maxima alone
-set -u
-here=$(cd "$(dirname "$0")" && pwd)
 most=${1:-2000}
-. "$here/setup.sh"
+. "$(dirname "$0")/setup.sh"
 echo '{"columns":[{"name":"band","is":"number"},{"name":"age","is":"number"},{"name":"pay","is":"sum"},{"name":"best","is":"max"}]}' >schema.json
 
 # A table of so many rows. Ages are spread over four times as many numbers.

@@ -1,4 +1,6 @@
-# Read by the scripts beside it, which set `here`: finds the built program, and goes to a fresh folder that is gone at the end.
+# Read by the scripts beside it: finds their folder and the built program, and goes to a fresh folder that is gone at the end.
+set -u
+here=$(cd "$(dirname "$0")" && pwd)
 program=$here/../crates/auditor/out/auditor
 if [ ! -x "$program" ]; then
     echo "bench: build the program first, as demo/run.sh does" >&2
