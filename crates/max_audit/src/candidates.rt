@@ -26,7 +26,8 @@ fn below_all(pairs: &[AnsweredMax]) -> i128
 fn push(list: &mut Vec<i128>, number: i128) -> Result<(), NoMemory>
     ensures { OnOk result (list.new.items ≡ list.old.items ++ number ∷ []) }
 {
-    list.push(number).map_err(|_| NoMemory)
+    list.push(number)?;
+    Ok(())
 }
 
 /// Each earlier answer, the number above it, and the number below all; 0 where there is none.

@@ -108,7 +108,7 @@ impl ColumnAudit for SumColumn {
     fn accept(&mut self, rows: &RowSet, answer: i64) -> Result<(), NoMemory> {
         sum_basis::laws::narrow_or_wide();
         let _ = rows.n();
-        self.pairs.reserve(1).map_err(|_| NoMemory)?;
+        self.pairs.reserve(1)?;
         match self.basis.extend(rows)? {
             Grown::Wide => unreachable!(),
             Grown::Same | Grown::Added => {}

@@ -32,7 +32,8 @@ fn or_zero(bound: Option<i64>) -> i128
 fn push(list: &mut Vec<i128>, number: i128) -> Result<(), NoMemory>
     ensures { OnOk result (list.new.items ≡ list.old.items ++ number ∷ []) }
 {
-    list.push(number).map_err(|_| NoMemory)
+    list.push(number)?;
+    Ok(())
 }
 
 // Each row at its upper bound, and at 0 without one.
@@ -54,7 +55,7 @@ fn lowered(alloc: Global, list: &[i128], row: u16) -> Result<Vec<i128>, NoMemory
     requires near { All IsNearRange list.now }
     ensures exact { IfOk result (λ lowered. lowered.items ≡ lowered_at list.now row) }
 {
-    let mut lowered = Vec::from_slice(alloc, list).map_err(|_| NoMemory)?;
+    let mut lowered = Vec::from_slice(alloc, list)?;
     lowered[row as usize] -= 1;
     Ok(lowered)
 }

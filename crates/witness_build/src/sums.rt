@@ -123,7 +123,7 @@ pub fn sum_witness(alloc: Global, column: &SumColumn, row: u16) -> Result<Vec<i1
     ensures canonical { IfOk result (λ d. (form : List (List ℤ)) → Reduced column.now.n (sets_of column.now.answers) form → IsCanonicalDirection column.now.n (sets_of column.now.answers) form row d.items) }
     ensures small { IfOk result (λ d. IsSmall d.items) }
 {
-    let mut direction = vec![in alloc; 0; column.n() as usize].map_err(|_| NoMemory)?;
+    let mut direction = vec![in alloc; 0; column.n() as usize]?;
     write_direction(&mut direction, column, row);
     Ok(direction)
 }
