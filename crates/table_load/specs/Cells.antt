@@ -1,6 +1,7 @@
 -- What a table holds, column by column.
 use Rattle.std.specs.Prelude.{◌≡◌, ◌≢◌, ℕ, ◌<◌, ◌≤◌, ℤ, pos, true, cond, List, [], ◌∷◌, length, drop, count_by, slice_index_or, Some}
 use Rattle.std.specs.List.{AllByRecursion}
+use Rattle.audit_types.specs.Limits.{most_rows}
 use Rattle.audit_types.specs.History.{Secrets}
 use Rattle.audit_types.specs.Shapes.{IsShape, columns}
 use Rattle.audit_types.specs.declared.shapes.Shape.{Shape}
@@ -68,7 +69,7 @@ AreCells n (texts list) = length list ≡ n
 -- 1 to 1,024 rows, and columns with a cell for each
 pub record IsPublic (p : PublicView) : Type 0 where
   pub some : 0 < p.rows
-  pub at_most : p.rows ≤ 1024
+  pub at_most : p.rows ≤ most_rows
   pub columns : AllByRecursion (AreCells p.rows) p.columns
 
 -- a shape, and for each of its columns a number in range for each row
@@ -114,7 +115,7 @@ pub record AreLists (schema : List Column) (lists : List (List ℤ)) : Type 0 wh
   pub no_texts : AllByRecursion (λ c. c.role ≢ Text) schema
   pub one_each : length lists ≡ public_count schema
   pub some : 0 < length (first_list lists)
-  pub at_most : length (first_list lists) ≤ 1024
+  pub at_most : length (first_list lists) ≤ most_rows
   pub numbers : AllByRecursion (AreNumbers (length (first_list lists))) lists
 
 -- the columns of a schema, of which the public ones have these lists in order

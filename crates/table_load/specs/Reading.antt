@@ -2,6 +2,7 @@
 use Rattle.std.specs.Prelude.{ℕ, ◌+◌, ℤ, Bool, true, false, ◌&&◌, not, cond, if◌then◌else◌, List, [], ◌∷◌, length, map, filter, take, Option, Some, None, nat_lt, ◌==◌}
 use Rattle.std.specs.List.{list_all}
 use Rattle.std.specs.Str.{bytes_eq, is_utf8}
+use Rattle.audit_types.specs.Limits.{most_rows}
 use Rattle.csv.specs.Reading.{default_config, strip_bom, records}
 use Rattle.schema_json.specs.Columns.{Column, is_public}
 use Rattle.schema_json.specs.declared.roles.Role.{Role}
@@ -74,10 +75,6 @@ names_are [] (c ∷ columns) = false
 names_are (f ∷ fields) [] = false
 names_are (f ∷ fields) (c ∷ columns) = bytes_eq f c.name && names_are fields columns
 
--- the most rows of a table
-abbrev pub most_rows : ℕ
-most_rows = 1024
-
 -- the fault of having no row, or too many
 abbrev pub count_fault : List Fields → Option TableFault
 count_fault [] = Some NoRows
@@ -92,6 +89,10 @@ abbrev pub header_fault : List Column → List Fields → Option TableFault
 header_fault columns [] = Some Header
 header_fault columns (h ∷ rs) = if not (names_are h columns) then Some Header else data_fault (roles_of columns) rs
 
+-- the most bytes of a table
+abbrev pub most_table : ℕ
+most_table = 16777216
+
 -- the first fault of a file with these columns
 unfoldable pub file_fault : List Column → List ℕ → Option TableFault
-file_fault columns bytes = if nat_lt 16777216 (length bytes) then Some TooLong else header_fault columns (records_of bytes)
+file_fault columns bytes = if nat_lt most_table (length bytes) then Some TooLong else header_fault columns (records_of bytes)

@@ -2,14 +2,17 @@
 use Rattle.std.specs.Prelude.{◌≡◌, ◌<◌, ◌≤◌, ℕ, true, List, [], ◌∷◌, length, map, Some, None, Vec, Result, Ok, Err}
 use Rattle.std.specs.declared.alloc.Global.{Global}
 use Rattle.std.specs.Borrow.{Bor}
-use Rattle.csv.specs.Reading.{Reached, Ready, default_config, source_of, strip_bom}
+use Rattle.audit_types.specs.Limits.{most_rows}
+use Rattle.csv.specs.Reading.{Reached, Ready, default_config, is_flexible, source_of, strip_bom}
 use Rattle.csv.specs.Records.{Row, fields_of}
+use Rattle.csv.specs.declared.error.ErrorKind.{ErrorKind}
+use Rattle.csv.specs.declared.error.ErrorKind.TheVariants as kind
 use Rattle.csv.specs.declared.iter.ByteRecordsIntoIter.{ByteRecordsIntoIter}
 use Rattle.csv.specs.declared.parser.State.TheVariants as state
 use Rattle.csv.specs.declared.reader.Trim.TheVariants as trim
 use Rattle.schema_json.specs.Columns.{Column}
 use Rattle.table_load.specs.Faults.{UnlessMemory}
-use Rattle.table_load.specs.Reading.{Fields, names_are, records_fault, roles_of, file_fault}
+use Rattle.table_load.specs.Reading.{Fields, names_are, records_fault, roles_of, file_fault, most_table}
 use Rattle.table_load.specs.Tables.{data_of}
 use Rattle.table_load.specs.declared.faults.TableFault.{TableFault}
 
@@ -17,16 +20,27 @@ use Rattle.table_load.specs.declared.faults.TableFault.{TableFault}
 pub record HasRead (bytes : List ℕ) (rows : List Fields) (reader : ByteRecordsIntoIter (Bor (List ℕ))) : Type 0 where
   pub plain : reader.rdr.trim ≡ trim.None
   pub ready : Ready reader.rdr
+  pub flexible : is_flexible reader.rdr ≡ true
   pub turns : 0 < reader.left
   pub as_usual : reader.rdr.config ≡ default_config
   pub left : List ℕ
   pub source : source_of (λ s. Some s.now) reader.rdr ≡ Some left
   pub reached : Reached default_config state.StartRecord (strip_bom bytes) rows reader.rdr.state left
 
+-- why a read of bytes in memory by a reader of records of any length may fail. Such bytes can always be read, but no
+-- clause of theirs says so.
+abbrev pub IsOfMemory : ErrorKind → Type 0
+IsOfMemory (kind.Io why) = Unit {0}
+IsOfMemory kind.OutOfMemory = Unit {0}
+IsOfMemory (kind.Utf8 at why) = ⊥
+IsOfMemory (kind.UnequalLengths at expected length) = ⊥
+IsOfMemory (kind.Serialize why) = ⊥
+IsOfMemory (kind.Deserialize at why) = ⊥
+
 -- the bytes are few enough, have a header with these columns' names, and behind it first these records; the reader
 -- stands behind them
 pub record HasOpened (columns : List Column) (bytes : List ℕ) (rows : List Fields) (reader : ByteRecordsIntoIter (Bor (List ℕ))) : Type 0 where
-  pub short : length bytes ≤ 16777216
+  pub short : length bytes ≤ most_table
   pub header : Fields
   pub named : names_are header columns ≡ true
   pub read : HasRead bytes (header ∷ rows) reader
@@ -42,7 +56,7 @@ pub record AreData (columns : List Column) (bytes : List ℕ) (rows : List Field
   pub data_are : data_of bytes ≡ rows
   pub good : records_fault (roles_of columns) 2 rows ≡ None
   pub some : 0 < length rows
-  pub at_most : length rows ≤ 1024
+  pub at_most : length rows ≤ most_rows
 
 -- the data records of the file, or its first fault
 abbrev pub ReadsData : Result (Vec Row Global) TableFault → List Column → List ℕ → Type 0

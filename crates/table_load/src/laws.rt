@@ -1,5 +1,6 @@
 //! What is true of the definitions themselves. A law computes nothing: its contract is the law.
-ghost use Rattle.std.specs.Prelude.{◌≡◌, ◌≢◌, ℕ, ◌<◌, ◌≤◌, ◌*◌, ◌^◌, ℤ, List, [], Ok, Some, unsigned_abs};
+ghost use Rattle.std.specs.Prelude.{◌≡◌, ◌≢◌, ℕ, ◌<◌, ◌≤◌, ℤ, List, [], Ok, Some, unsigned_abs};
+ghost use Rattle.audit_types.specs.Limits.{most_number, most_answer};
 ghost use Rattle.audit_types.specs.Rows.{AreRows};
 ghost use Rattle.audit_types.specs.Shapes.{columns};
 ghost use Rattle.audit_types.specs.Truth.{sum_over, greatest_over};
@@ -19,9 +20,9 @@ pub fn spells()
 /// A sum over secrets has a size of at most 1,024 times 10^12, and a greatest one of at most 10^12.
 pub fn sizes_of_answers()
     ensures sums { (s : SecretView) (column : ℕ) (rows : List ℕ) → IsSecret s → column < columns s.shape → AreRows s.shape.rows rows
-        → unsigned_abs (sum_over (list_of s.lists column) rows) ≤ 1024 * 10 ^ 12 }
+        → unsigned_abs (sum_over (list_of s.lists column) rows) ≤ most_answer }
     ensures maxima { (s : SecretView) (column : ℕ) (rows : List ℕ) → IsSecret s → column < columns s.shape → AreRows s.shape.rows rows → rows ≢ []
-        → unsigned_abs (greatest_over (list_of s.lists column) rows) ≤ 10 ^ 12 }
+        → unsigned_abs (greatest_over (list_of s.lists column) rows) ≤ most_number }
 {}
 
 /// The lists of a table's secrets are those of its shape.

@@ -20,4 +20,5 @@ pub use faults::TableFault;
 pub use laws::{lists_of_secrets, sizes_of_answers, spells};
 pub use loading::{Table, load, load_public};
 pub use publics::{Column, Public};
+pub use reading::MOST_TABLE;
 pub use secrets::Secret;

@@ -1,5 +1,6 @@
 //! From bytes to a table: first the records are read and tested, then each column is built.
 ghost use Rattle.std.specs.Prelude.{◌≡◌, ◌<◌, ◌≤◌, IfOk, None, length, map};
+ghost use Rattle.audit_types.specs.Limits.{most_rows};
 ghost use Rattle.csv.specs.Records.{fields_of};
 ghost use Rattle.schema_json.specs.SecretShape.{shape_of};
 ghost use Rattle.table_load.specs.Cells.{FitsSchema};
@@ -52,7 +53,7 @@ fn public_part(
 ) -> Result<Public, NoMemory>
     requires good { records_fault (roles_of (file_columns which schema.now.columns)) 2 (map fields_of rows.now) ≡ None }
     requires some { 0 < length rows.now }
-    requires at_most { length rows.now ≤ 1024 }
+    requires at_most { length rows.now ≤ most_rows }
     ensures public { IfOk result (λ p. p ≡ public_in which schema.now.columns (map fields_of rows.now)) }
     ensures fits { IfOk result (λ p. FitsSchema schema.now.columns p) }
 {
@@ -66,7 +67,7 @@ fn public_part(
 fn secret_part(alloc: Global, schema: &Schema, rows: &[ByteRecord]) -> Result<Secret, NoMemory>
     requires good { records_fault (roles_of (file_columns FileColumns.All schema.now.columns)) 2 (map fields_of rows.now) ≡ None }
     requires some { 0 < length rows.now }
-    requires at_most { length rows.now ≤ 1024 }
+    requires at_most { length rows.now ≤ most_rows }
     ensures { IfOk result (λ s. s ≡ secret_in schema.now.columns (map fields_of rows.now)) }
 {
     match secret_lists(alloc, schema, rows) {

@@ -4,8 +4,10 @@ ghost use Rattle.std.specs.List.{list_all};
 ghost use Rattle.table_load.specs.Numerals.{after_spaces, digits_number, is_space, number_in, option_sign, signed_number};
 ghost use Rattle.table_load.specs.Numbers.{IsNumeralOf, capped};
 
-/// The greatest size of a number.
-const MOST: u64 = 1_000_000_000_000;
+use audit_types::MOST_NUMBER;
+
+// The greatest size of a number, as sizes are counted here.
+const MOST: u64 = MOST_NUMBER as u64;
 
 /// What a field is read as.
 #[derive(Clone, Copy, Drop)]

@@ -1,18 +1,20 @@
 //! The data records of a file, read until one has a fault.
 ghost use Rattle.std.specs.Prelude.{◌≡◌, [], length, ◌≤◌};
 ghost use Rattle.table_load.specs.Reading.{file_columns, roles_of};
-ghost use Rattle.table_load.specs.Steps.{HasRead, Opens, ReadsData};
+ghost use Rattle.csv.specs.Reading.{error_kind};
+ghost use Rattle.table_load.specs.Steps.{HasRead, IsOfMemory, Opens, ReadsData};
+ghost use Rattle.table_load.specs.declared.faults.TableFault.TheVariants.{NoMemory};
 
 use crate::faults::TableFault;
 use crate::layout::FileColumns;
 use crate::records::{is_header, record_fault};
-use csv::{ByteRecord, ByteRecordsIntoIter, ReaderBuilder};
+use audit_types::MOST_ROWS;
+use csv::{ByteRecord, ByteRecordsIntoIter, Error, ErrorKind, ReaderBuilder};
 use schema_json::{Role, Schema};
 use std::alloc::Global;
 
-const MOST_BYTES: usize = 16_777_216;
-
-const MOST_ROWS: usize = 1_024;
+/// The most bytes of a table.
+pub const MOST_TABLE: usize = 16_777_216;
 
 // A reader at the front of a file.
 fn records_of(alloc: Global, bytes: &[u8]) -> ByteRecordsIntoIter<&[u8]>
@@ -25,6 +27,20 @@ fn records_of(alloc: Global, bytes: &[u8]) -> ByteRecordsIntoIter<&[u8]>
         .into_byte_records()
 }
 
+// The fault of a read that failed.
+fn read_fault(error: &Error) -> TableFault
+    requires { IsOfMemory (error_kind error.now) }
+    ensures { result ≡ NoMemory }
+{
+    match error.kind() {
+        ErrorKind::Io(_) | ErrorKind::OutOfMemory => TableFault::NoMemory,
+        ErrorKind::Utf8 { .. }
+        | ErrorKind::UnequalLengths { .. }
+        | ErrorKind::Serialize(_)
+        | ErrorKind::Deserialize { .. } => unreachable!(),
+    }
+}
+
 // A reader behind the header of a file.
 fn open_file<'b>(
     alloc: Global,
@@ -34,13 +50,13 @@ fn open_file<'b>(
 ) -> Result<ByteRecordsIntoIter<&'b [u8]>, TableFault>
     ensures { Opens result (file_columns which schema.now.columns) bytes.now }
 {
-    if bytes.len() > MOST_BYTES {
+    if bytes.len() > MOST_TABLE {
         return Err(TableFault::TooLong);
     }
     let mut records = records_of(alloc, bytes);
     match records.next() {
         None => Err(TableFault::Header),
-        Some(Err(_)) => Err(TableFault::NoMemory),
+        Some(Err(error)) => Err(read_fault(&error)),
         Some(Ok(header)) => {
             if is_header(schema, which, &header) {
                 Ok(records)
@@ -51,8 +67,8 @@ fn open_file<'b>(
     }
 }
 
-/// The data records of a file, where none of them has a fault. `csv` refuses no record of bytes, however many fields
-/// it has, and a read of bytes does not fail, so that only want of memory is left as its error.
+/// The data records of a file, where none of them has a fault. Records of another length are read too, and only want of
+/// memory is left as an error of a read.
 pub(crate) fn read_rows(
     alloc: Global,
     schema: &Schema,
@@ -70,10 +86,11 @@ pub(crate) fn read_rows(
     };
     let mut rows = Vec::new(alloc);
     for row in records {
-        let Ok(row) = row else {
-            return Err(TableFault::NoMemory);
+        let row = match row {
+            Ok(row) => row,
+            Err(error) => return Err(read_fault(&error)),
         };
-        if rows.len() == MOST_ROWS {
+        if rows.len() == MOST_ROWS as usize {
             return Err(TableFault::TooManyRows);
         }
         if let Some(fault) = record_fault(roles, rows.len() as u32 + 2, &row) {

@@ -10,6 +10,7 @@ returns c =
     record {
       plain = rw rdr (rw (c.flexible.ensures, c.has_headers.ensures) at made.trim ∙ c.new.ensures.trim);
       ready = rw rdr (inr (inr (rw (c.flexible.ensures, c.has_headers.ensures) at made.has_headers, made.headers)));
+      flexible = rw rdr (rw c.flexible.ensures at made.flexible);
       turns = c.into_byte_records.ensures.left;
       as_usual = rw rdr (rw (c.flexible.ensures, c.has_headers.ensures) at made.config ∙ c.new.ensures.config);
       left = strip_bom c.args.bytes.now;
