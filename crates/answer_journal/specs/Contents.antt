@@ -1,5 +1,6 @@
 -- A journal and a group that is ready, as contracts see them.
 use Rattle.std.specs.Prelude.{◌≡◌, ℕ, ◌+◌, ◌*◌, ◌≤◌, Bool, List, [], ◌∷◌, ◌++◌}
+use Rattle.audit_types.specs.Limits.{most_records}
 use Rattle.audit_types.specs.declared.shapes.Shape.{Shape}
 use Rattle.audit_types.specs.declared.records.Answered.{Answered}
 use Rattle.audit_types.specs.Shapes.{IsShape}
@@ -15,7 +16,7 @@ pub record JournalContents : Type 0 where
 -- a valid shape, and a gate that so many records can reach
 pub record IsJournal (journal : JournalContents) : Type 0 where
   pub shaped : IsShape journal.shape
-  pub few : journal.count ≤ 65536
+  pub few : journal.count ≤ most_records
   pub reached : journal.gate ≤ 20 + 139 * journal.count
 
 -- the shape, and the records of the group

@@ -1,5 +1,6 @@
 //! Reading the journal of a bench back.
 ghost use Rattle.std.specs.Prelude.{◌≡◌, ◌≤◌, ◌+◌, ℕ, List, true, length, take, All, IfOk, IfErr, OnOk, MatchResult, IsErrOf, Err};
+ghost use Rattle.audit_types.specs.Limits.{most_records};
 ghost use Rattle.audit_types.specs.declared.shapes.Shape.{Shape};
 ghost use Rattle.audit_types.specs.declared.records.Answered.{Answered};
 ghost use Rattle.audit_types.specs.History.{FitsShape};
@@ -12,15 +13,15 @@ ghost use Rattle.answer_journal.specs.Moments.{IsMade, IsUntouched};
 
 use crate::journal::{BackFault, Journal};
 use crate::reading::{Contents, read_all};
-use audit_types::Answered;
+use audit_types::{Answered, MOST_RECORDS};
 use bench_core::Bench;
 use journal_form::laws::{
     bytes_of_records, no_break_in_a_journal, one_break, one_reading, the_front_tells,
 };
 use std::alloc::Global;
 
-// 21 bytes, and at most 139 for each of 65,536 records.
-const MOST_BYTES: u64 = 9_109_525;
+// 21 bytes, and at most 139 for each record.
+const MOST_BYTES: u64 = 21 + 139 * MOST_RECORDS as u64;
 
 // The bytes of the bench's file, up to as many as a journal has at most.
 fn front_of<B: Bench>(alloc: Global, bench: &mut B) -> Result<Vec<u8>, BackFault>
@@ -72,7 +73,7 @@ impl Journal {
         // Whatever the bench tells, what is read back is a history of the journal's shape.
         ensures usable { IfOk result (λ r. (r.0.usable ≡ true) × IsJournal r.0 × (length r.1.items ≡ r.0.count)) }
         ensures fit { IfOk result (λ r. All (λ a. FitsShape r.0.shape a.column a.rows) r.1.items) }
-        ensures few { IfOk result (λ r. length r.1.items ≤ 65536) }
+        ensures few { IfOk result (λ r. length r.1.items ≤ most_records) }
 
         // A journal is there exactly where the file is long enough and its header gate is open.
         ensures not_made { B.told → result ≡ Err BackFault.NotMade → IsMade (B.file bench.old) → ⊥ }

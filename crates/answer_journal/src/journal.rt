@@ -1,5 +1,6 @@
 //! The journal of a table's answers.
 ghost use Rattle.std.specs.Prelude.{◌≡◌, ◌<◌, ◌≤◌, ◌+◌, ◌++◌, ℕ, List, true, false, length, All, IfOk, OnOk, OnErr, IsErrOf};
+ghost use Rattle.audit_types.specs.Limits.{most_records};
 ghost use Rattle.audit_types.specs.declared.records.Answered.{Answered};
 ghost use Rattle.audit_types.specs.History.{FitsShape};
 ghost use Rattle.bench_core.specs.Causes.{HasCause, Rose};
@@ -131,7 +132,7 @@ impl Journal {
     /// The number of its records.
     pub fn count(&self) -> u32
         ensures count { result ≡ self.now.count }
-        ensures few { self.now.count ≤ 65536 }
+        ensures few { self.now.count ≤ most_records }
     {
         self.count
     }
@@ -150,7 +151,7 @@ impl Journal {
     pub fn append_ready<B: Bench>(&mut self, bench: &mut B, ready: &Ready) -> Result<(), Failed>
         requires usable { self.old.usable ≡ true }
         requires shape { ready.now.shape ≡ self.old.shape }
-        requires few { self.old.count + length ready.now.list ≤ 65536 }
+        requires few { self.old.count + length ready.now.list ≤ most_records }
         requires stands { B.told → (history : List Answered) × StandsAt (B.file bench.old) self.old.shape history self.old.gate × (length history ≡ self.old.count) }
 
         // A crash at any moment of the call leaves the history before it, or that with the whole group.
@@ -187,7 +188,7 @@ impl Journal {
         requires some { 0 < length list.now }
         requires group { length list.now ≤ 64 }
         requires fit { All (λ r. FitsShape self.old.shape r.column r.rows) list.now }
-        requires few { self.old.count + length list.now ≤ 65536 }
+        requires few { self.old.count + length list.now ≤ most_records }
         requires stands { B.told → (history : List Answered) × StandsAt (B.file bench.old) self.old.shape history self.old.gate × (length history ≡ self.old.count) }
 
         // A crash at any moment of the call leaves the history before it, or that with the whole group.

@@ -6,13 +6,10 @@ ghost use Rattle.answer_journal.specs.Faults.{IsFaultOf};
 ghost use Rattle.answer_journal.specs.Moments.{IsMade};
 
 use crate::journal::BackFault;
-use audit_types::{Answered, Shape};
+use audit_types::{Answered, MOST_RECORDS, Shape};
 use journal_form::laws::the_front_tells;
 use journal_form::{GroupFault, read_group, read_header};
 use std::alloc::Global;
-
-/// The most records of a journal.
-pub const MOST_RECORDS: usize = 65_536;
 
 /// What the bytes of a journal stand for, and the place of the gate that ends its groups.
 #[derive(Drop)]

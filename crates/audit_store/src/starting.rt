@@ -1,5 +1,6 @@
 //! Opening the journal of a table.
 ghost use Rattle.std.specs.Prelude.{◌≡◌, ◌≤◌, true, false, Ok, length, All, IfOk, IfErr, OnOk};
+ghost use Rattle.audit_types.specs.Limits.{most_records};
 ghost use Rattle.audit_types.specs.History.{FitsShape, IsLegal, IsPossibleHistory, IsDecisionAfter, setting_of};
 ghost use Rattle.audit_types.specs.declared.records.Verdict.TheVariants.{Released};
 ghost use Rattle.audit_store.specs.Starting.{AreTrue, HistoryCause, start_fault};
@@ -48,7 +49,7 @@ impl From<BackFault> for StartFault {
 // Looks for the first record whose answer isn't the true one.
 fn test_truth(secret: &Secret, list: &[Answered]) -> Result<(), StartFault>
     requires fit { All (λ r. FitsShape secret.now.shape r.column r.rows) list.now }
-    requires few { length list.now ≤ 65536 }
+    requires few { length list.now ≤ most_records }
     ensures ok { OnOk result (AreTrue (secret_table secret.now) list.now) }
     ensures err { IfErr result (λ fault. HistoryCause fault secret.now.shape list.now secret.now) }
 {
@@ -87,7 +88,7 @@ fn is_released(core: &Core, answered: &Answered) -> Result<bool, NoMemory>
 // Decides each record's question after the records before it, as it was decided when it was answered.
 fn replay(alloc: Global, secret: &Secret, list: &[Answered]) -> Result<Core, StartFault>
     requires fit { All (λ r. FitsShape secret.now.shape r.column r.rows) list.now }
-    requires few { length list.now ≤ 65536 }
+    requires few { length list.now ≤ most_records }
     requires are_true { AreTrue (secret_table secret.now) list.now }
     ensures ok { IfOk result (λ core. (core ≡ record { setting = setting_of secret.now.shape; history = list.now }) × IsLegal (secret_table secret.now) list.now) }
     ensures err { IfErr result (λ fault. HistoryCause fault secret.now.shape list.now secret.now) }
@@ -119,7 +120,7 @@ fn replay(alloc: Global, secret: &Secret, list: &[Answered]) -> Result<Core, Sta
 /// Tests that a history is that of the secrets' table: every answer is true, and every question was to be released.
 pub fn audited(alloc: Global, secret: &Secret, list: &[Answered]) -> Result<Core, StartFault>
     requires fit { All (λ r. FitsShape secret.now.shape r.column r.rows) list.now }
-    requires few { length list.now ≤ 65536 }
+    requires few { length list.now ≤ most_records }
     ensures ok { IfOk result (λ core. (core ≡ record { setting = setting_of secret.now.shape; history = list.now }) × IsLegal (secret_table secret.now) list.now) }
     ensures err { IfErr result (λ fault. HistoryCause fault secret.now.shape list.now secret.now) }
 {

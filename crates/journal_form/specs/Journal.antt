@@ -1,6 +1,7 @@
 -- A journal: a header, groups behind open gates, and a gate that isn't open.
 use Rattle.std.specs.Prelude.{◌≡◌, ◌≢◌, ℕ, ◌+◌, ◌-◌, ◌*◌, ◌≤◌, ◌⊎◌, List, [], ◌∷◌, ◌++◌, length}
 use Rattle.std.specs.List.{flat_map, AllByRecursion}
+use Rattle.audit_types.specs.Limits.{most_records}
 use Rattle.audit_types.specs.declared.shapes.Shape.{Shape}
 use Rattle.audit_types.specs.declared.records.Answered.{Answered}
 use Rattle.journal_form.specs.Header.{header, IsWholeShape, HeaderBreaks}
@@ -28,7 +29,7 @@ pub record Begins (file : List ℕ) (shape : Shape) (groups : List Written) (beh
   pub shaped : IsWholeShape shape
   pub whole : AreGroups shape groups
   pub file_is : file ≡ header shape ++ (texts groups ++ behind)
-  pub few : length (records groups) ≤ 65536
+  pub few : length (records groups) ≤ most_records
 
 -- the place of the gate behind these groups
 abbrev pub gate_behind : List Written → ℕ
@@ -61,7 +62,7 @@ pub record BreaksBehind (file : List ℕ) (at : ℕ) : Type 0 where
   pub behind : List ℕ
   pub begins : Begins file shape groups behind
   pub breaks : ((behind ≡ []) × (at ≡ gate_behind groups))
-      ⊎ ((group : List ℕ) × (place : ℕ) × (behind ≡ 1 ∷ group) × GroupBreaks shape (65536 - length (records groups)) group place × (at ≡ gate_behind groups + 1 + place))
+      ⊎ ((group : List ℕ) × (place : ℕ) × (behind ≡ 1 ∷ group) × GroupBreaks shape (most_records - length (records groups)) group place × (at ≡ gate_behind groups + 1 + place))
 
 -- the place of the first byte that breaks the grammar of journals, or the file's length where it ends too early
 abbrev pub BreaksAt : List ℕ → ℕ → Type 0
@@ -69,4 +70,4 @@ BreaksAt file at = HeaderBreaks file at ⊎ BreaksBehind file at
 
 -- the most bytes of a journal: a header, groups of one record each over 1,024 rows, and the gate behind them
 abbrev pub most_bytes : ℕ
-most_bytes = 21 + 65536 * 139
+most_bytes = 21 + most_records * 139

@@ -3,7 +3,7 @@ ghost use Rattle.std.specs.Prelude.{◌≡◌, ◌≤◌, ◌<◌, ℕ, ◌∷�
 ghost use Rattle.audit_types.specs.Shapes.{IsShape};
 ghost use Rattle.journal_form.specs.Header.{named, header, IsGoodHeaderByte, HeaderBreaks, IsWholeShape};
 
-use audit_types::Shape;
+use audit_types::{MOST_ROWS, Shape};
 
 // The gate, open, then the name and the version. These bytes are in every journal: never change them.
 const FRONT: [u8; 9] = [1, 83, 81, 65, 74, 82, 78, 76, 1];
@@ -37,7 +37,7 @@ pub fn read_header(bytes: &[u8; 20]) -> Result<Shape, u32>
         return Err(9);
     }
     let rows = bytes[9] as u16 * 256 + bytes[10] as u16;
-    if rows == 0 || rows > 1024 {
+    if rows == 0 || rows > MOST_ROWS {
         return Err(10);
     }
     if bytes[11] > 8 {

@@ -1,5 +1,6 @@
 //! A set of rows as bytes: row r is bit r mod 8, lowest first, of byte r div 8.
 ghost use Rattle.std.specs.Prelude.{◌≡◌, ◌≢◌, ◌↔◌, ◌≤◌, ◌<◌, ◌+◌, ◌-◌, ◌*◌, ◌^◌, ◌++◌, ℕ, List, [], length, take, slice_index, IsTrue, IfOk, IfErr, OnOk};
+ghost use Rattle.audit_types.specs.Limits.{most_rows};
 ghost use Rattle.journal_form.specs.Record.{set_size, last_bits, rows_in, IsByteOf, IsSet};
 
 use audit_types::RowSet;
@@ -42,7 +43,7 @@ pub fn put_set(out: &mut Vec<u8>, rows: &RowSet) -> Result<(), AllocError>
 /// Reads the set that stands at the front. The error is the place of the byte that breaks it.
 pub fn read_set(n: u16, bytes: &[u8]) -> Result<RowSet, usize>
     requires some { 0 < n }
-    requires at_most { n ≤ 1024 }
+    requires at_most { n ≤ most_rows }
     ensures ok { IfOk result (λ rows. (set_size n ≤ length bytes.now) × (rows.n ≡ n) × IsSet n (take (set_size n) bytes.now) rows.list × (rows.list ≢ [])) }
 
     // The bytes end too early, or the last one has a padding bit or leaves the set empty.
@@ -75,7 +76,7 @@ fn fits(byte: u8, bits: u16) -> bool
 // The rows whose bits are set.
 fn rows_of(n: u16, bytes: &[u8]) -> RowSet
     requires some { 0 < n }
-    requires at_most { n ≤ 1024 }
+    requires at_most { n ≤ most_rows }
     requires long { length bytes.now ≡ set_size n }
     ensures n { result.n ≡ n }
     ensures rows { result.list ≡ rows_in n bytes.now }

@@ -1,7 +1,7 @@
 -- The cutter of lines as contracts see it, and what one call gives.
-use Rattle.std.specs.Prelude.{◌≡◌, ◌⊎◌, ℕ, ◌+◌, ◌^◌, ◌<◌, ◌≤◌, Bool, true, false, List, [], ◌∷◌, ◌++◌, length, take, drop}
+use Rattle.std.specs.Prelude.{◌≡◌, ◌⊎◌, ℕ, ◌+◌, ◌<◌, ◌≤◌, Bool, true, false, List, [], ◌∷◌, ◌++◌, length, take, drop}
 use Rattle.std.specs.List.{All}
-use Rattle.line_wire.specs.Lines.{CountedLine, is_feed, line_of, counted_lines, whole_lines, kept}
+use Rattle.line_wire.specs.Lines.{CountedLine, is_feed, line_of, counted_lines, whole_lines, kept, most_input}
 
 -- the number of bytes that were taken, those among them that weren't given yet, whether a read gave 0,
 -- and the text of the line that was given last
@@ -32,7 +32,7 @@ pub record TakesLine (rest : List ℕ) (ended : Bool) (line : CountedLine) (behi
 -- the counts of a cutter that has passed at most the limit
 pub record IsWithin (cutter : Cutter) : Type 0 where
   pub pending : length cutter.pending ≤ cutter.taken
-  pub given : cutter.taken ≤ 2 ^ 30 + length cutter.pending
+  pub given : cutter.taken ≤ most_input + length cutter.pending
   pub small : length cutter.pending ≤ 65536
 
 -- the first line feed stands at this place

@@ -1,6 +1,10 @@
 -- The counted lines of an input.
-use Rattle.std.specs.Prelude.{ℕ, ◌-◌, Bool, List, [], ◌∷◌, length, take, slice_index, if◌then◌else◌, nat_lt, ◌==◌}
+use Rattle.std.specs.Prelude.{ℕ, ◌-◌, ◌^◌, Bool, List, [], ◌∷◌, length, take, slice_index, if◌then◌else◌, nat_lt, ◌==◌}
 use Rattle.std.specs.List.{slice_split, flat_map}
+
+-- the most bytes of an input that are given
+abbrev pub most_input : ℕ
+most_input = 2 ^ 30
 
 -- a counted line: its text, or that it is too long
 pub data CountedLine : Type 0 where

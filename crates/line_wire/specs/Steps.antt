@@ -1,6 +1,6 @@
 -- What the answers of the cutter say.
-use Rattle.std.specs.Prelude.{◌≡◌, ◌<◌, ◌≤◌, ℕ, ◌+◌, ◌^◌, List, [], ◌∷◌, ◌++◌, length, Result, Ok, Err}
-use Rattle.line_wire.specs.Lines.{CountedLine, text, long, counted_lines}
+use Rattle.std.specs.Prelude.{◌≡◌, ◌<◌, ◌≤◌, ℕ, ◌+◌, List, [], ◌∷◌, ◌++◌, length, Result, Ok, Err}
+use Rattle.line_wire.specs.Lines.{CountedLine, text, long, counted_lines, most_input}
 use Rattle.line_wire.specs.Cutter.{Cutter, PassesFeed, PassesNone, TakesLine, StopsAt}
 use Rattle.line_wire.specs.declared.lines.Step.{Step}
 use Rattle.line_wire.specs.declared.lines.Step.TheVariants.{Fed, Dry, Over}
@@ -12,8 +12,8 @@ use Rattle.line_wire.specs.declared.lines.LineStop.TheVariants as stop
 -- what was passed of the bytes at hand: up to a line feed, all of them, or all below the limit
 abbrev pub Passes : Step → Cutter → Cutter → Type 0
 Passes Fed old new = PassesFeed old new
-Passes Dry old new = PassesNone old new × (new.pending ≡ []) × (new.taken ≤ 2 ^ 30)
-Passes Over old new = PassesNone old new × (0 < length new.pending) × (new.taken ≡ 2 ^ 30 + length new.pending)
+Passes Dry old new = PassesNone old new × (new.pending ≡ []) × (new.taken ≤ most_input)
+Passes Over old new = PassesNone old new × (0 < length new.pending) × (new.taken ≡ most_input + length new.pending)
 
 -- the one line that an answer gives
 abbrev pub Gives : Next → List ℕ → List CountedLine → Type 0
@@ -34,8 +34,8 @@ Stops stop.Limit rest new left = StopsAt rest (new.pending ++ left)
 
 -- how many bytes were taken at a refusal: at most 2^30, or more and all of these were passed
 abbrev pub StopsWithin : LineStop → Cutter → Type 0
-StopsWithin stop.Input new = new.taken ≤ 2 ^ 30
-StopsWithin stop.Limit new = (new.taken ≡ 2 ^ 30 + length new.pending) × (0 < length new.pending)
+StopsWithin stop.Input new = new.taken ≤ most_input
+StopsWithin stop.Limit new = (new.taken ≡ most_input + length new.pending) × (0 < length new.pending)
 
 -- only an answer Line shows a text, of at most 8,192 bytes
 abbrev pub ShowsText : Result Next LineStop → List ℕ → Type 0

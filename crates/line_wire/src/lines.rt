@@ -1,8 +1,8 @@
 //! The cutter of lines.
-ghost use Rattle.std.specs.Prelude.{◌≡◌, ◌≢◌, ◌<◌, ◌≤◌, ◌+◌, ◌-◌, ◌^◌, ◌++◌, [], List, ℕ, length, take, drop, Err, IfOk, IfErr, OnOk, OnErr, MatchOption, false, true};
+ghost use Rattle.std.specs.Prelude.{◌≡◌, ◌≢◌, ◌<◌, ◌≤◌, ◌+◌, ◌-◌, ◌++◌, [], List, ℕ, length, take, drop, Err, IfOk, IfErr, OnOk, OnErr, MatchOption, false, true};
 ghost use Rattle.bench_core.specs.Causes.{HasCause, Rose};
 ghost use Rattle.bench_core.specs.Source.{Reads};
-ghost use Rattle.line_wire.specs.Lines.{line_of, counted_lines, whole_lines};
+ghost use Rattle.line_wire.specs.Lines.{line_of, counted_lines, whole_lines, most_input};
 ghost use Rattle.line_wire.specs.Cutter.{IsFeedless, IsFirstFeed};
 
 use crate::buffer::{Buffer, LONGEST};
@@ -12,7 +12,7 @@ use std::alloc::Global;
 use std::marker::Model;
 
 // The most bytes of an input that are given.
-const LIMIT: u64 = 1 << 30;
+const MOST_INPUT: u64 = 1 << 30;
 
 /// What a call of the cutter gives.
 #[derive(Clone, Copy, Debug, PartialEq, Eq)]
@@ -43,14 +43,15 @@ pub struct Lines {
 }
 
 impl Model for Lines {
-    ghost use Rattle.std.specs.Prelude.{◌≤◌, ◌+◌, ◌^◌, length};
+    ghost use Rattle.std.specs.Prelude.{◌≤◌, ◌+◌, length};
+    ghost use Rattle.line_wire.specs.Lines.{most_input};
     ghost use Rattle.line_wire.specs.Cutter.{Cutter};
 
     ghost Value = { Cutter };
 
     ghost view = { λ l. record { taken = l.taken; pending = l.buffer.pending; ended = l.ended; text = l.buffer.line } };
 
-    ghost invariant = { λ l. (length l.buffer.pending ≤ l.taken) × (l.taken ≤ 2 ^ 30 + length l.buffer.pending) × (length l.buffer.pending ≤ 65536) };
+    ghost invariant = { λ l. (length l.buffer.pending ≤ l.taken) × (l.taken ≤ most_input + length l.buffer.pending) × (length l.buffer.pending ≤ 65536) };
 }
 
 // How far the bytes at hand were given: up to a line feed, all of them, or all below the limit.
@@ -99,7 +100,7 @@ impl Lines {
 
         // A line takes at least one byte, and no more bytes are given than the limit.
         ensures advances { IfOk result (Advances self.old self.new) }
-        ensures within { self.new.taken ≤ 2 ^ 30 + length self.new.pending }
+        ensures within { self.new.taken ≤ most_input + length self.new.pending }
 
         // It doesn't give up by itself, and passes over no failed read.
         ensures later { P.faults source.old ≤ P.faults source.new }
@@ -157,7 +158,7 @@ impl Lines {
     {
         let pending = self.buffer.pending();
         let given = self.taken - pending.len() as u64;
-        let room = (LIMIT - given) as usize;
+        let room = (MOST_INPUT - given) as usize;
         let count = pending.len().min(room);
         let over = count < pending.len();
         if let Some(at) = feed_at(&pending[..count]) {
@@ -192,7 +193,7 @@ impl Lines {
     // Reads the next bytes.
     fn refill<P: Source>(&mut self, source: &mut P) -> Result<(), Failed>
         requires dry { self.old.pending ≡ [] }
-        requires within { self.old.taken ≤ 2 ^ 30 }
+        requires within { self.old.taken ≤ most_input }
         ensures bytes { P.told → OnOk result (P.left source.old ≡ self.new.pending ++ P.left source.new) }
         ensures ended { P.told → OnOk result (self.new.ended ≡ true → P.left source.old ≡ []) }
         ensures failed { P.told → OnErr result (P.left source.new ≡ P.left source.old) }

@@ -4,15 +4,13 @@ ghost use Rattle.std.specs.Int.{IsGcd};
 ghost use Rattle.line_wire.specs.Reply.{IsAverage, IsInRange};
 
 use crate::reply::Reply;
-
-/// The most rows of a table.
-const MOST_ROWS: u16 = 1024;
+use audit_types::{MOST_NUMBER, MOST_ROWS};
 
 /// The greatest size of a secret.
-const MOST_SIZE: u64 = 1_000_000_000_000;
+const MOST_SIZE: u64 = MOST_NUMBER as u64;
 
 /// The greatest size of a sum over a table.
-const MOST_SUM: u64 = 1_024_000_000_000_000;
+const MOST_SUM: u64 = MOST_ROWS as u64 * MOST_SIZE;
 
 /// How long a condition may be.
 const MOST_BYTES: u32 = 8192;

@@ -8,11 +8,12 @@ ghost use Rattle.predicate_lang.specs.Lexing.{seen, seen_front, lexeme, Takes, Q
 
 use crate::tokens::{Lexeme, Quote, Token};
 use crate::trees::{Literal, Op, WhereFault, Word};
+use audit_types::MOST_NUMBER;
 use schema_json::Schema;
 use std::alloc::Global;
 
-/// The greatest size of a number.
-const MOST: u64 = 1_000_000_000_000;
+// The greatest size of a number, as sizes are counted here.
+const MOST: u64 = MOST_NUMBER as u64;
 
 fn is_blank(byte: u8) -> bool
     ensures { result ≡ is_blank byte }

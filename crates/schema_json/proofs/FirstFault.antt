@@ -11,7 +11,7 @@ use Rattle.serde_json.specs.Data.{Data}
 use Rattle.serde_json.specs.Read.{read}
 use Rattle.schema_json.specs.Columns.{Column, has_public, has_good_names, repeats, too_many, is_good_name, is_secret, is_public, secret_count}
 use Rattle.schema_json.specs.Kept.{column_of_entry}
-use Rattle.schema_json.specs.Reading.{value_of, columns_of, schema_of, checked, IsFaultOf}
+use Rattle.schema_json.specs.Reading.{value_of, columns_of, schema_of, checked, most_schema, IsFaultOf}
 use Rattle.schema_json.specs.declared.roles.Role.{Role}
 use Rattle.schema_json.specs.declared.faults.SchemaFault.{SchemaFault}
 use Rattle.schema_json.specs.declared.faults.SchemaFault.TheVariants.{TooLong, NotJson, Shape, BadName, Repeated, TooMany}
@@ -24,7 +24,7 @@ chain_of long value columns =
     else (if unwrap_or (option_map too_many columns) false then Err TooMany else Ok (unwrap_or columns []))))))
 
 -- the first fault of bytes is that of their length, value and columns
-chain : (bytes : List ℕ) → schema_of bytes ≡ chain_of (nat_lt 65536 (length bytes)) (value_of bytes) (option_and_then columns_of (value_of bytes))
+chain : (bytes : List ℕ) → schema_of bytes ≡ chain_of (nat_lt most_schema (length bytes)) (value_of bytes) (option_and_then columns_of (value_of bytes))
 chain bytes = refl
 
 -- behind the tests of length and JSON those of the columns are left
@@ -33,15 +33,15 @@ chain_behind d None = refl
 chain_behind d (Some cs) = refl
 
 -- bytes that are too long have that fault
-pub schema_long : (bytes : List ℕ) → nat_lt 65536 (length bytes) ≡ true → schema_of bytes ≡ Err TooLong
+pub schema_long : (bytes : List ℕ) → nat_lt most_schema (length bytes) ≡ true → schema_of bytes ≡ Err TooLong
 schema_long bytes long = chain bytes ∙ ap (λ b. chain_of b (value_of bytes) (option_and_then columns_of (value_of bytes))) long
 
 -- bytes that are no JSON have that fault, unless they are too long
-pub schema_no_value : (bytes : List ℕ) → nat_lt 65536 (length bytes) ≡ false → value_of bytes ≡ None → schema_of bytes ≡ Err NotJson
+pub schema_no_value : (bytes : List ℕ) → nat_lt most_schema (length bytes) ≡ false → value_of bytes ≡ None → schema_of bytes ≡ Err NotJson
 schema_no_value bytes short none = chain bytes ∙ ap (λ b. chain_of b (value_of bytes) (option_and_then columns_of (value_of bytes))) short ∙ ap (λ v. chain_of false v (option_and_then columns_of v)) none
 
 -- of bytes that are JSON the value is tested
-pub schema_value : (bytes : List ℕ) (d : Data) → nat_lt 65536 (length bytes) ≡ false → value_of bytes ≡ Some d → schema_of bytes ≡ checked (columns_of d)
+pub schema_value : (bytes : List ℕ) (d : Data) → nat_lt most_schema (length bytes) ≡ false → value_of bytes ≡ Some d → schema_of bytes ≡ checked (columns_of d)
 schema_value bytes d short some = chain bytes ∙ ap (λ b. chain_of b (value_of bytes) (option_and_then columns_of (value_of bytes))) short ∙ ap (λ v. chain_of false v (option_and_then columns_of v)) some ∙ chain_behind d (columns_of d)
 
 -- the value of a text is what `serde_json` reads

@@ -3,7 +3,7 @@ use Rattle.std.proofs.Common.{◌≡◌, ℕ, Bool, true, false, List, length, O
 use Rattle.std.specs.Prelude.{if◌then◌else◌, option_and_then, Result, Ok, Err, nat_lt, not}
 use Rattle.serde_json.specs.Data.{Data}
 use Rattle.schema_json.specs.Columns.{Column, AreColumns, has_public, has_good_names, repeats, too_many}
-use Rattle.schema_json.specs.Reading.{value_of, columns_of, columns_in, listed_items, with_public, schema_of, checked}
+use Rattle.schema_json.specs.Reading.{value_of, columns_of, columns_in, listed_items, with_public, schema_of, checked, most_schema}
 use Rattle.schema_json.specs.declared.faults.SchemaFault.{SchemaFault}
 use Rattle.schema_json.specs.declared.faults.SchemaFault.TheVariants.{TooLong, NotJson, BadName, Repeated, TooMany}
 use Rattle.schema_json.proofs.FirstFault.{schema_long, schema_no_value, schema_value}
@@ -40,9 +40,9 @@ of_value d columns is = listed (option_and_then columns_in (listed_items d)) col
 
 -- the columns that bytes mean are a schema's
 pub meant_columns : (bytes : List ℕ) (columns : List Column) → schema_of bytes ≡ Ok columns → AreColumns columns
-meant_columns bytes columns is = by (nat_lt 65536 (length bytes)) (value_of bytes) refl refl
+meant_columns bytes columns is = by (nat_lt most_schema (length bytes)) (value_of bytes) refl refl
   where
-    by : (long : Bool) (value : Option Data) → nat_lt 65536 (length bytes) ≡ long → value_of bytes ≡ value → AreColumns columns
+    by : (long : Bool) (value : Option Data) → nat_lt most_schema (length bytes) ≡ long → value_of bytes ≡ value → AreColumns columns
     by true value long v = no_columns TooLong (schema_of bytes) columns (schema_long bytes long) is
     by false None short none = no_columns NotJson (schema_of bytes) columns (schema_no_value bytes short none) is
     by false (Some d) short some = of_value d columns (sym (schema_value bytes d short some) ∙ is)

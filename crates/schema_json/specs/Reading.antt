@@ -65,9 +65,13 @@ columns_or_none bytes = option_and_then columns_of (value_of bytes)
 abbrev pub any_column : (List Column → Bool) → List ℕ → Bool
 any_column test bytes = unwrap_or (option_map test (columns_or_none bytes)) false
 
+-- the most bytes of a schema
+abbrev pub most_schema : ℕ
+most_schema = 65536
+
 -- whether a fault holds: each is one test of what the bytes list
 abbrev pub has_fault : SchemaFault → List ℕ → Bool
-has_fault TooLong bytes = nat_lt 65536 (length bytes)
+has_fault TooLong bytes = nat_lt most_schema (length bytes)
 has_fault NotJson bytes = is_none (value_of bytes)
 has_fault Shape bytes = is_none (columns_or_none bytes)
 has_fault BadName bytes = any_column (λ columns. not (has_good_names columns)) bytes

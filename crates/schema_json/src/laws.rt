@@ -1,5 +1,6 @@
 //! Laws of schemas. Each function computes nothing: its contract is the law.
 ghost use Rattle.std.specs.Prelude.{◌≡◌, ℕ, ◌<◌, ◌≤◌, List, Ok};
+ghost use Rattle.audit_types.specs.Limits.{most_rows};
 ghost use Rattle.audit_types.specs.Shapes.{IsShape, columns};
 ghost use Rattle.schema_json.specs.Columns.{Column, AreColumns, secret_count};
 ghost use Rattle.schema_json.specs.Reading.{schema_of};
@@ -17,6 +18,6 @@ pub fn columns_of_a_schema()
 
 /// The shape of a table over a schema is valid for 1 to 1,024 rows, and has as many columns as the schema has secret ones.
 pub fn shape_of_a_table()
-    ensures valid { (schema : List Column) (rows : ℕ) → 0 < rows → rows ≤ 1024 → IsShape (shape_of schema rows) }
+    ensures valid { (schema : List Column) (rows : ℕ) → 0 < rows → rows ≤ most_rows → IsShape (shape_of schema rows) }
     ensures secrets { (schema : List Column) (rows : ℕ) → AreColumns schema → columns (shape_of schema rows) ≡ secret_count schema }
 {}

@@ -12,6 +12,6 @@ mod roles;
 mod schemas;
 
 pub use faults::SchemaFault;
-pub use reading::read_schema;
+pub use reading::{MOST_SCHEMA, read_schema};
 pub use roles::Role;
 pub use schemas::Schema;

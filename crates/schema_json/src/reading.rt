@@ -14,7 +14,8 @@ use indexmap::IndexMap;
 use serde_json::Value;
 use std::alloc::Global;
 
-const MOST_BYTES: usize = 65_536;
+/// The most bytes of a schema.
+pub const MOST_SCHEMA: usize = 65_536;
 
 fn role_of(word: &str) -> Option<Role>
     ensures { result ≡ role_of word.now }
@@ -84,7 +85,7 @@ fn gather(alloc: Global, list: &[Value]) -> Result<Vec<(String, Role)>, SchemaFa
 pub fn read_schema(alloc: Global, bytes: &[u8]) -> Result<Schema, SchemaFault>
     ensures { ReadsSchema result bytes.now }
 {
-    if bytes.len() > MOST_BYTES {
+    if bytes.len() > MOST_SCHEMA {
         return Err(SchemaFault::TooLong);
     }
     match Value::from_slice(alloc, bytes) {

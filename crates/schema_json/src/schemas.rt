@@ -1,5 +1,6 @@
 //! A schema as it was read: its columns in order, and where each of them stands.
 ghost use Rattle.std.specs.Prelude.{◌≡◌, ℕ, ◌<◌, ◌≤◌, Some, IfSome, length, map};
+ghost use Rattle.audit_types.specs.Limits.{most_rows};
 ghost use Rattle.audit_types.specs.Shapes.{IsShape, columns, kind_at};
 ghost use Rattle.schema_json.specs.Columns.{AreColumns, name_at, role_at, place_of, secret_count, secret_place};
 ghost use Rattle.schema_json.specs.SecretShape.{shape_kinds, shape_of, role_of_kind, IsSecretOf};
@@ -104,7 +105,7 @@ impl Schema {
     /// The shape of a table with these columns and so many rows.
     pub fn shape(&self, rows: u16) -> Shape
         requires some { 0 < rows }
-        requires at_most { rows ≤ 1024 }
+        requires at_most { rows ≤ most_rows }
         ensures shape { result ≡ shape_of self.now.columns rows }
         ensures valid { IsShape result }
         ensures secrets { columns result ≡ secret_count self.now.columns }

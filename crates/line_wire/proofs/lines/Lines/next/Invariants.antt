@@ -1,4 +1,5 @@
-use Rattle.std.proofs.Common.{◌+◌, ◌-◌, ◌^◌, length, cond}
+use Rattle.std.proofs.Common.{◌+◌, ◌-◌, length, cond}
+use Rattle.line_wire.specs.Lines.{most_input}
 use Rattle.line_wire.proofs.Turning.{Turn}
 use Rattle.line_wire.proofs.lines.Lines.next.Given as goal
 
@@ -6,4 +7,4 @@ abbrev pub invariant-loop-self : goal.invariant-loop-self
 invariant-loop-self g l = Turn g.P.Source.told g.P.Source.left g.P.Source.faults l.fn.self l.self l.fn.source l.source
 
 abbrev pub decreases-loop-self : goal.decreases-loop-self
-decreases-loop-self g l = (2 ^ 30 + 65536 - l.self.taken) + (2 ^ 30 + length l.self.pending - l.self.taken) + cond l.self.ended 0 1
+decreases-loop-self g l = (most_input + 65536 - l.self.taken) + (most_input + length l.self.pending - l.self.taken) + cond l.self.ended 0 1
