@@ -1,10 +1,10 @@
 -- How a session ends, by the fault.
-use Rattle.std.proofs.Common.{◌≡◌, ℕ, ◌+◌, ◌^◌, ◌<◌, ◌≤◌, List, ◌++◌, length, take, Result, Err, refl, sym, ◌∙◌, ap}
+use Rattle.std.proofs.Common.{◌≡◌, ℕ, ◌+◌, ◌<◌, ◌≤◌, List, ◌++◌, length, take, Result, Err, refl, sym, ◌∙◌, ap}
 use Rattle.std.specs.Prelude.{IsErrOf}
 use Rattle.std.proofs.Math.Seq.{take-append_seam}
 use Rattle.audit_types.specs.declared.records.Answered.{Answered}
 use Rattle.table_load.specs.Database.{Database}
-use Rattle.line_wire.specs.Lines.{counted_lines}
+use Rattle.line_wire.specs.Lines.{counted_lines, most_input}
 use Rattle.audit_session.specs.declared.serving.EndFault.{EndFault}
 use Rattle.audit_session.specs.declared.serving.EndFault.TheVariants as end
 use Rattle.audit_session.specs.Ends.{Ends, Reads, ServesWhole, ServesSome, ServesLimited, limited}
@@ -17,7 +17,7 @@ ends_by batch base history input left now before after end.Limit whole limit som
 ends_by batch base history input left now before after end.NoMemory whole limit some = some refl
 ends_by batch base history input left now before after end.Bench whole limit some = tt
 
-pub reads_by : {X : Type 0} (input left : List ℕ) (fault : EndFault) → (IsErrOf {T = X} (Err fault) end.Input → length input ≤ 2 ^ 30 + length left) → (IsErrOf {T = X} (Err fault) end.Limit → 2 ^ 30 + length left < length input) → Reads (Err fault) input left
+pub reads_by : {X : Type 0} (input left : List ℕ) (fault : EndFault) → (IsErrOf {T = X} (Err fault) end.Input → length input ≤ most_input + length left) → (IsErrOf {T = X} (Err fault) end.Limit → most_input + length left < length input) → Reads (Err fault) input left
 reads_by input left end.Input within over = within refl
 reads_by input left end.Limit within over = over refl
 reads_by input left end.NoMemory within over = tt
@@ -34,6 +34,6 @@ same_fault {X} {Y} fault other is = let same : fault ≡ other = cc in ap (λ (f
 front_is : (most : ℕ) (input read rest : List ℕ) → input ≡ read ++ rest → length read ≡ most → take most input ≡ read
 front_is most input read rest split as_long = ap (λ (n : ℕ). take n input) (sym as_long) ∙ ap (λ (l : List ℕ). take (length read) l) split ∙ take-append_seam read rest
 
-pub limited_is : (input read rest : List ℕ) → input ≡ read ++ rest → length read ≡ 2 ^ 30 → limited input ≡ read
+pub limited_is : (input read rest : List ℕ) → input ≡ read ++ rest → length read ≡ most_input → limited input ≡ read
 unfolding limited
-limited_is input read rest split as_long = front_is (2 ^ 30) input read rest split as_long
+limited_is input read rest split as_long = front_is most_input input read rest split as_long

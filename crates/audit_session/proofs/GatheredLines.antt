@@ -1,5 +1,5 @@
 -- What was read of an input, while a group is gathered and after it.
-use Rattle.std.proofs.Common.{◌≡◌, ℕ, ◌+◌, ◌^◌, ◌<◌, ◌≤◌, Bool, true, false, not, ◌||◌, List, [], ◌∷◌, ◌++◌, length, Some, Result, Ok, refl, sym, ◌∙◌, ap, subst, arith, inl, inr, ◌⊎◌, ⊎_elim, append_assoc, length-append}
+use Rattle.std.proofs.Common.{◌≡◌, ℕ, ◌+◌, ◌<◌, ◌≤◌, Bool, true, false, not, ◌||◌, List, [], ◌∷◌, ◌++◌, length, Some, Result, Ok, refl, sym, ◌∙◌, ap, subst, arith, inl, inr, ◌⊎◌, ⊎_elim, append_assoc, length-append}
 use Rattle.std.specs.Prelude.{All}
 use Rattle.std.proofs.lemmas.List.{append-nil}
 use Rattle.std.proofs.lemmas.List.Elements.{All-nil, All-push}
@@ -9,7 +9,7 @@ use Rattle.bench_core.specs.declared.source.Source.{Ghosts}
 use Rattle.schema_json.specs.Columns.{Column}
 use Rattle.schema_json.specs.SecretShape.{shape_of}
 use Rattle.table_load.specs.Cells.{PublicView}
-use Rattle.line_wire.specs.Lines.{CountedLine, counted_lines, whole_lines}
+use Rattle.line_wire.specs.Lines.{CountedLine, counted_lines, whole_lines, most_input}
 use Rattle.line_wire.specs.Cutter.{Cutter, TakesLine, StopsAt}
 use Rattle.line_wire.proofs.LineLaws.{whole-piece}
 use Rattle.question_plan.specs.declared.planning.Plan.{Plan}
@@ -75,12 +75,12 @@ pub record Gathering {P : Type 0} (source : Ghosts P) (columns : List Column) (p
   pub takes : old.taken + length lines.pending + length plans ≤ lines.taken + length old.pending
   pub same : source.told → lines.ended ≡ true → source.left now ≡ []
   pub taken : source.told → lines.taken + length (source.left now) ≡ old.taken + length (source.left first)
-  pub within : lines.taken ≤ 2 ^ 30 + length lines.pending
+  pub within : lines.taken ≤ most_input + length lines.pending
   pub once : old.ended ≡ true → lines.ended ≡ true
   pub steady : source.faults now ≡ source.faults first
 
 -- before the first line
-pub nothing_gathered : {P : Type 0} (source : Ghosts P) (columns : List Column) (public : PublicView) (batch : ℕ) (lines : Cutter) (at : P) → (source.told → lines.ended ≡ true → source.left at ≡ []) → lines.taken ≤ 2 ^ 30 + length lines.pending
+pub nothing_gathered : {P : Type 0} (source : Ghosts P) (columns : List Column) (public : PublicView) (batch : ℕ) (lines : Cutter) (at : P) → (source.told → lines.ended ≡ true → source.left at ≡ []) → lines.taken ≤ most_input + length lines.pending
     → Gathering source columns public batch lines lines at at [] []
 nothing_gathered source columns public batch lines at same within = record {
   gathers = record { lines = []; planned = tt; reads = λ told. reads_none (lines.pending ++ source.left at) lines.ended };
@@ -99,7 +99,7 @@ module _ {P : Type 0} (source : Ghosts P) (columns : List Column) (public : Publ
   -- one line more
   pub one_gathered : (lines_now : Cutter) (source_now : P) (plan : Plan) → GivesNext source.told columns public (lines.pending ++ source.left now) (lines_now.pending ++ source.left source_now) lines_now.ended (Some plan) → length plans < batch
       → lines.taken + length lines_now.pending < lines_now.taken + length lines.pending → (source.told → lines_now.ended ≡ true → source.left source_now ≡ []) → (source.told → lines_now.taken + length (source.left source_now) ≡ lines.taken + length (source.left now))
-      → lines_now.taken ≤ 2 ^ 30 + length lines_now.pending → (lines.ended ≡ true → lines_now.ended ≡ true) → source.faults source_now ≡ source.faults now
+      → lines_now.taken ≤ most_input + length lines_now.pending → (lines.ended ≡ true → lines_now.ended ≡ true) → source.faults source_now ≡ source.faults now
       → Gathering source columns public batch old lines_now first source_now (plans ++ plan ∷ []) (asked ++ question_in plan)
   one_gathered lines_now source_now plan next room takes same taken within once steady = record {
     gathers = record {

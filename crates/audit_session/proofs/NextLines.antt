@@ -1,6 +1,6 @@
 -- What the cutter's answers say, by the answer that it gave.
-use Rattle.std.proofs.Common.{◌≡◌, ℕ, ◌+◌, ◌^◌, ◌<◌, List, [], ◌∷◌, ◌++◌, length, ap, subst, Result, Err}
-use Rattle.line_wire.specs.Lines.{CountedLine, text, long, counted_lines}
+use Rattle.std.proofs.Common.{◌≡◌, ℕ, ◌+◌, ◌<◌, List, [], ◌∷◌, ◌++◌, length, ap, subst, Result, Err}
+use Rattle.line_wire.specs.Lines.{CountedLine, text, long, counted_lines, most_input}
 use Rattle.line_wire.specs.Cutter.{Cutter, TakesLine, StopsAt}
 use Rattle.line_wire.specs.Steps.{Answers, Counts, Stops, StopsWithin}
 use Rattle.line_wire.specs.declared.lines.Next.{Next}
@@ -32,7 +32,7 @@ module _ (fault : LineStop) (rest : List ℕ) (new : Cutter) (left : List ℕ) (
   pub stops_limit : fault ≡ stop.Limit → StopsAt rest (new.pending ++ left)
   stops_limit is = let P : LineStop → Type 0 = λ s. Stops s rest new left in subst P is stops
 
-pub limit_within : (fault : LineStop) (new : Cutter) → StopsWithin fault new → fault ≡ stop.Limit → (new.taken ≡ 2 ^ 30 + length new.pending) × (0 < length new.pending)
+pub limit_within : (fault : LineStop) (new : Cutter) → StopsWithin fault new → fault ≡ stop.Limit → (new.taken ≡ most_input + length new.pending) × (0 < length new.pending)
 limit_within fault new within is = let P : LineStop → Type 0 = λ s. StopsWithin s new in subst P is within
 
 -- the refusal, as the answer

@@ -1,5 +1,5 @@
 -- What the loop over groups keeps from turn to turn.
-use Rattle.std.proofs.Common.{◌≡◌, ℕ, ◌+◌, ◌*◌, ◌^◌, ◌<◌, ◌≤◌, Bool, true, false, List, [], ◌++◌, length, refl, sym, ◌∙◌, ap, subst, arith, inl, ◌⊎◌, ⊎_elim, append_assoc, length-append}
+use Rattle.std.proofs.Common.{◌≡◌, ℕ, ◌+◌, ◌*◌, ◌<◌, ◌≤◌, Bool, true, false, List, [], ◌++◌, length, refl, sym, ◌∙◌, ap, subst, arith, inl, ◌⊎◌, ⊎_elim, append_assoc, length-append}
 use Rattle.std.proofs.Math.Nat.{suc-mul}
 use Rattle.std.proofs.lemmas.Bool.{false≢true}
 use Rattle.std.proofs.lemmas.List.{append-nil}
@@ -12,7 +12,7 @@ use Rattle.schema_json.specs.Columns.{Column}
 use Rattle.table_load.specs.Cells.{PublicView, SecretView}
 use Rattle.table_load.specs.Database.{Database, base_of, secret_table}
 use Rattle.audit_store.specs.Stores.{StoreContents, IsAsLeft, IsStore}
-use Rattle.line_wire.specs.Lines.{CountedLine, counted_lines, whole_lines}
+use Rattle.line_wire.specs.Lines.{CountedLine, counted_lines, whole_lines, most_input}
 use Rattle.line_wire.specs.Cutter.{Cutter}
 use Rattle.question_plan.specs.declared.planning.Plan.{Plan}
 use Rattle.question_plan.specs.Session.{Replied, records_of, bytes_of, AreReplies, commits, groups}
@@ -46,7 +46,7 @@ pub record AnsweredLines (told : Type 0) (base : Database) (batch : ℕ) (histor
 pub record Served {P B : Type 0} (source : SourceGhosts P) (bench : Ghosts B) (columns : List Column) (public : PublicView) (batch : ℕ) (lines : Cutter) (first_store store : StoreContents) (first_source from : P) (first at : B) : Type 0 where
   pub same : source.told → lines.ended ≡ true → source.left from ≡ []
   pub taken : source.told → lines.taken + length (source.left from) ≡ length (source.left first_source)
-  pub within : lines.taken ≤ 2 ^ 30 + length lines.pending
+  pub within : lines.taken ≤ most_input + length lines.pending
   pub usable : store.usable ≡ true
   pub secret : store.secret ≡ first_store.secret
   pub is : IsStore store
@@ -157,11 +157,11 @@ module _ {P B : Type 0} (source : SourceGhosts P) (bench : Ghosts B) (columns : 
     pub served_whole : ServesWhole base first_store.history batch (source.left first_source) left store.history (bench.sent first) (bench.sent at)
     served_whole = record { read = read; split = split; count = served.answered.count; begun = begun; rest = rest; serves = groups_served u (whole_lines read) whole_groups }
 
-    below_limit : (pending behind : List ℕ) (taken : ℕ) → left ≡ pending ++ behind → taken ≡ 2 ^ 30 + length pending → taken + length behind ≡ length (source.left first_source) → limited (source.left first_source) ≡ read
+    below_limit : (pending behind : List ℕ) (taken : ℕ) → left ≡ pending ++ behind → taken ≡ most_input + length pending → taken + length behind ≡ length (source.left first_source) → limited (source.left first_source) ≡ read
     below_limit pending behind taken is over all = limited_is (source.left first_source) read left split
         (omega (arith, ap (λ (l : List ℕ). length l) split, length-append read left, ap (λ (l : List ℕ). length l) is, length-append pending behind, over, all))
 
-    pub served_limited : (pending behind : List ℕ) (taken : ℕ) → left ≡ pending ++ behind → taken ≡ 2 ^ 30 + length pending → taken + length behind ≡ length (source.left first_source) → ServesLimited base first_store.history batch (source.left first_source) store.history (bench.sent first) (bench.sent at)
+    pub served_limited : (pending behind : List ℕ) (taken : ℕ) → left ≡ pending ++ behind → taken ≡ most_input + length pending → taken + length behind ≡ length (source.left first_source) → ServesLimited base first_store.history batch (source.left first_source) store.history (bench.sent first) (bench.sent at)
     served_limited pending behind taken left_is over total =
         let is = below_limit pending behind taken left_is over total in
         let P : List ℕ → Type 0 = λ l. (served.answered.count * batch ≤ length (whole_lines l)) × (length (whole_lines l) < (served.answered.count + 1) * batch) × Serves base first_store.history (groups batch served.answered.count (whole_lines l)) store.history (bench.sent first) (bench.sent at) in
@@ -219,7 +219,7 @@ module _ {P B : Type 0} (source : SourceGhosts P) (bench : Ghosts B) (columns : 
 
       -- the group was whole
       pub next_turn : (store_now : StoreContents) → store_now.history ≡ now → ended_now ≡ lines_now.ended → length plans ≡ batch → (source.told → lines_now.ended ≡ true → source.left source_now ≡ []) → (source.told → lines_now.taken + length (source.left source_now) ≡ lines.taken + length (source.left from))
-          → lines_now.taken ≤ 2 ^ 30 + length lines_now.pending → source.faults source_now ≡ source.faults from → StandsOn bench at new store_now → store_now.secret ≡ store.secret → IsStore store_now → bench.faults new ≡ bench.faults at
+          → lines_now.taken ≤ most_input + length lines_now.pending → source.faults source_now ≡ source.faults from → StandsOn bench at new store_now → store_now.secret ≡ store.secret → IsStore store_now → bench.faults new ≡ bench.faults at
           → (bench.told → IsQuiet bench at → LeavesOnly bench at new (InGroup (IsReplyOf (secret_table store.secret)) (stands_of store.secret) store.history plans (bench.sent at)))
           → Served source bench columns public batch lines_now first_store store_now first_source source_now first new
       next_turn store_now is is_ended full same taken within source_steady stands secret of_store bench_steady moments = record {

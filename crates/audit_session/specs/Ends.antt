@@ -1,5 +1,5 @@
 -- How a session ends.
-use Rattle.std.specs.Prelude.{◌≡◌, ℕ, ◌+◌, ◌*◌, ◌≤◌, ◌<◌, ◌^◌, List, [], ◌++◌, length, take, Result, Ok, Err}
+use Rattle.std.specs.Prelude.{◌≡◌, ℕ, ◌+◌, ◌*◌, ◌≤◌, ◌<◌, List, [], ◌++◌, length, take, Result, Ok, Err}
 use Rattle.audit_types.specs.declared.records.Answered.{Answered}
 use Rattle.table_load.specs.Database.{Database}
 use Rattle.bench_core.specs.declared.bench.Bench.{Ghosts}
@@ -8,7 +8,7 @@ use Rattle.journal_form.specs.Journal.{StandsFor}
 use Rattle.audit_store.specs.Stores.{StoreContents}
 use Rattle.audit_store.specs.declared.outcome.StoreFault.{StoreFault}
 use Rattle.audit_store.specs.declared.outcome.StoreFault.TheVariants as store
-use Rattle.line_wire.specs.Lines.{CountedLine, counted_lines, whole_lines}
+use Rattle.line_wire.specs.Lines.{CountedLine, counted_lines, whole_lines, most_input}
 use Rattle.line_wire.specs.declared.lines.LineStop.{LineStop}
 use Rattle.line_wire.specs.declared.lines.LineStop.TheVariants as stop
 use Rattle.question_plan.specs.Session.{Replied, records_of, bytes_of, AreReplies, groups, commits}
@@ -39,7 +39,7 @@ pub record ServesSome (base : Database) (history : List Answered) (batch : ℕ) 
 
 -- the bytes of an input that may be read
 unfoldable pub limited : List ℕ → List ℕ
-limited input = take (2 ^ 30) input
+limited input = take most_input input
 
 -- the whole groups of lines whose last line feed stands among the bytes that may be read were answered, and no other
 pub record ServesLimited (base : Database) (history : List Answered) (batch : ℕ) (input : List ℕ) (now : List Answered) (before after : List ℕ) : Type 0 where
@@ -64,9 +64,9 @@ pub record TakesCalls (base : Database) (history : List Answered) (batch : ℕ) 
 
 -- how much of the input there was, by the end
 abbrev pub Reads : Result (Unit {0}) EndFault → List ℕ → List ℕ → Type 0
-Reads (Ok done) input left = (left ≡ []) × (length input ≤ 2 ^ 30)
-Reads (Err end.Input) input left = length input ≤ 2 ^ 30 + length left
-Reads (Err end.Limit) input left = 2 ^ 30 + length left < length input
+Reads (Ok done) input left = (left ≡ []) × (length input ≤ most_input)
+Reads (Err end.Input) input left = length input ≤ most_input + length left
+Reads (Err end.Limit) input left = most_input + length left < length input
 Reads (Err end.NoMemory) input left = Unit {0}
 Reads (Err end.Bench) input left = Unit {0}
 

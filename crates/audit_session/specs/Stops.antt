@@ -1,7 +1,9 @@
 -- What a stop of a session leaves, at whatever moment: an image of the journal's file, and the bytes sent.
 use Rattle.std.specs.Prelude.{◌≡◌, ℕ, ◌-◌, ◌*◌, ◌<◌, ◌≤◌, List, ◌++◌, take}
 use Rattle.audit_types.specs.declared.records.Answered.{Answered}
-use Rattle.table_load.specs.Database.{Database}
+use Rattle.audit_types.specs.History.{IsLegal, IsUndisclosed}
+use Rattle.table_load.specs.Cells.{SecretView}
+use Rattle.table_load.specs.Database.{Database, secret_table}
 use Rattle.journal_form.specs.Journal.{StandsFor}
 use Rattle.line_wire.specs.Lines.{CountedLine}
 use Rattle.question_plan.specs.Session.{Replied, records_of, bytes_of, AreReplies, groups}
@@ -33,3 +35,7 @@ stands_over base image history = StandsFor image base.secret.shape history
 -- a stop of a session over a table, of a bench that had sent something before
 abbrev pub StopsOver : Database → ℕ → List Answered → List CountedLine → List ℕ → List ℕ → List ℕ → Type 0
 StopsOver base batch history lines before image sent = (new : List ℕ) × (sent ≡ before ++ new) × Stop (IsDue base) (stands_over base) batch history lines image new
+
+-- every history for which the image stands is legal for the table of these secrets, and discloses none of them
+abbrev pub IsHarmless : SecretView → List ℕ → Type 0
+IsHarmless secret image = (history : List Answered) → StandsFor image secret.shape history → IsLegal (secret_table secret) history × IsUndisclosed (secret_table secret) history

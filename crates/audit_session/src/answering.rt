@@ -1,5 +1,5 @@
 //! Answering a group: its questions are decided and kept, and then its replies are sent.
-ghost use Rattle.std.specs.Prelude.{◌≡◌, ◌≢◌, ◌<◌, ◌≤◌, ◌+◌, ◌++◌, List, ℕ, true, length, All, IfOk, OnOk, OnErr, IsErrOf, Err};
+ghost use Rattle.std.specs.Prelude.{◌≡◌, ◌≢◌, ◌<◌, ◌≤◌, ◌+◌, ◌++◌, List, ℕ, true, false, length, All, IfOk, OnOk, OnErr, IsErrOf, Err};
 ghost use Rattle.std.specs.List.{flat_map};
 ghost use Rattle.std.specs.Vec.{vec_capacity};
 ghost use Rattle.audit_types.specs.History.{FitsShape};
@@ -39,7 +39,7 @@ fn outcomes_of<B: Bench>(
     ensures outcomes { IfOk result (λ v. AreOutcomes (secret_table store.old.secret) store.old.history asked.now v.items) }
     ensures history { IfOk result (λ v. store.new.history ≡ store.old.history ++ records_made asked.now v.items) }
     ensures stands { OnOk result (StandsOn B.Bench bench.old bench.new store.new) }
-    ensures err { OnErr result (store.new.history ≡ store.old.history) }
+    ensures err { OnErr result ((store.new.history ≡ store.old.history) × (store.new.usable ≡ false)) }
     ensures no_memory { IsErrOf result StoreFault.NoMemory → bench.new ≡ bench.old }
     ensures any_moment { B.told → IsQuiet B.Bench bench.old → (IsErrOf result StoreFault.NoMemory → ⊥)
         → Keeps B.Bench bench.old bench.new store.old.secret store.old.history asked.now (B.sent bench.old) }
@@ -95,7 +95,7 @@ fn decide<B: Bench>(
     ensures decides { OnOk result (DecidesGroup B.Bench bench.old bench.new (secret_table store.old.secret) store.old.history store.new.history group.old.plans.items group.new.replies.items) }
     ensures in_range { OnOk result (All IsInRange group.new.replies.items) }
     ensures stands { OnOk result (StandsOn B.Bench bench.old bench.new store.new) }
-    ensures err { OnErr result (store.new.history ≡ store.old.history) }
+    ensures err { OnErr result ((store.new.history ≡ store.old.history) × (store.new.usable ≡ false)) }
     ensures no_memory { IsErrOf result StoreFault.NoMemory → bench.new ≡ bench.old }
     ensures moments { B.told → IsQuiet B.Bench bench.old
         → LeavesOnly B.Bench bench.old bench.new (InGroup (IsReplyOf (secret_table store.old.secret)) (stands_of store.old.secret) store.old.history group.old.plans.items (B.sent bench.old)) }
@@ -164,6 +164,7 @@ pub(crate) fn answer<B: Bench>(
     ensures stands { OnOk result (StandsOn B.Bench bench.old bench.new store.new) }
     ensures moments { B.told → IsQuiet B.Bench bench.old
         → LeavesOnly B.Bench bench.old bench.new (InGroup (IsReplyOf (secret_table store.old.secret)) (stands_of store.old.secret) store.old.history group.old.plans.items (B.sent bench.old)) }
+    ensures left { B.told → store.new.usable ≡ true → IsAsLeft (B.file bench.new) store.new }
     ensures no_memory { result ≡ Err EndFault.NoMemory → (bench.new ≡ bench.old) × (store.new.history ≡ store.old.history) }
     ensures room { vec_capacity group.new.replies ≡ vec_capacity group.old.replies }
     ensures secret { store.new.secret ≡ store.old.secret }

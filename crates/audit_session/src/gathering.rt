@@ -1,10 +1,11 @@
 //! Gathering the lines of a group.
-ghost use Rattle.std.specs.Prelude.{◌≡◌, ◌≢◌, ◌<◌, ◌≤◌, ◌+◌, ◌^◌, ◌++◌, ◌||◌, [], ◌∷◌, not, true, false, length, All, IfOk, OnOk, Ok, Err};
+ghost use Rattle.std.specs.Prelude.{◌≡◌, ◌≢◌, ◌<◌, ◌≤◌, ◌+◌, ◌++◌, ◌||◌, [], ◌∷◌, not, true, false, length, All, IfOk, OnOk, Ok, Err};
 ghost use Rattle.std.specs.Vec.{vec_capacity};
 ghost use Rattle.audit_types.specs.Limits.{most_rows};
 ghost use Rattle.schema_json.specs.SecretShape.{shape_of};
 ghost use Rattle.table_load.specs.Cells.{FitsSchema};
 ghost use Rattle.bench_core.specs.Causes.{Rose};
+ghost use Rattle.line_wire.specs.Lines.{most_input};
 ghost use Rattle.line_wire.specs.Cutter.{StopsAt};
 ghost use Rattle.question_plan.specs.Plans.{CanBeServed};
 ghost use Rattle.audit_session.specs.Groups.{CutsShort, Gathers, GivesNext, TakesByte, question_in, questions_of};
@@ -88,11 +89,11 @@ fn next_plan<P: Source>(
     ensures takes { IfOk result (TakesByte (lines.old.taken + length lines.new.pending) (lines.new.taken + length lines.old.pending)) }
     ensures input { P.told → result ≡ Err EndFault.Input → StopsAt (lines.old.pending ++ P.left source.old) (P.left source.new) }
     ensures limit { P.told → result ≡ Err EndFault.Limit → StopsAt (lines.old.pending ++ P.left source.old) (lines.new.pending ++ P.left source.new) }
-    ensures over { result ≡ Err EndFault.Limit → (lines.new.taken ≡ 2 ^ 30 + length lines.new.pending) × (0 < length lines.new.pending) }
-    ensures read { result ≡ Err EndFault.Input → lines.new.taken ≤ 2 ^ 30 }
+    ensures over { result ≡ Err EndFault.Limit → (lines.new.taken ≡ most_input + length lines.new.pending) × (0 < length lines.new.pending) }
+    ensures read { result ≡ Err EndFault.Input → lines.new.taken ≤ most_input }
     ensures same { P.told → lines.new.ended ≡ true → P.left source.new ≡ [] }
     ensures taken { P.told → lines.new.taken + length (P.left source.new) ≡ lines.old.taken + length (P.left source.old) }
-    ensures within { lines.new.taken ≤ 2 ^ 30 + length lines.new.pending }
+    ensures within { lines.new.taken ≤ most_input + length lines.new.pending }
     ensures once { lines.old.ended ≡ true → (source.new ≡ source.old) × (lines.new.ended ≡ true) × (result ≡ Err EndFault.Input → ⊥) }
     ensures later { P.faults source.old ≤ P.faults source.new }
     ensures steady { result ≢ Err EndFault.Input → P.faults source.new ≡ P.faults source.old }
@@ -117,7 +118,7 @@ pub(crate) fn gather<P: Source>(
     group: &mut Group,
 ) -> Result<bool, EndFault>
     requires same { P.told → lines.old.ended ≡ true → P.left source.old ≡ [] }
-    requires within { lines.old.taken ≤ 2 ^ 30 + length lines.old.pending }
+    requires within { lines.old.taken ≤ most_input + length lines.old.pending }
     requires fits { FitsSchema schema.now.columns index.now }
     requires few { index.now.rows ≤ most_rows }
     requires some { 0 < batch }
@@ -135,13 +136,13 @@ pub(crate) fn gather<P: Source>(
     // Where it is cut short, by a failed read or at the limit, there are fewer.
     ensures input { P.told → result ≡ Err EndFault.Input → CutsShort batch (lines.old.pending ++ P.left source.old) (P.left source.new) }
     ensures limit { P.told → result ≡ Err EndFault.Limit → CutsShort batch (lines.old.pending ++ P.left source.old) (lines.new.pending ++ P.left source.new) }
-    ensures over { result ≡ Err EndFault.Limit → (lines.new.taken ≡ 2 ^ 30 + length lines.new.pending) × (0 < length lines.new.pending) }
-    ensures read { result ≡ Err EndFault.Input → lines.new.taken ≤ 2 ^ 30 }
+    ensures over { result ≡ Err EndFault.Limit → (lines.new.taken ≡ most_input + length lines.new.pending) × (0 < length lines.new.pending) }
+    ensures read { result ≡ Err EndFault.Input → lines.new.taken ≤ most_input }
 
     // The cutter and the source.
     ensures same { P.told → lines.new.ended ≡ true → P.left source.new ≡ [] }
     ensures taken { P.told → lines.new.taken + length (P.left source.new) ≡ lines.old.taken + length (P.left source.old) }
-    ensures within { lines.new.taken ≤ 2 ^ 30 + length lines.new.pending }
+    ensures within { lines.new.taken ≤ most_input + length lines.new.pending }
     ensures once { lines.old.ended ≡ true → (lines.new.ended ≡ true) × (result ≡ Err EndFault.Input → ⊥) }
     ensures later { P.faults source.old ≤ P.faults source.new }
     ensures steady { result ≢ Err EndFault.Input → P.faults source.new ≡ P.faults source.old }

@@ -1,17 +1,15 @@
 //! The serving loop.
-ghost use Rattle.std.specs.Prelude.{◌≡◌, ◌≢◌, ◌<◌, ◌≤◌, ◌+◌, ◌^◌, [], List, ℕ, true, false, length, OnOk, Err};
+ghost use Rattle.std.specs.Prelude.{◌≡◌, ◌≢◌, ◌<◌, ◌≤◌, ◌+◌, [], true, false, length, OnOk, Err};
 ghost use Rattle.std.specs.Vec.{vec_capacity};
-ghost use Rattle.audit_types.specs.declared.records.Answered.{Answered};
-ghost use Rattle.audit_types.specs.History.{IsLegal, IsUndisclosed};
 ghost use Rattle.schema_json.specs.SecretShape.{shape_of};
 ghost use Rattle.table_load.specs.Cells.{FitsSchema};
-ghost use Rattle.table_load.specs.Database.{base_of, secret_table};
+ghost use Rattle.table_load.specs.Database.{base_of};
 ghost use Rattle.bench_core.specs.Causes.{Rose};
 ghost use Rattle.bench_core.specs.Calls.{IsQuiet, LeavesOnly};
 ghost use Rattle.journal_form.specs.Journal.{StandsFor};
 ghost use Rattle.audit_store.specs.Stores.{IsAsLeft, IsStore};
-ghost use Rattle.line_wire.specs.Lines.{counted_lines};
-ghost use Rattle.audit_session.specs.Stops.{IsBatch, StopsOver};
+ghost use Rattle.line_wire.specs.Lines.{counted_lines, most_input};
+ghost use Rattle.audit_session.specs.Stops.{IsBatch, IsHarmless, StopsOver};
 ghost use Rattle.audit_session.specs.Ends.{Serves, ServesWhole, ServesSome, ServesLimited, TakesCalls, Ends, Reads, Rests, store_end, line_end};
 ghost use Rattle.audit_session.specs.Groups.{StopsAmong};
 
@@ -104,6 +102,8 @@ fn answer_groups<P: Source, B: Bench>(
     ensures reads { P.told → Reads result (P.left source.old) (P.left source.new) }
     ensures rests { result ≢ Err EndFault.Bench → Rests B.Bench bench.old bench.new store.new }
     ensures again { OnOk result ((store.new.usable ≡ true) × (B.told → IsAsLeft (B.file bench.new) store.new)) }
+    ensures usable { result ≢ Err EndFault.Bench → result ≢ Err EndFault.NoMemory → store.new.usable ≡ true }
+    ensures left { B.told → store.new.usable ≡ true → IsAsLeft (B.file bench.new) store.new }
     ensures calls { P.told → B.told → OnOk result (TakesCalls (base_of schema.now.columns index.now store.old.secret) store.old.history batch (counted_lines (P.left source.old)) (B.moment bench.old) (B.moment bench.new)) }
     ensures moments { B.told → IsQuiet B.Bench bench.old
         → LeavesOnly B.Bench bench.old bench.new (StopsAmong P.told (base_of schema.now.columns index.now store.old.secret) batch store.old.history (counted_lines (P.left source.old)) (B.sent bench.old)) }
@@ -148,8 +148,11 @@ pub fn serve<P: Source, B: Bench>(
     ensures stands { B.told → result ≢ Err EndFault.Bench → StandsFor (B.file bench.new) store.new.secret.shape store.new.history }
     ensures quiet { B.told → IsQuiet B.Bench bench.old → result ≢ Err EndFault.Bench → IsQuiet B.Bench bench.new }
 
-    // After Ok it may be called again.
+    // After Ok it may be called again. Only where the bench failed or memory was wanted may the store be left unusable, and
+    // while it is usable the file is as the store left it.
     ensures again { OnOk result ((store.new.usable ≡ true) × (B.told → IsAsLeft (B.file bench.new) store.new)) }
+    ensures usable { result ≢ Err EndFault.Bench → result ≢ Err EndFault.NoMemory → store.new.usable ≡ true }
+    ensures left { B.told → store.new.usable ≡ true → IsAsLeft (B.file bench.new) store.new }
 
     // One send for each line, four calls for each group that makes a record, and no other call.
     ensures calls { P.told → B.told → OnOk result (TakesCalls (base_of schema.now.columns index.now store.old.secret) store.old.history batch (counted_lines (P.left source.old)) (B.moment bench.old) (B.moment bench.new)) }
@@ -158,17 +161,17 @@ pub fn serve<P: Source, B: Bench>(
     ensures any_moment { P.told → B.told → IsQuiet B.Bench bench.old
         → LeavesOnly B.Bench bench.old bench.new (StopsOver (base_of schema.now.columns index.now store.old.secret) batch store.old.history (counted_lines (P.left source.old)) (B.sent bench.old)) }
 
-    // Whatever the input is, every history for which an image then stands is legal and discloses nothing.
-    ensures legal { B.told → IsQuiet B.Bench bench.old → (image sent : List ℕ) (history : List Answered) → B.since bench.new (B.moment bench.old) image sent → StandsFor image store.old.secret.shape history
-        → IsLegal (secret_table store.old.secret) history × IsUndisclosed (secret_table store.old.secret) history }
+    // Whatever the input is, and whatever its source tells, every history for which an image then stands is legal and
+    // discloses nothing.
+    ensures legal { B.told → IsQuiet B.Bench bench.old → LeavesOnly B.Bench bench.old bench.new (λ image sent. IsHarmless store.old.secret image) }
     ensures secret { store.new.secret ≡ store.old.secret }
     ensures is { IsStore store.new }
 
     // How much of the input there was.
     ensures read { P.told → OnOk result (P.left source.new ≡ []) }
-    ensures within { P.told → OnOk result (length (P.left source.old) ≤ 2 ^ 30) }
-    ensures input_within { P.told → result ≡ Err EndFault.Input → length (P.left source.old) ≤ 2 ^ 30 + length (P.left source.new) }
-    ensures limit { P.told → result ≡ Err EndFault.Limit → 2 ^ 30 + length (P.left source.new) < length (P.left source.old) }
+    ensures within { P.told → OnOk result (length (P.left source.old) ≤ most_input) }
+    ensures input_within { P.told → result ≡ Err EndFault.Input → length (P.left source.old) ≤ most_input + length (P.left source.new) }
+    ensures limit { P.told → result ≡ Err EndFault.Limit → most_input + length (P.left source.new) < length (P.left source.old) }
 
     // It doesn't give up by itself, and passes over no failed call.
     ensures later { (P.faults source.old ≤ P.faults source.new) × (B.faults bench.old ≤ B.faults bench.new) }

@@ -1,5 +1,6 @@
-use Rattle.std.proofs.Common.{◌≡◌, ◌+◌, ◌-◌, ◌^◌, length}
+use Rattle.std.proofs.Common.{◌≡◌, ◌+◌, ◌-◌, length}
 use Rattle.std.specs.Vec.{vec_capacity}
+use Rattle.line_wire.specs.Lines.{most_input}
 use Rattle.audit_session.proofs.Served.{Served}
 use Rattle.audit_session.proofs.serving.answer_groups.Given as goal
 
@@ -10,4 +11,4 @@ invariant-loop-more g l = record {
 }
 
 abbrev pub decreases-loop-more : goal.decreases-loop-more
-decreases-loop-more g l = 2 ^ 30 + length l.lines.pending - l.lines.taken
+decreases-loop-more g l = most_input + length l.lines.pending - l.lines.taken
