@@ -1,7 +1,7 @@
 -- Exact division of signed numbers.
 use Rattle.std.proofs.Common.{◌≡◌, ◌≢◌, ℕ, zero, suc, ℤ, pos, negsuc, ◌≤◌, ◌<◌, ◌*◌, ◌^◌, List, map, get_or, set, length, ◌+◌, inl, inr, ap, sym, ◌∙◌, arith, refl}
 use Rattle.std.specs.Prelude.{unsigned_abs, FitsSigned, int_div, int_rem, ◌*ℤ◌}
-use Rattle.std.specs.Int.{◌∣◌, w128}
+use Rattle.std.specs.Int.{◌∣◌, w64, w128}
 use Rattle.std.proofs.lemmas.Int.{ints, quot-rem, quot_is, unsigned_abs-mul, fits_signed_from_abs}
 use Rattle.std.proofs.lemmas.Nat.Gcd.{mod-eq-zero_of_dvd}
 use Rattle.std.proofs.Math.IntN.{*ℤ_comm}
@@ -38,6 +38,12 @@ pub divided : (a d : ℤ) → d ≢ pos 0 → FitsSigned w128 a → FitsSigned w
     a ≡ d *ℤ to_z w128 (of_z w128 (quot_z (to_z w128 (of_z w128 a)) (to_z w128 (of_z w128 d))))
 divided a d n p q small h =
     exact a d h ∙ ap (λ z. d *ℤ z) (sym (quot_is w128 a d p q (fits_signed_from_abs w128 (int_div a d) (omega (arith, quot_small a d n h)))))
+
+-- and what it gives of numbers of 64 bits
+pub divided_short : (a d : ℤ) → d ≢ pos 0 → FitsSigned w64 a → FitsSigned w64 d → unsigned_abs a < 2 ^ 62 → unsigned_abs d ∣ unsigned_abs a →
+    a ≡ d *ℤ to_z w64 (of_z w64 (quot_z (to_z w64 (of_z w64 a)) (to_z w64 (of_z w64 d))))
+divided_short a d n p q small h =
+    exact a d h ∙ ap (λ z. d *ℤ z) (sym (quot_is w64 a d p q (fits_signed_from_abs w64 (int_div a d) (omega (arith, quot_small a d n h)))))
 
 -- the entries below i are divided, and those from i on are as they were
 pub record IsPartlyDivided (old row : List ℤ) (d : ℤ) (i : ℕ) : Type 0 where

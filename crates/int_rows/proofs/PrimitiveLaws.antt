@@ -1,13 +1,13 @@
 -- A row over its signed content is primitive.
-use Rattle.std.proofs.Common.{◌≡◌, ◌≢◌, ℕ, zero, suc, ◌+◌, ◌*◌, ◌<◌, ◌≤◌, Bool, true, false, not, cond, ◌&&◌, ℤ, pos, negsuc, List, [], ◌∷◌, map, refl, sym, ap, ◌∙◌, subst, arith, inl, inr, ◌⊎◌}
+use Rattle.std.proofs.Common.{◌≡◌, ◌≢◌, ℕ, zero, suc, ◌+◌, ◌*◌, ◌<◌, ◌≤◌, ◌^◌, Bool, true, false, not, cond, ◌&&◌, ℤ, pos, negsuc, List, [], ◌∷◌, map, refl, sym, ap, ◌∙◌, subst, arith, inl, inr, ◌⊎◌}
 use Rattle.std.specs.Prelude.{unsigned_abs, ◌*ℤ◌, ◌+ℤ◌, ◌<ℤ◌, ◌≤ℤ◌}
 use Rattle.std.specs.Int.{◌∣◌}
 use Rattle.std.specs.Bool.{MatchBool}
 use Rattle.std.specs.Prelude.{FitsSigned}
-use Rattle.std.specs.Int.{w128}
+use Rattle.std.specs.Int.{w64, w128}
 use mir.Val.{to_z, of_z}
 use Rattle.std.specs.List.{AllByRecursion, list_all}
-use Rattle.std.proofs.lemmas.Int.{ints, unsigned_abs-mul, to_z-of_z}
+use Rattle.std.proofs.lemmas.Int.{ints, unsigned_abs-mul, to_z-of_z, fits_signed_from_abs}
 use Rattle.std.proofs.lemmas.Nat.Gcd.{dvd_refl, le_of_dvd}
 use Rattle.std.proofs.lemmas.Bool.{true≢false, and_parts, and_from}
 use Rattle.std.proofs.Math.Nat.{one-dvd, mul-dvd-mul_left, eq-zero_of_zero-dvd, le-mul_of_pos_right}
@@ -54,9 +54,12 @@ is_zero-times c x n = elim (zero_or_not x) [
   | inr m ↦ false_if (c *ℤ x) (product_not_zero c x n m) ∙ sym (false_if x m)
 ]
 
+pub times_one : (x : ℤ) → x ≡ pos 1 *ℤ x
+times_one x = sym (suc_ℤ-*ℤ (pos zero) x ∙ ap (λ z. z +ℤ x) (zero-*ℤ x) ∙ +ℤ_idl x)
+
 pub one_times : (xs : List ℤ) → xs ≡ map (λ x. pos 1 *ℤ x) xs
 one_times [] = refl
-one_times (x ∷ xs) = ap (λ y. y ∷ xs) (sym (suc_ℤ-*ℤ (pos zero) x ∙ ap (λ z. z +ℤ x) (zero-*ℤ x) ∙ +ℤ_idl x)) ∙ ap (λ l. (pos 1 *ℤ x) ∷ l) (one_times xs)
+one_times (x ∷ xs) = ap (λ y. y ∷ xs) (times_one x) ∙ ap (λ l. (pos 1 *ℤ x) ∷ l) (one_times xs)
 
 all_zero_times : (c : ℤ) (xs : List ℤ) → c ≢ pos 0 → list_all is_zero (map (λ x. c *ℤ x) xs) ≡ list_all is_zero xs
 all_zero_times c [] n = refl
@@ -164,3 +167,7 @@ made_of_zeros row by e signed = record {
 -- the code's test for 0
 pub zero_from_bits : (z : ℤ) → FitsSigned w128 z → of_z w128 z ≡ 0 → z ≡ pos 0
 zero_from_bits z fits e = sym (to_z-of_z w128 z fits) ∙ ap (to_z w128) e
+
+-- a short number, as one of 64 bits
+pub short_is : (z : ℤ) → FitsSigned w128 z → unsigned_abs z < 2 ^ 62 → to_z w64 (of_z w64 (to_z w128 (of_z w128 z))) ≡ z
+short_is z fits small = ap (λ x. to_z w64 (of_z w64 x)) (to_z-of_z w128 z fits) ∙ to_z-of_z w64 z (fits_signed_from_abs w64 z (omega arith))

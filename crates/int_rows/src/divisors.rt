@@ -1,8 +1,22 @@
 //! Divisors and multiples of two numbers, and of all entries of a row.
-ghost use Rattle.std.specs.Prelude.{◌≡◌, ◌≢◌, ◌*ℤ◌, ℕ, [], ◌∷◌, pos, ◌<◌, ◌≤◌, ◌^◌, ◌<ℤ◌, ◌≤ℤ◌, unsigned_abs, MatchOption};
+ghost use Rattle.std.specs.Prelude.{◌≡◌, ◌≢◌, ◌↔◌, ◌*ℤ◌, ◌%◌, ℕ, [], ◌∷◌, pos, ◌<◌, ◌≤◌, ◌^◌, ◌<ℤ◌, ◌≤ℤ◌, unsigned_abs, IsTrue, MatchOption};
 ghost use Rattle.std.specs.Int.{IsGcd, ◌∣◌};
 ghost use Rattle.std.specs.List.{AllByRecursion};
 ghost use Rattle.audit_types.specs.Form.{IsContent, IsLeastCommonMultiple};
+
+// The greatest number of 64 bits: numbers up to it are divided as such, which costs a fraction of the time.
+const WORD: u128 = u64::MAX as u128;
+
+fn remainder(x: u128, y: u128) -> u128
+    requires { 0 < y }
+    ensures { result ≡ x % y }
+{
+    if x <= WORD && y <= WORD {
+        (x as u64 % y as u64) as u128
+    } else {
+        x % y
+    }
+}
 
 // Euclid's algorithm, on sizes.
 fn common_divisor(a: u128, b: u128) -> u128
@@ -14,7 +28,7 @@ fn common_divisor(a: u128, b: u128) -> u128
     let mut x = a;
     let mut y = b;
     while y != 0 {
-        let rest = x % y;
+        let rest = remainder(x, y);
         x = y;
         y = rest;
     }
@@ -36,8 +50,30 @@ fn common_multiple(a: u128, b: u128) -> u128
     ensures multiple { IsLeastCommonMultiple (a ∷ b ∷ []) result }
     ensures small { result ≤ 2 ^ 112 }
 {
+    if a == 1 || a == b {
+        return b;
+    }
+    if b == 1 {
+        return a;
+    }
     let divisor = common_divisor(a, b);
-    a / divisor * b
+    (a as u64 / divisor as u64) as u128 * b
+}
+
+// Whether the size is less than 2^62.
+fn is_short(x: i128) -> bool
+    ensures { IsTrue result ↔ (unsigned_abs x < 2 ^ 62) }
+{
+    x.unsigned_abs() < 1 << 62
+}
+
+fn short_quotient(multiple: i64, of: i64) -> i64
+    requires divides { unsigned_abs of ∣ unsigned_abs multiple }
+    requires not_zero { of ≢ pos 0 }
+    requires size { unsigned_abs multiple < 2 ^ 62 }
+    ensures { multiple ≡ of *ℤ result }
+{
+    multiple / of
 }
 
 /// What a multiple of a number is a multiple by.
@@ -47,7 +83,14 @@ pub fn quotient(multiple: i128, of: i128) -> i128
     requires size { unsigned_abs multiple ≤ 2 ^ 126 }
     ensures { multiple ≡ of *ℤ result }
 {
-    if of == 1 { multiple } else { multiple / of }
+    if of == 1 || multiple == 0 {
+        return multiple;
+    }
+    if is_short(multiple) && is_short(of) {
+        short_quotient(multiple as i64, of as i64) as i128
+    } else {
+        multiple / of
+    }
 }
 
 /// The least common multiple of two numbers, both at least 1. `None` exactly where it passes the limit.
@@ -72,6 +115,9 @@ fn size_of_content(row: &[i128]) -> u128
 {
     let mut divisor = 0;
     for x in row {
+        if divisor == 1 {
+            return 1;
+        }
         divisor = common_divisor(divisor, x.unsigned_abs());
     }
     divisor

@@ -5,7 +5,7 @@ ghost use Rattle.std.specs.List.{AllByRecursion};
 ghost use Rattle.audit_types.specs.Form.{pivot_entry};
 ghost use Rattle.int_rows.specs.Primitive.{IsMadePrimitive, IsSignedContent};
 
-use crate::divisors::content;
+use crate::divisors::{content, quotient};
 
 fn divide(row: &mut [i128], by: i128)
     requires divides { AllByRecursion (λ x. unsigned_abs by ∣ unsigned_abs x) row.old }
@@ -13,8 +13,11 @@ fn divide(row: &mut [i128], by: i128)
     requires size { AllByRecursion (λ x. unsigned_abs x ≤ 2 ^ 126) row.old }
     ensures { row.old ≡ map (λ x. by *ℤ x) row.new }
 {
+    if by == 1 {
+        return;
+    }
     for x in row.iter_mut() {
-        *x /= by;
+        *x = quotient(*x, by);
     }
 }
 
