@@ -6,11 +6,12 @@ use Rattle.audit_types.specs.Form.{set_row, InSpan, IsReducedForm, IsNarrow, Red
 use Rattle.int_rows.proofs.ContentLaws.{all-push, all-front}
 use Rattle.sum_basis.specs.Basis.{Echelon}
 use Rattle.sum_basis.specs.Elimination.{IsSmallForm}
-use Rattle.sum_basis.specs.Growth.{Grows, GrowsFor, GrowsForRows, GrowsWide}
+use Rattle.sum_basis.specs.Growth.{Grows, GrowsFor, GrowsForRows, GrowsWide, StaysNarrow}
 use Rattle.sum_basis.specs.declared.Grown.{Grown}
 use Rattle.sum_basis.specs.declared.Grown.TheVariants.{Same, Added, Wide}
 use Rattle.sum_basis.proofs.Spans.{span_trans, span_trans_all}
 use Rattle.sum_basis.proofs.FormsAreUnique.{own, forms_are_unique}
+use Rattle.sum_basis.proofs.NarrowOrWide.{narrow_or_wide}
 use Rattle.sum_basis.proofs.SpanKeepsForm.{span_keeps_form}
 
 -- rows of one space have one reduced form
@@ -87,3 +88,23 @@ pub stands_for_rows : (old new : Echelon) (v : List ℤ) (grown : Grown) → Gro
 stands_for_rows old new v Same g rows r = subst (λ (e : Echelon). IsReducedForm e.n (rows ++ v ∷ []) e.rows) (sym g.1) (span_keeps_form old.n rows old.rows v r (span_trans rows old.rows v r.within g.0))
 stands_for_rows old new v Added g rows r = subst (λ n. IsReducedForm n (rows ++ v ∷ []) new.rows) (sym g.1.n) (of_rows old.n rows old.rows new.rows v r g.1.reduced)
 stands_for_rows old new v Wide g rows r = (g.2.0, of_rows old.n rows old.rows g.2.0 v r g.2.1, g.2.2)
+
+-- a form of sets that stays narrow doesn't grow wide
+pub not_wide_with : (old : Echelon) (rows : List ℕ) → StaysNarrow old rows → ¬ (GrowsWide old (set_row old.n rows))
+not_wide_with old rows narrow wide =
+    let of_sets = of_rows old.n (map (set_row old.n) narrow.0) old.rows wide.0 (set_row old.n rows) narrow.1 wide.1 in
+    (narrow_or_wide old.n (narrow.0 ++ rows ∷ [])).1 narrow.2 (record { form = wide.0; reduced = more_sets old.n narrow.0 rows wide.0 of_sets; wide = wide.2 })
+
+-- the same of the row as it was written, and of the form as it is seen
+pub not_wide_at : (form seen : Echelon) (row : List ℤ) (n : ℕ) (rows : List ℕ) → form ≡ seen → row ≡ set_row n rows → n ≡ seen.n → StaysNarrow seen rows → ¬ (GrowsWide form row)
+not_wide_at form seen row n rows view is same narrow =
+    subst (λ (e : Echelon). ¬ (GrowsWide e row)) (sym view) (subst (λ r. ¬ (GrowsWide seen r)) (sym (is ∙ ap (λ m. set_row m rows) same)) (not_wide_with seen rows narrow))
+
+-- the form with a set stands for the sets with it
+pub stands_with : (old new : Echelon) (rows : List ℕ) → IsReducedForm old.n (old.rows ++ set_row old.n rows ∷ []) new.rows → (sets : List (List ℕ)) → Reduced old.n sets old.rows → Reduced old.n (sets ++ rows ∷ []) new.rows
+stands_with old new rows reduced sets r = more_sets old.n sets rows new.rows (of_rows old.n (map (set_row old.n) sets) old.rows new.rows (set_row old.n rows) r reduced)
+
+-- the form with a row, of the form as it is seen and the row of a set
+pub reduced_at : (form seen : Echelon) (rows : List (List ℤ)) (row : List ℤ) (n : ℕ) (list : List ℕ) → form ≡ seen → row ≡ set_row n list → n ≡ seen.n → IsReducedForm form.n (form.rows ++ row ∷ []) rows → IsReducedForm seen.n (seen.rows ++ set_row seen.n list ∷ []) rows
+reduced_at form seen rows row n list view is same reduced =
+    subst (λ (e : Echelon). IsReducedForm e.n (e.rows ++ set_row seen.n list ∷ []) rows) view (subst (λ r. IsReducedForm form.n (form.rows ++ r ∷ []) rows) (is ∙ ap (λ m. set_row m list) same) reduced)

@@ -1,5 +1,5 @@
 -- A row that joins a form: what is told of the primitive row holds of the row itself, and the form with it is narrow.
-use Rattle.std.proofs.Common.{◌≡◌, ℕ, ◌<◌, ◌≤◌, ◌^◌, ℤ, pos, List, [], ◌∷◌, ◌++◌, length, refl, sym, ap, ◌∙◌, subst, arith}
+use Rattle.std.proofs.Common.{◌≡◌, ℕ, ◌<◌, ◌≤◌, ◌^◌, ℤ, pos, List, [], ◌∷◌, ◌++◌, length, refl, sym, ap, ◌∙◌, subst, arith, inl, inr}
 use Rattle.std.specs.Prelude.{◌<ℤ◌, unsigned_abs}
 use Rattle.std.proofs.lemmas.Int.{ints}
 use Rattle.std.specs.List.{AllByRecursion}
@@ -11,10 +11,12 @@ use Rattle.sum_basis.specs.declared.Prospect.{Prospect}
 use Rattle.sum_basis.specs.declared.Prospect.TheVariants.{Wide, Fixing, Open}
 use Rattle.sum_basis.specs.Basis.{Echelon, IsForm}
 use Rattle.sum_basis.specs.Elimination.{IsSmall, IsSmallForm}
-use Rattle.sum_basis.specs.Growth.{Foresees, GrowsTo, IsNewRow, IsAsItIs}
+use Rattle.sum_basis.specs.Growth.{Foresees, GrowsTo, GrowsWide, IsNewRow, IsAsItIs}
 use Rattle.sum_basis.specs.Sparse.{entry_at, row_of, rows_of, IsListed, IsKept, IsNew}
 use Rattle.sum_basis.proofs.FormsAreUnique.{own, forms_are_unique}
+use Rattle.sum_basis.proofs.NarrowOrWide.{narrow_or_not}
 use Rattle.sum_basis.proofs.SpanKeepsForm.{span_keeps_form}
+use Rattle.sum_basis.proofs.Exactness.{other_row}
 use Rattle.sum_basis.proofs.Extending.{grows_to, grows_wide}
 use Rattle.sum_basis.proofs.LeastMultiples.{heads, least_unique}
 use Rattle.sum_basis.proofs.PrimitiveLines.{same_rows}
@@ -64,17 +66,16 @@ pub record IsJoined (n : ℕ) (rows : List SparseRow) : Type 0 where
   pub small : AllByRecursion (λ r. (pos 0 <ℤ r.head) × (unsigned_abs r.head ≤ 2 ^ 56)) rows
   pub same : pivot_entries (rows_of n rows) ≡ heads rows
 
-pub joined : (n : ℕ) (old : List (List ℤ)) (v : List ℤ) (p : Prospect) (rows : List SparseRow) → Foresees (record { n = n; rows = old }) v p → ¬ (p ≡ Wide) → IsReducedForm n (old ++ v ∷ []) (rows_of n rows) → AllByRecursion (IsKept n) rows → IsJoined n rows
-joined n old v p rows h other reduced kept =
-    let grown = not_wide (record { n = n; rows = old }) v p h other in
-    let same = forms_are_unique n (old ++ v ∷ []) grown.0.rows (rows_of n rows) grown.1.reduced reduced in
-    let narrow = subst IsNarrow same grown.1.narrow in
-    record {
-      form = record { primitive = reduced.primitive; echelon = reduced.echelon; entries = narrow.entries };
-      narrow = narrow;
-      small = small_heads n rows kept narrow.entries;
-      same = heads_are n rows kept;
-    }
+pub joined : (n : ℕ) (old : List (List ℤ)) (v : List ℤ) (rows : List SparseRow) → ¬ (GrowsWide (record { n = n; rows = old }) v) → IsReducedForm n (old ++ v ∷ []) (rows_of n rows) → AllByRecursion (IsKept n) rows → IsJoined n rows
+joined n old v rows other reduced kept = elim (narrow_or_not n (old ++ v ∷ []) (rows_of n rows) reduced) [
+  | inr wide ↦ absurd (other (rows_of n rows, reduced, wide))
+  | inl narrow ↦ record {
+    form = record { primitive = reduced.primitive; echelon = reduced.echelon; entries = narrow.entries };
+    narrow = narrow;
+    small = small_heads n rows kept narrow.entries;
+    same = heads_are n rows kept;
+  }
+]
 
 -- the multiple of the pivot entries is within the limit
 pub within_limit : (n : ℕ) (rows : List SparseRow) (m : ℕ) → IsJoined n rows → IsLeastCommonMultiple (heads rows) m → 2 ^ 56 < m → ⊥
@@ -125,22 +126,47 @@ told seen n rows items new list v p room view e f h left =
     let there = subst (λ (l : List FreeEntry). Foresees (record { n = n; rows = rows_of n items }) (row_of n l) p) f here in
     foresees_from seen v (row_of seen.n list) p left.1 (subst (λ (s : Echelon). Foresees s (row_of s.n list) p) view there)
 
--- the rows once the row has joined
-pub after_growth : (n : ℕ) (rows items before grown : List SparseRow) (new list : List FreeEntry) (p : Prospect) → rows ≡ items → new ≡ list → before ≡ items
-    → Foresees (record { n = n; rows = rows_of n rows }) (row_of n new) p → ¬ (p ≡ Wide) → IsReducedForm n (rows_of n before ++ row_of n list ∷ []) (rows_of n grown) → AllByRecursion (IsKept n) grown → IsJoined n grown
-after_growth n rows items before grown new list p e f g h other reduced kept =
+-- what is told not to be wide is not wide
+pub not_grown_wide : (old : Echelon) (v : List ℤ) (p : Prospect) → Foresees old v p → ¬ (p ≡ Wide) → ¬ (GrowsWide old v)
+not_grown_wide old v p h other wide =
+    let grown = not_wide old v p h other in
+    let same = forms_are_unique old.n (old.rows ++ v ∷ []) grown.0.rows wide.0 grown.1.reduced wide.1 in
+    wide.2 (subst IsNarrow same grown.1.narrow)
+
+-- what is told of the list, for the form as it is seen
+pub told_of_list : (seen : Echelon) (n : ℕ) (rows items : List SparseRow) (new list : List FreeEntry) (p : Prospect) → record { n = n; rows = rows_of n items } ≡ seen → rows ≡ items → new ≡ list
+    → Foresees (record { n = n; rows = rows_of n rows }) (row_of n new) p → Foresees seen (row_of seen.n list) p
+told_of_list seen n rows items new list p view e f h =
     let here = subst (λ (r : List SparseRow). Foresees (record { n = n; rows = rows_of n r }) (row_of n new) p) e h in
     let there = subst (λ (l : List FreeEntry). Foresees (record { n = n; rows = rows_of n items }) (row_of n l) p) f here in
-    joined n (rows_of n items) (row_of n list) p grown there other (subst (λ (r : List SparseRow). IsReducedForm n (rows_of n r ++ row_of n list ∷ []) (rows_of n grown)) g reduced) kept
+    subst (λ (s : Echelon). Foresees s (row_of s.n list) p) view there
 
--- the form with the row
-pub grown_to : (seen : Echelon) (n : ℕ) (items before grown : List SparseRow) (list : List FreeEntry) (v : List ℤ) (room : ℕ) → record { n = n; rows = rows_of n items } ≡ seen → before ≡ items
-    → IsNew seen.n list × IsNewRow seen v (row_of seen.n list) × (seen.n ≤ room) → IsReducedForm n (rows_of n before ++ row_of n list ∷ []) (rows_of n grown) → IsJoined n grown
-    → ¬ (InSpan seen.rows v) × GrowsTo seen v (record { n = n; rows = rows_of n grown })
-grown_to seen n items before grown list v room view g left reduced j =
-    subst (λ (s : Echelon). IsNew s.n list × IsNewRow s v (row_of s.n list) × (s.n ≤ room) → ¬ (InSpan s.rows v) × GrowsTo s v (record { n = n; rows = rows_of n grown })) view
-    (λ h. (
-      h.1.outside,
-      grows_to (record { n = n; rows = rows_of n items }) (record { n = n; rows = rows_of n grown }) v (row_of n list) h.1
-          (record { n = refl; reduced = subst (λ (r : List SparseRow). IsReducedForm n (rows_of n r ++ row_of n list ∷ []) (rows_of n grown)) g reduced; narrow = j.narrow }),
-    )) left
+-- the rows once the row has joined
+pub after_growth : (seen : Echelon) (n : ℕ) (items before grown : List SparseRow) (list : List FreeEntry) → record { n = n; rows = rows_of n items } ≡ seen → before ≡ items
+    → ¬ (GrowsWide seen (row_of seen.n list)) → IsReducedForm n (rows_of n before ++ row_of n list ∷ []) (rows_of n grown) → AllByRecursion (IsKept n) grown → IsJoined n grown
+after_growth seen n items before grown list view g other reduced kept =
+    joined n (rows_of n items) (row_of n list) grown (subst (λ (s : Echelon). ¬ (GrowsWide s (row_of s.n list))) (sym view) other)
+    (subst (λ (r : List SparseRow). IsReducedForm n (rows_of n r ++ row_of n list ∷ []) (rows_of n grown)) g reduced) kept
+
+-- the rows of the form with the list, as the form was seen
+pub grown_rows : (seen : Echelon) (n : ℕ) (items before grown : List SparseRow) (list : List FreeEntry) → record { n = n; rows = rows_of n items } ≡ seen → before ≡ items
+    → IsReducedForm n (rows_of n before ++ row_of n list ∷ []) (rows_of n grown) → IsReducedForm seen.n (seen.rows ++ row_of seen.n list ∷ []) (rows_of n grown)
+grown_rows seen n items before grown list view g reduced =
+    subst (λ (s : Echelon). IsReducedForm s.n (s.rows ++ row_of s.n list ∷ []) (rows_of n grown)) view
+    (subst (λ (r : List SparseRow). IsReducedForm n (rows_of n r ++ row_of n list ∷ []) (rows_of n grown)) g reduced)
+
+-- the form with the row, once its list has joined
+pub grown_to : (old new : Echelon) (list : List FreeEntry) (v : List ℤ) → new.n ≡ old.n → IsNarrow new.rows → IsNewRow old v (row_of old.n list) → IsReducedForm old.n (old.rows ++ row_of old.n list ∷ []) new.rows → GrowsTo old v new
+grown_to old new list v n narrow row reduced = grows_to old new v (row_of old.n list) row (record { n = n; reduced = reduced; narrow = narrow })
+
+-- a row with which the form is not wide has a primitive row with which it is not
+pub not_wide_with : (old : Echelon) (v made : List ℤ) → IsNewRow old v made → ¬ (GrowsWide old v) → ¬ (GrowsWide old made)
+not_wide_with old v made row other wide = other (grows_wide old v made row wide)
+
+-- a row of the span leaves a reduced form
+pub same_form : (old : Echelon) (v : List ℤ) → IsSmallForm old.n old.rows → InSpan old.rows v → IsReducedForm old.n (old.rows ++ v ∷ []) old.rows
+same_form old v f p = span_keeps_form old.n old.rows old.rows v (record { primitive = f.primitive; echelon = f.echelon; within = own old.rows; spans = own old.rows }) p
+
+-- the form with the list is the form with the row
+pub grown_with : (old : Echelon) (rows : List (List ℤ)) (list : List FreeEntry) (v : List ℤ) → IsNewRow old v (row_of old.n list) → IsReducedForm old.n (old.rows ++ row_of old.n list ∷ []) rows → IsReducedForm old.n (old.rows ++ v ∷ []) rows
+grown_with old rows list v row reduced = other_row old.n old.rows rows (row_of old.n list) v row.there row.back reduced

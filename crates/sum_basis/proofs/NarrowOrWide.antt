@@ -25,7 +25,7 @@ small_or_not : (x : ℤ) → (unsigned_abs x ≤ 2 ^ 56) ⊎ ¬ (unsigned_abs x 
 small_or_not x = elim (cases_lt (2 ^ 56) (unsigned_abs x)) [ inl more ↦ inr (λ small. omega arith) | inr small ↦ inl small ]
 
 -- whether a form is narrow is decided
-narrow_or_not : (n : ℕ) (rows form : List (List ℤ)) → IsReducedForm n rows form → IsNarrow form ⊎ ¬ (IsNarrow form)
+pub narrow_or_not : (n : ℕ) (rows form : List (List ℤ)) → IsReducedForm n rows form → IsNarrow form ⊎ ¬ (IsNarrow form)
 narrow_or_not n rows form r =
     elim (all_or_not IsSmall (all_or_not (λ x. unsigned_abs x ≤ 2 ^ 56) small_or_not) form) [
       | inr large ↦ inr (λ narrow. large narrow.entries)

@@ -1,7 +1,7 @@
 -- What becomes of a reduced form when a row is added.
 use Rattle.std.specs.Prelude.{◌≡◌, ℕ, ◌≤◌, ◌++◌, ℤ, List, [], ◌∷◌, take}
 use Rattle.std.specs.List.{AllByRecursion}
-use Rattle.audit_types.specs.Form.{InSpan, IsPrimitive, IsReducedForm, IsNarrow, Reduced, HasWideForm}
+use Rattle.audit_types.specs.Form.{InSpan, IsPrimitive, IsReducedForm, IsNarrow, Reduced, HasNarrowForm, HasWideForm}
 use Rattle.sum_basis.specs.Basis.{Echelon, HasUnitRow}
 use Rattle.sum_basis.specs.Elimination.{IsSmall, IsZeroAtPivots, AreCleared}
 use Rattle.sum_basis.specs.declared.Grown.{Grown}
@@ -34,6 +34,10 @@ abbrev pub GrowsFor : List (List ℕ) → List ℕ → Echelon → Grown → Ech
 GrowsFor sets rows old Same new = Reduced new.n (sets ++ rows ∷ []) new.rows
 GrowsFor sets rows old Added new = Reduced new.n (sets ++ rows ∷ []) new.rows
 GrowsFor sets rows old Wide new = HasWideForm old.n (sets ++ rows ∷ [])
+
+-- the form of some sets that it stands for, with this one, is narrow
+abbrev pub StaysNarrow : Echelon → List ℕ → Type 0
+StaysNarrow old rows = (sets : List (List ℕ)) × Reduced old.n sets old.rows × HasNarrowForm old.n (sets ++ rows ∷ [])
 
 -- what is told of the form with a new row
 abbrev pub Foresees : Echelon → List ℤ → Prospect → Type 0

@@ -1,9 +1,9 @@
 //! The reduced form of the sets of a sum column, kept as long as it is narrow.
-ghost use Rattle.std.specs.Prelude.{◌≡◌, ◌↔◌, ℕ, ◌<◌, ◌≤◌, ◌^◌, List, pos, [], length, IfOk, OnErr, IsTrue, slice_index_or};
-ghost use Rattle.audit_types.specs.Form.{set_row, InSpan, IsNarrow, Reduced, pivot, pivot_entries, IsLeastCommonMultiple};
+ghost use Rattle.std.specs.Prelude.{◌≡◌, ◌↔◌, ℕ, ◌<◌, ◌≤◌, ◌++◌, ◌^◌, List, pos, [], ◌∷◌, length, IfOk, OnOk, OnErr, IsTrue, slice_index_or};
+ghost use Rattle.audit_types.specs.Form.{set_row, InSpan, IsNarrow, IsReducedForm, Reduced, pivot, pivot_entries, IsLeastCommonMultiple};
 ghost use Rattle.audit_types.specs.Truth.{number_at};
 ghost use Rattle.sum_basis.specs.Basis.{IsLeastUnit};
-ghost use Rattle.sum_basis.specs.Growth.{Grows, GrowsFor, GrowsWide, Foresees};
+ghost use Rattle.sum_basis.specs.Growth.{Grows, GrowsFor, GrowsWide, Foresees, StaysNarrow};
 ghost use Rattle.sum_basis.specs.declared.Grown.TheVariants.{Same, Wide};
 
 use crate::elimination::{pivot_of, write_set};
@@ -58,6 +58,22 @@ impl Basis {
         write_set(row, rows);
         let grown = self.form.join(row)?;
         Ok(grown)
+    }
+
+    /// Adds the row of a set with which the form is narrow. It does not look ahead, so it takes less time than `extend`.
+    pub fn insert(&mut self, rows: &RowSet) -> Result<(), NoMemory>
+        requires n { rows.now.n ≡ self.old.n }
+        requires narrow { StaysNarrow self.old rows.now.list }
+        ensures reduced { OnOk result (IsReducedForm self.old.n (self.old.rows ++ set_row self.old.n rows.now.list ∷ []) self.new.rows) }
+        ensures stands { OnOk result ((sets : List (List ℕ)) → Reduced self.old.n sets self.old.rows → Reduced self.old.n (sets ++ rows.now.list ∷ []) self.new.rows) }
+        ensures n { self.new.n ≡ self.old.n }
+        ensures err { OnErr result (self.new ≡ self.old) }
+    {
+        let mut room = [0; 1024];
+        let row = &mut room[..self.form.columns() as usize];
+        write_set(row, rows);
+        self.form.insert(row)?;
+        Ok(())
     }
 
     /// Tells what the form would become with the row of a set.

@@ -1,11 +1,13 @@
 //! The reduced form of rows of whole numbers, kept as long as it is narrow.
-ghost use Rattle.std.specs.Prelude.{◌≡◌, ◌↔◌, ℕ, ◌<◌, ◌≤◌, ◌++◌, ◌^◌, ℤ, List, pos, [], ◌∷◌, length, map, IfOk, OnErr, IsTrue, MatchOption, slice_index_or, unsigned_abs};
+ghost use Rattle.std.specs.Prelude.{◌≡◌, ◌↔◌, ℕ, ◌<◌, ◌≤◌, ◌++◌, ◌^◌, ℤ, List, pos, [], ◌∷◌, length, map, IfOk, OnOk, OnErr, IsTrue, MatchOption, slice_index_or, unsigned_abs};
 ghost use Rattle.std.specs.List.{AllByRecursion};
 ghost use Rattle.audit_types.specs.Form.{InSpan, IsNarrow, IsReducedForm, pivot, pivot_entries, IsLeastCommonMultiple};
 ghost use Rattle.audit_types.specs.Truth.{number_at};
 ghost use Rattle.sum_basis.specs.Basis.{IsLeastUnit, IsFreeList};
 ghost use Rattle.sum_basis.specs.Combination.{times};
-ghost use Rattle.sum_basis.specs.Elimination.{IsSmallForm, IsRemainder};
+ghost use Rattle.sum_basis.specs.Elimination.{IsSmallForm, IsRemainder, IsZeroAtPivots};
+ghost use Rattle.std.specs.Vec.{vec_capacity};
+ghost use Rattle.sum_basis.specs.Sparse.{row_of, IsNew};
 ghost use Rattle.sum_basis.specs.Growth.{Grows, GrowsForRows, GrowsWide, Foresees, IsLeft, IsAsItIs};
 ghost use Rattle.sum_basis.specs.declared.Grown.TheVariants.{Same, Wide};
 
@@ -145,13 +147,48 @@ impl Form {
         if let Prospect::Wide = look_ahead(&self.rows, self.columns, &new, &mut room) {
             return Ok(Grown::Wide);
         }
+        self.grow(new, &mut room)?;
+        Ok(Grown::Added)
+    }
+
+    /// Adds a row of zeros and ones, which is used up, and with which the form is narrow.
+    pub(crate) fn insert(&mut self, row: &mut [i128]) -> Result<(), NoMemory>
+        requires length { length row.old ≡ self.old.n }
+        requires bits { (j : ℕ) → unsigned_abs (number_at row.old j) ≤ 1 }
+        requires narrow { ¬ (GrowsWide self.old row.old) }
+        ensures reduced { OnOk result (IsReducedForm self.old.n (self.old.rows ++ row.old ∷ []) self.new.rows) }
+        ensures n { self.new.n ≡ self.old.n }
+        ensures err { OnErr result (self.new ≡ self.old) }
+    {
+        let new = match self.settle(row)? {
+            Left::Nothing => return Ok(()),
+            Left::Large => unreachable!(),
+            Left::Entries(new) => new,
+        };
+        let mut room = Vec::with_capacity(self.alloc, self.columns as usize)?;
+        self.grow(new, &mut room)?;
+        Ok(())
+    }
+
+    // Adds the list of a new row with which the form is narrow.
+    fn grow(&mut self, new: Vec<FreeEntry>, room: &mut Vec<FreeEntry>) -> Result<(), NoMemory>
+        requires new { IsNew self.old.n new.items }
+        requires new_room { self.old.n ≤ vec_capacity new }
+        requires room { self.old.n ≤ vec_capacity room.old }
+        requires zero { IsZeroAtPivots self.old.rows (row_of self.old.n new.items) }
+        requires narrow { ¬ (GrowsWide self.old (row_of self.old.n new.items)) }
+        ensures reduced { OnOk result (IsReducedForm self.old.n (self.old.rows ++ row_of self.old.n new.items ∷ []) self.new.rows) }
+        ensures narrow { OnOk result (IsNarrow self.new.rows) }
+        ensures n { self.new.n ≡ self.old.n }
+        ensures err { OnErr result (self.new ≡ self.old) }
+    {
         self.rows.reserve(1)?;
-        grow_rows(&mut self.rows, self.columns, new, &mut room);
+        grow_rows(&mut self.rows, self.columns, new, room);
         match common_multiple(&self.rows) {
             Some(common) => self.common = common,
             None => unreachable!(),
         }
-        Ok(Grown::Added)
+        Ok(())
     }
 
     /// Adds a row of zeros and ones, unless the form would no longer be narrow.
