@@ -4,6 +4,8 @@
 #![tactic(auto)]
 
 mod content;
+mod due;
+mod keys;
 mod outcome;
 mod pieces;
 mod playing;
@@ -14,6 +16,7 @@ mod terminal;
 
 use anyhow::{Context, Result};
 use outcome::Tally;
+use script::Script;
 use std::fs;
 use std::process::ExitCode;
 use std::rt::Files;
@@ -42,6 +45,6 @@ fn run_listed<R: Files + Input + Print + AllocGlobal>(rt: &R) -> Result<Tally> {
 
 fn run_script<R: Files + Print + AllocGlobal>(rt: &R, path: &str, tally: &mut Tally) -> Result<()> {
     let text = fs::read_to_string(rt, path)?;
-    let script = toml::from_str(rt.alloc(), text.as_str())?;
-    playing::play(rt, path, &script, tally)
+    let table = toml::table_from_str(rt.alloc(), text.as_str())?;
+    playing::play(rt, path, Script::of(&table)?, tally)
 }

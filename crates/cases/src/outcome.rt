@@ -1,9 +1,6 @@
-//! What was due of a run beside what came, told where they differ.
-use crate::script::Over;
-use anyhow::{Error, Result, anyhow};
+//! How cases are counted, and a difference is told.
+use anyhow::{Error, anyhow};
 use audit_types::NoMemory;
-use auditor_top::{Status, status_code, status_text};
-use bench_core::MemoryBench;
 use std::{fmt, io};
 
 /// Want of memory, as the program tells it.
@@ -53,8 +50,8 @@ impl Case<'_> {
         println!(rt; "  {place}: {what}")
     }
 
-    // Whether what came is what was due; a difference is printed.
-    fn agrees<R: Print, T: PartialEq + fmt::Display>(
+    /// Whether what came is what was due; a difference is printed.
+    pub fn agrees<R: Print, T: PartialEq + fmt::Display>(
         self,
         rt: &R,
         what: &str,
@@ -71,66 +68,9 @@ impl Case<'_> {
     }
 }
 
-/// The file that a crash leaves.
-#[derive(Drop)]
-pub struct Left {
-    pub synced: Vec<u8>,
-    pub torn: Vec<u8>,
-}
-
-/// What is due of a run. What is none isn't looked at.
-#[derive(Drop)]
-pub struct Due<'a> {
-    pub status: u8,
-    pub text: &'a str,
-    pub sent: Vec<u8>,
-    pub file: Option<Vec<u8>>,
-    pub crash: Option<Left>,
-    pub calls: Option<u64>,
-}
-
-impl Due<'_> {
-    /// Whether all that was due came; each difference is printed.
-    pub fn is_met<R: Print + AllocGlobal>(
-        &self,
-        rt: &R,
-        case: Case,
-        status: &Status,
-        bench: &MemoryBench,
-    ) -> Result<bool> {
-        let text = status_text(rt.alloc(), status).map_err(no_memory)?;
-        let mut met = case.agrees(rt, "status", &self.status, &status_code(status))?;
-        met &= case.agrees(rt, "text", &self.text, &text.as_str())?;
-        met &= case.agrees(rt, "sent", &Bytes(&self.sent), &Bytes(bench.sent()))?;
-        if let Some(file) = &self.file {
-            met &= is_left(rt, case, bench, Over::Left, file)?;
-        }
-        if let Some(left) = &self.crash {
-            met &= is_left(rt, case, bench, Over::Synced, &left.synced)?;
-            met &= is_left(rt, case, bench, Over::Torn, &left.torn)?;
-        }
-        if let Some(calls) = self.calls {
-            met &= case.agrees(rt, "calls", &calls, &bench.calls())?;
-        }
-        Ok(met)
-    }
-}
-
-// Whether the bench leaves the file that is due.
-fn is_left<R: Print>(
-    rt: &R,
-    case: Case,
-    bench: &MemoryBench,
-    over: Over,
-    due: &Vec<u8>,
-) -> Result<bool> {
-    let left = bench.crashed(over.pick()).map_err(no_memory)?;
-    Ok(case.agrees(rt, over.name(), &Bytes(due), &Bytes(left.file()))?)
-}
-
-// Bytes that are shown as text, where they are text without a byte 0, and else in hex.
+/// Bytes that are shown as text, where they are text without a byte 0, and else in hex.
 #[derive(Clone, Copy, PartialEq, Eq)]
-struct Bytes<'a>(&'a [u8]);
+pub struct Bytes<'a>(pub &'a [u8]);
 
 impl fmt::Display for Bytes<'_> {
     fn fmt<W: fmt::Write>(&self, f: &mut fmt::Formatter<W>) -> fmt::Result {

@@ -1,74 +1,205 @@
 //! What a script says: the files that lie there at the start, and the runs of the program.
 use crate::content::Content;
-use serde::Deserialize;
+use crate::keys::{Keys, byte_of};
+use anyhow::{Result, bail};
+use toml::{Table, Value};
+
+const SCRIPT: [&str; 5] = ["words", "schema", "table", "journal", "run"];
+
+const RUN: [&str; 16] = [
+    "shows", "words", "schema", "table", "journal", "over", "terminal", "input", "sent", "piece",
+    "fails", "ends", "file", "crash", "calls", "each",
+];
 
 /// A script. Each of its runs is a case.
-#[derive(Drop, Deserialize)]
-#[serde(deny_unknown_fields)]
-pub struct Script {
-    pub words: Option<Vec<String>>,
-    pub schema: Option<Content>,
-    pub table: Option<Content>,
-    pub journal: Option<Content>,
-    #[serde(rename = "run")]
-    pub runs: Vec<Run>,
+#[derive(Clone, Copy)]
+pub struct Script<'a> {
+    keys: Keys<'a>,
+}
+
+impl<'a> Script<'a> {
+    pub fn of(table: &'a Table) -> Result<Script<'a>> {
+        Ok(Script {
+            keys: Keys::of(table, &SCRIPT)?,
+        })
+    }
+
+    /// The runs, in order.
+    pub fn runs(self) -> Result<&'a [Value]> {
+        match self.keys.list("run")? {
+            Some(runs) => Ok(runs),
+            None => bail!("no run"),
+        }
+    }
+
+    pub fn run(self, value: &'a Value) -> Result<Run<'a>> {
+        Ok(Run {
+            common: self.keys,
+            own: Keys::of_value(value, &RUN)?,
+        })
+    }
 }
 
 /// A run of the program, and what is due.
-#[derive(Drop, Deserialize)]
-#[serde(deny_unknown_fields)]
-pub struct Run {
-    pub shows: String,
-    pub words: Option<Vec<String>>,
-    pub schema: Option<Content>,
-    pub table: Option<Content>,
-    pub journal: Option<Content>,
-    pub over: Option<Over>,
-    pub terminal: Option<String>,
-    pub input: Option<Content>,
-    pub sent: Option<Content>,
-    pub piece: Option<usize>,
-    #[serde(default)]
-    pub fails: Fails,
+#[derive(Clone, Copy)]
+pub struct Run<'a> {
+    // What stands before the runs, for all of them.
+    common: Keys<'a>,
+    own: Keys<'a>,
+}
+
+impl<'a> Run<'a> {
+    pub fn shows(self) -> Result<&'a str> {
+        match self.own.text("shows")? {
+            Some(shows) => Ok(shows),
+            None => bail!("a run doesn't say what it shows"),
+        }
+    }
+
+    /// The words after the program's name, if any are given.
+    pub fn words(self) -> Result<Option<&'a [Value]>> {
+        match self.own.list("words")? {
+            Some(words) => Ok(Some(words)),
+            None => self.common.list("words"),
+        }
+    }
+
+    /// The contents of a file at the start.
+    pub fn file_at_start(self, name: &str) -> Option<Content<'a>> {
+        match self.own.value(name) {
+            Some(value) => Some(Content::of(value)),
+            None => self.common.value(name).map(Content::of),
+        }
+    }
+
+    /// Contents that only a run has.
+    pub fn content(self, name: &str) -> Option<Content<'a>> {
+        self.own.value(name).map(Content::of)
+    }
+
+    pub fn over(self) -> Result<Option<Over>> {
+        match self.own.text("over")? {
+            None => Ok(None),
+            Some("left") => Ok(Some(Over::Left)),
+            Some("synced") => Ok(Some(Over::Synced)),
+            Some("torn") => Ok(Some(Over::Torn)),
+            Some(other) => bail!("over {other}"),
+        }
+    }
+
+    pub fn terminal(self) -> Result<Option<&'a str>> {
+        self.own.text("terminal")
+    }
+
+    pub fn piece(self) -> Result<Option<u64>> {
+        self.own.count("piece")
+    }
+
+    pub fn calls(self) -> Result<Option<u64>> {
+        self.own.count("calls")
+    }
+
+    pub fn fails(self) -> Result<Fails<'a>> {
+        Ok(Fails {
+            keys: self
+                .own
+                .table("fails", &["schema", "table", "input", "bench", "stop"])?,
+        })
+    }
+
     /// The exit status and its text.
-    pub ends: Option<(u8, String)>,
-    pub file: Option<Content>,
-    pub crash: Option<Crash>,
-    pub calls: Option<u64>,
-    pub each: Option<Each>,
+    pub fn ends(self) -> Result<(u8, &'a str)> {
+        match self.own.list("ends")? {
+            None => Ok((0, "")),
+            Some([status, Value::String(text)]) => Ok((byte_of(status)?, text.as_str())),
+            Some(_) => bail!("ends is a status and a text"),
+        }
+    }
+
+    /// The journal's files that a crash at the end leaves.
+    pub fn crash(self) -> Result<Option<Crash<'a>>> {
+        let Some(keys) = self.own.table("crash", &["synced", "torn"])? else {
+            return Ok(None);
+        };
+        match (keys.value("synced"), keys.value("torn")) {
+            (Some(synced), Some(torn)) => Ok(Some(Crash {
+                synced: Content::of(synced),
+                torn: Content::of(torn),
+            })),
+            _ => bail!("a crash leaves a synced file and a torn one"),
+        }
+    }
+
+    /// With it the run is tried with a fault at each call of the bench in turn.
+    pub fn each(self) -> Result<Option<Each<'a>>> {
+        let Some(keys) = self.own.table("each", &["fault", "histories", "then"])? else {
+            return Ok(None);
+        };
+        for key in ["input", "sent", "ends", "file", "crash", "calls"] {
+            if self.own.value(key).is_some() {
+                bail!("{key} beside each");
+            }
+        }
+        Ok(Some(Each { keys }))
+    }
 }
 
-/// The call that fails, counted from 0, of each source and of the bench, and the call of the bench from which on all fail.
-#[derive(Clone, Copy, Default, Deserialize)]
-#[serde(deny_unknown_fields)]
-pub struct Fails {
-    pub schema: Option<u64>,
-    pub table: Option<u64>,
-    pub input: Option<u64>,
-    pub bench: Option<u64>,
-    pub stop: Option<u64>,
+/// The calls that fail, counted from 0.
+#[derive(Clone, Copy)]
+pub struct Fails<'a> {
+    keys: Option<Keys<'a>>,
 }
 
-/// The journal's file that a crash at the end leaves.
-#[derive(Drop, Deserialize)]
-#[serde(deny_unknown_fields)]
-pub struct Crash {
-    pub synced: Content,
-    pub torn: Content,
+impl Fails<'_> {
+    /// Of `schema`, `table`, `input` and `bench` the call that fails, of `stop` the call from which on the bench fails.
+    pub fn call(self, of: &str) -> Result<Option<u64>> {
+        match self.keys {
+            Some(keys) => keys.count(of),
+            None => Ok(None),
+        }
+    }
 }
 
-/// The run is tried with a fault at each call of the bench in turn.
-#[derive(Drop, Deserialize)]
-#[serde(deny_unknown_fields)]
-pub struct Each {
-    pub fault: Fault,
-    pub histories: Vec<History>,
-    pub then: String,
+/// The journal's file that a crash leaves: that of the last sync, and torn.
+#[derive(Clone, Copy)]
+pub struct Crash<'a> {
+    pub synced: Content<'a>,
+    pub torn: Content<'a>,
+}
+
+/// What is tried at each call of the bench, and what is due then.
+#[derive(Clone, Copy)]
+pub struct Each<'a> {
+    keys: Keys<'a>,
+}
+
+impl<'a> Each<'a> {
+    pub fn fault(self) -> Result<Fault> {
+        match self.keys.text("fault")? {
+            Some("stop") => Ok(Fault::Stop),
+            Some("fail") => Ok(Fault::Fail),
+            _ => bail!("a fault is stop or fail"),
+        }
+    }
+
+    pub fn histories(self) -> Result<&'a [Value]> {
+        match self.keys.list("histories")? {
+            Some(histories) => Ok(histories),
+            None => bail!("no histories"),
+        }
+    }
+
+    /// The terminal over a file with the last history.
+    pub fn then(self) -> Result<&'a str> {
+        match self.keys.text("then")? {
+            Some(screen) => Ok(screen),
+            None => bail!("nothing is asked then"),
+        }
+    }
 }
 
 /// What befalls the bench at a call.
-#[derive(Clone, Copy, Deserialize)]
-#[serde(rename_all = "kebab-case")]
+#[derive(Clone, Copy)]
 pub enum Fault {
     /// This call fails, and all after it.
     Stop,
@@ -76,17 +207,17 @@ pub enum Fault {
     Fail,
 }
 
-/// The journal's file as it stands for so many records.
-#[derive(Drop, Deserialize)]
-#[serde(deny_unknown_fields)]
-pub struct History {
-    pub records: u64,
-    pub file: Content,
+/// How many records a journal has, and its file.
+pub fn history_of(value: &Value) -> Result<(u64, Content)> {
+    let keys = Keys::of_value(value, &["records", "file"])?;
+    match (keys.count("records")?, keys.value("file")) {
+        (Some(records), Some(file)) => Ok((records, Content::of(file))),
+        _ => bail!("a history is a number of records and a file"),
+    }
 }
 
 /// Which file the run before left.
-#[derive(Clone, Copy, Deserialize)]
-#[serde(rename_all = "kebab-case")]
+#[derive(Clone, Copy)]
 pub enum Over {
     /// The file as it reads.
     Left,

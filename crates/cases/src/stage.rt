@@ -2,12 +2,13 @@
 use crate::content::Content;
 use crate::outcome::no_memory;
 use crate::pieces::{Piece, Pieces};
-use crate::script::{Run, Script};
-use anyhow::Result;
+use crate::script::Run;
+use anyhow::{Result, bail};
 use auditor_top::{Status, run};
 use bench_core::{MemoryBench, Room};
 use std::alloc::Global;
 use std::rt::Files;
+use toml::Value;
 
 /// How many bytes a run may write, and how many calls it may make.
 pub const ROOM: u64 = 65_536;
@@ -16,17 +17,13 @@ pub const ROOM: u64 = 65_536;
 const SENT: u64 = 262_144;
 
 // The most bytes that a source gives at a read, where the run doesn't say.
-const PIECE: usize = 65_536;
+const PIECE: u64 = 65_536;
 
-/// The pieces of the run's own content, else of the script's, else none.
-pub fn pieces_of<R: Files + AllocGlobal>(
-    rt: &R,
-    own: &Option<Content>,
-    common: &Option<Content>,
-) -> Result<Vec<Piece>> {
-    match (own, common) {
-        (Some(content), _) | (None, Some(content)) => content.pieces(rt),
-        (None, None) => Ok(Vec::new(rt.alloc())),
+/// The pieces of contents, where there are any.
+pub fn pieces_of<R: Files + AllocGlobal>(rt: &R, content: Option<Content>) -> Result<Vec<Piece>> {
+    match content {
+        Some(content) => content.pieces(rt),
+        None => Ok(Vec::new(rt.alloc())),
     }
 }
 
@@ -53,8 +50,7 @@ pub fn bench_over(
 /// A case of a script, and the journal's file at its start.
 #[derive(Drop)]
 pub struct Stage<'a> {
-    pub script: &'a Script,
-    pub case: &'a Run,
+    pub case: Run<'a>,
     pub start: Vec<u8>,
 }
 
@@ -67,34 +63,47 @@ impl Stage<'_> {
         bench: &mut MemoryBench,
     ) -> Result<Status> {
         let alloc = rt.alloc();
-        let case = self.case;
-        let most = case.piece.unwrap_or(PIECE);
-        let schema = pieces_of(rt, &case.schema, &self.script.schema)?;
-        let table = pieces_of(rt, &case.table, &self.script.table)?;
+        let mut schema = self.source(rt, "schema")?;
+        let mut table = self.source(rt, "table")?;
+        let mut input = Pieces::new(typed, self.most()?, self.case.fails()?.call("input")?);
         let mut spare = bench_over(alloc, b"", None, None)?;
-        let words = words_of(alloc, self.script, case)?;
+        let words = words_of(alloc, self.case)?;
         Ok(run(
             alloc,
             &words,
-            &mut Pieces::new(schema, most, case.fails.schema),
-            &mut Pieces::new(table, most, case.fails.table),
-            &mut Pieces::new(typed, most, case.fails.input),
+            &mut schema,
+            &mut table,
+            &mut input,
             bench,
             &mut spare,
         ))
     }
+
+    // The source of a file.
+    fn source<R: Files + AllocGlobal>(&self, rt: &R, name: &str) -> Result<Pieces> {
+        let pieces = pieces_of(rt, self.case.file_at_start(name))?;
+        let failing = self.case.fails()?.call(name)?;
+        Ok(Pieces::new(pieces, self.most()?, failing))
+    }
+
+    // The most bytes that a source gives at a read.
+    fn most(&self) -> Result<usize> {
+        Ok(usize::try_from(self.case.piece()?.unwrap_or(PIECE))?)
+    }
 }
 
-// The run's own words after the program's name, else the script's, else `serve`.
-fn words_of(alloc: Global, script: &Script, case: &Run) -> Result<Vec<String>> {
+// The words after the program's name, else `serve`.
+fn words_of(alloc: Global, case: Run) -> Result<Vec<String>> {
     let mut words = Vec::new(alloc);
-    match (&case.words, &script.words) {
-        (Some(given), _) | (None, Some(given)) => {
-            for word in given {
-                words.push(word.clone()?)?;
-            }
+    let Some(given) = case.words()? else {
+        words.push(String::from_str(alloc, "serve")?)?;
+        return Ok(words);
+    };
+    for word in given {
+        match word {
+            Value::String(text) => words.push(text.clone()?)?,
+            _ => bail!("a word is a text"),
         }
-        (None, None) => words.push(String::from_str(alloc, "serve")?)?,
     }
     Ok(words)
 }

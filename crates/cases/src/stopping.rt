@@ -1,6 +1,6 @@
 //! One run whose bench stops at each of its calls in turn, or fails there, and what a crash then leaves.
-use crate::outcome::{Case, no_memory};
-use crate::script::{Each, Fault, Over};
+use crate::outcome::{Bytes, Case, no_memory};
+use crate::script::{Each, Fault, Over, history_of};
 use crate::stage::{ROOM, Stage, bench_over};
 use crate::terminal::Terminal;
 use anyhow::{Result, bail};
@@ -65,19 +65,21 @@ pub fn play_each<R: Files + Print + AllocGlobal>(
     rt: &R,
     name: Case,
     stage: &Stage,
-    each: &Each,
+    each: Each,
 ) -> Result<bool> {
     let law = Law::of(rt, stage, each)?;
+    let fault = each.fault()?;
     let mut met = true;
     for call in 0..ROOM {
-        let (fails, stop) = match each.fault {
+        let (fails, stop) = match fault {
             Fault::Fail => (Some(call), None),
             Fault::Stop => (None, Some(call)),
         };
         let mut bench = bench_over(rt.alloc(), &stage.start, fails, stop)?;
         let status = stage.run(rt, law.whole.pieces(rt.alloc())?, &mut bench)?;
         if status == Status::Done {
-            return Ok(met && bench.sent() == law.whole.shown.as_slice());
+            let (due, came) = (Bytes(&law.whole.shown), Bytes(bench.sent()));
+            return Ok(name.agrees(rt, "sent", &due, &came)? && met);
         }
         for over in Over::ALL {
             let moment = Moment { call, over };
@@ -91,21 +93,14 @@ pub fn play_each<R: Files + Print + AllocGlobal>(
 }
 
 impl Law {
-    fn of<R: Files + AllocGlobal>(rt: &R, stage: &Stage, each: &Each) -> Result<Law> {
-        let Some(screen) = &stage.case.terminal else {
+    fn of<R: Files + AllocGlobal>(rt: &R, stage: &Stage, each: Each) -> Result<Law> {
+        let Some(screen) = stage.case.terminal()? else {
             bail!("no terminal");
         };
-        let mut histories = Vec::new(rt.alloc());
-        for history in &each.histories {
-            histories.push(Known {
-                records: history.records,
-                file: history.file.whole(rt)?,
-            })?;
-        }
         Ok(Law {
-            whole: Terminal::read(rt.alloc(), screen.as_str())?,
-            histories,
-            then: Terminal::read(rt.alloc(), each.then.as_str())?,
+            whole: Terminal::read(rt.alloc(), screen)?,
+            histories: histories_of(rt, each)?,
+            then: Terminal::read(rt.alloc(), each.then()?)?,
         })
     }
 
@@ -162,6 +157,18 @@ impl Law {
         let status = stage.run(rt, self.then.pieces(rt.alloc())?, &mut bench)?;
         Ok(status == Status::Done && bench.sent() == self.then.shown.as_slice())
     }
+}
+
+fn histories_of<R: Files + AllocGlobal>(rt: &R, each: Each) -> Result<Vec<Known>> {
+    let mut histories = Vec::new(rt.alloc());
+    for history in each.histories()? {
+        let (records, content) = history_of(history)?;
+        histories.push(Known {
+            records,
+            file: content.whole(rt)?,
+        })?;
+    }
+    Ok(histories)
 }
 
 impl Known {
