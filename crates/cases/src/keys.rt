@@ -58,6 +58,14 @@ impl<'a> Keys<'a> {
             None => Ok(None),
         }
     }
+
+    pub fn flag(self, key: &str) -> Result<bool> {
+        match self.table.get(key) {
+            Some(Value::Boolean(flag)) => Ok(*flag),
+            Some(_) => bail!("{key} is neither true nor false"),
+            None => Ok(false),
+        }
+    }
 }
 
 /// The number that a value is, from 0.

@@ -8,26 +8,33 @@ pub fn no_memory(_: NoMemory) -> Error {
     anyhow!("out of memory")
 }
 
-/// How many cases passed, and how many differ.
+/// How many cases passed, how many differ that are there to differ, and how many failed.
 #[derive(Clone, Copy, Debug, Default)]
 pub struct Tally {
     pub passed: u32,
+    pub differing: u32,
     pub failed: u32,
 }
 
 impl Tally {
-    pub fn count(&mut self, passed: bool) {
-        if passed {
-            self.passed = self.passed.saturating_add(1);
-        } else {
-            self.failed = self.failed.saturating_add(1);
-        }
+    /// Counts a case by whether all that was due of it came, and whether it is there to differ.
+    pub fn count(&mut self, met: bool, differs: bool) {
+        let count = match (met, differs) {
+            (true, false) => &mut self.passed,
+            (false, true) => &mut self.differing,
+            (true, true) | (false, false) => &mut self.failed,
+        };
+        *count = count.saturating_add(1);
     }
 }
 
 impl fmt::Display for Tally {
     fn fmt<W: fmt::Write>(&self, f: &mut fmt::Formatter<W>) -> fmt::Result {
-        write!(f, "{} cases passed, {} failed", self.passed, self.failed)
+        write!(
+            f,
+            "{} cases passed, {} differ as due, {} failed",
+            self.passed, self.differing, self.failed
+        )
     }
 }
 

@@ -36,7 +36,7 @@ pub fn play<R: Files + Print + AllocGlobal>(
             }
             Some(each) => play_each(rt, name, &stage, each)?,
         };
-        tally.count(met);
+        tally.count(met, case.differs()?);
     }
     Ok(())
 }

@@ -6,9 +6,9 @@ use toml::{Table, Value};
 
 const SCRIPT: [&str; 5] = ["words", "schema", "table", "journal", "run"];
 
-const RUN: [&str; 16] = [
+const RUN: [&str; 17] = [
     "shows", "words", "schema", "table", "journal", "over", "terminal", "input", "sent", "piece",
-    "fails", "ends", "file", "crash", "calls", "each",
+    "fails", "ends", "file", "crash", "calls", "each", "differs",
 ];
 
 /// A script. Each of its runs is a case.
@@ -54,6 +54,11 @@ impl<'a> Run<'a> {
             Some(shows) => Ok(shows),
             None => bail!("a run doesn't say what it shows"),
         }
+    }
+
+    /// Whether the run is there to differ.
+    pub fn differs(self) -> Result<bool> {
+        self.own.flag("differs")
     }
 
     /// The words after the program's name, if any are given.
