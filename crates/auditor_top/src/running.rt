@@ -79,8 +79,9 @@ pub fn run<P: Source, I: Source, B: Bench>(
         → (base : Database) (history : List Answered) → ServesOver (P.left schema.old) (P.left table.old) (B.file bench.old) base history
         → LeavesOnly B.Bench bench.old bench.new (StopsOver base batch history (counted_lines (I.left input.old)) (B.sent bench.old)) }
 
-    // Every history that a crash at any moment leaves is legal for the table, and discloses no secret of it.
-    ensures undisclosed { P.told → I.told → B.told → (batch : ℕ) → NamesCommand words.now.items (Serve batch) → IsQuiet B.Bench bench.old
+    // Every history that a crash at any moment leaves is legal for the table, and discloses no secret of it, whatever the
+    // input is.
+    ensures undisclosed { P.told → B.told → (batch : ℕ) → NamesCommand words.now.items (Serve batch) → IsQuiet B.Bench bench.old
         → (base : Database) (history : List Answered) → ServesOver (P.left schema.old) (P.left table.old) (B.file bench.old) base history
         → (image sent : List ℕ) (now : List Answered) → B.since bench.new (B.moment bench.old) image sent → StandsFor image base.secret.shape now
         → IsLegal (secret_table base.secret) now × IsUndisclosed (secret_table base.secret) now }

@@ -84,7 +84,7 @@ pub fn serve<P: Source, I: Source, B: Bench>(
     ensures any_moment { P.told → I.told → B.told → IsQuiet B.Bench bench.old → (base : Database) (history : List Answered)
         → ServesOver (P.left schema.old) (P.left table.old) (B.file bench.old) base history
         → LeavesOnly B.Bench bench.old bench.new (StopsOver base batch history (counted_lines (I.left input.old)) (B.sent bench.old)) }
-    ensures undisclosed { P.told → I.told → B.told → IsQuiet B.Bench bench.old → (base : Database) (history : List Answered)
+    ensures undisclosed { P.told → B.told → IsQuiet B.Bench bench.old → (base : Database) (history : List Answered)
         → ServesOver (P.left schema.old) (P.left table.old) (B.file bench.old) base history
         → (image sent : List ℕ) (now : List Answered) → B.since bench.new (B.moment bench.old) image sent → StandsFor image base.secret.shape now
         → IsLegal (secret_table base.secret) now × IsUndisclosed (secret_table base.secret) now }

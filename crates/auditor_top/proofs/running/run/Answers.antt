@@ -1,4 +1,4 @@
-use Rattle.std.proofs.Common.{◌≡◌, ℕ, List, ◌++◌, Option, Some, refl, sym, ◌∙◌, ap, subst}
+use Rattle.std.proofs.Common.{◌≡◌, ℕ, List, [], ◌++◌, Option, Some, refl, sym, ◌∙◌, ap, subst}
 use Rattle.std.proofs.lemmas.List.{append_cancel_left}
 use Rattle.bench_core.specs.Calls.{LeavesOnly}
 use Rattle.bench_core.specs.Moments.{started}
@@ -30,8 +30,10 @@ returns-in-Err-NoMemory-clause-any_moment g c = λ ptold itold told batch asked 
     untouched_stops base batch history (counted_lines (g.I.Source.left c.args.input.now)) (g.B.Bench.file c.args.bench.now) (g.B.Bench.sent c.args.bench.now) image sent over.stands (now.1, quiet image now.0))
 
 pub returns-in-Err-NoMemory-clause-undisclosed : goal.returns-in-Err-NoMemory-clause-undisclosed
-returns-in-Err-NoMemory-clause-undisclosed g c = λ ptold itold told batch asked quiet base history over image sent now was stands.
-    c.stops_are_legal.ensures _ _ _ image sent base batch history now _ over.files over.legal ((returns-in-Err-NoMemory-clause-any_moment g c ptold itold told batch asked quiet base history over).each image sent was) stands
+returns-in-Err-NoMemory-clause-undisclosed g c = λ ptold told batch asked quiet base history over image sent now was stands.
+    let here = g.met.B.Bench.only_now c.args.bench.now image sent was in
+    c.stops_are_legal.ensures _ _ _ image sent base batch history now [] over.files over.legal
+    (untouched_stops base batch history [] (g.B.Bench.file c.args.bench.now) (g.B.Bench.sent c.args.bench.now) image sent over.stands (here.1, quiet image here.0)) stands
 
 pub returns-in-Err-NoMemory-clause-lives : goal.returns-in-Err-NoMemory-clause-lives
 returns-in-Err-NoMemory-clause-lives g c = λ ptold itold told batch asked quiet base history over runs life image sent now was stands.
@@ -95,7 +97,7 @@ returns-in-Ok-Serve-clause-any_moment g c = λ ptold itold told batch asked quie
     subst (λ (n : ℕ). LeavesOnly g.B.Bench c.args.bench.now c.serve.new.bench (StopsOver base n history lines (g.B.Bench.sent c.args.bench.now))) is (c.serve.ensures.any_moment ptold itold told quiet base history over)
 
 pub returns-in-Ok-Serve-clause-undisclosed : goal.returns-in-Ok-Serve-clause-undisclosed
-returns-in-Ok-Serve-clause-undisclosed g c = λ ptold itold told batch asked quiet base history over. c.serve.ensures.undisclosed ptold itold told quiet base history over
+returns-in-Ok-Serve-clause-undisclosed g c = λ ptold told batch asked quiet base history over. c.serve.ensures.undisclosed ptold told quiet base history over
 
 pub returns-in-Ok-Serve-clause-nothing_began : goal.returns-in-Ok-Serve-clause-nothing_began
 returns-in-Ok-Serve-clause-nothing_began g c = λ ptold told command asked opens quiet none. c.serve.ensures.nothing_began ptold told quiet none

@@ -1,4 +1,4 @@
-use Rattle.std.proofs.Common.{rules, ◌≡◌, ◌≢◌, ℕ, List, Err, sym, ◌∙◌, ap, subst}
+use Rattle.std.proofs.Common.{rules, ◌≡◌, ◌≢◌, ℕ, List, [], Err, sym, ◌∙◌, ap, subst}
 use Rattle.audit_types.specs.declared.records.Answered.{Answered}
 use Rattle.audit_types.specs.History.{IsLegal}
 use Rattle.bench_core.specs.Causes.{Rose}
@@ -10,7 +10,7 @@ use Rattle.table_load.specs.Loaded.{table_view}
 use Rattle.journal_form.specs.Journal.{StandsFor}
 use Rattle.answer_journal.specs.Moments.{IsUntouched}
 use Rattle.line_wire.specs.Lines.{counted_lines}
-use Rattle.audit_session.specs.Stops.{StopsOver}
+use Rattle.audit_session.specs.Stops.{IsHarmless, StopsOver}
 use Rattle.audit_session.specs.declared.serving.EndFault.TheVariants as end
 use Rattle.auditor_top.specs.declared.words.Command.TheVariants.{Serve}
 use Rattle.auditor_top.specs.declared.status.Status.{Status}
@@ -48,8 +48,10 @@ returns-in-Err-clause-any_moment g c = λ ptold itold told quiet base history ov
     untouched_stops base c.args.batch history (counted_lines (g.I.Source.left c.args.input.now)) (g.B.Bench.file c.args.bench.now) (g.B.Bench.sent c.args.bench.now) image sent over.stands (now.1, quiet image now.0))
 
 pub returns-in-Err-clause-undisclosed : goal.returns-in-Err-clause-undisclosed
-returns-in-Err-clause-undisclosed g c = λ ptold itold told quiet base history over image sent now was stands.
-    c.stops_are_legal.ensures _ _ _ image sent base c.args.batch history now _ over.files over.legal ((returns-in-Err-clause-any_moment g c ptold itold told quiet base history over).each image sent was) stands
+returns-in-Err-clause-undisclosed g c = λ ptold told quiet base history over image sent now was stands.
+    let here = g.met.B.Bench.only_now c.args.bench.now image sent was in
+    c.stops_are_legal.ensures _ _ _ image sent base c.args.batch history now [] over.files over.legal
+    (untouched_stops base c.args.batch history [] (g.B.Bench.file c.args.bench.now) (g.B.Bench.sent c.args.bench.now) image sent over.stands (here.1, quiet image here.0)) stands
 
 -- ---- no memory for the index
 
@@ -65,8 +67,10 @@ returns-in-Err-new-clause-any_moment g c = λ ptold itold told quiet base histor
     untouched_stops base c.args.batch history (counted_lines (g.I.Source.left c.args.input.now)) (g.B.Bench.file c.args.bench.now) (g.B.Bench.sent c.args.bench.now) image sent over.stands (now.1, quiet image now.0))
 
 pub returns-in-Err-new-clause-undisclosed : goal.returns-in-Err-new-clause-undisclosed
-returns-in-Err-new-clause-undisclosed g c = λ ptold itold told quiet base history over image sent now was stands.
-    c.stops_are_legal.ensures _ _ _ image sent base c.args.batch history now _ over.files over.legal ((returns-in-Err-new-clause-any_moment g c ptold itold told quiet base history over).each image sent was) stands
+returns-in-Err-new-clause-undisclosed g c = λ ptold told quiet base history over image sent now was stands.
+    let here = g.met.B.Bench.only_now c.args.bench.now image sent was in
+    c.stops_are_legal.ensures _ _ _ image sent base c.args.batch history now [] over.files over.legal
+    (untouched_stops base c.args.batch history [] (g.B.Bench.file c.args.bench.now) (g.B.Bench.sent c.args.bench.now) image sent over.stands (here.1, quiet image here.0)) stands
 
 -- ---- the store wasn't started
 
@@ -119,8 +123,9 @@ returns-in-Err-start-clause-any_moment g c = λ ptold itold told quiet base hist
     (c.start.ensures.untouched told quiet)
 
 pub returns-in-Err-start-clause-undisclosed : goal.returns-in-Err-start-clause-undisclosed
-returns-in-Err-start-clause-undisclosed g c = λ ptold itold told quiet base history over image sent now was stands.
-    c.stops_are_legal.ensures _ _ _ image sent base c.args.batch history now _ over.files over.legal ((returns-in-Err-start-clause-any_moment g c ptold itold told quiet base history over).each image sent was) stands
+returns-in-Err-start-clause-undisclosed g c = λ ptold told quiet base history over image sent now was stands.
+    c.stops_are_legal.ensures _ _ _ image sent base c.args.batch history now [] over.files over.legal
+    (untouched_stops base c.args.batch history [] (g.B.Bench.file c.args.bench.now) (g.B.Bench.sent c.args.bench.now) image sent over.stands ((c.start.ensures.untouched told quiet).each image sent was)) stands
 
 -- ---- the lines were answered
 
@@ -204,8 +209,19 @@ returns-clause-any_moment g c = λ ptold itold told quiet base history over.
     (subst (λ (h : List Answered). LeavesOnly g.B.Bench c.start.new.bench c.serve.new.bench (StopsOver seen batch h lines (g.B.Bench.sent c.start.new.bench))) past session)))
 
 pub returns-clause-undisclosed : goal.returns-clause-undisclosed
-returns-clause-undisclosed g c = λ ptold itold told quiet base history over image sent now was stands.
-    c.stops_are_legal.ensures _ _ _ image sent base c.args.batch history now _ over.files over.legal ((returns-clause-any_moment g c ptold itold told quiet base history over).each image sent was) stands
+returns-clause-undisclosed g c = λ ptold told quiet base history over image sent now was stands.
+    let opened = c.in-Ok.opened in
+    let store = c.in-Ok-start.store in
+    let file = g.B.Bench.file c.args.bench.now in
+    let before = g.B.Bench.sent c.args.bench.now in
+    let same = same_base _ _ opened.schema.columns (table_view opened.table) base (c.in-Ok.ensures.schema_is ptold) (c.in-Ok.ensures.table_is ptold) over.files in
+    let secret : store.secret ≡ base.secret = c.in-Ok-start.ensures.store.0 ∙ sym (ap (λ (b : Database). b.secret) same) in
+    let still : IsQuiet g.B.Bench c.start.new.bench = λ image left. quiet image (c.start.ensures.crash image left) ∙ sym c.start.ensures.file in
+    (joins g.B.Bench c.args.bench.now c.start.new.bench c.serve.new.bench (λ image sent. IsHarmless base.secret image)
+    (weakens g.B.Bench c.args.bench.now c.start.new.bench (IsUntouched file before) _
+    (λ image sent same now stands. c.stops_are_legal.ensures _ _ _ image sent base c.args.batch history now [] over.files over.legal (untouched_stops base c.args.batch history [] file before image sent over.stands same) stands)
+    (c.start.ensures.untouched told quiet))
+    (subst (λ (s : SecretView). LeavesOnly g.B.Bench c.start.new.bench c.serve.new.bench (λ image sent. IsHarmless s image)) secret (c.serve.ensures.legal told still))).each image sent was now stands
 
 pub returns-clause-nothing_began : goal.returns-clause-nothing_began
 returns-clause-nothing_began g c = λ ptold told quiet none.
