@@ -12,7 +12,7 @@ use Rattle.line_wire.specs.Lines.{CountedLine, counted_lines}
 use Rattle.question_plan.specs.Laws.{AreAnswersAlike}
 use Rattle.question_plan.specs.Replies.{IsDue}
 use Rattle.question_plan.specs.Session.{Replied}
-use Rattle.audit_session.specs.Stops.{Stop, IsBatch, stands_over}
+use Rattle.audit_session.specs.Stops.{Stop, StopsOver, IsBatch, stands_over}
 use Rattle.audit_session.specs.Lives.{Run, IsLife, KeepsPromise, AreAlike}
 use Rattle.auditor_top.specs.Commands.{AreFilesOf, ServesOver}
 
@@ -28,6 +28,16 @@ pub record GoesOn (base : Database) (runs : List Run) (run : Run) : Type 0 where
   pub life : IsLife base (runs ++ run ∷ []) run.last
   pub keeps : KeepsPromise base (runs ++ run ∷ []) run.last
   pub alike : DecidesAlike base (runs ++ run ∷ []) run.last
+
+-- what `init` made over the files of a table is taken by `serve` and by `audit`
+abbrev pub MadeIsTaken : Type 0
+MadeIsTaken = (schema table image : List ℕ) (base : Database) → AreFilesOf schema table base → stands_over base image [] → ServesOver schema table image base []
+
+-- what a stop of `serve` at any moment left is taken, whatever the lines were
+abbrev pub StopsAreTaken : Type 0
+StopsAreTaken =
+    (schema table file image before sent : List ℕ) (base : Database) (batch : ℕ) (history : List Answered) (lines : List CountedLine) → ServesOver schema table file base history →
+    StopsOver base batch history lines before image sent → (now : List Answered) × ServesOver schema table image base now
 
 -- every life over the table of two files keeps the promise
 abbrev pub LivesKeepPromise : Type 0

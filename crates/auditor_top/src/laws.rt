@@ -9,7 +9,7 @@ ghost use Rattle.audit_session.specs.Stops.{StopsOver, IsBatch};
 ghost use Rattle.auditor_top.specs.Commands.{AreFilesOf};
 ghost use Rattle.auditor_top.specs.declared.words.Command.TheVariants.{Init, Serve, Audit};
 ghost use Rattle.auditor_top.specs.Words.{command_of, number_of};
-ghost use Rattle.auditor_top.specs.Promise.{LivesKeepPromise, LivesGoOn, StopsMakeLives};
+ghost use Rattle.auditor_top.specs.Promise.{LivesKeepPromise, LivesGoOn, MadeIsTaken, StopsAreTaken, StopsMakeLives};
 
 /// Every history for which a stop over a legal history of a table leaves an image is a legal history of it, and discloses no
 /// secret.
@@ -39,6 +39,15 @@ pub fn lives()
     audit_core::laws::legal_histories();
     table_load::lists_of_secrets();
     audit_session::laws::two_worlds();
+}
+
+/// What `init` made, and what a stop of `serve` at any moment left, is never refused: with the files of the table it is what the
+/// clauses `served` and `audited` of `run` take, whose ends have no status that refuses it.
+pub fn never_refused()
+    ensures made { MadeIsTaken }
+    ensures left { StopsAreTaken }
+{
+    stops_are_legal();
 }
 
 /// The plain spellings of the commands are never refused: each command as one word, and `serve` with every number of 1 to 64

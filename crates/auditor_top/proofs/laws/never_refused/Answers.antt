@@ -1,0 +1,11 @@
+use Rattle.table_load.specs.Database.{secret_table}
+use Rattle.auditor_top.proofs.WholeLives.{nothing_is_legal}
+use Rattle.auditor_top.proofs.laws.never_refused.Goals as goal
+
+pub returns-clause-made : goal.returns-clause-made
+returns-clause-made c = λ schema table image base files stands. record { files = files; stands = stands; legal = nothing_is_legal (secret_table base.secret) }
+
+pub returns-clause-left : goal.returns-clause-left
+returns-clause-left c = λ schema table file image before sent base batch history lines over stops.
+    let stands = stops.2.stands_for in
+    (_, record { files = over.files; stands = stands; legal = (c.stops_are_legal.ensures schema table before image sent base batch history _ lines over.files over.legal stops stands).0 })
