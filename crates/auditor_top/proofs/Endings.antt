@@ -1,5 +1,5 @@
 -- What the fault of each step of a run comes to, by cases on that fault.
-use Rattle.std.proofs.Common.{rules, ◌≡◌, ◌≢◌, ℕ, ◌+◌, ◌^◌, ◌<◌, ◌≤◌, List, [], Result, Ok, Err, IsErrOf, OnOk, length, refl, sym, ◌∙◌, ap, inl, inr, arith, subst}
+use Rattle.std.proofs.Common.{rules, ◌≡◌, ◌≢◌, ℕ, ◌+◌, ◌<◌, ◌≤◌, List, [], Result, Ok, Err, IsErrOf, OnOk, length, refl, sym, ◌∙◌, ap, inl, inr, arith, subst}
 use Rattle.audit_types.specs.declared.records.Answered.{Answered}
 use Rattle.bench_core.specs.Causes.{Rose}
 use Rattle.schema_json.specs.Columns.{Column}
@@ -11,7 +11,7 @@ use Rattle.answer_journal.specs.declared.make.MakeFault.TheVariants as make
 use Rattle.audit_store.specs.Starting.{StartCause, StartsUnlessFailed}
 use Rattle.audit_store.specs.declared.starting.StartFault.{StartFault}
 use Rattle.audit_store.specs.declared.starting.StartFault.TheVariants as start
-use Rattle.line_wire.specs.Lines.{counted_lines}
+use Rattle.line_wire.specs.Lines.{counted_lines, most_input}
 use Rattle.audit_session.specs.Ends.{Serves, ServesWhole, ServesSome, ServesLimited}
 use Rattle.audit_session.specs.declared.serving.EndFault.{EndFault}
 use Rattle.audit_session.specs.declared.serving.EndFault.TheVariants as end
@@ -156,8 +156,8 @@ session_faults (Err end.Limit) before input bench input_rose input_same bench_ro
 session_faults (Err end.NoMemory) before input bench input_rose input_same bench_rose bench_same = same_both before input bench (input_same (search rules)) (bench_same (search rules))
 
 -- how much of the input there was, by the end
-pub session_reads : {X : Type 0} (ended : Result X EndFault) (before after : List ℕ) → OnOk ended (after ≡ []) → OnOk ended (length before ≤ 2 ^ 30) → (ended ≡ Err end.Input → length before ≤ 2 ^ 30 + length after)
-    → (ended ≡ Err end.Limit → 2 ^ 30 + length after < length before) → InputCause (session_status ended) before after
+pub session_reads : {X : Type 0} (ended : Result X EndFault) (before after : List ℕ) → OnOk ended (after ≡ []) → OnOk ended (length before ≤ most_input) → (ended ≡ Err end.Input → length before ≤ most_input + length after)
+    → (ended ≡ Err end.Limit → most_input + length after < length before) → InputCause (session_status ended) before after
 session_reads (Ok done) before after read within failed limit = (read, within)
 session_reads (Err end.Input) before after read within failed limit = failed refl
 session_reads (Err end.Bench) before after read within failed limit = tt
@@ -166,7 +166,7 @@ session_reads (Err end.NoMemory) before after read within failed limit = tt
 
 -- where the input is within its limit and nothing failed, it is done, or there was no memory
 pub session_wants : {X : Type 0} (ended : Result X EndFault) (before after : FaultCounts) (input left : List ℕ) → FaultCause (session_status ended) before after → NothingFailed before after → InputCause (session_status ended) input left
-    → length input ≤ 2 ^ 30 → IsDoneOrWants (session_status ended)
+    → length input ≤ most_input → IsDoneOrWants (session_status ended)
 session_wants (Ok done) before after input left rose none cause within = inl refl
 session_wants (Err end.Input) before after input left rose none cause within = absurd (none.input rose.0)
 session_wants (Err end.Bench) before after input left rose none cause within = absurd (none.bench rose.0)

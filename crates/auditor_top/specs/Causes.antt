@@ -1,6 +1,6 @@
 -- What a status says of the words, the files, the journal, the input and the counts of faults: its own cause, and what holds
 -- because the stages before it were passed.
-use Rattle.std.specs.Prelude.{◌≡◌, ◌⊎◌, ◌<◌, ◌≤◌, ◌+◌, ◌^◌, ℕ, true, List, [], length, Option, Some, None, Result, Err, IsOk, Bool}
+use Rattle.std.specs.Prelude.{◌≡◌, ◌⊎◌, ◌<◌, ◌≤◌, ◌+◌, ℕ, true, List, [], length, Option, Some, None, Result, Err, IsOk, Bool}
 use Rattle.audit_types.specs.declared.records.Answered.{Answered}
 use Rattle.audit_types.specs.History.{IsLegal}
 use Rattle.bench_core.specs.Causes.{Rose}
@@ -13,6 +13,7 @@ use Rattle.journal_form.specs.Journal.{StandsFor}
 use Rattle.answer_journal.specs.Moments.{IsAlready}
 use Rattle.audit_store.specs.Starting.{StartCause}
 use Rattle.audit_store.specs.declared.starting.StartFault.TheVariants as start
+use Rattle.line_wire.specs.Lines.{most_input}
 use Rattle.auditor_top.specs.declared.words.Command.{Command}
 use Rattle.auditor_top.specs.declared.words.Command.TheVariants.{Init, Serve, Audit}
 use Rattle.auditor_top.specs.Commands.{reads_files, opens_journal, reads_lines}
@@ -82,9 +83,9 @@ FileCause status command file secret = Passed opening_journal status (IsReadyFor
 
 -- what a status says of how much of the input there was, and whether it was read to its end
 abbrev pub InputCause : Status → List ℕ → List ℕ → Type 0
-InputCause Done before after = (after ≡ []) × (length before ≤ 2 ^ 30)
-InputCause (SourceFault Input) before after = length before ≤ 2 ^ 30 + length after
-InputCause InputLimit before after = 2 ^ 30 + length after < length before
+InputCause Done before after = (after ≡ []) × (length before ≤ most_input)
+InputCause (SourceFault Input) before after = length before ≤ most_input + length after
+InputCause InputLimit before after = most_input + length after < length before
 InputCause status before after = Before reading_lines status (after ≡ before)
 
 -- ---- the counts of faults

@@ -1,5 +1,5 @@
 -- What a file gives: what its bytes mean, or why there is nothing.
-use Rattle.std.specs.Prelude.{◌≡◌, ℕ, List, Result, Ok, Err}
+use Rattle.std.specs.Prelude.{◌≡◌, List, Result, Ok, Err}
 use Rattle.schema_json.specs.Columns.{Column, SchemaView}
 use Rattle.schema_json.specs.declared.faults.SchemaFault.{SchemaFault}
 use Rattle.table_load.specs.Cells.{TableView}
@@ -8,14 +8,6 @@ use Rattle.table_load.specs.declared.faults.TableFault.{TableFault}
 use Rattle.table_load.specs.declared.loading.Table.{Table}
 use Rattle.auditor_top.specs.declared.files.FileFault.{FileFault}
 use Rattle.auditor_top.specs.declared.files.FileFault.TheVariants.{Failed, NoMemory, Bad}
-
--- the most bytes of a schema's file
-abbrev pub most_schema : ℕ
-most_schema = 65536
-
--- the most bytes of a table's file
-abbrev pub most_table : ℕ
-most_table = 16777216
 
 -- a fault of the bytes is the one that they have
 abbrev pub IsFaultOf : {X F : Type 0} → FileFault F → Result X F → Type 0

@@ -3,7 +3,8 @@ ghost use Rattle.std.specs.Prelude.{◌≡◌, ◌≢◌, ◌≤◌, ◌+◌, Li
 ghost use Rattle.audit_types.specs.declared.records.Answered.{Answered};
 ghost use Rattle.bench_core.specs.Calls.{IsQuiet, LeavesOnly};
 ghost use Rattle.schema_json.specs.Columns.{Column};
-ghost use Rattle.schema_json.specs.Reading.{schema_of};
+ghost use Rattle.schema_json.specs.Reading.{schema_of, most_schema};
+ghost use Rattle.table_load.specs.Reading.{most_table};
 ghost use Rattle.table_load.specs.Database.{Database};
 ghost use Rattle.table_load.specs.Tables.{table_of};
 ghost use Rattle.answer_journal.specs.Moments.{IsUntouched};
@@ -12,7 +13,6 @@ ghost use Rattle.auditor_top.specs.declared.words.Command.TheVariants.{Audit};
 ghost use Rattle.auditor_top.specs.Commands.{AreFilesOf, ServesOver};
 ghost use Rattle.auditor_top.specs.Causes.{FaultCause, WordCause, SchemaCause, TableCause, FileCause, NeverFall, NothingFailed, IsDoneOrWants, counts};
 ghost use Rattle.auditor_top.specs.Ends.{AuditEnds, audit_over};
-ghost use Rattle.auditor_top.specs.Files.{most_schema, most_table};
 ghost use Rattle.auditor_top.specs.Stages.{Before, reading_table, opening_journal, reading_lines};
 ghost use Rattle.auditor_top.specs.Status.{audit_status};
 

@@ -1,21 +1,18 @@
 //! The two files that a run stands on: each is read whole, and then told what its bytes mean.
 ghost use Rattle.std.specs.Prelude.{◌≡◌, ◌≢◌, ◌≤◌, ◌+◌, length, IfOk, Err};
 ghost use Rattle.bench_core.specs.Causes.{Rose};
-ghost use Rattle.schema_json.specs.Reading.{schema_of};
+ghost use Rattle.schema_json.specs.Reading.{schema_of, most_schema};
+ghost use Rattle.table_load.specs.Reading.{most_table};
 ghost use Rattle.schema_json.specs.SecretShape.{shape_of};
 ghost use Rattle.table_load.specs.Cells.{FitsSchema};
 ghost use Rattle.table_load.specs.Tables.{table_of};
-ghost use Rattle.auditor_top.specs.Files.{GivesSchema, GivesTable, most_schema, most_table};
+ghost use Rattle.auditor_top.specs.Files.{GivesSchema, GivesTable};
 
 use crate::reading::{ReadFault, read_all};
 use bench_core::Source;
-use schema_json::{Schema, SchemaFault, read_schema};
+use schema_json::{MOST_SCHEMA, Schema, SchemaFault, read_schema};
 use std::alloc::Global;
-use table_load::{Table, TableFault, load};
-
-const MOST_SCHEMA: usize = 65_536;
-
-const MOST_TABLE: usize = 16_777_216;
+use table_load::{MOST_TABLE, Table, TableFault, load};
 
 /// Why a file gives nothing.
 #[derive(Clone, Copy, Debug, PartialEq, Eq, Drop)]

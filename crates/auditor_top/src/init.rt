@@ -2,7 +2,8 @@
 ghost use Rattle.std.specs.Prelude.{◌≡◌, ◌≢◌, ◌≤◌, ◌+◌, [], List, ℕ, Some, Ok, length};
 ghost use Rattle.bench_core.specs.Calls.{IsQuiet, LeavesOnly};
 ghost use Rattle.schema_json.specs.Columns.{Column};
-ghost use Rattle.schema_json.specs.Reading.{schema_of};
+ghost use Rattle.schema_json.specs.Reading.{schema_of, most_schema};
+ghost use Rattle.table_load.specs.Reading.{most_table};
 ghost use Rattle.table_load.specs.Database.{Database};
 ghost use Rattle.table_load.specs.Tables.{table_of};
 ghost use Rattle.journal_form.specs.Journal.{StandsFor};
@@ -10,7 +11,6 @@ ghost use Rattle.answer_journal.specs.Moments.{IsAlready, IsUnmadeOrEmpty, IsUnt
 ghost use Rattle.auditor_top.specs.declared.words.Command.TheVariants.{Init};
 ghost use Rattle.auditor_top.specs.Commands.{AreFilesOf};
 ghost use Rattle.auditor_top.specs.Causes.{FaultCause, WordCause, SchemaCause, TableCause, FileCause, NeverFall, NothingFailed, IsDoneOrWants, counts};
-ghost use Rattle.auditor_top.specs.Files.{most_schema, most_table};
 ghost use Rattle.auditor_top.specs.Stages.{Before, reading_table, opening_journal};
 
 use crate::opening::open_table;

@@ -1,13 +1,13 @@
 //! The files that every command over a table stands on: the schema, and the table over it.
 ghost use Rattle.std.specs.Prelude.{◌≡◌, ◌≢◌, ◌≤◌, ◌+◌, ℕ, List, length, IfOk, IfErr, OnOk, Ok, Err};
 ghost use Rattle.schema_json.specs.Columns.{Column};
-ghost use Rattle.schema_json.specs.Reading.{schema_of};
+ghost use Rattle.schema_json.specs.Reading.{schema_of, most_schema};
+ghost use Rattle.table_load.specs.Reading.{most_table};
 ghost use Rattle.schema_json.specs.SecretShape.{shape_of};
 ghost use Rattle.table_load.specs.Cells.{FitsSchema};
 ghost use Rattle.table_load.specs.Loaded.{table_view};
 ghost use Rattle.table_load.specs.Tables.{table_of};
 ghost use Rattle.auditor_top.specs.Causes.{FaultCause, SchemaCause, TableCause, counts};
-ghost use Rattle.auditor_top.specs.Files.{most_schema, most_table};
 ghost use Rattle.auditor_top.specs.Stages.{Before, reading_table};
 ghost use Rattle.auditor_top.specs.Status.{open_status};
 

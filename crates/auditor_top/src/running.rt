@@ -1,15 +1,16 @@
 //! The top call.
-ghost use Rattle.std.specs.Prelude.{◌≡◌, ◌≢◌, ◌≤◌, ◌+◌, ◌^◌, ◌++◌, [], List, ℕ, true, false, None, Ok, length, map, string_bytes};
+ghost use Rattle.std.specs.Prelude.{◌≡◌, ◌≢◌, ◌≤◌, ◌+◌, ◌++◌, [], List, ℕ, true, false, None, Ok, length, map, string_bytes};
 ghost use Rattle.audit_types.specs.declared.records.Answered.{Answered};
 ghost use Rattle.audit_types.specs.History.{IsLegal, IsUndisclosed};
 ghost use Rattle.bench_core.specs.Calls.{IsQuiet, LeavesOnly};
 ghost use Rattle.schema_json.specs.Columns.{Column};
-ghost use Rattle.schema_json.specs.Reading.{schema_of};
+ghost use Rattle.schema_json.specs.Reading.{schema_of, most_schema};
+ghost use Rattle.table_load.specs.Reading.{most_table};
 ghost use Rattle.table_load.specs.Database.{Database, secret_table};
 ghost use Rattle.table_load.specs.Tables.{table_of};
 ghost use Rattle.journal_form.specs.Journal.{StandsFor};
 ghost use Rattle.answer_journal.specs.Moments.{IsAlready, IsUnmadeOrEmpty, IsUntouched};
-ghost use Rattle.line_wire.specs.Lines.{counted_lines};
+ghost use Rattle.line_wire.specs.Lines.{counted_lines, most_input};
 ghost use Rattle.audit_session.specs.Stops.{StopsOver};
 ghost use Rattle.audit_session.specs.Lives.{Run, IsLife};
 ghost use Rattle.journal_audit.specs.Reports.{SendsMeanwhile, subjects};
@@ -19,7 +20,6 @@ ghost use Rattle.auditor_top.specs.Words.{command_of, NamesCommand};
 ghost use Rattle.auditor_top.specs.Commands.{AreFilesOf, ServesOver, opens_journal, reads_files, reads_secrets, reads_lines, writes};
 ghost use Rattle.auditor_top.specs.Causes.{FaultCause, WordCause, SchemaCause, TableCause, FileCause, InputCause, NeverFall, NothingFailed, IsDoneOrWants, counts};
 ghost use Rattle.auditor_top.specs.Ends.{AuditEnds, ServeEnds, audit_over, outside};
-ghost use Rattle.auditor_top.specs.Files.{most_schema, most_table};
 ghost use Rattle.auditor_top.specs.Promise.{GoesOn};
 ghost use Rattle.auditor_top.specs.Stages.{Before, reading_table, opening_journal, reading_lines};
 
@@ -138,7 +138,7 @@ pub fn run<P: Source, I: Source, B: Bench>(
     // Where nothing is wrong and nothing fails, it is done.
     ensures complete { P.told → I.told → B.told → (batch : ℕ) → NamesCommand words.now.items (Serve batch)
         → (base : Database) (history : List Answered) → ServesOver (P.left schema.old) (P.left table.old) (B.file bench.old) base history
-        → length (I.left input.old) ≤ 2 ^ 30
+        → length (I.left input.old) ≤ most_input
         → NothingFailed
         (counts (P.faults schema.old) (P.faults table.old) (I.faults input.old) (B.faults bench.old) (B.faults spare.old))
         (counts (P.faults schema.new) (P.faults table.new) (I.faults input.new) (B.faults bench.new) (B.faults spare.new))

@@ -1,21 +1,21 @@
 //! The command that answers the lines of an input.
-ghost use Rattle.std.specs.Prelude.{◌≡◌, ◌≢◌, ◌≤◌, ◌+◌, ◌^◌, List, ℕ, Some, Ok, length};
+ghost use Rattle.std.specs.Prelude.{◌≡◌, ◌≢◌, ◌≤◌, ◌+◌, List, ℕ, Some, Ok, length};
 ghost use Rattle.audit_types.specs.declared.records.Answered.{Answered};
 ghost use Rattle.audit_types.specs.History.{IsLegal, IsUndisclosed};
 ghost use Rattle.bench_core.specs.Calls.{IsQuiet, LeavesOnly};
 ghost use Rattle.schema_json.specs.Columns.{Column};
-ghost use Rattle.schema_json.specs.Reading.{schema_of};
+ghost use Rattle.schema_json.specs.Reading.{schema_of, most_schema};
+ghost use Rattle.table_load.specs.Reading.{most_table};
 ghost use Rattle.table_load.specs.Database.{Database, secret_table};
 ghost use Rattle.table_load.specs.Tables.{table_of};
 ghost use Rattle.journal_form.specs.Journal.{StandsFor};
 ghost use Rattle.answer_journal.specs.Moments.{IsUntouched};
-ghost use Rattle.line_wire.specs.Lines.{counted_lines};
+ghost use Rattle.line_wire.specs.Lines.{counted_lines, most_input};
 ghost use Rattle.audit_session.specs.Stops.{IsBatch, StopsOver};
 ghost use Rattle.auditor_top.specs.declared.words.Command.TheVariants.{Serve};
 ghost use Rattle.auditor_top.specs.Commands.{AreFilesOf, ServesOver};
 ghost use Rattle.auditor_top.specs.Causes.{FaultCause, WordCause, SchemaCause, TableCause, FileCause, InputCause, NeverFall, NothingFailed, IsDoneOrWants, counts};
 ghost use Rattle.auditor_top.specs.Ends.{ServeEnds, outside};
-ghost use Rattle.auditor_top.specs.Files.{most_schema, most_table};
 ghost use Rattle.auditor_top.specs.Stages.{Before, reading_table, opening_journal, reading_lines};
 ghost use Rattle.auditor_top.specs.Status.{session_status};
 
@@ -76,7 +76,7 @@ pub fn serve<P: Source, I: Source, B: Bench>(
         → ServeEnds batch result base history (outside I.Source B.Bench input.old bench.old) (outside I.Source B.Bench input.new bench.new) }
     ensures complete { P.told → I.told → B.told → (base : Database) (history : List Answered)
         → ServesOver (P.left schema.old) (P.left table.old) (B.file bench.old) base history
-        → length (I.left input.old) ≤ 2 ^ 30 → (spare : ℕ) → NothingFailed
+        → length (I.left input.old) ≤ most_input → (spare : ℕ) → NothingFailed
         (counts (P.faults schema.old) (P.faults table.old) (I.faults input.old) (B.faults bench.old) spare)
         (counts (P.faults schema.new) (P.faults table.new) (I.faults input.new) (B.faults bench.new) spare)
         → IsDoneOrWants result }
