@@ -10,7 +10,7 @@ use std::alloc::AllocError;
 pub fn size_of_set(n: u16) -> usize
     ensures { result ≡ set_size n }
 {
-    (n as usize + 7) / 8
+    (n as usize).div_ceil(8)
 }
 
 // The byte with the bits of the rows from 8 * at on.

@@ -92,12 +92,7 @@ fn read_word(line: &[u8], words: &[Reply]) -> Option<Reply>
     ensures found { IfSome result (IsReply line.now) }
     ensures none { IfNone result (All (λ reply. IsReply line.now reply → ⊥) words.now) }
 {
-    for reply in words {
-        if is_reply(line, reply) {
-            return Some(*reply);
-        }
-    }
-    None
+    words.iter().find(|reply| is_reply(line, reply)).copied()
 }
 
 fn read_count(line: &[u8]) -> Option<Reply>

@@ -165,10 +165,7 @@ fn is_public(role: Option<Role>) -> bool
     ensures { result ≡ public_role role }
 {
     match role {
-        Some(Role::Text) => true,
-        Some(Role::Number) => true,
-        Some(Role::Sum) => false,
-        Some(Role::Max) => false,
+        Some(role) => !role.is_secret(),
         None => false,
     }
 }

@@ -31,14 +31,10 @@ pub(crate) fn numeral_in(field: &[u8]) -> Numeral
 fn split_sign(bytes: &[u8]) -> (bool, &[u8])
     ensures { signed_number bytes.now ≡ option_sign result.0 (digits_number result.1.now) }
 {
-    if bytes.is_empty() {
-        (false, bytes)
-    } else if bytes[0] == b'-' {
-        (true, &bytes[1..])
-    } else if bytes[0] == b'+' {
-        (false, &bytes[1..])
-    } else {
-        (false, bytes)
+    match bytes {
+        [b'-', digits @ ..] => (true, digits),
+        [b'+', digits @ ..] => (false, digits),
+        _ => (false, bytes),
     }
 }
 
