@@ -20,25 +20,31 @@ pub fn play<R: Files + Print + AllocGlobal>(
     let mut before = None;
     for value in script.runs()? {
         let case = script.run(value)?;
-        let name = Case {
-            script: path,
-            shows: case.shows()?,
-        };
-        let stage = Stage {
-            case,
-            start: start_of(rt, case, &before)?,
-        };
-        let met = match case.each()? {
-            None => {
-                let (met, bench) = play_once(rt, name, &stage)?;
-                before = Some(bench);
-                met
-            }
-            Some(each) => play_each(rt, name, &stage, each)?,
-        };
+        let met = play_case(rt, path, case, &mut before)?;
         tally.count(met, case.differs()?);
     }
     Ok(())
+}
+
+// Whether what is due of a case came. The bench that it leaves stays for the next one.
+fn play_case<R: Files + Print + AllocGlobal>(
+    rt: &R,
+    path: &str,
+    case: Run,
+    before: &mut Option<MemoryBench>,
+) -> Result<bool> {
+    let name = Case {
+        script: path,
+        shows: case.shows()?,
+    };
+    let start = start_of(rt, case, before)?;
+    let stage = Stage { case, start };
+    if let Some(each) = case.each()? {
+        return play_each(rt, name, &stage, each);
+    }
+    let (met, bench) = play_once(rt, name, &stage)?;
+    *before = Some(bench);
+    Ok(met)
 }
 
 // Whether what is due of a run came, and the bench that it leaves.

@@ -78,16 +78,9 @@ pub fn play_each<R: Files + Print + AllocGlobal>(
         let mut bench = bench_over(rt.alloc(), &stage.start, fails, stop)?;
         let status = stage.run(rt, law.whole.pieces(rt.alloc())?, &mut bench)?;
         if status == Status::Done {
-            let (due, came) = (Bytes(&law.whole.shown), Bytes(bench.sent()));
-            return Ok(name.agrees(rt, "sent", &due, &came)? && met);
+            return Ok(law.is_answered(rt, name, &bench)? && met);
         }
-        for over in Over::ALL {
-            let moment = Moment { call, over };
-            if let Some(breach) = law.breach(rt, stage, &status, &bench, over)? {
-                name.tell(rt, moment, breach)?;
-                met = false;
-            }
-        }
+        met &= law.is_kept(rt, name, stage, &status, &bench, call)?;
     }
     bail!("no run is done")
 }
@@ -102,6 +95,32 @@ impl Law {
             histories: histories_of(rt, each)?,
             then: Terminal::read(rt.alloc(), each.then()?)?,
         })
+    }
+
+    // Whether the replies due were sent.
+    fn is_answered<R: Print>(&self, rt: &R, name: Case, bench: &MemoryBench) -> Result<bool> {
+        let (due, came) = (Bytes(&self.whole.shown), Bytes(bench.sent()));
+        Ok(name.agrees(rt, "sent", &due, &came)?)
+    }
+
+    // Whether nothing is wrong with a bench that failed at a call, in each file that may be left.
+    fn is_kept<R: Files + Print + AllocGlobal>(
+        &self,
+        rt: &R,
+        name: Case,
+        stage: &Stage,
+        status: &Status,
+        bench: &MemoryBench,
+        call: u64,
+    ) -> Result<bool> {
+        let mut kept = true;
+        for over in Over::ALL {
+            if let Some(breach) = self.breach(rt, stage, status, bench, over)? {
+                name.tell(rt, Moment { call, over }, breach)?;
+                kept = false;
+            }
+        }
+        Ok(kept)
     }
 
     // What is wrong with a bench that failed, in the file that a crash leaves.
