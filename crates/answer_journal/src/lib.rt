@@ -13,6 +13,3 @@ mod ready;
 pub use journal::{AppendFault, BackFault, Journal};
 pub use make::MakeFault;
 pub use ready::Ready;
-
-#[cfg(test)]
-mod tests;

@@ -12,6 +12,3 @@ mod outcome;
 pub use all_columns::Core;
 pub use column::ColumnRef;
 pub use outcome::Outcome;
-
-#[cfg(test)]
-mod tests;

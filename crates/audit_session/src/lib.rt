@@ -10,7 +10,5 @@ mod answering;
 mod gathering;
 pub mod laws;
 mod serving;
-#[cfg(test)]
-mod tests;
 
 pub use serving::{EndFault, serve};

@@ -13,6 +13,3 @@ pub use audit_core::Outcome;
 pub use outcome::StoreFault;
 pub use starting::StartFault;
 pub use store::Store;
-
-#[cfg(test)]
-mod tests;

@@ -10,8 +10,6 @@ mod records;
 mod row_iter;
 mod rows;
 mod shapes;
-#[cfg(test)]
-mod tests;
 mod words;
 
 pub use columns::ColumnAudit;

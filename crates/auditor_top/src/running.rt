@@ -166,6 +166,3 @@ pub fn run<P: Source, I: Source, B: Bench>(
         Ok(Command::Audit) => audit(alloc, schema, table, bench),
     }
 }
-
-#[cfg(test)]
-mod tests;

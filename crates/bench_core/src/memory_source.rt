@@ -80,39 +80,3 @@ impl Source for MemorySource {
         Ok(count)
     }
 }
-
-#[cfg(test)]
-mod tests {
-    use super::*;
-    use crate::SteadySource;
-    use std::test::Fail;
-
-    #[test]
-    fn gives_its_bytes_and_fails_at_stated_calls(rt: HostRuntime) -> Result<(), Fail> {
-        let failing = vec![in rt.alloc(); 1u64]?;
-        let mut source = MemorySource::new(b"abcdefg".to_vec(rt.alloc())?, 3, failing);
-        let mut buf = [0u8; 5];
-        for (outcome, front) in [
-            (Ok(3), b"abc00"),
-            (Err(Failed), b"abc00"),
-            (Ok(3), b"def00"),
-            (Ok(1), b"gef00"),
-            (Ok(0), b"gef00"),
-        ] {
-            assert_eq!(rt; source.read(&mut buf), outcome);
-            assert_eq!(rt; buf[..3], front[..3]);
-        }
-        Ok(())
-    }
-
-    #[test]
-    fn a_steady_source_fills_the_buffer(rt: HostRuntime) -> Result<(), Fail> {
-        let mut source = SteadySource::new(b"abcdefg".to_vec(rt.alloc())?);
-        let mut buf = [0u8; 5];
-        for (outcome, bytes) in [(Ok(5), b"abcde"), (Ok(2), b"fgcde"), (Ok(0), b"fgcde")] {
-            assert_eq!(rt; source.read(&mut buf), outcome);
-            assert_eq!(rt; &buf, bytes);
-        }
-        Ok(())
-    }
-}

@@ -10,6 +10,3 @@ mod texts;
 
 pub use faults::AuditFault;
 pub use reporting::audit;
-
-#[cfg(test)]
-mod tests;

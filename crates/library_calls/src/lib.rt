@@ -1,7 +1,20 @@
-//! Calls of libraries that no command of the program makes, with ample memory. It has tests alone.
+//! Calls of libraries that no command of the program makes, and definitions tried on cases worked out by hand. It has tests
+//! alone, so that no other library is proved a second time with its tests.
 #![tactic(auto)]
 
 #[cfg(test)]
+mod bases;
+#[cfg(test)]
+mod candidates;
+#[cfg(test)]
 mod conditions;
 #[cfg(test)]
+mod definitions;
+#[cfg(test)]
+mod devices;
+#[cfg(test)]
+mod journals;
+#[cfg(test)]
 mod publics;
+#[cfg(test)]
+mod sets;

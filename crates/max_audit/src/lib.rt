@@ -8,6 +8,3 @@ mod column;
 pub mod laws;
 
 pub use column::MaxColumn;
-
-#[cfg(test)]
-mod tests;

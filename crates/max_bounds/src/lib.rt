@@ -20,6 +20,3 @@ mod upper_bounds;
 pub use answered::AnsweredMax;
 pub use bounds::Bounds;
 pub use survey::Trial;
-
-#[cfg(test)]
-mod tests;

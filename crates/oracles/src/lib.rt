@@ -6,8 +6,6 @@
 
 mod agreement;
 mod bounds;
-#[cfg(test)]
-mod tests;
 mod truths;
 
 pub use agreement::agrees;

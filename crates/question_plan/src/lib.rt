@@ -9,8 +9,6 @@ mod averages;
 pub mod laws;
 mod planning;
 mod telling;
-#[cfg(test)]
-mod tests;
 
 pub use planning::{Plan, plan_line};
 pub use telling::tell;

@@ -8,8 +8,6 @@ mod asking;
 mod index;
 mod laws;
 mod sorted;
-#[cfg(test)]
-mod tests;
 mod values;
 
 pub use index::Index;

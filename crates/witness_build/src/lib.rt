@@ -9,8 +9,3 @@ mod sums;
 
 pub use maxima::{Pair, max_witness};
 pub use sums::sum_witness;
-
-#[cfg(test)]
-mod direction_tests;
-#[cfg(test)]
-mod tests;

@@ -9,8 +9,3 @@ mod pairs;
 
 pub use directions::check_direction;
 pub use pairs::check_pair;
-
-#[cfg(test)]
-mod direction_tests;
-#[cfg(test)]
-mod tests;

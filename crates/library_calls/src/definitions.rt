@@ -2,8 +2,8 @@
 
 ghost use Rattle.std.specs.Prelude.{◌≡◌, ◌<◌, ◌≤◌, length};
 
-use super::*;
 use audit_types::{Answered, Kind, RowSet};
+use oracles::{agrees, extremes, truth, upper_bound};
 
 const SALARIES: [i64; 6] = [100, 200, 300, 400, 500, 600];
 

@@ -1,5 +1,5 @@
 use Rattle.std.proofs.Common.{◌≡◌}
-use Rattle.audit_types.proofs.tests.edges.Given as goal
+use Rattle.library_calls.proofs.definitions.rows.Given as goal
 
 abbrev pub invariant-loop-row : goal.invariant-loop-row
 invariant-loop-row l = l.rows.n ≡ l.n
