@@ -8,6 +8,3 @@ mod primitive;
 
 pub use divisors::{content, gcd, lcm_within, quotient};
 pub use primitive::make_primitive;
-
-#[cfg(test)]
-mod tests;

@@ -10,6 +10,3 @@ pub mod laws;
 
 pub use answered::AnsweredSum;
 pub use column::SumColumn;
-
-#[cfg(test)]
-mod tests;

@@ -17,9 +17,6 @@ pub use basis::Basis;
 pub use form::Form;
 pub use sparse::FreeEntry;
 
-#[cfg(test)]
-mod tests;
-
 /// What the row of a set does to a reduced form.
 #[derive(Clone, Copy, Debug, PartialEq, Eq)]
 pub enum Grown {
