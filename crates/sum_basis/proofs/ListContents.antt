@@ -8,6 +8,7 @@ use Rattle.std.proofs.lemmas.Int.{ints}
 use Rattle.std.proofs.lemmas.Bool.{cases_eq}
 use Rattle.std.proofs.lemmas.List.{same_lists, get_or_default, get_or-map, length-map, get_or-set_same, get_or-set_other, take_more, map-append}
 use Rattle.std.proofs.Math.Nat.{one-dvd}
+use Rattle.std.proofs.lemmas.Nat.Gcd.{dvd_refl}
 use Rattle.audit_types.specs.Form.{IsContent}
 use Rattle.int_rows.proofs.ContentLaws.{IsContent-push}
 use Rattle.sum_basis.specs.declared.sparse.FreeEntry.{FreeEntry}
@@ -24,6 +25,10 @@ values es = map (λ e. e.value) es
 -- the entry that stands for none
 abbrev pub none : FreeEntry
 none = record { place = 0; value = pos 0 }
+
+-- the content of one number is its size
+pub content_of_one : (head : ℤ) → IsContent (head ∷ []) (unsigned_abs head)
+content_of_one head = record { divides = (dvd_refl (unsigned_abs head), tt); greatest = λ d all. all.0 }
 
 -- the content with the value of entry k
 pub one_more_value : (head : ℤ) (es : List FreeEntry) (k g h : ℕ) → k < length es → IsContent (head ∷ values (take k es)) g → IsGcd g (unsigned_abs (get_or es k none).value) h → IsContent (head ∷ values (take (k + 1) es)) h

@@ -9,7 +9,7 @@ ghost use Rattle.sum_basis.specs.Sparse.{entry_at, row_of, IsListed, entries_of,
 
 use crate::merging::combine_into;
 use crate::sparse::{FreeEntry, SparseRow};
-use int_rows::{gcd, quotient};
+use int_rows::Divisor;
 
 /// What the list has at a column.
 pub fn value_at(entries: &[FreeEntry], column: u16) -> i128
@@ -25,33 +25,32 @@ pub fn value_at(entries: &[FreeEntry], column: u16) -> i128
 }
 
 // The greatest common divisor of the pivot entry and of all values.
-fn content(head: i128, entries: &[FreeEntry]) -> i128
+fn content(head: i128, entries: &[FreeEntry]) -> Divisor
     requires head { (pos 0 <ℤ head) × (unsigned_abs head ≤ 2 ^ 126) }
     requires entries { AllByRecursion (λ e. unsigned_abs e.value ≤ 2 ^ 126) entries.now }
-    ensures content { IsContent (head ∷ map (λ e. e.value) entries.now) (unsigned_abs result) }
-    ensures positive { pos 0 <ℤ result }
-    ensures small { unsigned_abs result ≤ 2 ^ 126 }
+    ensures content { IsContent (head ∷ map (λ e. e.value) entries.now) result }
+    ensures positive { 0 < result }
 {
-    let mut divisor = head;
+    let mut divisor = Divisor::new(head);
     for e in entries {
-        if divisor == 1 {
-            return 1;
+        if divisor.is_one() {
+            return divisor;
         }
-        divisor = gcd(divisor, e.value);
+        divisor = divisor.with(e.value);
     }
     divisor
 }
 
-fn divide(entries: &mut Vec<FreeEntry>, by: i128)
-    requires divides { AllByRecursion (λ e. unsigned_abs by ∣ unsigned_abs e.value) entries.old.items }
-    requires not_zero { by ≢ pos 0 }
+fn divide(entries: &mut Vec<FreeEntry>, by: &Divisor)
+    requires divides { AllByRecursion (λ e. by.now ∣ unsigned_abs e.value) entries.old.items }
+    requires not_zero { 0 < by.now }
     requires size { AllByRecursion (λ e. unsigned_abs e.value ≤ 2 ^ 126) entries.old.items }
-    ensures scaled { entries.old.items ≡ map (scaled by) entries.new.items }
+    ensures scaled { entries.old.items ≡ map (scaled (pos by.now)) entries.new.items }
     ensures capacity { vec_capacity entries.new ≡ vec_capacity entries.old }
 {
     for k in 0..entries.len() {
         let e = entries[k];
-        let value = quotient(e.value, by);
+        let value = by.quotient(e.value);
         entries[k] = FreeEntry {
             place: e.place,
             value,
@@ -67,11 +66,11 @@ fn over_content(head: i128, entries: &mut Vec<FreeEntry>) -> i128
     ensures capacity { vec_capacity entries.new ≡ vec_capacity entries.old }
 {
     let divisor = content(head, entries);
-    if divisor == 1 {
+    if divisor.is_one() {
         return head;
     }
-    divide(entries, divisor);
-    quotient(head, divisor)
+    divide(entries, &divisor);
+    divisor.quotient(head)
 }
 
 /// A product of numbers within the limit.

@@ -1,4 +1,4 @@
-use Rattle.std.proofs.Common.{◌≡◌, ◌≤◌, ◌^◌, ℤ, sym, ap, ◌∙◌, subst, arith, rules, length-set}
+use Rattle.std.proofs.Common.{◌≡◌, ◌≤◌, ◌^◌, ℤ, pos, sym, ap, ◌∙◌, subst, arith, rules, length-set}
 use Rattle.std.specs.Prelude.{FitsSigned, unsigned_abs, ◌*ℤ◌}
 use Rattle.std.specs.Int.{w128, ◌∣◌}
 use mir.Val.{to_z, of_z}
@@ -6,7 +6,7 @@ use Rattle.std.proofs.lemmas.Int.{to_z-of_z}
 use Rattle.std.proofs.lemmas.List.Elements.{All-from_recursion}
 use Rattle.sum_basis.specs.declared.sparse.FreeEntry.{FreeEntry}
 use Rattle.sum_basis.specs.Sparse.{scaled}
-use Rattle.sum_basis.proofs.ListContents.{IsPartlyScaled, one_more_scaled, all_scaled, entry_is, none}
+use Rattle.sum_basis.proofs.ListContents.{one_more_scaled, all_scaled, entry_is, none}
 use Rattle.sum_basis.proofs.cleared_list.divide.Goals.{In-loop-k}
 use Rattle.sum_basis.proofs.cleared_list.divide.Goals as goal
 
@@ -15,8 +15,8 @@ quotient-value-requires-clause-divides c =
     let here = entry_is c.loop-k.entries.items c.loop-k.k c.index-e.result.now (omega arith) c.index-e.ensures in
     let same = sym (c.loop-k.invariant.scaled.left c.loop-k.k (omega arith)) ∙ here in
     let value : FitsSigned w128 c.index-e.result.now.value = search rules in
-    let all = All-from_recursion (λ (e : FreeEntry). unsigned_abs c.args.by ∣ unsigned_abs e.value) c.args.entries.now.items c.requires.divides c.loop-k.k none (omega arith) in
-    rw (to_z-of_z w128 c.args.by c.ranges.by, to_z-of_z w128 c.index-e.result.now.value value) (subst (λ (e : FreeEntry). unsigned_abs c.args.by ∣ unsigned_abs e.value) same all)
+    let all = All-from_recursion (λ (e : FreeEntry). c.args.by.now ∣ unsigned_abs e.value) c.args.entries.now.items c.requires.divides c.loop-k.k none (omega arith) in
+    rw (to_z-of_z w128 c.index-e.result.now.value value) (subst (λ (e : FreeEntry). c.args.by.now ∣ unsigned_abs e.value) same all)
 
 pub quotient-value-requires-clause-size : goal.quotient-value-requires-clause-size
 quotient-value-requires-clause-size c =
@@ -34,14 +34,12 @@ loop-k-preserved c =
     let here = entry_is c.loop-k.entries.items c.loop-k.k c.index-e.result.now (omega arith) c.index-e.ensures in
     let value : FitsSigned w128 c.index-e.result.now.value = search rules in
     let q : FitsSigned w128 c.quotient-value.result = search rules in
-    let is = sym (to_z-of_z w128 c.index-e.result.now.value value) ∙ c.quotient-value.ensures ∙ ap (λ z. to_z w128 (of_z w128 c.args.by) *ℤ z) (sym (to_z-of_z w128 c.quotient-value.result q)) in
+    let is = sym (to_z-of_z w128 c.index-e.result.now.value value) ∙ c.quotient-value.ensures ∙ ap (λ z. pos c.args.by.now *ℤ z) (sym (to_z-of_z w128 c.quotient-value.result q)) in
     record {
-      scaled = one_more_scaled c.args.entries.now.items c.loop-k.entries.items _ c.loop-k.k _ (omega arith) c.loop-k.invariant.scaled (here ∙ multiple c.index-e.result.now (to_z w128 (of_z w128 c.args.by)) (to_z w128 (of_z w128 c.quotient-value.result)) is);
+      scaled = one_more_scaled c.args.entries.now.items c.loop-k.entries.items _ c.loop-k.k _ (omega arith) c.loop-k.invariant.scaled (here ∙ multiple c.index-e.result.now (pos c.args.by.now) (to_z w128 (of_z w128 c.quotient-value.result)) is);
       length = length-set c.loop-k.entries.items c.loop-k.k _ ∙ c.loop-k.invariant.length;
       capacity = c.loop-k.invariant.capacity;
     }
 
 pub returns-clause-scaled : goal.returns-clause-scaled
-returns-clause-scaled c =
-    all_scaled c.args.entries.now.items c.loop-k.entries.items c.args.by c.loop-k.k c.loop-k.invariant.length (omega arith)
-    (subst (λ (d : ℤ). IsPartlyScaled c.args.entries.now.items c.loop-k.entries.items d c.loop-k.k) (to_z-of_z w128 c.args.by c.ranges.by) c.loop-k.invariant.scaled)
+returns-clause-scaled c = all_scaled c.args.entries.now.items c.loop-k.entries.items (pos c.args.by.now) c.loop-k.k c.loop-k.invariant.length (omega arith) c.loop-k.invariant.scaled
