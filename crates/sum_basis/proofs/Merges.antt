@@ -1,17 +1,18 @@
 -- Two lists of entries combined, place by place.
-use Rattle.std.proofs.Common.{◌≡◌, ℕ, zero, suc, ◌+◌, ◌<◌, ◌≤◌, Bool, true, false, cond, nat_eq, ℤ, pos, List, [], ◌∷◌, ◌++◌, length, drop, refl, sym, ap, ◌∙◌, subst, arith, inl, inr, ◌⊎◌, length-drop}
-use Rattle.std.specs.Prelude.{◌+ℤ◌, ◌-ℤ◌, ◌*ℤ◌}
+use Rattle.std.proofs.Common.{◌≡◌, ◌≢◌, ℕ, zero, suc, ◌+◌, ◌-◌, ◌<◌, ◌≤◌, Bool, true, false, cond, nat_eq, ℤ, pos, List, [], ◌∷◌, ◌++◌, length, map, take, drop, refl, sym, ap, ◌∙◌, subst, arith, inl, inr, ◌⊎◌, length-drop}
+use Rattle.std.specs.Prelude.{◌+ℤ◌, ◌-ℤ◌, ◌*ℤ◌, neg_ℤ}
 use Rattle.std.proofs.lemmas.Int.{ints}
 use Rattle.std.proofs.lemmas.Bool.{cases_eq, cases_lt}
-use Rattle.std.proofs.lemmas.List.{drop-drop}
+use Rattle.std.proofs.lemmas.List.{drop-drop, length-append, length-map, append-nil}
 use Rattle.std.proofs.Math.IntN.{*ℤ-zero}
 use Rattle.audit_types.specs.Truth.{is_zero}
-use Rattle.int_rows.proofs.PrimitiveLaws.{false_if, zero_or_not}
+use Rattle.int_rows.proofs.PrimitiveLaws.{false_if, zero_or_not, product_not_zero}
 use Rattle.sum_basis.specs.declared.sparse.FreeEntry.{FreeEntry}
-use Rattle.sum_basis.specs.Sparse.{entry_at, IsListed}
+use Rattle.sum_basis.specs.Sparse.{entry_at, IsListed, scaled}
 use Rattle.sum_basis.specs.Merging.{first_place, first_value}
-use Rattle.sum_basis.proofs.Products.{times-add}
-use Rattle.sum_basis.proofs.SparseRows.{here, elsewhere, entry_at-append, listed_push, listed_to, listed_length}
+use Rattle.sum_basis.proofs.Products.{times-add, neg-times}
+use Rattle.sum_basis.proofs.SparseRows.{here, elsewhere, entry_at-append, listed_push, listed_to, listed_from, listed_length}
+use Rattle.sum_basis.proofs.ListContents.{entry_at-scaled}
 
 -- what is left of a list when its entry at the place is taken
 abbrev rest : List FreeEntry → ℕ → List FreeEntry
@@ -51,6 +52,19 @@ rest_entry next n (e ∷ es) place h le j = elim (cases_eq e.place place) [
 rest_drop : (es : List FreeEntry) (i : ℕ) (b : Bool) → drop (cond b i (i + 1)) es ≡ cond b (drop i es) (drop 1 (drop i es))
 rest_drop es i true = refl
 rest_drop es i false = sym (drop-drop 1 i es)
+
+-- a list behind another
+listed_append : (from next n : ℕ) (xs ys : List FreeEntry) → next ≤ n → IsListed from next xs → IsListed next n ys → from ≤ next → IsListed from n (xs ++ ys)
+listed_append from next n [] ys l h k low = listed_from next from n ys low k
+listed_append from next n (x ∷ xs) ys l h k low = let inside = h.1 in (h.0, omega arith, h.2, listed_append (x.place + 1) next n xs ys l h.3 k (omega arith))
+
+-- multiples of the entries
+scaled_listed : (by : ℤ) (from n : ℕ) (es : List FreeEntry) → by ≢ pos 0 → IsListed from n es → IsListed from n (map (scaled by) es)
+scaled_listed by from n [] p h = tt
+scaled_listed by from n (e ∷ es) p h = (h.0, h.1, product_not_zero by e.value p h.2, scaled_listed by (e.place + 1) n es p h.3)
+
+neg_not_zero : (z : ℤ) → z ≢ pos 0 → neg_ℤ z ≢ pos 0
+neg_not_zero z p e = p (let same : z ≡ pos 0 = omega (arith, ints) in same)
 
 -- how far the two lists were combined: everything before place `next`
 pub record IsMerging (n : ℕ) (by : ℤ) (first : List FreeEntry) (times : ℤ) (second out : List FreeEntry) (i j : ℕ) : Type 0 where
@@ -118,21 +132,49 @@ module _ (n : ℕ) (by : ℤ) (first : List FreeEntry) (times : ℤ) (second out
   pub out_length : length out ≤ m.next
   out_length = let all = listed_length 0 m.next out (omega arith) m.out_listed in omega arith
 
-  -- when both lists are done, the result is the combination
-  pub merged_all : length first + length second ≤ i + j → (k : ℕ) → entry_at out k ≡ by *ℤ entry_at first k -ℤ times *ℤ entry_at second k
-  merged_all past k =
-      let p = m.first_within in
-      let q = m.second_within in
-      let none = ap (λ l. by *ℤ entry_at l k) (ended first i (omega arith)) ∙ *ℤ-zero by in
-      let other = ap (λ l. times *ℤ entry_at l k) (ended second j (omega arith)) ∙ *ℤ-zero times in
-      let is = m.is k in
-      omega (arith, ints)
-    where
-      ended : (xs : List FreeEntry) (k : ℕ) → length xs ≤ k → drop k xs ≡ []
-      ended [] zero l = refl
-      ended [] (suc k) l = refl
-      ended (x ∷ xs) zero l = absurd (omega arith)
-      ended (x ∷ xs) (suc k) l = ended xs k (omega arith)
+  -- what is left of both lists, as it is appended
+  abbrev pub whole : List FreeEntry
+  whole = (out ++ map (scaled by) (drop i first)) ++ map (scaled (neg_ℤ times)) (drop j second)
+
+  -- when one list is done, the result with what is left of the other is the combination
+  module _ (done : (length first ≤ i) ⊎ (length second ≤ j)) (p : by ≢ pos 0) (q : times ≢ pos 0) where
+    none_left : (xs : List FreeEntry) (k : ℕ) → length xs ≤ k → drop k xs ≡ []
+    none_left [] zero l = refl
+    none_left [] (suc k) l = refl
+    none_left (x ∷ xs) zero l = absurd (omega arith)
+    none_left (x ∷ xs) (suc k) l = none_left xs k (omega arith)
+
+    part_listed : IsListed 0 n (out ++ map (scaled by) (drop i first))
+    part_listed = listed_append 0 m.next n out (map (scaled by) (drop i first)) m.next_within m.out_listed (scaled_listed by m.next n (drop i first) p m.first_left) (omega arith)
+
+    pub whole_listed : IsListed 0 n whole
+    whole_listed = elim done [
+      | inl one ↦
+          subst (λ (l : List FreeEntry). IsListed 0 n ((out ++ map (scaled by) l) ++ map (scaled (neg_ℤ times)) (drop j second))) (sym (none_left first i one))
+          (rw (append-nil out) (listed_append 0 m.next n out (map (scaled (neg_ℤ times)) (drop j second)) m.next_within m.out_listed (scaled_listed (neg_ℤ times) m.next n (drop j second) (neg_not_zero times q) m.second_left) (omega arith)))
+      | inr other ↦
+          subst (λ (l : List FreeEntry). IsListed 0 n ((out ++ map (scaled by) (drop i first)) ++ map (scaled (neg_ℤ times)) l)) (sym (none_left second j other)) (rw (append-nil (out ++ map (scaled by) (drop i first))) part_listed)
+    ]
+
+    pub whole_is : (k : ℕ) → entry_at whole k ≡ by *ℤ entry_at first k -ℤ times *ℤ entry_at second k
+    whole_is k =
+        let one = entry_at-append (out ++ map (scaled by) (drop i first)) (map (scaled (neg_ℤ times)) (drop j second)) k in
+        let two = entry_at-append out (map (scaled by) (drop i first)) k in
+        let three = entry_at-scaled by (drop i first) k in
+        let four = entry_at-scaled (neg_ℤ times) (drop j second) k ∙ neg-times times (entry_at (drop j second) k) in
+        let is = m.is k in
+        omega (arith, ints)
+
+    -- so there is room for what is left of the first, and then of the second
+    pub part_length : length out + length (drop i first) ≤ n
+    part_length = let all = listed_length 0 n (out ++ map (scaled by) (drop i first)) (omega arith) part_listed in let one = length-append out (map (scaled by) (drop i first)) in let two = length-map (drop i first) (scaled by) in omega arith
+
+    pub whole_length : length (out ++ map (scaled by) (drop i first)) + length (drop j second) ≤ n
+    whole_length =
+        let all = listed_length 0 n whole (omega arith) whole_listed in
+        let one = length-append (out ++ map (scaled by) (drop i first)) (map (scaled (neg_ℤ times)) (drop j second)) in
+        let two = length-map (drop j second) (scaled (neg_ℤ times)) in
+        omega arith
 
   module _ (place : ℕ) (more : i + j < length first + length second) (l1 : place ≤ first_place n (drop i first)) (l2 : place ≤ first_place n (drop j second))
       (one : (place ≡ first_place n (drop i first)) ⊎ (place ≡ first_place n (drop j second))) where
@@ -211,3 +253,18 @@ module _ (n : ℕ) (by : ℤ) (first : List FreeEntry) (times : ℤ) (second out
             let first_rest = ap (λ l. by *ℤ entry_at l k) (rest_drop first i (is_zero x)) in
             let second_rest = ap (λ l. times *ℤ entry_at l k) (rest_drop second j (is_zero y)) in
             omega (arith, ints)
+
+taken_all : (xs : List FreeEntry) (m : ℕ) → length xs ≤ m → take m xs ≡ xs
+taken_all [] zero h = refl
+taken_all [] (suc m) h = refl
+taken_all (x ∷ xs) zero h = absurd (omega arith)
+taken_all (x ∷ xs) (suc m) h = ap (λ t. x ∷ t) (taken_all xs m (omega arith))
+
+-- the end of a list, as the code takes it
+pub end_is : (xs : List FreeEntry) (k : ℕ) → take (length xs - k) (drop k xs) ≡ drop k xs
+end_is xs k = taken_all (drop k xs) (length xs - k) (let len = length-drop k xs in omega arith)
+
+-- the combination, as the code appends the ends of the lists
+pub appended : (out one two first second : List FreeEntry) (by times minus : ℤ) (i j : ℕ) → one ≡ out ++ map (scaled by) (take (length first - i) (drop i first)) → two ≡ one ++ map (scaled minus) (take (length second - j) (drop j second)) → minus ≡ neg_ℤ times
+    → two ≡ (out ++ map (scaled by) (drop i first)) ++ map (scaled (neg_ℤ times)) (drop j second)
+appended out one two first second by times minus i j e f g = rw (f, e, g, end_is first i, end_is second j) refl

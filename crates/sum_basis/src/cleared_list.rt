@@ -98,6 +98,7 @@ pub fn clear_into(
     requires new { IsNew columns new.now }
     requires before { row.now.pivot < (slice_index_or new.now 0 (record { place = 0; value = pos 0 })).place }
     requires times { times ≡ entry_at row.now.free.items (slice_index_or new.now 0 (record { place = 0; value = pos 0 })).place }
+    requires some { times ≢ pos 0 }
     ensures listed { IsListed 0 columns (record { place = row.now.pivot; value = result } ∷ out.new.items) }
     ensures leading { pos 0 <ℤ result }
     ensures cleared { IsCleared columns (row_of columns new.now) (row_of columns (entries_of row.now)) (row_of columns (record { place = row.now.pivot; value = result } ∷ out.new.items)) }

@@ -1,11 +1,12 @@
 //! Two lists of entries combined, place by place.
-ghost use Rattle.std.specs.Prelude.{◌≡◌, ◌≢◌, ◌⊎◌, ℕ, ◌<◌, ◌≤◌, ◌+◌, ◌++◌, ◌^◌, cond, ℤ, pos, ◌-ℤ◌, ◌*ℤ◌, [], ◌∷◌, length, drop, unsigned_abs};
+ghost use Rattle.std.specs.Prelude.{◌≡◌, ◌≢◌, ◌⊎◌, ℕ, ◌<◌, ◌≤◌, ◌+◌, ◌++◌, ◌^◌, cond, ℤ, pos, ◌-ℤ◌, ◌*ℤ◌, [], ◌∷◌, length, map, drop, unsigned_abs};
 ghost use Rattle.std.specs.List.{AllByRecursion};
 ghost use Rattle.std.specs.Vec.{vec_len, vec_capacity};
 ghost use Rattle.audit_types.specs.Truth.{is_zero};
 ghost use Rattle.sum_basis.specs.Merging.{first_place, first_value};
-ghost use Rattle.sum_basis.specs.Sparse.{entry_at, IsListed};
+ghost use Rattle.sum_basis.specs.Sparse.{entry_at, IsListed, scaled};
 
+use crate::cleared_list::product;
 use crate::sparse::FreeEntry;
 
 // The place of entry k, and the number of columns where there is none.
@@ -68,6 +69,23 @@ pub fn put(out: &mut Vec<FreeEntry>, place: u16, value: i128)
     }
 }
 
+// Appends the entries, each as often as `by` says. There is room for them.
+fn append(out: &mut Vec<FreeEntry>, by: i128, rest: &[FreeEntry])
+    requires room { vec_len out.old + length rest.now ≤ vec_capacity out.old }
+    requires by { unsigned_abs by ≤ 2 ^ 56 }
+    requires small { AllByRecursion (λ e. unsigned_abs e.value ≤ 2 ^ 56) rest.now }
+    ensures items { out.new.items ≡ out.old.items ++ map (scaled by) rest.now }
+    ensures capacity { vec_capacity out.new ≡ vec_capacity out.old }
+{
+    for e in rest {
+        let value = product(by, e.value);
+        out.push_reserved(FreeEntry {
+            place: e.place,
+            value,
+        });
+    }
+}
+
 /// Writes into an empty list `by` times the one list less `times` times the other.
 pub fn combine_into(
     out: &mut Vec<FreeEntry>,
@@ -80,9 +98,11 @@ pub fn combine_into(
     requires empty { out.old.items ≡ [] }
     requires room { columns ≤ vec_capacity out.old }
     requires by { unsigned_abs by ≤ 2 ^ 56 }
+    requires by_some { by ≢ pos 0 }
     requires first { IsListed 0 columns first.now }
     requires first_small { AllByRecursion (λ e. unsigned_abs e.value ≤ 2 ^ 56) first.now }
     requires times { unsigned_abs times ≤ 2 ^ 56 }
+    requires times_some { times ≢ pos 0 }
     requires second { IsListed 0 columns second.now }
     requires second_small { AllByRecursion (λ e. unsigned_abs e.value ≤ 2 ^ 56) second.now }
     ensures listed { IsListed 0 columns out.new.items }
@@ -91,7 +111,7 @@ pub fn combine_into(
 {
     let mut i = 0;
     let mut j = 0;
-    while i + j < first.len() + second.len() {
+    while i < first.len() && j < second.len() {
         let place = least(
             place_from(first, i, columns),
             place_from(second, j, columns),
@@ -102,4 +122,6 @@ pub fn combine_into(
         i = after(i, x);
         j = after(j, y);
     }
+    append(out, by, &first[i..]);
+    append(out, -times, &second[j..]);
 }

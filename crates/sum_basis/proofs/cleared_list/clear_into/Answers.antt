@@ -126,3 +126,6 @@ returns-clause-cleared c =
     rw (to_z-of_z w128 c.over_content.result r) (result_is c.args.columns c.args.row.now c.args.new.now c.combine_into.new.out.items c.args.times (to_z w128 (of_z w128 c.product-head.result)) c.over_content.result c.over_content.new.entries.items c.requires.kept c.requires.primitive c.requires.new c.requires.before c.requires.times c.combine_into.ensures.listed
     (combined_is c.args.row.now.free.items c.args.new.now c.combine_into.new.out.items c.deref.result.now (get_or c.args.new.now 0 none).value c.args.times x c.ranges.times c.deref.ensures.value c.combine_into.ensures.combined)
     (product_is c.product-head.result (get_or c.args.new.now 0 none).value c.args.row.now.head p x y c.product-head.ensures) c.over_content.ensures.over).cleared
+
+pub combine_into-requires-clause-times_some : goal.combine_into-requires-clause-times_some
+combine_into-requires-clause-times_some c = rw (to_z-of_z w128 c.args.times c.ranges.times) c.requires.some

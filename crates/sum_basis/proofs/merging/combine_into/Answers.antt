@@ -1,15 +1,15 @@
-use Rattle.std.proofs.Common.{◌≡◌, ℕ, ◌+◌, ◌<◌, ◌≤◌, cond, ℤ, List, ◌++◌, [], ◌∷◌, length, drop, ap, ◌∙◌, arith, rules, inl, inr, ◌⊎◌}
-use Rattle.std.specs.Prelude.{FitsSigned, ◌-ℤ◌, ◌*ℤ◌}
+use Rattle.std.proofs.Common.{◌≡◌, ◌≢◌, ℕ, ◌+◌, ◌<◌, ◌≤◌, ◌^◌, cond, ℤ, pos, List, ◌++◌, [], ◌∷◌, length, map, drop, sym, ap, ◌∙◌, arith, rules, inl, inr, ◌⊎◌}
+use Rattle.std.specs.Prelude.{FitsSigned, ◌-ℤ◌, ◌*ℤ◌, neg_ℤ, unsigned_abs}
 use Rattle.std.specs.Int.{w128}
 use mir.Val.{to_z, of_z}
-use Rattle.std.proofs.lemmas.Int.{to_z-of_z}
+use Rattle.std.proofs.lemmas.Int.{ints, to_z-of_z, fits_signed_from_abs}
 use Rattle.audit_types.specs.Truth.{is_zero}
 use Rattle.sum_basis.specs.declared.sparse.FreeEntry.{FreeEntry}
-use Rattle.sum_basis.specs.Sparse.{entry_at}
+use Rattle.sum_basis.specs.Sparse.{entry_at, scaled}
 use Rattle.sum_basis.specs.Merging.{first_place, first_value}
-use Rattle.sum_basis.proofs.SparseRows.{listed_length, listed_to}
-use Rattle.sum_basis.proofs.Merges.{IsMerging, out_length, place_inside, place_after, goes_on, one_place_merged, merged_all}
-use Rattle.sum_basis.proofs.merging.combine_into.Goals.{After-least-place}
+use Rattle.sum_basis.proofs.SparseRows.{listed_length}
+use Rattle.sum_basis.proofs.Merges.{IsMerging, out_length, place_inside, place_after, goes_on, one_place_merged, whole_listed, whole_is, part_length, whole_length, end_is, appended}
+use Rattle.sum_basis.proofs.merging.combine_into.Goals.{then-loop-i-test+else-j-second, else-loop-i-test}
 use Rattle.sum_basis.proofs.merging.combine_into.Goals as goal
 
 -- the place is the least of the two
@@ -40,9 +40,12 @@ moved z x k i e h = h ∙ ap (λ y. cond (is_zero y) i (i + 1)) e
 passed : (x y : ℤ) → FitsSigned w128 x → x ≡ y → to_z w128 (of_z w128 x) ≡ y
 passed x y fits e = to_z-of_z w128 x fits ∙ e
 
+still : (i j a b : ℕ) → i < a → j ≤ b → i + j < a + b
+still i j a b p q = omega arith
+
 pub put-requires : goal.put-requires
 put-requires c =
-    let free = room c.args.columns _ c.args.first.now _ c.args.second.now c.loop-i.out.items c.loop-i.i c.loop-i.j c.loop-i.invariant.merging _ _ c.least-place.result c.loop-i-test.true c.place_from.ensures c.place_from-in-loop-i.ensures c.least-place.ensures.first c.least-place.ensures.second c.least-place.ensures.one in
+    let free = room c.args.columns _ c.args.first.now _ c.args.second.now c.loop-i.out.items c.loop-i.i c.loop-i.j c.loop-i.invariant.merging _ _ c.least-place.result (still c.loop-i.i c.loop-i.j (length c.args.first.now) (length c.args.second.now) c.loop-i-test.true c.loop-i.invariant.merging.second_within) c.place_from.ensures c.place_from-in-loop-i.ensures c.least-place.ensures.first c.least-place.ensures.second c.least-place.ensures.one in
     let len = c.loop-i.out.ok.0 in
     let cap = c.loop-i.invariant.capacity in
     let enough = c.requires.room in
@@ -58,9 +61,10 @@ pub loop-i-smaller : goal.loop-i-smaller
 loop-i-smaller c =
     let x : FitsSigned w128 c.value_from-x.result = search rules in
     let y : FitsSigned w128 c.value_from-y.result = search rules in
-    let on = further c.args.columns _ c.args.first.now _ c.args.second.now c.loop-i.out.items c.loop-i.i c.loop-i.j c.loop-i.invariant.merging _ _ c.least-place.result c.loop-i-test.true c.place_from.ensures c.place_from-in-loop-i.ensures c.least-place.ensures.first c.least-place.ensures.second c.least-place.ensures.one
+    let on = further c.args.columns _ c.args.first.now _ c.args.second.now c.loop-i.out.items c.loop-i.i c.loop-i.j c.loop-i.invariant.merging _ _ c.least-place.result (still c.loop-i.i c.loop-i.j (length c.args.first.now) (length c.args.second.now) c.loop-i-test.true c.loop-i.invariant.merging.second_within) c.place_from.ensures c.place_from-in-loop-i.ensures c.least-place.ensures.first c.least-place.ensures.second c.least-place.ensures.one
     c.after-i.result c.after-j.result (moved _ _ _ _ (passed _ _ x c.value_from-x.ensures) c.after-i.ensures) (moved _ _ _ _ (passed _ _ y c.value_from-y.ensures) c.after-j.ensures) in
-    let more = c.loop-i-test.true in
+    let one = c.loop-i-test.true in
+    let two = c.loop-i.invariant.merging.second_within in
     omega arith
 
 pub loop-i-preserved : goal.loop-i-preserved
@@ -71,18 +75,59 @@ loop-i-preserved c =
     let by : ℤ = to_z w128 (of_z w128 c.args.by) in
     let times : ℤ = to_z w128 (of_z w128 c.args.times) in
     record {
-      merging = next c.args.columns by c.args.first.now times c.args.second.now c.loop-i.out.items c.loop-i.i c.loop-i.j c.loop-i.invariant.merging _ _ c.least-place.result c.loop-i-test.true c.place_from.ensures c.place_from-in-loop-i.ensures c.least-place.ensures.first c.least-place.ensures.second c.least-place.ensures.one
+      merging = next c.args.columns by c.args.first.now times c.args.second.now c.loop-i.out.items c.loop-i.i c.loop-i.j c.loop-i.invariant.merging _ _ c.least-place.result (still c.loop-i.i c.loop-i.j (length c.args.first.now) (length c.args.second.now) c.loop-i-test.true c.loop-i.invariant.merging.second_within) c.place_from.ensures c.place_from-in-loop-i.ensures c.least-place.ensures.first c.least-place.ensures.second c.least-place.ensures.one
           (to_z w128 (of_z w128 c.difference.result)) c.after-i.result c.after-j.result c.put.new.out.items
           (passed _ _ v (c.difference.ensures ∙ ap (λ z. by *ℤ z -ℤ times *ℤ to_z w128 (of_z w128 c.value_from-y.result)) (passed _ _ x c.value_from-x.ensures) ∙ ap (λ z. by *ℤ first_value (drop c.loop-i.i c.args.first.now) c.least-place.result -ℤ times *ℤ z) (passed _ _ y c.value_from-y.ensures)))
           c.put.ensures.items (moved _ _ _ _ (passed _ _ x c.value_from-x.ensures) c.after-i.ensures) (moved _ _ _ _ (passed _ _ y c.value_from-y.ensures) c.after-j.ensures);
       capacity = c.put.ensures.capacity ∙ c.loop-i.invariant.capacity;
     }
 
+some_by : (z : ℤ) → FitsSigned w128 z → z ≢ pos 0 → to_z w128 (of_z w128 z) ≢ pos 0
+some_by z fits n e = n (sym (to_z-of_z w128 z fits) ∙ e)
+
+minus_is : (z : ℤ) → FitsSigned w128 z → unsigned_abs z ≤ 2 ^ 56 → to_z w128 (of_z w128 (pos 0 -ℤ to_z w128 (of_z w128 z))) ≡ neg_ℤ (to_z w128 (of_z w128 z))
+minus_is z fits small = rw (to_z-of_z w128 z fits) (to_z-of_z w128 (pos 0 -ℤ z) (negated z small) ∙ minus z)
+  where
+    negated : (x : ℤ) → unsigned_abs x ≤ 2 ^ 56 → FitsSigned w128 (pos 0 -ℤ x)
+    negated x h = fits_signed_from_abs w128 (pos 0 -ℤ x) (omega (arith, ints))
+
+    minus : (x : ℤ) → pos 0 -ℤ x ≡ neg_ℤ x
+    minus x = omega (arith, ints)
+
+pub append-requires-clause-room : goal.append-requires-clause-room
+append-requires-clause-room c =
+    let over : (length c.args.first.now ≤ c.loop-i.i) ⊎ (length c.args.second.now ≤ c.loop-i.j) = elim c.loop-i-test.branch [ then-loop-i-test+else-j-second w ↦ let past = w.if-j-second.false in inr (omega arith) | else-loop-i-test w ↦ let past = w.loop-i-test.false in inl (omega arith) ] in
+    let m = c.loop-i.invariant.merging in
+    let enough = part_length c.args.columns _ c.args.first.now _ c.args.second.now c.loop-i.out.items c.loop-i.i c.loop-i.j m over (some_by c.args.by c.ranges.by c.requires.by_some) (some_by c.args.times c.ranges.times c.requires.times_some) in
+    let len = c.loop-i.out.ok.0 in
+    let cap = c.loop-i.invariant.capacity in
+    let room = c.requires.room in
+    rw (end_is c.args.first.now c.loop-i.i) (omega arith)
+
+pub append-requires-2-clause-room : goal.append-requires-2-clause-room
+append-requires-2-clause-room c =
+    let over : (length c.args.first.now ≤ c.loop-i.i) ⊎ (length c.args.second.now ≤ c.loop-i.j) = elim c.loop-i-test.branch [ then-loop-i-test+else-j-second w ↦ let past = w.if-j-second.false in inr (omega arith) | else-loop-i-test w ↦ let past = w.loop-i-test.false in inl (omega arith) ] in
+    let m = c.loop-i.invariant.merging in
+    let enough = whole_length c.args.columns _ c.args.first.now _ c.args.second.now c.loop-i.out.items c.loop-i.i c.loop-i.j m over (some_by c.args.by c.ranges.by c.requires.by_some) (some_by c.args.times c.ranges.times c.requires.times_some) in
+    let same : length c.append.new.out.items ≡ length (c.loop-i.out.items ++ map (scaled (to_z w128 (of_z w128 c.args.by))) (drop c.loop-i.i c.args.first.now)) =
+    ap length (c.append.ensures.items ∙ ap (λ l. c.loop-i.out.items ++ map (scaled (to_z w128 (of_z w128 c.args.by))) l) (end_is c.args.first.now c.loop-i.i)) in
+    let len = c.append.new.out.ok.0 in
+    let cap = c.append.ensures.capacity in
+    let before = c.loop-i.invariant.capacity in
+    let room = c.requires.room in
+    rw (end_is c.args.second.now c.loop-i.j) (omega arith)
+
 pub returns-clause-listed : goal.returns-clause-listed
-returns-clause-listed c = listed_to 0 c.loop-i.invariant.merging.next c.args.columns c.loop-i.out.items c.loop-i.invariant.merging.next_within c.loop-i.invariant.merging.out_listed
+returns-clause-listed c =
+    let over : (length c.args.first.now ≤ c.loop-i.i) ⊎ (length c.args.second.now ≤ c.loop-i.j) = elim c.loop-i-test.branch [ then-loop-i-test+else-j-second w ↦ let past = w.if-j-second.false in inr (omega arith) | else-loop-i-test w ↦ let past = w.loop-i-test.false in inl (omega arith) ] in
+    let is = appended c.loop-i.out.items c.append.new.out.items c.append-2.new.out.items c.args.first.now c.args.second.now _ (to_z w128 (of_z w128 c.args.times)) _ c.loop-i.i c.loop-i.j c.append.ensures.items c.append-2.ensures.items (minus_is c.args.times c.ranges.times c.requires.times) in
+    rw is (whole_listed c.args.columns _ c.args.first.now _ c.args.second.now c.loop-i.out.items c.loop-i.i c.loop-i.j c.loop-i.invariant.merging over (some_by c.args.by c.ranges.by c.requires.by_some) (some_by c.args.times c.ranges.times c.requires.times_some))
 
 pub returns-clause-combined : goal.returns-clause-combined
 returns-clause-combined c = λ k.
-    merged_all c.args.columns _ c.args.first.now _ c.args.second.now c.loop-i.out.items c.loop-i.i c.loop-i.j c.loop-i.invariant.merging (omega arith) k
+    let over : (length c.args.first.now ≤ c.loop-i.i) ⊎ (length c.args.second.now ≤ c.loop-i.j) = elim c.loop-i-test.branch [ then-loop-i-test+else-j-second w ↦ let past = w.if-j-second.false in inr (omega arith) | else-loop-i-test w ↦ let past = w.loop-i-test.false in inl (omega arith) ] in
+    let is = appended c.loop-i.out.items c.append.new.out.items c.append-2.new.out.items c.args.first.now c.args.second.now _ (to_z w128 (of_z w128 c.args.times)) _ c.loop-i.i c.loop-i.j c.append.ensures.items c.append-2.ensures.items (minus_is c.args.times c.ranges.times c.requires.times) in
+    ap (λ l. entry_at l k) is
+    ∙ whole_is c.args.columns _ c.args.first.now _ c.args.second.now c.loop-i.out.items c.loop-i.i c.loop-i.j c.loop-i.invariant.merging over (some_by c.args.by c.ranges.by c.requires.by_some) (some_by c.args.times c.ranges.times c.requires.times_some) k
     ∙ ap (λ z. z *ℤ entry_at c.args.first.now k -ℤ to_z w128 (of_z w128 c.args.times) *ℤ entry_at c.args.second.now k) (to_z-of_z w128 c.args.by c.ranges.by)
     ∙ ap (λ z. c.args.by *ℤ entry_at c.args.first.now k -ℤ z *ℤ entry_at c.args.second.now k) (to_z-of_z w128 c.args.times c.ranges.times)
