@@ -12,3 +12,4 @@ pub mod Commas
 pub mod EachForm
 pub mod Texts
 pub mod FoundColumns
+pub mod ReadLines

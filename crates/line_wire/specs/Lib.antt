@@ -8,3 +8,4 @@ pub mod Kept
 pub mod Requests
 pub mod Answers
 pub mod Texts
+pub mod ReadLines

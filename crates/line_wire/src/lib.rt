@@ -1,12 +1,14 @@
 //! The lines that come in, and the replies that go out.
 //!
 //! `Lines` cuts the bytes of any source into counted lines: the clauses `answer` and `stop` of `next` say which line is
-//! given and what stays. `read_line_request` reads the question of a line: its clauses say what is read, and which refusal
-//! comes first. `write_reply` writes the one form of each reply, and `read_reply` reads that form and no other.
+//! given and what stays, and `laws` what lines are that were given one after another. `read_line_request` reads the
+//! question of a line: its clauses say what is read, and which refusal comes first. `write_reply` writes the one form of
+//! each reply, and `read_reply` reads that form and no other.
 #![tactic(auto)]
 
 mod buffer;
 mod edits;
+pub mod laws;
 mod lines;
 mod question;
 mod range;

@@ -5,14 +5,16 @@ use Rattle.audit_types.specs.declared.records.Answered.{Answered}
 use Rattle.audit_types.specs.History.{Table, IsLegal}
 use Rattle.audit_core.specs.declared.outcome.Outcome.{Outcome}
 use Rattle.audit_core.specs.Outcomes.{IsOutcome, true_answer}
-use Rattle.table_load.specs.Cells.{SecretView, IsSecret}
+use Rattle.table_load.specs.Cells.{PublicView, SecretView, IsSecret}
 use Rattle.table_load.specs.Database.{Database, IsDatabase, AreTwins, secret_table}
+use Rattle.schema_json.specs.Columns.{Column}
 use Rattle.line_wire.specs.Lines.{CountedLine}
 use Rattle.line_wire.specs.Reply.{reply_bytes}
 use Rattle.line_wire.specs.declared.reply.Reply.{Reply}
 use Rattle.line_wire.specs.declared.question.Take.{Take}
+use Rattle.question_plan.specs.declared.planning.Plan.{Plan}
 use Rattle.question_plan.specs.Session.{Replied, records_of, AreReplies}
-use Rattle.question_plan.specs.Replies.{IsDue, Tells, TellsOutcome}
+use Rattle.question_plan.specs.Replies.{IsPlan, IsDue, Tells, TellsOutcome}
 use Rattle.question_plan.specs.Plans.{IsAskable, CanBeTold}
 
 -- answering lines keeps a history legal
@@ -64,3 +66,9 @@ DecidedAlike =
 -- and where the answers are equal, so are the replies and their records
 abbrev pub EqualAnswersEqualReplies : Type 0
 EqualAnswersEqualReplies = (table twin : Table) (a b : Replied Answered) → (alike : AreAnswersAlike table twin a b) → alike.first.answer ≡ alike.second.answer → a ≡ b
+
+-- ---- one plan is made
+
+-- a line comes to one plan
+abbrev pub OnePlanIsMade : Type 0
+OnePlanIsMade = (columns : List Column) (public : PublicView) (line : CountedLine) (a b : Plan) → IsPlan columns public line a → IsPlan columns public line b → a ≡ b

@@ -2,3 +2,4 @@ pub mod Session
 pub mod Replies
 pub mod Plans
 pub mod Laws
+pub mod InTurn

@@ -1,5 +1,5 @@
 //! Laws of the replies that are due. Each function computes nothing: its contract is the law.
-ghost use Rattle.question_plan.specs.Laws.{RepliesKeepLegal, OutcomesCanBeTold, SomeReplyTells, OneReplyIsDue, DecidedAlike, EqualAnswersEqualReplies};
+ghost use Rattle.question_plan.specs.Laws.{RepliesKeepLegal, OutcomesCanBeTold, SomeReplyTells, OnePlanIsMade, OneReplyIsDue, DecidedAlike, EqualAnswersEqualReplies};
 
 /// Answering lines keeps a history legal: each record that a reply makes may follow those before it.
 pub fn answered_lines()
@@ -15,6 +15,13 @@ pub fn told_outcomes()
     ensures some { SomeReplyTells }
 {
     table_load::sizes_of_answers();
+}
+
+/// A line comes to one plan.
+pub fn one_plan()
+    ensures { OnePlanIsMade }
+{
+    predicate_lang::one_meaning();
 }
 
 /// One reply is due to a line after a history.

@@ -1,0 +1,4 @@
+pub mod Verdicts
+pub mod Steps
+pub mod Ends
+pub mod Laws

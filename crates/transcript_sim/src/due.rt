@@ -1,0 +1,50 @@
+//! The verdict on a question of a transcript.
+ghost use Rattle.std.specs.Prelude.{◌≡◌};
+ghost use Rattle.transcript_sim.specs.Verdicts.{verdict_bytes};
+
+use std::fmt;
+
+/// The verdict on a question: whether it is answered, and if not, why.
+#[derive(Clone, Copy, Debug, PartialEq, Eq, Drop)]
+pub enum Due {
+    /// A count, which the public columns answer.
+    Counted,
+    /// It is no question, or none that can be decided.
+    Refused,
+    /// A question of a secret column that is answered.
+    Released,
+    /// Its answer would give a secret away.
+    Unsafe,
+    /// It needs numbers that are too wide to decide over.
+    Wide,
+}
+
+impl fmt::Display for Due {
+    ghost use Rattle.std.specs.Prelude.{Some};
+    ghost use Rattle.transcript_sim.specs.Verdicts.{word_of};
+
+    ghost output = { λ due. Some (word_of due) };
+
+    fn fmt<W: fmt::Write>(&self, f: &mut fmt::Formatter<W>) -> fmt::Result {
+        match self {
+            Due::Counted => f.write_str("count"),
+            Due::Refused => f.write_str("refused"),
+            Due::Released => f.write_str("released"),
+            Due::Unsafe => f.write_str("unsafe"),
+            Due::Wide => f.write_str("wide"),
+        }
+    }
+}
+
+/// The line that is sent for a verdict, its line feed included.
+pub(crate) fn verdict_line(due: Due) -> &'static [u8]
+    ensures { result.now ≡ verdict_bytes due }
+{
+    match due {
+        Due::Counted => b"{\"verdict\":\"count\"}\n",
+        Due::Refused => b"{\"verdict\":\"refused\"}\n",
+        Due::Released => b"{\"verdict\":\"released\"}\n",
+        Due::Unsafe => b"{\"verdict\":\"unsafe\"}\n",
+        Due::Wide => b"{\"verdict\":\"wide\"}\n",
+    }
+}

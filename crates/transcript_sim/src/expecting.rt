@@ -1,0 +1,66 @@
+//! What a question calls for, by the answers that were shown before it.
+ghost use Rattle.std.specs.Prelude.{◌≡◌, IfOk};
+ghost use Rattle.question_plan.specs.Plans.{CanBeServed};
+ghost use Rattle.transcript_sim.specs.Steps.{CanBeTaken};
+ghost use Rattle.transcript_sim.specs.Verdicts.{CallsFor, due_of, due_of_reply};
+
+use crate::due::Due;
+use audit_core::Core;
+use audit_types::{Asked, NoMemory, Verdict};
+use line_wire::{Reply, Take};
+use question_plan::Plan;
+
+const MOST_RECORDS: usize = 65_536;
+
+/// What the reply to a question has to be.
+#[derive(Clone, Copy)]
+pub(crate) enum Expected {
+    /// This reply and no other. It makes no record.
+    Only(Reply),
+    /// An answer, told as what is taken of the column.
+    Answer { take: Take, asked: Asked },
+}
+
+// The verdict that a reply tells which isn't an answer.
+fn due_of_reply(reply: &Reply) -> Due
+    ensures { result ≡ due_of_reply reply.now }
+{
+    match reply {
+        Reply::Count(_) => Due::Counted,
+        Reply::Unsafe => Due::Unsafe,
+        Reply::Wide => Due::Wide,
+        _ => Due::Refused,
+    }
+}
+
+impl Expected {
+    /// The verdict on the question.
+    pub(crate) fn due(&self) -> Due
+        ensures { result ≡ due_of self.now }
+    {
+        match self {
+            Expected::Only(reply) => due_of_reply(reply),
+            Expected::Answer { .. } => Due::Released,
+        }
+    }
+}
+
+/// What the question of a plan calls for after the records of the core. No secret is read.
+pub(crate) fn expected_of(core: &Core, plan: Plan) -> Result<Expected, NoMemory>
+    requires { CanBeServed core.now.setting.shape plan }
+    ensures calls { IfOk result (CallsFor core.now.setting core.now.history plan) }
+    ensures can { IfOk result (CanBeTaken core.now.setting core.now.history) }
+{
+    let (take, asked) = match plan {
+        Plan::Ready(reply) => return Ok(Expected::Only(reply)),
+        Plan::Ask { take, asked } => (take, asked),
+    };
+    if core.history().len() >= MOST_RECORDS {
+        return Ok(Expected::Only(Reply::Full));
+    }
+    match core.decide(&asked)? {
+        Verdict::Released => Ok(Expected::Answer { take, asked }),
+        Verdict::DeniedUnsafe => Ok(Expected::Only(Reply::Unsafe)),
+        Verdict::DeniedWide => Ok(Expected::Only(Reply::Wide)),
+    }
+}

@@ -1,0 +1,64 @@
+//! Reading the lines of a transcript: a question, and the line that was shown to it.
+ghost use Rattle.std.specs.Prelude.{◌≡◌, ◌≤◌, ◌++◌, true, IfOk, IfErr};
+ghost use Rattle.audit_types.specs.Limits.{most_rows};
+ghost use Rattle.audit_types.specs.History.{setting_of};
+ghost use Rattle.schema_json.specs.SecretShape.{shape_of};
+ghost use Rattle.table_load.specs.Cells.{FitsSchema};
+ghost use Rattle.transcript_sim.specs.Steps.{AsksNext, Cuts, IsCutShort, ShowsNext};
+
+use crate::expecting::{Expected, expected_of};
+use crate::shown::Shown;
+use crate::simulating::SimulationFault;
+use audit_core::Core;
+use bench_core::Source;
+use line_wire::laws::lines_in_turn;
+use line_wire::{Lines, Next, Reply};
+use question_plan::{Plan, plan_line};
+use schema_json::Schema;
+use set_index::Index;
+use std::alloc::Global;
+
+/// What the next line calls for, which is a question. No line is left where there is none.
+pub(crate) fn next_question<P: Source>(
+    alloc: Global,
+    lines: &mut Lines,
+    schema: &Schema,
+    index: &Index,
+    core: &Core,
+    source: &mut P,
+) -> Result<Option<Expected>, SimulationFault>
+    requires same { P.told → lines.old.ended ≡ true → P.left source.old ≡ [] }
+    requires fits { FitsSchema schema.now.columns index.now }
+    requires few { index.now.rows ≤ most_rows }
+    requires setting { core.now.setting ≡ setting_of (shape_of schema.now.columns index.now.rows) }
+    ensures asks { IfOk result (AsksNext P.Source lines.old lines.new source.old source.new schema.now.columns index.now core.now.history) }
+    ensures short { IfErr result (IsCutShort P.Source lines.old lines.new source.old source.new) }
+    ensures cuts { Cuts P.Source lines.old lines.new source.old source.new }
+{
+    lines_in_turn();
+    let plan = match lines.next(source)? {
+        Next::Line => plan_line(alloc, schema, index, lines.text())?,
+        Next::Long => Plan::Ready(Reply::Long),
+        Next::End => return Ok(None),
+    };
+    Ok(Some(expected_of(core, plan)?))
+}
+
+/// What the next line comes to, which was shown to a question that calls for this. No line is left where there is none.
+pub(crate) fn next_shown<P: Source>(
+    lines: &mut Lines,
+    source: &mut P,
+    expected: &Expected,
+) -> Result<Option<Shown>, SimulationFault>
+    requires same { P.told → lines.old.ended ≡ true → P.left source.old ≡ [] }
+    ensures shows { IfOk result (ShowsNext P.Source lines.old lines.new source.old source.new expected.now) }
+    ensures short { IfErr result (IsCutShort P.Source lines.old lines.new source.old source.new) }
+    ensures cuts { Cuts P.Source lines.old lines.new source.old source.new }
+{
+    lines_in_turn();
+    match lines.next(source)? {
+        Next::Line => Ok(Some(expected.shown(lines.text()))),
+        Next::Long => Ok(Some(Shown::Disagrees)),
+        Next::End => Ok(None),
+    }
+}

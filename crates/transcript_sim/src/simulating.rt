@@ -1,0 +1,152 @@
+//! Reading a transcript, and sending its verdicts.
+ghost use Rattle.std.specs.Prelude.{◌≡◌, ◌≢◌, ◌≤◌, ◌++◌, [], List, ℕ, false, OnOk, OnErr, Err};
+ghost use Rattle.audit_types.specs.Limits.{most_rows};
+ghost use Rattle.audit_types.specs.History.{setting_of};
+ghost use Rattle.audit_types.specs.declared.records.Answered.{Answered};
+ghost use Rattle.bench_core.specs.Causes.{HasCause, Rose};
+ghost use Rattle.bench_core.specs.Bench.{AppendsFront, Elapses, Sending};
+ghost use Rattle.bench_core.specs.Calls.{IsQuiet, LeavesOnly};
+ghost use Rattle.schema_json.specs.SecretShape.{shape_of};
+ghost use Rattle.table_load.specs.Cells.{FitsSchema};
+ghost use Rattle.line_wire.specs.Lines.{counted_lines};
+ghost use Rattle.question_plan.specs.Session.{Replied};
+ghost use Rattle.transcript_sim.specs.Verdicts.{verdict_bytes};
+ghost use Rattle.transcript_sim.specs.Steps.{stop_fault};
+ghost use Rattle.transcript_sim.specs.Ends.{EndReads, EndSends, EndVerdicts, Simulates, SimulatesMeanwhile};
+ghost use Rattle.transcript_sim.specs.declared.simulating.SimulationFault.TheVariants as fault;
+
+use crate::due::{Due, verdict_line};
+use crate::laws::one_list;
+use crate::questions::{next_question, next_shown};
+use crate::shown::Shown;
+use audit_core::Core;
+use audit_types::NoMemory;
+use bench_core::{Bench, Failed, Source};
+use line_wire::laws::lines_in_turn;
+use line_wire::{LineStop, Lines};
+use schema_json::Schema;
+use set_index::Index;
+use std::alloc::Global;
+
+/// Why reading a transcript ended before its input did.
+#[derive(Clone, Copy, Debug, PartialEq, Eq)]
+pub enum SimulationFault {
+    /// The input failed.
+    Input,
+    /// A verdict couldn't be sent.
+    Bench,
+    /// The input has more than 2^30 bytes.
+    Limit,
+    /// The line of this number, from 1, is the first reply that doesn't agree, and its question has this verdict. Lines that
+    /// are passed over have no number.
+    Disagrees { line: u64, due: Due },
+    NoMemory,
+}
+
+impl From<LineStop> for SimulationFault {
+    ghost from_gives = { λ stop e. e ≡ stop_fault stop };
+
+    fn from(stop: LineStop) -> SimulationFault {
+        match stop {
+            LineStop::Input => SimulationFault::Input,
+            LineStop::Limit => SimulationFault::Limit,
+        }
+    }
+}
+
+impl From<Failed> for SimulationFault {
+    ghost from_gives = { λ _ e. e ≡ fault.Bench };
+
+    fn from(_e: Failed) -> SimulationFault {
+        SimulationFault::Bench
+    }
+}
+
+impl From<NoMemory> for SimulationFault {
+    ghost from_gives = { λ _ e. e ≡ fault.NoMemory };
+
+    fn from(_e: NoMemory) -> SimulationFault {
+        SimulationFault::NoMemory
+    }
+}
+
+// Sends the line of a verdict, in one call.
+fn send_verdict<B: Bench>(bench: &mut B, due: Due) -> Result<(), Failed>
+    ensures all { B.told → OnOk result (B.sent bench.new ≡ B.sent bench.old ++ verdict_bytes due) }
+    ensures part { B.told → OnErr result (AppendsFront (B.sent bench.old) (verdict_bytes due) (B.sent bench.new)) }
+    ensures file { B.file bench.new ≡ B.file bench.old }
+    ensures crash { (image : List ℕ) → B.leaves bench.new image → B.leaves bench.old image }
+    ensures time { Elapses (B.moment bench.old) (B.moment bench.new) (B.since bench.old) (B.since bench.new) (Sending (B.leaves bench.new) (B.sent bench.old) (verdict_bytes due)) }
+    ensures cause { HasCause (B.faults bench.old) (B.faults bench.new) result }
+{
+    bench.send(verdict_line(due))
+}
+
+// Judges the exchanges that are still to come. A reply's line is read behind its question's verdict alone.
+fn judge<P: Source, B: Bench>(
+    alloc: Global,
+    lines: &mut Lines,
+    core: &mut Core,
+    schema: &Schema,
+    index: &Index,
+    source: &mut P,
+    bench: &mut B,
+) -> Result<(), SimulationFault>
+    requires fresh { (lines.old.taken ≡ 0) × (lines.old.pending ≡ []) × (lines.old.ended ≡ false) }
+    requires fits { FitsSchema schema.now.columns index.now }
+    requires few { index.now.rows ≤ most_rows }
+    requires setting { core.old.setting ≡ setting_of (shape_of schema.now.columns index.now.rows) }
+    requires nothing { core.old.history ≡ [] }
+    ensures { Simulates P.Source B.Bench schema.now.columns index.now source.old source.new bench.old bench.new result }
+{
+    lines_in_turn();
+    one_list();
+    let mut line = 0;
+    while let Some(expected) = next_question(alloc, lines, schema, index, core, source)? {
+        let due = expected.due();
+        send_verdict(bench, due)?;
+        line += 2;
+        match next_shown(lines, source, &expected)? {
+            Some(Shown::Agrees(Some(answered))) => core.take(&answered)?,
+            Some(Shown::Agrees(None)) => {}
+            Some(Shown::Disagrees) => return Err(SimulationFault::Disagrees { line, due }),
+            None => return Ok(()),
+        }
+    }
+    Ok(())
+}
+
+/// Sends the verdict on each question of a transcript before its reply is read, and takes an answer only from a reply that
+/// agrees. The index is that of the public columns of the schema; no secret is read, and nothing is written.
+pub fn simulate<P: Source, B: Bench>(
+    alloc: Global,
+    schema: &Schema,
+    index: &Index,
+    source: &mut P,
+    bench: &mut B,
+) -> Result<(), SimulationFault>
+    requires { FitsSchema schema.now.columns index.now }
+
+    // Which verdicts there are, whether or not the bench tells what was sent, and that their lines were.
+    ensures verdicts { P.told → (verdicts : List (Replied Answered)) × EndVerdicts result schema.now.columns index.now (P.left source.old) (P.left source.new) verdicts
+        × (B.told → EndSends result verdicts (B.sent bench.old) (B.sent bench.new)) }
+    ensures reads { P.told → EndReads result (P.left source.old) (P.left source.new) }
+
+    // The file isn't touched, at the end and at every moment.
+    ensures any_moment { B.told → IsQuiet B.Bench bench.old
+        → LeavesOnly B.Bench bench.old bench.new (SimulatesMeanwhile P.told schema.now.columns index.now (counted_lines (P.left source.old)) (B.file bench.old) (B.sent bench.old)) }
+    ensures file { B.file bench.new ≡ B.file bench.old }
+    ensures crash { (image : List ℕ) → B.leaves bench.new image → B.leaves bench.old image }
+
+    // It doesn't give up by itself, and passes over no failed call.
+    ensures later { (P.faults source.old ≤ P.faults source.new) × (B.faults bench.old ≤ B.faults bench.new) }
+    ensures input { result ≡ Err SimulationFault.Input → Rose (P.faults source.old) (P.faults source.new) }
+    ensures bench { result ≡ Err SimulationFault.Bench → Rose (B.faults bench.old) (B.faults bench.new) }
+    ensures steady { (result ≢ Err SimulationFault.Input → P.faults source.new ≡ P.faults source.old) × (result ≢ Err SimulationFault.Bench → B.faults bench.new ≡ B.faults bench.old) }
+{
+    // A public part says of itself that it has 1 to 1,024 rows.
+    let rows = index.public().rows();
+    let mut lines = Lines::new(alloc)?;
+    let mut core = Core::new(alloc, schema.shape(rows))?;
+    judge(alloc, &mut lines, &mut core, schema, index, source, bench)
+}
