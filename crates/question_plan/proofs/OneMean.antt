@@ -32,7 +32,7 @@ opposites m (suc n) some same = let no : pos m ≡ negsuc n = same in cc
 some_product : (b s : ℕ) → 0 < s → 0 < suc b * s
 some_product b s some = omega arith
 
-cancel_ℤ : (x y : ℤ) (s : ℕ) → 0 < s → x *ℤ pos s ≡ y *ℤ pos s → x ≡ y
+pub cancel_ℤ : (x y : ℤ) (s : ℕ) → 0 < s → x *ℤ pos s ≡ y *ℤ pos s → x ≡ y
 cancel_ℤ (pos a) (pos b) s some same = ap pos (cancel a b s some (ap unsigned_abs same))
 cancel_ℤ (negsuc a) (negsuc b) s some same =
     let sizes = cancel (suc a) (suc b) s some (sym (unsigned_abs-mul (negsuc a) (pos s)) ∙ ap unsigned_abs same ∙ unsigned_abs-mul (negsuc b) (pos s)) in

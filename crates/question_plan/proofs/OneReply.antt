@@ -1,5 +1,6 @@
 -- The replies that are due to one line over tables that differ in their secrets alone.
-use Rattle.std.proofs.Common.{◌≡◌, ℕ, ℤ, ◌<◌, List, length, Some, refl, sym, ◌∙◌, ap, subst, arith, inl, inr, ◌⊎◌, ⊎_elim}
+use Rattle.std.proofs.Common.{◌≡◌, ℕ, ℤ, pos, ◌<◌, List, length, Some, refl, sym, ◌∙◌, ap, subst, arith, inl, inr, ◌⊎◌, ⊎_elim}
+use Rattle.std.specs.Prelude.{◌*ℤ◌}
 use Rattle.audit_types.specs.declared.shapes.Kind.{Kind}
 use Rattle.audit_types.specs.declared.shapes.Kind.TheVariants as kind
 use Rattle.audit_types.specs.declared.records.Asked.{Asked}
@@ -7,7 +8,7 @@ use Rattle.audit_types.specs.declared.records.Answered.{Answered}
 use Rattle.audit_types.specs.declared.records.Verdict.{Verdict}
 use Rattle.audit_types.specs.declared.records.Verdict.TheVariants.{Released, DeniedUnsafe, DeniedWide}
 use Rattle.audit_types.specs.Column.{Known}
-use Rattle.audit_types.specs.Judgement.{IsDecision, IsWideFor, IsWithinWidthFor, sets_with}
+use Rattle.audit_types.specs.Judgement.{IsDecision, IsJudgement, IsWideFor, IsWithinWidthFor, sets_with}
 use Rattle.audit_types.specs.History.{Table, Setting, setting_of, known_of}
 use Rattle.sum_basis.specs.Laws.{NarrowOrWide}
 use Rattle.audit_core.specs.declared.outcome.Outcome.{Outcome}
@@ -21,12 +22,13 @@ use Rattle.line_wire.specs.Reply.{reply_bytes}
 use Rattle.line_wire.specs.declared.question.Take.{Take}
 use Rattle.line_wire.specs.declared.question.Take.TheVariants.{Sum, Avg, Max}
 use Rattle.line_wire.specs.declared.reply.Reply.{Reply}
+use Rattle.line_wire.specs.declared.reply.Reply.TheVariants as reply
 use Rattle.question_plan.specs.declared.planning.Plan.{Plan}
 use Rattle.question_plan.specs.declared.planning.Plan.TheVariants.{Ready, Ask}
 use Rattle.question_plan.specs.Session.{Replied}
 use Rattle.question_plan.specs.Replies.{IsDue, IsPlan, IsReplyOf, TellsOutcome, Tells, only}
-use Rattle.question_plan.specs.Laws.{AreAnswersAlike, OneReplyIsDue, DecidedAlike, EqualAnswersEqualReplies}
-use Rattle.question_plan.proofs.OneMean.{one_mean}
+use Rattle.question_plan.specs.Laws.{AreAnswersAlike, OneJudgementIsMade, OneAnswerIsTold, OneReplyIsDue, DecidedAlike, EqualAnswersEqualReplies}
+use Rattle.question_plan.proofs.OneMean.{cancel_ℤ, one_mean}
 use Rattle.question_plan.proofs.OnePlan.{OneMeaning, asked_some, one_plan}
 
 -- one reply tells an answer
@@ -51,6 +53,31 @@ one_decision forms known rows DeniedUnsafe Released first second = absurd (secon
 one_decision forms known rows Released DeniedWide first second = absurd (never_both forms known.kind known rows second first.0)
 one_decision forms known rows Released DeniedUnsafe first second = absurd (first.1 second.1)
 one_decision forms known rows Released Released first second = refl
+
+-- so is a judgement
+one_judgement : NarrowOrWide → (known : Known) (rows : List ℕ) (v w : Verdict) → IsJudgement known rows v → IsJudgement known rows w → v ≡ w
+one_judgement forms known rows DeniedWide DeniedWide first second = refl
+one_judgement forms known rows DeniedWide DeniedUnsafe first second = absurd (never_both forms known.kind known rows first second.0)
+one_judgement forms known rows DeniedWide Released first second = absurd (never_both forms known.kind known rows first second.0)
+one_judgement forms known rows DeniedUnsafe DeniedWide first second = absurd (never_both forms known.kind known rows second first.0)
+one_judgement forms known rows DeniedUnsafe DeniedUnsafe first second = refl
+one_judgement forms known rows DeniedUnsafe Released first second = absurd (second.1 first.1)
+one_judgement forms known rows Released DeniedWide first second = absurd (never_both forms known.kind known rows second first.0)
+one_judgement forms known rows Released DeniedUnsafe first second = absurd (first.1 second.1)
+one_judgement forms known rows Released Released first second = refl
+
+pub judged_once : NarrowOrWide → OneJudgementIsMade
+judged_once forms setting history column rows v w first second = one_judgement forms (known_of setting history column) rows v w first second
+
+-- a reply tells one answer
+pub told_once : OneAnswerIsTold
+told_once Sum size a b told first second = let both : reply.Sum a ≡ reply.Sum b = sym first ∙ second in cc
+told_once Avg size a b told first second =
+    let both : reply.Avg first.num first.den ≡ reply.Avg second.num second.den = sym first.told_is ∙ second.told_is in
+    let num : first.num ≡ second.num = cc in
+    let den : first.den ≡ second.den = cc in
+    cancel_ℤ a b first.den first.mean.some (sym first.mean.same ∙ ap (λ (z : ℤ). z *ℤ pos size) num ∙ second.mean.same ∙ ap (λ (d : ℕ). b *ℤ pos d) (sym den))
+told_once Max size a b told first second = let both : reply.Max a ≡ reply.Max b = sym first ∙ second in cc
 
 -- two replies that tell one denial, or that the history is full
 one_denial : (take : Take) (asked : Asked) (size : ℕ) (v : Verdict) (a b : Reply) → TellsOutcome take size (Denied v) a → TellsOutcome take size (Denied v) b → a ≡ b

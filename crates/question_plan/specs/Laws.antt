@@ -2,7 +2,8 @@
 use Rattle.std.specs.Prelude.{◌≡◌, ◌⊎◌, ◌<◌, ℕ, ℤ, List, ◌++◌, length, Some}
 use Rattle.audit_types.specs.declared.records.Asked.{Asked}
 use Rattle.audit_types.specs.declared.records.Answered.{Answered}
-use Rattle.audit_types.specs.History.{Table, IsLegal}
+use Rattle.audit_types.specs.declared.records.Verdict.{Verdict}
+use Rattle.audit_types.specs.History.{Setting, Table, IsLegal, IsJudgementAfter}
 use Rattle.audit_core.specs.declared.outcome.Outcome.{Outcome}
 use Rattle.audit_core.specs.Outcomes.{IsOutcome, true_answer}
 use Rattle.table_load.specs.Cells.{PublicView, SecretView, IsSecret}
@@ -67,8 +68,16 @@ DecidedAlike =
 abbrev pub EqualAnswersEqualReplies : Type 0
 EqualAnswersEqualReplies = (table twin : Table) (a b : Replied Answered) → (alike : AreAnswersAlike table twin a b) → alike.first.answer ≡ alike.second.answer → a ≡ b
 
--- ---- one plan is made
+-- ---- what is decided is one
 
 -- a line comes to one plan
 abbrev pub OnePlanIsMade : Type 0
 OnePlanIsMade = (columns : List Column) (public : PublicView) (line : CountedLine) (a b : Plan) → IsPlan columns public line a → IsPlan columns public line b → a ≡ b
+
+-- a question is judged in one way after a history
+abbrev pub OneJudgementIsMade : Type 0
+OneJudgementIsMade = (setting : Setting) (history : List Answered) (column : ℕ) (rows : List ℕ) (v w : Verdict) → IsJudgementAfter setting history column rows v → IsJudgementAfter setting history column rows w → v ≡ w
+
+-- a reply tells one answer to a question
+abbrev pub OneAnswerIsTold : Type 0
+OneAnswerIsTold = (take : Take) (size : ℕ) (a b : ℤ) (told : Reply) → Tells take size a told → Tells take size b told → a ≡ b

@@ -1,5 +1,5 @@
 //! Laws of the replies that are due. Each function computes nothing: its contract is the law.
-ghost use Rattle.question_plan.specs.Laws.{RepliesKeepLegal, OutcomesCanBeTold, SomeReplyTells, OnePlanIsMade, OneReplyIsDue, DecidedAlike, EqualAnswersEqualReplies};
+ghost use Rattle.question_plan.specs.Laws.{RepliesKeepLegal, OutcomesCanBeTold, SomeReplyTells, OnePlanIsMade, OneJudgementIsMade, OneAnswerIsTold, OneReplyIsDue, DecidedAlike, EqualAnswersEqualReplies};
 
 /// Answering lines keeps a history legal: each record that a reply makes may follow those before it.
 pub fn answered_lines()
@@ -23,6 +23,18 @@ pub fn one_plan()
 {
     predicate_lang::one_meaning();
 }
+
+/// A question is judged in one way after a history.
+pub fn one_judgement()
+    ensures { OneJudgementIsMade }
+{
+    sum_basis::laws::narrow_or_wide();
+}
+
+/// A reply tells one answer to a question.
+pub fn one_answer()
+    ensures { OneAnswerIsTold }
+{}
 
 /// One reply is due to a line after a history.
 pub fn one_reply()

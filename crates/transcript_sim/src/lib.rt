@@ -14,6 +14,3 @@ mod simulating;
 
 pub use due::Due;
 pub use simulating::{SimulationFault, simulate};
-
-#[cfg(test)]
-mod tests;

@@ -1,5 +1,5 @@
 //! Reading the lines of a transcript: a question, and the line that was shown to it.
-ghost use Rattle.std.specs.Prelude.{◌≡◌, ◌≤◌, ◌++◌, true, IfOk, IfErr};
+ghost use Rattle.std.specs.Prelude.{◌≡◌, ◌≤◌, [], true, IfOk, IfErr};
 ghost use Rattle.audit_types.specs.Limits.{most_rows};
 ghost use Rattle.audit_types.specs.History.{setting_of};
 ghost use Rattle.schema_json.specs.SecretShape.{shape_of};
@@ -13,7 +13,7 @@ use audit_core::Core;
 use bench_core::Source;
 use line_wire::laws::lines_in_turn;
 use line_wire::{Lines, Next, Reply};
-use question_plan::{Plan, plan_line};
+use question_plan::plan_line;
 use schema_json::Schema;
 use set_index::Index;
 use std::alloc::Global;
@@ -36,12 +36,14 @@ pub(crate) fn next_question<P: Source>(
     ensures cuts { Cuts P.Source lines.old lines.new source.old source.new }
 {
     lines_in_turn();
-    let plan = match lines.next(source)? {
-        Next::Line => plan_line(alloc, schema, index, lines.text())?,
-        Next::Long => Plan::Ready(Reply::Long),
-        Next::End => return Ok(None),
-    };
-    Ok(Some(expected_of(core, plan)?))
+    match lines.next(source)? {
+        Next::Line => {
+            let plan = plan_line(alloc, schema, index, lines.text())?;
+            Ok(Some(expected_of(core, plan)?))
+        }
+        Next::Long => Ok(Some(Expected::Only(Reply::Long))),
+        Next::End => Ok(None),
+    }
 }
 
 /// What the next line comes to, which was shown to a question that calls for this. No line is left where there is none.
