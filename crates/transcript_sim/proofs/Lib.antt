@@ -1,1 +1,3 @@
 pub mod NextLines
+pub mod Averages
+pub mod OneVerdict

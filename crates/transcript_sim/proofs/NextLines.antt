@@ -16,8 +16,8 @@ module _ {P : Type 0} (source : Ghosts P) (old new : Cutter) (before after : P) 
   gave_text is steady = record {
     reads = λ told.
         one (old.pending ++ source.left before) (new.pending ++ source.left after) new.ended (text new.text)
-            (subst (λ (n : Next). Answers n (old.pending ++ source.left before) new (source.left after)) is (answer told))
-            (subst (λ (n : Next). Counts n (counted_lines (old.pending ++ source.left before)) new.text (counted_lines (new.pending ++ source.left after))) is (counted told));
+        (subst (λ (n : Next). Answers n (old.pending ++ source.left before) new (source.left after)) is (answer told))
+        (subst (λ (n : Next). Counts n (counted_lines (old.pending ++ source.left before)) new.text (counted_lines (new.pending ++ source.left after))) is (counted told));
     takes = subst (λ (n : Next). Advances old new n) is advances;
     steady = steady;
   }
@@ -27,8 +27,8 @@ module _ {P : Type 0} (source : Ghosts P) (old new : Cutter) (before after : P) 
   gave_long is steady = record {
     reads = λ told.
         one (old.pending ++ source.left before) (new.pending ++ source.left after) new.ended long
-            (subst (λ (n : Next). Answers n (old.pending ++ source.left before) new (source.left after)) is (answer told))
-            (subst (λ (n : Next). Counts n (counted_lines (old.pending ++ source.left before)) new.text (counted_lines (new.pending ++ source.left after))) is (counted told));
+        (subst (λ (n : Next). Answers n (old.pending ++ source.left before) new (source.left after)) is (answer told))
+        (subst (λ (n : Next). Counts n (counted_lines (old.pending ++ source.left before)) new.text (counted_lines (new.pending ++ source.left after))) is (counted told));
     takes = subst (λ (n : Next). Advances old new n) is advances;
     steady = steady;
   }

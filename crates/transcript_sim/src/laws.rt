@@ -6,7 +6,8 @@ pub fn one_list()
     ensures one { VerdictsAreOne }
     ensures first { FirstLinesHaveVerdicts }
 {
-    question_plan::laws::one_plan();
-    sum_basis::laws::narrow_or_wide();
     line_wire::laws::one_reply();
+    question_plan::laws::one_plan();
+    question_plan::laws::one_judgement();
+    question_plan::laws::one_answer();
 }

@@ -1,5 +1,5 @@
 //! What a reply comes to that was shown.
-ghost use Rattle.std.specs.Prelude.{◌≡◌, ◌<◌, ◌≤◌, ◌*◌, ◌*ℤ◌, ◌^◌, ℤ, pos, unsigned_abs, MatchOption};
+ghost use Rattle.std.specs.Prelude.{◌≡◌, ◌<◌, ◌≤◌, ◌*ℤ◌, ℤ, pos, unsigned_abs, int_div, int_rem, MatchOption};
 ghost use Rattle.audit_types.specs.Limits.{most_rows, most_answer};
 ghost use Rattle.line_wire.specs.Lines.{text};
 ghost use Rattle.line_wire.specs.Reply.{IsInRange};
@@ -18,17 +18,38 @@ pub(crate) enum Shown {
     Disagrees,
 }
 
-// The whole number that is this fraction of so many.
-fn whole_of(num: i64, den: u16, size: u16) -> Option<i64>
+fn product(num: i64, size: u16) -> i64
+    requires small { unsigned_abs num ≤ most_answer }
+    requires at_most { size ≤ most_rows }
+    ensures { result ≡ num *ℤ pos size }
+{
+    num * i64::from(size)
+}
+
+fn quotient(sum: i64, den: u16) -> i64
+    requires { 0 < den }
+    ensures { result ≡ int_div sum (pos den) }
+{
+    sum / i64::from(den)
+}
+
+fn remainder(sum: i64, den: u16) -> i64
+    requires { 0 < den }
+    ensures { result ≡ int_rem sum (pos den) }
+{
+    sum % i64::from(den)
+}
+
+// The sum over so many rows of which this is the average, where it is a whole number.
+fn sum_of_average(num: i64, den: u16, size: u16) -> Option<i64>
     requires some { 0 < den }
     requires small { unsigned_abs num ≤ most_answer }
     requires at_most { size ≤ most_rows }
-    ensures { MatchOption result ((whole : ℤ) → ¬ (num *ℤ pos size ≡ whole *ℤ pos den)) (λ whole. num *ℤ pos size ≡ whole *ℤ pos den) }
+    ensures { MatchOption result ((sum : ℤ) → ¬ (num *ℤ pos size ≡ sum *ℤ pos den)) (λ sum. num *ℤ pos size ≡ sum *ℤ pos den) }
 {
-    let product = num * i64::from(size);
-    let den = i64::from(den);
-    if product % den == 0 {
-        Some(product / den)
+    let shares = product(num, size);
+    if remainder(shares, den) == 0 {
+        Some(quotient(shares, den))
     } else {
         None
     }
@@ -42,7 +63,7 @@ fn answer_told(take: Take, size: u16, reply: Reply) -> Option<i64>
 {
     match (take, reply) {
         (Take::Sum, Reply::Sum(sum)) => Some(sum),
-        (Take::Avg, Reply::Avg { num, den }) => whole_of(num, den, size),
+        (Take::Avg, Reply::Avg { num, den }) => sum_of_average(num, den, size),
         (Take::Max, Reply::Max(max)) => Some(max),
         _ => None,
     }

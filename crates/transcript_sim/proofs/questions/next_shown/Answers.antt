@@ -1,5 +1,5 @@
-use Rattle.std.proofs.Common.{List, ℕ, ◌++◌, subst}
-use Rattle.line_wire.specs.Lines.{text, counted_lines}
+use Rattle.std.proofs.Common.{List, ℕ, subst, rules}
+use Rattle.line_wire.specs.Lines.{text}
 use Rattle.transcript_sim.specs.Steps.{ComesTo}
 use Rattle.transcript_sim.proofs.NextLines.{gave_text}
 use Rattle.transcript_sim.proofs.questions.next_shown.Goals as goal

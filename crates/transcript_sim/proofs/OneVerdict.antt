@@ -1,0 +1,95 @@
+-- A transcript has one list of verdicts: a question calls for one reply, and a line that agrees makes one record.
+use Rattle.std.proofs.Common.{◌≡◌, ℕ, ℤ, zero, suc, ◌<◌, ◌≤◌, List, [], ◌∷◌, ◌++◌, length, take, Option, Some, None, refl, sym, ◌∙◌, ap, subst, arith, inl, inr}
+use Rattle.std.specs.Option.{option_to_list}
+use Rattle.audit_types.specs.declared.records.Asked.{Asked}
+use Rattle.audit_types.specs.declared.records.Answered.{Answered}
+use Rattle.audit_types.specs.declared.records.Verdict.{Verdict}
+use Rattle.audit_types.specs.History.{Setting, setting_of}
+use Rattle.schema_json.specs.Columns.{Column}
+use Rattle.schema_json.specs.SecretShape.{shape_of}
+use Rattle.table_load.specs.Cells.{PublicView}
+use Rattle.line_wire.specs.Lines.{CountedLine, text, long}
+use Rattle.line_wire.specs.Reply.{IsReply}
+use Rattle.line_wire.specs.declared.reply.Reply.{Reply}
+use Rattle.line_wire.specs.declared.question.Take.{Take}
+use Rattle.question_plan.specs.declared.planning.Plan.{Plan}
+use Rattle.question_plan.specs.declared.planning.Plan.TheVariants.{Ready, Ask}
+use Rattle.question_plan.specs.Session.{Replied, AreReplies}
+use Rattle.question_plan.specs.Replies.{Tells}
+use Rattle.question_plan.specs.Laws.{OnePlanIsMade, OneJudgementIsMade, OneAnswerIsTold}
+use Rattle.question_plan.specs.InTurn.{MakesOneDue, same_replies}
+use Rattle.transcript_sim.specs.declared.expecting.Expected.{Expected}
+use Rattle.transcript_sim.specs.declared.expecting.Expected.TheVariants.{Only, Answer}
+use Rattle.transcript_sim.specs.Verdicts.{called_by, CallsFor, IsJudged, Expects, TellsAnswer, AgreesWith, due_of, verdict_bytes, Exchange, exchanges, IsTaken, IsVerdict, AreVerdicts}
+
+-- a line is at most one reply
+abbrev pub LineIsOneReply : Type 0
+LineIsOneReply = (line : List ℕ) (a b : Reply) → IsReply line a → IsReply line b → a ≡ b
+
+module _ (replies : LineIsOneReply) (plans : OnePlanIsMade) (judgements : OneJudgementIsMade) (answers : OneAnswerIsTold) where
+  -- a plan calls for one reply
+  one_call : (setting : Setting) (history : List Answered) (plan : Plan) (a b : Expected) → CallsFor setting history plan a → CallsFor setting history plan b → a ≡ b
+  one_call setting history (Ready answer) a b first second = first ∙ sym second
+  one_call setting history (Ask take asked) a b (inl first) (inl second) = first.1 ∙ sym second.1
+  one_call setting history (Ask take asked) a b (inl first) (inr second) = absurd (omega (arith, first.0, second.room))
+  one_call setting history (Ask take asked) a b (inr first) (inl second) = absurd (omega (arith, second.0, first.room))
+  one_call setting history (Ask take asked) a b (inr first) (inr second) =
+      first.expected_is ∙ ap (λ (v : Verdict). called_by take asked v) (judgements setting history asked.column asked.rows.list first.verdict second.verdict first.judged second.judged) ∙ sym second.expected_is
+
+  -- so does a question
+  pub one_expected : (columns : List Column) (public : PublicView) (history : List Answered) (line : CountedLine) (a b : Expected) → Expects columns public history line a → Expects columns public history line b → a ≡ b
+  one_expected columns public history line a b first second =
+      let setting = setting_of (shape_of columns public.rows) in
+      one_call setting history first.plan a b first.calls
+      (subst (λ (p : Plan). CallsFor setting history p b) (plans columns public line second.plan first.plan second.planned first.planned) second.calls)
+
+  -- a line that agrees makes one record
+  one_record : (line : CountedLine) (expected : Expected) (a b : Option Answered) → AgreesWith line expected a → AgreesWith line expected b → a ≡ b
+  one_record long expected a b first second = absurd first
+  one_record (text line) (Only answer) a b first second = first.1 ∙ sym second.1
+  one_record (text line) (Answer take asked) a b first second =
+      let told = replies line second.told first.told second.is_reply first.is_reply in
+      let same = answers take (length asked.rows.list) first.answer second.answer first.told first.tells
+      (subst (λ (r : Reply). Tells take (length asked.rows.list) second.answer r) told second.tells) in
+      let made : ℤ → Option Answered = λ z. Some (record { column = asked.column; rows = asked.rows; answer = z }) in
+      first.added_is ∙ ap made same ∙ sym second.added_is
+
+  one_taken : (expected : Expected) (shown : Option CountedLine) (a b : Option Answered) → IsTaken expected shown a → IsTaken expected shown b → a ≡ b
+  one_taken expected None a b first second = first ∙ sym second
+  one_taken expected (Some line) a b first second = one_record line expected a b first second
+
+  module _ (columns : List Column) (public : PublicView) where
+    -- one verdict is due on an exchange
+    pub one_verdict : MakesOneDue (IsVerdict columns public)
+    one_verdict history exchange a b first second =
+        let same = one_expected columns public history exchange.question first.expected second.expected first.expects second.expects in
+        let bytes : a.bytes ≡ b.bytes = first.bytes_are ∙ ap (λ (x : Expected). verdict_bytes (due_of x)) same ∙ sym second.bytes_are in
+        let added : a.added ≡ b.added = one_taken first.expected exchange.shown a.added b.added first.taken (subst (λ (x : Expected). IsTaken x exchange.shown b.added) (sym same) second.taken) in
+        let made : List ℕ → Option Answered → Replied Answered = λ bytes added. record { bytes = bytes; added = added } in
+        ap (λ (l : List ℕ). made l a.added) bytes ∙ ap (λ (r : Option Answered). made b.bytes r) added
+
+    pub same_verdicts : (lines : List CountedLine) (verdicts others : List (Replied Answered)) → AreVerdicts columns public lines verdicts → AreVerdicts columns public lines others → verdicts ≡ others
+    same_verdicts lines verdicts others first second = same_replies (IsVerdict columns public) one_verdict [] (exchanges lines) verdicts others first second
+
+module _ (columns : List Column) (public : PublicView) where
+  -- the verdict on a question doesn't wait for its reply
+  before_reply : (history : List Answered) (question shown : CountedLine) (out : Replied Answered) → IsVerdict columns public history (record { question = question; shown = Some shown }) out
+      → IsVerdict columns public history (record { question = question; shown = None }) (record { bytes = out.bytes; added = None })
+  before_reply history question shown out is = record { expected = is.expected; expects = is.expects; bytes_are = is.bytes_are; taken = refl }
+
+  first_verdicts : (count : ℕ) (history : List Answered) (lines : List CountedLine) (verdicts : List (Replied Answered)) → AreReplies (IsVerdict columns public) history (exchanges lines) verdicts
+      → (first : List (Replied Answered)) × AreReplies (IsVerdict columns public) history (exchanges (take count lines)) first
+  first_verdicts zero history lines verdicts are = ([], tt)
+  first_verdicts (suc count) history [] verdicts are = ([], tt)
+  first_verdicts (suc count) history (question ∷ []) [] are = absurd are
+  first_verdicts (suc zero) history (question ∷ []) (out ∷ verdicts) are = (out ∷ [], (are.0, tt))
+  first_verdicts (suc (suc count)) history (question ∷ []) (out ∷ verdicts) are = (out ∷ [], (are.0, tt))
+  first_verdicts (suc count) history (question ∷ shown ∷ lines) [] are = absurd are
+  first_verdicts (suc zero) history (question ∷ shown ∷ lines) (out ∷ verdicts) are = (record { bytes = out.bytes; added = None } ∷ [], (before_reply history question shown out are.0, tt))
+  first_verdicts (suc (suc count)) history (question ∷ shown ∷ lines) (out ∷ verdicts) are =
+      let rest = first_verdicts count (history ++ option_to_list out.added) lines verdicts are.1 in
+      (out ∷ rest.0, (are.0, rest.1))
+
+  -- the first lines of a transcript have verdicts
+  pub first_lines : (lines : List CountedLine) (verdicts : List (Replied Answered)) (count : ℕ) → AreVerdicts columns public lines verdicts → (first : List (Replied Answered)) × AreVerdicts columns public (take count lines) first
+  first_lines lines verdicts count are = first_verdicts count [] lines verdicts are
