@@ -1,3 +1,6 @@
 pub mod NextLines
 pub mod Averages
 pub mod OneVerdict
+pub mod Exchanges
+pub mod SoFar
+pub mod Turns

@@ -1,8 +1,11 @@
 //! Laws of verdicts. Each function computes nothing: its contract is the law.
-ghost use Rattle.transcript_sim.specs.Laws.{VerdictsAreOne, FirstLinesHaveVerdicts};
+ghost use Rattle.transcript_sim.specs.Laws.{OneReplyIsCalledFor, OneVerdictIsDue, VerdictsAreOne, FirstLinesHaveVerdicts};
 
-/// A transcript in which every reply agrees has one list of verdicts, and so have its first lines.
-pub fn one_list()
+/// A question calls for one reply after the answers that were shown before it, and an exchange has one verdict. So a
+/// transcript in which every reply agrees has one list of verdicts, and so have its first lines.
+pub fn one_verdict()
+    ensures called { OneReplyIsCalledFor }
+    ensures due { OneVerdictIsDue }
     ensures one { VerdictsAreOne }
     ensures first { FirstLinesHaveVerdicts }
 {

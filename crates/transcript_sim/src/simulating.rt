@@ -16,7 +16,7 @@ ghost use Rattle.transcript_sim.specs.Ends.{EndReads, EndSends, EndVerdicts, Sim
 ghost use Rattle.transcript_sim.specs.declared.simulating.SimulationFault.TheVariants as fault;
 
 use crate::due::{Due, verdict_line};
-use crate::laws::one_list;
+use crate::laws::one_verdict;
 use crate::questions::{next_question, next_shown};
 use crate::shown::Shown;
 use audit_core::Core;
@@ -100,7 +100,7 @@ fn judge<P: Source, B: Bench>(
     ensures { Simulates P.Source B.Bench schema.now.columns index.now source.old source.new bench.old bench.new result }
 {
     lines_in_turn();
-    one_list();
+    one_verdict();
     let mut line = 0;
     while let Some(expected) = next_question(alloc, lines, schema, index, core, source)? {
         let due = expected.due();

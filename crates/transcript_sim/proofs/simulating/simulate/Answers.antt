@@ -1,0 +1,27 @@
+use Rattle.std.proofs.Common.{rules, ◌≡◌, ℕ, List, [], ◌++◌, Result, Err, sym, subst}
+use Rattle.std.proofs.lemmas.List.{append-nil}
+use Rattle.audit_types.specs.declared.records.Answered.{Answered}
+use Rattle.question_plan.specs.Session.{Replied}
+use Rattle.transcript_sim.specs.declared.simulating.SimulationFault.{SimulationFault}
+use Rattle.transcript_sim.specs.declared.simulating.SimulationFault.TheVariants as fault
+use Rattle.transcript_sim.specs.Ends.{EndVerdicts, EndSends}
+use Rattle.transcript_sim.proofs.simulating.simulate.Goals as goal
+
+abbrev ended_by : SimulationFault → Result (Unit {0}) SimulationFault
+ended_by fault = Err fault
+
+pub returns-in_err-lines-clause-verdicts : goal.returns-in_err-lines-clause-verdicts
+returns-in_err-lines-clause-verdicts g c = λ t.
+    let input = g.P.Source.left c.args.source.now in
+    let sent = g.B.Bench.sent c.args.bench.now in
+    let same : c.from_residual.result ≡ ended_by fault.NoMemory = search rules in
+    subst (λ (r : Result (Unit {0}) SimulationFault). (verdicts : List (Replied Answered)) × EndVerdicts r c.args.schema.now.columns c.args.index.now input input verdicts × (g.B.Bench.told → EndSends r verdicts sent sent)) (sym same)
+    ([], record { count = 0; are = tt }, λ u. sym (append-nil sent))
+
+pub returns-in_err-core-clause-verdicts : goal.returns-in_err-core-clause-verdicts
+returns-in_err-core-clause-verdicts g c = λ t.
+    let input = g.P.Source.left c.args.source.now in
+    let sent = g.B.Bench.sent c.args.bench.now in
+    let same : c.from_residual-in_err-core.result ≡ ended_by fault.NoMemory = search rules in
+    subst (λ (r : Result (Unit {0}) SimulationFault). (verdicts : List (Replied Answered)) × EndVerdicts r c.args.schema.now.columns c.args.index.now input input verdicts × (g.B.Bench.told → EndSends r verdicts sent sent)) (sym same)
+    ([], record { count = 0; are = tt }, λ u. sym (append-nil sent))
