@@ -6,11 +6,9 @@ ghost use Rattle.transcript_sim.specs.Verdicts.{CallsFor, due_of, due_of_reply};
 
 use crate::due::Due;
 use audit_core::Core;
-use audit_types::{Asked, NoMemory, Verdict};
+use audit_types::{Asked, MOST_RECORDS, NoMemory, Verdict};
 use line_wire::{Reply, Take};
 use question_plan::Plan;
-
-const MOST_RECORDS: usize = 65_536;
 
 /// What the reply to a question has to be.
 #[derive(Clone, Copy)]
