@@ -11,7 +11,7 @@ use Rattle.schema_json.specs.SecretShape.{shape_of}
 use Rattle.table_load.specs.Cells.{PublicView}
 use Rattle.line_wire.specs.Lines.{CountedLine, counted_lines, whole_lines, most_input}
 use Rattle.line_wire.specs.Cutter.{Cutter, TakesLine, StopsAt}
-use Rattle.line_wire.proofs.LineLaws.{whole-piece}
+use Rattle.line_wire.specs.LineLaws.{whole-piece}
 use Rattle.question_plan.specs.declared.planning.Plan.{Plan}
 use Rattle.question_plan.specs.Plans.{CanBeServed}
 use Rattle.audit_session.specs.Groups.{IsRead, ReadsLines, CutsShort, Gathers, GivesNext, question_in, questions_of}

@@ -13,8 +13,8 @@ use Rattle.audit_types.specs.Rows.{AreRows}
 use Rattle.audit_types.specs.Truth.{number_at, sum_over}
 use Rattle.audit_types.specs.Form.{set_row, pivot, pivot_entry, InSpan, IsPrimitive, Reduced}
 use Rattle.audit_types.specs.Direction.{IsDirection, is_pivot, first_free, free_column_of, IsCanonicalDirection}
-use Rattle.audit_types.proofs.Products.{times-add, times_assoc, neg-times, zero_factor, zero_product}
-use Rattle.audit_types.proofs.PrimitiveLines.{one_primitive}
+use Rattle.audit_types.specs.Products.{times-add, times_assoc, neg-times, zero_factor, zero_product}
+use Rattle.audit_types.specs.PrimitiveLines.{one_primitive}
 use Rattle.audit_types.proofs.Totals.{total-agree, total-add, total-times, total-single, product, product-set_row, product-span}
 use Rattle.audit_types.proofs.Pivots.{IsZeroAtOthers, zero_at_others, at_pivot, first_free_entry}
 

@@ -9,7 +9,7 @@ use Rattle.audit_types.specs.Rows.{has_row, AreRows, AscendsFrom}
 use Rattle.audit_types.specs.RowLaws.{ascends_more}
 use Rattle.audit_types.specs.Truth.{number_at, sum_over}
 use Rattle.audit_types.specs.Form.{set_row, combined, InSpan}
-use Rattle.audit_types.proofs.Products.{add-times, times-add, times_assoc, zero_factor}
+use Rattle.audit_types.specs.Products.{add-times, times-add, times_assoc, zero_factor}
 
 -- the sum of the values below n
 abbrev pub total : (ℕ → ℤ) → ℕ → ℤ

@@ -13,3 +13,5 @@ pub mod Laws
 pub mod Words
 pub mod RowsLeft
 pub mod WordLaws
+pub mod Products
+pub mod PrimitiveLines

@@ -1,4 +1,0 @@
-pub mod ContentLaws
-pub mod Exact
-pub mod Multiples
-pub mod PrimitiveLaws

@@ -1,6 +1,5 @@
 pub mod Ranges
 pub mod Passing
-pub mod LineLaws
 pub mod Reaching
 pub mod Turning
 pub mod KnownKeys

@@ -9,7 +9,7 @@ use Rattle.line_wire.specs.declared.lines.Next.{Next}
 use Rattle.line_wire.specs.declared.lines.Next.TheVariants as next
 use Rattle.line_wire.specs.Steps.{Gives, Answers, Counts}
 use Rattle.line_wire.specs.Cutter.{StopsAt, Cutter, IsFeedless, TakesLine, PassesFeed, PassesNone, Reached, AtFeed}
-use Rattle.line_wire.proofs.LineLaws.{passed-nil, passed-more, counted-piece, counted-last, whole-last, line_of-kept, kept-more, kept-nil}
+use Rattle.line_wire.specs.LineLaws.{passed-nil, passed-more, counted-piece, counted-last, whole-last, line_of-kept, kept-more, kept-nil}
 
 -- two pieces without a line feed make one
 feedless-append : (a b : List ℕ) → IsFeedless a → IsFeedless b → IsFeedless (a ++ b)

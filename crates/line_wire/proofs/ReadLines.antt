@@ -3,7 +3,7 @@ use Rattle.std.proofs.Common.{◌≡◌, ℕ, true, List, [], ◌∷◌, ◌++�
 use Rattle.std.proofs.lemmas.List.{append-nil}
 use Rattle.line_wire.specs.Lines.{CountedLine, counted_lines, whole_lines}
 use Rattle.line_wire.specs.ReadLines.{IsRead, ReadsLines, NoLineIsRead, OneLineIsRead, MoreLinesAreRead}
-use Rattle.line_wire.proofs.LineLaws.{whole-piece}
+use Rattle.line_wire.specs.LineLaws.{whole-piece}
 
 -- nothing was
 pub reads_none : NoLineIsRead

@@ -7,7 +7,7 @@ use Rattle.line_wire.specs.Cutter.{Cutter, IsWithin, PassesFeed, PassesNone, Rea
 use Rattle.line_wire.specs.Steps.{Gives, Advances}
 use Rattle.line_wire.specs.declared.lines.Next.{Next}
 use Rattle.line_wire.specs.declared.lines.Next.TheVariants as next
-use Rattle.line_wire.proofs.LineLaws.{kept-le}
+use Rattle.line_wire.specs.LineLaws.{kept-le}
 use Rattle.line_wire.proofs.Reaching.{to_feed, to_more, to_next, no_whole}
 
 -- what holds at each turn of a call

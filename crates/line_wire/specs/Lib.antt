@@ -9,3 +9,4 @@ pub mod Requests
 pub mod Answers
 pub mod Texts
 pub mod ReadLines
+pub mod LineLaws

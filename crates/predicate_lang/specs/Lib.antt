@@ -10,3 +10,4 @@ pub mod Lexing
 pub mod Building
 pub mod Reads
 pub mod Steps
+pub mod Laws

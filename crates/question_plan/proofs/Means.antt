@@ -5,10 +5,10 @@ use Rattle.std.specs.Int.{IsGcd}
 use Rattle.std.proofs.lemmas.Int.{unsigned_abs-mul}
 use Rattle.std.proofs.lemmas.Nat.Gcd.{same_from_IsGcd, mod-eq-zero_of_dvd}
 use Rattle.std.proofs.Math.IntN.{*ℤ_comm}
-use Rattle.audit_types.proofs.Products.{times_assoc}
+use Rattle.audit_types.specs.Products.{times_assoc}
 use Rattle.std.proofs.Math.Nat.{le-mul_of_pos_right}
-use Rattle.audit_types.proofs.PrimitiveLines.{scaled_gcd}
-use Rattle.int_rows.proofs.Exact.{exact}
+use Rattle.audit_types.specs.PrimitiveLines.{scaled_gcd}
+use Rattle.int_rows.specs.Exact.{exact}
 use Rattle.line_wire.specs.Reply.{IsAverage}
 use Rattle.question_plan.specs.Replies.{IsMean}
 

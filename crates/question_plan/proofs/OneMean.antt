@@ -5,7 +5,7 @@ use Rattle.std.specs.Int.{IsGcd, ◌∣◌}
 use Rattle.std.proofs.lemmas.Int.{unsigned_abs-mul}
 use Rattle.std.proofs.lemmas.Nat.Gcd.{same_from_IsGcd, dvd_antisymm, dvd-zero}
 use Rattle.std.proofs.Math.Nat.{mul-div_cancel, dvd-mul_left, mul_comm}
-use Rattle.audit_types.proofs.PrimitiveLines.{scaled_gcd}
+use Rattle.audit_types.specs.PrimitiveLines.{scaled_gcd}
 use Rattle.line_wire.specs.declared.reply.Reply.{Reply}
 use Rattle.line_wire.specs.declared.reply.Reply.TheVariants as reply
 use Rattle.question_plan.specs.Replies.{IsMean, TellsMean}

@@ -5,7 +5,7 @@ use Rattle.schema_json.specs.Columns.{Column}
 use Rattle.table_load.specs.Cells.{PublicView}
 use Rattle.predicate_lang.specs.Trees.{Tree, tree_of}
 use Rattle.predicate_lang.specs.Places.{Means, IsPlace}
-use Rattle.predicate_lang.proofs.LeastPlace.{refused_means_nothing}
+use Rattle.predicate_lang.specs.Laws.{OneMeaning}
 use Rattle.set_index.specs.Asked.{meaning}
 use Rattle.line_wire.specs.Lines.{CountedLine, text, long}
 use Rattle.line_wire.specs.Questions.{Written, counted, taken, text_of, question_of}
@@ -124,26 +124,22 @@ module _ (columns : List Column) (o : Option Written) where
   one_fault f g a b first second a_is b_is = let both : Some a ≡ Some b = sym a_is ∙ ap refusal (same_fault f g a b first second a_is b_is) ∙ b_is in cc
 
   -- and none where it is asked
-  asked_or_refused : (f : LineFault) (a : Reply) (r : Request) → Refuses columns o f → refusal f ≡ Some a → Requests columns o r → ⊥
-  asked_or_refused fault.Line a r refuses is asks = no_question o asks.question refuses asks.writes
-  asked_or_refused fault.Column a r refuses is asks = no_fault (column_fault columns asks.question) fault.Column asks.good (ap (column_fault columns) (one_question o asks.question refuses.question asks.writes refuses.writes) ∙ refuses.bad)
-  asked_or_refused fault.Kind a r refuses is asks = no_fault (column_fault columns asks.question) fault.Kind asks.good (ap (column_fault columns) (one_question o asks.question refuses.question asks.writes refuses.writes) ∙ refuses.bad)
-  asked_or_refused (fault.Condition at) a r refuses is asks =
-      refused_means_nothing columns (text_of refuses.question) asks.tree at (subst (λ (w : Written). Means columns (text_of w) asks.tree) (one_question o asks.question refuses.question asks.writes refuses.writes) asks.means) refuses.place.refuses
-  asked_or_refused fault.NoMemory a r refuses is asks = cc
+  asked_or_refused : OneMeaning → (f : LineFault) (a : Reply) (r : Request) → Refuses columns o f → refusal f ≡ Some a → Requests columns o r → ⊥
+  asked_or_refused meanings fault.Line a r refuses is asks = no_question o asks.question refuses asks.writes
+  asked_or_refused meanings fault.Column a r refuses is asks = no_fault (column_fault columns asks.question) fault.Column asks.good (ap (column_fault columns) (one_question o asks.question refuses.question asks.writes refuses.writes) ∙ refuses.bad)
+  asked_or_refused meanings fault.Kind a r refuses is asks = no_fault (column_fault columns asks.question) fault.Kind asks.good (ap (column_fault columns) (one_question o asks.question refuses.question asks.writes refuses.writes) ∙ refuses.bad)
+  asked_or_refused meanings (fault.Condition at) a r refuses is asks =
+      meanings.none columns (text_of refuses.question) asks.tree at (subst (λ (w : Written). Means columns (text_of w) asks.tree) (one_question o asks.question refuses.question asks.writes refuses.writes) asks.means) refuses.place.refuses
+  asked_or_refused meanings fault.NoMemory a r refuses is asks = cc
 
 -- ---- lines
-
--- no text means two trees
-abbrev pub OneMeaning : Type 0
-OneMeaning = (columns : List Column) (text : List ℕ) (s t : Tree) → Means columns text s → Means columns text t → s ≡ t
 
 module _ (meanings : OneMeaning) (columns : List Column) (public : PublicView) where
   one_request : (o : Option Written) (r q : Request) → Requests columns o r → Requests columns o q → plan_of public r ≡ plan_of public q
   one_request o r q first second =
       let one = one_question o second.question first.question second.writes first.writes in
       let means = subst (λ (w : Written). Means columns (text_of w) second.tree) one second.means in
-      let tree = meanings columns (text_of first.question) second.tree first.tree means first.means in
+      let tree = meanings.tree columns (text_of first.question) second.tree first.tree means first.means in
       let is = subst (λ (w : Written). IsRequest columns w first.tree q) one (subst (λ (t : Tree). IsRequest columns second.question t q) tree second.is) in
       requests_same columns public first.question first.tree r q first.is is
 
@@ -151,6 +147,6 @@ module _ (meanings : OneMeaning) (columns : List Column) (public : PublicView) w
   one_plan long p q first second = first ∙ sym second
   one_plan (text line) p q (inl first) (inl second) =
       first.plan_is ∙ ap (λ (r : Reply). Ready r) (one_fault columns (question_of line) first.fault second.fault first.answer second.answer first.refuses second.refuses first.told second.told) ∙ sym second.plan_is
-  one_plan (text line) p q (inl first) (inr second) = absurd (asked_or_refused columns (question_of line) first.fault first.answer second.request first.refuses first.told second.requests)
-  one_plan (text line) p q (inr first) (inl second) = absurd (asked_or_refused columns (question_of line) second.fault second.answer first.request second.refuses second.told first.requests)
+  one_plan (text line) p q (inl first) (inr second) = absurd (asked_or_refused columns (question_of line) meanings first.fault first.answer second.request first.refuses first.told second.requests)
+  one_plan (text line) p q (inr first) (inl second) = absurd (asked_or_refused columns (question_of line) meanings second.fault second.answer first.request second.refuses second.told first.requests)
   one_plan (text line) p q (inr first) (inr second) = first.plan_is ∙ one_request (question_of line) first.request second.request first.requests second.requests ∙ sym second.plan_is

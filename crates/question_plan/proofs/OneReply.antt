@@ -29,7 +29,8 @@ use Rattle.question_plan.specs.Session.{Replied}
 use Rattle.question_plan.specs.Replies.{IsDue, IsPlan, IsReplyOf, TellsOutcome, Tells, only}
 use Rattle.question_plan.specs.Laws.{AreAnswersAlike, OneJudgementIsMade, OneAnswerIsTold, OneReplyIsDue, DecidedAlike, EqualAnswersEqualReplies}
 use Rattle.question_plan.proofs.OneMean.{cancel_ℤ, one_mean}
-use Rattle.question_plan.proofs.OnePlan.{OneMeaning, asked_some, one_plan}
+use Rattle.predicate_lang.specs.Laws.{OneMeaning}
+use Rattle.question_plan.proofs.OnePlan.{asked_some, one_plan}
 
 -- one reply tells an answer
 one_telling : (take : Take) (size : ℕ) (answer : ℤ) (a b : Reply) → 0 < size → Tells take size answer a → Tells take size answer b → a ≡ b

@@ -10,7 +10,7 @@ use Rattle.audit_types.specs.Rows.{has_row, rows_that, AreRows}
 use Rattle.audit_types.specs.RowLaws.{rows-again}
 use Rattle.audit_types.specs.Truth.{number_at, sum_over}
 use Rattle.audit_types.specs.Form.{set_row, combined, InSpan}
-use Rattle.sum_basis.proofs.Products.{add-times, times-add, times_assoc, zero_factor}
+use Rattle.audit_types.specs.Products.{add-times, times-add, times_assoc, zero_factor}
 use Rattle.sum_audit.specs.Dot.{dot}
 use Rattle.sum_audit.specs.DotLaws.{dot_none}
 

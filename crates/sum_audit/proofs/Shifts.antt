@@ -6,7 +6,7 @@ use Rattle.std.proofs.lemmas.List.{length-map}
 use Rattle.std.proofs.Math.IntN.{+ℤ_idl, +ℤ_idr, *ℤ-zero, *ℤ_comm}
 use Rattle.audit_types.specs.Truth.{number_at, sum_over}
 use Rattle.sum_basis.specs.Combination.{both, times, combine}
-use Rattle.sum_basis.proofs.Products.{times-add, times_assoc}
+use Rattle.audit_types.specs.Products.{times-add, times_assoc}
 use Rattle.sum_audit.specs.Dot.{dot}
 
 number_at-both : (w d : List ℤ) (r : ℕ) → number_at (both w d) r ≡ number_at w r +ℤ number_at d r

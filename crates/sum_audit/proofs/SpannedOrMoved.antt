@@ -15,7 +15,7 @@ use Rattle.audit_types.specs.Rows.{has_row}
 use Rattle.audit_types.specs.Truth.{number_at}
 use Rattle.audit_types.specs.Form.{set_row, combined, InSpan}
 use Rattle.sum_basis.specs.Combination.{combine}
-use Rattle.sum_basis.proofs.Products.{neg-times, times_assoc, times-add}
+use Rattle.audit_types.specs.Products.{neg-times, times_assoc, times-add}
 use Rattle.sum_audit.specs.Dot.{dot}
 use Rattle.sum_audit.specs.DotLaws.{dot_one}
 use Rattle.sum_audit.specs.Laws.{SpannedOrMoved}

@@ -13,7 +13,7 @@ use Rattle.audit_types.specs.Direction.{IsPinned}
 use Rattle.audit_types.specs.Judgement.{sets_with, IsJudgement, IsDecision, IsWide}
 use Rattle.sum_basis.specs.Basis.{Echelon, IsLeastUnit}
 use Rattle.sum_basis.specs.Growth.{GrowsTo, Foresees}
-use Rattle.sum_basis.proofs.Exactness.{more_sets, of_rows}
+use Rattle.sum_basis.specs.Laws.{OneMoreSet}
 use Rattle.sum_basis.specs.declared.Prospect.{Prospect}
 use Rattle.sum_basis.specs.declared.Prospect.TheVariants.{Wide, Fixing, Open}
 use Rattle.sum_audit.specs.Laws.{IsLeastPinned}
@@ -53,7 +53,7 @@ pub record IsRightVerdict (known : Known) (rows : List ℕ) (verdict : Verdict) 
 right : (n : ℕ) (answers : List Answer) (rows : List ℕ) (verdict : Verdict) → IsJudgement (known_sum n answers) rows verdict → IsRightVerdict (known_sum n answers) rows verdict
 right n answers rows verdict judged = record { judged = judged; decided = decided_at n answers rows verdict judged }
 
-module _ (n : ℕ) (answers : List Answer) (known : Known) (view : known_sum n answers ≡ known) (rows : List ℕ) (m : ℕ) (are : AllByRecursion (AreRows n) (sets_of answers)) (last : AreRows m rows) (same : m ≡ known.n) where
+module _ (one_more : OneMoreSet) (n : ℕ) (answers : List Answer) (known : Known) (view : known_sum n answers ≡ known) (rows : List ℕ) (m : ℕ) (are : AllByRecursion (AreRows n) (sets_of answers)) (last : AreRows m rows) (same : m ≡ known.n) where
   same_n : m ≡ n
   same_n = same ∙ sym (ap (λ k. k.n) view)
 
@@ -66,7 +66,7 @@ module _ (n : ℕ) (answers : List Answer) (known : Known) (view : known_sum n a
   -- the form of the sets with the asked one
   reduced_with : (form : Echelon) (new : List (List ℤ)) → form.n ≡ n → Reduced n (sets_of answers) form.rows → IsReducedForm form.n (form.rows ++ set_row form.n rows ∷ []) new → Reduced n (sets_of answers ++ rows ∷ []) new
   reduced_with form new e reduced r =
-      more_sets n (sets_of answers) rows new (of_rows n (map (set_row n) (sets_of answers)) form.rows new (set_row n rows) reduced (subst (λ k. IsReducedForm k (form.rows ++ set_row k rows ∷ []) new) e r))
+      one_more n (sets_of answers) rows form.rows new reduced (subst (λ k. IsReducedForm k (form.rows ++ set_row k rows ∷ []) new) e r)
 
   -- of a form that grows with the set
   right_by_growth : (form new : Echelon) (verdict : Verdict) → form.n ≡ n → Reduced n (sets_of answers) form.rows → GrowsTo form (set_row form.n rows) new → IsSpanVerdict new verdict → IsRightVerdict known rows verdict

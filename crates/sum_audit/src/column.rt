@@ -13,6 +13,7 @@ use crate::answered::AnsweredSum;
 use audit_types::{ColumnAudit, NoMemory, RowSet, Verdict};
 use std::alloc::Global;
 use std::marker::Model;
+use sum_basis::laws::one_more_set;
 use sum_basis::{Basis, Prospect};
 
 /// The answered sums of a column.
@@ -101,6 +102,7 @@ impl ColumnAudit for SumColumn {
     fn probe(&self, rows: &RowSet) -> Result<Verdict, NoMemory> {
         // A set says of itself that its rows are rows of the table.
         let _ = rows.n();
+        one_more_set();
         let prospect = self.basis.prospect(rows)?;
         Ok(verdict_of(prospect))
     }

@@ -10,8 +10,9 @@ use Rattle.audit_types.specs.Truth.{number_at, is_zero}
 use Rattle.audit_types.specs.Form.{InSpan, IsContent, IsPrimitive, IsEchelon, StandsBefore, pivot, pivot_entry}
 use Rattle.int_rows.specs.Primitive.{IsMadePrimitive}
 use Rattle.sum_basis.specs.Elimination.{IsCleared, AreCleared}
-use Rattle.int_rows.proofs.PrimitiveLaws.{product_not_zero, zero_if, zero_or_not, number_at-times}
-use Rattle.sum_basis.proofs.Products.{neg-times}
+use Rattle.int_rows.specs.PrimitiveLaws.{product_not_zero, zero_if, zero_or_not}
+use Rattle.audit_types.specs.PrimitiveLines.{number_at-times}
+use Rattle.audit_types.specs.Products.{neg-times}
 use Rattle.sum_basis.proofs.Spans.{spans_from, in_span_from, spans_same, spans_times, ZeroAtPivots}
 use Rattle.sum_basis.specs.Combination.{times, combine}
 use Rattle.sum_basis.proofs.FormsAreUnique.{zero_before, pivot_is}

@@ -2,7 +2,7 @@
 use Rattle.std.proofs.Common.{◌≡◌, ◌≢◌, ℕ, ◌<◌, ℤ, pos, List, [], ◌∷◌, ◌++◌, length, sym, subst}
 use Rattle.audit_types.specs.Form.{InSpan, pivot, pivot_entry}
 use Rattle.int_rows.specs.Primitive.{IsMadePrimitive}
-use Rattle.int_rows.proofs.ContentLaws.{all-front}
+use Rattle.int_rows.specs.ContentLaws.{all-front}
 use Rattle.sum_basis.specs.Basis.{Echelon}
 use Rattle.sum_basis.specs.Combination.{times}
 use Rattle.sum_basis.specs.Elimination.{IsSmallForm, IsRemainder}

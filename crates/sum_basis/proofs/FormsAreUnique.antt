@@ -9,11 +9,11 @@ use Rattle.std.proofs.lemmas.Bool.{cases_eq, cases_lt}
 use Rattle.std.proofs.Math.IntN.{+ℤ_idl, +ℤ_idr, *ℤ_comm, zero-*ℤ, *ℤ-zero}
 use Rattle.audit_types.specs.Truth.{number_at, is_zero}
 use Rattle.audit_types.specs.Form.{combined, InSpan, pivot, pivot_entry, IsPrimitive, IsEchelon, StandsBefore}
-use Rattle.sum_basis.proofs.Products.{neg-times, zero_factor}
-use Rattle.sum_basis.proofs.PrimitiveLines.{one_primitive}
+use Rattle.audit_types.specs.Products.{neg-times, zero_factor}
+use Rattle.audit_types.specs.PrimitiveLines.{one_primitive}
 use Rattle.sum_basis.specs.Laws.{FormsAreUnique}
 use Rattle.sum_basis.proofs.Spans.{spans_from, spans_times, spans_add, span_zero, span_trans_all, combined_zero, ZeroAtPivots}
-use Rattle.int_rows.proofs.PrimitiveLaws.{zero_or_not}
+use Rattle.int_rows.specs.PrimitiveLaws.{zero_or_not}
 
 -- the row is one of these
 abbrev pub IsRowOf : List ℤ → List (List ℤ) → Type 0

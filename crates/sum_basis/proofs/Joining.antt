@@ -19,7 +19,7 @@ use Rattle.sum_basis.proofs.SpanKeepsForm.{span_keeps_form}
 use Rattle.sum_basis.proofs.Exactness.{other_row}
 use Rattle.sum_basis.proofs.Extending.{grows_to, grows_wide}
 use Rattle.sum_basis.proofs.LeastMultiples.{heads, least_unique}
-use Rattle.sum_basis.proofs.PrimitiveLines.{same_rows}
+use Rattle.audit_types.specs.PrimitiveLines.{same_rows}
 use Rattle.sum_basis.proofs.SparseRows.{number_at-row_of, length-row_of, pivot_entry-row_of}
 use Rattle.sum_basis.proofs.ClearedLists.{head_small}
 

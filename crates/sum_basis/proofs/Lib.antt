@@ -4,7 +4,6 @@ pub mod Clearing
 pub mod FormsAreUnique
 pub mod SpanKeepsForm
 pub mod NarrowOrWide
-pub mod PrimitiveLines
 pub mod Reduction
 pub mod Spans
 pub mod Reducing
@@ -21,7 +20,6 @@ pub mod Exactness
 pub mod Extending
 pub mod UnitRowsInSpan
 pub mod Sizes
-pub mod Products
 pub mod Wide
 pub mod SparseRows
 pub mod ListContents

@@ -10,13 +10,13 @@ use Rattle.std.proofs.lemmas.List.{same_lists, get_or_default, get_or-map, lengt
 use Rattle.std.proofs.Math.Nat.{one-dvd}
 use Rattle.std.proofs.lemmas.Nat.Gcd.{dvd_refl}
 use Rattle.audit_types.specs.Form.{IsContent}
-use Rattle.int_rows.proofs.ContentLaws.{IsContent-push}
+use Rattle.int_rows.specs.ContentLaws.{IsContent-push}
 use Rattle.sum_basis.specs.declared.sparse.FreeEntry.{FreeEntry}
 use Rattle.sum_basis.specs.Sparse.{entry_at, IsListed, scaled, IsOverContent}
 use Rattle.sum_basis.proofs.Multiples.{one-times}
 use Rattle.sum_basis.proofs.Clearing.{positive_not_zero}
-use Rattle.int_rows.proofs.PrimitiveLaws.{content_one}
-use Rattle.sum_basis.proofs.Products.{times-add}
+use Rattle.int_rows.specs.PrimitiveLaws.{content_one}
+use Rattle.audit_types.specs.Products.{times-add}
 
 -- the values of a list
 abbrev pub values : List FreeEntry → List ℤ

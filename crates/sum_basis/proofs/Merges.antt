@@ -6,11 +6,11 @@ use Rattle.std.proofs.lemmas.Bool.{cases_eq, cases_lt}
 use Rattle.std.proofs.lemmas.List.{drop-drop, length-append, length-map, append-nil}
 use Rattle.std.proofs.Math.IntN.{*ℤ-zero}
 use Rattle.audit_types.specs.Truth.{is_zero}
-use Rattle.int_rows.proofs.PrimitiveLaws.{false_if, zero_or_not, product_not_zero}
+use Rattle.int_rows.specs.PrimitiveLaws.{false_if, zero_or_not, product_not_zero}
 use Rattle.sum_basis.specs.declared.sparse.FreeEntry.{FreeEntry}
 use Rattle.sum_basis.specs.Sparse.{entry_at, IsListed, scaled}
 use Rattle.sum_basis.specs.Merging.{first_place, first_value}
-use Rattle.sum_basis.proofs.Products.{times-add, neg-times}
+use Rattle.audit_types.specs.Products.{times-add, neg-times}
 use Rattle.sum_basis.proofs.SparseRows.{here, elsewhere, entry_at-append, listed_push, listed_to, listed_from, listed_length}
 use Rattle.sum_basis.proofs.ListContents.{entry_at-scaled}
 

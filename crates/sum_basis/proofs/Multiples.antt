@@ -8,7 +8,7 @@ use Rattle.audit_types.specs.Truth.{number_at}
 use Rattle.audit_types.specs.Form.{pivot, pivot_entry}
 use Rattle.sum_basis.specs.Combination.{combine}
 use Rattle.sum_basis.specs.Elimination.{IsLessMultiple}
-use Rattle.sum_basis.proofs.Products.{neg-times}
+use Rattle.audit_types.specs.Products.{neg-times}
 use Rattle.sum_basis.proofs.Reduction.{number_at-combine}
 
 -- once a number is the number

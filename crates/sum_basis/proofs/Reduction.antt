@@ -10,12 +10,12 @@ use Rattle.std.proofs.Math.IntN.{+ℤ_idl, +ℤ_idr, *ℤ_comm, *ℤ-zero, pos-*
 use Rattle.audit_types.specs.Truth.{number_at, is_zero}
 use Rattle.audit_types.specs.Form.{InSpan, IsContent, IsPrimitive, IsEchelon, pivot, pivot_entry}
 use Rattle.int_rows.specs.Primitive.{IsSignedContent}
-use Rattle.int_rows.proofs.Exact.{exact}
-use Rattle.int_rows.proofs.PrimitiveLaws.{made_primitive, zeros_from, number_at-times, size_above}
-use Rattle.sum_basis.proofs.Products.{times_assoc, neg-times}
+use Rattle.int_rows.specs.Exact.{exact}
+use Rattle.int_rows.specs.PrimitiveLaws.{made_primitive, zeros_from, size_above}
+use Rattle.audit_types.specs.PrimitiveLines.{number_at-times, scaled_content}
+use Rattle.audit_types.specs.Products.{times_assoc, neg-times}
 use Rattle.sum_basis.proofs.Spans.{spans_from, in_span_from, spans_same, spans_times, spans_add, spans_down, ZeroAtPivots}
 use Rattle.sum_basis.specs.Combination.{both, times, combine}
-use Rattle.sum_basis.proofs.PrimitiveLines.{scaled_content}
 use Rattle.sum_basis.proofs.FormsAreUnique.{all_zero_at}
 
 -- a sum of rows, at a place

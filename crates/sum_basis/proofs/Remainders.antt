@@ -9,10 +9,11 @@ use Rattle.std.proofs.Math.IntN.{zero-*ℤ, *ℤ-zero}
 use Rattle.audit_types.specs.Truth.{number_at, is_zero}
 use Rattle.audit_types.specs.Form.{combined, InSpan, IsContent, IsPrimitive, IsEchelon, pivot, pivot_entry}
 use Rattle.int_rows.specs.Primitive.{IsMadePrimitive}
-use Rattle.int_rows.proofs.PrimitiveLaws.{zero_if, number_at-times}
+use Rattle.int_rows.specs.PrimitiveLaws.{zero_if}
+use Rattle.audit_types.specs.PrimitiveLines.{number_at-times}
 use Rattle.sum_basis.specs.Combination.{times}
 use Rattle.sum_basis.specs.Elimination.{IsRemainder}
-use Rattle.sum_basis.proofs.Products.{neg-times}
+use Rattle.audit_types.specs.Products.{neg-times}
 use Rattle.sum_basis.proofs.Spans.{spans_from, in_span_from, spans_same, spans_times, spans_add, spans_down, spans_combined, span_zero}
 use Rattle.sum_basis.proofs.FormsAreUnique.{own}
 use Rattle.sum_basis.proofs.Multiples.{one-times}

@@ -15,9 +15,8 @@ use Rattle.audit_types.specs.Truth.{number_at}
 use Rattle.audit_types.specs.Form.{set_row, pivot, pivot_entry, pivot_entries}
 use Rattle.sum_basis.specs.Combination.{times}
 use Rattle.sum_basis.specs.Elimination.{IsSmall}
-use Rattle.sum_basis.proofs.PrimitiveLines.{same_rows}
+use Rattle.audit_types.specs.PrimitiveLines.{same_rows, number_at-times}
 use Rattle.sum_basis.proofs.Sizes.{all_by_place}
-use Rattle.int_rows.proofs.PrimitiveLaws.{number_at-times}
 
 -- the row of a set has 1 at its rows and 0 elsewhere
 pub number_at-set_row : (n : ℕ) (rows : List ℕ) (j : ℕ) → j < n → number_at (set_row n rows) j ≡ cond (has_row rows j) (pos 1) (pos 0)

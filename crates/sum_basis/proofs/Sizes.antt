@@ -7,7 +7,7 @@ use Rattle.std.proofs.Math.Nat.{mul-le-mul}
 use Rattle.audit_types.specs.Truth.{number_at}
 use Rattle.sum_basis.specs.Combination.{combine}
 use Rattle.sum_basis.specs.Elimination.{IsSmall}
-use Rattle.sum_basis.proofs.Products.{neg-times}
+use Rattle.audit_types.specs.Products.{neg-times}
 use Rattle.sum_basis.proofs.Reduction.{number_at-combine}
 
 -- each number of a row of small entries, and 0 past its end

@@ -7,7 +7,7 @@ use Rattle.std.proofs.Math.IntN.{+ℤ_idl, +ℤ_idr, *ℤ_comm, zero-*ℤ, *ℤ-
 use Rattle.audit_types.specs.Truth.{number_at}
 use Rattle.audit_types.specs.Form.{combined, InSpan, pivot, pivot_entry, IsEchelon, StandsBefore}
 use Rattle.sum_basis.specs.Combination.{both, times}
-use Rattle.sum_basis.proofs.Products.{add-times, times-add, times_assoc, zero_factor}
+use Rattle.audit_types.specs.Products.{add-times, times-add, times_assoc, zero_factor}
 
 -- products of numbers above 0 are above 0
 pub positive_product : (a b : ℕ) → 0 < a → 0 < b → 0 < a * b

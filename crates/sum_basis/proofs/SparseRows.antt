@@ -13,12 +13,12 @@ use Rattle.sum_basis.specs.declared.sparse.FreeEntry.{FreeEntry}
 use Rattle.sum_basis.specs.Combination.{combine}
 use Rattle.sum_basis.specs.Elimination.{IsSmall}
 use Rattle.sum_basis.specs.Sparse.{entry_at, row_of, IsListed}
-use Rattle.sum_basis.proofs.Products.{times-add, neg-times}
+use Rattle.audit_types.specs.Products.{times-add, neg-times}
 use Rattle.sum_basis.proofs.Multiples.{one-times}
 use Rattle.sum_basis.proofs.FormsAreUnique.{pivot_is}
 use Rattle.sum_basis.proofs.Sizes.{all_by_place, small_at}
 use Rattle.sum_basis.proofs.Reduction.{number_at-combine, length-combine}
-use Rattle.sum_basis.proofs.PrimitiveLines.{same_rows}
+use Rattle.audit_types.specs.PrimitiveLines.{same_rows}
 
 -- what an entry has at its own place
 pub here : (e : FreeEntry) (j : ℕ) → e.place ≡ j → cond (nat_eq e.place j) e.value (pos 0) ≡ e.value

@@ -13,7 +13,7 @@ use Rattle.table_load.specs.Reading.{Fields, is_in_file, has_numbers, file_colum
 use Rattle.table_load.specs.Tables.{HasCell, is_number, field_of, number_of_field, number_column, cells_of, place_after, cells_from, secrets_from}
 use Rattle.table_load.specs.declared.layout.FileColumns.{FileColumns}
 use Rattle.table_load.specs.declared.layout.FileColumns.TheVariants as file
-use Rattle.table_load.proofs.SchemaPlaces.{here, role_is}
+use Rattle.table_load.specs.SchemaPlaces.{here, role_is}
 use Rattle.table_load.proofs.GoodCells.{records_hold}
 
 -- a public column is in every file

@@ -8,7 +8,7 @@ use Rattle.schema_json.specs.Columns.{Column, AreColumns, role_at, name_at, secr
 use Rattle.schema_json.specs.declared.roles.Role.{Role}
 use Rattle.table_load.specs.Reading.{Fields, is_in_file, file_columns, roles_of, names_are}
 use Rattle.table_load.specs.declared.layout.FileColumns.{FileColumns}
-use Rattle.table_load.proofs.SchemaPlaces.{Here, here, role_is, name_is}
+use Rattle.table_load.specs.SchemaPlaces.{Here, here, role_is, name_is}
 use Rattle.table_load.proofs.FieldPlaces.{drop_here}
 
 -- a column that is in the file or not adds at most one

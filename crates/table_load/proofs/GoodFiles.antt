@@ -15,7 +15,7 @@ use Rattle.table_load.specs.declared.faults.TableFault.{TableFault}
 use Rattle.table_load.specs.declared.faults.TableFault.TheVariants.{TooLong, Header, TooManyRows}
 use Rattle.table_load.specs.declared.layout.FileColumns.TheVariants as file
 use Rattle.table_load.proofs.FirstFaults.{none_first}
-use Rattle.table_load.proofs.SchemaFits.{cells_fit}
+use Rattle.table_load.specs.SchemaFits.{cells_fit}
 use Rattle.table_load.proofs.ColumnSteps.{all_cells_are, all_secrets_are, all_roles_from, secrets_counted}
 
 -- 1 to 1,024 records

@@ -1,7 +1,6 @@
 pub mod NumeralLaw
 pub mod Digits
 pub mod FieldPlaces
-pub mod SchemaPlaces
 pub mod FileRoles
 pub mod SetSums
 pub mod RecordsOfBytes
@@ -9,6 +8,5 @@ pub mod FirstFaults
 pub mod HasReadMore
 pub mod GoodCells
 pub mod ColumnSteps
-pub mod SchemaFits
 pub mod GoodFiles
 pub mod AnswerSizes

@@ -8,3 +8,5 @@ pub mod Kept
 pub mod Steps
 pub mod Loaded
 pub mod Database
+pub mod SchemaPlaces
+pub mod SchemaFits

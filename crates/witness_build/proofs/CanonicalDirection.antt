@@ -10,7 +10,7 @@ use Rattle.audit_types.specs.Rows.{AreRows}
 use Rattle.audit_types.specs.Truth.{number_at, sum_over}
 use Rattle.audit_types.specs.Form.{pivot, pivot_entry, IsPrimitive, Reduced}
 use Rattle.audit_types.specs.Direction.{IsDirection, IsPinned, IsCanonicalDirection, is_pivot, free_column_of}
-use Rattle.sum_basis.proofs.Products.{times-add, neg-times}
+use Rattle.audit_types.specs.Products.{times-add, neg-times}
 use Rattle.sum_basis.specs.Laws.{FormsAreUnique}
 use Rattle.sum_audit.specs.Dot.{dot}
 use Rattle.sum_audit.specs.DotLaws.{dot_two}

@@ -11,7 +11,7 @@ use Rattle.std.proofs.lemmas.List.{same_lists, get_or_default, get_or-map, lengt
 use Rattle.audit_types.specs.Truth.{number_at, is_zero}
 use Rattle.audit_types.specs.Form.{IsContent, pivot_entry}
 use Rattle.int_rows.specs.Primitive.{IsMadePrimitive}
-use Rattle.sum_basis.proofs.Products.{neg-times}
+use Rattle.audit_types.specs.Products.{neg-times}
 use Rattle.witness_build.specs.Directions.{IsSmall, IsDivided}
 
 -- the numbers below i are turned, and those from i on are as they were

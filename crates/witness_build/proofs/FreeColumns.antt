@@ -11,7 +11,7 @@ use Rattle.audit_types.specs.Truth.{number_at, is_zero}
 use Rattle.audit_types.specs.Form.{pivot, pivot_entry, IsPrimitive, Reduced}
 use Rattle.audit_types.specs.Rows.{AreRows}
 use Rattle.audit_types.specs.Direction.{IsDirection, IsPinned, is_pivot, first_free, free_column_of}
-use Rattle.sum_basis.proofs.Products.{zero_factor}
+use Rattle.audit_types.specs.Products.{zero_factor}
 use Rattle.sum_audit.specs.Dot.{dot, IsOrthogonal}
 use Rattle.sum_audit.specs.DotLaws.{dot_one}
 use Rattle.sum_audit.specs.Laws.{DirectionsByForm}

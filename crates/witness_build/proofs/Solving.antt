@@ -13,7 +13,7 @@ use Rattle.std.proofs.lemmas.Nat.Gcd.{mod-eq-zero_of_dvd}
 use Rattle.audit_types.specs.Truth.{number_at}
 use Rattle.audit_types.specs.Form.{pivot, pivot_entry, pivot_entries}
 use Rattle.audit_types.specs.Direction.{is_pivot}
-use Rattle.sum_basis.proofs.Products.{neg-times, times_assoc}
+use Rattle.audit_types.specs.Products.{neg-times, times_assoc}
 use Rattle.witness_build.specs.Directions.{IsSmall, IsForm, Solves, IsSolvedWith}
 use Rattle.witness_build.proofs.FormRows.{is_pivot_at, other_pivots, is_pivot-more}
 

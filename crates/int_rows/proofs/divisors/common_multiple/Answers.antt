@@ -2,7 +2,7 @@ use Rattle.std.proofs.Common.{◌≡◌, ℕ, arith}
 use Rattle.std.specs.Int.{◌∣◌}
 use Rattle.std.proofs.lemmas.Nat.Gcd.{dvd_refl}
 use Rattle.std.proofs.Math.Nat.{one-dvd}
-use Rattle.int_rows.proofs.Multiples.{positive_divisor, least_multiple, least_of_one, least_with_one, divisor_small}
+use Rattle.int_rows.specs.Multiples.{positive_divisor, least_multiple, least_of_one, least_with_one, divisor_small}
 use Rattle.int_rows.proofs.divisors.common_multiple.Goals.{then-a-eq1-via-then-a-eq1, then-a-eq1-via-else-a-eq1+then-a-b}
 use Rattle.int_rows.proofs.divisors.common_multiple.Goals as goal
 

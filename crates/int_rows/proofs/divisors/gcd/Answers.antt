@@ -2,7 +2,7 @@ use Rattle.std.proofs.Common.{ℕ, arith, subst}
 use Rattle.std.specs.Int.{IsGcd}
 use Rattle.std.specs.Prelude.{unsigned_abs}
 use Rattle.std.proofs.lemmas.Int.{ints}
-use Rattle.int_rows.proofs.ContentLaws.{size_is}
+use Rattle.int_rows.specs.ContentLaws.{size_is}
 use Rattle.int_rows.proofs.divisors.gcd.Goals as goal
 
 pub returns : goal.returns

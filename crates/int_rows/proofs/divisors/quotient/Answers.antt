@@ -4,8 +4,8 @@ use Rattle.std.specs.Int.{w64, w128}
 use mir.Val.{to_z, of_z}
 use Rattle.std.proofs.lemmas.Int.{to_z-of_z}
 use Rattle.std.proofs.Math.IntN.{*ℤ-zero}
-use Rattle.int_rows.proofs.Exact.{divided}
-use Rattle.int_rows.proofs.PrimitiveLaws.{zero_from_bits, times_one, short_is}
+use Rattle.int_rows.specs.Exact.{divided}
+use Rattle.int_rows.specs.PrimitiveLaws.{zero_from_bits, times_one, short_is}
 use Rattle.int_rows.proofs.divisors.quotient.Goals.{then-of-eq1-via-then-of-eq1, then-of-eq1-via-else-of-eq1+then-multiple-eq0}
 use Rattle.int_rows.proofs.divisors.quotient.Goals as goal
 

@@ -1,4 +1,4 @@
-use Rattle.int_rows.proofs.Exact.{divided_short}
+use Rattle.int_rows.specs.Exact.{divided_short}
 use Rattle.int_rows.proofs.divisors.short_quotient.Goals as goal
 
 pub returns : goal.returns

@@ -2,7 +2,7 @@ use Rattle.std.proofs.Common.{ℕ, take, get_or, pos, subst, rules}
 use Rattle.std.specs.Prelude.{FitsSigned}
 use Rattle.std.specs.Int.{IsGcd, w128}
 use Rattle.std.proofs.lemmas.List.{take_more}
-use Rattle.int_rows.proofs.ContentLaws.{IsContent-push, IsContent-nil, IsContent-one, size_is}
+use Rattle.int_rows.specs.ContentLaws.{IsContent-push, IsContent-nil, IsContent-one, size_is}
 use Rattle.audit_types.specs.Form.{IsContent}
 use Rattle.int_rows.proofs.divisors.size_of_content.Goals as goal
 

@@ -4,8 +4,8 @@ use Rattle.std.specs.Int.{w128, ◌∣◌}
 use Rattle.std.proofs.lemmas.Int.{to_z-of_z}
 use Rattle.std.proofs.lemmas.List.Elements.{All-from_recursion}
 use mir.Val.{to_z, of_z}
-use Rattle.int_rows.proofs.PrimitiveLaws.{one_times}
-use Rattle.int_rows.proofs.Exact.{IsPartlyDivided, one_more, all_divided}
+use Rattle.int_rows.specs.PrimitiveLaws.{one_times}
+use Rattle.int_rows.specs.Exact.{IsPartlyDivided, one_more, all_divided}
 use Rattle.int_rows.proofs.primitive.divide.Goals as goal
 
 -- the number that the code tested

@@ -1,4 +1,4 @@
-use Rattle.int_rows.proofs.Exact.{IsPartlyDivided}
+use Rattle.int_rows.specs.Exact.{IsPartlyDivided}
 use Rattle.int_rows.proofs.primitive.divide.Given as goal
 
 abbrev pub invariant-loop-x : goal.invariant-loop-x

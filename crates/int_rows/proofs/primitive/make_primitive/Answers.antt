@@ -3,7 +3,7 @@ use Rattle.std.specs.Prelude.{unsigned_abs, FitsSigned, ◌*ℤ◌}
 use Rattle.std.specs.Int.{w128, ◌∣◌}
 use Rattle.std.specs.List.{AllByRecursion}
 use Rattle.std.proofs.lemmas.Int.{to_z-of_z}
-use Rattle.int_rows.proofs.PrimitiveLaws.{made_primitive, made_of_zeros, zero_from_bits}
+use Rattle.int_rows.specs.PrimitiveLaws.{made_primitive, made_of_zeros, zero_from_bits}
 use mir.Val.{of_z}
 use Rattle.int_rows.proofs.primitive.make_primitive.Goals as goal
 

@@ -6,7 +6,7 @@ use Rattle.std.proofs.Math.ListN.{drop_of_length-le}
 use Rattle.schema_json.specs.Columns.{Column}
 use Rattle.schema_json.specs.declared.roles.Role.TheVariants.{Text}
 use Rattle.table_load.specs.Reading.{has_numbers}
-use Rattle.table_load.proofs.SchemaPlaces.{here, role_is}
+use Rattle.table_load.specs.SchemaPlaces.{here, role_is}
 use Rattle.library_calls.proofs.publics.has_no_texts.Goals as goal
 
 pub loop-place-preserved : goal.loop-place-preserved

@@ -2,7 +2,7 @@
 use Rattle.std.proofs.Common.{◌<◌, ℕ, cond, sym, ap, ◌∙◌, arith, length}
 use Rattle.std.proofs.lemmas.Bool.{not-false, not-true}
 use Rattle.schema_json.specs.Columns.{is_public}
-use Rattle.table_load.proofs.SchemaFits.{count_from}
+use Rattle.table_load.specs.SchemaFits.{count_from}
 use Rattle.library_calls.proofs.publics.public_count.Goals.{then-not-is_secret, else-not-is_secret}
 use Rattle.library_calls.proofs.publics.public_count.Goals as goal
 

@@ -4,8 +4,8 @@ use Rattle.std.specs.Int.{w128, IsGcd}
 use mir.Val.{to_z, of_z}
 use Rattle.std.proofs.lemmas.Int.{to_z-of_z}
 use Rattle.audit_types.specs.Form.{IsContent}
-use Rattle.int_rows.proofs.Multiples.{positive_divisor}
-use Rattle.sum_basis.proofs.PrimitiveLines.{size_positive}
+use Rattle.int_rows.specs.Multiples.{positive_divisor}
+use Rattle.audit_types.specs.PrimitiveLines.{size_positive}
 use Rattle.sum_basis.proofs.ListContents.{content_of_one, one_more_value, stays_one}
 use Rattle.sum_basis.proofs.cleared_list.content.Goals as goal
 

@@ -2,7 +2,7 @@ use Rattle.std.proofs.Common.{ℤ, sym, ap, ◌∙◌}
 use Rattle.std.specs.Int.{w128}
 use mir.Val.{to_z}
 use Rattle.std.proofs.lemmas.Int.{to_z-of_z}
-use Rattle.int_rows.proofs.PrimitiveLaws.{one_times}
+use Rattle.int_rows.specs.PrimitiveLaws.{one_times}
 use Rattle.sum_basis.specs.Combination.{times}
 use Rattle.sum_basis.proofs.elimination.scale.Goals as goal
 

@@ -2,7 +2,7 @@ use Rattle.std.proofs.Common.{◌+◌, get_or, sym, ap, ◌∙◌, arith, rules}
 use Rattle.std.specs.Prelude.{FitsSigned}
 use Rattle.std.specs.Int.{w128}
 use mir.Val.{of_z}
-use Rattle.int_rows.proofs.PrimitiveLaws.{zero_from_bits}
+use Rattle.int_rows.specs.PrimitiveLaws.{zero_from_bits}
 use Rattle.sum_basis.specs.Sparse.{entry_at}
 use Rattle.sum_basis.proofs.SparseRows.{listed_from, listed_to}
 use Rattle.sum_basis.proofs.ListContents.{none}

@@ -5,7 +5,7 @@ use Rattle.std.specs.List.{AllByRecursion}
 use mir.Val.{of_z}
 use Rattle.std.proofs.lemmas.Int.{to_z-of_z}
 use Rattle.std.proofs.lemmas.Bool.{eqb-true, eq-eqb, true≢false}
-use Rattle.int_rows.proofs.PrimitiveLaws.{zero_from_bits}
+use Rattle.int_rows.specs.PrimitiveLaws.{zero_from_bits}
 use Rattle.sum_basis.specs.declared.sparse.FreeEntry.{FreeEntry}
 use Rattle.sum_basis.specs.Elimination.{IsLone}
 use Rattle.sum_basis.specs.Sparse.{entry_at, row_of, IsListed, entries_of}

@@ -7,7 +7,7 @@ use Rattle.audit_types.specs.Form.{IsLeastCommonMultiple}
 use Rattle.sum_basis.specs.declared.sparse.SparseRow.{SparseRow}
 use Rattle.sum_basis.proofs.LeastMultiples.{least-nil, least_positive, passes_list, one_more_head, heads_positive}
 use Rattle.sum_basis.proofs.KeptRows.{of_row}
-use Rattle.sum_basis.proofs.PrimitiveLines.{size_positive}
+use Rattle.audit_types.specs.PrimitiveLines.{size_positive}
 use Rattle.sum_basis.proofs.growth.common_multiple.Goals as goal
 
 above : (limit m : ℕ) → pos limit <ℤ pos m → limit < m

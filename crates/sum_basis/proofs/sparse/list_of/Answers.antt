@@ -3,7 +3,7 @@ use Rattle.std.specs.Prelude.{FitsSigned}
 use Rattle.std.specs.Int.{w128}
 use Rattle.std.proofs.lemmas.Int.{to_z-of_z}
 use Rattle.audit_types.specs.Truth.{number_at, is_zero}
-use Rattle.int_rows.proofs.PrimitiveLaws.{zero_or_not, false_if}
+use Rattle.int_rows.specs.PrimitiveLaws.{zero_or_not, false_if}
 use Rattle.sum_basis.specs.declared.sparse.FreeEntry.{FreeEntry}
 use Rattle.sum_basis.proofs.Listing.{IsPartlyListed, left_out, one_more_listed, all_listed, room_for}
 use Rattle.sum_basis.proofs.sparse.list_of.Goals as goal

@@ -4,7 +4,7 @@ use Rattle.std.specs.Int.{w128}
 use Rattle.std.specs.List.{AllByRecursion}
 use mir.Val.{to_z, of_z}
 use Rattle.std.proofs.lemmas.Int.{to_z-of_z}
-use Rattle.int_rows.proofs.PrimitiveLaws.{zero_from_bits}
+use Rattle.int_rows.specs.PrimitiveLaws.{zero_from_bits}
 use Rattle.audit_types.specs.Truth.{number_at}
 use Rattle.sum_basis.specs.declared.sparse.FreeEntry.{FreeEntry}
 use Rattle.sum_basis.specs.Sparse.{entries_of}

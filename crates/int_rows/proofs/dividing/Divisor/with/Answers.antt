@@ -1,7 +1,7 @@
 use Rattle.std.proofs.Common.{ℕ, sym, subst}
 use Rattle.std.specs.Int.{IsGcd}
 use Rattle.std.specs.Prelude.{unsigned_abs}
-use Rattle.int_rows.proofs.ContentLaws.{size_is}
+use Rattle.int_rows.specs.ContentLaws.{size_is}
 use Rattle.int_rows.proofs.dividing.Divisor.with.Goals as goal
 
 pub returns-in-None : goal.returns-in-None

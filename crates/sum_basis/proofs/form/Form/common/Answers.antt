@@ -4,7 +4,7 @@ use Rattle.std.specs.Int.{w128}
 use Rattle.std.proofs.lemmas.Int.{to_z-of_z}
 use Rattle.audit_types.specs.Form.{IsLeastCommonMultiple, pivot_entries}
 use Rattle.sum_basis.specs.Basis.{Echelon}
-use Rattle.sum_basis.proofs.PrimitiveLines.{size_positive}
+use Rattle.audit_types.specs.PrimitiveLines.{size_positive}
 use Rattle.sum_basis.proofs.LeastMultiples.{size_is}
 use Rattle.sum_basis.proofs.form.Form.common.Goals as goal
 

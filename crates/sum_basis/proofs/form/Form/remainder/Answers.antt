@@ -14,7 +14,7 @@ use Rattle.sum_basis.specs.Elimination.{IsSmall, IsSmallForm, IsRemainder}
 use Rattle.sum_basis.specs.Sparse.{row_of, rows_of, entries_of}
 use Rattle.sum_basis.proofs.Ranks.{rank_at_most}
 use Rattle.sum_basis.proofs.SetRows.{multiple_small, entries_divide}
-use Rattle.sum_basis.proofs.PrimitiveLines.{size_positive}
+use Rattle.audit_types.specs.PrimitiveLines.{size_positive}
 use Rattle.sum_basis.proofs.LeastMultiples.{size_is}
 use Rattle.sum_basis.proofs.WideForms.{is_narrow}
 use Rattle.sum_basis.proofs.form.Form.remainder.Goals as goal

@@ -7,7 +7,7 @@ use Rattle.std.proofs.lemmas.Grind.{common_steps}
 use Rattle.std.proofs.Math.ListN.{drop_of_length-le}
 use Rattle.table_load.specs.Cells.{Cells, PublicView, AreCells, HoldsRole, first_list, hidden, numbered}
 use Rattle.table_load.specs.Kept.{cells_kept}
-use Rattle.table_load.proofs.SchemaFits.{numbered_next, left_enough, one_left, numbered_are, numbered_fit}
+use Rattle.table_load.specs.SchemaFits.{numbered_next, left_enough, one_left, numbered_are, numbered_fit}
 use Rattle.table_load.proofs.publics.Public.of_numbers.Goals as goal
 
 pub next_column-requires : goal.next_column-requires

@@ -1,4 +1,4 @@
--- Multiples of two numbers: the product over the greatest common divisor is the least one.
+-- Facts on multiples of two numbers: the product over the greatest common divisor is the least one.
 use Rattle.std.proofs.Common.{◌≡◌, ℕ, zero, suc, ◌+◌, ◌*◌, ◌/◌, ◌%◌, ◌<◌, ◌≤◌, [], ◌∷◌, sym, ap, ◌∙◌, subst, arith, inl, inr}
 use Rattle.std.specs.Int.{◌∣◌, IsGcd}
 use Rattle.std.proofs.lemmas.Nat.{mod_below, div-add-mod'}
@@ -6,25 +6,7 @@ use Rattle.std.proofs.lemmas.Nat.Gcd.{IsGcd-from_zero, IsGcd-from_mod, same_from
 use Rattle.std.proofs.lemmas.Bool.{cases_eq}
 use Rattle.std.proofs.Math.Nat.{mul-add-mod_self_left, mul-lt-mul_of_pos_left, mod-eq_of_lt, mul-div_cancel', div-mul_cancel, dvd-mul_left, dvd-mul_right, mul-dvd-mul_right, dvd_of_mul-dvd-mul_right, eq-zero_of_zero-dvd}
 use Rattle.audit_types.specs.Form.{IsLeastCommonMultiple}
-
-mod_scaled : (k a b : ℕ) → 0 < k → 0 < b → (k * a) % (k * b) ≡ k * (a % b)
-mod_scaled k a b p q =
-    let small : k * (a % b) < k * b = mul-lt-mul_of_pos_left (mod_below a b q) p in
-    let whole : a ≡ b * (a / b) + a % b = omega (arith, div-add-mod' a b) in
-    let spread : k * a ≡ (k * b) * (a / b) + k * (a % b) = ap (λ m. k * m) whole ∙ omega arith in
-    ap (λ m. m % (k * b)) spread ∙ mul-add-mod_self_left (k * b) (a / b) (k * (a % b)) ∙ mod-eq_of_lt small
-
--- a greatest common divisor, and that of the multiples by k
-pub scaled_gcd : (k : ℕ) → 0 < k → (n a b : ℕ) → b < n → (g : ℕ) × IsGcd a b g × IsGcd (k * a) (k * b) (k * g)
-scaled_gcd k p zero a b h = absurd (omega arith)
-scaled_gcd k p (suc n) a b h =
-    elim (cases_eq b 0) [
-      | inl e ↦ (a, IsGcd-from_zero a b e, IsGcd-from_zero (k * a) (k * b) (rw e (omega arith)))
-      | inr more ↦
-          let smaller : a % b < b = mod_below a b (omega arith) in
-          let rest = scaled_gcd k p n b (a % b) (omega arith) in
-          (rest.0, IsGcd-from_mod a b rest.0 rest.1, IsGcd-from_mod (k * a) (k * b) (k * rest.0) (subst (λ m. IsGcd (k * b) m (k * rest.0)) (sym (mod_scaled k a b p (omega arith))) rest.2))
-    ]
+use Rattle.audit_types.specs.PrimitiveLines.{scaled_gcd}
 
 -- a number that is not 0 has no divisor 0
 pub positive_divisor : (a b g : ℕ) → 0 < a → IsGcd a b g → 0 < g

@@ -1,10 +1,10 @@
--- The public part of a table has a column for each of the schema's, which holds what its role says.
+-- Facts: the public part of a table has a column for each of the schema's, which holds what its role says.
 use Rattle.std.proofs.Common.{◌≡◌, ℕ, zero, suc, ◌+◌, ◌<◌, Bool, true, false, cond, List, [], ◌∷◌, length, drop, get_or, Some, refl, sym, ap, ◌∙◌, arith, subst, map, Vec, Global, length-drop}
 use Rattle.std.specs.Prelude.{ℤ, unwrap_or, not, ◌≢◌}
 use Rattle.std.specs.List.{AllByRecursion}
 use Rattle.std.proofs.lemmas.Bool.{not-false}
 use Rattle.std.proofs.lemmas.List.Sums.{sum_by-cons}
-use Rattle.table_load.proofs.SchemaPlaces.{here, role_is}
+use Rattle.table_load.specs.SchemaPlaces.{here, role_is}
 use Rattle.schema_json.specs.Columns.{Column, is_public, is_secret, role_at}
 use Rattle.schema_json.specs.declared.roles.Role.{Role}
 use Rattle.schema_json.specs.declared.roles.Role.TheVariants as role

@@ -1,4 +1,4 @@
--- Exact division of signed numbers.
+-- Facts on the exact division of signed numbers.
 use Rattle.std.proofs.Common.{◌≡◌, ◌≢◌, ℕ, zero, suc, ℤ, pos, negsuc, ◌≤◌, ◌<◌, ◌*◌, ◌^◌, List, map, get_or, set, length, ◌+◌, inl, inr, ap, sym, ◌∙◌, arith, refl}
 use Rattle.std.specs.Prelude.{unsigned_abs, FitsSigned, int_div, int_rem, ◌*ℤ◌}
 use Rattle.std.specs.Int.{◌∣◌, w64, w128}

@@ -1,4 +1,4 @@
--- Laws of counted lines: what a line feed cuts off, and what stands behind the last one.
+-- Facts on counted lines: what a line feed cuts off, and what stands behind the last one.
 use Rattle.std.proofs.Common.{◌≡◌, ℕ, zero, suc, ◌+◌, ◌<◌, ◌≤◌, List, [], ◌∷◌, ◌++◌, length, take, refl, sym, ◌∙◌, ap, arith, inl, inr, append_assoc, length-append}
 use Rattle.std.specs.List.{slice_split, flat_map}
 use Rattle.std.proofs.lemmas.List.{take_all, append-nil, length-take}

@@ -1,13 +1,12 @@
--- Laws of products of whole numbers that std lacks.
+-- Facts on products of whole numbers, for all crates above.
 use Rattle.std.proofs.Common.{◌≡◌, ◌≢◌, zero, suc, ◌*◌, ℤ, pos, negsuc, sym, ap, ◌∙◌, arith, inl, inr}
 use Rattle.std.specs.Prelude.{◌+ℤ◌, ◌*ℤ◌, neg_ℤ, ◌<ℤ◌, unsigned_abs}
 use Rattle.std.proofs.lemmas.Int.{ints, unsigned_abs-mul}
 use Rattle.std.proofs.Math.IntN.{+ℤ_idl, +ℤ_invr, suc_ℤ-+ℤ, pred_ℤ-+ℤ, suc_ℤ-*ℤ, pred_ℤ-*ℤ, *ℤ_comm, zero-*ℤ}
 use Rattle.std.proofs.Math.Nat.{le-mul_of_pos_right}
 use Rattle.std.proofs.lemmas.Bool.{cases_eq}
-use Rattle.int_rows.proofs.PrimitiveLaws.{zero_size}
 
--- products of a sum, by the first factor
+-- a sum times a number
 pub add-times : (x y r : ℤ) → (x +ℤ y) *ℤ r ≡ x *ℤ r +ℤ y *ℤ r
 add-times (pos zero) y r = let first = ap (λ z. z *ℤ r) (+ℤ_idl y) in let none = zero-*ℤ r in omega (arith, ints)
 add-times (pos (suc n)) y r =
@@ -27,18 +26,18 @@ add-times (negsuc (suc n)) y r =
     let one = pred_ℤ-*ℤ (negsuc n) r in
     omega (arith, ints)
 
--- and by the second
+-- a number times a sum
 pub times-add : (k x y : ℤ) → k *ℤ (x +ℤ y) ≡ k *ℤ x +ℤ k *ℤ y
 times-add k x y = let turned = add-times x y k in let one = *ℤ_comm k (x +ℤ y) in let two = *ℤ_comm k x in let three = *ℤ_comm k y in omega (arith, ints)
 
--- a negated factor negates the product
+-- a negative times a number
 pub neg-times : (c r : ℤ) → neg_ℤ c *ℤ r ≡ neg_ℤ (c *ℤ r)
 neg-times c r =
     let both = add-times c (neg_ℤ c) r in
     let none = ap (λ z. z *ℤ r) (+ℤ_invr c) ∙ zero-*ℤ r in
     omega (arith, ints)
 
--- products associate
+-- a product of three
 pub times_assoc : (k c r : ℤ) → (k *ℤ c) *ℤ r ≡ k *ℤ (c *ℤ r)
 times_assoc (pos zero) c r = ap (λ z. z *ℤ r) (zero-*ℤ c) ∙ zero-*ℤ r ∙ sym (zero-*ℤ (c *ℤ r))
 times_assoc (pos (suc n)) c r =
@@ -60,7 +59,12 @@ times_assoc (negsuc (suc n)) c r =
     let minus = neg-times c r in
     omega (arith, ints)
 
--- a positive number has a size that is not 0
+-- only 0 has the size 0
+pub zero_size : (c : ℤ) → unsigned_abs c ≡ 0 → c ≡ pos 0
+zero_size (pos n) h = ap pos h
+zero_size (negsuc n) h = absurd (omega arith)
+
+-- a positive number has some size
 above_zero : (p : ℤ) → pos 0 <ℤ p → unsigned_abs p ≢ 0
 above_zero (pos n) h e = let none : n ≡ 0 = e in omega (arith, ints)
 above_zero (negsuc n) h e = omega (arith, ints)
@@ -73,3 +77,13 @@ zero_factor c p e h =
       | inl z ↦ z
       | inr n ↦ let more = le-mul_of_pos_right {m = unsigned_abs c} (unsigned_abs p) (omega arith) in absurd (above_zero p h (omega arith))
     ])
+
+-- a product is 0 only where a factor is
+pub zero_product : (c p : ℤ) → c *ℤ p ≡ pos 0 → c ≢ pos 0 → p ≡ pos 0
+zero_product c p e h = zero_size p (elim (cases_eq (unsigned_abs p) 0) [
+  | inl z ↦ z
+  | inr n ↦
+      let sizes : unsigned_abs c * unsigned_abs p ≡ 0 = sym (unsigned_abs-mul c p) ∙ ap unsigned_abs e in
+      let more = le-mul_of_pos_right {m = unsigned_abs p} (unsigned_abs c) (omega arith) in
+      absurd (h (zero_size c (omega arith)))
+])

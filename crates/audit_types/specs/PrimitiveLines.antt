@@ -1,4 +1,4 @@
--- Two primitive rows on one line are one.
+-- Facts on multiples of rows and their contents: two primitive rows on one line are one.
 use Rattle.std.proofs.Common.{◌≡◌, ℕ, zero, suc, ◌+◌, ◌*◌, ◌<◌, ◌%◌, ◌/◌, ℤ, pos, negsuc, List, [], ◌∷◌, length, map, refl, sym, ap, ◌∙◌, subst, arith, inl, inr}
 use Rattle.std.specs.Prelude.{◌+ℤ◌, ◌*ℤ◌, neg_ℤ, ◌<ℤ◌, unsigned_abs}
 use Rattle.std.specs.Int.{◌∣◌, IsGcd}
@@ -12,7 +12,7 @@ use Rattle.std.proofs.lemmas.Bool.{cases_eq}
 use Rattle.std.proofs.Math.IntN.{*ℤ_comm, *ℤ-zero}
 use Rattle.audit_types.specs.Truth.{number_at}
 use Rattle.audit_types.specs.Form.{IsContent}
-use Rattle.audit_types.proofs.Products.{add-times, neg-times, zero_factor}
+use Rattle.audit_types.specs.Products.{add-times, neg-times, zero_factor}
 
 -- k times each number
 abbrev pub times : ℤ → List ℤ → List ℤ
@@ -74,9 +74,9 @@ content_times k row p one =
     subst (IsContent (times k row)) (ap (λ m. unsigned_abs k * m) same ∙ omega arith) any.2
 
 -- a positive number has a positive size
-size_above : (x : ℤ) → pos 0 <ℤ x → 0 < unsigned_abs x
-size_above (pos n) h = omega (arith, ints)
-size_above (negsuc n) h = absurd (omega (arith, ints))
+pub size_positive : (x : ℤ) → pos 0 <ℤ x → 0 < unsigned_abs x
+size_positive (pos n) h = omega (arith, ints)
+size_positive (negsuc n) h = absurd (omega (arith, ints))
 
 -- positive numbers of one size are one
 same_size : (x y : ℤ) → pos 0 <ℤ x → pos 0 <ℤ y → unsigned_abs x ≡ unsigned_abs y → x ≡ y
@@ -109,6 +109,6 @@ pub one_primitive : (x y : ℤ) (f g : List ℤ) → pos 0 <ℤ x → pos 0 <ℤ
 one_primitive x y f g p q l one two h =
     let lists : times x f ≡ times y g = same_rows (times x f) (times y g) (length-map f (λ z. x *ℤ z) ∙ l ∙ sym (length-map g (λ z. y *ℤ z)))
     (λ j. number_at-times x f j ∙ h j ∙ sym (number_at-times y g j)) in
-    let sizes = content_unique (times y g) (unsigned_abs x) (unsigned_abs y) (subst (λ r. IsContent r (unsigned_abs x)) lists (content_times x f (size_above x p) one)) (content_times y g (size_above y q) two) in
+    let sizes = content_unique (times y g) (unsigned_abs x) (unsigned_abs y) (subst (λ r. IsContent r (unsigned_abs x)) lists (content_times x f (size_positive x p) one)) (content_times y g (size_positive y q) two) in
     let same = same_size x y p q sizes in
     same_rows f g l (λ j. cancelled x (number_at f j) (number_at g j) p (h j ∙ ap (λ z. z *ℤ number_at g j) (sym same)))

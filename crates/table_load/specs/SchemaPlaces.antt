@@ -1,4 +1,4 @@
--- The columns of a schema from a place on.
+-- Facts on the columns of a schema from a place on.
 use Rattle.std.proofs.Common.{◌≡◌, ℕ, zero, suc, ◌+◌, ◌<◌, List, [], ◌∷◌, length, drop, Some, refl, ap, ◌∙◌, arith}
 use Rattle.std.specs.Prelude.{option_map, unwrap_or, slice_get}
 use Rattle.schema_json.specs.Columns.{Column, role_at, name_at}

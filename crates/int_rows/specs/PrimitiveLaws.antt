@@ -1,4 +1,4 @@
--- A row over its signed content is primitive.
+-- Facts on a row over its signed content: it is primitive.
 use Rattle.std.proofs.Common.{◌≡◌, ◌≢◌, ℕ, zero, suc, ◌+◌, ◌*◌, ◌<◌, ◌≤◌, ◌^◌, Bool, true, false, not, cond, ◌&&◌, ℤ, pos, negsuc, List, [], ◌∷◌, map, refl, sym, ap, ◌∙◌, subst, arith, inl, inr, ◌⊎◌}
 use Rattle.std.specs.Prelude.{unsigned_abs, ◌*ℤ◌, ◌+ℤ◌, ◌<ℤ◌, ◌≤ℤ◌}
 use Rattle.std.specs.Int.{◌∣◌}
@@ -14,11 +14,9 @@ use Rattle.std.proofs.Math.Nat.{one-dvd, mul-dvd-mul_left, eq-zero_of_zero-dvd, 
 use Rattle.std.proofs.Math.IntN.{*ℤ-zero, zero-*ℤ, +ℤ_idl, suc_ℤ-*ℤ, pos-*ℤ-negsuc, negsuc-*ℤ-negsuc}
 use Rattle.audit_types.specs.Truth.{number_at, is_zero}
 use Rattle.audit_types.specs.Form.{IsContent, pivot, pivot_entry}
+use Rattle.audit_types.specs.Products.{zero_size}
+use Rattle.audit_types.specs.PrimitiveLines.{number_at-times}
 use Rattle.int_rows.specs.Primitive.{IsMadePrimitive, IsSignedContent}
-
-pub zero_size : (c : ℤ) → unsigned_abs c ≡ 0 → c ≡ pos 0
-zero_size (pos n) h = ap pos h
-zero_size (negsuc n) h = absurd (omega arith)
 
 pub zero_or_not : (z : ℤ) → (z ≡ pos 0) ⊎ (z ≢ pos 0)
 zero_or_not (pos zero) = inl refl
@@ -69,11 +67,6 @@ pivot_times : (c : ℤ) (xs : List ℤ) → c ≢ pos 0 → pivot (map (λ x. c 
 pivot_times c [] n = refl
 pivot_times c (x ∷ xs) n =
     ap (λ b. cond (not (not b)) (1 + pivot (map (λ y. c *ℤ y) xs)) 0) (is_zero-times c x n) ∙ ap (λ m. cond (not (not (is_zero x))) (1 + m) 0) (pivot_times c xs n)
-
-pub number_at-times : (c : ℤ) (xs : List ℤ) (j : ℕ) → number_at (map (λ x. c *ℤ x) xs) j ≡ c *ℤ number_at xs j
-number_at-times c [] j = sym (*ℤ-zero c)
-number_at-times c (x ∷ xs) zero = refl
-number_at-times c (x ∷ xs) (suc j) = number_at-times c xs j
 
 all_zeros : (xs : List ℤ) → list_all is_zero xs ≡ true → AllByRecursion (λ x. 0 ∣ unsigned_abs x) xs
 all_zeros [] h = tt
