@@ -1,6 +1,7 @@
 #!/bin/sh
 # Makes a journal beside copies of the demo's files in a fresh folder, asks the demo's questions, compares the replies with
-# those due, and has the report checked where there is a python3. The exit status tells. The program is built first where
+# those due, and has the report checked where there is a python3. Then, in a folder with the public columns alone, computes the decisions
+# of the transcript again: it agrees, and with one reply changed it doesn't. The exit status tells. The program is built first where
 # none is given.
 #
 #   demo/run.sh [PROGRAM]
@@ -27,5 +28,17 @@ cat replies.jsonl
 cmp replies.jsonl "$demo/replies.jsonl" || exit 1
 "$program" audit >report.jsonl || { echo "demo: auditor audit ended with status $?" >&2; exit 1; }
 if command -v python3 >/dev/null; then
-    python3 "$demo/check_report.py" <report.jsonl >&2
+    python3 "$demo/check_report.py" <report.jsonl >&2 || exit 1
 fi
+
+# Blank lines have no reply.
+grep . questions.jsonl | paste -d '\n' - replies.jsonl >transcript.jsonl
+mkdir outside && cp schema.json outside && cp "$demo/public.csv" outside/table.csv && cd outside || exit 1
+"$program" simulate <../transcript.jsonl >verdicts.jsonl || { echo "demo: auditor simulate ended with status $?" >&2; exit 1; }
+echo "the transcript agrees: $(wc -l <verdicts.jsonl) decisions" >&2
+
+# Line 12 is the denial of the sum over two of three people, of whom the third is known then.
+sed '12s/.*/{"sum":112500}/' ../transcript.jsonl >changed.jsonl
+"$program" simulate <changed.jsonl 2>complaint >verdicts.jsonl
+[ $? = 14 ] && [ "$(cat complaint)" = "line 12 disagrees, due unsafe" ] || { echo "demo: a changed reply wasn't told" >&2; exit 1; }
+echo "with that denial made an answer: $(cat complaint)" >&2

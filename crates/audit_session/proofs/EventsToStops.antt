@@ -9,7 +9,7 @@ use Rattle.std.proofs.lemmas.List.{append-nil, map-append, length-map, take_all,
 use Rattle.question_plan.specs.Session.{Replied, records_of, bytes_of, AreReplies, groups}
 use Rattle.audit_session.specs.Stops.{IsFront, Stop}
 use Rattle.audit_session.specs.Events.{asking, committing, leaving, SessionState, Event, ask, commit, leave, begin, has_none, after_ask, after_commit, after_leave, IsStep, AreSteps, Crashes, EndsByCrash}
-use Rattle.audit_session.proofs.RepliesInOrder.{records_of-append, bytes_of-append, length-replies, replies-append}
+use Rattle.question_plan.specs.InTurn.{records_of-append, bytes_of-append, length-replies, replies-append}
 use Rattle.audit_session.proofs.StopsOfGroups.{stop_between, stop_sending}
 
 abbrev bytes_in : {R : Type 0} → Replied R → List ℕ

@@ -10,7 +10,7 @@ use Rattle.question_plan.specs.Session.{Replied, records_of, bytes_of, AreReplie
 use Rattle.question_plan.specs.Replies.{IsDue, IsReplyOf}
 use Rattle.audit_session.specs.Stops.{StopsOver, stands_over}
 use Rattle.audit_session.specs.Groups.{ArePlans, InGroup, StopsAmong}
-use Rattle.audit_session.proofs.RepliesInOrder.{records_of-append, length-replies, replies-append}
+use Rattle.question_plan.specs.InTurn.{records_of-append, length-replies, replies-append}
 use Rattle.audit_session.proofs.StopsOfGroups.{stop_between, stop_sending}
 use Rattle.audit_session.proofs.EventsToStops.{next_groups}
 use Rattle.audit_session.proofs.Planned.{length-plans, replies_due}

@@ -9,7 +9,7 @@ use Rattle.line_wire.specs.Lines.{CountedLine}
 use Rattle.question_plan.specs.Session.{Replied, records_of, bytes_of, AreReplies, groups}
 use Rattle.audit_session.specs.Stops.{IsFront, Stop, stands_over}
 use Rattle.question_plan.specs.Replies.{IsDue}
-use Rattle.audit_session.proofs.RepliesInOrder.{records_of-append}
+use Rattle.question_plan.specs.InTurn.{records_of-append}
 
 -- the replies to the first lines are the first replies
 first_replies : {R L : Type 0} (rule : List R → L → Replied R → Type 0) (history : List R) (n m : ℕ) (lines : List L) (replies : List (Replied R)) → n ≤ m → AreReplies rule history (take m lines) replies → AreReplies rule history (take n lines) (take n replies)

@@ -1,4 +1,3 @@
-pub mod RepliesInOrder
 pub mod StopsOfGroups
 pub mod FirstStop
 pub mod Planned
@@ -12,7 +11,6 @@ pub mod EndsByFault
 pub mod DecidedGroup
 pub mod Served
 pub mod NextLines
-pub mod OneReplyEach
 pub mod KeptBeforeSent
 pub mod TwoWorlds
 pub mod EventsToStops

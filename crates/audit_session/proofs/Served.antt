@@ -14,16 +14,17 @@ use Rattle.table_load.specs.Database.{Database, base_of, secret_table}
 use Rattle.audit_store.specs.Stores.{StoreContents, IsAsLeft, IsStore}
 use Rattle.line_wire.specs.Lines.{CountedLine, counted_lines, whole_lines, most_input}
 use Rattle.line_wire.specs.Cutter.{Cutter}
+use Rattle.line_wire.specs.ReadLines.{IsRead, ReadsLines}
+use Rattle.line_wire.specs.LinesInTurn.{reads_none, reads_more}
 use Rattle.question_plan.specs.declared.planning.Plan.{Plan}
 use Rattle.question_plan.specs.Session.{Replied, records_of, bytes_of, AreReplies, commits, groups}
 use Rattle.question_plan.specs.Replies.{IsDue, IsReplyOf}
 use Rattle.audit_session.specs.Stops.{StopsOver}
 use Rattle.audit_session.specs.Ends.{Serves, ServesWhole, ServesSome, ServesLimited, TakesCalls, limited}
-use Rattle.audit_session.specs.Groups.{IsRead, ReadsLines, CutsShort, Gathers, InGroup, AnswersGroup, StandsOn, StopsAmong, stands_of}
-use Rattle.audit_session.proofs.RepliesInOrder.{bytes_of-append, length-replies}
+use Rattle.audit_session.specs.Groups.{CutsShort, Gathers, InGroup, AnswersGroup, StandsOn, StopsAmong, stands_of}
+use Rattle.question_plan.specs.InTurn.{bytes_of-append, length-replies}
 use Rattle.audit_session.proofs.FirstStop.{stops_first}
 use Rattle.audit_session.proofs.Planned.{length-plans}
-use Rattle.audit_session.proofs.GatheredLines.{reads_none, reads_more}
 use Rattle.audit_session.proofs.GroupStops.{stops_among, all_due, history_more, first_groups}
 use Rattle.audit_session.proofs.Commits.{commits_more}
 use Rattle.audit_session.proofs.EndsByFault.{limited_is}

@@ -3,7 +3,7 @@ use Rattle.std.proofs.Common.{◌≡◌, ℕ, ◌+◌, ◌-◌, ◌*◌, List, [
 use Rattle.std.proofs.lemmas.List.{append-nil}
 use Rattle.question_plan.specs.Session.{Replied, records_of, bytes_of, AreReplies, groups}
 use Rattle.audit_session.specs.Stops.{IsFront, Stop}
-use Rattle.audit_session.proofs.RepliesInOrder.{bytes_of-append}
+use Rattle.question_plan.specs.InTurn.{bytes_of-append}
 
 -- all of it is a front
 all_front : (whole : List ℕ) → IsFront whole whole

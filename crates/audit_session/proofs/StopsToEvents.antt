@@ -9,7 +9,7 @@ use Rattle.std.proofs.lemmas.List.{append-nil, take-append-drop, take-append-le,
 use Rattle.question_plan.specs.Session.{Replied, records_of, bytes_of, AreReplies}
 use Rattle.audit_session.specs.Stops.{IsFront}
 use Rattle.audit_session.specs.Events.{asking, committing, leaving, SessionState, Event, ask, commit, leave, begin, has_none, after_ask, after_commit, after_leave, IsStep, AreSteps, Crashes, EndsByCrash}
-use Rattle.audit_session.proofs.RepliesInOrder.{records_of-append, bytes_of-append, length-replies}
+use Rattle.question_plan.specs.InTurn.{records_of-append, bytes_of-append, length-replies}
 
 abbrev bytes_in : {R : Type 0} → Replied R → List ℕ
 bytes_in reply = reply.bytes

@@ -16,6 +16,7 @@ use Rattle.bench_core.specs.Bench.{AppendsFront}
 use Rattle.bench_core.specs.Calls.{IsQuiet}
 use Rattle.audit_store.specs.Stores.{StoreContents, IsAsLeft, calls_for}
 use Rattle.line_wire.specs.Lines.{CountedLine, counted_lines, whole_lines}
+use Rattle.line_wire.specs.ReadLines.{ReadsLines}
 use Rattle.line_wire.specs.Reply.{reply_bytes, IsInRange}
 use Rattle.line_wire.specs.declared.reply.Reply.{Reply}
 use Rattle.question_plan.specs.declared.planning.Plan.{Plan}
@@ -26,17 +27,6 @@ use Rattle.question_plan.specs.Plans.{CanBeServed, CanBeTold}
 use Rattle.audit_session.specs.Stops.{StopsOver}
 
 -- ---- reading
-
--- whatever stands after these bytes, their whole lines are these
-abbrev pub IsRead : List ℕ → List CountedLine → Type 0
-IsRead read lines = (more : List ℕ) → whole_lines (read ++ more) ≡ lines ++ whole_lines more
-
--- the first counted lines of the rest, and what is left of it
-pub record ReadsLines (rest left : List ℕ) (ended : Bool) (lines : List CountedLine) : Type 0 where
-  pub read : List ℕ
-  pub split : rest ≡ read ++ left
-  pub counted : counted_lines rest ≡ lines ++ counted_lines left
-  pub whole : IsRead read lines ⊎ ((ended ≡ true) × (left ≡ []))
 
 -- fewer whole lines than a group has stand among the bytes before what is left
 pub record CutsShort (batch : ℕ) (rest left : List ℕ) : Type 0 where

@@ -21,7 +21,7 @@ use Rattle.auditor_top.specs.Commands.{AreFilesOf}
 use Rattle.auditor_top.specs.Ends.{StandsForWhat}
 
 -- a good answer holds one value
-same_ok : {X E : Type 0} (r : Result X E) (x y : X) → r ≡ Ok x → r ≡ Ok y → x ≡ y
+pub same_ok : {X E : Type 0} (r : Result X E) (x y : X) → r ≡ Ok x → r ≡ Ok y → x ≡ y
 same_ok r x y is other = ap (λ s. unwrap_or (result_ok s) x) (sym is ∙ other)
 
 -- the files mean one table

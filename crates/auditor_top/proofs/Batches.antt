@@ -4,14 +4,15 @@ use Rattle.std.proofs.lemmas.Bool.{and_parts, leb-true}
 use Rattle.clap.specs.Words.{Kinds, fault_of, matches_of, first_of}
 use Rattle.audit_session.specs.Stops.{IsBatch}
 use Rattle.auditor_top.specs.declared.words.Command.{Command}
-use Rattle.auditor_top.specs.declared.words.Command.TheVariants.{Init, Serve, Audit}
+use Rattle.auditor_top.specs.declared.words.Command.TheVariants.{Init, Serve, Audit, Simulate}
 use Rattle.auditor_top.specs.Words.{auditor, number_of, serve_with, command_with, command_in, unless_refused, command_of}
 
-named_batch : (init serve audit : Bool) (batch : ℕ) → cond init (Some Init) (cond serve (Some (Serve 1)) (cond audit (Some Audit) None)) ≡ Some (Serve batch) → IsBatch batch
-named_batch true serve audit batch is = cc
-named_batch false true audit batch is = let one : 1 ≡ batch = cc in (omega arith, omega arith)
-named_batch false false true batch is = cc
-named_batch false false false batch is = cc
+named_batch : (init serve audit simulate : Bool) (batch : ℕ) → cond init (Some Init) (cond serve (Some (Serve 1)) (cond audit (Some Audit) (cond simulate (Some Simulate) None))) ≡ Some (Serve batch) → IsBatch batch
+named_batch true serve audit simulate batch is = cc
+named_batch false true audit simulate batch is = let one : 1 ≡ batch = cc in (omega arith, omega arith)
+named_batch false false true simulate batch is = cc
+named_batch false false false true batch is = cc
+named_batch false false false false batch is = cc
 
 chosen_batch : (n batch : ℕ) (within : Bool) → (nat_le 1 n && nat_le n 64) ≡ within → cond within (Some (Serve n)) None ≡ Some (Serve batch) → IsBatch batch
 chosen_batch n batch true within is =
@@ -26,7 +27,7 @@ served_batch true (Some n) batch is = chosen_batch n batch (nat_le 1 n && nat_le
 served_batch false number batch is = cc
 
 batch_with : (word : List ℕ) (number given : Option (List ℕ)) (batch : ℕ) → command_with word number given ≡ Some (Serve batch) → IsBatch batch
-batch_with word None None batch is = named_batch (bytes_eq word (codes "init")) (bytes_eq word (codes "serve")) (bytes_eq word (codes "audit")) batch is
+batch_with word None None batch is = named_batch (bytes_eq word (codes "init")) (bytes_eq word (codes "serve")) (bytes_eq word (codes "audit")) (bytes_eq word (codes "simulate")) batch is
 batch_with word None (Some given) batch is = served_batch (bytes_eq word (codes "serve")) (number_of given) batch is
 batch_with word (Some number) given batch is = cc
 

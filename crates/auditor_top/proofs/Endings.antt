@@ -27,17 +27,17 @@ use Rattle.auditor_top.specs.Causes.{FaultCounts, counts, FaultCause, SchemaCaus
 use Rattle.auditor_top.proofs.Bases.{nothing_served}
 
 -- an answer isn't good and bad
-not_both : {X E : Type 0} (x : X) (e : E) → Ok x ≡ Err e → ⊥
+pub not_both : {X E : Type 0} (x : X) (e : E) → Ok x ≡ Err e → ⊥
 not_both x e is = search rules
 
 -- counts of which one, or two, are as they were
-same_bench : (before : FaultCounts) (bench : ℕ) → bench ≡ before.bench → record before { bench = bench } ≡ before
+pub same_bench : (before : FaultCounts) (bench : ℕ) → bench ≡ before.bench → record before { bench = bench } ≡ before
 same_bench before bench is = ap (λ (n : ℕ). record before { bench = n }) is
 
-same_input : (before : FaultCounts) (input : ℕ) → input ≡ before.input → record before { input = input } ≡ before
+pub same_input : (before : FaultCounts) (input : ℕ) → input ≡ before.input → record before { input = input } ≡ before
 same_input before input is = ap (λ (n : ℕ). record before { input = n }) is
 
-same_both : (before : FaultCounts) (input bench : ℕ) → input ≡ before.input → bench ≡ before.bench → record before { input = input; bench = bench } ≡ before
+pub same_both : (before : FaultCounts) (input bench : ℕ) → input ≡ before.input → bench ≡ before.bench → record before { input = input; bench = bench } ≡ before
 same_both before input bench is also = same_bench (record before { input = input }) bench also ∙ same_input before input is
 
 -- what is said after counts that are the same

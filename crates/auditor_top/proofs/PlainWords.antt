@@ -5,7 +5,7 @@ use Rattle.std.specs.Char.{is_ascii_digit}
 use Rattle.std.proofs.lemmas.Bool.{cases_lt, and_parts, and_from, cond-true, le-leb, leb-true}
 use Rattle.clap.proofs.OnLiterals.{clap_on_literals}
 use Rattle.audit_session.specs.Stops.{IsBatch}
-use Rattle.auditor_top.specs.declared.words.Command.TheVariants.{Init, Serve, Audit}
+use Rattle.auditor_top.specs.declared.words.Command.TheVariants.{Init, Serve, Audit, Simulate}
 use Rattle.auditor_top.specs.Words.{command_of, number_of, serve_with}
 
 -- ---- one word
@@ -21,6 +21,10 @@ serve_is = refl
 pub audit_is : command_of (codes "audit" ∷ []) ≡ Some Audit
 unfolding command_of clap_on_literals
 audit_is = refl
+
+pub simulate_is : command_of (codes "simulate" ∷ []) ≡ Some Simulate
+unfolding command_of clap_on_literals
+simulate_is = refl
 
 -- ---- `serve` with a batch
 

@@ -36,6 +36,14 @@ init_with_a_batch : command_of (codes "init" ∷ codes "--batch" ∷ codes "2" �
 unfolding command_of clap_on_literals
 init_with_a_batch = refl
 
+simulate_with_a_number : command_of (codes "simulate" ∷ codes "3" ∷ []) ≡ None
+unfolding command_of clap_on_literals
+simulate_with_a_number = refl
+
+simulate_with_a_batch : command_of (codes "simulate" ∷ codes "--batch" ∷ codes "2" ∷ []) ≡ None
+unfolding command_of clap_on_literals
+simulate_with_a_batch = refl
+
 help_is_none : command_of (codes "--help" ∷ []) ≡ None
 unfolding command_of clap_on_literals
 help_is_none = refl

@@ -3,10 +3,9 @@ use Rattle.std.proofs.Common.{◌≡◌, ℕ, ◌<◌, List, [], ◌++◌, lengt
 use Rattle.std.proofs.lemmas.List.{append-nil}
 use Rattle.std.proofs.lemmas.Bool.{cond-true, lt-ltb}
 use Rattle.schema_json.specs.Columns.{Column}
-use Rattle.table_load.specs.Cells.{TableView}
 use Rattle.table_load.specs.Faults.{UnlessMemory, unless_fault}
 use Rattle.table_load.specs.Reading.{file_fault}
-use Rattle.table_load.specs.Tables.{table_of}
+use Rattle.table_load.specs.Tables.{table_of, public_of}
 use Rattle.table_load.specs.declared.faults.TableFault.{TableFault}
 use Rattle.table_load.specs.declared.faults.TableFault.TheVariants as table_fault
 use Rattle.auditor_top.specs.Reading.{ReadsAll}
@@ -36,8 +35,15 @@ long_table columns bytes long = told _ _ _ (long_file _ bytes long)
 pub same_table : (columns : List Column) (before after bytes : List ℕ) → ReadsAll 16777216 before after bytes → table_of columns bytes ≡ table_of columns before
 same_table columns before after bytes read = same_meaning (table_of columns) 16777216 (Err table_fault.TooLong) (long_table columns) before after bytes read
 
+-- the same of a file that has the public columns alone
+long_public : (columns : List Column) (bytes : List ℕ) → 16777216 < length bytes → public_of columns bytes ≡ Err table_fault.TooLong
+long_public columns bytes long = told _ _ _ (long_file _ bytes long)
+
+pub same_public : (columns : List Column) (before after bytes : List ℕ) → ReadsAll 16777216 before after bytes → public_of columns bytes ≡ public_of columns before
+same_public columns before after bytes read = same_meaning (public_of columns) 16777216 (Err table_fault.TooLong) (long_public columns) before after bytes read
+
 -- a fault that isn't want of memory is the table's own
-pub own_table_fault : (fault : TableFault) (meant : Result TableView TableFault) → (fault ≡ table_fault.NoMemory → ⊥) → UnlessMemory fault (meant ≡ Err fault) → meant ≡ Err fault
+pub own_table_fault : {X : Type 0} (fault : TableFault) (meant : Result X TableFault) → (fault ≡ table_fault.NoMemory → ⊥) → UnlessMemory fault (meant ≡ Err fault) → meant ≡ Err fault
 own_table_fault table_fault.TooLong meant other is = is
 own_table_fault table_fault.Header meant other is = is
 own_table_fault (table_fault.Length line) meant other is = is

@@ -14,13 +14,14 @@ use Rattle.answer_journal.specs.Moments.{IsAlready}
 use Rattle.audit_store.specs.Starting.{StartCause}
 use Rattle.audit_store.specs.declared.starting.StartFault.TheVariants as start
 use Rattle.line_wire.specs.Lines.{most_input}
+use Rattle.transcript_sim.specs.Ends.{IsWithinLimit}
 use Rattle.auditor_top.specs.declared.words.Command.{Command}
-use Rattle.auditor_top.specs.declared.words.Command.TheVariants.{Init, Serve, Audit}
+use Rattle.auditor_top.specs.declared.words.Command.TheVariants.{Init, Serve, Audit, Simulate}
 use Rattle.auditor_top.specs.Commands.{reads_files, opens_journal, reads_lines}
 use Rattle.auditor_top.specs.Stages.{Stage, reading_words, reading_schema, reading_table, opening_journal, reading_lines, ending, Reach, to, from, reached, Passed, Before}
 use Rattle.auditor_top.specs.declared.status.Which.TheVariants.{Schema, Table, Input}
 use Rattle.auditor_top.specs.declared.status.Status.{Status}
-use Rattle.auditor_top.specs.declared.status.Status.TheVariants.{Done, BadWords, BadSchema, BadTable, SourceFault, BenchFault, NotMade, AlreadyThere, Damaged, OtherShape, Untrue, Illegal, InputLimit, NoMemory}
+use Rattle.auditor_top.specs.declared.status.Status.TheVariants.{Done, BadWords, BadSchema, BadTable, SourceFault, BenchFault, NotMade, AlreadyThere, Damaged, OtherShape, Untrue, Illegal, InputLimit, Disagrees, NoMemory}
 
 -- ---- the words
 
@@ -43,6 +44,7 @@ IsOfCommand (from stage) (Some command) = Unit {0}
 abbrev pub WordCause : Status → Option Command → Type 0
 WordCause BadWords asked = asked ≡ None
 WordCause AlreadyThere asked = asked ≡ Some Init
+WordCause (Disagrees line due) asked = asked ≡ Some Simulate
 WordCause status asked = Passed reading_words status (IsOfCommand (reached status) asked)
 
 -- ---- the files
@@ -63,11 +65,13 @@ TableCause status meant = Passed reading_table status (IsOk meant)
 abbrev pub HoldsLegal : List ℕ → SecretView → Type 0
 HoldsLegal file secret = (history : List Answered) × StandsFor file secret.shape history × IsLegal (secret_table secret) history
 
--- the file is one that the command takes: none that is there already, or a journal with a legal history
+-- the file is one that the command takes: none that is there already, or a journal with a legal history. A command that opens
+-- no journal takes any
 abbrev pub IsReadyFor : Command → List ℕ → SecretView → Type 0
 IsReadyFor Init file secret = ¬ (IsAlready file)
 IsReadyFor (Serve batch) file secret = HoldsLegal file secret
 IsReadyFor Audit file secret = HoldsLegal file secret
+IsReadyFor Simulate file secret = Unit {0}
 
 -- what a status says of the journal's file
 abbrev pub FileCause : Status → Command → List ℕ → SecretView → Type 0
@@ -86,6 +90,7 @@ abbrev pub InputCause : Status → List ℕ → List ℕ → Type 0
 InputCause Done before after = (after ≡ []) × (length before ≤ most_input)
 InputCause (SourceFault Input) before after = length before ≤ most_input + length after
 InputCause InputLimit before after = most_input + length after < length before
+InputCause (Disagrees line due) before after = IsWithinLimit before line
 InputCause status before after = Before reading_lines status (after ≡ before)
 
 -- ---- the counts of faults

@@ -2,7 +2,7 @@
 use Rattle.std.specs.Prelude.{◌≡◌, List, Result, Ok, Err}
 use Rattle.schema_json.specs.Columns.{Column, SchemaView}
 use Rattle.schema_json.specs.declared.faults.SchemaFault.{SchemaFault}
-use Rattle.table_load.specs.Cells.{TableView}
+use Rattle.table_load.specs.Cells.{PublicView, TableView}
 use Rattle.table_load.specs.Loaded.{table_view}
 use Rattle.table_load.specs.declared.faults.TableFault.{TableFault}
 use Rattle.table_load.specs.declared.loading.Table.{Table}
@@ -24,3 +24,8 @@ GivesSchema (Err fault) meant = IsFaultOf fault meant
 abbrev pub GivesTable : Result Table (FileFault TableFault) → Result TableView TableFault → Type 0
 GivesTable (Ok table) meant = meant ≡ Ok (table_view table)
 GivesTable (Err fault) meant = IsFaultOf fault meant
+
+-- the public part is the one that is meant
+abbrev pub GivesPublic : Result PublicView (FileFault TableFault) → Result PublicView TableFault → Type 0
+GivesPublic (Ok public) meant = meant ≡ Ok public
+GivesPublic (Err fault) meant = IsFaultOf fault meant

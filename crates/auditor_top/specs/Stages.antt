@@ -3,7 +3,7 @@ use Rattle.std.specs.Prelude.{ℕ, Bool, false, nat_lt}
 use Rattle.std.specs.Bool.{OnTrue}
 use Rattle.auditor_top.specs.declared.status.Which.TheVariants.{Schema, Table, Input}
 use Rattle.auditor_top.specs.declared.status.Status.{Status}
-use Rattle.auditor_top.specs.declared.status.Status.TheVariants.{Done, BadWords, BadSchema, BadTable, SourceFault, BenchFault, NotMade, AlreadyThere, Damaged, OtherShape, Untrue, Illegal, InputLimit, NoMemory}
+use Rattle.auditor_top.specs.declared.status.Status.TheVariants.{Done, BadWords, BadSchema, BadTable, SourceFault, BenchFault, NotMade, AlreadyThere, Damaged, OtherShape, Untrue, Illegal, InputLimit, Disagrees, NoMemory}
 
 -- the stages of a run, in their order. A command passes over those that aren't its own
 pub data Stage : Type 0 where
@@ -49,6 +49,7 @@ reached (OtherShape kept now) = to opening_journal
 reached (Untrue place kept now) = to opening_journal
 reached (Illegal place) = to opening_journal
 reached InputLimit = to reading_lines
+reached (Disagrees line due) = to reading_lines
 reached NoMemory = from reading_words
 
 -- a run that came so far has passed a stage

@@ -13,12 +13,15 @@ use Rattle.table_load.specs.declared.faults.TableFault.{TableFault}
 use Rattle.table_load.specs.declared.faults.TableFault.TheVariants as fault
 use Rattle.journal_audit.specs.declared.faults.AuditFault.{AuditFault}
 use Rattle.journal_audit.specs.declared.faults.AuditFault.TheVariants as report
+use Rattle.transcript_sim.specs.Verdicts.{word_of}
+use Rattle.transcript_sim.specs.declared.simulating.SimulationFault.{SimulationFault}
+use Rattle.transcript_sim.specs.declared.simulating.SimulationFault.TheVariants as verdict
 use Rattle.auditor_top.specs.declared.files.FileFault.TheVariants as file
 use Rattle.auditor_top.specs.declared.opening.OpenFault.{OpenFault}
 use Rattle.auditor_top.specs.declared.opening.OpenFault.TheVariants as opening
 use Rattle.auditor_top.specs.declared.status.Which.TheVariants.{Schema, Table, Input}
 use Rattle.auditor_top.specs.declared.status.Status.{Status}
-use Rattle.auditor_top.specs.declared.status.Status.TheVariants.{Done, BadWords, BadSchema, BadTable, SourceFault, BenchFault, NotMade, AlreadyThere, Damaged, OtherShape, Untrue, Illegal, InputLimit, NoMemory}
+use Rattle.auditor_top.specs.declared.status.Status.TheVariants.{Done, BadWords, BadSchema, BadTable, SourceFault, BenchFault, NotMade, AlreadyThere, Damaged, OtherShape, Untrue, Illegal, InputLimit, Disagrees, NoMemory}
 
 -- the exit status of the program
 abbrev pub status_code : Status → ℕ
@@ -35,6 +38,7 @@ status_code (OtherShape kept now) = 10
 status_code (Untrue place kept now) = 11
 status_code (Illegal place) = 12
 status_code InputLimit = 13
+status_code (Disagrees line due) = 14
 status_code NoMemory = 15
 
 -- the place of a fault in a line
@@ -74,6 +78,7 @@ status_text (OtherShape kept now) = codes "journal is of another table: rows " +
 status_text (Untrue place kept now) = codes "record " ++ (decimal place ++ (codes " holds " ++ (signed_decimal kept ++ (codes ", table gives " ++ signed_decimal now))))
 status_text (Illegal place) = codes "record " ++ decimal place ++ codes " should not have been released"
 status_text InputLimit = codes "input is too long"
+status_text (Disagrees line due) = codes "line " ++ (decimal line ++ (codes " disagrees, due " ++ word_of due))
 status_text NoMemory = codes "out of memory"
 
 -- ---- the status that a fault of a step comes to
@@ -114,6 +119,14 @@ abbrev pub report_status : AuditFault → Status
 report_status report.Failed = BenchFault
 report_status report.NoMemory = NoMemory
 
+-- of reading a transcript
+abbrev pub verdict_status : SimulationFault → Status
+verdict_status verdict.Input = SourceFault Input
+verdict_status verdict.Bench = BenchFault
+verdict_status verdict.Limit = InputLimit
+verdict_status (verdict.Disagrees line due) = Disagrees line due
+verdict_status verdict.NoMemory = NoMemory
+
 -- of a report, by how it ended
 abbrev pub audit_status : {X : Type 0} → Result X AuditFault → Status
 audit_status (Ok done) = Done
@@ -123,3 +136,8 @@ audit_status (Err fault) = report_status fault
 abbrev pub session_status : {X : Type 0} → Result X EndFault → Status
 session_status (Ok done) = Done
 session_status (Err fault) = end_status fault
+
+-- of a simulation, by how it ended
+abbrev pub simulation_status : {X : Type 0} → Result X SimulationFault → Status
+simulation_status (Ok done) = Done
+simulation_status (Err fault) = verdict_status fault

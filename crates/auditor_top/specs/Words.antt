@@ -8,7 +8,7 @@ use Rattle.clap.specs.Words.{App, Rule, Row, Kinds, new_app, new_rule, with_rule
 use Rattle.clap.specs.declared.error.kind.ErrorKind.{ErrorKind}
 use Rattle.clap.specs.declared.error.kind.ErrorKind.TheVariants.{OutOfMemory}
 use Rattle.auditor_top.specs.declared.words.Command.{Command}
-use Rattle.auditor_top.specs.declared.words.Command.TheVariants.{Init, Serve, Audit}
+use Rattle.auditor_top.specs.declared.words.Command.TheVariants.{Init, Serve, Audit, Simulate}
 use Rattle.auditor_top.specs.declared.words.WordFault.{WordFault}
 use Rattle.auditor_top.specs.declared.words.WordFault.TheVariants.{Bad, NoMemory}
 
@@ -47,7 +47,12 @@ serve_with (Some batch) = if nat_le 1 batch && nat_le batch 64 then Some (Serve 
 
 -- the command that one word names; `serve` alone answers each line by itself
 abbrev pub command_named : List ℕ → Option Command
-command_named word = if bytes_eq word (codes "init") then Some Init else (if bytes_eq word (codes "serve") then Some (Serve 1) else (if bytes_eq word (codes "audit") then Some Audit else None))
+command_named word =
+    if bytes_eq word (codes "init") then Some Init
+    else (if bytes_eq word (codes "serve") then Some (Serve 1)
+    else (if bytes_eq word (codes "audit") then Some Audit
+    else (if bytes_eq word (codes "simulate") then Some Simulate
+    else None)))
 
 -- the command that a word names with its number and its batch, where it may have these; no command takes a number
 abbrev pub command_with : List ℕ → Option (List ℕ) → Option (List ℕ) → Option Command

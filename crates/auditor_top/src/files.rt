@@ -5,14 +5,14 @@ ghost use Rattle.schema_json.specs.Reading.{schema_of, most_schema};
 ghost use Rattle.table_load.specs.Reading.{most_table};
 ghost use Rattle.schema_json.specs.SecretShape.{shape_of};
 ghost use Rattle.table_load.specs.Cells.{FitsSchema};
-ghost use Rattle.table_load.specs.Tables.{table_of};
-ghost use Rattle.auditor_top.specs.Files.{GivesSchema, GivesTable};
+ghost use Rattle.table_load.specs.Tables.{table_of, public_of};
+ghost use Rattle.auditor_top.specs.Files.{GivesSchema, GivesTable, GivesPublic};
 
 use crate::reading::{ReadFault, read_all};
 use bench_core::Source;
 use schema_json::{MOST_SCHEMA, Schema, SchemaFault, read_schema};
 use std::alloc::Global;
-use table_load::{MOST_TABLE, Table, TableFault, load};
+use table_load::{MOST_TABLE, Public, Table, TableFault, load, load_public};
 
 /// Why a file gives nothing.
 #[derive(Clone, Copy, Debug, PartialEq, Eq, Drop)]
@@ -71,6 +71,33 @@ pub fn table_from<P: Source>(
     };
     match load(alloc, schema, bytes.as_slice()) {
         Ok(table) => Ok(table),
+        Err(TableFault::NoMemory) => Err(FileFault::NoMemory),
+        Err(fault) => Err(FileFault::Bad(fault)),
+    }
+}
+
+/// The public part that a source's bytes mean over the columns of a schema, where the file has the public columns alone. It
+/// reads until the bytes are more than a table may have.
+pub fn public_from<P: Source>(
+    alloc: Global,
+    schema: &Schema,
+    source: &mut P,
+) -> Result<Public, FileFault<TableFault>>
+    ensures means { P.told → GivesPublic result (public_of schema.now.columns (P.left source.old)) }
+    ensures fits { IfOk result (λ public. FitsSchema schema.now.columns public) }
+    ensures own { result ≢ Err (FileFault.Bad TableFault.NoMemory) }
+    ensures within { P.told → result ≡ Err FileFault.Failed → length (P.left source.old) ≤ most_table + length (P.left source.new) }
+    ensures later { P.faults source.old ≤ P.faults source.new }
+    ensures failed { result ≡ Err FileFault.Failed → Rose (P.faults source.old) (P.faults source.new) }
+    ensures steady { (result ≡ Err FileFault.Failed → ⊥) → P.faults source.new ≡ P.faults source.old }
+{
+    let bytes = match read_all(alloc, source, MOST_TABLE) {
+        Ok(bytes) => bytes,
+        Err(ReadFault::Failed) => return Err(FileFault::Failed),
+        Err(ReadFault::NoMemory) => return Err(FileFault::NoMemory),
+    };
+    match load_public(alloc, schema, bytes.as_slice()) {
+        Ok(public) => Ok(public),
         Err(TableFault::NoMemory) => Err(FileFault::NoMemory),
         Err(fault) => Err(FileFault::Bad(fault)),
     }

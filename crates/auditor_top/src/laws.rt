@@ -7,7 +7,7 @@ ghost use Rattle.line_wire.specs.Lines.{CountedLine};
 ghost use Rattle.table_load.specs.Database.{Database, secret_table};
 ghost use Rattle.audit_session.specs.Stops.{StopsOver, IsBatch};
 ghost use Rattle.auditor_top.specs.Commands.{AreFilesOf};
-ghost use Rattle.auditor_top.specs.declared.words.Command.TheVariants.{Init, Serve, Audit};
+ghost use Rattle.auditor_top.specs.declared.words.Command.TheVariants.{Init, Serve, Audit, Simulate};
 ghost use Rattle.auditor_top.specs.Words.{command_of, number_of};
 ghost use Rattle.auditor_top.specs.Promise.{LivesKeepPromise, LivesGoOn, MadeIsTaken, StopsAreTaken, StopsMakeLives};
 
@@ -56,6 +56,7 @@ pub fn plain_words()
     ensures init { command_of (codes "init" ∷ []) ≡ Some Init }
     ensures serve { command_of (codes "serve" ∷ []) ≡ Some (Serve 1) }
     ensures audit { command_of (codes "audit" ∷ []) ≡ Some Audit }
+    ensures simulate { command_of (codes "simulate" ∷ []) ≡ Some Simulate }
     ensures batch { (word : List ℕ) (batch : ℕ) → number_of word ≡ Some batch → IsBatch batch
         → command_of (codes "serve" ∷ codes "--batch" ∷ word ∷ []) ≡ Some (Serve batch) }
     ensures batch_in_one_word { (word : List ℕ) (batch : ℕ) → number_of word ≡ Some batch → IsBatch batch

@@ -11,6 +11,7 @@ mod opening;
 mod reading;
 mod running;
 mod serving;
+mod simulating;
 mod status;
 mod words;
 

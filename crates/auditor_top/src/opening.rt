@@ -6,22 +6,29 @@ ghost use Rattle.table_load.specs.Reading.{most_table};
 ghost use Rattle.schema_json.specs.SecretShape.{shape_of};
 ghost use Rattle.table_load.specs.Cells.{FitsSchema};
 ghost use Rattle.table_load.specs.Loaded.{table_view};
-ghost use Rattle.table_load.specs.Tables.{table_of};
+ghost use Rattle.table_load.specs.Tables.{table_of, public_of};
 ghost use Rattle.auditor_top.specs.Causes.{FaultCause, SchemaCause, TableCause, counts};
 ghost use Rattle.auditor_top.specs.Stages.{Before, reading_table};
 ghost use Rattle.auditor_top.specs.Status.{open_status};
 
-use crate::files::{FileFault, schema_from, table_from};
+use crate::files::{FileFault, public_from, schema_from, table_from};
 use bench_core::Source;
 use schema_json::{Schema, SchemaFault};
 use std::alloc::Global;
-use table_load::{Table, TableFault};
+use table_load::{Public, Table, TableFault};
 
 /// A table, and the schema that it was read by.
 #[derive(Drop)]
 pub struct Opened {
     pub schema: Schema,
     pub table: Table,
+}
+
+/// The public part of a table, and the schema that it was read by.
+#[derive(Drop)]
+pub struct OpenedPublic {
+    pub schema: Schema,
+    pub public: Public,
 }
 
 /// Why the files of a table weren't opened: the first of them that gives nothing, with what is wrong with it.
@@ -62,6 +69,40 @@ pub fn open_table<P: Source>(
     };
     match table_from(alloc, &schema, table) {
         Ok(table) => Ok(Opened { schema, table }),
+        Err(fault) => Err(OpenFault::Table(fault)),
+    }
+}
+
+/// Reads the schema, and then the public part of a table over it, whose file has the public columns alone.
+pub fn open_public<P: Source>(
+    alloc: Global,
+    schema: &mut P,
+    table: &mut P,
+) -> Result<OpenedPublic, OpenFault>
+    ensures schema_is { P.told → IfOk result (λ opened. schema_of (P.left schema.old) ≡ Ok opened.schema.columns) }
+    ensures public_is { P.told → IfOk result (λ opened. public_of opened.schema.columns (P.left table.old) ≡ Ok opened.public) }
+    ensures fits { IfOk result (λ opened. FitsSchema opened.schema.columns opened.public) }
+
+    // A fault is the first that there is. The table is read only over a schema without fault.
+    ensures schema_cause { P.told → IfErr result (λ fault. SchemaCause (open_status fault) (schema_of (P.left schema.old))) }
+    ensures public_cause { P.told → (columns : List Column) → schema_of (P.left schema.old) ≡ Ok columns
+        → IfErr result (λ fault. TableCause (open_status fault) (public_of columns (P.left table.old))) }
+    ensures own_schema_fault { result ≢ Err (OpenFault.Schema (FileFault.Bad SchemaFault.NoMemory)) }
+    ensures own_table_fault { result ≢ Err (OpenFault.Table (FileFault.Bad TableFault.NoMemory)) }
+    ensures schema_within { P.told → result ≡ Err (OpenFault.Schema FileFault.Failed) → length (P.left schema.old) ≤ most_schema + length (P.left schema.new) }
+    ensures table_within { P.told → result ≡ Err (OpenFault.Table FileFault.Failed) → length (P.left table.old) ≤ most_table + length (P.left table.new) }
+    ensures faults { (input bench spare : ℕ) → IfErr result (λ fault. FaultCause (open_status fault)
+        (counts (P.faults schema.old) (P.faults table.old) input bench spare) (counts (P.faults schema.new) (P.faults table.new) input bench spare)) }
+    ensures steady { OnOk result ((P.faults schema.new ≡ P.faults schema.old) × (P.faults table.new ≡ P.faults table.old)) }
+    ensures later { (P.faults schema.old ≤ P.faults schema.new) × (P.faults table.old ≤ P.faults table.new) }
+    ensures untouched { IfErr result (λ fault. Before reading_table (open_status fault) (table.new ≡ table.old)) }
+{
+    let schema = match schema_from(alloc, schema) {
+        Ok(schema) => schema,
+        Err(fault) => return Err(OpenFault::Schema(fault)),
+    };
+    match public_from(alloc, &schema, table) {
+        Ok(public) => Ok(OpenedPublic { schema, public }),
         Err(fault) => Err(OpenFault::Table(fault)),
     }
 }

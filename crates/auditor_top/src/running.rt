@@ -5,21 +5,25 @@ ghost use Rattle.audit_types.specs.History.{IsLegal, IsUndisclosed};
 ghost use Rattle.bench_core.specs.Calls.{IsQuiet, LeavesOnly};
 ghost use Rattle.schema_json.specs.Columns.{Column};
 ghost use Rattle.schema_json.specs.Reading.{schema_of, most_schema};
+ghost use Rattle.table_load.specs.Cells.{PublicView};
 ghost use Rattle.table_load.specs.Reading.{most_table};
 ghost use Rattle.table_load.specs.Database.{Database, secret_table};
-ghost use Rattle.table_load.specs.Tables.{table_of};
+ghost use Rattle.table_load.specs.Tables.{table_of, public_of};
 ghost use Rattle.journal_form.specs.Journal.{StandsFor};
 ghost use Rattle.answer_journal.specs.Moments.{IsAlready, IsUnmadeOrEmpty, IsUntouched};
 ghost use Rattle.line_wire.specs.Lines.{counted_lines, most_input};
+ghost use Rattle.question_plan.specs.Session.{Replied};
 ghost use Rattle.audit_session.specs.Stops.{StopsOver};
 ghost use Rattle.audit_session.specs.Lives.{Run, IsLife};
 ghost use Rattle.journal_audit.specs.Reports.{SendsMeanwhile, subjects};
+ghost use Rattle.transcript_sim.specs.Ends.{SimulatesMeanwhile};
+ghost use Rattle.transcript_sim.specs.Verdicts.{AreVerdicts};
 ghost use Rattle.auditor_top.specs.declared.words.Command.{Command};
-ghost use Rattle.auditor_top.specs.declared.words.Command.TheVariants.{Init, Serve, Audit};
+ghost use Rattle.auditor_top.specs.declared.words.Command.TheVariants.{Init, Serve, Audit, Simulate};
 ghost use Rattle.auditor_top.specs.Words.{command_of, NamesCommand};
-ghost use Rattle.auditor_top.specs.Commands.{AreFilesOf, ServesOver, opens_journal, reads_files, reads_secrets, reads_lines, writes};
+ghost use Rattle.auditor_top.specs.Commands.{AreFilesOf, ArePublicFilesOf, ServesOver, opens_journal, reads_files, reads_secrets, reads_lines, writes};
 ghost use Rattle.auditor_top.specs.Causes.{FaultCause, WordCause, SchemaCause, TableCause, FileCause, InputCause, NeverFall, NothingFailed, IsDoneOrWants, counts};
-ghost use Rattle.auditor_top.specs.Ends.{AuditEnds, ServeEnds, audit_over, outside};
+ghost use Rattle.auditor_top.specs.Ends.{AuditEnds, LeavesFile, ServeEnds, SimulateEnds, SimulateSends, audit_over, outside};
 ghost use Rattle.auditor_top.specs.Promise.{GoesOn};
 ghost use Rattle.auditor_top.specs.Stages.{Before, reading_table, opening_journal, reading_lines};
 
@@ -27,6 +31,7 @@ use crate::auditing::audit;
 use crate::init::init;
 use crate::laws::{lives, stops_are_legal};
 use crate::serving::serve;
+use crate::simulating::simulate;
 use crate::status::{Status, Which};
 use crate::words::{Command, WordFault, read_words};
 use bench_core::{Bench, Source};
@@ -50,6 +55,8 @@ pub fn run<P: Source, I: Source, B: Bench>(
     ensures schema { P.told → (command : Command) → NamesCommand words.now.items command → reads_files command ≡ true → SchemaCause result (schema_of (P.left schema.old)) }
     ensures table { P.told → (command : Command) → NamesCommand words.now.items command → reads_secrets command ≡ true
         → (columns : List Column) → schema_of (P.left schema.old) ≡ Ok columns → TableCause result (table_of columns (P.left table.old)) }
+    ensures public { P.told → NamesCommand words.now.items Simulate
+        → (columns : List Column) → schema_of (P.left schema.old) ≡ Ok columns → TableCause result (public_of columns (P.left table.old)) }
     ensures own_schema_fault { result ≢ Status.BadSchema SchemaFault.NoMemory }
     ensures own_table_fault { result ≢ Status.BadTable TableFault.NoMemory }
     ensures file { P.told → B.told → (command : Command) → NamesCommand words.now.items command
@@ -102,6 +109,18 @@ pub fn run<P: Source, I: Source, B: Bench>(
         → (base : Database) (history : List Answered) → ServesOver (P.left schema.old) (P.left table.old) (B.file bench.old) base history
         → LeavesOnly B.Bench bench.old bench.new (SendsMeanwhile (audit_over base history) (subjects base.secret.shape) (B.file bench.old) (B.sent bench.old)) }
 
+    // `simulate` over a schema and the public part of a table: a verdict for each question of the input, whether or not the
+    // bench tells what was sent; their lines were, or a front of them, at the end and at every moment. The file stays.
+    ensures simulated { P.told → I.told → NamesCommand words.now.items Simulate
+        → (columns : List Column) (public : PublicView) → ArePublicFilesOf (P.left schema.old) (P.left table.old) columns public
+        → (verdicts : List (Replied Answered)) × SimulateEnds result columns public (I.left input.old) (I.left input.new) verdicts
+        × (B.told → SimulateSends result verdicts (B.sent bench.old) (B.sent bench.new)) }
+    ensures simulating { P.told → B.told → NamesCommand words.now.items Simulate → IsQuiet B.Bench bench.old
+        → (columns : List Column) (public : PublicView) → ArePublicFilesOf (P.left schema.old) (P.left table.old) columns public
+        → LeavesOnly B.Bench bench.old bench.new (SimulatesMeanwhile I.told columns public (counted_lines (I.left input.old)) (B.file bench.old) (B.sent bench.old)) }
+    ensures undisturbed { B.told → NamesCommand words.now.items Simulate → IsQuiet B.Bench bench.old
+        → LeavesOnly B.Bench bench.old bench.new (LeavesFile (B.file bench.old)) }
+
     // Over any other file nothing began of a command that opens the journal.
     ensures nothing_began { P.told → B.told → (command : Command) → NamesCommand words.now.items command → opens_journal command ≡ true → IsQuiet B.Bench bench.old
         → ((base : Database) (history : List Answered) → ServesOver (P.left schema.old) (P.left table.old) (B.file bench.old) base history → ⊥)
@@ -149,6 +168,14 @@ pub fn run<P: Source, I: Source, B: Bench>(
         (counts (P.faults schema.old) (P.faults table.old) (I.faults input.old) (B.faults bench.old) (B.faults spare.old))
         (counts (P.faults schema.new) (P.faults table.new) (I.faults input.new) (B.faults bench.new) (B.faults spare.new))
         → IsDoneOrWants result }
+    ensures simulates { P.told → I.told → NamesCommand words.now.items Simulate
+        → (columns : List Column) (public : PublicView) → ArePublicFilesOf (P.left schema.old) (P.left table.old) columns public
+        → (verdicts : List (Replied Answered)) → AreVerdicts columns public (counted_lines (I.left input.old)) verdicts
+        → length (I.left input.old) ≤ most_input
+        → NothingFailed
+        (counts (P.faults schema.old) (P.faults table.old) (I.faults input.old) (B.faults bench.old) (B.faults spare.old))
+        (counts (P.faults schema.new) (P.faults table.new) (I.faults input.new) (B.faults bench.new) (B.faults spare.new))
+        → IsDoneOrWants result }
     ensures makes { P.told → B.told → NamesCommand words.now.items Init
         → (base : Database) → AreFilesOf (P.left schema.old) (P.left table.old) base → (IsAlready (B.file bench.old) → ⊥)
         → NothingFailed
@@ -164,5 +191,6 @@ pub fn run<P: Source, I: Source, B: Bench>(
         Ok(Command::Init) => init(alloc, schema, table, bench),
         Ok(Command::Serve { batch }) => serve(alloc, schema, table, input, bench, batch),
         Ok(Command::Audit) => audit(alloc, schema, table, bench),
+        Ok(Command::Simulate) => simulate(alloc, schema, table, input, bench),
     }
 }

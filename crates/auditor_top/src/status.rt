@@ -13,6 +13,7 @@ use schema_json::SchemaFault;
 use std::alloc::Global;
 use std::fmt;
 use table_load::TableFault;
+use transcript_sim::{Due, SimulationFault};
 
 /// The sources that a run reads.
 #[derive(Clone, Copy, Debug, PartialEq, Eq)]
@@ -51,6 +52,8 @@ pub enum Status {
     Illegal { place: u32 },
     /// The input has more than 2^30 bytes.
     InputLimit,
+    /// The line of the transcript, from 1, that is the first reply which doesn't agree, and the verdict on its question.
+    Disagrees { line: u64, due: Due },
     /// There was no memory.
     NoMemory,
 }
@@ -137,6 +140,23 @@ impl From<AuditFault> for Status {
     }
 }
 
+impl From<SimulationFault> for Status {
+    ghost use Rattle.std.specs.Prelude.{◌≡◌};
+    ghost use Rattle.auditor_top.specs.Status.{verdict_status};
+
+    ghost from_gives = { λ fault status. status ≡ verdict_status fault };
+
+    fn from(fault: SimulationFault) -> Status {
+        match fault {
+            SimulationFault::Input => Status::SourceFault(Which::Input),
+            SimulationFault::Bench => Status::BenchFault,
+            SimulationFault::Limit => Status::InputLimit,
+            SimulationFault::Disagrees { line, due } => Status::Disagrees { line, due },
+            SimulationFault::NoMemory => Status::NoMemory,
+        }
+    }
+}
+
 // Where a fault of the table is, as it is told after the fault's number.
 #[derive(Clone, Copy, Drop)]
 struct Place(TableFault);
@@ -199,6 +219,7 @@ impl fmt::Display for Status {
                 write!(f, "record {place} should not have been released")
             }
             Status::InputLimit => f.write_str("input is too long"),
+            Status::Disagrees { line, due } => write!(f, "line {line} disagrees, due {due}"),
             Status::NoMemory => f.write_str("out of memory"),
         }
     }
@@ -222,6 +243,7 @@ pub fn status_code(status: &Status) -> u8
         Status::Untrue { .. } => 11,
         Status::Illegal { .. } => 12,
         Status::InputLimit => 13,
+        Status::Disagrees { .. } => 14,
         Status::NoMemory => 15,
     }
 }

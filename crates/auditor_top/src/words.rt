@@ -19,6 +19,8 @@ pub enum Command {
     Serve { batch: u8 },
     /// Show each secret number to be free.
     Audit,
+    /// Compute the verdicts on a transcript again.
+    Simulate,
 }
 
 /// Why words gave no command.
@@ -93,6 +95,8 @@ fn command_named(word: &str) -> Option<Command>
         Some(Command::Serve { batch: 1 })
     } else if word == "audit" {
         Some(Command::Audit)
+    } else if word == "simulate" {
+        Some(Command::Simulate)
     } else {
         None
     }

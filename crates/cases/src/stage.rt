@@ -10,11 +10,13 @@ use std::alloc::Global;
 use std::rt::Files;
 use toml::Value;
 
-/// How many bytes a run may write, and how many calls it may make.
+/// How many bytes a run may write, and at how many calls of a run a fault is tried.
 pub const ROOM: u64 = 65_536;
 
-// How many bytes a run may send.
-const SENT: u64 = 262_144;
+// How many bytes a run may send, and how many calls it may make: a verdict for each answer of a full history, and more.
+const SENT: u64 = 2_097_152;
+
+const CALLS: u64 = 131_072;
 
 // The most bytes that a source gives at a read, where the run doesn't say.
 const PIECE: u64 = 65_536;
@@ -37,7 +39,7 @@ pub fn bench_over(
     let room = Room {
         file: (start.len() as u64).saturating_add(ROOM),
         sent: SENT,
-        calls: ROOM,
+        calls: CALLS,
         written: ROOM,
     };
     let mut failing = Vec::new(alloc);

@@ -11,4 +11,3 @@ pub mod Commas
 pub mod EachForm
 pub mod Texts
 pub mod FoundColumns
-pub mod ReadLines

@@ -10,3 +10,4 @@ pub mod Answers
 pub mod Texts
 pub mod ReadLines
 pub mod LineLaws
+pub mod LinesInTurn

@@ -2,13 +2,28 @@
 use Rattle.std.proofs.Common.{◌≡◌, List, [], ◌∷◌, ◌++◌, length, refl, sym, ◌∙◌, ap, subst, append_assoc, arith}
 use Rattle.std.specs.Option.{option_to_list}
 use Rattle.std.proofs.lemmas.List.{append-nil}
-use Rattle.question_plan.specs.Session.{Replied, records_of, AreReplies}
+use Rattle.std.proofs.lemmas.List.Concat.{flat_map-append}
+use Rattle.question_plan.specs.Session.{Replied, records_of, bytes_of, AreReplies}
 
 -- at most one reply is due to a line after a history
 abbrev pub MakesOneDue : {R L : Type 0} → (List R → L → Replied R → Type 0) → Type 0
 MakesOneDue {R} {L} rule = (history : List R) (line : L) (a b : Replied R) → rule history line a → rule history line b → a ≡ b
 
+-- the records and the bytes of replies behind others
+pub records_of-append : {R : Type 0} (xs ys : List (Replied R)) → records_of (xs ++ ys) ≡ records_of xs ++ records_of ys
+records_of-append xs ys = flat_map-append (λ reply. option_to_list reply.added) xs ys
+
+pub bytes_of-append : {R : Type 0} (xs ys : List (Replied R)) → bytes_of (xs ++ ys) ≡ bytes_of xs ++ bytes_of ys
+bytes_of-append xs ys = flat_map-append (λ reply. reply.bytes) xs ys
+
 module _ {R L : Type 0} (rule : List R → L → Replied R → Type 0) where
+  -- each line has one reply
+  pub length-replies : (history : List R) (lines : List L) (replies : List (Replied R)) → AreReplies rule history lines replies → length replies ≡ length lines
+  length-replies history [] [] are = refl
+  length-replies history [] (reply ∷ replies) are = absurd are
+  length-replies history (line ∷ lines) [] are = absurd are
+  length-replies history (line ∷ lines) (reply ∷ replies) are = omega (arith, length-replies (history ++ option_to_list reply.added) lines replies are.1)
+
   -- some lines, and then others
   pub replies-append : (history : List R) (lines more : List L) (replies behind : List (Replied R)) → AreReplies rule history lines replies → AreReplies rule (history ++ records_of replies) more behind → AreReplies rule history (lines ++ more) (replies ++ behind)
   replies-append history [] more [] behind are later = subst (λ (h : List R). AreReplies rule h more behind) (append-nil history) later

@@ -1,5 +1,5 @@
 -- Exchanges behind others.
-use Rattle.std.proofs.Common.{◌≡◌, ℕ, ◌+◌, ◌-◌, ◌*◌, List, [], ◌∷◌, ◌++◌, length, Some, None, refl, ap, arith}
+use Rattle.std.proofs.Common.{◌≡◌, ℕ, ◌-◌, ◌*◌, List, [], ◌∷◌, ◌++◌, length, Some, refl, ap, arith}
 use Rattle.line_wire.specs.Lines.{CountedLine}
 use Rattle.transcript_sim.specs.Verdicts.{Exchange, exchanges}
 

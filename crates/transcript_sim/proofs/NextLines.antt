@@ -1,7 +1,7 @@
 -- The line that the cutter gave, by its answer.
-use Rattle.std.proofs.Common.{◌≡◌, ◌++◌, ◌∷◌, ◌+◌, ◌<◌, List, ℕ, length, subst}
+use Rattle.std.proofs.Common.{◌≡◌, ◌++◌, subst}
 use Rattle.bench_core.specs.declared.source.Source.{Ghosts}
-use Rattle.line_wire.specs.Lines.{CountedLine, text, long, counted_lines}
+use Rattle.line_wire.specs.Lines.{text, long, counted_lines}
 use Rattle.line_wire.specs.Cutter.{Cutter}
 use Rattle.line_wire.specs.ReadLines.{OneLineIsRead}
 use Rattle.line_wire.specs.Steps.{Advances, Answers, Counts}

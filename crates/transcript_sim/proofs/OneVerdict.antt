@@ -1,7 +1,6 @@
 -- A transcript has one list of verdicts: a question calls for one reply, and a line that agrees makes one record.
-use Rattle.std.proofs.Common.{◌≡◌, ℕ, ℤ, zero, suc, ◌<◌, ◌≤◌, List, [], ◌∷◌, ◌++◌, length, take, Option, Some, None, refl, sym, ◌∙◌, ap, subst, arith, inl, inr}
+use Rattle.std.proofs.Common.{◌≡◌, ℕ, ℤ, zero, suc, List, [], ◌∷◌, ◌++◌, length, take, Option, Some, None, refl, sym, ◌∙◌, ap, subst, arith, inl, inr}
 use Rattle.std.specs.Option.{option_to_list}
-use Rattle.audit_types.specs.declared.records.Asked.{Asked}
 use Rattle.audit_types.specs.declared.records.Answered.{Answered}
 use Rattle.audit_types.specs.declared.records.Verdict.{Verdict}
 use Rattle.audit_types.specs.History.{Setting, setting_of}
@@ -11,7 +10,6 @@ use Rattle.table_load.specs.Cells.{PublicView}
 use Rattle.line_wire.specs.Lines.{CountedLine, text, long}
 use Rattle.line_wire.specs.Reply.{IsReply}
 use Rattle.line_wire.specs.declared.reply.Reply.{Reply}
-use Rattle.line_wire.specs.declared.question.Take.{Take}
 use Rattle.question_plan.specs.declared.planning.Plan.{Plan}
 use Rattle.question_plan.specs.declared.planning.Plan.TheVariants.{Ready, Ask}
 use Rattle.question_plan.specs.Session.{Replied, AreReplies}
@@ -20,7 +18,7 @@ use Rattle.question_plan.specs.Laws.{OnePlanIsMade, OneJudgementIsMade, OneAnswe
 use Rattle.question_plan.specs.InTurn.{MakesOneDue, same_replies}
 use Rattle.transcript_sim.specs.declared.expecting.Expected.{Expected}
 use Rattle.transcript_sim.specs.declared.expecting.Expected.TheVariants.{Only, Answer}
-use Rattle.transcript_sim.specs.Verdicts.{called_by, CallsFor, IsJudged, Expects, TellsAnswer, AgreesWith, due_of, verdict_bytes, Exchange, exchanges, IsTaken, IsVerdict, AreVerdicts}
+use Rattle.transcript_sim.specs.Verdicts.{called_by, CallsFor, Expects, AgreesWith, due_of, verdict_bytes, exchanges, IsTaken, IsVerdict, AreVerdicts}
 
 -- a line is at most one reply
 abbrev pub LineIsOneReply : Type 0

@@ -1,5 +1,5 @@
 -- What holds while a transcript is read.
-use Rattle.std.proofs.Common.{rules, ◌≡◌, ◌≢◌, ℕ, ◌+◌, ◌-◌, ◌*◌, ◌^◌, ◌<◌, ◌≤◌, Bool, true, false, List, [], ◌∷◌, ◌++◌, length, take, Option, Some, None, Result, Ok, Err, refl, sym, ◌∙◌, ap, subst, arith, inl, inr, ◌⊎◌, ⊎_elim, append_assoc, length-append}
+use Rattle.std.proofs.Common.{rules, ◌≡◌, ◌≢◌, ℕ, ◌+◌, ◌*◌, ◌^◌, ◌<◌, ◌≤◌, Bool, true, false, List, [], ◌∷◌, ◌++◌, length, take, Option, None, Result, Ok, Err, refl, sym, ◌∙◌, ap, subst, arith, ⊎_elim, append_assoc, length-append}
 use Rattle.std.specs.Option.{option_to_list}
 use Rattle.std.proofs.Math.Seq.{take-append_seam, take-append-add}
 use Rattle.std.proofs.lemmas.Bool.{false≢true}
@@ -10,7 +10,7 @@ use Rattle.bench_core.specs.declared.bench.Bench.{Ghosts}
 use Rattle.bench_core.specs.declared.source.Source.{Ghosts as SourceGhosts}
 use Rattle.bench_core.specs.Bench.{AppendsFront, Elapses, Sending}
 use Rattle.bench_core.specs.Calls.{IsQuiet, LeavesOnly}
-use Rattle.bench_core.specs.Causes.{HasCause, Rose}
+use Rattle.bench_core.specs.Causes.{Rose}
 use Rattle.bench_core.specs.Moments.{started, goes_on}
 use Rattle.schema_json.specs.Columns.{Column}
 use Rattle.table_load.specs.Cells.{PublicView}
@@ -18,14 +18,13 @@ use Rattle.line_wire.specs.Lines.{CountedLine, counted_lines, whole_lines}
 use Rattle.line_wire.specs.Cutter.{Cutter, StopsAt}
 use Rattle.line_wire.specs.ReadLines.{IsRead, ReadsLines, NoLineIsRead, MoreLinesAreRead}
 use Rattle.question_plan.specs.Session.{Replied, records_of, bytes_of, AreReplies}
-use Rattle.question_plan.specs.InTurn.{replies-append, MakesOneDue, none_behind}
-use Rattle.transcript_sim.specs.declared.due.Due.{Due}
+use Rattle.question_plan.specs.InTurn.{replies-append}
 use Rattle.transcript_sim.specs.declared.expecting.Expected.{Expected}
 use Rattle.transcript_sim.specs.declared.simulating.SimulationFault.{SimulationFault}
 use Rattle.transcript_sim.specs.declared.simulating.SimulationFault.TheVariants as fault
-use Rattle.transcript_sim.specs.Verdicts.{Expects, AgreesWith, due_of, verdict_bytes, Exchange, exchanges, IsVerdict, AreVerdicts}
-use Rattle.transcript_sim.specs.Steps.{Cuts, GivesLine, GivesNone, FailsRead, PassesLimit, IsCutShort}
-use Rattle.transcript_sim.specs.Ends.{BeginVerdicts, ReadVerdicts, LimitedVerdicts, DisagreesAt, EndVerdicts, EndSends, EndReads, IsWithinLimit, SendsVerdicts, SimulatesMeanwhile, Simulates}
+use Rattle.transcript_sim.specs.Verdicts.{Expects, due_of, verdict_bytes, Exchange, exchanges, IsVerdict, AreVerdicts}
+use Rattle.transcript_sim.specs.Steps.{Cuts, GivesLine, GivesNone, IsCutShort}
+use Rattle.transcript_sim.specs.Ends.{BeginVerdicts, EndVerdicts, EndSends, EndReads, SimulatesMeanwhile, Simulates}
 use Rattle.transcript_sim.proofs.Exchanges.{exchanges-append}
 
 -- what is sent for a question, before its reply is read

@@ -8,7 +8,7 @@ use Rattle.bench_core.specs.declared.source.Source.{Ghosts as SourceGhosts}
 use Rattle.bench_core.specs.Bench.{AppendsFront}
 use Rattle.bench_core.specs.Calls.{IsQuiet, LeavesOnly}
 use Rattle.bench_core.specs.Causes.{Rose}
-use Rattle.line_wire.specs.Lines.{CountedLine, counted_lines, whole_lines}
+use Rattle.line_wire.specs.Lines.{CountedLine, counted_lines, whole_lines, most_input}
 use Rattle.question_plan.specs.Session.{Replied, bytes_of}
 use Rattle.transcript_sim.specs.declared.due.Due.{Due}
 use Rattle.transcript_sim.specs.declared.simulating.SimulationFault.{SimulationFault}
@@ -33,7 +33,7 @@ pub record LimitedVerdicts (columns : List Column) (public : PublicView) (input 
   pub read : List ℕ
   pub behind : List ℕ
   pub split : input ≡ read ++ behind
-  pub size : length read ≡ 2 ^ 30
+  pub size : length read ≡ most_input
   pub are : AreVerdicts columns public (whole_lines read) verdicts
 
 -- line number `line`, from 1, is the first reply that doesn't agree: the lines before it have these verdicts, the last of
@@ -81,14 +81,14 @@ pub record IsWithinLimit (input : List ℕ) (line : ℕ) : Type 0 where
   pub read : List ℕ
   pub behind : List ℕ
   pub split : input ≡ read ++ behind
-  pub short : length read ≤ 2 ^ 30
+  pub short : length read ≤ most_input
   pub inside : (line ≤ length (whole_lines read)) ⊎ (behind ≡ [])
 
 -- by the end
 abbrev pub EndReads : Result (Unit {0}) SimulationFault → List ℕ → List ℕ → Type 0
-EndReads (Ok done) input left = (left ≡ []) × (length input ≤ 2 ^ 30)
-EndReads (Err fault.Input) input left = length input ≤ 2 ^ 30 + length left
-EndReads (Err fault.Limit) input left = 2 ^ 30 + length left < length input
+EndReads (Ok done) input left = (left ≡ []) × (length input ≤ most_input)
+EndReads (Err fault.Input) input left = length input ≤ most_input + length left
+EndReads (Err fault.Limit) input left = most_input + length left < length input
 EndReads (Err (fault.Disagrees line due)) input left = IsWithinLimit input line
 EndReads (Err fault.Bench) input left = Unit {0}
 EndReads (Err fault.NoMemory) input left = Unit {0}

@@ -1,5 +1,5 @@
 -- What the steps of a simulation do: reading a line, and telling what a reply comes to.
-use Rattle.std.specs.Prelude.{◌≡◌, ◌⊎◌, ◌<◌, ◌≤◌, ◌+◌, ◌^◌, ℕ, true, List, [], ◌∷◌, ◌++◌, length, Option, Some, None}
+use Rattle.std.specs.Prelude.{◌≡◌, ◌<◌, ◌≤◌, ◌+◌, ◌^◌, true, List, [], ◌∷◌, ◌++◌, length, Option, Some, None}
 use Rattle.audit_types.specs.History.{Setting, setting_of, FitsShape, known_of}
 use Rattle.audit_types.specs.Judgement.{IsWithinWidth}
 use Rattle.audit_types.specs.declared.records.Answered.{Answered}
@@ -8,7 +8,7 @@ use Rattle.bench_core.specs.Causes.{Rose}
 use Rattle.schema_json.specs.Columns.{Column}
 use Rattle.schema_json.specs.SecretShape.{shape_of}
 use Rattle.table_load.specs.Cells.{PublicView}
-use Rattle.line_wire.specs.Lines.{CountedLine, text, counted_lines}
+use Rattle.line_wire.specs.Lines.{CountedLine, counted_lines}
 use Rattle.line_wire.specs.Cutter.{Cutter, StopsAt}
 use Rattle.line_wire.specs.ReadLines.{ReadsLines}
 use Rattle.line_wire.specs.declared.lines.LineStop.{LineStop}
@@ -39,7 +39,7 @@ ComesTo line expected Disagrees = (added : Option Answered) → ¬ (AgreesWith l
 pub record Cuts {P : Type 0} (source : Ghosts P) (old new : Cutter) (before after : P) : Type 0 where
   pub same : source.told → new.ended ≡ true → source.left after ≡ []
   pub taken : source.told → new.taken + length (source.left after) ≡ old.taken + length (source.left before)
-  pub within : new.taken ≤ 2 ^ 30 + length new.pending
+  pub within : new.taken ≤ most_input + length new.pending
   pub still : old.ended ≡ true → new.ended ≡ true
   pub later : source.faults before ≤ source.faults after
 
@@ -59,13 +59,13 @@ pub record GivesNone {P : Type 0} (source : Ghosts P) (old new : Cutter) (before
 pub record FailsRead {P : Type 0} (source : Ghosts P) (old new : Cutter) (before after : P) : Type 0 where
   pub going : ¬ (old.ended ≡ true)
   pub stops : source.told → StopsAt (old.pending ++ source.left before) (source.left after)
-  pub within : new.taken ≤ 2 ^ 30
+  pub within : new.taken ≤ most_input
   pub rose : Rose (source.faults before) (source.faults after)
 
 -- the limit was passed
 pub record PassesLimit {P : Type 0} (source : Ghosts P) (old new : Cutter) (before after : P) : Type 0 where
   pub stops : source.told → StopsAt (old.pending ++ source.left before) (new.pending ++ source.left after)
-  pub over : new.taken ≡ 2 ^ 30 + length new.pending
+  pub over : new.taken ≡ most_input + length new.pending
   pub some : 0 < length new.pending
   pub steady : source.faults after ≡ source.faults before
 

@@ -1,7 +1,7 @@
 use Rattle.std.proofs.Common.{ℕ, List, [], ◌∷◌, ◌++◌, refl, subst}
 use Rattle.line_wire.specs.Lines.{text, long, counted_lines}
 use Rattle.question_plan.specs.Replies.{IsPlan}
-use Rattle.audit_session.proofs.GatheredLines.{reads_one}
+use Rattle.line_wire.specs.LinesInTurn.{reads_one}
 use Rattle.audit_session.proofs.NextLines.{takes_text, takes_long, counts_text, counts_long}
 use Rattle.audit_session.proofs.gathering.next_plan.Goals as goal
 

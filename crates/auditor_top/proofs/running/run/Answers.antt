@@ -1,5 +1,5 @@
 use Rattle.std.proofs.Common.{◌≡◌, ℕ, List, [], ◌++◌, Option, Some, refl, sym, ◌∙◌, ap, subst}
-use Rattle.std.proofs.lemmas.List.{append_cancel_left}
+use Rattle.std.proofs.lemmas.List.{append_cancel_left, append-nil}
 use Rattle.bench_core.specs.Calls.{LeavesOnly}
 use Rattle.bench_core.specs.Moments.{started}
 use Rattle.line_wire.specs.Lines.{counted_lines}
@@ -7,12 +7,13 @@ use Rattle.question_plan.specs.Replies.{IsDue}
 use Rattle.audit_session.specs.Stops.{Stop, StopsOver, stands_over}
 use Rattle.journal_audit.specs.Reports.{subjects}
 use Rattle.auditor_top.specs.declared.words.Command.{Command}
-use Rattle.auditor_top.specs.declared.words.Command.TheVariants.{Init, Serve, Audit}
-use Rattle.auditor_top.specs.Commands.{reads_lines}
+use Rattle.auditor_top.specs.declared.words.Command.TheVariants.{Init, Serve, Audit, Simulate}
+use Rattle.auditor_top.specs.Commands.{reads_lines, reads_secrets}
 use Rattle.auditor_top.specs.Causes.{WordCause, FileCause}
 use Rattle.auditor_top.specs.Ends.{ServeEnds, audit_over, outside}
 use Rattle.auditor_top.proofs.Bases.{nothing_served, untouched_stops}
 use Rattle.auditor_top.proofs.AuditEndings.{none_sent, untouched_report}
+use Rattle.auditor_top.proofs.SimulationEndings.{none_begun, before_lines, still_file}
 use Rattle.auditor_top.proofs.Named.{one_command, one_batch, not_false}
 use Rattle.auditor_top.proofs.running.run.Goals as goal
 
@@ -54,6 +55,17 @@ returns-in-Err-NoMemory-clause-auditing g c = λ ptold told asked quiet base his
     (λ image sent was.
     let now = g.met.B.Bench.only_now c.args.bench.now image sent was in
     untouched_report (audit_over base history) (subjects base.secret.shape) (g.B.Bench.file c.args.bench.now) (g.B.Bench.sent c.args.bench.now) image sent (now.1, quiet image now.0))
+
+pub returns-in-Err-NoMemory-clause-simulated : goal.returns-in-Err-NoMemory-clause-simulated
+returns-in-Err-NoMemory-clause-simulated g c = λ ptold itold asked columns public files.
+    ([], none_begun columns public (counted_lines (g.I.Source.left c.args.input.now)), λ told. sym (append-nil (g.B.Bench.sent c.args.bench.now)))
+
+pub returns-in-Err-NoMemory-clause-simulating : goal.returns-in-Err-NoMemory-clause-simulating
+returns-in-Err-NoMemory-clause-simulating g c = λ ptold told asked quiet columns public files.
+    before_lines g.B.Bench c.args.bench.now (λ image sent was. g.met.B.Bench.only_now c.args.bench.now image sent was) quiet g.I.Source.told columns public (counted_lines (g.I.Source.left c.args.input.now))
+
+pub returns-in-Err-NoMemory-clause-undisturbed : goal.returns-in-Err-NoMemory-clause-undisturbed
+returns-in-Err-NoMemory-clause-undisturbed g c = λ told asked quiet. still_file g.B.Bench c.args.bench.now (λ image sent was. g.met.B.Bench.only_now c.args.bench.now image sent was) quiet
 
 -- ---- `init`
 
@@ -133,3 +145,28 @@ returns-in-Ok-Audit-clause-audits g c = λ ptold told asked base history over no
 
 pub returns-in-Ok-Audit-clause-later : goal.returns-in-Ok-Audit-clause-later
 returns-in-Ok-Audit-clause-later g c = c.audit.ensures.later (g.I.Source.faults c.args.input.now) (g.B.Bench.faults c.args.spare.now)
+
+-- ---- `simulate`
+
+pub returns-in-Ok-Simulate-clause-file : goal.returns-in-Ok-Simulate-clause-file
+returns-in-Ok-Simulate-clause-file g c = λ ptold told command asked base files.
+    let is = one_command _ Simulate command (c.in-Ok-Simulate.ensures.command ∙ ap (λ (k : Command). Some k) c.in-Ok-Simulate.field-0-is) asked in
+    subst (λ (named : Command). FileCause c.simulate.result named (g.B.Bench.file c.args.bench.now) base.secret) is (c.simulate.ensures.file_cause (g.B.Bench.file c.args.bench.now) base.secret)
+
+pub returns-in-Ok-Simulate-clause-table : goal.returns-in-Ok-Simulate-clause-table
+returns-in-Ok-Simulate-clause-table g c = λ ptold command asked reads columns is.
+    not_false reads_secrets command Simulate (one_command _ command Simulate asked (c.in-Ok-Simulate.ensures.command ∙ ap (λ (k : Command). Some k) c.in-Ok-Simulate.field-0-is)) reads refl
+
+pub returns-in-Ok-Simulate-clause-no_lines : goal.returns-in-Ok-Simulate-clause-no_lines
+returns-in-Ok-Simulate-clause-no_lines g c = λ command asked none.
+    not_false reads_lines Simulate command (one_command _ Simulate command (c.in-Ok-Simulate.ensures.command ∙ ap (λ (k : Command). Some k) c.in-Ok-Simulate.field-0-is) asked) refl none
+
+pub returns-in-Ok-Simulate-clause-later : goal.returns-in-Ok-Simulate-clause-later
+returns-in-Ok-Simulate-clause-later g c = c.simulate.ensures.later (g.B.Bench.faults c.args.spare.now)
+
+pub returns-in-Ok-Simulate-clause-simulating : goal.returns-in-Ok-Simulate-clause-simulating
+returns-in-Ok-Simulate-clause-simulating g c = λ ptold told asked quiet columns public files. c.simulate.ensures.any_moment ptold told quiet columns public files
+
+pub returns-in-Ok-Simulate-clause-simulates : goal.returns-in-Ok-Simulate-clause-simulates
+returns-in-Ok-Simulate-clause-simulates g c = λ ptold itold asked columns public files verdicts agree within none.
+    c.simulate.ensures.complete ptold itold columns public files verdicts agree within (g.B.Bench.faults c.args.spare.now) none

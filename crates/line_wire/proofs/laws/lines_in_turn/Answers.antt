@@ -1,4 +1,4 @@
-use Rattle.line_wire.proofs.ReadLines.{reads_none, reads_one, reads_more}
+use Rattle.line_wire.specs.LinesInTurn.{reads_none, reads_one, reads_more}
 use Rattle.line_wire.proofs.laws.lines_in_turn.Goals as goal
 
 pub returns-clause-none : goal.returns-clause-none

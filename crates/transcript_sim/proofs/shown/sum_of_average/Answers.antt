@@ -2,7 +2,7 @@ use Rattle.std.proofs.Common.{rules, ◌≡◌, ℤ, pos, ◌∙◌, ap}
 use Rattle.std.specs.Prelude.{FitsSigned, int_rem, ◌*ℤ◌}
 use Rattle.std.specs.Int.{w64}
 use Rattle.std.proofs.lemmas.Int.{to_z-of_z}
-use mir.Val.{to_z, of_z}
+use mir.Val.{of_z}
 use Rattle.transcript_sim.proofs.Averages.{rest_of_multiple}
 use Rattle.transcript_sim.proofs.shown.sum_of_average.Goals as goal
 

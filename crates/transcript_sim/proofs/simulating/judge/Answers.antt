@@ -1,4 +1,4 @@
-use Rattle.std.proofs.Common.{rules, ◌≡◌, ◌+◌, [], ◌∷◌, ◌++◌, Option, Some, None, Result, Err, refl, sym, ◌∙◌, ap, subst}
+use Rattle.std.proofs.Common.{rules, ◌≡◌, ◌+◌, [], ◌∷◌, ◌++◌, Option, Some, None, Result, Err, refl, sym, subst}
 use Rattle.audit_types.specs.declared.records.Answered.{Answered}
 use Rattle.transcript_sim.specs.declared.due.Due.{Due}
 use Rattle.transcript_sim.specs.declared.expecting.Expected.{Expected}
@@ -9,7 +9,7 @@ use Rattle.transcript_sim.specs.Verdicts.{AgreesWith}
 use Rattle.transcript_sim.specs.Steps.{AsksNext, ComesTo, ShowsNext}
 use Rattle.transcript_sim.specs.Ends.{Simulates}
 use Rattle.transcript_sim.proofs.SoFar.{nothing_yet, sent_for, cut_short, all_read, wants_memory}
-use Rattle.transcript_sim.proofs.Turns.{Turn, asked_half, asked_unsent, agreed, disagreed}
+use Rattle.transcript_sim.proofs.Turns.{asked_half, asked_unsent, agreed, disagreed}
 use Rattle.transcript_sim.proofs.simulating.judge.Goals as goal
 
 abbrev ended_by : SimulationFault → Result (Unit {0}) SimulationFault

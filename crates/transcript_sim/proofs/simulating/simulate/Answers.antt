@@ -1,4 +1,4 @@
-use Rattle.std.proofs.Common.{rules, ◌≡◌, ℕ, List, [], ◌++◌, Result, Err, sym, subst}
+use Rattle.std.proofs.Common.{rules, ◌≡◌, List, [], Result, Err, sym, subst}
 use Rattle.std.proofs.lemmas.List.{append-nil}
 use Rattle.audit_types.specs.declared.records.Answered.{Answered}
 use Rattle.question_plan.specs.Session.{Replied}

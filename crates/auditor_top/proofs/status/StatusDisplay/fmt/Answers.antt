@@ -1,5 +1,6 @@
 use Rattle.std.proofs.Common.{◌++◌, sym, subst, codes, decimal}
 use Rattle.std.specs.Fmt.{HasWritten, signed_decimal}
+use Rattle.transcript_sim.specs.Verdicts.{word_of}
 use Rattle.auditor_top.specs.declared.status.Status.{Status}
 use Rattle.auditor_top.specs.Status.{status_text}
 use Rattle.auditor_top.proofs.status.StatusDisplay.fmt.Goals as goal
@@ -13,3 +14,8 @@ pub returns-in-Illegal-clause-writes : goal.returns-in-Illegal-clause-writes
 returns-in-Illegal-clause-writes g c = λ plain ok.
     let wrote : HasWritten g.W.Write.write_str_gives c.args.f.now (codes "record " ++ (decimal c.in-Illegal.place ++ codes " should not have been released")) c.write-in-Illegal.new.self = c.write-in-Illegal.ensures.writes plain ok in
     subst (λ (s : Status). HasWritten g.W.Write.write_str_gives c.args.f.now (status_text s) c.write-in-Illegal.new.self) (sym c.in-Illegal.is) wrote
+
+pub returns-in-Disagrees-clause-writes : goal.returns-in-Disagrees-clause-writes
+returns-in-Disagrees-clause-writes g c = λ plain ok.
+    let wrote : HasWritten g.W.Write.write_str_gives c.args.f.now (codes "line " ++ (decimal c.in-Disagrees.line ++ (codes " disagrees, due " ++ word_of c.in-Disagrees.due))) c.write-in-Disagrees.new.self = c.write-in-Disagrees.ensures.writes plain ok in
+    subst (λ (s : Status). HasWritten g.W.Write.write_str_gives c.args.f.now (status_text s) c.write-in-Disagrees.new.self) (sym c.in-Disagrees.is) wrote

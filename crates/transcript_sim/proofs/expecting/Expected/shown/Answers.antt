@@ -1,4 +1,4 @@
-use Rattle.std.proofs.Common.{◌≤◌, arith}
+use Rattle.std.proofs.Common.{arith}
 use Rattle.audit_types.specs.RowLaws.{length-rows}
 use Rattle.transcript_sim.proofs.expecting.Expected.shown.Goals as goal
 
