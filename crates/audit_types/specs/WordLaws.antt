@@ -4,10 +4,11 @@ use Rattle.std.proofs.lemmas.List.{get_or_past}
 use Rattle.std.specs.Int.Bits.{or_zero_l}
 use Rattle.std.specs.Prelude.{bit_or, bit_and, nat_lt}
 use Rattle.std.specs.Int.{bit_at, bit_not, w64}
-use Rattle.std.proofs.lemmas.Bool.{cases_lt, cases_eq, eq-eqb, ne_eqb, lt-ltb, le-ltb}
+use Rattle.std.proofs.lemmas.Bool.{cases_lt, cases_eq, eq-eqb, ne_eqb, lt-ltb, le-ltb, true≢false}
 use Rattle.std.proofs.lemmas.Bool.Decides.{nat_tests}
-use Rattle.std.proofs.lemmas.Nat.{mod-pow-add, pow_pos, or_lt, and_le_l, and_le_r}
-use Rattle.std.proofs.lemmas.Nat.Bits.{bit_at-lt, bit_at_and, bit_at_or, bit_at_set_same, bit_at_set_other, bit_at-zero, bit_at_ones, bit_at_ones_above, bit_at_not, shr_and_one}
+use Rattle.std.proofs.lemmas.Nat.{mod-pow-add, pow-add, pow_pos, or_lt, and_le_l, and_le_r}
+use Rattle.std.proofs.lemmas.Nat.Bits.{bit_at-lt, bit_at_and, bit_at_or, bit_at_set_same, bit_at_set_other, bit_at-zero, bit_at_ones, bit_at_ones_above, bit_at_not, bit_at_above, same_from_bits, shr_and_one}
+use Rattle.std.proofs.Math.Nat.{div-div-eq-div-mul}
 use Rattle.std.proofs.lemmas.List.FromFn.{fill_by_all}
 use Rattle.audit_types.specs.Rows.{has_row, rows_that, intersection, union, complement}
 use Rattle.audit_types.specs.RowLaws.{has-rows_that, has-rows_that_above, rows_that_agree, rows_that_none, rows_that_longer}
@@ -73,6 +74,48 @@ words-rows a h = ap (λ w. record { words = w; n = a.n }) (words-words_of a.n a.
 -- the code's test of a bit
 pub tested : (words : List ℕ) (r : ℕ) → (bit_and (get_or words (r / 64) 0 / 2 ^ (r % 64)) 1 == 1) ≡ has_bit words r
 tested words r = ap (λ b. b == 1) (shr_and_one (get_or words (r / 64) 0) (r % 64))
+
+-- a bit of a shifted number
+bit_at-shr : (x s i : ℕ) → bit_at (x / 2 ^ s) i ≡ bit_at x (s + i)
+bit_at-shr x s i = ap (λ q. q % 2) (div-div-eq-div-mul x (2 ^ s) (2 ^ i) ∙ ap (λ p. x / p) (sym (pow-add 2 s i)))
+
+-- a bit of a number's last eight
+bit_of_byte : (x i : ℕ) → i < 8 → bit_at (bit_and x 255) i ≡ bit_at x i
+bit_of_byte x i l = bit_at_and x 255 i ∙ ap (min (bit_at x i)) (bit_at_ones 8 i l) ∙ omega (arith, bit_at-lt x i)
+
+-- the code's byte has the bits of eight rows
+pub byte_bits : (words : List ℕ) (at i : ℕ) → i < 8 → (bit_at (bit_and (get_or words (at / 8) 0 / 2 ^ (8 * (at % 8))) 255) i == 1) ≡ has_bit words (8 * at + i)
+byte_bits words at i l =
+    let bit : 8 * (at % 8) + i < 64 = omega arith in
+    let place : 64 * (at / 8) + (8 * (at % 8) + i) ≡ 8 * at + i = omega arith in
+    ap (λ b. b == 1) (bit_of_byte (get_or words (at / 8) 0 / 2 ^ (8 * (at % 8))) i l ∙ bit_at-shr (get_or words (at / 8) 0) (8 * (at % 8)) i)
+    ∙ sym (same_place words (at / 8) (8 * (at % 8) + i) bit)
+    ∙ ap (has_bit words) place
+
+-- a number with no bit from k on is below that power
+pub below_by_bits : (b k : ℕ) → ((i : ℕ) → k ≤ i → bit_at b i ≡ 0) → b < 2 ^ k
+below_by_bits b k none =
+    let same : b ≡ bit_and b (2 ^ k - 1) = same_from_bits b (bit_and b (2 ^ k - 1)) (λ i. elim (cases_lt i k) [
+      | inl l ↦ sym (bit_at_and b (2 ^ k - 1) i ∙ ap (min (bit_at b i)) (bit_at_ones k i l) ∙ omega (arith, bit_at-lt b i))
+      | inr l ↦ none i l ∙ sym (bit_at_and b (2 ^ k - 1) i ∙ ap (min (bit_at b i)) (bit_at_ones_above k i l) ∙ omega arith)
+    ]) in
+    omega (arith, same, and_le_r b (2 ^ k - 1), pow_pos k)
+
+-- a bit that is not 1 is 0
+no_one : (x i : ℕ) → (bit_at x i == 1) ≡ false → bit_at x i ≡ 0
+no_one x i e = elim (cases_eq (bit_at x i) 1) [
+  | inl one ↦ absurd (true≢false (sym (eq-eqb _ _ one) ∙ e))
+  | inr other ↦ omega (arith, bit_at-lt x i)
+]
+
+-- and no bit past the last row
+pub byte_below : (n : ℕ) (words : List ℕ) (at : ℕ) → AreWords n words → bit_and (get_or words (at / 8) 0 / 2 ^ (8 * (at % 8))) 255 < 2 ^ (n - 8 * at)
+byte_below n words at h =
+    let byte : ℕ = bit_and (get_or words (at / 8) 0 / 2 ^ (8 * (at % 8))) 255 in
+    below_by_bits byte (n - 8 * at) (λ i above. elim (cases_lt i 8) [
+      | inl l ↦ no_one byte i (byte_bits words at i l ∙ h.none_above (8 * at + i) (omega arith))
+      | inr l ↦ bit_at_above byte 8 i (omega (arith, and_le_r (get_or words (at / 8) 0 / 2 ^ (8 * (at % 8))) 255)) l
+    ])
 
 -- a list of zeros is 0 everywhere
 zero_at : (k i : ℕ) → ◌≡◌ {A = ℕ} (get_or (replicate k 0) i 0) 0

@@ -1,5 +1,6 @@
 //! Sets of rows.
-ghost use Rattle.std.specs.Prelude.{◌≡◌, ◌≢◌, ◌↔◌, ℕ, ◌<◌, ◌≤◌, List, [], length, IsTrue};
+ghost use Rattle.std.specs.Prelude.{◌≡◌, ◌≢◌, ◌↔◌, ◌==◌, ℕ, ◌+◌, ◌-◌, ◌*◌, ◌^◌, ◌<◌, ◌≤◌, List, [], length, IsTrue};
+ghost use Rattle.std.specs.Int.{bit_at};
 ghost use Rattle.audit_types.specs.Rows.{AreRows, has_row, same_rows, with_row, intersection, union, complement};
 ghost use Rattle.std.proofs.Common.{rules};
 ghost use Rattle.std.specs.Cmp.Rules.{comparing};
@@ -74,6 +75,16 @@ impl RowSet {
     {
         let k = (row / 64) as usize;
         self.words[k] |= 1u64 << (row % 64);
+    }
+
+    /// The bits of eight rows: bit i is that of row 8 * at + i, and 0 where there is no such row.
+    pub fn byte(&self, at: u16) -> u8
+        requires { 8 * at < self.now.n }
+        ensures bits { (i : ℕ) → i < 8 → (bit_at result i == 1) ≡ has_row self.now.list (8 * at + i) }
+        ensures below { result < 2 ^ (self.now.n - 8 * at) }
+    {
+        let word = self.words[(at / 8) as usize];
+        (word >> (8 * (at % 8)) & 0xff) as u8
     }
 
     /// Becomes the intersection.

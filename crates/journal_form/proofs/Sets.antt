@@ -1,18 +1,16 @@
 -- The bytes of a set of rows hold its rows, and no other.
 use Rattle.std.proofs.Common.{◌≡◌, ◌≢◌, ℕ, ◌+◌, ◌-◌, ◌*◌, ◌/◌, ◌%◌, ◌^◌, ◌<◌, ◌≤◌, inl, inr, Bool, true, false, ◌||◌, ◌==◌, List, [], ◌∷◌, ◌++◌, length, get_or, refl, sym, ap, ◌∙◌, arith}
-use Rattle.std.specs.Prelude.{bit_or, bit_and}
-use Rattle.std.specs.Int.{bit_at, w8}
-use Rattle.std.proofs.Math.Pow.{pow-lt}
-use Rattle.std.proofs.lemmas.Nat.{or_lt}
-use Rattle.std.proofs.lemmas.Nat.Bits.{bit_at_set_same, bit_at_set_other, shr_and_one}
-use Rattle.std.proofs.lemmas.Bool.{cases_lt, cases_eq, eq-eqb, ne_eqb}
+use Rattle.std.specs.Prelude.{bit_and}
+use Rattle.std.specs.Int.{bit_at}
+use Rattle.std.proofs.lemmas.Nat.Bits.{shr_and_one}
+use Rattle.std.proofs.lemmas.Bool.{cases_lt, eq-eqb, ne_eqb}
 use Rattle.std.proofs.lemmas.List.{append-nil}
 use Rattle.std.proofs.Math.ListN.{get_or-append}
 use Rattle.std.proofs.Math.Seq.{get_or-append_seam}
 use borrow.Author.Count.{below_more}
 use Rattle.audit_types.specs.Rows.{has_row, rows_that, with_row, AreRows}
 use Rattle.audit_types.specs.RowLaws.{rows_that_more, rows_that_agree, rows_that_longer, has-rows_that, has-rows_that_above, rows-again}
-use Rattle.journal_form.specs.Record.{set_size, holds_row, IsByteOf, IsSet}
+use Rattle.journal_form.specs.Record.{set_size, holds_row, IsSet}
 
 or_false : (a b : Bool) → b ≡ false → (a || b) ≡ a
 or_false true b e = refl
@@ -43,37 +41,10 @@ bit_is_set bytes r e = eq-eqb _ _ (sym (shr_and_one (get_or bytes (r / 8) 0) (r 
 pub bit_is_not : (bytes : List ℕ) (r : ℕ) → bit_and (get_or bytes (r / 8) 0 / 2 ^ (r % 8)) 1 ≢ 1 → holds_row bytes r ≡ false
 bit_is_not bytes r n = ne_eqb _ _ (λ e. n (shr_and_one (get_or bytes (r / 8) 0) (r % 8) ∙ e))
 
--- the bits below `count` are those of the rows from 8 * at on, no other is set, and none stands for a row from n on
-pub record HasBits (n : ℕ) (rows : List ℕ) (at count byte : ℕ) : Type 0 where
-  pub so_far : (bit : ℕ) → bit < count → 8 * at + bit < n → (bit_at byte bit == 1) ≡ has_row rows (8 * at + bit)
-  pub no_other : (bit : ℕ) → count ≤ bit → bit_at byte bit ≡ 0
+-- the byte has the bits of the rows from 8 times at on, and no bit past the last row
+pub record IsByteOf (n : ℕ) (rows : List ℕ) (at byte : ℕ) : Type 0 where
+  pub rows_are : (bit : ℕ) → bit < 8 → (bit_at byte bit == 1) ≡ has_row rows (8 * at + bit)
   pub below : byte < 2 ^ (n - 8 * at)
-
--- the next row is there
-pub bit_more : (n : ℕ) (rows : List ℕ) (at count byte : ℕ) → count < 8 → 8 * at + count < n → has_row rows (8 * at + count) ≡ true → HasBits n rows at count byte → HasBits n rows at (count + 1) (bit_or byte (1 * 2 ^ count % 2 ^ 8))
-bit_more n rows at count byte eight lt there has = record {
-  so_far = λ bit below within. elim (cases_eq bit count) [
-    | inl e ↦ rw e (eq-eqb _ _ (bit_at_set_same w8 byte count eight) ∙ sym there)
-    | inr other ↦ ap (λ b. b == 1) (bit_at_set_other w8 byte count eight bit other) ∙ has.so_far bit (omega arith) within
-  ];
-  no_other = λ bit from. bit_at_set_other w8 byte count eight bit (λ e. omega arith) ∙ has.no_other bit (omega arith);
-  below =
-      let small : 2 ^ count < 2 ^ 8 = pow-lt {i = count} {j = 8} eight in
-      let within : 2 ^ count < 2 ^ (n - 8 * at) = pow-lt {i = count} {j = n - 8 * at} (omega arith) in
-      let one : 1 * 2 ^ count % 2 ^ 8 < 2 ^ (n - 8 * at) = omega arith in
-      or_lt (n - 8 * at) byte _ has.below one;
-}
-
--- the next row isn't there, or there is none
-pub bit_less : (n : ℕ) (rows : List ℕ) (at count byte : ℕ) → (8 * at + count < n → has_row rows (8 * at + count) ≡ false) → HasBits n rows at count byte → HasBits n rows at (count + 1) byte
-bit_less n rows at count byte none has = record {
-  so_far = λ bit below within. elim (cases_eq bit count) [
-    | inl e ↦ ne_eqb _ _ (λ one. let zero_bit = has.no_other bit (omega arith) in omega arith) ∙ sym (ap (λ b. has_row rows (8 * at + b)) e ∙ none (omega arith))
-    | inr other ↦ has.so_far bit (omega arith) within
-  ];
-  no_other = λ bit from. has.no_other bit (omega arith);
-  below = has.below;
-}
 
 -- one byte more
 pub byte_more : (n : ℕ) (rows set : List ℕ) (count byte : ℕ) → length set ≡ count → ((k : ℕ) → k < count → IsByteOf n rows k (get_or set k 0)) → IsByteOf n rows count byte → (k : ℕ) → k < count + 1 → IsByteOf n rows k (get_or (set ++ byte ∷ []) k 0)
@@ -88,7 +59,7 @@ pub set_is_whole : (n : ℕ) (rows set : List ℕ) → 0 < n → AreRows n rows 
 set_is_whole n rows set some are long bytes =
     let same : (r : ℕ) → r < n → holds_row set r ≡ has_row rows r = λ r lt.
     let place : 8 * (r / 8) + r % 8 ≡ r = omega arith in
-    (bytes (r / 8) (omega arith)).rows_are (r % 8) (omega arith) (omega arith) ∙ ap (has_row rows) place in
+    (bytes (r / 8) (omega arith)).rows_are (r % 8) (omega arith) ∙ ap (has_row rows) place in
     record {
       long = long;
       rows_are = sym (rows_that_agree (holds_row set) (has_row rows) n same ∙ rows-again n rows are);

@@ -1,7 +1,7 @@
 //! A set of rows as bytes: row r is bit r mod 8, lowest first, of byte r div 8.
 ghost use Rattle.std.specs.Prelude.{◌≡◌, ◌≢◌, ◌↔◌, ◌≤◌, ◌<◌, ◌+◌, ◌-◌, ◌*◌, ◌^◌, ◌++◌, ℕ, List, [], length, take, slice_index, IsTrue, IfOk, IfErr, OnOk};
 ghost use Rattle.audit_types.specs.Limits.{most_rows};
-ghost use Rattle.journal_form.specs.Record.{set_size, last_bits, rows_in, IsByteOf, IsSet};
+ghost use Rattle.journal_form.specs.Record.{set_size, last_bits, rows_in, IsSet};
 
 use audit_types::RowSet;
 use std::alloc::AllocError;
@@ -13,29 +13,13 @@ pub fn size_of_set(n: u16) -> usize
     (n as usize).div_ceil(8)
 }
 
-// The byte with the bits of the rows from 8 * at on.
-fn byte_of(rows: &RowSet, at: u16) -> u8
-    requires { 8 * at < rows.now.n }
-    ensures { IsByteOf rows.now.n rows.now.list at result }
-{
-    let n = rows.n();
-    let mut byte = 0;
-    for bit in 0..8 {
-        let row = 8 * at + bit;
-        if row < n && rows.has(row) {
-            byte |= 1 << bit;
-        }
-    }
-    byte
-}
-
 /// Writes the bytes of the set at the end.
 pub fn put_set(out: &mut Vec<u8>, rows: &RowSet) -> Result<(), AllocError>
     ensures { OnOk result ((set : List ℕ) × (out.new.items ≡ out.old.items ++ set) × IsSet rows.now.n set rows.now.list) }
 {
     let size = size_of_set(rows.n());
     for at in 0..size {
-        out.push(byte_of(rows, at as u16))?;
+        out.push(rows.byte(at as u16))?;
     }
     Ok(())
 }

@@ -1,5 +1,5 @@
 use Rattle.std.proofs.Common.{◌≡◌, ℕ, ◌<◌, List, ◌++◌, length, get_or}
-use Rattle.journal_form.specs.Record.{IsByteOf}
+use Rattle.journal_form.proofs.Sets.{IsByteOf}
 use Rattle.journal_form.proofs.set.put_set.Given as goal
 
 -- the bytes so far stand at the end
