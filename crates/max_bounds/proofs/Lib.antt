@@ -2,6 +2,7 @@ pub mod Lowering
 pub mod Surveys
 pub mod Walks
 pub mod HighestBounds
+pub mod HighRows
 pub mod LostSets
 pub mod ReachedRows
 pub mod Spans

@@ -9,6 +9,7 @@ use Rattle.max_bounds.specs.Reaching.{bound_at, reaching}
 use Rattle.max_bounds.specs.Outside.{outside}
 use Rattle.max_bounds.specs.declared.bounds.Bounds.TheInside.{Inside}
 use Rattle.max_bounds.specs.declared.counts.Span.{Span}
+use Rattle.max_bounds.specs.declared.high_rows.HighRows.{HighRows}
 use Rattle.max_bounds.specs.declared.stranding.Left.{Left}
 use Rattle.max_bounds.specs.declared.stranding.Left.TheVariants.{Nothing, One, More}
 use Rattle.max_bounds.specs.declared.stranding.Lost.{Lost}
@@ -44,6 +45,11 @@ rows_at_least bound answer rows = filter (λ r. is_at_least answer (bound r)) ro
 -- the rows of a set whose bound the answer lowers
 abbrev pub rows_above : (ℕ → Option ℤ) → ℤ → List ℕ → List ℕ
 rows_above bound answer rows = filter (λ r. is_above answer (bound r)) rows
+
+-- these rows of n have each one whose bound is at least the cut
+pub record IsHigh (n : ℕ) (bound : ℕ → Option ℤ) (high : HighRows) : Type 0 where
+  pub same_n : high.rows.n ≡ n
+  pub covers : (r : ℕ) → r < n → is_at_least high.cut (bound r) ≡ true → has_row high.rows.list r ≡ true
 
 -- the rows of an answer that reach their bound and are among the falling ones
 abbrev pub falls_of : (ℕ → Option ℤ) → List ℕ → Answer → List ℕ
@@ -94,4 +100,5 @@ pub record IsKept (b : Inside) : Type 0 where
   pub one_each : length b.upper.items ≡ b.n
   pub bounds : (r : ℕ) → bound_at b.upper.items r ≡ upper_bound (answers_of b.pairs.items) r
   pub same_n_least : AllByRecursion (λ p. p.rows.n ≡ b.n) b.least.items
+  pub high : IsHigh b.n (bound_at b.upper.items) b.high
   pub tells : TellsExtremes (extremes (answers_of b.pairs.items)) (answers_of b.pairs.items) b.counts.items b.fewest (answers_of b.least.items)

@@ -8,9 +8,9 @@ ghost use Rattle.max_bounds.specs.Outside.{IsDangerousByExtremes};
 ghost use Rattle.max_bounds.specs.Kept.{extreme_counts};
 
 use crate::answered::AnsweredMax;
-use crate::highest::one_highest;
+use crate::high_rows::HighRows;
 use crate::kept::{fall, insert};
-use crate::reach::{reach, settle};
+use crate::reach::settle;
 use crate::stranding::strands;
 use crate::survey::{Trial, survey, survey_with};
 use audit_types::{NoMemory, RowSet};
@@ -29,6 +29,8 @@ pub struct Bounds {
     fewest: u16,
     // Extreme rows of pairs, with their answer. Each pair has such a set of its own answer and with no other rows.
     least: Vec<AnsweredMax>,
+    // The rows with high bounds, which mostly tell of all.
+    high: HighRows,
 }
 
 impl Model for Bounds {
@@ -57,6 +59,7 @@ impl Bounds {
             counts: Vec::new(alloc),
             fewest: u16::MAX,
             least: Vec::new(alloc),
+            high: HighRows::new(n),
         })
     }
 
@@ -84,7 +87,7 @@ impl Bounds {
             rows: *rows,
             answer,
         };
-        let affected = reach(&self.upper, rows, answer);
+        let affected = self.high.reach(&self.upper, rows, answer);
         let fewest = fall(
             &mut self.counts,
             self.fewest,
@@ -100,6 +103,7 @@ impl Bounds {
         self.counts.push_reserved(count);
         insert(&mut self.least, &affected.extremes, &asked, &self.pairs);
         self.pairs.push_reserved(asked);
+        self.high = self.high.next(&self.upper, self.n, self.pairs.len());
         Ok(())
     }
 
@@ -170,6 +174,6 @@ impl Bounds {
             // Some answer has no extreme row, or else one has a lone row.
             return self.fewest == 1;
         }
-        one_highest(&self.upper, rows) || strands(&self.least, rows)
+        self.high.one_highest(&self.upper, rows) || strands(&self.least, rows)
     }
 }

@@ -13,7 +13,8 @@ pub(crate) struct Affected {
     pub falling: RowSet,
 }
 
-fn is_at_least(answer: i64, bound: Option<i64>) -> bool
+/// Whether there is no bound, or one that is not below the answer.
+pub(crate) fn is_at_least(answer: i64, bound: Option<i64>) -> bool
     ensures { result ≡ is_at_least answer bound }
 {
     match bound {

@@ -10,9 +10,10 @@ use Rattle.audit_types.specs.Column.{Answer}
 use Rattle.audit_types.specs.Extremes.{upper_bound, extremes}
 use Rattle.max_bounds.specs.Maxima.{Maxima, answer_of, answers_of, and_answer}
 use Rattle.max_bounds.specs.Reaching.{bound_at}
-use Rattle.max_bounds.specs.Kept.{rows_at_least, fewest_of, AreLeast, TellsExtremes}
+use Rattle.max_bounds.specs.Kept.{rows_at_least, fewest_of, AreLeast, IsHigh, TellsExtremes}
 use Rattle.max_bounds.specs.AnswerLaws.{all-push}
 use Rattle.max_bounds.proofs.FallingCounts.{fewest_of-push}
+use Rattle.max_bounds.proofs.HighRows.{high_stays}
 use Rattle.max_bounds.proofs.NextExtremes.{next_extremes, next_bounds, all_last}
 use Rattle.max_bounds.proofs.bounds.Bounds.add.Goals as goal
 
@@ -25,6 +26,18 @@ insert-requires-clause-own c =
     let before : answers ≡ answers_of c.deref-4.result.now = sym (ap answers_of (c.deref-4.ensures.value ∙ c.in_ok-reserve.ensures.items)) in
     c.reach-affected.ensures.extremes ∙ ap (λ u. rows_at_least u x rows) bounds ∙ next_extremes answers rows x
     ∙ ap (λ a. extremes (and_answer a rows x) (record { rows = rows; value = x })) before
+
+pub next-self-inside-requires-clause-high : goal.next-self-inside-requires-clause-high
+next-self-inside-requires-clause-high c =
+    let rows = c.args.rows.now.list in
+    let x = to_z w64 (of_z w64 c.args.answer) in
+    let upper = c.self.inside.upper.items in
+    let upper_is : (with_items c.self.inside.upper c.settle.new.upper).items ≡ c.settle.new.upper = with_items_is c.self.inside.upper c.settle.new.upper (c.settle.auto.upper ∙ c.deref_mut-3.ensures.len) in
+    let reached : c.reach-affected.result.extremes.list ≡ rows_at_least (bound_at upper) x rows = c.reach-affected.ensures.extremes ∙ ap (λ l. rows_at_least (bound_at l) x rows) c.deref.ensures.value in
+    high_stays c.self.inside.n (bound_at upper) (bound_at c.deref-5.result.now) c.self.inside.high x rows c.self.invariant.high (λ r.
+    ap (λ l. bound_at l r) (c.deref-5.ensures.value ∙ upper_is) ∙ c.settle.ensures.settled r
+    ∙ ap (λ l. cond (has_row l r) (Some x) (bound_at c.deref_mut-3.result.now r)) reached
+    ∙ ap (λ l. cond (has_row (rows_at_least (bound_at upper) x rows) r) (Some x) (bound_at l r)) c.deref_mut-3.ensures.value)
 
 pub invariant_of-self-2 : goal.invariant_of-self-2
 invariant_of-self-2 c =
@@ -57,6 +70,7 @@ invariant_of-self-2 c =
           ∙ ap (λ o. cond (has_row (rows_at_least (upper_bound answers) x rows) r) (Some x) o) (ap (λ l. bound_at l r) c.deref_mut-3.ensures.value ∙ c.self.invariant.bounds r)
           ∙ next_bounds answers rows x r ∙ ap (λ l. upper_bound l r) (sym answers_are);
       same_n_least = subst (λ n. AllByRecursion (λ p. p.rows.n ≡ n) c.insert.new.least.items) same_n c.insert.ensures.same_n_least;
+      high = subst (λ l. IsHigh c.self.inside.n (bound_at l) c.next-self-inside.result) c.deref-5.ensures.value c.next-self-inside.ensures.high;
       tells = subst (λ l. TellsExtremes (extremes l) l c.push_reserved.new.self.items c.min-self-inside.result (answers_of c.insert.new.least.items)) (sym answers_are) (record {
         counted = counts_are ∙ ap (λ l. l ++ c.len-count.result ∷ []) fallen.counted ∙ ap (λ k. map (λ a. length (extremes more a)) answers ++ k ∷ []) count
             ∙ sym (map-append (λ a. length (extremes more a)) answers (last ∷ []));

@@ -1,0 +1,136 @@
+-- The rows with high bounds stand for all where one of them counts.
+use Rattle.std.proofs.Common.{◌≡◌, ◌⊎◌, ℕ, ◌<◌, ℤ, Bool, true, false, cond, not, ◌&&◌, List, refl, sym, ap, ◌∙◌, arith, inl, inr, Option, Some, None}
+use Rattle.std.specs.Prelude.{◌↔◌, ◌<ℤ◌, ◌≤ℤ◌, int_lt}
+use Rattle.std.specs.List.{filter}
+use Rattle.std.proofs.lemmas.Int.{ints}
+use Rattle.std.proofs.lemmas.Bool.{true≢false, cases_lt, cases_eq}
+use Rattle.audit_types.specs.Rows.{has_row, AreRows, intersection}
+use Rattle.audit_types.specs.RowLaws.{ascending_same, AreRows-rows_that, has-rows_that, has-rows_that_above}
+use Rattle.max_bounds.specs.Outside.{IsBelowBound, HasOneHighest}
+use Rattle.max_bounds.specs.Kept.{is_at_least, is_above, rows_at_least, rows_above, IsHigh}
+use Rattle.max_bounds.specs.RowListLaws.{filter-has, has-filter, filter-ascends, row_below}
+use Rattle.max_bounds.specs.declared.high_rows.HighRows.{HighRows}
+use Rattle.max_bounds.proofs.LoweredSets.{same_test}
+
+-- both of two
+both : (a b : Bool) → a ≡ true → b ≡ true → (a && b) ≡ true
+both a b e f = rw (e, f) refl
+
+first : (a b : Bool) → (a && b) ≡ true → a ≡ true
+first true b e = refl
+first false b e = e
+
+-- a bound that is not below a number
+from_at_least : (b x : ℤ) → not (int_lt b x) ≡ true → x ≤ℤ b
+from_at_least b x h = elim (int_lt b x) as (λ t. int_lt b x ≡ t → not t ≡ true → x ≤ℤ b) [
+  | true ↦ λ less k. absurd (true≢false (sym k))
+  | false ↦ λ more k. omega (arith, ints)
+] refl h
+
+to_at_least : (b x : ℤ) → x ≤ℤ b → not (int_lt b x) ≡ true
+to_at_least b x low = elim (int_lt b x) as (λ t. int_lt b x ≡ t → not t ≡ true) [
+  | true ↦ λ less. absurd (omega (arith, ints))
+  | false ↦ λ more. refl
+] refl
+
+-- what is at least a number is at least each smaller one
+lower_at_least : (o : Option ℤ) (cut answer : ℤ) → cut ≤ℤ answer → is_at_least answer o ≡ true → is_at_least cut o ≡ true
+lower_at_least None cut answer low h = refl
+lower_at_least (Some b) cut answer low h = let most = from_at_least b answer h in to_at_least b cut (omega (arith, ints))
+
+-- and so is what is above it
+above_at_least : (o : Option ℤ) (cut answer : ℤ) → cut ≤ℤ answer → is_above answer o ≡ true → is_at_least cut o ≡ true
+above_at_least None cut answer low h = absurd (true≢false (sym h))
+above_at_least (Some b) cut answer low h = to_at_least b cut (omega (arith, ints))
+
+-- a row of both sets
+of_both : (n : ℕ) (rows high : List ℕ) (r : ℕ) → has_row (intersection n rows high) r ≡ true → has_row rows r ≡ true
+of_both n rows high r there = elim (cases_lt r n) [
+  | inl below ↦ first (has_row rows r) (has_row high r) (sym (has-rows_that (λ q. has_row rows q && has_row high q) n r below) ∙ there)
+  | inr above ↦ absurd (true≢false (sym there ∙ has-rows_that_above (λ q. has_row rows q && has_row high q) n r above))
+]
+
+in_both : (n : ℕ) (rows high : List ℕ) (r : ℕ) → AreRows n rows → has_row rows r ≡ true → has_row high r ≡ true → has_row (intersection n rows high) r ≡ true
+in_both n rows high r are there here = has-rows_that (λ q. has_row rows q && has_row high q) n r (row_below n rows r are there) ∙ both (has_row rows r) (has_row high r) there here
+
+-- a test that only high rows pass passes the same rows among them
+narrow : (n : ℕ) (test : ℕ → Bool) (rows high : List ℕ) → AreRows n rows → ((r : ℕ) → r < n → test r ≡ true → has_row high r ≡ true) →
+    filter test (intersection n rows high) ≡ filter test rows
+narrow n test rows high are covers = ascending_same 0 n n (filter test (intersection n rows high)) (filter test rows)
+    (filter-ascends 0 n test (intersection n rows high) (AreRows-rows_that (λ q. has_row rows q && has_row high q) n)) (filter-ascends 0 n test rows are)
+    (λ r. same_test (has_row (filter test (intersection n rows high)) r) (has_row (filter test rows) r)
+    (λ there. let found = filter-has test (intersection n rows high) r there in has-filter test rows r (of_both n rows high r found.0) found.1)
+    (λ there. let found = filter-has test rows r there in
+    has-filter test (intersection n rows high) r (in_both n rows high r are found.0 (covers r (row_below n rows r are found.0) found.1)) found.1))
+
+module _ (n : ℕ) (bound : ℕ → Option ℤ) (high : HighRows) (is : IsHigh n bound high) (rows : List ℕ) (are : AreRows n rows) where
+  -- where an answer is not below the cut, what it does to the high rows is all
+  pub same_at_least : (answer : ℤ) → high.cut ≤ℤ answer → rows_at_least bound answer (intersection n rows high.rows.list) ≡ rows_at_least bound answer rows
+  same_at_least answer low = narrow n (λ r. is_at_least answer (bound r)) rows high.rows.list are (λ r below passes. is.covers r below (lower_at_least (bound r) high.cut answer low passes))
+
+  pub same_above : (answer : ℤ) → high.cut ≤ℤ answer → rows_above bound answer (intersection n rows high.rows.list) ≡ rows_above bound answer rows
+  same_above answer low = narrow n (λ r. is_above answer (bound r)) rows high.rows.list are (λ r below passes. is.covers r below (above_at_least (bound r) high.cut answer low passes))
+
+  -- a bound below the cut is below each that is not
+  below_cut : (o p : Option ℤ) → is_at_least high.cut o ≡ false → is_at_least high.cut p ≡ true → IsBelowBound o p
+  below_cut None p less more = absurd (true≢false less)
+  below_cut (Some b) None less more = tt
+  below_cut (Some b) (Some c) less more = let most = from_at_least c high.cut more in
+      elim (int_lt b high.cut) as (λ t. int_lt b high.cut ≡ t → not t ≡ false → b <ℤ c) [
+        | true ↦ λ e k. omega (arith, ints)
+        | false ↦ λ e k. absurd (true≢false k)
+      ] refl less
+
+  -- what is above a bound that is at least the cut is too
+  above_cut : (o p : Option ℤ) → is_at_least high.cut o ≡ true → IsBelowBound o p → is_at_least high.cut p ≡ true
+  above_cut None p more less = absurd less
+  above_cut (Some b) None more less = refl
+  above_cut (Some b) (Some c) more less = let most = from_at_least b high.cut more in to_at_least c high.cut (omega (arith, ints))
+
+  -- a row of the set is high, or its bound is below the cut
+  high_or_below : (q : ℕ) → has_row rows q ≡ true → (has_row (intersection n rows high.rows.list) q ≡ true) ⊎ (is_at_least high.cut (bound q) ≡ false)
+  high_or_below q there = elim (is_at_least high.cut (bound q)) as (λ t. is_at_least high.cut (bound q) ≡ t → (has_row (intersection n rows high.rows.list) q ≡ true) ⊎ (t ≡ false)) [
+    | true ↦ λ e. inl (in_both n rows high.rows.list q are there (is.covers q (row_below n rows q are there) e))
+    | false ↦ λ e. inr refl
+  ] refl
+
+  -- where one of the high rows reaches the cut, they tell whether one row is highest
+  pub same_highest : (q : ℕ) → has_row (intersection n rows high.rows.list) q ≡ true → is_at_least high.cut (bound q) ≡ true →
+      HasOneHighest bound (intersection n rows high.rows.list) ↔ HasOneHighest bound rows
+  same_highest q there reaches =
+      let C = intersection n rows high.rows.list in (
+        (λ one. let r = one.0 in
+            let top : is_at_least high.cut (bound r) ≡ true = elim (cases_eq q r) [
+              | inl same ↦ ap (λ p. is_at_least high.cut (bound p)) (sym same) ∙ reaches
+              | inr apart ↦ above_cut (bound q) (bound r) reaches (one.2 q there apart)
+            ] in (
+              r,
+              of_both n rows high.rows.list r one.1,
+              λ p here apart. elim (high_or_below p here) [
+                | inl in_high ↦ one.2 p in_high apart
+                | inr less ↦ below_cut (bound p) (bound r) less top
+              ],
+            )),
+        (λ one. let r = one.0 in
+            let top : is_at_least high.cut (bound r) ≡ true = elim (cases_eq q r) [
+              | inl same ↦ ap (λ p. is_at_least high.cut (bound p)) (sym same) ∙ reaches
+              | inr apart ↦ above_cut (bound q) (bound r) reaches (one.2 q (of_both n rows high.rows.list q there) apart)
+            ] in
+            (r, in_both n rows high.rows.list r are one.1 (is.covers r (row_below n rows r are one.1) top), λ p here apart. one.2 p (of_both n rows high.rows.list p here) apart)),
+      )
+
+-- a number that a row gets for its bound is not above the one before
+fallen : (o : Option ℤ) (cut x : ℤ) → is_at_least x o ≡ true → is_at_least cut (Some x) ≡ true → is_at_least cut o ≡ true
+fallen o cut x more reaches = lower_at_least o cut x (from_at_least x cut reaches) more
+
+-- the high rows stay so as bounds fall
+pub high_stays : (n : ℕ) (before after : ℕ → Option ℤ) (high : HighRows) (x : ℤ) (rows : List ℕ) → IsHigh n before high →
+    ((r : ℕ) → after r ≡ cond (has_row (rows_at_least before x rows) r) (Some x) (before r)) → IsHigh n after high
+high_stays n before after high x rows is settled = record {
+  same_n = is.same_n;
+  covers = λ r below reaches. is.covers r below (step r (has_row (rows_at_least before x rows) r) refl (sym (ap (is_at_least high.cut) (settled r)) ∙ reaches));
+}
+  where
+    step : (r : ℕ) (b : Bool) → has_row (rows_at_least before x rows) r ≡ b → is_at_least high.cut (cond b (Some x) (before r)) ≡ true → is_at_least high.cut (before r) ≡ true
+    step r true there reaches = fallen (before r) high.cut x (filter-has (λ q. is_at_least x (before q)) rows r there).1 reaches
+    step r false there reaches = reaches
