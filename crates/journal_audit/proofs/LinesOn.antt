@@ -1,5 +1,5 @@
 -- Sending lines on one subject after another: what was sent on the first ones and then on more was sent on all of them.
-use Rattle.std.proofs.Common.{◌≡◌, ℕ, List, [], ◌∷◌, ◌++◌, Result, Ok, Err, refl, sym, ap, ◌∙◌, subst, arith}
+use Rattle.std.proofs.Common.{◌≡◌, ℕ, List, [], ◌∷◌, ◌++◌, length, Result, Ok, Err, refl, sym, ap, ◌∙◌, subst, arith, length-append}
 use Rattle.std.proofs.lemmas.Bool.{false≢true}
 use Rattle.std.specs.Result.{IsErr, IsErrAnd}
 use Rattle.bench_core.specs.declared.bench.Bench.{Ghosts}
@@ -34,6 +34,7 @@ module _ {D : Type 0} (bench : Ghosts D) (only_now : NowOnly bench) (audit : Aud
     sends = λ told. none_sent audit (bench.sent old);
     part = λ told. tt;
     moments = λ told quiet. found_now [] old quiet;
+    ticks = λ told. omega arith;
     file = refl;
     crash = λ image left. left;
     later = omega arith;
@@ -47,6 +48,7 @@ module _ {D : Type 0} (bench : Ghosts D) (only_now : NowOnly bench) (audit : Aud
     sends = λ told. tt;
     part = λ told. none_front audit about (bench.sent old);
     moments = λ told quiet. found_now about old quiet;
+    ticks = λ told. tt;
     file = refl;
     crash = λ image left. left;
     later = omega arith;
@@ -67,6 +69,7 @@ module _ {D : Type 0} (bench : Ghosts D) (only_now : NowOnly bench) (audit : Aud
       sends = λ told. one_sent audit subject line (bench.sent old) (bench.sent new) is (sends.sends told);
       part = λ told. tt;
       moments = λ told quiet. while_sending sends quiet;
+      ticks = sends.ticks;
       file = sends.file;
       crash = sends.crash;
       later = sends.later;
@@ -77,6 +80,7 @@ module _ {D : Type 0} (bench : Ghosts D) (only_now : NowOnly bench) (audit : Aud
       sends = λ told. tt;
       part = λ told. one_front audit subject line (bench.sent old) (bench.sent new) is (sends.part told);
       moments = λ told quiet. while_sending sends quiet;
+      ticks = λ told. tt;
       file = sends.file;
       crash = sends.crash;
       later = sends.later;
@@ -101,6 +105,7 @@ module _ {D : Type 0} (bench : Ghosts D) (only_now : NowOnly bench) (audit : Aud
       sends = λ told. sent_then audit xs ys (bench.sent a) (bench.sent b) (bench.sent c) (first.sends told) (second.sends told);
       part = λ told. tt;
       moments = while_both (Ok u) second;
+      ticks = λ told. omega (arith, first.ticks told, second.ticks told, length-append xs ys);
       file = second.file ∙ first.file;
       crash = λ image left. first.crash image (second.crash image left);
       later = omega (arith, first.later, second.later);
@@ -111,6 +116,7 @@ module _ {D : Type 0} (bench : Ghosts D) (only_now : NowOnly bench) (audit : Aud
       sends = λ told. tt;
       part = λ told. then_front audit xs ys (bench.sent a) (bench.sent b) (bench.sent c) (first.sends told) (second.part told);
       moments = while_both (Err e) second;
+      ticks = λ told. tt;
       file = second.file ∙ first.file;
       crash = λ image left. first.crash image (second.crash image left);
       later = omega (arith, first.later, second.later);
@@ -125,6 +131,7 @@ module _ {D : Type 0} (bench : Ghosts D) (only_now : NowOnly bench) (audit : Aud
     part = λ told. front_of_more audit xs ys (bench.sent a) (bench.sent b) (first.part told);
     moments = λ told quiet. weakens bench a b (SendsMeanwhile audit xs (bench.file a) (bench.sent a)) (SendsMeanwhile audit (xs ++ ys) (bench.file a) (bench.sent a))
         (λ image sent here. record { same = here.same; front = front_of_more audit xs ys (bench.sent a) sent here.front }) (first.moments told quiet);
+    ticks = λ told. tt;
     file = first.file;
     crash = first.crash;
     later = first.later;

@@ -1,5 +1,5 @@
 //! Sending a report, a line a send.
-ghost use Rattle.std.specs.Prelude.{◌≡◌, ◌<◌, ◌≤◌, [], ◌∷◌, ◌++◌, List, ℕ, true, Some, length, OnOk, OnErr};
+ghost use Rattle.std.specs.Prelude.{◌≡◌, ◌<◌, ◌≤◌, ◌+◌, [], ◌∷◌, ◌++◌, List, ℕ, true, Some, length, OnOk, OnErr};
 ghost use Rattle.audit_types.specs.Shapes.{columns, kind_at};
 ghost use Rattle.audit_types.specs.declared.shapes.Kind.TheVariants as kind;
 ghost use Rattle.schema_json.specs.Columns.{secret_place};
@@ -166,6 +166,9 @@ pub fn audit<B: Bench>(
     ensures part { B.told → OnErr result (ReportsFront (audit_of schema.now.columns store.now) (B.sent bench.old) (B.sent bench.new)) }
     ensures any_moment { B.told → IsQuiet B.Bench bench.old
         → LeavesOnly B.Bench bench.old bench.new (SendsMeanwhile (audit_of schema.now.columns store.now) (subjects store.now.secret.shape) (B.file bench.old) (B.sent bench.old)) }
+
+    // One send for each line, and no other call.
+    ensures ticks { B.told → OnOk result (B.moment bench.new ≡ B.moment bench.old + length (subjects store.now.secret.shape)) }
 
     // The file isn't touched.
     ensures file { B.file bench.new ≡ B.file bench.old }

@@ -33,5 +33,8 @@ returns-clause-report g c = (then_totals g c).sends
 pub returns-clause-part : goal.returns-clause-part
 returns-clause-part g c = (then_totals g c).part
 
+pub returns-clause-ticks : goal.returns-clause-ticks
+returns-clause-ticks g c = (then_totals g c).ticks
+
 pub returns-clause-any_moment : goal.returns-clause-any_moment
 returns-clause-any_moment g c = (then_totals g c).moments
