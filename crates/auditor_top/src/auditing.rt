@@ -70,6 +70,10 @@ pub fn audit<P: Source, B: Bench>(
         (counts (P.faults schema.old) (P.faults table.old) input (B.faults bench.old) spare) (counts (P.faults schema.new) (P.faults table.new) input (B.faults bench.new) spare)
         → IsDoneOrWants result }
 
+    // Where it is done, it took two calls of the bench to open the journal, and one for each line of the report.
+    ensures calls { P.told → B.told → result ≡ Status.Done → (base : Database) → AreFilesOf (P.left schema.old) (P.left table.old) base
+        → B.moment bench.new ≡ B.moment bench.old + 2 + length (subjects base.secret.shape) }
+
     // Over any other, nothing began.
     ensures nothing_began { P.told → B.told → IsQuiet B.Bench bench.old
         → ((base : Database) (history : List Answered) → ServesOver (P.left schema.old) (P.left table.old) (B.file bench.old) base history → ⊥)

@@ -7,6 +7,7 @@ ghost use Rattle.table_load.specs.Reading.{most_table};
 ghost use Rattle.table_load.specs.Database.{Database};
 ghost use Rattle.table_load.specs.Tables.{table_of};
 ghost use Rattle.journal_form.specs.Journal.{StandsFor};
+ghost use Rattle.answer_journal.specs.Make.{calls_to_make};
 ghost use Rattle.answer_journal.specs.Moments.{IsAlready, IsUnmadeOrEmpty, IsUntouched};
 ghost use Rattle.auditor_top.specs.declared.words.Command.TheVariants.{Init};
 ghost use Rattle.auditor_top.specs.Commands.{AreFilesOf};
@@ -54,6 +55,9 @@ pub fn init<P: Source, B: Bench>(
     ensures quiet { B.told → IsQuiet B.Bench bench.old → result ≢ Status.BenchFault → IsQuiet B.Bench bench.new }
     ensures kept { B.told → result ≢ Status.Done → result ≢ Status.BenchFault → B.file bench.new ≡ B.file bench.old }
     ensures sent { B.sent bench.new ≡ B.sent bench.old }
+
+    // Where it is done, it took seven calls of the bench, or six over a file of 21 bytes.
+    ensures calls { B.told → result ≡ Status.Done → B.moment bench.new ≡ B.moment bench.old + calls_to_make (B.file bench.old) }
 
     // At every moment the file is the old one, where something is there already. Otherwise it isn't a made journal, or
     // stands for the empty history.

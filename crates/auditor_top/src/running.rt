@@ -10,9 +10,11 @@ ghost use Rattle.table_load.specs.Reading.{most_table};
 ghost use Rattle.table_load.specs.Database.{Database, secret_table};
 ghost use Rattle.table_load.specs.Tables.{table_of, public_of};
 ghost use Rattle.journal_form.specs.Journal.{StandsFor};
+ghost use Rattle.answer_journal.specs.Make.{calls_to_make};
 ghost use Rattle.answer_journal.specs.Moments.{IsAlready, IsUnmadeOrEmpty, IsUntouched};
 ghost use Rattle.line_wire.specs.Lines.{counted_lines, most_input};
 ghost use Rattle.question_plan.specs.Session.{Replied};
+ghost use Rattle.audit_session.specs.Ends.{TakesCalls};
 ghost use Rattle.audit_session.specs.Stops.{StopsOver};
 ghost use Rattle.audit_session.specs.Lives.{Run, IsLife};
 ghost use Rattle.journal_audit.specs.Reports.{SendsMeanwhile, subjects};
@@ -141,6 +143,17 @@ pub fn run<P: Source, I: Source, B: Bench>(
 
     // Where it ends without a failed call, a crash leaves the file that reads.
     ensures quiet { B.told → IsQuiet B.Bench bench.old → result ≢ Status.BenchFault → IsQuiet B.Bench bench.new }
+
+    // Where it is done, its calls of the bench are counted. `init` takes seven, or six over a file of 21 bytes; `serve` two
+    // to open the journal, one for each line, and four for each group in which some reply makes a record; `audit` two to open
+    // the journal, and one for each line of the report.
+    ensures init_calls { B.told → NamesCommand words.now.items Init → result ≡ Status.Done → B.moment bench.new ≡ B.moment bench.old + calls_to_make (B.file bench.old) }
+    ensures serve_calls { P.told → I.told → B.told → (batch : ℕ) → NamesCommand words.now.items (Serve batch) → result ≡ Status.Done
+        → (base : Database) (history : List Answered) → ServesOver (P.left schema.old) (P.left table.old) (B.file bench.old) base history
+        → TakesCalls base history batch (counted_lines (I.left input.old)) (B.moment bench.old + 2) (B.moment bench.new) }
+    ensures audit_calls { P.told → B.told → NamesCommand words.now.items Audit → result ≡ Status.Done
+        → (base : Database) → AreFilesOf (P.left schema.old) (P.left table.old) base
+        → B.moment bench.new ≡ B.moment bench.old + 2 + length (subjects base.secret.shape) }
 
     // What it doesn't come to, it doesn't call, and before the lines nothing is written or sent. A step that isn't one of the
     // command's leaves its object alone.

@@ -11,6 +11,7 @@ ghost use Rattle.table_load.specs.Tables.{table_of};
 ghost use Rattle.journal_form.specs.Journal.{StandsFor};
 ghost use Rattle.answer_journal.specs.Moments.{IsUntouched};
 ghost use Rattle.line_wire.specs.Lines.{counted_lines, most_input};
+ghost use Rattle.audit_session.specs.Ends.{TakesCalls};
 ghost use Rattle.audit_session.specs.Stops.{IsBatch, StopsOver};
 ghost use Rattle.auditor_top.specs.declared.words.Command.TheVariants.{Serve};
 ghost use Rattle.auditor_top.specs.Commands.{AreFilesOf, ServesOver};
@@ -88,6 +89,12 @@ pub fn serve<P: Source, I: Source, B: Bench>(
         → ServesOver (P.left schema.old) (P.left table.old) (B.file bench.old) base history
         → (image sent : List ℕ) (now : List Answered) → B.since bench.new (B.moment bench.old) image sent → StandsFor image base.secret.shape now
         → IsLegal (secret_table base.secret) now × IsUndisclosed (secret_table base.secret) now }
+
+    // Where it is done, it took two calls of the bench to open the journal, one for each line, and four for each group in
+    // which some reply makes a record.
+    ensures calls { P.told → I.told → B.told → result ≡ Status.Done → (base : Database) (history : List Answered)
+        → ServesOver (P.left schema.old) (P.left table.old) (B.file bench.old) base history
+        → TakesCalls base history batch (counted_lines (I.left input.old)) (B.moment bench.old + 2) (B.moment bench.new) }
 
     // Over any other, nothing began.
     ensures nothing_began { P.told → B.told → IsQuiet B.Bench bench.old

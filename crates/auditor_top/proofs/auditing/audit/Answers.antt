@@ -1,4 +1,4 @@
-use Rattle.std.proofs.Common.{rules, ◌≡◌, ℕ, List, OnOk, OnErr, sym, ◌∙◌, ap, subst}
+use Rattle.std.proofs.Common.{rules, ◌≡◌, ◌+◌, ℕ, List, length, OnOk, OnErr, sym, ◌∙◌, ap, subst}
 use Rattle.audit_types.specs.History.{IsLegal}
 use Rattle.bench_core.specs.Causes.{Rose}
 use Rattle.bench_core.specs.Calls.{IsQuiet, LeavesOnly}
@@ -15,6 +15,7 @@ use Rattle.auditor_top.specs.Status.{open_status, start_status}
 use Rattle.auditor_top.specs.Ends.{AuditEnds, audit_over}
 use Rattle.auditor_top.specs.Causes.{SchemaCause, TableCause, FileCause, FaultCause, HoldsLegal, IsDoneOrWants, counts}
 use Rattle.auditor_top.proofs.Bases.{same_base}
+use Rattle.auditor_top.proofs.Calls.{report_done}
 use Rattle.auditor_top.proofs.Endings.{moved, unopened_wants, unstarted_faults, unstarted_wants}
 use Rattle.auditor_top.proofs.AuditEndings.{same_audit, untouched_report, unopened_report, unstarted_report, unstarted_report_cause, report_cause, report_ends, report_faults, report_wants}
 use Rattle.auditor_top.proofs.auditing.audit.Goals as goal
@@ -133,6 +134,14 @@ returns-clause-ends g c = λ ptold told base history over.
     (report_ends c.audit.result base history before after
     (subst (λ (a : Audit). OnOk c.audit.result (Reports a before after)) seen (subst (λ (sent : List ℕ). OnOk c.audit.result (Reports (audit_of opened.schema.columns now) sent after)) c.start.ensures.sent (c.audit.ensures.report told)))
     (subst (λ (a : Audit). OnErr c.audit.result (ReportsFront a before after)) seen (subst (λ (sent : List ℕ). OnErr c.audit.result (ReportsFront (audit_of opened.schema.columns now) sent after)) c.start.ensures.sent (c.audit.ensures.part told))))
+
+pub returns-clause-calls : goal.returns-clause-calls
+returns-clause-calls g c = λ ptold told done base files.
+    let opened = c.in-Ok.opened in
+    let same = same_base _ _ opened.schema.columns (table_view opened.table) base (c.in-Ok.ensures.schema_is ptold) (c.in-Ok.ensures.table_is ptold) files in
+    let secret : c.in-Ok-start.store.secret ≡ base.secret = c.in-Ok-start.ensures.store.0 ∙ sym (ap (λ (b : Database). b.secret) same) in
+    report_done c.audit.result (sym c.ended.ensures ∙ done) (c.audit.ensures.ticks told) ∙ ap (λ (n : ℕ). n + length (subjects c.in-Ok-start.store.secret.shape)) (c.in-Ok-start.ensures.ticks told)
+    ∙ ap (λ (s : SecretView). g.B.Bench.moment c.args.bench.now + 2 + length (subjects s.shape)) secret
 
 pub returns-clause-complete : goal.returns-clause-complete
 returns-clause-complete g c = λ ptold told base history over input spare none.

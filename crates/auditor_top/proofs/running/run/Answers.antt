@@ -1,9 +1,10 @@
-use Rattle.std.proofs.Common.{◌≡◌, ℕ, List, [], ◌++◌, Option, Some, refl, sym, ◌∙◌, ap, subst}
+use Rattle.std.proofs.Common.{◌≡◌, ◌+◌, ℕ, List, [], ◌++◌, Option, Some, refl, sym, ◌∙◌, ap, subst}
 use Rattle.std.proofs.lemmas.List.{append_cancel_left, append-nil}
 use Rattle.bench_core.specs.Calls.{LeavesOnly}
 use Rattle.bench_core.specs.Moments.{started}
 use Rattle.line_wire.specs.Lines.{counted_lines}
 use Rattle.question_plan.specs.Replies.{IsDue}
+use Rattle.audit_session.specs.Ends.{TakesCalls}
 use Rattle.audit_session.specs.Stops.{Stop, StopsOver, stands_over}
 use Rattle.journal_audit.specs.Reports.{subjects}
 use Rattle.auditor_top.specs.declared.words.Command.{Command}
@@ -107,6 +108,12 @@ returns-in-Ok-Serve-clause-any_moment g c = λ ptold itold told batch asked quie
     let lines = counted_lines (g.I.Source.left c.args.input.now) in
     let is = one_batch _ c.in-Ok-Serve.batch batch (c.in-Ok-Serve.ensures.command ∙ ap (λ (k : Command). Some k) c.in-Ok-Serve.field-0-is) asked in
     subst (λ (n : ℕ). LeavesOnly g.B.Bench c.args.bench.now c.serve.new.bench (StopsOver base n history lines (g.B.Bench.sent c.args.bench.now))) is (c.serve.ensures.any_moment ptold itold told quiet base history over)
+
+pub returns-in-Ok-Serve-clause-serve_calls : goal.returns-in-Ok-Serve-clause-serve_calls
+returns-in-Ok-Serve-clause-serve_calls g c = λ ptold itold told batch asked done base history over.
+    let lines = counted_lines (g.I.Source.left c.args.input.now) in
+    let is = one_batch _ c.in-Ok-Serve.batch batch (c.in-Ok-Serve.ensures.command ∙ ap (λ (k : Command). Some k) c.in-Ok-Serve.field-0-is) asked in
+    subst (λ (n : ℕ). TakesCalls base history n lines (g.B.Bench.moment c.args.bench.now + 2) (g.B.Bench.moment c.serve.new.bench)) is (c.serve.ensures.calls ptold itold told done base history over)
 
 pub returns-in-Ok-Serve-clause-undisclosed : goal.returns-in-Ok-Serve-clause-undisclosed
 returns-in-Ok-Serve-clause-undisclosed g c = λ ptold told batch asked quiet base history over. c.serve.ensures.undisclosed ptold told quiet base history over

@@ -1,4 +1,4 @@
-use Rattle.std.proofs.Common.{rules, ◌≡◌, ◌≢◌, ℕ, List, [], Err, sym, ◌∙◌, ap, subst}
+use Rattle.std.proofs.Common.{rules, ◌≡◌, ◌≢◌, ◌+◌, ℕ, List, [], Err, sym, ◌∙◌, ap, subst}
 use Rattle.audit_types.specs.declared.records.Answered.{Answered}
 use Rattle.audit_types.specs.History.{IsLegal}
 use Rattle.bench_core.specs.Causes.{Rose}
@@ -10,6 +10,7 @@ use Rattle.table_load.specs.Loaded.{table_view}
 use Rattle.journal_form.specs.Journal.{StandsFor}
 use Rattle.answer_journal.specs.Moments.{IsUntouched}
 use Rattle.line_wire.specs.Lines.{counted_lines}
+use Rattle.audit_session.specs.Ends.{TakesCalls}
 use Rattle.audit_session.specs.Stops.{IsHarmless, StopsOver}
 use Rattle.audit_session.specs.declared.serving.EndFault.TheVariants as end
 use Rattle.auditor_top.specs.declared.words.Command.TheVariants.{Serve}
@@ -18,6 +19,7 @@ use Rattle.auditor_top.specs.Status.{open_status, start_status, session_status}
 use Rattle.auditor_top.specs.Ends.{ServeEnds, outside}
 use Rattle.auditor_top.specs.Causes.{SchemaCause, TableCause, FileCause, FaultCause, HoldsLegal, InputCause, IsDoneOrWants, counts}
 use Rattle.auditor_top.proofs.Bases.{same_base, same_parts, nothing_served, untouched_stops}
+use Rattle.auditor_top.proofs.Calls.{session_done}
 use Rattle.auditor_top.proofs.Endings.{moved, unopened_ends, unopened_wants, unstarted_ends, unstarted_cause, unstarted_faults, unstarted_wants, session_cause, session_ends, session_faults, session_reads, session_wants}
 use Rattle.auditor_top.proofs.serving.serve.Goals as goal
 
@@ -171,6 +173,23 @@ returns-clause-ends g c = λ ptold itold told base history over.
     (subst (λ (b : Database). ServeEnds batch (session_status c.serve.result) b history (record { input = input; sent = g.B.Bench.sent c.args.bench.now; file = file }) after) (sym is)
     (subst (λ (h : List Answered). ServeEnds batch (session_status c.serve.result) seen h (record { input = input; sent = g.B.Bench.sent c.args.bench.now; file = file }) after) past
     (subst (λ (sent : List ℕ). ServeEnds batch (session_status c.serve.result) seen now.history (record { input = input; sent = sent; file = file }) after) c.start.ensures.sent ends)))
+
+pub returns-clause-calls : goal.returns-clause-calls
+returns-clause-calls g c = λ ptold itold told done base history over.
+    let opened = c.in-Ok.opened in
+    let now = c.in-Ok-start.store in
+    let file = g.B.Bench.file c.args.bench.now in
+    let lines = counted_lines (g.I.Source.left c.args.input.now) in
+    let batch = c.args.batch in
+    let after = g.B.Bench.moment c.serve.new.bench in
+    let same = same_base _ _ opened.schema.columns (table_view opened.table) base (c.in-Ok.ensures.schema_is ptold) (c.in-Ok.ensures.table_is ptold) over.files in
+    let is = same_parts base opened.schema.columns opened.table.public c.in-Ok-new.index opened.table.secret now.secret same c.in-Ok-new.ensures c.in-Ok-start.ensures.store.0 in
+    let past : now.history ≡ history = (c.one_reading.ensures file now.secret.shape base.secret.shape now.history history now.journal.gate over.stands.0 (c.in-Ok-start.ensures.stands told) over.stands.1).1 in
+    let seen = base_of opened.schema.columns c.in-Ok-new.index now.secret in
+    let session = session_done c.serve.result (sym c.ended.ensures ∙ done) (c.serve.ensures.calls itold told) in
+    subst (λ (b : Database). TakesCalls b history batch lines (g.B.Bench.moment c.args.bench.now + 2) after) (sym is)
+    (subst (λ (h : List Answered). TakesCalls seen h batch lines (g.B.Bench.moment c.args.bench.now + 2) after) past
+    (subst (λ (n : ℕ). TakesCalls seen now.history batch lines n after) (c.in-Ok-start.ensures.ticks told) session))
 
 pub returns-clause-complete : goal.returns-clause-complete
 returns-clause-complete g c = λ ptold itold told base history over within spare none.

@@ -1,0 +1,22 @@
+-- A step whose status is done ended well.
+use Rattle.std.proofs.Common.{◌≡◌, Result, Ok, Err, OnOk}
+use Rattle.audit_session.specs.declared.serving.EndFault.{EndFault}
+use Rattle.audit_session.specs.declared.serving.EndFault.TheVariants as end
+use Rattle.journal_audit.specs.declared.faults.AuditFault.{AuditFault}
+use Rattle.journal_audit.specs.declared.faults.AuditFault.TheVariants as report
+use Rattle.auditor_top.specs.declared.status.Status.TheVariants.{Done}
+use Rattle.auditor_top.specs.Status.{audit_status, session_status}
+
+-- a session
+pub session_done : {X P : Type 0} (ended : Result X EndFault) → session_status ended ≡ Done → OnOk ended P → P
+session_done (Ok done) is holds = holds
+session_done (Err end.Input) is holds = cc
+session_done (Err end.Bench) is holds = cc
+session_done (Err end.Limit) is holds = cc
+session_done (Err end.NoMemory) is holds = cc
+
+-- a report
+pub report_done : {X P : Type 0} (ended : Result X AuditFault) → audit_status ended ≡ Done → OnOk ended P → P
+report_done (Ok done) is holds = holds
+report_done (Err report.Failed) is holds = cc
+report_done (Err report.NoMemory) is holds = cc
