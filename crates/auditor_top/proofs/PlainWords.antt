@@ -1,12 +1,12 @@
 -- The plain spellings of the commands are commands, whatever number they hold.
-use Rattle.std.proofs.Common.{◌≡◌, ℕ, ◌≤◌, Bool, true, false, nat_le, List, [], ◌∷◌, ◌++◌, Option, Some, None, refl, codes, ap, sym, subst, ◌∙◌, inl, inr, arith, cond}
+use Rattle.std.proofs.Common.{◌≡◌, ℕ, ◌≤◌, ◌<◌, ◌^◌, Bool, true, false, nat_le, List, [], ◌∷◌, ◌++◌, Option, Some, None, refl, codes, ap, sym, subst, ◌∙◌, inl, inr, arith, cond}
 use Rattle.std.specs.List.{list_all}
 use Rattle.std.specs.Char.{is_ascii_digit}
-use Rattle.std.proofs.lemmas.Bool.{cases_lt, and_parts, and_from, cond-true, le-leb, leb-true}
+use Rattle.std.proofs.lemmas.Bool.{cases_lt, and_parts, and_from, cond-true, le-leb, leb-true, lt-ltb}
 use Rattle.clap.proofs.OnLiterals.{clap_on_literals}
 use Rattle.audit_session.specs.Stops.{IsBatch}
-use Rattle.auditor_top.specs.declared.words.Command.TheVariants.{Init, Serve, Audit, Simulate}
-use Rattle.auditor_top.specs.Words.{command_of, number_of, serve_with}
+use Rattle.auditor_top.specs.declared.words.Command.TheVariants.{Init, Serve, Audit, Simulate, Drill}
+use Rattle.auditor_top.specs.Words.{command_of, number_of, serve_with, drill_with}
 
 -- ---- one word
 
@@ -32,6 +32,47 @@ simulate_is = refl
 in_one_word : (word : List ℕ) → command_of (codes "serve" ∷ (codes "--batch=" ++ word) ∷ []) ≡ serve_with (number_of word)
 unfolding command_of clap_on_literals
 in_one_word word = refl
+
+-- what holds of each digit holds of every byte between the first digit and the last
+each_digit : (P : ℕ → Type 0) → P 48 → P 49 → P 50 → P 51 → P 52 → P 53 → P 54 → P 55 → P 56 → P 57 → (x : ℕ) → 48 ≤ x → x ≤ 57 → P x
+each_digit P at_48 at_49 at_50 at_51 at_52 at_53 at_54 at_55 at_56 at_57 x least most =
+    let same : (d : ℕ) → x ≡ d → P d → P x = λ d is at. subst P (sym is) at in
+    elim (cases_lt x 49) [
+      | inl low ↦ same 48 (omega (arith, least)) at_48
+      | inr high ↦
+          elim (cases_lt x 50) [
+            | inl low ↦ same 49 (omega arith) at_49
+            | inr high ↦
+                elim (cases_lt x 51) [
+                  | inl low ↦ same 50 (omega arith) at_50
+                  | inr high ↦
+                      elim (cases_lt x 52) [
+                        | inl low ↦ same 51 (omega arith) at_51
+                        | inr high ↦
+                            elim (cases_lt x 53) [
+                              | inl low ↦ same 52 (omega arith) at_52
+                              | inr high ↦
+                                  elim (cases_lt x 54) [
+                                    | inl low ↦ same 53 (omega arith) at_53
+                                    | inr high ↦
+                                        elim (cases_lt x 55) [
+                                          | inl low ↦ same 54 (omega arith) at_54
+                                          | inr high ↦
+                                              elim (cases_lt x 56) [
+                                                | inl low ↦ same 55 (omega arith) at_55
+                                                | inr high ↦
+                                                    elim (cases_lt x 57) [
+                                                      | inl low ↦ same 56 (omega arith) at_56
+                                                      | inr high ↦ same 57 (omega (arith, most)) at_57
+                                                    ]
+                                              ]
+                                        ]
+                                  ]
+                            ]
+                      ]
+                ]
+          ]
+    ]
 
 -- a word that begins with a digit is the batch
 at_48 : (xs : List ℕ) → command_of (codes "serve" ∷ codes "--batch" ∷ (48 ∷ xs) ∷ []) ≡ serve_with (number_of (48 ∷ xs))
@@ -75,46 +116,9 @@ unfolding command_of clap_on_literals
 at_57 xs = refl
 
 by_digit : (x : ℕ) (xs : List ℕ) → 48 ≤ x → x ≤ 57 → command_of (codes "serve" ∷ codes "--batch" ∷ (x ∷ xs) ∷ []) ≡ serve_with (number_of (x ∷ xs))
-by_digit x xs least most =
-    let same : (d : ℕ) → x ≡ d → command_of (codes "serve" ∷ codes "--batch" ∷ (d ∷ xs) ∷ []) ≡ serve_with (number_of (d ∷ xs)) → command_of (codes "serve" ∷ codes "--batch" ∷ (x ∷ xs) ∷ []) ≡ serve_with (number_of (x ∷ xs)) =
-    λ d is at. subst (λ (k : ℕ). command_of (codes "serve" ∷ codes "--batch" ∷ (k ∷ xs) ∷ []) ≡ serve_with (number_of (k ∷ xs))) (sym is) at in
-    elim (cases_lt x 49) [
-      | inl low ↦ same 48 (omega (arith, least)) (at_48 xs)
-      | inr high ↦
-          elim (cases_lt x 50) [
-            | inl low ↦ same 49 (omega arith) (at_49 xs)
-            | inr high ↦
-                elim (cases_lt x 51) [
-                  | inl low ↦ same 50 (omega arith) (at_50 xs)
-                  | inr high ↦
-                      elim (cases_lt x 52) [
-                        | inl low ↦ same 51 (omega arith) (at_51 xs)
-                        | inr high ↦
-                            elim (cases_lt x 53) [
-                              | inl low ↦ same 52 (omega arith) (at_52 xs)
-                              | inr high ↦
-                                  elim (cases_lt x 54) [
-                                    | inl low ↦ same 53 (omega arith) (at_53 xs)
-                                    | inr high ↦
-                                        elim (cases_lt x 55) [
-                                          | inl low ↦ same 54 (omega arith) (at_54 xs)
-                                          | inr high ↦
-                                              elim (cases_lt x 56) [
-                                                | inl low ↦ same 55 (omega arith) (at_55 xs)
-                                                | inr high ↦
-                                                    elim (cases_lt x 57) [
-                                                      | inl low ↦ same 56 (omega arith) (at_56 xs)
-                                                      | inr high ↦
-                                                          same 57 (omega (arith, most)) (at_57 xs)
-                                                    ]
-                                              ]
-                                        ]
-                                  ]
-                            ]
-                      ]
-                ]
-          ]
-    ]
+by_digit x xs =
+    each_digit (λ (k : ℕ). command_of (codes "serve" ∷ codes "--batch" ∷ (k ∷ xs) ∷ []) ≡ serve_with (number_of (k ∷ xs)))
+    (at_48 xs) (at_49 xs) (at_50 xs) (at_51 xs) (at_52 xs) (at_53 xs) (at_54 xs) (at_55 xs) (at_56 xs) (at_57 xs) x
 
 -- where a number is chosen, it is by the test
 some_if : (b : Bool) (x y : ℕ) → cond b (Some x) None ≡ Some y → b ≡ true
@@ -122,12 +126,17 @@ some_if true x y is = refl
 some_if false x y is = cc
 
 -- a number begins with a digit
+first_digit : (x : ℕ) (xs : List ℕ) (number : ℕ) → number_of (x ∷ xs) ≡ Some number → (48 ≤ x) × (x ≤ 57)
+first_digit x xs number is =
+    let digits : list_all is_ascii_digit (x ∷ xs) ≡ true = (and_parts _ _ (some_if _ _ _ is)).1 in
+    let digit = and_parts (nat_le 48 x) (nat_le x 57) (and_parts _ _ digits).0 in
+    (leb-true 48 x digit.0, leb-true x 57 digit.1)
+
 in_next_word : (word : List ℕ) (batch : ℕ) → number_of word ≡ Some batch → command_of (codes "serve" ∷ codes "--batch" ∷ word ∷ []) ≡ serve_with (number_of word)
 in_next_word [] batch is = cc
 in_next_word (x ∷ xs) batch is =
-    let digits : list_all is_ascii_digit (x ∷ xs) ≡ true = (and_parts _ _ (some_if _ _ _ is)).1 in
-    let digit = and_parts (nat_le 48 x) (nat_le x 57) (and_parts _ _ digits).0 in
-    by_digit x xs (leb-true 48 x digit.0) (leb-true x 57 digit.1)
+    let digit = first_digit x xs batch is in
+    by_digit x xs digit.0 digit.1
 
 -- a number of 1 to 64 is a batch
 is_served : (number : Option ℕ) (batch : ℕ) → number ≡ Some batch → IsBatch batch → serve_with number ≡ Some (Serve batch)
@@ -138,3 +147,60 @@ batch_is word batch is within = in_next_word word batch is ∙ is_served (number
 
 pub batch_in_one_is : (word : List ℕ) (batch : ℕ) → number_of word ≡ Some batch → IsBatch batch → command_of (codes "serve" ∷ (codes "--batch=" ++ word) ∷ []) ≡ Some (Serve batch)
 batch_in_one_is word batch is within = in_one_word word ∙ is_served (number_of word) batch is within
+
+-- ---- `drill` with a number
+
+-- a word that begins with a digit is the number
+drill_48 : (xs : List ℕ) → command_of (codes "drill" ∷ (48 ∷ xs) ∷ []) ≡ drill_with (number_of (48 ∷ xs))
+unfolding command_of clap_on_literals
+drill_48 xs = refl
+
+drill_49 : (xs : List ℕ) → command_of (codes "drill" ∷ (49 ∷ xs) ∷ []) ≡ drill_with (number_of (49 ∷ xs))
+unfolding command_of clap_on_literals
+drill_49 xs = refl
+
+drill_50 : (xs : List ℕ) → command_of (codes "drill" ∷ (50 ∷ xs) ∷ []) ≡ drill_with (number_of (50 ∷ xs))
+unfolding command_of clap_on_literals
+drill_50 xs = refl
+
+drill_51 : (xs : List ℕ) → command_of (codes "drill" ∷ (51 ∷ xs) ∷ []) ≡ drill_with (number_of (51 ∷ xs))
+unfolding command_of clap_on_literals
+drill_51 xs = refl
+
+drill_52 : (xs : List ℕ) → command_of (codes "drill" ∷ (52 ∷ xs) ∷ []) ≡ drill_with (number_of (52 ∷ xs))
+unfolding command_of clap_on_literals
+drill_52 xs = refl
+
+drill_53 : (xs : List ℕ) → command_of (codes "drill" ∷ (53 ∷ xs) ∷ []) ≡ drill_with (number_of (53 ∷ xs))
+unfolding command_of clap_on_literals
+drill_53 xs = refl
+
+drill_54 : (xs : List ℕ) → command_of (codes "drill" ∷ (54 ∷ xs) ∷ []) ≡ drill_with (number_of (54 ∷ xs))
+unfolding command_of clap_on_literals
+drill_54 xs = refl
+
+drill_55 : (xs : List ℕ) → command_of (codes "drill" ∷ (55 ∷ xs) ∷ []) ≡ drill_with (number_of (55 ∷ xs))
+unfolding command_of clap_on_literals
+drill_55 xs = refl
+
+drill_56 : (xs : List ℕ) → command_of (codes "drill" ∷ (56 ∷ xs) ∷ []) ≡ drill_with (number_of (56 ∷ xs))
+unfolding command_of clap_on_literals
+drill_56 xs = refl
+
+drill_57 : (xs : List ℕ) → command_of (codes "drill" ∷ (57 ∷ xs) ∷ []) ≡ drill_with (number_of (57 ∷ xs))
+unfolding command_of clap_on_literals
+drill_57 xs = refl
+
+-- a number begins with a digit
+with_number : (word : List ℕ) (number : ℕ) → number_of word ≡ Some number → command_of (codes "drill" ∷ word ∷ []) ≡ drill_with (number_of word)
+with_number [] number is = cc
+with_number (x ∷ xs) number is =
+    let digit = first_digit x xs number is in
+    each_digit (λ (k : ℕ). command_of (codes "drill" ∷ (k ∷ xs) ∷ []) ≡ drill_with (number_of (k ∷ xs)))
+    (drill_48 xs) (drill_49 xs) (drill_50 xs) (drill_51 xs) (drill_52 xs) (drill_53 xs) (drill_54 xs) (drill_55 xs) (drill_56 xs) (drill_57 xs) x digit.0 digit.1
+
+is_drilled : (found : Option ℕ) (number : ℕ) → found ≡ Some number → number < 2 ^ 32 → drill_with found ≡ Some (Drill number)
+is_drilled found number is small = ap drill_with is ∙ cond-true _ _ _ (lt-ltb number (2 ^ 32) small)
+
+pub drill_is : (word : List ℕ) (number : ℕ) → number_of word ≡ Some number → number < 2 ^ 32 → command_of (codes "drill" ∷ word ∷ []) ≡ Some (Drill number)
+drill_is word number is small = with_number word number is ∙ is_drilled (number_of word) number is small

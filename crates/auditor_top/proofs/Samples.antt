@@ -1,7 +1,7 @@
 -- The command of some words.
 use Rattle.std.proofs.Common.{◌≡◌, [], ◌∷◌, Some, None, refl, codes}
 use Rattle.clap.proofs.OnLiterals.{clap_on_literals}
-use Rattle.auditor_top.specs.declared.words.Command.TheVariants.{Serve}
+use Rattle.auditor_top.specs.declared.words.Command.TheVariants.{Serve, Drill}
 use Rattle.auditor_top.specs.Words.{command_of}
 
 a_batch_in_one_word : command_of (codes "serve" ∷ codes "--batch=2" ∷ []) ≡ Some (Serve 2)
@@ -43,6 +43,22 @@ simulate_with_a_number = refl
 simulate_with_a_batch : command_of (codes "simulate" ∷ codes "--batch" ∷ codes "2" ∷ []) ≡ None
 unfolding command_of clap_on_literals
 simulate_with_a_batch = refl
+
+a_drill : command_of (codes "drill" ∷ codes "0007" ∷ []) ≡ Some (Drill 7)
+unfolding command_of clap_on_literals
+a_drill = refl
+
+no_number_for_a_drill : command_of (codes "drill" ∷ []) ≡ None
+unfolding command_of clap_on_literals
+no_number_for_a_drill = refl
+
+too_large_a_drill : command_of (codes "drill" ∷ codes "4294967296" ∷ []) ≡ None
+unfolding command_of clap_on_literals
+too_large_a_drill = refl
+
+a_drill_with_a_batch : command_of (codes "drill" ∷ codes "7" ∷ codes "--batch" ∷ codes "2" ∷ []) ≡ None
+unfolding command_of clap_on_literals
+a_drill_with_a_batch = refl
 
 help_is_none : command_of (codes "--help" ∷ []) ≡ None
 unfolding command_of clap_on_literals

@@ -16,7 +16,7 @@ use Rattle.audit_store.specs.declared.starting.StartFault.TheVariants as start
 use Rattle.line_wire.specs.Lines.{most_input}
 use Rattle.transcript_sim.specs.Ends.{IsWithinLimit}
 use Rattle.auditor_top.specs.declared.words.Command.{Command}
-use Rattle.auditor_top.specs.declared.words.Command.TheVariants.{Init, Serve, Audit, Simulate}
+use Rattle.auditor_top.specs.declared.words.Command.TheVariants.{Init, Serve, Audit, Simulate, Drill}
 use Rattle.auditor_top.specs.Commands.{reads_files, opens_journal, reads_lines}
 use Rattle.auditor_top.specs.Stages.{Stage, reading_words, reading_schema, reading_table, opening_journal, reading_lines, ending, Reach, to, from, reached, Passed, Before}
 use Rattle.auditor_top.specs.declared.status.Which.TheVariants.{Schema, Table, Input}
@@ -72,6 +72,7 @@ IsReadyFor Init file secret = ¬ (IsAlready file)
 IsReadyFor (Serve batch) file secret = HoldsLegal file secret
 IsReadyFor Audit file secret = HoldsLegal file secret
 IsReadyFor Simulate file secret = Unit {0}
+IsReadyFor (Drill number) file secret = Unit {0}
 
 -- what a status says of the journal's file
 abbrev pub FileCause : Status → Command → List ℕ → SecretView → Type 0

@@ -9,7 +9,7 @@ use Rattle.table_load.specs.Database.{Database, secret_table}
 use Rattle.table_load.specs.Tables.{table_of, public_of}
 use Rattle.journal_form.specs.Journal.{StandsFor}
 use Rattle.auditor_top.specs.declared.words.Command.{Command}
-use Rattle.auditor_top.specs.declared.words.Command.TheVariants.{Init, Serve, Audit, Simulate}
+use Rattle.auditor_top.specs.declared.words.Command.TheVariants.{Init, Serve, Audit, Simulate, Drill}
 
 -- ---- the steps of a command
 
@@ -19,6 +19,7 @@ reads_files Init = true
 reads_files (Serve batch) = true
 reads_files Audit = true
 reads_files Simulate = true
+reads_files (Drill number) = false
 
 -- it reads all columns of the table's file, and not the public ones alone
 abbrev pub reads_secrets : Command → Bool
@@ -26,6 +27,7 @@ reads_secrets Init = true
 reads_secrets (Serve batch) = true
 reads_secrets Audit = true
 reads_secrets Simulate = false
+reads_secrets (Drill number) = false
 
 -- it opens the journal
 abbrev pub opens_journal : Command → Bool
@@ -33,6 +35,7 @@ opens_journal Init = false
 opens_journal (Serve batch) = true
 opens_journal Audit = true
 opens_journal Simulate = false
+opens_journal (Drill number) = false
 
 -- it reads the input
 abbrev pub reads_lines : Command → Bool
@@ -40,6 +43,7 @@ reads_lines Init = false
 reads_lines (Serve batch) = true
 reads_lines Audit = false
 reads_lines Simulate = true
+reads_lines (Drill number) = false
 
 -- it writes the journal's file
 abbrev pub writes : Command → Bool
@@ -47,6 +51,7 @@ writes Init = true
 writes (Serve batch) = true
 writes Audit = false
 writes Simulate = false
+writes (Drill number) = false
 
 -- ---- what a command is given
 

@@ -1,5 +1,6 @@
 pub mod Causes
 pub mod Commands
+pub mod Drills
 pub mod Ends
 pub mod Files
 pub mod Promise

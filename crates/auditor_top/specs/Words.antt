@@ -1,6 +1,6 @@
--- The words after the program's name, as `clap` reads them: a command, perhaps with a number of lines that are answered
--- together.
-use Rattle.std.specs.Prelude.{◌≡◌, ℕ, true, ◌&&◌, if◌then◌else◌, List, [], ◌∷◌, length, Option, Some, None, option_and_then, nat_le, bytes_eq, codes, map, String, string_bytes}
+-- The words after the program's name, as `clap` reads them: a command, perhaps with the number of a drill, or
+-- with how many lines are answered together.
+use Rattle.std.specs.Prelude.{◌≡◌, ℕ, true, ◌&&◌, ◌^◌, if◌then◌else◌, List, [], ◌∷◌, length, Option, Some, None, option_and_then, nat_le, nat_lt, bytes_eq, codes, map, String, string_bytes}
 use Rattle.std.specs.List.{list_all}
 use Rattle.std.specs.Char.{is_ascii_digit}
 use Rattle.std.specs.Str.Parse.{digits_value}
@@ -8,7 +8,7 @@ use Rattle.clap.specs.Words.{App, Rule, Row, Kinds, new_app, new_rule, with_rule
 use Rattle.clap.specs.declared.error.kind.ErrorKind.{ErrorKind}
 use Rattle.clap.specs.declared.error.kind.ErrorKind.TheVariants.{OutOfMemory}
 use Rattle.auditor_top.specs.declared.words.Command.{Command}
-use Rattle.auditor_top.specs.declared.words.Command.TheVariants.{Init, Serve, Audit, Simulate}
+use Rattle.auditor_top.specs.declared.words.Command.TheVariants.{Init, Serve, Audit, Simulate, Drill}
 use Rattle.auditor_top.specs.declared.words.WordFault.{WordFault}
 use Rattle.auditor_top.specs.declared.words.WordFault.TheVariants.{Bad, NoMemory}
 
@@ -45,6 +45,11 @@ abbrev pub serve_with : Option ℕ → Option Command
 serve_with None = None
 serve_with (Some batch) = if nat_le 1 batch && nat_le batch 64 then Some (Serve batch) else None
 
+-- `drill` with a number of 32 bits
+abbrev pub drill_with : Option ℕ → Option Command
+drill_with None = None
+drill_with (Some number) = if nat_lt number (2 ^ 32) then Some (Drill number) else None
+
 -- the command that one word names; `serve` alone answers each line by itself
 abbrev pub command_named : List ℕ → Option Command
 command_named word =
@@ -54,11 +59,12 @@ command_named word =
     else (if bytes_eq word (codes "simulate") then Some Simulate
     else None)))
 
--- the command that a word names with its number and its batch, where it may have these; no command takes a number
+-- the command that a word names with its number and its batch, where it may have these
 abbrev pub command_with : List ℕ → Option (List ℕ) → Option (List ℕ) → Option Command
 command_with word None None = command_named word
 command_with word None (Some batch) = if bytes_eq word (codes "serve") then serve_with (number_of batch) else None
-command_with word (Some number) batch = None
+command_with word (Some number) None = if bytes_eq word (codes "drill") then drill_with (number_of number) else None
+command_with word (Some number) (Some batch) = None
 
 -- the command that the values of a command line are
 abbrev pub command_in : List Row → Option Command

@@ -1,5 +1,5 @@
 //! Laws of runs. Each function computes nothing: its contract is the law.
-ghost use Rattle.std.specs.Prelude.{◌≡◌, List, [], ◌∷◌, ◌++◌, ℕ, Some, codes};
+ghost use Rattle.std.specs.Prelude.{◌≡◌, ◌<◌, ◌^◌, List, [], ◌∷◌, ◌++◌, ℕ, Some, codes};
 ghost use Rattle.audit_types.specs.declared.records.Answered.{Answered};
 ghost use Rattle.audit_types.specs.History.{IsLegal, IsUndisclosed};
 ghost use Rattle.journal_form.specs.Journal.{StandsFor};
@@ -7,7 +7,7 @@ ghost use Rattle.line_wire.specs.Lines.{CountedLine};
 ghost use Rattle.table_load.specs.Database.{Database, secret_table};
 ghost use Rattle.audit_session.specs.Stops.{StopsOver, IsBatch};
 ghost use Rattle.auditor_top.specs.Commands.{AreFilesOf};
-ghost use Rattle.auditor_top.specs.declared.words.Command.TheVariants.{Init, Serve, Audit, Simulate};
+ghost use Rattle.auditor_top.specs.declared.words.Command.TheVariants.{Init, Serve, Audit, Simulate, Drill};
 ghost use Rattle.auditor_top.specs.Words.{command_of, number_of};
 ghost use Rattle.auditor_top.specs.Promise.{LivesKeepPromise, LivesGoOn, MadeIsTaken, StopsAreTaken, StopsMakeLives};
 
@@ -51,7 +51,7 @@ pub fn never_refused()
 }
 
 /// The plain spellings of the commands are never refused: each command as one word, and `serve` with every number of 1 to 64
-/// for a batch, in a word of its own or after `=`.
+/// for a batch, in a word of its own or after `=`, and `drill` with every number of 32 bits.
 pub fn plain_words()
     ensures init { command_of (codes "init" ∷ []) ≡ Some Init }
     ensures serve { command_of (codes "serve" ∷ []) ≡ Some (Serve 1) }
@@ -61,4 +61,5 @@ pub fn plain_words()
         → command_of (codes "serve" ∷ codes "--batch" ∷ word ∷ []) ≡ Some (Serve batch) }
     ensures batch_in_one_word { (word : List ℕ) (batch : ℕ) → number_of word ≡ Some batch → IsBatch batch
         → command_of (codes "serve" ∷ (codes "--batch=" ++ word) ∷ []) ≡ Some (Serve batch) }
+    ensures drill { (word : List ℕ) (number : ℕ) → number_of word ≡ Some number → number < 2 ^ 32 → command_of (codes "drill" ∷ word ∷ []) ≡ Some (Drill number) }
 {}

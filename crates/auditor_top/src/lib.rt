@@ -4,6 +4,7 @@
 #![tactic(auto)]
 
 mod auditing;
+mod drilling;
 mod files;
 mod init;
 pub mod laws;

@@ -21,15 +21,17 @@ ghost use Rattle.journal_audit.specs.Reports.{SendsMeanwhile, subjects};
 ghost use Rattle.transcript_sim.specs.Ends.{SimulatesMeanwhile};
 ghost use Rattle.transcript_sim.specs.Verdicts.{AreVerdicts};
 ghost use Rattle.auditor_top.specs.declared.words.Command.{Command};
-ghost use Rattle.auditor_top.specs.declared.words.Command.TheVariants.{Init, Serve, Audit, Simulate};
+ghost use Rattle.auditor_top.specs.declared.words.Command.TheVariants.{Init, Serve, Audit, Simulate, Drill};
 ghost use Rattle.auditor_top.specs.Words.{command_of, NamesCommand};
 ghost use Rattle.auditor_top.specs.Commands.{AreFilesOf, ArePublicFilesOf, ServesOver, opens_journal, reads_files, reads_secrets, reads_lines, writes};
 ghost use Rattle.auditor_top.specs.Causes.{FaultCause, WordCause, SchemaCause, TableCause, FileCause, InputCause, NeverFall, NothingFailed, IsDoneOrWants, counts};
+ghost use Rattle.auditor_top.specs.Drills.{DrillEnds};
 ghost use Rattle.auditor_top.specs.Ends.{AuditEnds, LeavesFile, ServeEnds, SimulateEnds, SimulateSends, audit_over, outside};
 ghost use Rattle.auditor_top.specs.Promise.{GoesOn};
 ghost use Rattle.auditor_top.specs.Stages.{Before, reading_table, opening_journal, reading_lines};
 
 use crate::auditing::audit;
+use crate::drilling::drill;
 use crate::init::init;
 use crate::laws::{lives, stops_are_legal};
 use crate::serving::serve;
@@ -141,6 +143,12 @@ pub fn run<P: Source, I: Source, B: Bench>(
         → LeavesOnly B.Bench bench.old bench.new (IsUnmadeOrEmpty base.secret.shape (B.sent bench.old)) }
     ensures unmade { NamesCommand words.now.items Init → result ≡ Status.NoMemory → bench.new ≡ bench.old }
 
+    // `drill` sends the summary of the replies that are due to the drill's lines, or a front of it. That is one call of the
+    // bench, and where memory is wanting there is none.
+    ensures drilled { B.told → (number : ℕ) → NamesCommand words.now.items (Drill number) → DrillEnds result number (B.sent bench.old) (B.sent bench.new) }
+    ensures drill_calls { B.told → (number : ℕ) → NamesCommand words.now.items (Drill number) → result ≡ Status.Done → B.moment bench.new ≡ B.moment bench.old + 1 }
+    ensures undrilled { (number : ℕ) → NamesCommand words.now.items (Drill number) → result ≡ Status.NoMemory → bench.new ≡ bench.old }
+
     // Where it ends without a failed call, a crash leaves the file that reads.
     ensures quiet { B.told → IsQuiet B.Bench bench.old → result ≢ Status.BenchFault → IsQuiet B.Bench bench.new }
 
@@ -189,6 +197,11 @@ pub fn run<P: Source, I: Source, B: Bench>(
         (counts (P.faults schema.old) (P.faults table.old) (I.faults input.old) (B.faults bench.old) (B.faults spare.old))
         (counts (P.faults schema.new) (P.faults table.new) (I.faults input.new) (B.faults bench.new) (B.faults spare.new))
         → IsDoneOrWants result }
+    ensures drills { (number : ℕ) → NamesCommand words.now.items (Drill number)
+        → NothingFailed
+        (counts (P.faults schema.old) (P.faults table.old) (I.faults input.old) (B.faults bench.old) (B.faults spare.old))
+        (counts (P.faults schema.new) (P.faults table.new) (I.faults input.new) (B.faults bench.new) (B.faults spare.new))
+        → IsDoneOrWants result }
     ensures makes { P.told → B.told → NamesCommand words.now.items Init
         → (base : Database) → AreFilesOf (P.left schema.old) (P.left table.old) base → (IsAlready (B.file bench.old) → ⊥)
         → NothingFailed
@@ -205,5 +218,6 @@ pub fn run<P: Source, I: Source, B: Bench>(
         Ok(Command::Serve { batch }) => serve(alloc, schema, table, input, bench, batch),
         Ok(Command::Audit) => audit(alloc, schema, table, bench),
         Ok(Command::Simulate) => simulate(alloc, schema, table, input, bench),
+        Ok(Command::Drill { number }) => drill(alloc, number, bench),
     }
 }

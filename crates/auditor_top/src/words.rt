@@ -4,7 +4,7 @@ ghost use Rattle.std.specs.List.{list_all};
 ghost use Rattle.std.specs.Char.{is_ascii_digit};
 ghost use Rattle.clap.specs.Words.{app_of, found_of, rows_of};
 ghost use Rattle.audit_session.specs.Stops.{IsBatch};
-ghost use Rattle.auditor_top.specs.Words.{auditor, command_of, command_in, command_named, command_with, serve_with, number_of, NamesCommand};
+ghost use Rattle.auditor_top.specs.Words.{auditor, command_of, command_in, command_named, command_with, serve_with, drill_with, number_of, NamesCommand};
 
 use clap::error::ErrorKind;
 use clap::{Arg, ArgMatches, Error};
@@ -21,6 +21,8 @@ pub enum Command {
     Audit,
     /// Compute the verdicts on a transcript again.
     Simulate,
+    /// Take a whole generated table through the program, and tell what became of its questions.
+    Drill { number: u32 },
 }
 
 /// Why words gave no command.
@@ -85,6 +87,14 @@ fn serve_with(batch: &str) -> Option<Command>
     }
 }
 
+// `drill` with a number, which is refused unless it has 32 bits.
+fn drill_with(number: &str) -> Option<Command>
+    ensures { result ≡ drill_with (number_of number.now) }
+{
+    let number = u32::try_from(number_of(number)?).ok()?;
+    Some(Command::Drill { number })
+}
+
 // The command that one word names.
 fn command_named(word: &str) -> Option<Command>
     ensures { result ≡ command_named word.now }
@@ -115,7 +125,14 @@ fn command_with(word: &str, number: Option<&str>, batch: Option<&str>) -> Option
                 None
             }
         }
-        (Some(_), _) => None,
+        (Some(number), None) => {
+            if word == "drill" {
+                drill_with(number)
+            } else {
+                None
+            }
+        }
+        (Some(_), Some(_)) => None,
     }
 }
 

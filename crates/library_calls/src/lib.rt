@@ -14,6 +14,7 @@ mod definitions;
 mod devices;
 #[cfg(test)]
 mod journals;
+mod drills;
 #[cfg(test)]
 mod publics;
 #[cfg(test)]

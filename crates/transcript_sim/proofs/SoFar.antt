@@ -1,5 +1,5 @@
 -- What holds while a transcript is read.
-use Rattle.std.proofs.Common.{rules, ◌≡◌, ◌≢◌, ℕ, ◌+◌, ◌*◌, ◌^◌, ◌<◌, ◌≤◌, Bool, true, false, List, [], ◌∷◌, ◌++◌, length, take, Option, None, Result, Ok, Err, refl, sym, ◌∙◌, ap, subst, arith, ⊎_elim, append_assoc, length-append}
+use Rattle.std.proofs.Common.{OnOk, rules, ◌≡◌, ◌≢◌, ℕ, ◌+◌, ◌*◌, ◌^◌, ◌<◌, ◌≤◌, Bool, true, false, List, [], ◌∷◌, ◌++◌, length, take, Option, None, Result, Ok, Err, refl, sym, ◌∙◌, ap, subst, arith, ⊎_elim, append_assoc, length-append}
 use Rattle.std.specs.Option.{option_to_list}
 use Rattle.std.proofs.Math.Seq.{take-append_seam, take-append-add}
 use Rattle.std.proofs.lemmas.Bool.{false≢true}
@@ -18,7 +18,7 @@ use Rattle.line_wire.specs.Lines.{CountedLine, counted_lines, whole_lines}
 use Rattle.line_wire.specs.Cutter.{Cutter, StopsAt}
 use Rattle.line_wire.specs.ReadLines.{IsRead, ReadsLines, NoLineIsRead, MoreLinesAreRead}
 use Rattle.question_plan.specs.Session.{Replied, records_of, bytes_of, AreReplies}
-use Rattle.question_plan.specs.InTurn.{replies-append}
+use Rattle.question_plan.specs.InTurn.{length-replies, replies-append}
 use Rattle.transcript_sim.specs.declared.expecting.Expected.{Expected}
 use Rattle.transcript_sim.specs.declared.simulating.SimulationFault.{SimulationFault}
 use Rattle.transcript_sim.specs.declared.simulating.SimulationFault.TheVariants as fault
@@ -56,6 +56,7 @@ module _ {P B : Type 0} (source : SourceGhosts P) (bench : Ghosts B) (columns : 
     pub file : bench.file at ≡ bench.file first
     pub crash : (image : List ℕ) → bench.leaves at image → bench.leaves first image
     pub moments : bench.told → IsQuiet bench first → LeavesOnly bench first at (SimulatesMeanwhile source.told columns public (counted_lines (source.left first_source)) (bench.file first) (bench.sent first))
+    pub ticks : bench.told → bench.moment at ≡ bench.moment first + length verdicts
     pub same : source.told → cutter.ended ≡ true → source.left from ≡ []
     pub taken : source.told → cutter.taken + length (source.left from) ≡ length (source.left first_source)
     pub within : cutter.taken ≤ 2 ^ 30 + length cutter.pending
@@ -83,6 +84,7 @@ module _ {P B : Type 0} (source : SourceGhosts P) (bench : Ghosts B) (columns : 
     moments = λ told quiet. started bench first _ (λ image bytes was.
         let found = only_now image bytes was in
         (quiet image found.0, λ t. ([], record { count = 0; are = tt }, (0, found.1 ∙ sym (append-nil (bench.sent first))))));
+    ticks = λ told. omega arith;
     same = λ told ended. absurd (false≢true (sym fresh.2 ∙ ended));
     taken = λ told. omega (arith, fresh.0);
     within = omega (arith, fresh.0);
@@ -127,9 +129,9 @@ module _ {P B : Type 0} (source : SourceGhosts P) (bench : Ghosts B) (columns : 
           ))
 
           -- it was sent
-          pub question_sent : (bench.told → bench.sent sending ≡ bench.sent at ++ verdict_bytes (due_of expected)) → source.faults after ≡ source.faults from → bench.faults sending ≡ bench.faults at
+          pub question_sent : (bench.told → bench.sent sending ≡ bench.sent at ++ verdict_bytes (due_of expected)) → (bench.told → bench.moment sending ≡ bench.moment at + 1) → source.faults after ≡ source.faults from → bench.faults sending ≡ bench.faults at
               → SoFar new after sending (lines ++ line ∷ []) (verdicts ++ sent_for expected ∷ [])
-          question_sent all steady still = record {
+          question_sent all ticks steady still = record {
             reads = reads_now;
             are = are_with;
             sent = λ told.
@@ -138,6 +140,7 @@ module _ {P B : Type 0} (source : SourceGhosts P) (bench : Ghosts B) (columns : 
             file = file ∙ so_far.file;
             crash = λ image left. so_far.crash image (crash image left);
             moments = moments_now;
+            ticks = λ told. omega (arith, ticks told, so_far.ticks told, length-append verdicts (sent_for expected ∷ []));
             same = cuts.same;
             taken = λ told. cuts.taken told ∙ so_far.taken told;
             within = cuts.within;
@@ -151,6 +154,7 @@ module _ {P B : Type 0} (source : SourceGhosts P) (bench : Ghosts B) (columns : 
               → Simulates source bench columns public first_source after first sending (Err fault.Bench)
           question_unsent part steady rose later = record {
             verdicts = λ t. (verdicts ++ sent_for expected ∷ [], begin_of (new.pending ++ source.left after) new.ended (lines ++ line ∷ []) (verdicts ++ sent_for expected ∷ []) (reads_now t) are_with, λ told. front_now told (bench.sent sending) (part told));
+            calls = λ t told. tt;
             reads = λ t. tt;
             moments = moments_now;
             file = file ∙ so_far.file;
@@ -167,11 +171,12 @@ module _ {P B : Type 0} (source : SourceGhosts P) (bench : Ghosts B) (columns : 
 
     -- by what is said of the verdicts and of the input
     pub ends : (after : P) (result : Result (Unit {0}) SimulationFault) → result ≢ Err fault.Bench → (source.told → EndVerdicts result columns public (source.left first_source) (source.left after) verdicts)
-        → (bench.told → EndSends result verdicts (bench.sent first) (bench.sent at)) → (source.told → EndReads result (source.left first_source) (source.left after)) → source.faults from ≤ source.faults after
+        → (bench.told → EndSends result verdicts (bench.sent first) (bench.sent at)) → (source.told → bench.told → OnOk result (bench.moment at ≡ bench.moment first + length (exchanges (counted_lines (source.left first_source))))) → (source.told → EndReads result (source.left first_source) (source.left after)) → source.faults from ≤ source.faults after
         → (result ≡ Err fault.Input → Rose (source.faults from) (source.faults after)) → (result ≢ Err fault.Input → source.faults after ≡ source.faults from)
         → Simulates source bench columns public first_source after first at result
-    ends after result fine are sends reads later rose steady = record {
+    ends after result fine are sends calls reads later rose steady = record {
       verdicts = λ t. (verdicts, are t, sends);
+      calls = calls;
       reads = reads;
       moments = so_far.moments;
       file = so_far.file;
@@ -189,12 +194,15 @@ module _ {P B : Type 0} (source : SourceGhosts P) (bench : Ghosts B) (columns : 
 
     -- there was no memory
     pub wants_memory : (after : P) → source.faults after ≡ source.faults from → Simulates source bench columns public first_source after first at (Err fault.NoMemory)
-    wants_memory after steady = ends after (Err fault.NoMemory) (search rules) begun so_far.sent (λ t. tt) (omega (arith, steady)) (λ is. absurd (search rules)) (λ other. steady)
+    wants_memory after steady = ends after (Err fault.NoMemory) (search rules) begun so_far.sent (λ t told. tt) (λ t. tt) (omega (arith, steady)) (λ is. absurd (search rules)) (λ other. steady)
 
     -- no line is left
     pub all_read : (new : Cutter) (after : P) → GivesNone source cutter new from after → Cuts source cutter new from after → Simulates source bench columns public first_source after first at (Ok tt)
     all_read new after gives cuts = ends after (Ok tt) (no_fault fault.Bench)
         (λ t. subst (λ (ls : List CountedLine). AreVerdicts columns public ls verdicts) (sym ((so_far.reads t).counted ∙ ap (λ (ls : List CountedLine). lines ++ ls) (gives.none t) ∙ append-nil lines)) so_far.are) so_far.sent
+        (λ t told.
+        let all = (so_far.reads t).counted ∙ ap (λ (ls : List CountedLine). lines ++ ls) (gives.none t) ∙ append-nil lines in
+        omega (arith, so_far.ticks told, length-replies (IsVerdict columns public) [] (exchanges lines) verdicts so_far.are, ap (λ (ls : List CountedLine). length (exchanges ls)) all))
         (λ t.
         let parts = nil_parts new.pending (source.left after) (sym (gives.nothing t)) in
         (parts.1, omega (arith, cuts.within, cuts.taken t, so_far.taken t, ap (λ (l : List ℕ). length l) parts.0, ap (λ (l : List ℕ). length l) parts.1))) cuts.later (λ is. absurd (no_fault fault.Input is)) (λ other. gives.steady)
@@ -225,7 +233,7 @@ module _ {P B : Type 0} (source : SourceGhosts P) (bench : Ghosts B) (columns : 
     cut_short new after fault.Input short cuts = ends after (Err fault.Input) (search rules)
         (λ t.
         let going : cutter.ended ≡ true → cutter.pending ++ source.left from ≡ [] → ⊥ = λ ended none. short.going ended in
-        record { read = read t (source.left after) going (short.stops t); split = read_split t (source.left after) going (short.stops t); are = read_are t (source.left after) going (short.stops t) }) so_far.sent
+        record { read = read t (source.left after) going (short.stops t); split = read_split t (source.left after) going (short.stops t); are = read_are t (source.left after) going (short.stops t) }) so_far.sent (λ t told. tt)
         (λ t. omega (arith, short.within, cuts.taken t, so_far.taken t)) cuts.later (λ is. short.rose) (λ other. absurd (other refl))
     cut_short new after fault.Limit short cuts = ends after (Err fault.Limit) (search rules)
         (λ t.
@@ -238,7 +246,7 @@ module _ {P B : Type 0} (source : SourceGhosts P) (bench : Ghosts B) (columns : 
           split = split;
           size = omega (arith, ap (λ (l : List ℕ). length l) split, length-append (read t rest going (short.stops t)) rest, length-append new.pending (source.left after), short.over, cuts.taken t, so_far.taken t);
           are = read_are t rest going (short.stops t);
-        }) so_far.sent
+        }) so_far.sent (λ t told. tt)
         (λ t. omega (arith, short.over, short.some, cuts.taken t, so_far.taken t)) cuts.later (λ is. absurd (search rules)) (λ other. short.steady)
     cut_short new after fault.NoMemory short cuts = wants_memory after short
     cut_short new after fault.Bench short cuts = absurd short

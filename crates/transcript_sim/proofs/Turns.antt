@@ -80,6 +80,7 @@ module _ {P B : Type 0} (source : SourceGhosts P) (bench : Ghosts B) (columns : 
       file = half.so_far.file;
       crash = half.so_far.crash;
       moments = half.so_far.moments;
+      ticks = λ told. omega (arith, half.so_far.ticks told, length-append half.verdicts (sent_for expected ∷ []), length-append half.verdicts (with_record expected added ∷ []));
       same = cuts.same;
       taken = λ told. cuts.taken told ∙ half.so_far.taken told;
       within = cuts.within;
@@ -150,7 +151,7 @@ module _ {P B : Type 0} (source : SourceGhosts P) (bench : Ghosts B) (columns : 
 
     pub disagreed : Simulates source bench columns public first_source after first at (Err (fault.Disagrees line (due_of expected)))
     disagreed = ends source bench columns public first_source first more_read cutter from at asked (half.verdicts ++ sent_for expected ∷ []) half.so_far after (Err (fault.Disagrees line (due_of expected))) (search rules)
-        disagrees_at half.so_far.sent within_limit cuts.later (λ is. absurd (search rules)) (λ other. gives.steady)
+        disagrees_at half.so_far.sent (λ t told. tt) within_limit cuts.later (λ is. absurd (search rules)) (λ other. gives.steady)
 
 -- ---- a question, and the sending of its verdict
 
@@ -165,13 +166,13 @@ module _ {P B : Type 0} (source : SourceGhosts P) (bench : Ghosts B) (columns : 
   time_of_due = subst (λ (d : Due). Elapses (bench.moment at) (bench.moment sending) (bench.since at) (bench.since sending) (Sending (bench.leaves sending) (bench.sent at) (verdict_bytes d))) due_is time
 
   -- it was sent
-  pub asked_half : (bench.told → bench.sent sending ≡ bench.sent at ++ verdict_bytes due) → bench.faults sending ≡ bench.faults at → Half source bench columns public first_source first new after sending core (line + 2) expected
-  asked_half all still = record {
+  pub asked_half : (bench.told → bench.sent sending ≡ bench.sent at ++ verdict_bytes due) → (bench.told → bench.moment sending ≡ bench.moment at + 1) → bench.faults sending ≡ bench.faults at → Half source bench columns public first_source first new after sending core (line + 2) expected
+  asked_half all ticks still = record {
     lines = turn.lines;
     verdicts = turn.verdicts;
     question = question.line;
     so_far = question_sent source bench columns public first_source first more_read cutter from at turn.lines turn.verdicts turn.so_far new after question.line question.gives cuts (length turn.verdicts) turn.even expected expects sending file crash time_of_due
-        (λ told. subst (λ (d : Due). bench.sent sending ≡ bench.sent at ++ verdict_bytes d) due_is (all told)) question.gives.steady still;
+        (λ told. subst (λ (d : Due). bench.sent sending ≡ bench.sent at ++ verdict_bytes d) due_is (all told)) ticks question.gives.steady still;
     before = turn.so_far.are;
     expects = expects;
     even = turn.even;

@@ -1,5 +1,5 @@
 -- How reading a transcript ends.
-use Rattle.std.specs.Prelude.{◌≡◌, ◌≢◌, ◌⊎◌, ◌<◌, ◌≤◌, ◌-◌, ◌+◌, ◌*◌, ◌^◌, ℕ, List, [], ◌∷◌, ◌++◌, length, take, None, Result, Ok, Err}
+use Rattle.std.specs.Prelude.{◌≡◌, ◌≢◌, ◌⊎◌, ◌<◌, ◌≤◌, ◌-◌, ◌+◌, ◌*◌, ◌^◌, ℕ, List, [], ◌∷◌, ◌++◌, length, take, None, Result, Ok, Err, OnOk}
 use Rattle.audit_types.specs.declared.records.Answered.{Answered}
 use Rattle.schema_json.specs.Columns.{Column}
 use Rattle.table_load.specs.Cells.{PublicView}
@@ -13,7 +13,7 @@ use Rattle.question_plan.specs.Session.{Replied, bytes_of}
 use Rattle.transcript_sim.specs.declared.due.Due.{Due}
 use Rattle.transcript_sim.specs.declared.simulating.SimulationFault.{SimulationFault}
 use Rattle.transcript_sim.specs.declared.simulating.SimulationFault.TheVariants as fault
-use Rattle.transcript_sim.specs.Verdicts.{AreVerdicts, verdict_bytes}
+use Rattle.transcript_sim.specs.Verdicts.{AreVerdicts, exchanges, verdict_bytes}
 
 -- ---- which verdicts there are
 
@@ -98,6 +98,7 @@ EndReads (Err fault.NoMemory) input left = Unit {0}
 -- how reading a transcript ended so
 pub record Simulates {P B : Type 0} (source : SourceGhosts P) (bench : Ghosts B) (columns : List Column) (public : PublicView) (first from : P) (old at : B) (result : Result (Unit {0}) SimulationFault) : Type 0 where
   pub verdicts : source.told → (verdicts : List (Replied Answered)) × EndVerdicts result columns public (source.left first) (source.left from) verdicts × (bench.told → EndSends result verdicts (bench.sent old) (bench.sent at))
+  pub calls : source.told → bench.told → OnOk result (bench.moment at ≡ bench.moment old + length (exchanges (counted_lines (source.left first))))
   pub reads : source.told → EndReads result (source.left first) (source.left from)
   pub moments : bench.told → IsQuiet bench old → LeavesOnly bench old at (SimulatesMeanwhile source.told columns public (counted_lines (source.left first)) (bench.file old) (bench.sent old))
   pub file : bench.file at ≡ bench.file old

@@ -1,5 +1,5 @@
 //! Reading a transcript, and sending its verdicts.
-ghost use Rattle.std.specs.Prelude.{◌≡◌, ◌≢◌, ◌≤◌, ◌++◌, [], List, ℕ, false, OnOk, OnErr, Err};
+ghost use Rattle.std.specs.Prelude.{◌≡◌, ◌≢◌, ◌≤◌, ◌+◌, ◌++◌, [], List, ℕ, false, length, OnOk, OnErr, Err};
 ghost use Rattle.audit_types.specs.Limits.{most_rows};
 ghost use Rattle.audit_types.specs.History.{setting_of};
 ghost use Rattle.audit_types.specs.declared.records.Answered.{Answered};
@@ -10,7 +10,7 @@ ghost use Rattle.schema_json.specs.SecretShape.{shape_of};
 ghost use Rattle.table_load.specs.Cells.{FitsSchema};
 ghost use Rattle.line_wire.specs.Lines.{counted_lines};
 ghost use Rattle.question_plan.specs.Session.{Replied};
-ghost use Rattle.transcript_sim.specs.Verdicts.{verdict_bytes};
+ghost use Rattle.transcript_sim.specs.Verdicts.{exchanges, verdict_bytes};
 ghost use Rattle.transcript_sim.specs.Steps.{stop_fault};
 ghost use Rattle.transcript_sim.specs.Ends.{EndReads, EndSends, EndVerdicts, Simulates, SimulatesMeanwhile};
 ghost use Rattle.transcript_sim.specs.declared.simulating.SimulationFault.TheVariants as fault;
@@ -77,6 +77,7 @@ fn send_verdict<B: Bench>(bench: &mut B, due: Due) -> Result<(), Failed>
     ensures file { B.file bench.new ≡ B.file bench.old }
     ensures crash { (image : List ℕ) → B.leaves bench.new image → B.leaves bench.old image }
     ensures time { Elapses (B.moment bench.old) (B.moment bench.new) (B.since bench.old) (B.since bench.new) (Sending (B.leaves bench.new) (B.sent bench.old) (verdict_bytes due)) }
+    ensures ticks { B.told → OnOk result (B.moment bench.new ≡ B.moment bench.old + 1) }
     ensures cause { HasCause (B.faults bench.old) (B.faults bench.new) result }
 {
     bench.send(verdict_line(due))
@@ -127,9 +128,11 @@ pub fn simulate<P: Source, B: Bench>(
 ) -> Result<(), SimulationFault>
     requires { FitsSchema schema.now.columns index.now }
 
-    // Which verdicts there are, whether or not the bench tells what was sent, and that their lines were.
+    // Which verdicts there are, whether or not the bench tells what was sent, and that their lines were, by one call for each
+    // question and no other.
     ensures verdicts { P.told → (verdicts : List (Replied Answered)) × EndVerdicts result schema.now.columns index.now (P.left source.old) (P.left source.new) verdicts
         × (B.told → EndSends result verdicts (B.sent bench.old) (B.sent bench.new)) }
+    ensures calls { P.told → B.told → OnOk result (B.moment bench.new ≡ B.moment bench.old + length (exchanges (counted_lines (P.left source.old)))) }
     ensures reads { P.told → EndReads result (P.left source.old) (P.left source.new) }
 
     // The file isn't touched, at the end and at every moment.

@@ -8,14 +8,15 @@ use Rattle.audit_session.specs.Ends.{TakesCalls}
 use Rattle.audit_session.specs.Stops.{Stop, StopsOver, stands_over}
 use Rattle.journal_audit.specs.Reports.{subjects}
 use Rattle.auditor_top.specs.declared.words.Command.{Command}
-use Rattle.auditor_top.specs.declared.words.Command.TheVariants.{Init, Serve, Audit, Simulate}
-use Rattle.auditor_top.specs.Commands.{reads_lines, reads_secrets}
+use Rattle.auditor_top.specs.declared.words.Command.TheVariants.{Init, Serve, Audit, Simulate, Drill}
+use Rattle.auditor_top.specs.Commands.{opens_journal, reads_files, reads_secrets, reads_lines}
 use Rattle.auditor_top.specs.Causes.{WordCause, FileCause}
+use Rattle.auditor_top.specs.Drills.{DrillEnds}
 use Rattle.auditor_top.specs.Ends.{ServeEnds, audit_over, outside}
 use Rattle.auditor_top.proofs.Bases.{nothing_served, untouched_stops}
 use Rattle.auditor_top.proofs.AuditEndings.{none_sent, untouched_report}
 use Rattle.auditor_top.proofs.SimulationEndings.{none_begun, before_lines, still_file}
-use Rattle.auditor_top.proofs.Named.{one_command, one_batch, not_false}
+use Rattle.auditor_top.proofs.Named.{one_command, one_batch, one_drill, not_false}
 use Rattle.auditor_top.proofs.running.run.Goals as goal
 
 -- ---- no memory for the words
@@ -177,3 +178,45 @@ returns-in-Ok-Simulate-clause-simulating g c = λ ptold told asked quiet columns
 pub returns-in-Ok-Simulate-clause-simulates : goal.returns-in-Ok-Simulate-clause-simulates
 returns-in-Ok-Simulate-clause-simulates g c = λ ptold itold asked columns public files verdicts agree within none.
     c.simulate.ensures.complete ptold itold columns public files verdicts agree within (g.B.Bench.faults c.args.spare.now) none
+
+-- ---- `drill`
+
+pub returns-in-Ok-Drill-clause-words : goal.returns-in-Ok-Drill-clause-words
+returns-in-Ok-Drill-clause-words g c =
+    subst (λ (asked : Option Command). WordCause c.drill.result asked) (sym (c.in-Ok-Drill.ensures.command ∙ ap (λ (k : Command). Some k) c.in-Ok-Drill.field-0-is)) c.drill.ensures.word_cause
+
+pub returns-in-Ok-Drill-clause-file : goal.returns-in-Ok-Drill-clause-file
+returns-in-Ok-Drill-clause-file g c = λ ptold told command asked base files.
+    let is = one_command _ (Drill c.in-Ok-Drill.number) command (c.in-Ok-Drill.ensures.command ∙ ap (λ (k : Command). Some k) c.in-Ok-Drill.field-0-is) asked in
+    subst (λ (named : Command). FileCause c.drill.result named (g.B.Bench.file c.args.bench.now) base.secret) is (c.drill.ensures.file_cause (g.B.Bench.file c.args.bench.now) base.secret)
+
+pub returns-in-Ok-Drill-clause-faults : goal.returns-in-Ok-Drill-clause-faults
+returns-in-Ok-Drill-clause-faults g c = c.drill.ensures.faults (g.P.Source.faults c.args.schema.now) (g.P.Source.faults c.args.table.now) (g.I.Source.faults c.args.input.now) (g.B.Bench.faults c.args.spare.now)
+
+pub returns-in-Ok-Drill-clause-later : goal.returns-in-Ok-Drill-clause-later
+returns-in-Ok-Drill-clause-later g c = c.drill.ensures.later (g.P.Source.faults c.args.schema.now) (g.P.Source.faults c.args.table.now) (g.I.Source.faults c.args.input.now) (g.B.Bench.faults c.args.spare.now)
+
+pub returns-in-Ok-Drill-clause-drills : goal.returns-in-Ok-Drill-clause-drills
+returns-in-Ok-Drill-clause-drills g c = λ number asked none.
+    c.drill.ensures.complete (g.P.Source.faults c.args.schema.now) (g.P.Source.faults c.args.table.now) (g.I.Source.faults c.args.input.now) (g.B.Bench.faults c.args.spare.now) none
+
+pub returns-in-Ok-Drill-clause-drilled : goal.returns-in-Ok-Drill-clause-drilled
+returns-in-Ok-Drill-clause-drilled g c = λ told number asked.
+    let is = one_drill _ c.in-Ok-Drill.number number (c.in-Ok-Drill.ensures.command ∙ ap (λ (k : Command). Some k) c.in-Ok-Drill.field-0-is) asked in
+    subst (λ (n : ℕ). DrillEnds c.drill.result n (g.B.Bench.sent c.args.bench.now) (g.B.Bench.sent c.drill.new.bench)) is (c.drill.ensures.ends told)
+
+pub returns-in-Ok-Drill-clause-schema : goal.returns-in-Ok-Drill-clause-schema
+returns-in-Ok-Drill-clause-schema g c = λ ptold command asked reads.
+    not_false reads_files command (Drill c.in-Ok-Drill.number) (one_command _ command (Drill c.in-Ok-Drill.number) asked (c.in-Ok-Drill.ensures.command ∙ ap (λ (k : Command). Some k) c.in-Ok-Drill.field-0-is)) reads refl
+
+pub returns-in-Ok-Drill-clause-table : goal.returns-in-Ok-Drill-clause-table
+returns-in-Ok-Drill-clause-table g c = λ ptold command asked reads columns schema.
+    not_false reads_secrets command (Drill c.in-Ok-Drill.number) (one_command _ command (Drill c.in-Ok-Drill.number) asked (c.in-Ok-Drill.ensures.command ∙ ap (λ (k : Command). Some k) c.in-Ok-Drill.field-0-is)) reads refl
+
+pub returns-in-Ok-Drill-clause-input : goal.returns-in-Ok-Drill-clause-input
+returns-in-Ok-Drill-clause-input g c = λ itold command asked reads.
+    not_false reads_lines command (Drill c.in-Ok-Drill.number) (one_command _ command (Drill c.in-Ok-Drill.number) asked (c.in-Ok-Drill.ensures.command ∙ ap (λ (k : Command). Some k) c.in-Ok-Drill.field-0-is)) reads refl
+
+pub returns-in-Ok-Drill-clause-nothing_began : goal.returns-in-Ok-Drill-clause-nothing_began
+returns-in-Ok-Drill-clause-nothing_began g c = λ ptold told command asked opens quiet none.
+    not_false opens_journal command (Drill c.in-Ok-Drill.number) (one_command _ command (Drill c.in-Ok-Drill.number) asked (c.in-Ok-Drill.ensures.command ∙ ap (λ (k : Command). Some k) c.in-Ok-Drill.field-0-is)) opens refl

@@ -59,7 +59,7 @@ returns-in_err-due g c =
     let sent = c.in_ok-send_verdict.ensures in
     let question = subst (λ (o : Option Expected). AsksNext g.P.Source c.loop-expected.lines c.next_question.new.lines c.loop-expected.source c.next_question.new.source columns public c.loop-expected.core.history o) c.in-Some.is c.in_ok-expected.ensures.asks in
     let half = asked_half g.P.Source g.B.Bench c.args.schema.now.columns c.args.index.now c.args.source.now c.args.bench.now c.lines_in_turn.ensures.more c.loop-expected.lines c.loop-expected.source c.loop-expected.bench c.loop-expected.core c.loop-expected.line c.loop-expected.invariant c.next_question.new.lines c.next_question.new.source expected question
-    c.in_ok-expected.ensures.cuts c.due-due.result c.due-due.ensures c.send_verdict.new.bench sent.file sent.crash sent.time sent.all sent.cause.steady in
+    c.in_ok-expected.ensures.cuts c.due-due.result c.due-due.ensures c.send_verdict.new.bench sent.file sent.crash sent.time sent.all sent.ticks sent.cause.steady in
     let why = c.in_err-due.field-0.0 in
     let same : c.from_residual-in_err-due.result ≡ ended_by why = search rules in
     subst (λ (r : Result (Unit {0}) SimulationFault). Simulates g.P.Source g.B.Bench columns public c.args.source.now c.next_shown.new.source c.args.bench.now c.send_verdict.new.bench r) (sym same)
@@ -73,7 +73,7 @@ returns-in-None g c =
     let sent = c.in_ok-send_verdict.ensures in
     let question = subst (λ (o : Option Expected). AsksNext g.P.Source c.loop-expected.lines c.next_question.new.lines c.loop-expected.source c.next_question.new.source columns public c.loop-expected.core.history o) c.in-Some.is c.in_ok-expected.ensures.asks in
     let half = asked_half g.P.Source g.B.Bench c.args.schema.now.columns c.args.index.now c.args.source.now c.args.bench.now c.lines_in_turn.ensures.more c.loop-expected.lines c.loop-expected.source c.loop-expected.bench c.loop-expected.core c.loop-expected.line c.loop-expected.invariant c.next_question.new.lines c.next_question.new.source expected question
-    c.in_ok-expected.ensures.cuts c.due-due.result c.due-due.ensures c.send_verdict.new.bench sent.file sent.crash sent.time sent.all sent.cause.steady in
+    c.in_ok-expected.ensures.cuts c.due-due.result c.due-due.ensures c.send_verdict.new.bench sent.file sent.crash sent.time sent.all sent.ticks sent.cause.steady in
     let none = subst (λ (o : Option Shown). ShowsNext g.P.Source c.next_question.new.lines c.next_shown.new.lines c.next_question.new.source c.next_shown.new.source expected o) c.in-None.is c.in_ok-due.ensures.shows in
     all_read g.P.Source g.B.Bench c.args.schema.now.columns c.args.index.now c.args.source.now c.args.bench.now c.lines_in_turn.ensures.more c.next_question.new.lines c.next_question.new.source c.send_verdict.new.bench (half.lines ++ half.question ∷ []) (half.verdicts ++ sent_for expected ∷ []) half.so_far c.next_shown.new.lines c.next_shown.new.source none c.in_ok-due.ensures.cuts
 
@@ -85,7 +85,7 @@ returns-in-Some-Disagrees g c =
     let sent = c.in_ok-send_verdict.ensures in
     let question = subst (λ (o : Option Expected). AsksNext g.P.Source c.loop-expected.lines c.next_question.new.lines c.loop-expected.source c.next_question.new.source columns public c.loop-expected.core.history o) c.in-Some.is c.in_ok-expected.ensures.asks in
     let half = asked_half g.P.Source g.B.Bench c.args.schema.now.columns c.args.index.now c.args.source.now c.args.bench.now c.lines_in_turn.ensures.more c.loop-expected.lines c.loop-expected.source c.loop-expected.bench c.loop-expected.core c.loop-expected.line c.loop-expected.invariant c.next_question.new.lines c.next_question.new.source expected question
-    c.in_ok-expected.ensures.cuts c.due-due.result c.due-due.ensures c.send_verdict.new.bench sent.file sent.crash sent.time sent.all sent.cause.steady in
+    c.in_ok-expected.ensures.cuts c.due-due.result c.due-due.ensures c.send_verdict.new.bench sent.file sent.crash sent.time sent.all sent.ticks sent.cause.steady in
     let shows = subst (λ (o : Option Shown). ShowsNext g.P.Source c.next_question.new.lines c.next_shown.new.lines c.next_question.new.source c.next_shown.new.source expected o) c.in-Some-Disagrees.is c.in_ok-due.ensures.shows in
     let not_agreed = subst (λ (s : Shown). ComesTo shows.line expected s) c.in-Some-Disagrees.field-0-is shows.comes_to in
     subst (λ (d : Due). Simulates g.P.Source g.B.Bench columns public c.args.source.now c.next_shown.new.source c.args.bench.now c.send_verdict.new.bench (ended_by (fault.Disagrees (c.loop-expected.line + 2) d))) (sym c.due-due.ensures)
@@ -99,7 +99,7 @@ loop-expected-preserved g c =
     let sent = c.in_ok-send_verdict.ensures in
     let question = subst (λ (o : Option Expected). AsksNext g.P.Source c.loop-expected.lines c.next_question.new.lines c.loop-expected.source c.next_question.new.source columns public c.loop-expected.core.history o) c.in-Some.is c.in_ok-expected.ensures.asks in
     let half = asked_half g.P.Source g.B.Bench c.args.schema.now.columns c.args.index.now c.args.source.now c.args.bench.now c.lines_in_turn.ensures.more c.loop-expected.lines c.loop-expected.source c.loop-expected.bench c.loop-expected.core c.loop-expected.line c.loop-expected.invariant c.next_question.new.lines c.next_question.new.source expected question
-    c.in_ok-expected.ensures.cuts c.due-due.result c.due-due.ensures c.send_verdict.new.bench sent.file sent.crash sent.time sent.all sent.cause.steady in
+    c.in_ok-expected.ensures.cuts c.due-due.result c.due-due.ensures c.send_verdict.new.bench sent.file sent.crash sent.time sent.all sent.ticks sent.cause.steady in
     let shows = subst (λ (o : Option Shown). ShowsNext g.P.Source c.next_question.new.lines c.next_shown.new.lines c.next_question.new.source c.next_shown.new.source expected o) c.in-Some-Agrees-None.is c.in_ok-due.ensures.shows in
     let added : c.in-Some-Agrees-None.field-0-0 ≡ None = c.in-Some-Agrees-None.field-0-0-is in
     let agrees = subst (λ (o : Option Answered). AgreesWith shows.line expected o) added (subst (λ (s : Shown). ComesTo shows.line expected s) c.in-Some-Agrees-None.field-0-is shows.comes_to) in
@@ -113,7 +113,7 @@ loop-expected-preserved-in-Continue-branch-8 g c =
     let sent = c.in_ok-send_verdict.ensures in
     let question = subst (λ (o : Option Expected). AsksNext g.P.Source c.loop-expected.lines c.next_question.new.lines c.loop-expected.source c.next_question.new.source columns public c.loop-expected.core.history o) c.in-Some.is c.in_ok-expected.ensures.asks in
     let half = asked_half g.P.Source g.B.Bench c.args.schema.now.columns c.args.index.now c.args.source.now c.args.bench.now c.lines_in_turn.ensures.more c.loop-expected.lines c.loop-expected.source c.loop-expected.bench c.loop-expected.core c.loop-expected.line c.loop-expected.invariant c.next_question.new.lines c.next_question.new.source expected question
-    c.in_ok-expected.ensures.cuts c.due-due.result c.due-due.ensures c.send_verdict.new.bench sent.file sent.crash sent.time sent.all sent.cause.steady in
+    c.in_ok-expected.ensures.cuts c.due-due.result c.due-due.ensures c.send_verdict.new.bench sent.file sent.crash sent.time sent.all sent.ticks sent.cause.steady in
     let shows = subst (λ (o : Option Shown). ShowsNext g.P.Source c.next_question.new.lines c.next_shown.new.lines c.next_question.new.source c.next_shown.new.source expected o) c.in-Some-Agrees-Some.is c.in_ok-due.ensures.shows in
     let added : c.in-Some-Agrees-Some.field-0-0 ≡ Some c.in-Some-Agrees-Some.answered = search rules in
     let agrees = subst (λ (o : Option Answered). AgreesWith shows.line expected o) added (subst (λ (s : Shown). ComesTo shows.line expected s) c.in-Some-Agrees-Some.field-0-is shows.comes_to) in
@@ -127,7 +127,7 @@ returns-in_err-take-in-Some-Agrees-Some g c =
     let sent = c.in_ok-send_verdict.ensures in
     let question = subst (λ (o : Option Expected). AsksNext g.P.Source c.loop-expected.lines c.next_question.new.lines c.loop-expected.source c.next_question.new.source columns public c.loop-expected.core.history o) c.in-Some.is c.in_ok-expected.ensures.asks in
     let half = asked_half g.P.Source g.B.Bench c.args.schema.now.columns c.args.index.now c.args.source.now c.args.bench.now c.lines_in_turn.ensures.more c.loop-expected.lines c.loop-expected.source c.loop-expected.bench c.loop-expected.core c.loop-expected.line c.loop-expected.invariant c.next_question.new.lines c.next_question.new.source expected question
-    c.in_ok-expected.ensures.cuts c.due-due.result c.due-due.ensures c.send_verdict.new.bench sent.file sent.crash sent.time sent.all sent.cause.steady in
+    c.in_ok-expected.ensures.cuts c.due-due.result c.due-due.ensures c.send_verdict.new.bench sent.file sent.crash sent.time sent.all sent.ticks sent.cause.steady in
     let shows = subst (λ (o : Option Shown). ShowsNext g.P.Source c.next_question.new.lines c.next_shown.new.lines c.next_question.new.source c.next_shown.new.source expected o) c.in-Some-Agrees-Some.is c.in_ok-due.ensures.shows in
     let same : c.from_residual-in_err-take-in-Some-Agrees-Some.result ≡ ended_by fault.NoMemory = search rules in
     subst (λ (r : Result (Unit {0}) SimulationFault). Simulates g.P.Source g.B.Bench columns public c.args.source.now c.next_shown.new.source c.args.bench.now c.send_verdict.new.bench r) (sym same)

@@ -1,0 +1,9 @@
+use Rattle.std.proofs.Common.{List, ℕ, sym, subst}
+use Rattle.auditor_top.specs.Drills.{AnswersDrill}
+use Rattle.auditor_top.proofs.DrillLines.{few_lines}
+use Rattle.auditor_top.proofs.drilling.write_summary.Goals as goal
+
+pub tally-requires : goal.tally-requires
+tally-requires c =
+    let answers = subst (λ (sent : List ℕ). AnswersDrill c.args.number sent) (sym c.sent.ensures) c.in_ok-rows.ensures.replies in
+    few_lines c.lines_of_replies.ensures c.args.number c.sent.result.now c.in_ok-rows.ensures.short answers

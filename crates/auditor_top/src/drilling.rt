@@ -1,0 +1,161 @@
+//! The command that takes a whole generated table through the program, in memory.
+ghost use Rattle.std.specs.Prelude.{◌≡◌, ◌≢◌, ◌≤◌, ◌+◌, [], List, ℕ, true, Some, length, take, IfOk, OnOk};
+ghost use Rattle.audit_types.specs.Shapes.{IsShape};
+ghost use Rattle.schema_json.specs.SecretShape.{shape_of};
+ghost use Rattle.table_load.specs.Cells.{FitsSchema, SecretView};
+ghost use Rattle.table_load.specs.Database.{base_of};
+ghost use Rattle.bench_core.specs.BenchContents.{file_of, sent_of};
+ghost use Rattle.bench_core.specs.Calls.{IsQuiet};
+ghost use Rattle.journal_form.specs.Journal.{StandsFor};
+ghost use Rattle.audit_store.specs.Stores.{IsAsLeft};
+ghost use Rattle.line_wire.specs.Lines.{counted_lines};
+ghost use Rattle.audit_session.specs.Ends.{Serves};
+ghost use Rattle.drill_case.specs.Tables.{drill_rows};
+ghost use Rattle.drill_case.specs.Lines.{drill_text};
+ghost use Rattle.auditor_top.specs.declared.status.Which.{Which};
+ghost use Rattle.auditor_top.specs.declared.words.Command.TheVariants.{Drill};
+ghost use Rattle.auditor_top.specs.Causes.{FaultCause, WordCause, FileCause, NeverFall, NothingFailed, IsDoneOrWants, counts};
+ghost use Rattle.auditor_top.specs.Drills.{AnswersDrill, IsSummary, DrillEnds};
+ghost use Rattle.auditor_top.specs.Stages.{Before, opening_journal, reading_lines};
+
+use crate::status::Status;
+use answer_journal::{Journal, MakeFault};
+use audit_session::EndFault;
+use audit_store::{StartFault, Store};
+use audit_types::{NoMemory, Shape};
+use bench_core::{Bench, Failed, MemoryBench, Room, SteadySource};
+use drill_case::laws::lines_of_replies;
+use drill_case::{drill_lines, drill_schema, drill_table, summary, tally};
+use schema_json::{Schema, SchemaFault};
+use set_index::Index;
+use std::alloc::Global;
+use table_load::{Secret, Table, TableFault};
+
+// The journal and the replies of a drill stay in the program's own memory.
+const ROOM: Room = Room {
+    file: 1_048_576,
+    sent: 1_048_576,
+    calls: 16_384,
+    written: 1_048_576,
+};
+
+// Makes the journal of a table over an empty file.
+fn make(bench: &mut MemoryBench, shape: &Shape) -> Result<(), NoMemory>
+    requires shape { IsShape shape.now }
+    requires empty { file_of bench.old ≡ [] }
+    ensures made { OnOk result (StandsFor (file_of bench.new) shape.now []) }
+    ensures sent { sent_of bench.new ≡ sent_of bench.old }
+{
+    match Journal::make(bench, shape) {
+        Ok(()) => Ok(()),
+        Err(fault) => match fault {
+            MakeFault::AlreadyThere => unreachable!(),
+            MakeFault::Failed => Err(NoMemory),
+        },
+    }
+}
+
+// Starts the store of a table over its new journal.
+fn start(alloc: Global, secret: Secret, bench: &mut MemoryBench) -> Result<Store, NoMemory>
+    requires { StandsFor (file_of bench.old) secret.shape [] }
+    ensures store { IfOk result (λ store. (store.secret ≡ secret) × (store.usable ≡ true) × (store.history ≡ [])) }
+    ensures stands { IfOk result (λ store. IsAsLeft (file_of bench.new) store) }
+    ensures sent { sent_of bench.new ≡ sent_of bench.old }
+{
+    journal_form::laws::one_reading();
+    match Store::start(alloc, secret, bench) {
+        Ok(store) => Ok(store),
+        Err(fault) => match fault {
+            StartFault::Failed | StartFault::NoMemory => Err(NoMemory),
+            _ => unreachable!(),
+        },
+    }
+}
+
+// Answers the lines, each by itself.
+fn answer(
+    alloc: Global,
+    schema: &Schema,
+    index: &Index,
+    store: &mut Store,
+    lines: Vec<u8>,
+    bench: &mut MemoryBench,
+) -> Result<(), NoMemory>
+    requires usable { store.old.usable ≡ true }
+    requires fits { FitsSchema schema.now.columns index.now }
+    requires shape { store.old.secret.shape ≡ shape_of schema.now.columns index.now.rows }
+    requires stands { IsAsLeft (file_of bench.old) store.old }
+    requires short { length lines.items ≤ 60000 }
+    ensures { OnOk result (Serves (base_of schema.now.columns index.now store.old.secret) store.old.history (counted_lines lines.items) store.new.history (sent_of bench.old) (sent_of bench.new)) }
+{
+    let mut source = SteadySource::new(lines);
+    match audit_session::serve(alloc, schema, index, store, &mut source, bench, 1) {
+        Ok(()) => Ok(()),
+        Err(fault) => match fault {
+            EndFault::Bench | EndFault::NoMemory => Err(NoMemory),
+            EndFault::Input | EndFault::Limit => unreachable!(),
+        },
+    }
+}
+
+// Answers the lines of a drill over its table, and says how many rows that has.
+fn answer_drill(alloc: Global, number: u32, bench: &mut MemoryBench) -> Result<u16, NoMemory>
+    requires empty { file_of bench.old ≡ [] }
+    requires unsent { sent_of bench.old ≡ [] }
+    ensures rows { IfOk result (λ rows. rows ≡ drill_rows) }
+    ensures replies { OnOk result (AnswersDrill number (sent_of bench.new)) }
+    ensures short { OnOk result (length (drill_text number) ≤ 60000) }
+{
+    let schema = drill_schema(alloc)?;
+    let Table { public, secret } = drill_table(alloc, number)?;
+    let rows = public.rows();
+    let index = Index::new(alloc, public)?;
+    let lines = drill_lines(alloc, number)?;
+    make(bench, &secret.shape())?;
+    let mut store = start(alloc, secret, bench)?;
+    answer(alloc, &schema, &index, &mut store, lines, bench)?;
+    Ok(rows)
+}
+
+// Writes the summary of a drill into the front of `out`, and says how many bytes it has.
+fn write_summary(alloc: Global, number: u32, out: &mut [u8; 160]) -> Result<usize, NoMemory>
+    ensures count { IfOk result (λ count. count ≤ 160) }
+    ensures summary { IfOk result (λ count. IsSummary number (take count out.new)) }
+{
+    lines_of_replies();
+    let mut bench = MemoryBench::new(alloc, b"", ROOM, Vec::new(alloc), None)?;
+    let rows = answer_drill(alloc, number, &mut bench)?;
+    Ok(summary(rows, &tally(bench.sent()), out))
+}
+
+/// Sends the summary of a drill.
+pub fn drill<B: Bench>(alloc: Global, number: u32, bench: &mut B) -> Status
+    // Each status has its cause.
+    ensures word_cause { WordCause result (Some (Drill number)) }
+    ensures file_cause { (file : List ℕ) (secret : SecretView) → FileCause result (Drill number) file secret }
+    ensures own_schema_fault { result ≢ Status.BadSchema SchemaFault.NoMemory }
+    ensures own_table_fault { result ≢ Status.BadTable TableFault.NoMemory }
+    ensures no_source { (which : Which) → result ≢ Status.SourceFault which }
+    ensures faults { (schema table input spare : ℕ) → FaultCause result (counts schema table input (B.faults bench.old) spare) (counts schema table input (B.faults bench.new) spare) }
+    ensures later { (schema table input spare : ℕ) → NeverFall (counts schema table input (B.faults bench.old) spare) (counts schema table input (B.faults bench.new) spare) }
+    ensures complete { (schema table input spare : ℕ) → NothingFailed (counts schema table input (B.faults bench.old) spare) (counts schema table input (B.faults bench.new) spare)
+        → IsDoneOrWants result }
+
+    // One send of the bench, or none where memory is wanting.
+    ensures ends { B.told → DrillEnds result number (B.sent bench.old) (B.sent bench.new) }
+    ensures calls { B.told → result ≡ Status.Done → B.moment bench.new ≡ B.moment bench.old + 1 }
+    ensures no_memory { result ≡ Status.NoMemory → bench.new ≡ bench.old }
+    ensures file { B.file bench.new ≡ B.file bench.old }
+    ensures quiet { IsQuiet B.Bench bench.old → IsQuiet B.Bench bench.new }
+    ensures before_bench { Before opening_journal result (bench.new ≡ bench.old) }
+    ensures before_lines { Before reading_lines result (B.sent bench.new ≡ B.sent bench.old) }
+{
+    let mut out = [0u8; 160];
+    let Ok(count) = write_summary(alloc, number, &mut out) else {
+        return Status::NoMemory;
+    };
+    match bench.send(&out[..count]) {
+        Ok(()) => Status::Done,
+        Err(Failed) => Status::BenchFault,
+    }
+}

@@ -1,0 +1,54 @@
+-- The numbers of a drill's columns, row by row, and that they are those of a table.
+use Rattle.std.proofs.Common.{◌≡◌, ◌≢◌, ℕ, zero, suc, ◌+◌, ◌*◌, ◌≤◌, ◌<◌, ◌%◌, ℤ, pos, true, not, List, [], ◌∷◌, ◌++◌, length, map, refl, sym, ap, ◌∙◌, subst, arith}
+use Rattle.std.specs.List.{AllByRecursion, range_with_len}
+use Rattle.std.proofs.lemmas.Bool.{le-ltb}
+use Rattle.std.proofs.lemmas.List.FromFn.{length-map-range_with_len, map-range_with_len_more}
+use Rattle.schema_json.specs.Columns.{Column}
+use Rattle.table_load.specs.Cells.{AreLists, AreNumbers}
+use Rattle.table_load.specs.Numerals.{in_range}
+use Rattle.drill_case.specs.Draws.{draw}
+use Rattle.drill_case.specs.Tables.{drill_columns, drawn, bands, ages, pays, bests}
+
+-- one row more has one number more
+pub grows : (number which rows d : ℕ) (of_draw : ℕ → ℕ) (old new : List ℤ) → old ≡ drawn number which of_draw rows → new ≡ old ++ pos (of_draw d) ∷ [] → d ≡ draw number (4 * rows + which) → new ≡ drawn number which of_draw (rows + 1)
+grows number which rows d of_draw old new had is at =
+    is ∙ (λ i. had i ++ pos (of_draw (at i)) ∷ []) ∙ sym (map-range_with_len_more (λ row. pos (of_draw (draw number (4 * row + which)))) 0 rows rows (omega arith))
+
+within : (f : ℕ → ℤ) → ((k : ℕ) → in_range (f k) ≡ true) → (start count : ℕ) → AllByRecursion (λ z. in_range z ≡ true) (map f (range_with_len start count))
+within f each start zero = tt
+within f each start (suc count) = (each start, within f each (start + 1) count)
+
+-- small numbers are in range
+small : (n : ℕ) → n ≤ 100000 → in_range (pos n) ≡ true
+small n is = ap not (le-ltb 1000000000000 n (omega (arith, is)))
+
+are_numbers : (number which : ℕ) (of_draw : ℕ → ℕ) → ((d : ℕ) → of_draw d ≤ 100000) → (rows : ℕ) → AreNumbers rows (drawn number which of_draw rows)
+are_numbers number which of_draw least rows = record {
+  one_each = length-map-range_with_len (λ row. pos (of_draw (draw number (4 * row + which)))) 0 rows;
+  within = within (λ row. pos (of_draw (draw number (4 * row + which)))) (λ row. small (of_draw (draw number (4 * row + which))) (least (draw number (4 * row + which)))) 0 rows;
+}
+
+public_numbers : (number rows : ℕ) → AllByRecursion (AreNumbers rows) (bands number rows ∷ ages number rows ∷ [])
+public_numbers number rows = (are_numbers number 0 (λ d. d % 8) (λ d. omega arith) rows, (are_numbers number 1 (λ d. 20 + d % 50) (λ d. omega arith) rows, tt))
+
+-- the public columns are lists of numbers
+are_lists : (number rows : ℕ) → 0 < rows → rows ≤ 1024 → AreLists drill_columns (bands number rows ∷ ages number rows ∷ [])
+are_lists number rows some most =
+    let long : length (bands number rows) ≡ rows = (public_numbers number rows).0.one_each in
+    record {
+      no_texts = (λ is. cc, (λ is. cc, (λ is. cc, (λ is. cc, tt))));
+      one_each = refl;
+      some = omega (arith, long, some);
+      at_most = omega (arith, long, most);
+      numbers = subst (λ (n : ℕ). AllByRecursion (AreNumbers n) (bands number rows ∷ ages number rows ∷ [])) (sym long) (public_numbers number rows);
+    }
+
+pub lists_fit : (number rows : ℕ) (columns : List Column) (lists : List (List ℤ)) → 0 < rows → rows ≤ 1024 → columns ≡ drill_columns → lists ≡ bands number rows ∷ ages number rows ∷ [] → AreLists columns lists
+lists_fit number rows columns lists some most schema are =
+    subst (λ (cs : List Column). AreLists cs lists) (sym schema) (subst (λ (ls : List (List ℤ)). AreLists drill_columns ls) (sym are) (are_lists number rows some most))
+
+-- the secret columns are numbers
+pub secrets_fit : (number rows : ℕ) (lists : List (List ℤ)) → lists ≡ pays number rows ∷ bests number rows ∷ [] → AllByRecursion (AreNumbers rows) lists
+secrets_fit number rows lists are =
+    subst (λ (ls : List (List ℤ)). AllByRecursion (AreNumbers rows) ls) (sym are)
+    (are_numbers number 2 (λ d. d % 100000) (λ d. omega arith) rows, (are_numbers number 3 (λ d. d % 1000) (λ d. omega arith) rows, tt))

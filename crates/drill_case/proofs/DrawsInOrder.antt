@@ -1,0 +1,29 @@
+-- The draws, one after another.
+use Rattle.std.proofs.Common.{◌≡◌, ℕ, suc, ◌+◌, ◌/◌, ◌^◌, List, [], ◌∷◌, refl, sym, ap, ◌∙◌, arith}
+use Rattle.drill_case.specs.Draws.{state_behind, state_after, draw}
+
+-- the generator begins with the number
+pub begins : (number : ℕ) → number ≡ state_after number 0
+unfolding state_after
+begins number = refl
+
+one_more : (number place : ℕ) → state_after number (suc place) ≡ state_behind (state_after number place)
+unfolding state_after
+one_more number place = refl
+
+-- a step makes the next state
+pub steps : (number place next state : ℕ) → place + 1 ≡ next → state ≡ state_after number place → state_behind state ≡ state_after number next
+steps number place next state is at =
+    let one : suc place ≡ next = omega (arith, is) in
+    ap state_behind at ∙ sym (one_more number place) ∙ ap (state_after number) one
+
+-- four steps make the next four draws
+pub four_steps : (number place first second third fourth state : ℕ) → first ≡ state_behind state → second ≡ state_behind first → third ≡ state_behind second → fourth ≡ state_behind third → state ≡ state_after number place
+    → (fourth ≡ state_after number (place + 4)) × (◌≡◌ {A = List ℕ} (first / 2 ^ 33 ∷ second / 2 ^ 33 ∷ third / 2 ^ 33 ∷ fourth / 2 ^ 33 ∷ []) (draw number place ∷ draw number (place + 1) ∷ draw number (place + 2) ∷ draw number (place + 3) ∷ []))
+four_steps number place first second third fourth state one two three four at =
+    let a : first ≡ state_after number (place + 1) = one ∙ steps number place (place + 1) state refl at in
+    let b : second ≡ state_after number (place + 2) = two ∙ steps number (place + 1) (place + 2) first (omega arith) a in
+    let c : third ≡ state_after number (place + 3) = three ∙ steps number (place + 2) (place + 3) second (omega arith) b in
+    let d : fourth ≡ state_after number (place + 4) = four ∙ steps number (place + 3) (place + 4) third (omega arith) c in
+    let later : (before k : ℕ) → before ≡ k + 1 → state_after number before ≡ state_after number (k + 1) = λ before k is. ap (state_after number) is in
+    (d, λ i. a i / 2 ^ 33 ∷ (b ∙ later (place + 2) (place + 1) (omega arith)) i / 2 ^ 33 ∷ (c ∙ later (place + 3) (place + 2) (omega arith)) i / 2 ^ 33 ∷ (d ∙ later (place + 4) (place + 3) (omega arith)) i / 2 ^ 33 ∷ [])

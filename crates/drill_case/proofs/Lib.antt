@@ -1,0 +1,7 @@
+pub mod DrawnColumns
+pub mod DrawsInOrder
+pub mod KindsInOrder
+pub mod LinesInOrder
+pub mod ReplyLines
+mod Samples
+pub mod SchemaText

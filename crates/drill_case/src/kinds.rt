@@ -1,0 +1,29 @@
+//! What the lines tell that were sent.
+ghost use Rattle.drill_case.specs.Tallies.{HasKind};
+
+use line_wire::{Reply, read_reply};
+
+/// What a line tells that was sent.
+#[derive(Clone, Copy, Debug, PartialEq, Eq)]
+pub(crate) enum ReplyKind {
+    /// A sum, an average or a maximum.
+    Released,
+    /// That an answer would give a secret away.
+    DeniedUnsafe,
+    /// That an answer would need numbers that are too wide.
+    DeniedWide,
+    /// A count, a refusal, or no reply at all.
+    Other,
+}
+
+/// The kind of a line, without its line feed.
+pub(crate) fn kind_of(line: &[u8]) -> ReplyKind
+    ensures { HasKind line.now result }
+{
+    match read_reply(line) {
+        Some(Reply::Sum(_)) | Some(Reply::Avg { .. }) | Some(Reply::Max(_)) => ReplyKind::Released,
+        Some(Reply::Unsafe) => ReplyKind::DeniedUnsafe,
+        Some(Reply::Wide) => ReplyKind::DeniedWide,
+        _ => ReplyKind::Other,
+    }
+}
