@@ -13,8 +13,9 @@ mod definitions;
 #[cfg(test)]
 mod devices;
 #[cfg(test)]
-mod journals;
 mod drills;
+#[cfg(test)]
+mod journals;
 #[cfg(test)]
 mod publics;
 #[cfg(test)]
