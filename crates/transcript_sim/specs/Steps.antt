@@ -8,7 +8,7 @@ use Rattle.bench_core.specs.Causes.{Rose}
 use Rattle.schema_json.specs.Columns.{Column}
 use Rattle.schema_json.specs.SecretShape.{shape_of}
 use Rattle.table_load.specs.Cells.{PublicView}
-use Rattle.line_wire.specs.Lines.{CountedLine, counted_lines}
+use Rattle.line_wire.specs.Lines.{CountedLine, counted_lines, most_input}
 use Rattle.line_wire.specs.Cutter.{Cutter, StopsAt}
 use Rattle.line_wire.specs.ReadLines.{ReadsLines}
 use Rattle.line_wire.specs.declared.lines.LineStop.{LineStop}
