@@ -3,8 +3,9 @@ ghost use Rattle.std.specs.Prelude.{◌≡◌, ◌≢◌, ◌≤◌, ◌+◌, Li
 ghost use Rattle.audit_types.specs.declared.records.Answered.{Answered};
 ghost use Rattle.bench_core.specs.Calls.{IsQuiet, LeavesOnly};
 ghost use Rattle.schema_json.specs.Columns.{Column};
-ghost use Rattle.schema_json.specs.Reading.{schema_of};
+ghost use Rattle.schema_json.specs.Reading.{schema_of, most_schema};
 ghost use Rattle.table_load.specs.Cells.{PublicView, SecretView};
+ghost use Rattle.table_load.specs.Reading.{most_table};
 ghost use Rattle.table_load.specs.Tables.{public_of};
 ghost use Rattle.line_wire.specs.Lines.{counted_lines, most_input};
 ghost use Rattle.question_plan.specs.Session.{Replied};
@@ -14,7 +15,6 @@ ghost use Rattle.auditor_top.specs.declared.words.Command.TheVariants.{Simulate}
 ghost use Rattle.auditor_top.specs.Commands.{ArePublicFilesOf};
 ghost use Rattle.auditor_top.specs.Causes.{FaultCause, WordCause, SchemaCause, TableCause, FileCause, InputCause, NeverFall, NothingFailed, IsDoneOrWants, counts};
 ghost use Rattle.auditor_top.specs.Ends.{SimulateEnds, SimulateSends, LeavesFile};
-ghost use Rattle.auditor_top.specs.Files.{most_schema, most_table};
 ghost use Rattle.auditor_top.specs.Stages.{Before, reading_table, opening_journal, reading_lines};
 ghost use Rattle.auditor_top.specs.Status.{simulation_status};
 
