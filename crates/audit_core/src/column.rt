@@ -1,5 +1,6 @@
 //! A secret column, whatever its kind.
 ghost use Rattle.std.specs.Prelude.{◌≡◌, ◌<◌, ◌≤◌, IfOk};
+ghost use Rattle.audit_types.specs.Limits.{most_rows};
 ghost use Rattle.audit_core.specs.Columns.{known_in, known_at_first};
 
 use audit_types::{ColumnAudit, Kind, NoMemory, RowSet, Verdict};
@@ -25,7 +26,7 @@ impl Column {
     /// No answers yet, over n rows.
     pub(crate) fn new(alloc: Global, kind: Kind, n: u16) -> Result<Column, NoMemory>
         requires some { 0 < n }
-        requires at_most { n ≤ 1024 }
+        requires at_most { n ≤ most_rows }
         ensures { IfOk result (λ column. known_in column ≡ known_at_first kind n) }
     {
         match kind {

@@ -1,5 +1,6 @@
 //! Sets of rows.
 ghost use Rattle.std.specs.Prelude.{◌≡◌, ◌≢◌, ◌↔◌, ◌==◌, ℕ, ◌+◌, ◌-◌, ◌*◌, ◌^◌, ◌<◌, ◌≤◌, List, [], length, IsTrue};
+ghost use Rattle.audit_types.specs.Limits.{most_rows};
 ghost use Rattle.std.specs.Int.{bit_at};
 ghost use Rattle.audit_types.specs.Rows.{AreRows, has_row, same_rows, with_row, intersection, union, complement};
 ghost use Rattle.std.proofs.Common.{rules};
@@ -39,7 +40,7 @@ impl RowSet {
     /// The empty set over n rows.
     pub fn new(n: u16) -> RowSet
         requires some { 0 < n }
-        requires at_most { n ≤ 1024 }
+        requires at_most { n ≤ most_rows }
         ensures n { result.n ≡ n }
         ensures empty { result.list ≡ [] }
     {
@@ -52,7 +53,7 @@ impl RowSet {
 
         // What is true of every set.
         ensures some { 0 < self.now.n }
-        ensures at_most { self.now.n ≤ 1024 }
+        ensures at_most { self.now.n ≤ most_rows }
         ensures are_rows { AreRows self.now.n self.now.list }
     {
         self.n

@@ -1,5 +1,6 @@
 //! The table of a drill.
 ghost use Rattle.std.specs.Prelude.{◌≡◌, ◌<◌, ◌≤◌, ◌++◌, ◌∷◌, [], pos, IfOk, OnOk};
+ghost use Rattle.audit_types.specs.Limits.{most_rows};
 ghost use Rattle.table_load.specs.Cells.{FitsSchema};
 ghost use Rattle.drill_case.specs.Tables.{drill_rows, drill_columns, drill_public, drill_secret, bands, ages, pays, bests};
 
@@ -17,7 +18,7 @@ const SCHEMA: &[u8] =
 pub(crate) fn row_count() -> u16
     ensures rows { result ≡ drill_rows }
     ensures some { 0 < result }
-    ensures at_most { result ≤ 1024 }
+    ensures at_most { result ≤ most_rows }
 {
     200
 }

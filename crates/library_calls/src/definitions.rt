@@ -1,6 +1,7 @@
 //! The definitions on cases worked out by hand: a table of six people, and a table of three rows.
 
 ghost use Rattle.std.specs.Prelude.{◌≡◌, ◌<◌, ◌≤◌, length};
+ghost use Rattle.audit_types.specs.Limits.{most_rows};
 
 use audit_types::{Answered, Kind, RowSet};
 use oracles::{agrees, extremes, truth, upper_bound};
@@ -32,7 +33,7 @@ const NOBODY: [bool; 6] = [false; 6];
 
 fn rows(members: &[bool]) -> RowSet
     requires some { 0 < length members.now }
-    requires at_most { length members.now ≤ 1024 }
+    requires at_most { length members.now ≤ most_rows }
     ensures { result.n ≡ length members.now }
 {
     let n = members.len() as u16;
@@ -47,7 +48,7 @@ fn rows(members: &[bool]) -> RowSet
 
 fn sum(members: &[bool], answer: i64) -> Answered
     requires some { 0 < length members.now }
-    requires at_most { length members.now ≤ 1024 }
+    requires at_most { length members.now ≤ most_rows }
     ensures { result.rows.n ≡ length members.now }
 {
     Answered {
@@ -59,7 +60,7 @@ fn sum(members: &[bool], answer: i64) -> Answered
 
 fn maximum(members: &[bool], answer: i64) -> Answered
     requires some { 0 < length members.now }
-    requires at_most { length members.now ≤ 1024 }
+    requires at_most { length members.now ≤ most_rows }
     ensures { result.rows.n ≡ length members.now }
 {
     Answered {

@@ -1,5 +1,6 @@
 //! A column of maxima and its audit.
 ghost use Rattle.std.specs.Prelude.{◌≡◌, ◌≢◌, ◌<◌, ◌≤◌, [], IfOk, OnOk, OnErr};
+ghost use Rattle.audit_types.specs.Limits.{most_rows};
 ghost use Rattle.std.specs.List.{All};
 ghost use Rattle.audit_types.specs.Column.{known_max, with_answer, IsPossible, IsWellFormed};
 ghost use Rattle.audit_types.specs.Extremes.{IsConsistent, IsLeastLone};
@@ -36,7 +37,7 @@ impl MaxColumn {
     /// No answers yet, over n rows.
     pub fn new(alloc: Global, n: u16) -> Result<MaxColumn, NoMemory>
         requires some { 0 < n }
-        requires at_most { n ≤ 1024 }
+        requires at_most { n ≤ most_rows }
         ensures { IfOk result (λ column. column ≡ known_max n []) }
     {
         let bounds = Bounds::new(alloc, n)?;

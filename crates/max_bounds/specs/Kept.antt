@@ -1,5 +1,6 @@
 -- What is kept of answered maxima beside the answers.
 use Rattle.std.specs.Prelude.{◌≡◌, ℕ, ◌<◌, ◌≤◌, ℤ, ◌<ℤ◌, ◌≤ℤ◌, Bool, true, false, not, ◌&&◌, int_lt, List, [], ◌∷◌, map, length, Option, Some, None, min, cond}
+use Rattle.audit_types.specs.Limits.{most_rows}
 use Rattle.std.specs.List.{filter, AllByRecursion}
 use Rattle.audit_types.specs.Rows.{AreRows, has_row}
 use Rattle.audit_types.specs.Column.{Answer, IsOneOf}
@@ -94,7 +95,7 @@ pub record TellsExtremes (extreme_rows : Answer → List ℕ) (answers : List An
 
 -- what is true of the fields of all kept maxima
 pub record IsKept (b : Inside) : Type 0 where
-  pub at_most : b.n ≤ 1024
+  pub at_most : b.n ≤ most_rows
   pub same_n : AllByRecursion (λ p. p.rows.n ≡ b.n) b.pairs.items
   pub are_rows : AllByRecursion (λ a. AreRows b.n a.rows) (answers_of b.pairs.items)
   pub one_each : length b.upper.items ≡ b.n

@@ -1,5 +1,6 @@
 //! The answered maxima of one column, with what they say of each row.
 ghost use Rattle.std.specs.Prelude.{◌≡◌, ◌≢◌, ◌↔◌, ℕ, ◌+◌, ◌^◌, ◌<◌, ◌≤◌, pos, neg_ℤ, ◌≤ℤ◌, [], Some, IfOk, OnOk, OnErr, IsTrue, length, slice_get};
+ghost use Rattle.audit_types.specs.Limits.{most_rows};
 ghost use Rattle.audit_types.specs.Column.{Answer};
 ghost use Rattle.audit_types.specs.Extremes.{upper_bound, extremes, IsConsistent, IsLeastLone};
 ghost use Rattle.std.specs.List.{AllByRecursion};
@@ -48,7 +49,7 @@ impl Bounds {
     /// No answers yet, over n rows.
     pub fn new(alloc: Global, n: u16) -> Result<Bounds, NoMemory>
         requires some { 0 < n }
-        requires at_most { n ≤ 1024 }
+        requires at_most { n ≤ most_rows }
         ensures { IfOk result (λ bounds. bounds ≡ record { n = n; answers = [] }) }
     {
         let upper = vec![in alloc; None; n as usize]?;
@@ -66,7 +67,7 @@ impl Bounds {
     /// How many rows the table has.
     pub fn n(&self) -> u16
         ensures exact { result ≡ self.now.n }
-        ensures at_most { self.now.n ≤ 1024 }
+        ensures at_most { self.now.n ≤ most_rows }
     {
         self.n
     }

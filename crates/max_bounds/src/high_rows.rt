@@ -1,5 +1,6 @@
 //! The rows with high bounds. Most questions on many rows have one of them, and then no other row counts.
 ghost use Rattle.std.specs.Prelude.{◌≡◌, ◌↔◌, ◌<◌, ◌≤◌, ℕ, true, IsTrue, length};
+ghost use Rattle.audit_types.specs.Limits.{most_rows};
 ghost use Rattle.audit_types.specs.Rows.{has_row};
 ghost use Rattle.max_bounds.specs.Reaching.{bound_at};
 ghost use Rattle.max_bounds.specs.Outside.{HasOneHighest};
@@ -24,7 +25,7 @@ pub(crate) struct HighRows {
 
 fn all_rows(n: u16) -> RowSet
     requires some { 0 < n }
-    requires at_most { n ≤ 1024 }
+    requires at_most { n ≤ most_rows }
     ensures same_n { result.n ≡ n }
     ensures all { (r : ℕ) → r < n → has_row result.list r ≡ true }
 {
@@ -61,7 +62,7 @@ impl HighRows {
     /// All rows.
     pub(crate) fn new(n: u16) -> HighRows
         requires some { 0 < n }
-        requires at_most { n ≤ 1024 }
+        requires at_most { n ≤ most_rows }
         ensures same_n { result.rows.n ≡ n }
         ensures all { (r : ℕ) → r < n → has_row result.rows.list r ≡ true }
     {
@@ -74,7 +75,7 @@ impl HighRows {
     // The high rows by a new cut.
     fn told_anew(upper: &[Option<i64>], n: u16) -> HighRows
         requires some { 0 < n }
-        requires at_most { n ≤ 1024 }
+        requires at_most { n ≤ most_rows }
         requires within { n ≤ length upper.now }
         ensures high { IsHigh n (bound_at upper.now) result }
     {
@@ -86,7 +87,7 @@ impl HighRows {
     /// What stays, or the high rows told anew, once so many answers have joined. Bounds only fall, so that these rows stay right.
     pub(crate) fn next(self, upper: &[Option<i64>], n: u16, answers: usize) -> HighRows
         requires some { 0 < n }
-        requires at_most { n ≤ 1024 }
+        requires at_most { n ≤ most_rows }
         requires within { n ≤ length upper.now }
         requires high { IsHigh n (bound_at upper.now) self }
         ensures high { IsHigh n (bound_at upper.now) result }

@@ -1,5 +1,6 @@
 -- The answered sums of a column, as contracts see them.
 use Rattle.std.specs.Prelude.{◌≡◌, ℕ, ◌<◌, ◌≤◌, List, map}
+use Rattle.audit_types.specs.Limits.{most_rows}
 use Rattle.std.specs.List.{AllByRecursion}
 use Rattle.audit_types.specs.Rows.{AreRows}
 use Rattle.audit_types.specs.Column.{Answer}
@@ -19,7 +20,7 @@ answers_of pairs = map answer_of pairs
 -- what is true of the fields of every column of sums: the sets are over its rows, and the basis is their reduced form
 pub record IsSumColumn (n : ℕ) (basis : Echelon) (pairs : List AnsweredSum) : Type 0 where
   pub some : 0 < n
-  pub at_most : n ≤ 1024
+  pub at_most : n ≤ most_rows
   pub same_n : basis.n ≡ n
   pub are_rows : AllByRecursion (AreRows n) (sets_of (answers_of pairs))
   pub form : Reduced n (sets_of (answers_of pairs)) basis.rows

@@ -1,5 +1,6 @@
 //! A column of sums and its audit.
 ghost use Rattle.std.specs.Prelude.{◌≡◌, ◌<◌, ◌≤◌, [], IfOk};
+ghost use Rattle.audit_types.specs.Limits.{most_rows};
 ghost use Rattle.std.specs.List.{AllByRecursion};
 ghost use Rattle.audit_types.specs.Rows.{AreRows};
 ghost use Rattle.audit_types.specs.Column.{known_sum};
@@ -40,7 +41,7 @@ impl SumColumn {
     /// No answers yet, over n rows.
     pub fn new(alloc: Global, n: u16) -> Result<SumColumn, NoMemory>
         requires some { 0 < n }
-        requires at_most { n ≤ 1024 }
+        requires at_most { n ≤ most_rows }
         ensures { IfOk result (λ column. column ≡ known_sum n []) }
     {
         let basis = Basis::new(alloc, n)?;
@@ -54,7 +55,7 @@ impl SumColumn {
 
         // What is true of every column of sums.
         ensures some { 0 < self.now.n }
-        ensures at_most { self.now.n ≤ 1024 }
+        ensures at_most { self.now.n ≤ most_rows }
         ensures sums { self.now.kind ≡ Sum }
         ensures are_rows { AllByRecursion (AreRows self.now.n) (sets_of self.now.answers) }
     {

@@ -1,5 +1,6 @@
 //! The reduced form of the sets of a sum column, kept as long as it is narrow.
 ghost use Rattle.std.specs.Prelude.{◌≡◌, ◌↔◌, ℕ, ◌<◌, ◌≤◌, ◌++◌, ◌^◌, List, pos, [], ◌∷◌, length, IfOk, OnOk, OnErr, IsTrue, slice_index_or};
+ghost use Rattle.audit_types.specs.Limits.{most_rows};
 ghost use Rattle.audit_types.specs.Form.{set_row, InSpan, IsNarrow, IsReducedForm, Reduced, pivot, pivot_entries, IsLeastCommonMultiple};
 ghost use Rattle.audit_types.specs.Truth.{number_at};
 ghost use Rattle.sum_basis.specs.Basis.{IsLeastUnit};
@@ -27,14 +28,14 @@ impl Model for Basis {
 
     ghost view = { λ b. b.form };
 
-    ghost invariant = { λ b. b.form.n ≤ 1024 };
+    ghost invariant = { λ b. b.form.n ≤ most_rows };
 }
 
 impl Basis {
     /// The form of no sets. It takes no memory yet.
     pub fn new(alloc: Global, n: u16) -> Result<Basis, NoMemory>
         requires some { 0 < n }
-        requires at_most { n ≤ 1024 }
+        requires at_most { n ≤ most_rows }
         ensures { IfOk result (λ basis. basis ≡ record { n = n; rows = [] }) }
     {
         let form = Form::new(alloc, n)?;
