@@ -22,6 +22,7 @@ pub struct Basis {
 
 impl Model for Basis {
     ghost use Rattle.std.specs.Prelude.{◌≤◌};
+    ghost use Rattle.audit_types.specs.Limits.{most_rows};
     ghost use Rattle.sum_basis.specs.Basis.{Echelon};
 
     ghost Value = { Echelon };
