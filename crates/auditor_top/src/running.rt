@@ -19,7 +19,7 @@ ghost use Rattle.audit_session.specs.Stops.{StopsOver};
 ghost use Rattle.audit_session.specs.Lives.{Run, IsLife};
 ghost use Rattle.journal_audit.specs.Reports.{SendsMeanwhile, subjects};
 ghost use Rattle.transcript_sim.specs.Ends.{SimulatesMeanwhile};
-ghost use Rattle.transcript_sim.specs.Verdicts.{AreVerdicts};
+ghost use Rattle.transcript_sim.specs.Verdicts.{AreVerdicts, exchanges};
 ghost use Rattle.auditor_top.specs.declared.words.Command.{Command};
 ghost use Rattle.auditor_top.specs.declared.words.Command.TheVariants.{Init, Serve, Audit, Simulate, Drill};
 ghost use Rattle.auditor_top.specs.Words.{command_of, NamesCommand};
@@ -154,7 +154,7 @@ pub fn run<P: Source, I: Source, B: Bench>(
 
     // Where it is done, its calls of the bench are counted. `init` takes seven, or six over a file of 21 bytes; `serve` two
     // to open the journal, one for each line, and four for each group in which some reply makes a record; `audit` two to open
-    // the journal, and one for each line of the report.
+    // the journal, and one for each line of the report; `simulate` one for each question.
     ensures init_calls { B.told → NamesCommand words.now.items Init → result ≡ Status.Done → B.moment bench.new ≡ B.moment bench.old + calls_to_make (B.file bench.old) }
     ensures serve_calls { P.told → I.told → B.told → (batch : ℕ) → NamesCommand words.now.items (Serve batch) → result ≡ Status.Done
         → (base : Database) (history : List Answered) → ServesOver (P.left schema.old) (P.left table.old) (B.file bench.old) base history
@@ -162,6 +162,8 @@ pub fn run<P: Source, I: Source, B: Bench>(
     ensures audit_calls { P.told → B.told → NamesCommand words.now.items Audit → result ≡ Status.Done
         → (base : Database) → AreFilesOf (P.left schema.old) (P.left table.old) base
         → B.moment bench.new ≡ B.moment bench.old + 2 + length (subjects base.secret.shape) }
+    ensures simulate_calls { I.told → B.told → NamesCommand words.now.items Simulate → result ≡ Status.Done
+        → B.moment bench.new ≡ B.moment bench.old + length (exchanges (counted_lines (I.left input.old))) }
 
     // What it doesn't come to, it doesn't call, and before the lines nothing is written or sent. A step that isn't one of the
     // command's leaves its object alone.

@@ -10,7 +10,7 @@ ghost use Rattle.table_load.specs.Tables.{public_of};
 ghost use Rattle.line_wire.specs.Lines.{counted_lines, most_input};
 ghost use Rattle.question_plan.specs.Session.{Replied};
 ghost use Rattle.transcript_sim.specs.Ends.{SimulatesMeanwhile};
-ghost use Rattle.transcript_sim.specs.Verdicts.{AreVerdicts};
+ghost use Rattle.transcript_sim.specs.Verdicts.{AreVerdicts, exchanges};
 ghost use Rattle.auditor_top.specs.declared.words.Command.TheVariants.{Simulate};
 ghost use Rattle.auditor_top.specs.Commands.{ArePublicFilesOf};
 ghost use Rattle.auditor_top.specs.Causes.{FaultCause, WordCause, SchemaCause, TableCause, FileCause, InputCause, NeverFall, NothingFailed, IsDoneOrWants, counts};
@@ -80,6 +80,9 @@ pub fn simulate<P: Source, I: Source, B: Bench>(
         (counts (P.faults schema.old) (P.faults table.old) (I.faults input.old) (B.faults bench.old) spare)
         (counts (P.faults schema.new) (P.faults table.new) (I.faults input.new) (B.faults bench.new) spare)
         → IsDoneOrWants result }
+
+    // Where it is done, it took one call of the bench for each question.
+    ensures calls { I.told → B.told → result ≡ Status.Done → B.moment bench.new ≡ B.moment bench.old + length (exchanges (counted_lines (I.left input.old))) }
 
     // The file isn't touched, at the end and at every moment, and what it doesn't come to, it doesn't call.
     ensures file { B.file bench.new ≡ B.file bench.old }

@@ -10,6 +10,7 @@ use Rattle.auditor_top.specs.declared.status.Status.{Status}
 use Rattle.auditor_top.specs.Status.{open_status}
 use Rattle.auditor_top.specs.Ends.{SimulateEnds, SimulateSends}
 use Rattle.auditor_top.specs.Causes.{SchemaCause, TableCause, FaultCause, InputCause, IsDoneOrWants, counts}
+use Rattle.auditor_top.proofs.Calls.{simulation_done}
 use Rattle.auditor_top.proofs.Endings.{moved}
 use Rattle.auditor_top.proofs.SimulationEndings.{same_columns, same_public_part, none_begun, before_lines, still_file, unopened_verdicts, unopened_sends, unopened_simulation, simulation_ends, simulation_sends, simulation_reads, simulation_faults, simulation_wants}
 use Rattle.auditor_top.proofs.simulating.simulate.Goals as goal
@@ -105,6 +106,9 @@ returns-clause-complete g c = λ ptold itold columns public files verdicts agree
     let faults = subst (λ (status : Status). FaultCause status before after) c.ended.ensures (returns-clause-faults g c spare) in
     subst (λ (status : Status). IsDoneOrWants status) (sym c.ended.ensures)
     (simulation_wants c.one_verdict.ensures.first c.simulate.result columns public input left all.0 verdicts before after are (c.simulate.ensures.reads itold) agree within faults none)
+
+pub returns-clause-calls : goal.returns-clause-calls
+returns-clause-calls g c = λ itold told done. simulation_done c.simulate.result (sym c.ended.ensures ∙ done) (c.simulate.ensures.calls itold told)
 
 pub returns-clause-any_moment : goal.returns-clause-any_moment
 returns-clause-any_moment g c = λ ptold told quiet columns public files.
