@@ -129,6 +129,32 @@ positive_times (negsuc n) y p q = absurd (omega (arith, ints))
 positive_times (pos (suc n)) (pos zero) p q = absurd (omega (arith, ints))
 positive_times (pos (suc n)) (negsuc m) p q = absurd (omega (arith, ints))
 
+-- the row and the new one, combined at the new pivot
+module _ (n : ℕ) (r : SparseRow) (new : List FreeEntry) (kept : IsKept n r) (is_new : IsNew n new) (before : r.pivot < (get_or new 0 none).place)
+    (by times : ℤ) (by_is : by ≡ (get_or new 0 none).value) (times_is : times ≡ entry_at r.free.items (get_or new 0 none).place) where
+  abbrev pub combined_rows : List ℤ
+  combined_rows = combine (pivot_entry (row_of n new)) (row_of n (entries_of r)) (number_at (row_of n (entries_of r)) (pivot (row_of n new))) (row_of n new)
+
+  pub combined_rows_at : (j : ℕ) → number_at combined_rows j ≡ by *ℤ entry_at (entries_of r) j +ℤ neg_ℤ times *ℤ entry_at new j
+  combined_rows_at j =
+      let x = pivot_entry (row_of n new) in
+      let y = number_at (row_of n (entries_of r)) (pivot (row_of n new)) in
+      number_at-combine x (row_of n (entries_of r)) y (row_of n new) j
+      ∙ ap (λ z. x *ℤ z +ℤ neg_ℤ y *ℤ number_at (row_of n new) j) (number_at-row_of 0 n (entries_of r) kept.listed j)
+      ∙ ap (λ z. x *ℤ entry_at (entries_of r) j +ℤ neg_ℤ y *ℤ z) (number_at-row_of 0 n new is_new.listed j)
+      ∙ ap (λ z. z *ℤ entry_at (entries_of r) j +ℤ neg_ℤ y *ℤ entry_at new j) (led.pivot_entry_is ∙ sym by_is)
+      ∙ ap (λ z. by *ℤ entry_at (entries_of r) j +ℤ neg_ℤ z *ℤ entry_at new j) (sym times_leads)
+    where
+      led : IsLed n new (get_or new 0 none).place (get_or new 0 none).value
+      led = is_led n new is_new.some is_new.listed
+
+      times_leads : times ≡ number_at (row_of n (entries_of r)) (pivot (row_of n new))
+      times_leads =
+          let place = (get_or new 0 none).place in
+          let first = elsewhere (record { place = r.pivot; value = r.head }) place (λ same. omega arith) in
+          let sum : entry_at (entries_of r) place ≡ entry_at r.free.items place = omega (arith, ints) in
+          times_is ∙ sym sum ∙ sym (number_at-row_of 0 n (entries_of r) kept.listed place) ∙ ap (number_at (row_of n (entries_of r))) (sym led.at_pivot)
+
 -- the row and the new one, combined at the new pivot, and that over its content
 module _ (n : ℕ) (r : SparseRow) (new : List FreeEntry) (kept : IsKept n r) (primitive : IsPrimitive n (row_of n (entries_of r))) (is_new : IsNew n new) (before : r.pivot < (get_or new 0 none).place)
     (by times : ℤ) (by_is : by ≡ (get_or new 0 none).value) (times_is : times ≡ entry_at r.free.items (get_or new 0 none).place)
@@ -193,20 +219,9 @@ module _ (n : ℕ) (r : SparseRow) (new : List FreeEntry) (kept : IsKept n r) (p
       let y = number_at (row_of n (entries_of r)) (pivot (row_of n new)) in
       same_rows (combine x (row_of n (entries_of r)) y (row_of n new)) (times_of over.by (row_of n whole))
       (length-combine n x (row_of n (entries_of r)) y (row_of n new) (length-row_of n (entries_of r)) (length-row_of n new) ∙ sym (length-map (row_of n whole) (λ z. over.by *ℤ z) ∙ length-row_of n whole))
-      (λ j. number_at-combine x (row_of n (entries_of r)) y (row_of n new) j
-      ∙ ap (λ z. x *ℤ z +ℤ neg_ℤ y *ℤ number_at (row_of n new) j) (number_at-row_of 0 n (entries_of r) kept.listed j)
-      ∙ ap (λ z. x *ℤ entry_at (entries_of r) j +ℤ neg_ℤ y *ℤ z) (number_at-row_of 0 n new is_new.listed j)
-      ∙ ap (λ z. z *ℤ entry_at (entries_of r) j +ℤ neg_ℤ y *ℤ entry_at new j) (sym by_leads)
-      ∙ ap (λ z. by *ℤ entry_at (entries_of r) j +ℤ neg_ℤ z *ℤ entry_at new j) (sym times_leads)
+      (λ j. combined_rows_at n r new kept is_new before by times by_is times_is j
       ∙ column j
       ∙ sym (number_at-times over.by (row_of n whole) j ∙ ap (λ z. over.by *ℤ z) (number_at-row_of 0 n whole cleared_listed j)))
-    where
-      times_leads : times ≡ number_at (row_of n (entries_of r)) (pivot (row_of n new))
-      times_leads =
-          let place = (get_or new 0 none).place in
-          let first = elsewhere (record { place = r.pivot; value = r.head }) place (λ same. omega arith) in
-          let sum : entry_at (entries_of r) place ≡ entry_at r.free.items place = omega (arith, ints) in
-          times_is ∙ sym sum ∙ sym (number_at-row_of 0 n (entries_of r) kept.listed place) ∙ ap (number_at (row_of n (entries_of r))) (sym led.at_pivot)
 
   -- it is the row cleared
   pub is_cleared : IsCleared n (row_of n new) (row_of n (entries_of r)) (row_of n whole)

@@ -1,8 +1,10 @@
 -- Rows cleared at the pivot of a new row.
 use Rattle.std.proofs.Common.{◌≡◌, ◌≢◌, ℕ, zero, suc, ◌<◌, true, false, ℤ, pos, List, [], ◌∷◌, length, refl, sym, ap, ◌∙◌, subst, arith, inl, inr}
-use Rattle.std.specs.Prelude.{◌+ℤ◌, ◌*ℤ◌, neg_ℤ, ◌<ℤ◌}
+use Rattle.std.specs.Int.{◌∣◌}
+use Rattle.std.specs.Prelude.{◌+ℤ◌, ◌*ℤ◌, neg_ℤ, ◌<ℤ◌, unsigned_abs}
 use Rattle.std.specs.List.{AllByRecursion, list_all}
-use Rattle.std.proofs.lemmas.Int.{ints}
+use Rattle.std.proofs.lemmas.Int.{ints, unsigned_abs-mul}
+use Rattle.std.proofs.Math.Nat.{dvd-mul_left}
 use Rattle.std.proofs.lemmas.List.{length-map}
 use Rattle.std.proofs.lemmas.Bool.{MatchBool-at_false, cases_order, false_from_ne_true, and_parts}
 use Rattle.std.proofs.Math.IntN.{+ℤ_idr, *ℤ_comm, zero-*ℤ, *ℤ-zero}
@@ -63,21 +65,25 @@ comes_first n new row p e some = elim (cases_order (pivot row) (pivot new)) [
   | inr other ↦ elim other [ inl lt ↦ lt | inr gt ↦ absurd (some (zero_before row (pivot new) gt)) ]
 ]
 
+-- what the combination has at the pivot
+head_of_combination : (x : ℤ) (row : List ℤ) (y : ℤ) (new : List ℤ) → number_at new (pivot row) ≡ pos 0 → number_at (combine x row y new) (pivot row) ≡ x *ℤ pivot_entry row
+head_of_combination x row y new e = number_at-combine x row y new (pivot row) ∙ ap (λ z. x *ℤ pivot_entry row +ℤ neg_ℤ y *ℤ z) e ∙ ap (λ z. x *ℤ pivot_entry row +ℤ z) (*ℤ-zero (neg_ℤ y)) ∙ +ℤ_idr (x *ℤ pivot_entry row)
+
 -- the combination keeps the pivot
-leads_combination : (n : ℕ) (new row : List ℤ) → IsPrimitive n new → IsPrimitive n row → number_at new (pivot row) ≡ pos 0 → number_at (combine (pivot_entry new) row (number_at row (pivot new)) new) (pivot row) ≢ pos 0
+pub leads_combination : (n : ℕ) (new row : List ℤ) → IsPrimitive n new → IsPrimitive n row → number_at new (pivot row) ≡ pos 0 → number_at (combine (pivot_entry new) row (number_at row (pivot new)) new) (pivot row) ≢ pos 0
 leads_combination n new row p q e z =
     let x = pivot_entry new in
     let y = number_at row (pivot new) in
-    let here : number_at (combine x row y new) (pivot row) ≡ x *ℤ pivot_entry row = number_at-combine x row y new (pivot row) ∙ ap (λ z. x *ℤ pivot_entry row +ℤ neg_ℤ y *ℤ z) e ∙ ap (λ z. x *ℤ pivot_entry row +ℤ z) (*ℤ-zero (neg_ℤ y)) ∙ +ℤ_idr (x *ℤ pivot_entry row) in
-    product_not_zero x (pivot_entry row) (positive_not_zero x p.leading) (positive_not_zero (pivot_entry row) q.leading) (sym here ∙ z)
+    product_not_zero x (pivot_entry row) (positive_not_zero x p.leading) (positive_not_zero (pivot_entry row) q.leading) (sym (head_of_combination x row y new e) ∙ z)
 
 -- a row combined with the new one and made primitive is cleared
 pub cleared_from : (n : ℕ) (new row made : List ℤ) (by : ℤ) → IsPrimitive n new → IsPrimitive n row → number_at new (pivot row) ≡ pos 0 → pivot row < pivot new → by ≢ pos 0
     → combine (pivot_entry new) row (number_at row (pivot new)) new ≡ times by made → IsPrimitive n made → IsCleared n new row made
 cleared_from n new row made by p q e first n_zero line primitive = record {
-  same_pivot = pivot_is made (pivot row) (λ j h. line_zero c by made j n_zero line (before j h)) (line_some c by made (pivot row) line (leads_combination n new row p q e));
+  same_pivot = same;
   primitive = primitive;
   zero_there = line_zero c by made (pivot new) n_zero line gone;
+  head = subst (λ m. unsigned_abs (pivot_entry made) ∣ m) (sym (unsigned_abs-mul by (pivot_entry made)) ∙ ap unsigned_abs heads ∙ unsigned_abs-mul x (pivot_entry row)) (dvd-mul_left (unsigned_abs (pivot_entry made)) (unsigned_abs by));
   keeps = λ j h k. line_zero c by made j n_zero line (number_at-combine x row y new j ∙ at_both_zero x (neg_ℤ y) (number_at row j) (number_at new j) h k);
   back = λ span h k. span_uncombine span x row y new p.leading (subst (InSpan span) (sym line) (span_times span by made h)) k;
   there = λ span h k. span_line span by made n_zero (subst (InSpan span) line (span_combine span x row y new h k));
@@ -94,6 +100,12 @@ cleared_from n new row made by p q e first n_zero line primitive = record {
 
     before : (j : ℕ) → j < pivot row → number_at c j ≡ pos 0
     before j h = number_at-combine x row y new j ∙ at_both_zero x (neg_ℤ y) (number_at row j) (number_at new j) (zero_before row j h) (zero_before new j (omega arith))
+
+    same : pivot made ≡ pivot row
+    same = pivot_is made (pivot row) (λ j h. line_zero c by made j n_zero line (before j h)) (line_some c by made (pivot row) line (leads_combination n new row p q e))
+
+    heads : by *ℤ pivot_entry made ≡ x *ℤ pivot_entry row
+    heads = sym (number_at-times by made (pivot made)) ∙ sym (ap (λ l. number_at l (pivot made)) line) ∙ ap (number_at c) same ∙ head_of_combination x row y new e
 
     gone : number_at c (pivot new) ≡ pos 0
     gone =
@@ -116,7 +128,7 @@ cleared_by n new row made p q e first is =
 
 -- a row that is 0 there is cleared as it is
 pub cleared_already : (n : ℕ) (new row : List ℤ) → IsPrimitive n row → number_at row (pivot new) ≡ pos 0 → IsCleared n new row row
-cleared_already n new row q z = record { same_pivot = refl; primitive = q; zero_there = z; keeps = λ j h k. h; back = λ span h k. h; there = λ span h k. h }
+cleared_already n new row q z = record { same_pivot = refl; primitive = q; zero_there = z; head = dvd-mul_left (unsigned_abs (pivot_entry row)) (unsigned_abs (pivot_entry new)); keeps = λ j h k. h; back = λ span h k. h; there = λ span h k. h }
 
 -- each row can be cleared
 pub cleared : (n : ℕ) (new row : List ℤ) → IsPrimitive n new → IsPrimitive n row → number_at new (pivot row) ≡ pos 0 → (made : List ℤ) × IsCleared n new row made

@@ -1,6 +1,6 @@
 -- A new kept row in its place among the cleared ones.
 use Rattle.std.proofs.Common.{◌≡◌, ℕ, zero, suc, ◌<◌, ◌≤◌, pos, List, [], ◌∷◌, ◌++◌, length, take, drop, get_or, refl, sym, ap, ◌∙◌, subst, arith}
-use Rattle.std.specs.Prelude.{◌<ℤ◌, insert, remove}
+use Rattle.std.specs.Prelude.{◌<ℤ◌, insert, remove, unsigned_abs}
 use Rattle.std.specs.Vec.{vec_capacity}
 use Rattle.std.specs.List.{AllByRecursion}
 use Rattle.std.proofs.lemmas.List.{take-append-drop, take-map, drop-map, map-append}
@@ -42,12 +42,13 @@ without_first [] first rest some f r = absurd (omega arith)
 without_first (e ∷ es) first rest some f r = record { is = ap (λ x. x ∷ es) (sym f) ∙ ap (λ l. first ∷ l) (sym r) }
 
 -- the new row as it is kept
-pub kept_new : (n : ℕ) (entries : List FreeEntry) (r : SparseRow) → IsNew n entries → entries ≡ entries_of r → n ≤ vec_capacity r.free → IsKept n r
-kept_new n entries r is_new e room =
+pub kept_new : (n : ℕ) (entries : List FreeEntry) (r : SparseRow) → IsNew n entries → entries ≡ entries_of r → AllByRecursion (λ (e : FreeEntry). unsigned_abs e.value ≤ r.most) (entries_of r) → n ≤ vec_capacity r.free → IsKept n r
+kept_new n entries r is_new e bounded room =
     let listed = subst (IsListed 0 n) e is_new.listed in
     record {
       listed = listed;
       leading = subst (λ z. pos 0 <ℤ z) (ap (λ l. pivot_entry (row_of n l)) e ∙ pivot_entry-row_of 0 n (record { place = r.pivot; value = r.head }) r.free.items listed) is_new.primitive.leading;
+      bounded = bounded;
       room = room;
     }
 

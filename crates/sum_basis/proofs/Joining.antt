@@ -10,7 +10,7 @@ use Rattle.sum_basis.specs.declared.sparse.SparseRow.{SparseRow}
 use Rattle.sum_basis.specs.declared.Prospect.{Prospect}
 use Rattle.sum_basis.specs.declared.Prospect.TheVariants.{Wide, Fixing, Open}
 use Rattle.sum_basis.specs.Basis.{Echelon, IsForm}
-use Rattle.sum_basis.specs.Elimination.{IsSmall, IsSmallForm}
+use Rattle.sum_basis.specs.Elimination.{IsSmall, IsSmallForm, IsZeroAtPivots}
 use Rattle.sum_basis.specs.Growth.{Foresees, GrowsTo, GrowsWide, IsNewRow, IsAsItIs}
 use Rattle.sum_basis.specs.Sparse.{entry_at, row_of, rows_of, IsListed, IsKept, IsNew}
 use Rattle.sum_basis.proofs.FormsAreUnique.{own, forms_are_unique}
@@ -125,6 +125,14 @@ told seen n rows items new list v p room view e f h left =
     let here = subst (λ (r : List SparseRow). Foresees (record { n = n; rows = rows_of n r }) (row_of n new) p) e h in
     let there = subst (λ (l : List FreeEntry). Foresees (record { n = n; rows = rows_of n items }) (row_of n l) p) f here in
     foresees_from seen v (row_of seen.n list) p left.1 (subst (λ (s : Echelon). Foresees s (row_of s.n list) p) view there)
+
+-- the list of a new row is 0 at the form's pivots, for the form as it is seen
+pub zeros_of_list : (seen : Echelon) (n : ℕ) (rows items : List SparseRow) (new list : List FreeEntry) → record { n = n; rows = rows_of n items } ≡ seen → rows ≡ items → new ≡ list
+    → IsZeroAtPivots seen.rows (row_of seen.n list) → IsZeroAtPivots (rows_of n rows) (row_of n new)
+zeros_of_list seen n rows items new list view e f zeros =
+    let here = subst (λ (s : Echelon). IsZeroAtPivots s.rows (row_of s.n list)) (sym view) zeros in
+    let there = subst (λ (l : List FreeEntry). IsZeroAtPivots (rows_of n items) (row_of n l)) (sym f) here in
+    subst (λ (r : List SparseRow). IsZeroAtPivots (rows_of n r) (row_of n new)) (sym e) there
 
 -- what is told not to be wide is not wide
 pub not_grown_wide : (old : Echelon) (v : List ℤ) (p : Prospect) → Foresees old v p → ¬ (p ≡ Wide) → ¬ (GrowsWide old v)

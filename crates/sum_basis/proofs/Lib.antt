@@ -33,3 +33,5 @@ pub mod AllCleared
 pub mod LookingAhead
 pub mod Merges
 pub mod SparseMultiples
+pub mod Parallels
+pub mod BoundedRows

@@ -1,10 +1,12 @@
 -- What is told of a form with a new row while its rows are cleared one after the other.
-use Rattle.std.proofs.Common.{◌≡◌, ◌↔◌, ℕ, zero, suc, ◌+◌, ◌<◌, ◌≤◌, ◌^◌, Bool, ℤ, pos, List, [], ◌∷◌, ◌++◌, length, take, get_or, refl, sym, ap, subst, arith, inl, inr, ◌⊎◌, IsTrue}
+use Rattle.std.proofs.Common.{◌≡◌, ◌↔◌, ℕ, zero, suc, ◌+◌, ◌*◌, ◌<◌, ◌≤◌, ◌^◌, Bool, ℤ, pos, List, [], ◌∷◌, ◌++◌, length, take, get_or, refl, sym, ap, subst, arith, inl, inr, ◌⊎◌, IsTrue}
 use Rattle.std.specs.Prelude.{◌<ℤ◌, unsigned_abs}
 use Rattle.std.specs.Int.{◌∣◌}
 use Rattle.std.specs.List.{AllByRecursion}
 use Rattle.std.proofs.lemmas.Int.{ints}
-use Rattle.std.proofs.lemmas.Nat.Gcd.{dvd_refl, le_of_dvd}
+use Rattle.std.proofs.lemmas.Nat.Gcd.{dvd_refl, dvd_trans, le_of_dvd}
+use Rattle.std.proofs.Math.Nat.{dvd-mul_right, mul-dvd-mul_left, mul-pos}
+use Rattle.std.proofs.lemmas.List.Elements.{All-from_recursion}
 use Rattle.audit_types.specs.Form.{InSpan, IsPrimitive, IsReducedForm, IsLeastCommonMultiple, pivot, pivot_entry, pivot_entries}
 use Rattle.int_rows.specs.ContentLaws.{all-push}
 use Rattle.sum_basis.specs.Basis.{Echelon, HasUnitRow}
@@ -83,6 +85,58 @@ all_entries m (r ∷ rows) h = (h.0, all_entries m rows h.1)
 all_before : (P : List ℤ → Type 0) (made rest : List (List ℤ)) (row : List ℤ) → AllByRecursion P (made ++ row ∷ rest) → AllByRecursion P made × P row
 all_before P [] rest row h = (tt, h.0)
 all_before P (r ∷ made) rest row h = let more = all_before P made rest row h.1 in ((h.0, more.0), more.1)
+
+-- the same, where the pivot entries are only known to divide the product of the new one and any multiple of the form's
+pub record IsGlanced (n : ℕ) (form : List (List ℤ)) (new : List ℤ) (k : ℕ) (fixing : Bool) : Type 0 where
+  pub made : List (List ℤ)
+  pub clears : ClearsFirst n form new k made
+  pub divides : (m : ℕ) → AllByRecursion (λ x. x ∣ m) (pivot_entries form) → AllByRecursion (λ r. unsigned_abs (pivot_entry r) ∣ (unsigned_abs (pivot_entry new) * m)) (new ∷ made)
+  pub lone : IsTrue fixing → SomeLone (new ∷ made)
+  pub none : ¬ (IsTrue fixing) → AllByRecursion (λ r. ¬ (IsLone r)) (new ∷ made)
+
+-- at the start only the new row was looked at
+pub nothing_glanced : (n : ℕ) (form : List (List ℤ)) (new : List ℤ) (fixing : Bool) → IsTrue fixing ↔ IsLone new → IsGlanced n form new 0 fixing
+nothing_glanced n form new fixing lone = record {
+  made = [];
+  clears = no_rows n new form;
+  divides = λ m all. (dvd-mul_right (unsigned_abs (pivot_entry new)) m, tt);
+  lone = λ yes. inl (lone.0 yes);
+  none = λ no. (λ is. no (lone.1 is), tt);
+}
+
+-- one row more was looked at
+pub one_more_glanced : (n : ℕ) (form : List (List ℤ)) (new : List ℤ) (k : ℕ) (fixing : Bool) (row : List ℤ) (lone also : Bool) → k < length form → IsGlanced n form new k fixing → IsCleared n new (get_or form k []) row → IsSmall row
+    → IsTrue lone ↔ IsLone row → IsTrue also ↔ (IsTrue fixing ⊎ IsTrue lone) → IsGlanced n form new (k + 1) also
+one_more_glanced n form new k fixing row lone also h g is small one both = record {
+  made = g.made ++ row ∷ [];
+  clears = one_more_cleared n new form g.made k row h g.clears is small;
+  divides = λ m all. all-push (λ r. unsigned_abs (pivot_entry r) ∣ (unsigned_abs (pivot_entry new) * m)) (new ∷ g.made) row (g.divides m all)
+      (dvd_trans (unsigned_abs (pivot_entry row)) is.head (mul-dvd-mul_left (unsigned_abs (pivot_entry (get_or form k []))) (unsigned_abs (pivot_entry new)) (All-from_recursion (λ r. unsigned_abs (pivot_entry r) ∣ m) form (all_rows m form all) k [] h)));
+  lone = λ yes. elim (both.0 yes) [ inl before ↦ some_push (new ∷ g.made) row (inl (g.lone before)) | inr here ↦ some_push (new ∷ g.made) row (inr (one.0 here)) ];
+  none = λ no. all-push (λ r. ¬ (IsLone r)) (new ∷ g.made) row (g.none (λ before. no (both.1 (inl before)))) (λ here. no (both.1 (inr (one.1 here))));
+}
+
+-- where that product is within the limit, so is the least common multiple
+pub glanced_is_looked : (n : ℕ) (form : List (List ℤ)) (new : List ℤ) (k m : ℕ) (fixing : Bool) → IsPrimitive n new → 0 < m → AllByRecursion (λ x. x ∣ m) (pivot_entries form) → unsigned_abs (pivot_entry new) * m ≤ 2 ^ 56 → IsGlanced n form new k fixing
+    → (common : ℤ) × IsLooked n form new k common fixing
+glanced_is_looked n form new k m fixing p some all within g =
+    let rows = primitives n new (take k form) g.made g.clears.cleared in
+    let least = least_exists (pivot_entries (new ∷ g.made)) (entries_positive (new ∷ g.made) (leads_from n (new ∷ g.made) (p, rows))) in
+    let divides = least.2.least (unsigned_abs (pivot_entry new) * m) (all_entries (unsigned_abs (pivot_entry new) * m) (new ∷ g.made) (g.divides m all)) in
+    let above : 0 < unsigned_abs (pivot_entry new) * m = mul-pos (size_positive (pivot_entry new) p.leading) some in
+    let most = le_of_dvd above divides in
+    let positive = least.1 in (
+      pos least.0,
+      record {
+        made = g.made;
+        clears = g.clears;
+        positive = omega (arith, ints);
+        within = omega arith;
+        multiple = least.2;
+        lone = g.lone;
+        none = g.none;
+      },
+    )
 
 module _ (form : Echelon) (new : List ℤ) (f : IsSmallForm form.n form.rows) (p : IsPrimitive form.n new) (z : IsZeroAtPivots form.rows new) where
   -- a cleared row that is too large

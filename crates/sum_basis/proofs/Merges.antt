@@ -59,7 +59,7 @@ listed_append from next n [] ys l h k low = listed_from next from n ys low k
 listed_append from next n (x ∷ xs) ys l h k low = let inside = h.1 in (h.0, omega arith, h.2, listed_append (x.place + 1) next n xs ys l h.3 k (omega arith))
 
 -- multiples of the entries
-scaled_listed : (by : ℤ) (from n : ℕ) (es : List FreeEntry) → by ≢ pos 0 → IsListed from n es → IsListed from n (map (scaled by) es)
+pub scaled_listed : (by : ℤ) (from n : ℕ) (es : List FreeEntry) → by ≢ pos 0 → IsListed from n es → IsListed from n (map (scaled by) es)
 scaled_listed by from n [] p h = tt
 scaled_listed by from n (e ∷ es) p h = (h.0, h.1, product_not_zero by e.value p h.2, scaled_listed by (e.place + 1) n es p h.3)
 

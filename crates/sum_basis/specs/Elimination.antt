@@ -1,8 +1,9 @@
 -- What is done to a row, and to the rows of a form, when the row joins the form.
-use Rattle.std.specs.Prelude.{◌≡◌, ◌≢◌, ℕ, ◌≤◌, ◌^◌, ℤ, pos, ◌+ℤ◌, ◌*ℤ◌, List, [], ◌∷◌, unsigned_abs}
+use Rattle.std.specs.Prelude.{◌≡◌, ◌≢◌, ℕ, ◌≤◌, ◌*◌, ◌^◌, ℤ, pos, ◌+ℤ◌, ◌*ℤ◌, List, [], ◌∷◌, unsigned_abs}
+use Rattle.std.specs.Int.{◌∣◌}
 use Rattle.std.specs.List.{AllByRecursion}
 use Rattle.audit_types.specs.Truth.{number_at}
-use Rattle.audit_types.specs.Form.{combined, InSpan, IsPrimitive, IsEchelon, pivot}
+use Rattle.audit_types.specs.Form.{combined, InSpan, IsPrimitive, IsEchelon, pivot, pivot_entry}
 
 -- no entry is above 2 ^ 56
 abbrev pub IsSmall : List ℤ → Type 0
@@ -31,11 +32,12 @@ pub record IsRemainder (form : List (List ℤ)) (old new : List ℤ) : Type 0 wh
   pub is : (j : ℕ) → number_at old j ≡ number_at new j +ℤ combined coefficients form j
   pub zeros : IsZeroAtPivots form new
 
--- a primitive row with the same pivot that is 0 at the pivot of the new row, and what the two spans have in common
+-- a primitive row with the same pivot that is 0 at the pivot of the new row, and what the two spans have in common; its pivot entry divides the product of theirs
 pub record IsCleared (n : ℕ) (new row cleared : List ℤ) : Type 0 where
   pub same_pivot : pivot cleared ≡ pivot row
   pub primitive : IsPrimitive n cleared
   pub zero_there : number_at cleared (pivot new) ≡ pos 0
+  pub head : unsigned_abs (pivot_entry cleared) ∣ (unsigned_abs (pivot_entry new) * unsigned_abs (pivot_entry row))
   pub keeps : (j : ℕ) → number_at row j ≡ pos 0 → number_at new j ≡ pos 0 → number_at cleared j ≡ pos 0
   pub back : (span : List (List ℤ)) → InSpan span cleared → InSpan span new → InSpan span row
   pub there : (span : List (List ℤ)) → InSpan span row → InSpan span new → InSpan span cleared

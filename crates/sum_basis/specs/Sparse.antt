@@ -1,6 +1,6 @@
 -- Reduced rows as they are kept: lists of the entries that are not 0.
-use Rattle.std.specs.Prelude.{◌≡◌, ◌≢◌, ◌*ℤ◌, length, ℕ, ◌+◌, ◌<◌, ◌≤◌, ℤ, pos, ◌+ℤ◌, ◌<ℤ◌, cond, nat_eq, List, [], ◌∷◌, map}
-use Rattle.std.specs.List.{range_with_len}
+use Rattle.std.specs.Prelude.{◌≡◌, ◌≢◌, ◌*ℤ◌, length, ℕ, ◌+◌, ◌<◌, ◌≤◌, ℤ, pos, ◌+ℤ◌, ◌<ℤ◌, cond, nat_eq, List, [], ◌∷◌, map, unsigned_abs}
+use Rattle.std.specs.List.{range_with_len, AllByRecursion}
 use Rattle.std.specs.Vec.{vec_capacity}
 use Rattle.audit_types.specs.Form.{IsPrimitive, IsContent}
 use Rattle.sum_basis.specs.Elimination.{IsSmall}
@@ -29,10 +29,11 @@ entries_of r = record { place = r.pivot; value = r.head } ∷ r.free.items
 abbrev pub rows_of : ℕ → List SparseRow → List (List ℤ)
 rows_of n rows = map (λ r. row_of n (entries_of r)) rows
 
--- what is true of each kept row: its pivot entry is positive, its list has room for one entry a column
+-- what is true of each kept row: its pivot entry is positive, no size is above its bound, its list has room for one entry a column
 pub record IsKept (n : ℕ) (r : SparseRow) : Type 0 where
   pub listed : IsListed 0 n (entries_of r)
   pub leading : pos 0 <ℤ r.head
+  pub bounded : AllByRecursion (λ (e : FreeEntry). unsigned_abs e.value ≤ r.most) (entries_of r)
   pub room : n ≤ vec_capacity r.free
 
 -- an entry with a multiple of its value

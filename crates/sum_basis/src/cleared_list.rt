@@ -73,6 +73,32 @@ fn over_content(head: i128, entries: &mut Vec<FreeEntry>) -> i128
     divisor.quotient(head)
 }
 
+fn greater(a: u128, b: u128) -> u128
+    ensures first { a ≤ result }
+    ensures second { b ≤ result }
+{
+    a.max(b)
+}
+
+// The greatest size of a value, 0 for no entries.
+fn greatest(entries: &[FreeEntry]) -> u128
+    ensures { AllByRecursion (λ e. unsigned_abs e.value ≤ result) entries.now }
+{
+    let mut most = 0;
+    for e in entries {
+        most = greater(most, e.value.unsigned_abs());
+    }
+    most
+}
+
+/// A number that no size of the pivot entry and of the values is above.
+pub fn bound_of(head: i128, entries: &[FreeEntry]) -> u128
+    ensures head { unsigned_abs head ≤ result }
+    ensures values { AllByRecursion (λ e. unsigned_abs e.value ≤ result) entries.now }
+{
+    greater(greatest(entries), head.unsigned_abs())
+}
+
 /// A product of numbers within the limit.
 pub fn product(x: i128, y: i128) -> i128
     requires x { unsigned_abs x ≤ 2 ^ 56 }

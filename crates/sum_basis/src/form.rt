@@ -13,7 +13,8 @@ ghost use Rattle.sum_basis.specs.declared.Grown.TheVariants.{Same, Wide};
 
 use crate::cleared_list::value_at;
 use crate::elimination::{is_small, pivot_of, scale, write_bits};
-use crate::growth::{common_multiple, grow_rows, look_ahead};
+use crate::growth::{common_multiple, grow_rows};
+use crate::looking::look_ahead;
 use crate::sparse::{FreeEntry, SparseRow, copy_rows, list_of, reduce};
 use crate::{Grown, Prospect};
 use audit_types::NoMemory;
@@ -115,7 +116,7 @@ impl Form {
             Left::Large => Ok(Prospect::Wide),
             Left::Entries(new) => {
                 let mut room = Vec::with_capacity(self.alloc, self.columns as usize)?;
-                Ok(look_ahead(&self.rows, self.columns, &new, &mut room))
+                Ok(look_ahead(&self.rows, self.columns, self.common, &new, &mut room))
             }
         }
     }
@@ -144,7 +145,7 @@ impl Form {
             Left::Entries(new) => new,
         };
         let mut room = Vec::with_capacity(self.alloc, self.columns as usize)?;
-        if let Prospect::Wide = look_ahead(&self.rows, self.columns, &new, &mut room) {
+        if let Prospect::Wide = look_ahead(&self.rows, self.columns, self.common, &new, &mut room) {
             return Ok(Grown::Wide);
         }
         self.grow(new, &mut room)?;

@@ -10,7 +10,9 @@ mod elimination;
 mod form;
 mod growth;
 pub mod laws;
+mod looking;
 mod merging;
+mod parallel;
 mod sparse;
 
 pub use basis::Basis;

@@ -21,11 +21,12 @@ pub struct FreeEntry {
     pub value: i128,
 }
 
-/// A row by its pivot, its entry there, and the entries after it.
+/// A row by its pivot, its entry there, and the entries after it. No size of its entries is above `most`.
 #[derive(Drop)]
 pub struct SparseRow {
     pub pivot: u16,
     pub head: i128,
+    pub most: u128,
     pub free: Vec<FreeEntry>,
 }
 
@@ -41,6 +42,7 @@ impl SparseRow {
         Ok(SparseRow {
             pivot: self.pivot,
             head: self.head,
+            most: self.most,
             free,
         })
     }

@@ -1,7 +1,7 @@
 use Rattle.std.proofs.Common.{refl, subst}
 use Rattle.sum_basis.specs.declared.Prospect.{Prospect}
 use Rattle.sum_basis.specs.Growth.{Foresees}
-use Rattle.sum_basis.proofs.Joining.{told, told_of_list, not_grown_wide, grown_to}
+use Rattle.sum_basis.proofs.Joining.{zeros_of_list, told, told_of_list, not_grown_wide, grown_to}
 use Rattle.sum_basis.proofs.form.Form.join.Goals as goal
 
 pub returns-in-Wide-clause-grows : goal.returns-in-Wide-clause-grows
@@ -24,3 +24,8 @@ returns c =
       n = c.in_ok-grow.ensures.n;
       err = tt;
     }
+
+pub look_ahead-requires-clause-zero : goal.look_ahead-requires-clause-zero
+look_ahead-requires-clause-zero c =
+    let left = rw c.in-Entries.is at c.in_ok-settle.ensures.left in
+    zeros_of_list c.args.self.now c.self.inside.columns c.deref.result.now c.self.inside.rows.items c.deref-2.result.now c.in-Entries.new.items c.self.view_is c.deref.ensures.value c.deref-2.ensures.value left.1.zeros

@@ -1,4 +1,4 @@
-use Rattle.sum_basis.proofs.Joining.{told, foresees_same}
+use Rattle.sum_basis.proofs.Joining.{zeros_of_list, told, foresees_same}
 use Rattle.sum_basis.proofs.form.Form.prospect.Goals as goal
 
 pub returns-in-Nothing : goal.returns-in-Nothing
@@ -10,3 +10,8 @@ pub returns-in_ok-room-in-Entries : goal.returns-in_ok-room-in-Entries
 returns-in_ok-room-in-Entries c =
     let left = rw c.in-Entries.is at c.in_ok-settle.ensures.left in
     told c.args.self.now c.self.inside.columns c.deref.result.now c.self.inside.rows.items c.deref-in-Entries.result.now c.in-Entries.new.items c.args.row.now c.look_ahead.result _ c.self.view_is c.deref.ensures.value c.deref-in-Entries.ensures.value c.look_ahead.ensures.foresees left
+
+pub look_ahead-requires-clause-zero : goal.look_ahead-requires-clause-zero
+look_ahead-requires-clause-zero c =
+    let left = rw c.in-Entries.is at c.in_ok-settle.ensures.left in
+    zeros_of_list c.args.self.now c.self.inside.columns c.deref.result.now c.self.inside.rows.items c.deref-in-Entries.result.now c.in-Entries.new.items c.self.view_is c.deref.ensures.value c.deref-in-Entries.ensures.value left.1.zeros

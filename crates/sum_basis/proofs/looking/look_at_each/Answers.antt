@@ -18,7 +18,7 @@ use Rattle.sum_basis.proofs.ListContents.{none}
 use Rattle.sum_basis.proofs.ClearedLists.{is_led}
 use Rattle.sum_basis.proofs.KeptRows.{row_is, of_row, of_whole_row, nothing_at, lone_new}
 use Rattle.sum_basis.proofs.LookingAhead.{IsLooked, nothing_looked, one_more_looked, looked_large, looked_multiple, foreseen, looked_grows, looked_fixing, looked_open}
-use Rattle.sum_basis.proofs.growth.look_ahead.Goals as goal
+use Rattle.sum_basis.proofs.looking.look_at_each.Goals as goal
 
 -- at the start
 start : (n : ℕ) (rows : List SparseRow) (new : List FreeEntry) (common : ℤ) → IsNew n new → common ≡ (get_or new 0 none).value → IsLooked n (rows_of n rows) (row_of n new) 0 common (nat_eq (length new) 1)

@@ -2,7 +2,7 @@ use Rattle.std.proofs.Common.{◌≤◌}
 use Rattle.std.specs.Vec.{vec_capacity}
 use Rattle.sum_basis.specs.Sparse.{row_of, rows_of}
 use Rattle.sum_basis.proofs.LookingAhead.{IsLooked}
-use Rattle.sum_basis.proofs.growth.look_ahead.Given as goal
+use Rattle.sum_basis.proofs.looking.look_at_each.Given as goal
 
 abbrev pub invariant-loop-row : goal.invariant-loop-row
 invariant-loop-row l = record {

@@ -12,7 +12,7 @@ use Rattle.sum_basis.specs.Sparse.{entry_at, row_of, IsListed, entries_of}
 use Rattle.sum_basis.proofs.SparseRows.{listed_from, listed_to, pivot_entry-row_of, small_values}
 use Rattle.sum_basis.proofs.ListContents.{none}
 use Rattle.sum_basis.proofs.KeptRows.{stands_earlier, cleared_as_it_is, lone_list, small_list}
-use Rattle.sum_basis.proofs.growth.clear_aside.Goals as goal
+use Rattle.sum_basis.proofs.looking.clear_aside.Goals as goal
 
 pub value_at-times-requires : goal.value_at-times-requires
 value_at-times-requires c =

@@ -1,0 +1,219 @@
+//! What a new row would do to the rows of a form. Nothing is changed.
+ghost use Rattle.std.specs.Prelude.{◌≡◌, ◌≢◌, ◌↔◌, ◌⊎◌, ℕ, map, ◌<◌, ◌≤◌, ◌+◌, ◌*◌, ◌^◌, ℤ, pos, ◌<ℤ◌, List, length, IsTrue, MatchOption, unsigned_abs, slice_index_or};
+ghost use Rattle.std.specs.Int.{◌∣◌};
+ghost use Rattle.std.specs.List.{AllByRecursion};
+ghost use Rattle.std.specs.Vec.{vec_capacity};
+ghost use Rattle.audit_types.specs.Form.{IsPrimitive, IsLeastCommonMultiple, pivot_entry, pivot_entries};
+ghost use Rattle.sum_basis.specs.Elimination.{IsSmall, IsSmallForm, IsZeroAtPivots, IsCleared, IsLone};
+ghost use Rattle.sum_basis.specs.Growth.{Foresees};
+ghost use Rattle.sum_basis.specs.Sparse.{entry_at, row_of, rows_of, entries_of, IsKept, IsNew};
+
+use crate::Prospect;
+use crate::cleared_list::{bound_of, clear_into, product, value_at};
+use crate::elimination::LIMIT;
+use crate::parallel::are_parallel;
+use crate::sparse::{FreeEntry, SparseRow};
+use int_rows::lcm_within;
+
+// A row that was cleared: its pivot entry, and whether this is the only one that is not 0.
+#[derive(Clone, Copy)]
+struct Cleared {
+    head: i128,
+    lone: bool,
+}
+
+// Whether no value is above the limit.
+fn are_small(entries: &[FreeEntry]) -> bool
+    ensures { IsTrue result ↔ AllByRecursion (λ e. unsigned_abs e.value ≤ 2 ^ 56) entries.now }
+{
+    entries.iter().all(|e| e.value.unsigned_abs() <= LIMIT)
+}
+
+// Whether neither the pivot entry nor a value is above the limit.
+fn is_small(head: i128, entries: &[FreeEntry]) -> bool
+    ensures { IsTrue result ↔ ((unsigned_abs head ≤ 2 ^ 56) × AllByRecursion (λ e. unsigned_abs e.value ≤ 2 ^ 56) entries.now) }
+{
+    head.unsigned_abs() <= LIMIT && are_small(entries)
+}
+
+// The row cleared at the new row's pivot, which stays as it is. None where an entry is above the limit.
+fn clear_aside(
+    row: &SparseRow,
+    columns: u16,
+    new: &[FreeEntry],
+    room: &mut Vec<FreeEntry>,
+) -> Option<Cleared>
+    requires room { columns ≤ vec_capacity room.old }
+    requires kept { IsKept columns row.now }
+    requires primitive { IsPrimitive columns (row_of columns (entries_of row.now)) }
+    requires small { IsSmall (row_of columns (entries_of row.now)) }
+    requires new { IsNew columns new.now }
+    requires zero { entry_at new.now row.now.pivot ≡ pos 0 }
+    ensures cleared { (made : List ℤ) × IsCleared columns (row_of columns new.now) (row_of columns (entries_of row.now)) made × MatchOption result (¬ (IsSmall made)) (λ c. IsSmall made × (c.head ≡ pivot_entry made) × (IsTrue c.lone ↔ IsLone made)) }
+    ensures room { columns ≤ vec_capacity room.new }
+{
+    let times = value_at(&row.free, new[0].place);
+    if times == 0 {
+        return Some(Cleared {
+            head: row.head,
+            lone: row.free.is_empty(),
+        });
+    }
+    room.clear();
+    let head = clear_into(room, columns, row, new, times);
+    if is_small(head, room) {
+        Some(Cleared {
+            head,
+            lone: room.is_empty(),
+        })
+    } else {
+        None
+    }
+}
+
+// Whether one of the two holds.
+fn either(a: bool, b: bool) -> bool
+    ensures { IsTrue result ↔ (IsTrue a ⊎ IsTrue b) }
+{
+    a || b
+}
+
+// Tells it by clearing each row, and by the multiple of their pivot entries.
+fn look_at_each(
+    rows: &[SparseRow],
+    columns: u16,
+    new: &[FreeEntry],
+    room: &mut Vec<FreeEntry>,
+) -> Prospect
+    requires room { columns ≤ vec_capacity room.old }
+    requires kept { AllByRecursion (IsKept columns) rows.now }
+    requires form { IsSmallForm columns (rows_of columns rows.now) }
+    requires new { IsNew columns new.now }
+    requires zero { IsZeroAtPivots (rows_of columns rows.now) (row_of columns new.now) }
+    ensures foresees { Foresees (record { n = columns; rows = rows_of columns rows.now }) (row_of columns new.now) result }
+    ensures room { columns ≤ vec_capacity room.new }
+{
+    let mut common = new[0].value;
+    let mut fixing = new.len() == 1;
+    for row in rows {
+        let Some(cleared) = clear_aside(row, columns, new, room) else {
+            return Prospect::Wide;
+        };
+        let Some(multiple) = lcm_within(common, cleared.head, LIMIT as i128) else {
+            return Prospect::Wide;
+        };
+        common = multiple;
+        fixing = either(fixing, cleared.lone);
+    }
+    if fixing {
+        Prospect::Fixing
+    } else {
+        Prospect::Open
+    }
+}
+
+// The greatest size that a multiple of bounded entries can have.
+fn weight(times: i128, most: u128) -> u128
+    requires times { unsigned_abs times ≤ 2 ^ 56 }
+    requires most { most ≤ 2 ^ 56 }
+    ensures is { result ≡ unsigned_abs times * most }
+    ensures small { result ≤ 2 ^ 112 }
+{
+    times.unsigned_abs() * most
+}
+
+// Whether the bounds show that no entry of the combination is above the limit.
+fn is_surely_small(by: i128, most: u128, times: i128, new_most: u128) -> bool
+    requires by { unsigned_abs by ≤ 2 ^ 56 }
+    requires times { unsigned_abs times ≤ 2 ^ 56 }
+    ensures { IsTrue result → unsigned_abs by * most + unsigned_abs times * new_most ≤ 2 ^ 56 }
+{
+    if most > LIMIT || new_most > LIMIT {
+        return false;
+    }
+    weight(by, most) + weight(times, new_most) <= LIMIT
+}
+
+// Whether the row, cleared at the new row's pivot, has one entry that is not 0. None where an entry is above the limit.
+fn look_at(
+    row: &SparseRow,
+    columns: u16,
+    new: &[FreeEntry],
+    most: u128,
+    room: &mut Vec<FreeEntry>,
+) -> Option<bool>
+    requires room { columns ≤ vec_capacity room.old }
+    requires kept { IsKept columns row.now }
+    requires primitive { IsPrimitive columns (row_of columns (entries_of row.now)) }
+    requires small { IsSmall (row_of columns (entries_of row.now)) }
+    requires new { IsNew columns new.now }
+    requires most { AllByRecursion (λ e. unsigned_abs e.value ≤ most) new.now }
+    requires zero { entry_at new.now row.now.pivot ≡ pos 0 }
+    ensures cleared { (made : List ℤ) × IsCleared columns (row_of columns new.now) (row_of columns (entries_of row.now)) made × MatchOption result (¬ (IsSmall made)) (λ lone. IsSmall made × (IsTrue lone ↔ IsLone made)) }
+    ensures room { columns ≤ vec_capacity room.new }
+{
+    let by = new[0].value;
+    let times = value_at(&row.free, new[0].place);
+    if times != 0 && is_surely_small(by, row.most, times, most) {
+        return Some(are_parallel(by, &row.free, times, new));
+    }
+    let cleared = clear_aside(row, columns, new, room)?;
+    Some(cleared.lone)
+}
+
+// Tells it where the multiple of the pivot entries is surely within the limit: few rows have to be cleared.
+fn look_by_bounds(
+    rows: &[SparseRow],
+    columns: u16,
+    new: &[FreeEntry],
+    room: &mut Vec<FreeEntry>,
+) -> Prospect
+    requires room { columns ≤ vec_capacity room.old }
+    requires kept { AllByRecursion (IsKept columns) rows.now }
+    requires form { IsSmallForm columns (rows_of columns rows.now) }
+    requires new { IsNew columns new.now }
+    requires zero { IsZeroAtPivots (rows_of columns rows.now) (row_of columns new.now) }
+    requires multiple { (common : ℕ) × AllByRecursion (λ x. x ∣ common) (pivot_entries (rows_of columns rows.now)) × (0 < common) × (unsigned_abs (slice_index_or new.now 0 (record { place = 0; value = pos 0 })).value * common ≤ 2 ^ 56) }
+    ensures foresees { Foresees (record { n = columns; rows = rows_of columns rows.now }) (row_of columns new.now) result }
+    ensures room { columns ≤ vec_capacity room.new }
+{
+    let most = bound_of(new[0].value, new);
+    let mut fixing = new.len() == 1;
+    for row in rows {
+        let Some(lone) = look_at(row, columns, new, most, room) else {
+            return Prospect::Wide;
+        };
+        fixing = either(fixing, lone);
+    }
+    if fixing {
+        Prospect::Fixing
+    } else {
+        Prospect::Open
+    }
+}
+
+/// Tells what the form would become with a new row. Only the room is written.
+pub fn look_ahead(
+    rows: &[SparseRow],
+    columns: u16,
+    common: i128,
+    new: &[FreeEntry],
+    room: &mut Vec<FreeEntry>,
+) -> Prospect
+    requires room { columns ≤ vec_capacity room.old }
+    requires kept { AllByRecursion (IsKept columns) rows.now }
+    requires form { IsSmallForm columns (rows_of columns rows.now) }
+    requires positive { pos 0 <ℤ common }
+    requires within { unsigned_abs common ≤ 2 ^ 56 }
+    requires multiple { IsLeastCommonMultiple (pivot_entries (rows_of columns rows.now)) (unsigned_abs common) }
+    requires new { IsNew columns new.now }
+    requires zero { IsZeroAtPivots (rows_of columns rows.now) (row_of columns new.now) }
+    ensures foresees { Foresees (record { n = columns; rows = rows_of columns rows.now }) (row_of columns new.now) result }
+    ensures room { columns ≤ vec_capacity room.new }
+{
+    if product(new[0].value, common) <= LIMIT as i128 {
+        look_by_bounds(rows, columns, new, room)
+    } else {
+        look_at_each(rows, columns, new, room)
+    }
+}
