@@ -1,23 +1,23 @@
 //! Sets of extreme rows, lowered.
-ghost use Rattle.std.specs.Prelude.{◌≡◌, map};
+ghost use Rattle.std.specs.Prelude.{◌≡◌, ℕ, List, map};
 ghost use Rattle.std.specs.List.{AllByRecursion};
+ghost use Rattle.audit_types.specs.Rows.{complement};
 ghost use Rattle.max_bounds.specs.Maxima.{answer_of, answers_of};
 ghost use Rattle.max_bounds.specs.Kept.{lowered_set};
 
 use crate::answered::AnsweredMax;
 use audit_types::RowSet;
 
-fn lower_set(set: &mut AnsweredMax, rows: &RowSet, answer: i64)
-    requires same_n { set.old.rows.n ≡ rows.now.n }
+// Leaves a set with a higher answer none but these rows, the others than those of a new answer.
+fn lower_set(set: &mut AnsweredMax, others: &RowSet, answer: i64)
+    requires same_n { set.old.rows.n ≡ others.now.n }
     ensures n { set.new.rows.n ≡ set.old.rows.n }
-    ensures lowered { answer_of set.new ≡ lowered_set answer rows.now.list (answer_of set.old) }
+    ensures lowered { (rows : List ℕ) → others.now.list ≡ complement others.now.n rows → answer_of set.new ≡ lowered_set answer rows (answer_of set.old) }
 {
     if set.answer > answer {
         // Each set says of its n that no row is past it.
         let _ = set.rows.n();
-        let mut others = *rows;
-        others.flip();
-        set.rows.and_with(&others);
+        set.rows.and_with(others);
     }
 }
 
@@ -27,7 +27,9 @@ pub(crate) fn lower_sets(least: &mut [AnsweredMax], rows: &RowSet, answer: i64)
     ensures same_n { AllByRecursion (λ p. p.rows.n ≡ rows.now.n) least.new }
     ensures lowered { answers_of least.new ≡ map (lowered_set answer rows.now.list) (answers_of least.old) }
 {
+    let mut others = *rows;
+    others.flip();
     for set in least.iter_mut() {
-        lower_set(set, rows, answer);
+        lower_set(set, &others, answer);
     }
 }
