@@ -1,8 +1,8 @@
 //! Sets of rows.
-ghost use Rattle.std.specs.Prelude.{◌≡◌, ◌≢◌, ◌↔◌, ◌==◌, ℕ, ◌+◌, ◌-◌, ◌*◌, ◌^◌, ◌<◌, ◌≤◌, List, [], length, IsTrue};
+ghost use Rattle.std.specs.Prelude.{◌≡◌, ◌≢◌, ◌↔◌, ◌==◌, ℕ, ◌+◌, ◌-◌, ◌*◌, ◌/◌, ◌%◌, ◌^◌, ◌<◌, ◌≤◌, true, ◌&&◌, ◌||◌, not, cond, List, [], length, IsTrue};
 ghost use Rattle.audit_types.specs.Limits.{most_rows};
 ghost use Rattle.std.specs.Int.{bit_at};
-ghost use Rattle.audit_types.specs.Rows.{AreRows, has_row, same_rows, with_row, intersection, union, complement};
+ghost use Rattle.audit_types.specs.Rows.{AreRows, has_row, rows_that, same_rows, with_row, intersection, union, complement};
 ghost use Rattle.std.proofs.Common.{rules};
 ghost use Rattle.std.specs.Cmp.Rules.{comparing};
 
@@ -86,6 +86,31 @@ impl RowSet {
     {
         let word = self.words[(at / 8) as usize];
         (word >> (8 * (at % 8)) & 0xff) as u8
+    }
+
+    /// Adds those of eight rows whose bits are set: bit i is that of row 8 * at + i.
+    pub fn add_byte(&mut self, at: u16, byte: u8)
+        requires at { 8 * at < self.old.n }
+        requires below { byte < 2 ^ (self.old.n - 8 * at) }
+        ensures n { self.new.n ≡ self.old.n }
+        ensures added { self.new.list ≡ rows_that (λ r. has_row self.old.list r || (r / 8 == at && bit_at byte (r % 8) == 1)) self.old.n }
+    {
+        self.words[(at / 8) as usize] |= (byte as u64) << (8 * (at % 8));
+    }
+
+    /// Takes a block of 64 rows out, those from row 64 * block on, if it has all of them; and tells whether it had.
+    pub fn take_block(&mut self, block: u16) -> bool
+        requires { block < 16 }
+        ensures n { self.new.n ≡ self.old.n }
+        ensures whole { IsTrue result ↔ ((r : ℕ) → r / 64 ≡ block → has_row self.old.list r ≡ true) }
+        ensures left { self.new.list ≡ cond result (rows_that (λ r. has_row self.old.list r && not (r / 64 == block)) self.old.n) self.old.list }
+    {
+        let k = block as usize;
+        if self.words[k] != u64::MAX {
+            return false;
+        }
+        self.words[k] = 0;
+        true
     }
 
     /// Becomes the intersection.

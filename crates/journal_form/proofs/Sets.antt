@@ -1,45 +1,60 @@
 -- The bytes of a set of rows hold its rows, and no other.
-use Rattle.std.proofs.Common.{◌≡◌, ◌≢◌, ℕ, ◌+◌, ◌-◌, ◌*◌, ◌/◌, ◌%◌, ◌^◌, ◌<◌, ◌≤◌, inl, inr, Bool, true, false, ◌||◌, ◌==◌, List, [], ◌∷◌, ◌++◌, length, get_or, refl, sym, ap, ◌∙◌, arith}
-use Rattle.std.specs.Prelude.{bit_and}
+use Rattle.std.proofs.Common.{◌≡◌, ℕ, ◌+◌, ◌-◌, ◌*◌, ◌/◌, ◌%◌, ◌^◌, ◌<◌, ◌≤◌, inl, inr, Bool, true, false, ◌&&◌, ◌||◌, ◌==◌, List, [], ◌∷◌, ◌++◌, length, get_or, refl, sym, ap, ◌∙◌, arith, pow_mono}
+use Rattle.std.specs.Prelude.{nat_lt}
 use Rattle.std.specs.Int.{bit_at}
-use Rattle.std.proofs.lemmas.Nat.Bits.{shr_and_one}
-use Rattle.std.proofs.lemmas.Bool.{cases_lt, eq-eqb, ne_eqb}
-use Rattle.std.proofs.lemmas.List.{append-nil}
+use Rattle.std.proofs.lemmas.Bool.{cases_lt, cases_eq, eq-eqb, ne_eqb, lt-ltb, le-ltb}
 use Rattle.std.proofs.Math.ListN.{get_or-append}
 use Rattle.std.proofs.Math.Seq.{get_or-append_seam}
 use borrow.Author.Count.{below_more}
-use Rattle.audit_types.specs.Rows.{has_row, rows_that, with_row, AreRows}
-use Rattle.audit_types.specs.RowLaws.{rows_that_more, rows_that_agree, rows_that_longer, has-rows_that, has-rows_that_above, rows-again}
-use Rattle.journal_form.specs.Record.{set_size, holds_row, IsSet}
+use Rattle.audit_types.specs.Rows.{has_row, rows_that, AreRows}
+use Rattle.audit_types.specs.RowLaws.{rows_that_none, rows_that_agree, has-rows_that, rows-again}
+use Rattle.journal_form.specs.Record.{set_size, last_bits, holds_row, rows_in, IsSet}
 
-or_false : (a b : Bool) → b ≡ false → (a || b) ≡ a
-or_false true b e = refl
-or_false false b e = e
+-- the rows of the first bytes
+abbrev pub rows_of_first : ℕ → List ℕ → ℕ → List ℕ
+rows_of_first n bytes count = rows_that (λ r. nat_lt (r / 8) count && holds_row bytes r) n
 
-or_second : (a b : Bool) → a ≡ false → (a || b) ≡ b
-or_second a b e = rw e refl
+-- no byte has no row
+pub no_bytes : (n : ℕ) (bytes : List ℕ) → rows_of_first n bytes 0 ≡ []
+no_bytes n bytes = rows_that_none (λ r. nat_lt (r / 8) 0 && holds_row bytes r) n (λ r l. ap (λ b. b && holds_row bytes r) (le-ltb (r / 8) 0 (omega arith)))
 
--- the next row passes
-pub with_last : (test : ℕ → Bool) (n k : ℕ) → k < n → test k ≡ true → with_row n (rows_that test k) k ≡ rows_that test (k + 1)
-with_last test n k lt passes =
-    let P : ℕ → Bool = λ r. has_row (rows_that test k) r || (r == k) in
-    let none_behind : (r : ℕ) → k + 1 ≤ r → P r ≡ false = λ r le. or_second _ _ (has-rows_that_above test k r (omega arith)) ∙ ne_eqb r k (λ e. omega arith) in
-    let same : (r : ℕ) → r < k + 1 → P r ≡ test r = λ r below. elim (cases_lt r k) [
-      | inl before ↦ or_false _ _ (ne_eqb r k (λ e. omega arith)) ∙ has-rows_that test k r before
-      | inr from ↦ let here : r ≡ k = omega arith in or_second _ _ (has-rows_that_above test k r from) ∙ eq-eqb r k here ∙ sym (ap test here ∙ passes)
-    ] in
-    rows_that_longer P (k + 1) n (omega arith) none_behind ∙ rows_that_agree P test (k + 1) same
+-- whether a row is in the next byte, or before it
+in_next : (next now : Bool) (q count : ℕ) → (q ≡ count → next ≡ now) → ((nat_lt q count && now) || ((q == count) && next)) ≡ (nat_lt q (count + 1) && now)
+in_next next now q count same = elim (cases_lt q count) [
+  | inl below ↦ rw (lt-ltb q count below, ne_eqb q count (λ e. omega arith), lt-ltb q (count + 1) (omega arith)) (or_false now)
+  | inr from ↦ elim (cases_eq q count) [
+    | inl here ↦ rw (le-ltb q count from, eq-eqb q count here, lt-ltb q (count + 1) (omega arith)) (same here)
+    | inr past ↦ rw (le-ltb q count from, ne_eqb q count past, le-ltb q (count + 1) (omega arith)) refl
+  ]
+]
+  where
+    or_false : (b : Bool) → (b || false) ≡ b
+    or_false true = refl
+    or_false false = refl
 
--- the next row doesn't
-pub without_last : (test : ℕ → Bool) (k : ℕ) → test k ≡ false → rows_that test k ≡ rows_that test (k + 1)
-without_last test k fails = sym (rows_that_more test k ∙ rw fails (simp append-nil))
+-- one byte more
+pub next_byte : (n : ℕ) (bytes before after : List ℕ) (count byte : ℕ) → byte ≡ get_or bytes count 0 → before ≡ rows_of_first n bytes count →
+    after ≡ rows_that (λ r. has_row before r || ((r / 8 == count) && (bit_at byte (r % 8) == 1))) n → after ≡ rows_of_first n bytes (count + 1)
+next_byte n bytes before after count byte here so_far added = added ∙ rows_that_agree _ _ n (λ r l.
+    ap (λ b. b || ((r / 8 == count) && (bit_at byte (r % 8) == 1))) (ap (λ rows. has_row rows r) so_far ∙ has-rows_that (λ q. nat_lt (q / 8) count && holds_row bytes q) n r l)
+    ∙ in_next (bit_at byte (r % 8) == 1) (holds_row bytes r) (r / 8) count (λ e. ap (λ x. bit_at x (r % 8) == 1) (here ∙ ap (λ k. get_or bytes k 0) (sym e))))
 
--- the code's test of a bit
-pub bit_is_set : (bytes : List ℕ) (r : ℕ) → bit_and (get_or bytes (r / 8) 0 / 2 ^ (r % 8)) 1 ≡ 1 → holds_row bytes r ≡ true
-bit_is_set bytes r e = eq-eqb _ _ (sym (shr_and_one (get_or bytes (r / 8) 0) (r % 8)) ∙ e)
+-- all bytes have all rows
+pub all_bytes : (n count : ℕ) (bytes : List ℕ) → set_size n ≤ count → rows_of_first n bytes count ≡ rows_in n bytes
+all_bytes n count bytes enough = rows_that_agree _ (holds_row bytes) n (λ r l. ap (λ b. b && holds_row bytes r) (lt-ltb (r / 8) count (omega arith)))
 
-pub bit_is_not : (bytes : List ℕ) (r : ℕ) → bit_and (get_or bytes (r / 8) 0 / 2 ^ (r % 8)) 1 ≢ 1 → holds_row bytes r ≡ false
-bit_is_not bytes r n = ne_eqb _ _ (λ e. n (shr_and_one (get_or bytes (r / 8) 0) (r % 8) ∙ e))
+-- a byte has no bit of a row past the last
+pub byte_fits : (n at byte last : ℕ) → at < set_size n → byte < 256 → (at + 1 ≡ set_size n → byte ≡ last) → last < 2 ^ last_bits n → byte < 2 ^ (n - 8 * at)
+byte_fits n at byte last within small is fits = elim (cases_lt (at + 1) (set_size n)) [
+  | inl before ↦
+      let wide : 8 ≤ n - 8 * at = omega arith in
+      let room : 2 ^ 8 ≤ 2 ^ (n - 8 * at) = pow_mono wide in
+      omega arith
+  | inr from ↦
+      let end : at + 1 ≡ set_size n = omega arith in
+      let bits : last_bits n ≡ n - 8 * at = omega arith in
+      rw (is end) (rw bits at fits)
+]
 
 -- the byte has the bits of the rows from 8 times at on, and no bit past the last row
 pub record IsByteOf (n : ℕ) (rows : List ℕ) (at byte : ℕ) : Type 0 where

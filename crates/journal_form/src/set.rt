@@ -62,15 +62,13 @@ fn rows_of(n: u16, bytes: &[u8]) -> RowSet
     requires some { 0 < n }
     requires at_most { n ≤ most_rows }
     requires long { length bytes.now ≡ set_size n }
+    requires no_padding { slice_index bytes.now (set_size n - 1) < 2 ^ last_bits n }
     ensures n { result.n ≡ n }
     ensures rows { result.list ≡ rows_in n bytes.now }
 {
     let mut rows = RowSet::new(n);
-    for row in 0..n {
-        let byte = bytes[(row / 8) as usize];
-        if (byte >> (row % 8)) & 1 == 1 {
-            rows.add(row);
-        }
+    for (at, byte) in bytes.iter().enumerate() {
+        rows.add_byte(at as u16, *byte);
     }
     rows
 }
