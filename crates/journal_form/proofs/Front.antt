@@ -1,66 +1,28 @@
 -- What stands behind the greatest length of a journal has no meaning.
-use Rattle.std.proofs.Common.{◌≡◌, ℕ, ◌+◌, ◌-◌, ◌*◌, ◌<◌, ◌≤◌, inl, inr, List, [], ◌∷◌, ◌++◌, length, get_or, take, drop, sym, ap, subst, ◌∙◌, arith, append_assoc, length-append, length-take}
-use Rattle.std.proofs.Math.ListN.{get_or-append}
+use Rattle.std.proofs.Common.{◌≡◌, ℕ, ◌+◌, ◌-◌, ◌*◌, ◌<◌, ◌≤◌, inl, inr, List, [], ◌∷◌, ◌++◌, length, take, drop, sym, ap, subst, ◌∙◌, arith, append_assoc, length-append, length-take}
 use Rattle.std.proofs.lemmas.Bool.{cases_lt}
-use Rattle.std.proofs.lemmas.List.{take-append-drop, take_all}
+use Rattle.std.proofs.lemmas.List.{take-append-drop, take_all, take-append-le}
 use Rattle.std.proofs.lemmas.List.Concat.{flat_map-cons}
 use Rattle.audit_types.specs.declared.shapes.Shape.{Shape}
 use Rattle.audit_types.specs.declared.records.Answered.{Answered}
 use Rattle.audit_types.specs.Shapes.{IsShape}
-use Rattle.journal_form.specs.Header.{header, IsGoodHeaderByte, HeaderBreaks}
-use Rattle.journal_form.specs.Record.{record_size, rows_in, set_in, IsGoodRecordByte, RecordBreaks}
+use Rattle.journal_form.specs.Header.{header, HeaderBreaks}
+use Rattle.journal_form.specs.Record.{RecordBreaks}
 use Rattle.journal_form.specs.Group.{AreRecords, IsGroup, CountBreaks, GroupBreaks}
 use Rattle.journal_form.specs.Journal.{Written, AreGroups, texts, records, gate_behind, most_bytes, Begins, StandsAt, BreaksBehind, BreaksAt}
-use Rattle.journal_form.proofs.Records.{set_in_longer}
+use Rattle.journal_form.proofs.UpTo.{header_breaks_up_to, record_breaks_up_to}
 
--- a byte of a header is judged by the first twenty alone
-good_header_byte : (a b : List ℕ) (k : ℕ) → k < 20 → ((k : ℕ) → k < 20 → get_or a k 0 ≡ get_or b k 0) → IsGoodHeaderByte a k → IsGoodHeaderByte b k
-good_header_byte a b k lt e h =
-    let nine = e 9 (omega arith) in
-    let ten = e 10 (omega arith) in
-    let eleven = e 11 (omega arith) in
-    let this = e k lt in
-    record {
-      front = λ below. sym this ∙ h.front below;
-      rows_high = λ at. let high = h.rows_high at in omega (arith, high, nine);
-      rows_low = λ at. let low = h.rows_low at in (omega (arith, low.0, nine, ten), omega (arith, low.1, nine, ten));
-      columns = λ at. let few = h.columns at in omega (arith, few, eleven);
-      kind = λ from below. elim (h.kind from (omega (arith, below, eleven))) [ inl one ↦ inl (sym this ∙ one) | inr two ↦ inr (sym this ∙ two) ];
-      no_kind = λ from. sym this ∙ h.no_kind (omega (arith, from, eleven));
-    }
+-- more bytes behind a place leave the bytes up to it
+same_front : (front rest : List ℕ) (at : ℕ) → at < length front → take (at + 1) front ≡ take (at + 1) (front ++ rest)
+same_front front rest at inside = sym (take-append-le (at + 1) front rest (omega (arith, inside)))
 
 header_breaks_longer : (front rest : List ℕ) (at : ℕ) → 20 ≤ length front → HeaderBreaks front at → HeaderBreaks (front ++ rest) at
 header_breaks_longer front rest at long breaks =
-    let same : (k : ℕ) → k < 20 → get_or front k 0 ≡ get_or (front ++ rest) k 0 = λ k lt. sym (get_or-append front rest 0 k (omega (arith, lt, long))) in
-    record {
-      before = λ k lt. good_header_byte front (front ++ rest) k (omega (arith, lt, breaks.within)) same (breaks.before k lt);
-      within = breaks.within;
-      stops = elim breaks.stops [
-        | inl ended ↦ absurd (omega (arith, ended, breaks.within, long))
-        | inr bad ↦ inr (omega (arith, breaks.within, long, length-append front rest), λ good. bad.1 (good_header_byte (front ++ rest) front at breaks.within (λ k lt. sym (same k lt)) good))
-      ];
-    }
-
--- a byte of a record is judged by itself, the first byte and the set
-good_record_byte : (shape : Shape) (a b : List ℕ) (k : ℕ) → get_or a 0 0 ≡ get_or b 0 0 → get_or a k 0 ≡ get_or b k 0 → (k + 1 ≡ record_size shape → set_in shape.rows a ≡ set_in shape.rows b) → IsGoodRecordByte shape a k → IsGoodRecordByte shape b k
-good_record_byte shape a b k first this set h = record {
-  column = λ at. let below = h.column at in omega (arith, below, first);
-  no_padding = λ at. let fits = h.no_padding at in omega (arith, fits, this);
-  some = λ at none. h.some at (ap (λ s. rows_in shape.rows s) (set at) ∙ none);
-}
+    let inside : at < length front = omega (arith, long, breaks.within) in
+    header_breaks_up_to front (front ++ rest) at (same_front front rest at inside) inside breaks
 
 record_breaks_longer : (shape : Shape) (part rest : List ℕ) (place : ℕ) → place < length part → RecordBreaks shape part place → RecordBreaks shape (part ++ rest) place
-record_breaks_longer shape part rest place inside breaks =
-    let same : (k : ℕ) → k < length part → get_or part k 0 ≡ get_or (part ++ rest) k 0 = λ k lt. sym (get_or-append part rest 0 k lt) in
-    let set : (k : ℕ) → k < length part → k + 1 ≡ record_size shape → set_in shape.rows (part ++ rest) ≡ set_in shape.rows part = λ k lt at. set_in_longer shape part rest (omega (arith, lt, at)) in
-    record {
-      before = λ k lt. let there : k < length part = omega (arith, lt, inside) in good_record_byte shape part (part ++ rest) k (same 0 (omega (arith, there))) (same k there) (λ at. sym (set k there at)) (breaks.before k lt);
-      within = breaks.within;
-      stops = elim breaks.stops [
-        | inl ended ↦ absurd (omega (arith, ended, inside))
-        | inr bad ↦ inr (omega (arith, inside, length-append part rest), λ good. bad.1 (good_record_byte shape (part ++ rest) part place (sym (same 0 (omega (arith, inside)))) (sym (same place inside)) (set place inside) good))
-      ];
-    }
+record_breaks_longer shape part rest place inside breaks = record_breaks_up_to shape part (part ++ rest) place (same_front part rest place inside) inside breaks
 
 -- the most bytes of records, groups and their texts
 records_long : (shape : Shape) (bytes : List ℕ) (list : List Answered) → IsShape shape → AreRecords shape bytes list → length bytes ≤ 137 * length list

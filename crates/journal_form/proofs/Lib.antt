@@ -1,4 +1,5 @@
 pub mod Breaks
+pub mod UpTo
 pub mod Front
 pub mod Reading
 pub mod Headers

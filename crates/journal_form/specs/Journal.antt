@@ -71,3 +71,7 @@ BreaksAt file at = HeaderBreaks file at ⊎ BreaksBehind file at
 -- the most bytes of a journal: a header, groups of one record each over 1,024 rows, and the gate behind them
 abbrev pub most_bytes : ℕ
 most_bytes = 21 + most_records * 139
+
+-- some bytes behind these make a journal of them
+abbrev pub BeginsJournal : List ℕ → Type 0
+BeginsJournal bytes = (more : List ℕ) × (shape : Shape) × (history : List Answered) × StandsFor (bytes ++ more) shape history

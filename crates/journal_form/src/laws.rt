@@ -1,11 +1,11 @@
 //! Laws of the journal's bytes. Each function computes nothing: its contract is the law.
-ghost use Rattle.std.specs.Prelude.{◌≡◌, ◌≤◌, ◌+◌, ◌*◌, ◌++◌, List, ℕ, length, take};
+ghost use Rattle.std.specs.Prelude.{◌≡◌, ◌<◌, ◌≤◌, ◌+◌, ◌*◌, ◌++◌, List, ℕ, length, take};
 ghost use Rattle.audit_types.specs.declared.shapes.Shape.{Shape};
 ghost use Rattle.audit_types.specs.declared.records.Answered.{Answered};
 ghost use Rattle.audit_types.specs.Shapes.{IsShape};
 ghost use Rattle.journal_form.specs.Group.{IsGroup};
 ghost use Rattle.journal_form.specs.Header.{HeaderBreaks};
-ghost use Rattle.journal_form.specs.Journal.{StandsAt, BreaksAt, most_bytes};
+ghost use Rattle.journal_form.specs.Journal.{StandsAt, BreaksAt, BeginsJournal, most_bytes};
 
 /// A file stands for at most one shape and history, and one gate ends its groups.
 pub fn one_reading()
@@ -25,6 +25,12 @@ pub fn one_break()
 /// No place breaks a file that stands for a history.
 pub fn no_break_in_a_journal()
     ensures { (file : List ℕ) (shape : Shape) (history : List Answered) (gate at : ℕ) → StandsAt file shape history gate → BreaksAt file at → ⊥ }
+{}
+
+/// The bytes up to the one that breaks a file begin no journal: whatever stands behind them, the same byte breaks it.
+pub fn broken_bytes_begin_no_journal()
+    ensures breaks { (file more : List ℕ) (at : ℕ) → at < length file → BreaksAt file at → BreaksAt (take (at + 1) file ++ more) at }
+    ensures none { (file : List ℕ) (at : ℕ) → at < length file → BreaksAt file at → BeginsJournal (take (at + 1) file) → ⊥ }
 {}
 
 /// The front of a file tells what the whole file is: what breaks its first twenty bytes breaks it, and what stands past
