@@ -1,5 +1,6 @@
 pub mod Breaks
 pub mod UpTo
+pub mod GoingOn
 pub mod Front
 pub mod Reading
 pub mod Headers

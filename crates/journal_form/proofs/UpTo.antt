@@ -15,7 +15,7 @@ same_byte : (a b : List ℕ) (n k : ℕ) → take n a ≡ take n b → k < n →
 same_byte a b n k e lt = sym (get_or-take n a k 0 lt) ∙ ap (λ l. get_or l k 0) e ∙ get_or-take n b k 0 lt
 
 -- a byte of a header is judged by the bytes up to it
-good_header_byte : (a b : List ℕ) (k : ℕ) → take (k + 1) a ≡ take (k + 1) b → IsGoodHeaderByte a k → IsGoodHeaderByte b k
+pub good_header_byte : (a b : List ℕ) (k : ℕ) → take (k + 1) a ≡ take (k + 1) b → IsGoodHeaderByte a k → IsGoodHeaderByte b k
 good_header_byte a b k e h =
     let at : (j : ℕ) → j ≤ k → get_or a j 0 ≡ get_or b j 0 = λ j le. same_byte a b (k + 1) j e (omega (arith, le)) in
     let this = at k (omega arith) in
@@ -29,7 +29,7 @@ good_header_byte a b k e h =
     }
 
 -- so is one of a record
-good_record_byte : (shape : Shape) (a b : List ℕ) (k : ℕ) → take (k + 1) a ≡ take (k + 1) b → IsGoodRecordByte shape a k → IsGoodRecordByte shape b k
+pub good_record_byte : (shape : Shape) (a b : List ℕ) (k : ℕ) → take (k + 1) a ≡ take (k + 1) b → IsGoodRecordByte shape a k → IsGoodRecordByte shape b k
 good_record_byte shape a b k e h =
     let size = set_size shape.rows in
     let same_set : k + 1 ≡ record_size shape → set_in shape.rows a ≡ set_in shape.rows b = λ last.
@@ -64,10 +64,12 @@ same_up_to : (a more : List ℕ) (at : ℕ) → at < length a → take (at + 1) 
 same_up_to a more at inside = sym (take_at (take (at + 1) a) more (at + 1) (length-take-le (at + 1) a (omega (arith, inside))))
 
 -- what is cut within the second of two pieces
-cut_behind : (front part more : List ℕ) (k at : ℕ) → at ≡ length front + k → take (at + 1) (front ++ part) ++ more ≡ front ++ (take (k + 1) part ++ more)
-cut_behind front part more k at at_is =
-    let here : at + 1 ≡ length front + (k + 1) = omega (arith, at_is) in
-    ap (λ n. take n (front ++ part) ++ more) here ∙ ap (λ l. l ++ more) (take-append-add front part (k + 1)) ∙ append_assoc front (take (k + 1) part) more
+pub cut_behind : (front part : List ℕ) (k at : ℕ) → at ≡ length front + k → take at (front ++ part) ≡ front ++ take k part
+cut_behind front part k at at_is = ap (λ n. take n (front ++ part)) at_is ∙ take-append-add front part k
+
+-- and then followed by more
+cut_and_more : (front part more : List ℕ) (k at : ℕ) → at ≡ length front + k → take at (front ++ part) ++ more ≡ front ++ (take k part ++ more)
+cut_and_more front part more k at at_is = ap (λ l. l ++ more) (cut_behind front part k at at_is) ∙ append_assoc front (take k part) more
 
 group_breaks_up_to : (shape : Shape) (left : ℕ) (bytes more : List ℕ) (at : ℕ) → at < length bytes → GroupBreaks shape left bytes at → GroupBreaks shape left (take (at + 1) bytes ++ more) at
 group_breaks_up_to shape left [] more at inside breaks = absurd (omega (arith, inside))
@@ -81,7 +83,7 @@ group_breaks_up_to shape left (count ∷ rest) more at inside (inr b) =
       part = take (b.place + 1) b.part ++ more;
       list = b.list;
       place = b.place;
-      bytes_are = ap (λ l. take (at + 1) l ++ more) b.bytes_are ∙ cut_behind (b.count ∷ b.whole) b.part more b.place at (omega (arith, b.at_is));
+      bytes_are = ap (λ l. take (at + 1) l ++ more) b.bytes_are ∙ cut_and_more (b.count ∷ b.whole) b.part more (b.place + 1) (at + 1) (omega (arith, b.at_is));
       good_count = b.good_count;
       records = b.records;
       fewer = b.fewer;
@@ -90,7 +92,7 @@ group_breaks_up_to shape left (count ∷ rest) more at inside (inr b) =
     })
 
 -- an open gate between two pieces
-gate_between : (front groups behind : List ℕ) → (front ++ (groups ++ 1 ∷ [])) ++ behind ≡ front ++ (groups ++ 1 ∷ behind)
+pub gate_between : (front groups behind : List ℕ) → (front ++ (groups ++ 1 ∷ [])) ++ behind ≡ front ++ (groups ++ 1 ∷ behind)
 gate_between front groups behind = append_assoc front (groups ++ 1 ∷ []) behind ∙ ap (λ l. front ++ l) (append_assoc groups (1 ∷ []) behind)
 
 behind_up_to : (file more : List ℕ) (at : ℕ) → at < length file → BreaksBehind file at → BreaksBehind (take (at + 1) file ++ more) at
@@ -118,7 +120,7 @@ behind_up_to file more at inside b = elim b.breaks [
           begins = record {
             shaped = b.begins.shaped;
             whole = b.begins.whole;
-            file_is = ap (λ l. take (at + 1) l ++ more) file_is ∙ cut_behind before group more place at (omega (arith, at_is, before_long)) ∙ gate_between front (texts b.groups) (take (place + 1) group ++ more);
+            file_is = ap (λ l. take (at + 1) l ++ more) file_is ∙ cut_and_more before group more (place + 1) (at + 1) (omega (arith, at_is, before_long)) ∙ gate_between front (texts b.groups) (take (place + 1) group ++ more);
             few = b.begins.few;
           };
           breaks = inr (take (place + 1) group ++ more, place, refl, group_breaks_up_to b.shape (most_records - length (records b.groups)) group more place within breaks, at_is);

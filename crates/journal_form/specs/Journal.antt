@@ -1,9 +1,10 @@
 -- A journal: a header, groups behind open gates, and a gate that isn't open.
-use Rattle.std.specs.Prelude.{◌≡◌, ◌≢◌, ℕ, ◌+◌, ◌-◌, ◌*◌, ◌≤◌, ◌⊎◌, List, [], ◌∷◌, ◌++◌, length}
+use Rattle.std.specs.Prelude.{◌≡◌, ◌≢◌, ℕ, ◌+◌, ◌-◌, ◌*◌, ◌<◌, ◌≤◌, ◌⊎◌, List, [], ◌∷◌, ◌++◌, length}
 use Rattle.std.specs.List.{flat_map, AllByRecursion}
 use Rattle.audit_types.specs.Limits.{most_records}
 use Rattle.audit_types.specs.declared.shapes.Shape.{Shape}
 use Rattle.audit_types.specs.declared.records.Answered.{Answered}
+use Rattle.audit_types.specs.Shapes.{columns}
 use Rattle.journal_form.specs.Header.{header, IsWholeShape, HeaderBreaks}
 use Rattle.journal_form.specs.Group.{IsGroup, GroupBreaks}
 
@@ -72,6 +73,18 @@ BreaksAt file at = HeaderBreaks file at ⊎ BreaksBehind file at
 abbrev pub most_bytes : ℕ
 most_bytes = 21 + most_records * 139
 
+-- a record may follow whole groups: there is a secret column, and the journal isn't full
+abbrev pub MayFollow : Shape → List Written → Type 0
+MayFollow shape groups = (0 < columns shape) × (length (records groups) < most_records)
+
+-- numbers from 0 to 255
+abbrev pub AreBytes : List ℕ → Type 0
+AreBytes numbers = AllByRecursion (λ b. b < 256) numbers
+
 -- some bytes behind these make a journal of them
-abbrev pub BeginsJournal : List ℕ → Type 0
-BeginsJournal bytes = (more : List ℕ) × (shape : Shape) × (history : List Answered) × StandsFor (bytes ++ more) shape history
+pub record BeginsJournal (bytes : List ℕ) : Type 0 where
+  pub more : List ℕ
+  pub are_bytes : AreBytes more
+  pub shape : Shape
+  pub history : List Answered
+  pub stands : StandsFor (bytes ++ more) shape history

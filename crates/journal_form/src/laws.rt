@@ -1,11 +1,11 @@
 //! Laws of the journal's bytes. Each function computes nothing: its contract is the law.
-ghost use Rattle.std.specs.Prelude.{◌≡◌, ◌<◌, ◌≤◌, ◌+◌, ◌*◌, ◌++◌, List, ℕ, length, take};
+ghost use Rattle.std.specs.Prelude.{◌≡◌, ◌<◌, ◌≤◌, ◌+◌, ◌*◌, ◌⊎◌, ◌++◌, List, ℕ, [], length, take};
 ghost use Rattle.audit_types.specs.declared.shapes.Shape.{Shape};
 ghost use Rattle.audit_types.specs.declared.records.Answered.{Answered};
 ghost use Rattle.audit_types.specs.Shapes.{IsShape};
 ghost use Rattle.journal_form.specs.Group.{IsGroup};
 ghost use Rattle.journal_form.specs.Header.{HeaderBreaks};
-ghost use Rattle.journal_form.specs.Journal.{StandsAt, BreaksAt, BeginsJournal, most_bytes};
+ghost use Rattle.journal_form.specs.Journal.{StandsAt, BreaksAt, BreaksBehind, BeginsJournal, MayFollow, AreBytes, most_bytes};
 
 /// A file stands for at most one shape and history, and one gate ends its groups.
 pub fn one_reading()
@@ -31,6 +31,13 @@ pub fn no_break_in_a_journal()
 pub fn broken_bytes_begin_no_journal()
     ensures breaks { (file more : List ℕ) (at : ℕ) → at < length file → BreaksAt file at → BreaksAt (take (at + 1) file ++ more) at }
     ensures none { (file : List ℕ) (at : ℕ) → at < length file → BreaksAt file at → BeginsJournal (take (at + 1) file) → ⊥ }
+{}
+
+/// The bytes before the one that breaks a file begin a journal: of a header always, and behind an open gate where a record may
+/// follow. So no earlier byte could be told as the first that no journal has there.
+pub fn unbroken_bytes_begin_a_journal()
+    ensures header { (file : List ℕ) (at : ℕ) → AreBytes file → HeaderBreaks file at → BeginsJournal (take at file) }
+    ensures groups { (file : List ℕ) (at : ℕ) (b : BreaksBehind file at) → (b.behind ≡ []) ⊎ MayFollow b.shape b.groups → BeginsJournal (take at file) }
 {}
 
 /// The front of a file tells what the whole file is: what breaks its first twenty bytes breaks it, and what stands past
