@@ -3,42 +3,22 @@ use Rattle.std.proofs.Common.{◌≡◌, ℕ, false, List, [], ◌∷◌, ◌++�
 use Rattle.std.proofs.lemmas.List.{append-nil, map-append}
 use Rattle.schema_json.specs.Columns.{Column, place_of}
 use Rattle.predicate_lang.specs.Trees.{Tree, all_rows, negation, both, either, compared, among}
-use Rattle.predicate_lang.specs.Tokens.{or_word, and_word, in_word, open_bracket, close_bracket, operator, value}
-use Rattle.predicate_lang.specs.Grammar.{Disjunction, Conjunction, Operand, conj, or_conj, unit, and_unit, all, not_unit, in_brackets, compare, one_of, spell, spell_conj, spell_unit, more_literals, tree, tree_conj, tree_unit, one, two, at_column}
+use Rattle.predicate_lang.specs.Tokens.{lexed, or_word, and_word, in_word, open_bracket, close_bracket, operator, value}
+use Rattle.predicate_lang.specs.Grammar.{more_literals, most_depth}
+use Rattle.predicate_lang.specs.Places.{Means, tokens_of}
+use Rattle.predicate_lang.proofs.Ways.{Disjunction, Conjunction, Operand, conj, or_conj, unit, and_unit, all, not_unit, in_brackets, compare, one_of, spell, spell_conj, spell_unit, tree, tree_conj, tree_unit, at_column, parts, part}
 use Rattle.predicate_lang.specs.Lexing.{seen}
 use Rattle.predicate_lang.specs.Building.{Frame, a_not, a_bracket, at_operand, at_literal, behind, Build, build, nothing_yet, add_or, add_and, whole, is_under_not, negated, put, puts, built}
 use Rattle.predicate_lang.specs.declared.trees.Op.{Op}
 use Rattle.predicate_lang.specs.declared.trees.Literal.{Literal}
 use Rattle.predicate_lang.specs.declared.tokens.Token.{Token}
 use Rattle.predicate_lang.specs.declared.tokens.Token.TheVariants.{Column as ColumnToken}
+use Rattle.predicate_lang.proofs.WaysOfTheGrammar.{way_of}
 use Rattle.predicate_lang.proofs.Frames.{without_nots_bracket, negated_bracket}
 
 pub puts-append : (b : Build) (x y : List Token) → puts b (x ++ y) ≡ puts (puts b x) y
 puts-append b [] y = refl
 puts-append b (t ∷ x) y = puts-append (put b t) x y
-
--- ---- trees of two parts
-
-record Parts (f : Tree → Tree → Tree) (p q : Option Tree) (t : Tree) : Type 0 where
-  left : Tree
-  right : Tree
-  is_left : p ≡ Some left
-  is_right : q ≡ Some right
-  are : f left right ≡ t
-
-parts : (f : Tree → Tree → Tree) (p q : Option Tree) (t : Tree) → two f p q ≡ Some t → Parts f p q t
-parts f None q t h = absurd cc
-parts f (Some a) None t h = absurd cc
-parts f (Some a) (Some b) t h = record { left = a; right = b; is_left = refl; is_right = refl; are = cc }
-
-record Part (p : Option Tree) (t : Tree) : Type 0 where
-  inner : Tree
-  is_inner : p ≡ Some inner
-  is : negation inner ≡ t
-
-part : (p : Option Tree) (t : Tree) → one negation p ≡ Some t → Part p t
-part None t h = absurd cc
-part (Some a) t h = record { inner = a; is_inner = refl; is = cc }
 
 -- ---- what its tokens build
 
@@ -115,3 +95,13 @@ pub built_way : (columns : List Column) (d : Disjunction) (t : Tree) → tree co
 built_way columns d t is =
     let whole_way = puts_all columns d [] t refl is in
     ap built whole_way.is ∙ ap Some whole_way.adds
+
+-- and so tokens write one tree
+pub one_tree : (columns : List Column) (text : List ℕ) (s t : Tree) → Means columns text s → Means columns text t → s ≡ t
+one_tree columns text s t first second =
+    let tokens = tokens_of (lexed text).tokens in
+    let a = way_of columns most_depth tokens s first.writes in
+    let b = way_of columns most_depth tokens t second.writes in
+    let both : Some s ≡ Some t =
+    sym (built_way columns a.way s a.is_tree) ∙ ap (λ ts. built (puts nothing_yet (map (seen columns) ts))) (sym a.spelled ∙ b.spelled) ∙ built_way columns b.way t b.is_tree in
+    cc

@@ -6,7 +6,7 @@ use Rattle.std.proofs.lemmas.Bool.{false≢true}
 use Rattle.schema_json.specs.Columns.{Column}
 use Rattle.predicate_lang.specs.Trees.{Tree}
 use Rattle.predicate_lang.specs.Tokens.{Token, Front, Placed, Lexed, is_blank, front_token, lex_front, lex_from, lexed, lexed_from, no_tokens, with_token}
-use Rattle.predicate_lang.specs.Grammar.{Writes, IsPredicate, BeginPredicate}
+use Rattle.predicate_lang.specs.Grammar.{most_depth, Writes, IsPredicate, BeginPredicate}
 use Rattle.predicate_lang.specs.Places.{tokens_of, Means, Refuses, unfit, too_many, no_token, unfinished, IsPlace}
 use Rattle.predicate_lang.specs.Machine.{State, run, start, is_complete}
 use Rattle.predicate_lang.specs.Lexing.{seen, IsNext}
@@ -17,6 +17,7 @@ use Rattle.predicate_lang.proofs.PredicatesRunThrough.{run-none, run-append, beg
 use Rattle.predicate_lang.proofs.RunsSpellPredicates.{complete_predicate}
 use Rattle.predicate_lang.proofs.RunsCanBeCompleted.{goes_on_predicate}
 use Rattle.predicate_lang.proofs.Erased.{step_is, complete_is}
+use Rattle.predicate_lang.proofs.WaysOfTheGrammar.{way_of}
 use Rattle.predicate_lang.proofs.Built.{puts-append, built_way}
 
 -- ---- offsets rise
@@ -285,8 +286,9 @@ finished_there columns text from count b t read few none is_tree =
     let are = all_read columns text from count b read none in
     let complete : is_complete (run columns (tokens_of (lexed text).tokens) (Some start)) ≡ true = ap (λ ps. is_complete (run columns (tokens_of ps) (Some start))) are ∙ ap is_complete read.may_stand ∙ complete_is b ∙ ap is_some is_tree in
     let is = complete_predicate columns (tokens_of (lexed text).tokens) complete in
+    let w = way_of columns most_depth (tokens_of (lexed text).tokens) is.0 is.1 in
     let same : Some is.0 ≡ Some t =
-    sym (built_way columns is.1.way is.0 is.1.is_tree) ∙ ap (λ ts. built (puts nothing_yet (map (seen columns) ts))) (sym is.1.spelled ∙ ap tokens_of are) ∙ ap built read.builds ∙ is_tree in
+    sym (built_way columns w.way is.0 w.is_tree) ∙ ap (λ ts. built (puts nothing_yet (map (seen columns) ts))) (sym w.spelled ∙ ap tokens_of are) ∙ ap built read.builds ∙ is_tree in
     let tree_is : is.0 ≡ t = cc in
     let many : length read.front ≡ count = read.many in
     let long : length (lexed text).tokens ≡ length read.front = ap length are in

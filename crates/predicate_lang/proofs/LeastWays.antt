@@ -8,7 +8,7 @@ use Rattle.schema_json.specs.Columns.{Column, place_of, name_at, has_name}
 use Rattle.schema_json.specs.declared.roles.Role.TheVariants.{Text}
 use Rattle.predicate_lang.specs.Trees.{Tree, all_rows, negation, both, either, compared, among}
 use Rattle.predicate_lang.specs.Tokens.{Token, and_word, or_word, not_word, name, open_bracket, close_bracket}
-use Rattle.predicate_lang.specs.Grammar.{Disjunction, Conjunction, Operand, conj, or_conj, unit, and_unit, all, not_unit, in_brackets, compare, one_of, spell, spell_conj, spell_unit, depth, depth_conj, depth_unit, tree, tree_conj, tree_unit, two, one, at_column}
+use Rattle.predicate_lang.proofs.Ways.{Disjunction, Conjunction, Operand, conj, or_conj, unit, and_unit, all, not_unit, in_brackets, compare, one_of, spell, spell_conj, spell_unit, depth, depth_conj, depth_unit, tree, tree_conj, tree_unit, two, one, at_column}
 use Rattle.predicate_lang.specs.Printing.{bracketed, is_or, is_or_and, print_tokens}
 use Rattle.predicate_lang.specs.declared.trees.Op.{Op}
 use Rattle.predicate_lang.specs.declared.trees.Literal.{Literal}

@@ -1,12 +1,13 @@
 pub mod PredicatesRunThrough
 pub mod RunsSpellPredicates
 pub mod RunsCanBeCompleted
-pub mod OneWayToSpell
 pub mod RoundTrip
 pub mod ReadAgain
 pub mod LeastWays
 pub mod TextsRead
 pub mod Frames
+pub mod Ways
+pub mod WaysOfTheGrammar
 pub mod Lexed
 pub mod Numbers
 pub mod Quotes

@@ -8,10 +8,12 @@ use Rattle.schema_json.specs.declared.roles.Role.{Role}
 use Rattle.schema_json.specs.declared.roles.Role.TheVariants as role
 use Rattle.predicate_lang.specs.Trees.{Tree, negation, both, either, compared, among, fits, is_of_role, has_operator}
 use Rattle.predicate_lang.specs.Tokens.{Token, and_word, or_word, in_word, value, operator, open_bracket, close_bracket}
-use Rattle.predicate_lang.specs.Grammar.{Disjunction, Conjunction, Operand, conj, or_conj, unit, and_unit, all, not_unit, in_brackets, compare, one_of, spell, spell_conj, spell_unit, more_literals, depth, depth_conj, depth_unit, tree, tree_conj, tree_unit, one, two, at_column, IsPredicate, BeginPredicate}
+use Rattle.predicate_lang.specs.Grammar.{more_literals, most_depth, IsPredicate, BeginPredicate}
+use Rattle.predicate_lang.proofs.Ways.{Disjunction, Conjunction, Operand, conj, or_conj, unit, and_unit, all, not_unit, in_brackets, compare, one_of, spell, spell_conj, spell_unit, depth, depth_conj, depth_unit, tree, tree_conj, tree_unit, one, two, at_column}
 use Rattle.predicate_lang.specs.Machine.{Open, a_not, a_bracket, State, Place, operand, behind_name, behind_operator, behind_literal, without_nots, done, opening, named, public_role, step, run, start}
 use Rattle.predicate_lang.specs.declared.trees.Op.{Op}
 use Rattle.predicate_lang.specs.declared.trees.Literal.{Literal}
+use Rattle.predicate_lang.proofs.WaysOfTheGrammar.{way_of}
 use Rattle.std.proofs.lemmas.Bool.{lt-ltb}
 
 pub run-none : (columns : List Column) (ts : List Token) → run columns ts None ≡ None
@@ -134,7 +136,7 @@ mutual
 -- every predicate is run through to its end
 pub runs_predicate : (columns : List Column) (tokens : List Token) → IsPredicate columns tokens → run columns tokens (Some start) ≡ Some (done [])
 runs_predicate columns tokens is =
-    let w = is.1 in
+    let w = way_of columns most_depth tokens is.0 is.1 in
     ap (λ ts. run columns ts (Some start)) w.spelled
     ∙ runs_disjunction columns w.way [] refl (omega (arith, w.shallow)) (ap (good columns) w.is_tree ∙ w.fitting)
 

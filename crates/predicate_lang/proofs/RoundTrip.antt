@@ -1,8 +1,11 @@
 -- What is printed of a predicate that was read means it again, and is at most 511 bytes longer than what was read.
 use Rattle.std.proofs.Common.{◌≡◌, ℕ, suc, ◌+◌, ◌-◌, ◌≤◌, Bool, true, false, ◌||◌, cond, List, [], ◌∷◌, ◌++◌, length, refl, ap, ◌∙◌, arith, length-append}
 use Rattle.schema_json.specs.Columns.{Column}
-use Rattle.predicate_lang.specs.Trees.{Tree, all_rows, negation, both, either, compared, among, height}
+use Rattle.predicate_lang.specs.Trees.{Tree, all_rows, negation, both, either, compared, among, height, fits}
 use Rattle.predicate_lang.specs.Tokens.{Token, and_word, or_word, close_bracket, Placed, lexed}
+use Rattle.predicate_lang.specs.Grammar.{most_depth}
+use Rattle.predicate_lang.proofs.Ways.{HasWay}
+use Rattle.predicate_lang.proofs.WaysOfTheGrammar.{way_of, way_writes}
 use Rattle.predicate_lang.specs.Places.{Means, tokens_of}
 use Rattle.predicate_lang.specs.Printing.{is_or, is_or_and, bracketed, print_tokens, printed, spaced, spaced_after, token_text, opens, closes}
 use Rattle.predicate_lang.proofs.LeastWays.{total, IsLeast, printed_least}
@@ -42,11 +45,20 @@ length-bracketed : (b : Bool) (ts : List Token) → length ts ≤ length (bracke
 length-bracketed false ts = omega arith
 length-bracketed true ts = omega (arith, length-append ts (close_bracket ∷ []))
 
+-- the way in which a text writes its tree
+written : (columns : List Column) (text : List ℕ) (t : Tree) → Means columns text t → HasWay columns most_depth (tokens_of (lexed text).tokens) t
+written columns text t means = way_of columns most_depth (tokens_of (lexed text).tokens) t means.writes
+
+-- a tree that a text means fits the columns
+pub means_fits : (columns : List Column) (text : List ℕ) (t : Tree) → Means columns text t → fits columns t ≡ true
+means_fits columns text t means = let way = written columns text t means in way.fitting
+
 -- how the tokens that are printed compare with those that were read
 least : (columns : List Column) (text : List ℕ) (t : Tree) (w : Token → ℕ) → Means columns text t → total w (print_tokens columns t) ≤ total w (tokens_of (lexed text).tokens)
 least columns text t w means =
-    let best : IsLeast columns w means.writes.way t = printed_least columns w means.writes.way t means.writes.is_tree in
-    omega (arith, best.light, ap (total w) means.writes.spelled)
+    let way = written columns text t means in
+    let best : IsLeast columns w way.way t = printed_least columns w way.way t way.is_tree in
+    omega (arith, best.light, ap (total w) way.spelled)
 
 -- no more tokens
 fewer : (columns : List Column) (text : List ℕ) (t : Tree) → Means columns text t → length (print_tokens columns t) ≤ 512
@@ -83,17 +95,14 @@ printable columns text t means = let source : ArePrintable (tokens_of (lexed tex
 pub printed_means : (columns : List Column) (text : List ℕ) (t : Tree) → Means columns text t → Means columns (printed columns t) t
 printed_means columns text t means =
     let again : LexesAs (lexed (printed columns t)) (print_tokens columns t) = lexed-spaced (print_tokens columns t) (printable columns text t means) in
-    let best : IsLeast columns count_one means.writes.way t = printed_least columns count_one means.writes.way t means.writes.is_tree in
+    let way = written columns text t means in
+    let best : IsLeast columns count_one way.way t = printed_least columns count_one way.way t way.is_tree in
+    let printed_way : HasWay columns most_depth (tokens_of (lexed (printed columns t)).tokens) t =
+    record { way = best.way; spelled = again.tokens ∙ best.spelled; shallow = omega (arith, best.shallow, way.shallow); is_tree = best.is_tree; fitting = way.fitting } in
     record {
       whole = again.stop;
       few = omega (arith, fewer columns text t means, ap (length {A = Token}) again.tokens, length-tokens_of (lexed (printed columns t)).tokens);
-      writes = record {
-        way = best.way;
-        spelled = again.tokens ∙ best.spelled;
-        shallow = omega (arith, best.shallow, means.writes.shallow);
-        is_tree = best.is_tree;
-        fitting = means.writes.fitting;
-      };
+      writes = way_writes columns most_depth (tokens_of (lexed (printed columns t)).tokens) t printed_way;
     }
 
 -- with at most 511 bytes more

@@ -7,10 +7,12 @@ use Rattle.std.proofs.lemmas.List.{append-nil}
 use Rattle.schema_json.specs.Columns.{Column, place_of, role_at}
 use Rattle.predicate_lang.specs.Trees.{Tree, compared, among, fits, is_of_role, has_operator}
 use Rattle.predicate_lang.specs.Tokens.{Token, and_word, or_word, not_word, all_word, in_word, name, value, operator, open_bracket, close_bracket, comma}
-use Rattle.predicate_lang.specs.Grammar.{Disjunction, Conjunction, Operand, conj, or_conj, unit, and_unit, all, not_unit, in_brackets, compare, one_of, spell, spell_conj, spell_unit, more_literals, depth, depth_conj, depth_unit, tree, tree_conj, tree_unit, at_column, IsPredicate}
+use Rattle.predicate_lang.specs.Grammar.{more_literals, most_depth, IsPredicate}
+use Rattle.predicate_lang.proofs.Ways.{Disjunction, Conjunction, Operand, conj, or_conj, unit, and_unit, all, not_unit, in_brackets, compare, one_of, spell, spell_conj, spell_unit, depth, depth_conj, depth_unit, tree, tree_conj, tree_unit, at_column, HasWay}
 use Rattle.predicate_lang.specs.Machine.{Open, a_not, a_bracket, State, behind_name, behind_operator, behind_comma, behind_literal, behind_operand, without_nots, done, named, public_role, run, start, is_complete}
 use Rattle.predicate_lang.specs.declared.trees.Op.{Op}
 use Rattle.predicate_lang.specs.declared.trees.Literal.{Literal}
+use Rattle.predicate_lang.proofs.WaysOfTheGrammar.{way_writes}
 use Rattle.predicate_lang.proofs.PredicatesRunThrough.{run-none, good, good_one, good_both, good_either, at_place, operand_at}
 
 -- the run ends behind a whole predicate
@@ -226,4 +228,6 @@ pub complete_predicate : (columns : List Column) (tokens : List Token) → is_co
 complete_predicate columns tokens h =
     let o = disj_front columns [] refl (omega arith) (length tokens) (front (length tokens) columns) tokens (omega arith) h in
     let t = tree_there columns (tree columns o.d) o.fit in
-    (t.0, record { way = o.d; spelled = o.split ∙ ap (λ xs. spell o.d ++ xs) (at_end columns o.rest o.stops_and o.stops o.ends) ∙ append-nil (spell o.d); shallow = omega (arith, o.deep); is_tree = t.1; fitting = t.2 })
+    let way : HasWay columns most_depth tokens t.0 =
+    record { way = o.d; spelled = o.split ∙ ap (λ xs. spell o.d ++ xs) (at_end columns o.rest o.stops_and o.stops o.ends) ∙ append-nil (spell o.d); shallow = omega (arith, o.deep); is_tree = t.1; fitting = t.2 } in
+    (t.0, way_writes columns most_depth tokens t.0 way)

@@ -10,10 +10,12 @@ use Rattle.std.proofs.lemmas.List.Sums.{take_while-cons}
 use Rattle.std.proofs.lemmas.Str.{IsUtf8-drop, IsCharBoundary-after_ascii}
 use Rattle.schema_json.specs.Columns.{Column, is_name_byte, place_of}
 use Rattle.predicate_lang.specs.Trees.{Tree, all_rows, negation, both, either, compared, among, AreTexts, IsTextLiteral}
-use Rattle.predicate_lang.specs.Tokens.{Token, and_word, or_word, not_word, all_word, in_word, name, value, operator, open_bracket, close_bracket, comma, Front, front_token, word_token, lex_from, lex_front, is_blank, is_equals_next}
-use Rattle.predicate_lang.specs.Grammar.{Disjunction, Conjunction, Operand, conj, or_conj, unit, and_unit, all, not_unit, in_brackets, compare, one_of, spell, spell_conj, spell_unit, more_literals, tree, tree_conj, tree_unit, two, one, at_column}
+use Rattle.predicate_lang.specs.Tokens.{Token, lexed, and_word, or_word, not_word, all_word, in_word, name, value, operator, open_bracket, close_bracket, comma, Front, front_token, word_token, lex_from, lex_front, is_blank, is_equals_next}
+use Rattle.predicate_lang.specs.Grammar.{more_literals, most_depth}
+use Rattle.predicate_lang.proofs.Ways.{Disjunction, Conjunction, Operand, conj, or_conj, unit, and_unit, all, not_unit, in_brackets, compare, one_of, spell, spell_conj, spell_unit, tree, tree_conj, tree_unit, two, one, at_column}
 use Rattle.predicate_lang.specs.Places.{Means, tokens_of}
 use Rattle.predicate_lang.specs.declared.trees.Literal.{Literal}
+use Rattle.predicate_lang.proofs.WaysOfTheGrammar.{way_of}
 use Rattle.predicate_lang.proofs.Fronts.{letter_ascii, name_byte_ascii}
 use Rattle.predicate_lang.proofs.QuotedTexts.{quoted_utf8}
 use Rattle.predicate_lang.proofs.TokenFronts.{is_mark, Kind, a_word, a_number, a_text, a_mark, front_kind}
@@ -171,4 +173,5 @@ mutual
 -- the texts of the tree that a text means are UTF-8
 pub means_texts : (columns : List Column) (text : List ℕ) (t : Tree) → IsUtf8 text → Means columns text t → AreTexts t
 means_texts columns text t utf8 means =
-    tree_texts columns means.writes.way t (subst AreTextTokens means.writes.spelled (lexed_texts (length text + 1) 0 text utf8)) means.writes.is_tree
+    let w = way_of columns most_depth (tokens_of (lexed text).tokens) t means.writes in
+    tree_texts columns w.way t (subst AreTextTokens w.spelled (lexed_texts (length text + 1) 0 text utf8)) w.is_tree

@@ -1,110 +1,43 @@
--- The grammar of predicates, as the ways to write one.
-use Rattle.std.specs.Prelude.{◌≡◌, ℕ, suc, ◌≤◌, max, true, List, [], ◌∷◌, ◌++◌, Option, Some, None}
-use Rattle.schema_json.specs.Columns.{Column, place_of}
-use Rattle.predicate_lang.specs.Trees.{Tree, all_rows, negation, both, either, compared, among, fits}
+-- The grammar of predicates: which tokens write which tree.
+use Rattle.std.specs.Prelude.{◌≡◌, ℕ, suc, true, List, [], ◌∷◌, ◌++◌, Some}
+use Rattle.std.specs.List.{list_all}
+use Rattle.schema_json.specs.Columns.{Column, place_of, role_at}
+use Rattle.predicate_lang.specs.Trees.{Tree, all_rows, negation, both, either, compared, among, is_of_role, has_operator}
 use Rattle.predicate_lang.specs.Tokens.{Token, and_word, or_word, not_word, all_word, in_word, name, value, operator, open_bracket, close_bracket, comma}
 use Rattle.predicate_lang.specs.declared.trees.Op.{Op}
 use Rattle.predicate_lang.specs.declared.trees.Literal.{Literal}
 
-mutual
-  -- conj { "or" conj }
-  pub data Disjunction : Type 0 where
-    conj : Conjunction → Disjunction
-    or_conj : Disjunction → Conjunction → Disjunction
-
-  -- unit { "and" unit }
-  pub data Conjunction : Type 0 where
-    unit : Operand → Conjunction
-    and_unit : Conjunction → Operand → Conjunction
-
-  pub data Operand : Type 0 where
-    all : Operand
-    not_unit : Operand → Operand
-    in_brackets : Disjunction → Operand
-    compare : List ℕ → Op → Literal → Operand
-    one_of : List ℕ → Literal → List Literal → Operand
-
--- ---- its tokens
-
+-- the tokens behind the first literal of a list
 abbrev pub more_literals : List Literal → List Token
 more_literals [] = close_bracket ∷ []
 more_literals (l ∷ ls) = comma ∷ value l ∷ more_literals ls
 
-abbrev mutual
-  pub spell : Disjunction → List Token
-  spell (conj c) = spell_conj c
-  spell (or_conj d c) = spell d ++ or_word ∷ spell_conj c
+-- these tokens write this tree over the columns, with at most so many `not` and brackets open at one place
+mutual
+  -- conj { "or" conj }
+  pub data Disjunction (columns : List Column) : ℕ → List Token → Tree → Type 0 where
+    conj : {room : ℕ} {ts : List Token} {p : Tree} → Conjunction columns room ts p → Disjunction columns room ts p
+    or_conj : {room : ℕ} {ts us : List Token} {p q : Tree} → Disjunction columns room ts p → Conjunction columns room us q → Disjunction columns room (ts ++ or_word ∷ us) (either p q)
 
-  pub spell_conj : Conjunction → List Token
-  spell_conj (unit u) = spell_unit u
-  spell_conj (and_unit c u) = spell_conj c ++ and_word ∷ spell_unit u
+  -- unit { "and" unit }
+  pub data Conjunction (columns : List Column) : ℕ → List Token → Tree → Type 0 where
+    unit : {room : ℕ} {ts : List Token} {p : Tree} → Operand columns room ts p → Conjunction columns room ts p
+    and_unit : {room : ℕ} {ts us : List Token} {p q : Tree} → Conjunction columns room ts p → Operand columns room us q → Conjunction columns room (ts ++ and_word ∷ us) (both p q)
 
-  pub spell_unit : Operand → List Token
-  spell_unit all = all_word ∷ []
-  spell_unit (not_unit u) = not_word ∷ spell_unit u
-  spell_unit (in_brackets d) = open_bracket ∷ (spell d ++ close_bracket ∷ [])
-  spell_unit (compare n o l) = name n ∷ operator o ∷ value l ∷ []
-  spell_unit (one_of n l ls) = name n ∷ in_word ∷ open_bracket ∷ value l ∷ more_literals ls
-
--- ---- its depth: how many `not` and brackets are in force at its deepest place
-
-abbrev mutual
-  pub depth : Disjunction → ℕ
-  depth (conj c) = depth_conj c
-  depth (or_conj d c) = max (depth d) (depth_conj c)
-
-  pub depth_conj : Conjunction → ℕ
-  depth_conj (unit u) = depth_unit u
-  depth_conj (and_unit c u) = max (depth_conj c) (depth_unit u)
-
-  pub depth_unit : Operand → ℕ
-  depth_unit all = 0
-  depth_unit (not_unit u) = suc (depth_unit u)
-  depth_unit (in_brackets d) = suc (depth d)
-  depth_unit (compare n o l) = 0
-  depth_unit (one_of n l ls) = 0
-
--- ---- its tree, where its names are those of columns
-
-abbrev pub two : (Tree → Tree → Tree) → Option Tree → Option Tree → Option Tree
-two f None q = None
-two f (Some p) None = None
-two f (Some p) (Some q) = Some (f p q)
-
-abbrev pub one : (Tree → Tree) → Option Tree → Option Tree
-one f None = None
-one f (Some p) = Some (f p)
-
-abbrev pub at_column : (ℕ → Tree) → Option ℕ → Option Tree
-at_column f None = None
-at_column f (Some c) = Some (f c)
-
-abbrev mutual
-  pub tree : List Column → Disjunction → Option Tree
-  tree columns (conj c) = tree_conj columns c
-  tree columns (or_conj d c) = two either (tree columns d) (tree_conj columns c)
-
-  pub tree_conj : List Column → Conjunction → Option Tree
-  tree_conj columns (unit u) = tree_unit columns u
-  tree_conj columns (and_unit c u) = two both (tree_conj columns c) (tree_unit columns u)
-
-  pub tree_unit : List Column → Operand → Option Tree
-  tree_unit columns all = Some all_rows
-  tree_unit columns (not_unit u) = one negation (tree_unit columns u)
-  tree_unit columns (in_brackets d) = tree columns d
-  tree_unit columns (compare n o l) = at_column (λ c. compared c o l) (place_of n columns)
-  tree_unit columns (one_of n l ls) = at_column (λ c. among c (l ∷ ls)) (place_of n columns)
+  -- a name is that of a column, and a literal what its role takes
+  pub data Operand (columns : List Column) : ℕ → List Token → Tree → Type 0 where
+    all : {room : ℕ} → Operand columns room (all_word ∷ []) all_rows
+    not_unit : {room : ℕ} {ts : List Token} {p : Tree} → Operand columns room ts p → Operand columns (suc room) (not_word ∷ ts) (negation p)
+    in_brackets : {room : ℕ} {ts : List Token} {p : Tree} → Disjunction columns room ts p → Operand columns (suc room) (open_bracket ∷ (ts ++ close_bracket ∷ [])) p
+    compare : {room c : ℕ} {n : List ℕ} {o : Op} {l : Literal} → place_of n columns ≡ Some c → has_operator (role_at columns c) o ≡ true → is_of_role (role_at columns c) l ≡ true → Operand columns room (name n ∷ operator o ∷ value l ∷ []) (compared c o l)
+    one_of : {room c : ℕ} {n : List ℕ} {l : Literal} {ls : List Literal} → place_of n columns ≡ Some c → list_all (is_of_role (role_at columns c)) (l ∷ ls) ≡ true → Operand columns room (name n ∷ in_word ∷ open_bracket ∷ value l ∷ more_literals ls) (among c (l ∷ ls))
 
 abbrev pub most_depth : ℕ
 most_depth = 64
 
 -- the tokens are a way to write this tree, over these columns
-pub record Writes (columns : List Column) (tokens : List Token) (t : Tree) : Type 0 where
-  pub way : Disjunction
-  pub spelled : tokens ≡ spell way
-  pub shallow : depth way ≤ most_depth
-  pub is_tree : tree columns way ≡ Some t
-  pub fitting : fits columns t ≡ true
+abbrev pub Writes : List Column → List Token → Tree → Type 0
+Writes columns tokens t = Disjunction columns most_depth tokens t
 
 abbrev pub IsPredicate : List Column → List Token → Type 0
 IsPredicate columns tokens = (t : Tree) × Writes columns tokens t

@@ -20,10 +20,7 @@ compares Ge x y = int_le y x
 abbrev pub compares_text : Op → List ℕ → List ℕ → Bool
 compares_text Eq x y = bytes_eq x y
 compares_text Ne x y = not (bytes_eq x y)
-compares_text Lt x y = false
-compares_text Le x y = false
-compares_text Gt x y = false
-compares_text Ge x y = false
+compares_text o x y = false
 
 -- a row, as the number and the text that it has in each column
 pub record Row : Type 0 where

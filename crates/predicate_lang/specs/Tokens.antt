@@ -42,8 +42,7 @@ pub record Front : Type 0 where
 
 -- such a front, where there is a token
 abbrev pub taking : ℕ → Option Token → Option Front
-taking n None = None
-taking n (Some t) = Some (record { token = t; more = n })
+taking n token = option_map (λ t. record { token = t; more = n }) token
 
 -- the number that decimal digits mean, after a number that was read before them
 abbrev pub decimal_after : ℕ → List ℕ → ℕ
@@ -60,8 +59,7 @@ within_most n = cond (nat_le n most) (Some n) None
 
 -- a number with a minus sign or none
 abbrev pub signed : Bool → ℕ → ℤ
-signed false n = pos n
-signed true n = neg_ℤ (pos n)
+signed minus n = cond minus (neg_ℤ (pos n)) (pos n)
 
 -- the number of one or more digits behind a minus sign or none, where it is not too large
 abbrev pub number_of : Bool → List ℕ → Option ℤ
@@ -69,8 +67,7 @@ number_of minus [] = None
 number_of minus (d ∷ digits) = option_map (signed minus) (within_most (decimal_after 0 (d ∷ digits)))
 
 abbrev pub number_token : Option ℤ → Option Token
-number_token None = None
-number_token (Some z) = Some (value (literal.Number z))
+number_token number = option_map (λ z. value (literal.Number z)) number
 
 -- a quoted text, and how many bytes follow its opening quote, the closing one among them
 pub record Quoted : Type 0 where
@@ -79,8 +76,7 @@ pub record Quoted : Type 0 where
 
 -- with some bytes in front of it, that took some bytes to write
 abbrev pub with_front : List ℕ → ℕ → Option Quoted → Option Quoted
-with_front front n None = None
-with_front front n (Some q) = Some (record { text = front ++ q.text; bytes = n + q.bytes })
+with_front front n rest = option_map (λ q. record { text = front ++ q.text; bytes = n + q.bytes }) rest
 
 -- what stands behind an opening quote, up to the closing one; a doubled quote is one. The flag says that the byte before was a quote.
 abbrev pub quoted : Bool → List ℕ → Option Quoted
@@ -90,8 +86,7 @@ quoted false (b ∷ bytes) = cond (b == 39) (quoted true bytes) (with_front (b �
 quoted true (b ∷ bytes) = cond (b == 39) (with_front (39 ∷ []) 2 (quoted false bytes)) (Some (record { text = []; bytes = 1 }))
 
 abbrev pub text_front : Option Quoted → Option Front
-text_front None = None
-text_front (Some q) = Some (record { token = value (literal.Text q.text); more = q.bytes })
+text_front text = option_map (λ q. record { token = value (literal.Text q.text); more = q.bytes }) text
 
 -- these bytes begin with an equals sign
 abbrev pub is_equals_next : List ℕ → Bool

@@ -4,7 +4,7 @@ use Rattle.std.specs.List.{list_all, AllByRecursion}
 use Rattle.std.specs.Str.{IsUtf8}
 use Rattle.schema_json.specs.Columns.{Column, role_at}
 use Rattle.schema_json.specs.declared.roles.Role.{Role}
-use Rattle.schema_json.specs.declared.roles.Role.TheVariants.{Text, Number, Sum, Max}
+use Rattle.schema_json.specs.declared.roles.Role.TheVariants.{Text, Number}
 use Rattle.predicate_lang.specs.declared.trees.Op.{Op}
 use Rattle.predicate_lang.specs.declared.trees.Op.TheVariants as op
 use Rattle.predicate_lang.specs.declared.trees.Literal.{Literal}
@@ -45,25 +45,15 @@ height (among c ls) = 1
 
 abbrev pub is_of_role : Option Role → Literal → Bool
 is_of_role (Some Number) (literal.Number n) = true
-is_of_role (Some Number) (literal.Text t) = false
-is_of_role (Some Text) (literal.Number n) = false
 is_of_role (Some Text) (literal.Text t) = true
-is_of_role (Some Sum) l = false
-is_of_role (Some Max) l = false
-is_of_role None l = false
+is_of_role role l = false
 
 -- texts are only compared for equality
 abbrev pub has_operator : Option Role → Op → Bool
 has_operator (Some Number) o = true
 has_operator (Some Text) op.Eq = true
 has_operator (Some Text) op.Ne = true
-has_operator (Some Text) op.Lt = false
-has_operator (Some Text) op.Le = false
-has_operator (Some Text) op.Gt = false
-has_operator (Some Text) op.Ge = false
-has_operator (Some Sum) o = false
-has_operator (Some Max) o = false
-has_operator None o = false
+has_operator role o = false
 
 abbrev pub has_literals : List Literal → Bool
 has_literals [] = false
