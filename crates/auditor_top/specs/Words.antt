@@ -42,13 +42,11 @@ number_of word = if nat_le 1 (length word) && nat_le (length word) 10 && list_al
 
 -- `serve` with a batch of 1 to 64 lines
 abbrev pub serve_with : Option ℕ → Option Command
-serve_with None = None
-serve_with (Some batch) = if nat_le 1 batch && nat_le batch 64 then Some (Serve batch) else None
+serve_with number = option_and_then (λ batch. if nat_le 1 batch && nat_le batch 64 then Some (Serve batch) else None) number
 
 -- `drill` with a number of 32 bits
 abbrev pub drill_with : Option ℕ → Option Command
-drill_with None = None
-drill_with (Some number) = if nat_lt number (2 ^ 32) then Some (Drill number) else None
+drill_with word = option_and_then (λ number. if nat_lt number (2 ^ 32) then Some (Drill number) else None) word
 
 -- the command that one word names; `serve` alone answers each line by itself
 abbrev pub command_named : List ℕ → Option Command

@@ -9,10 +9,13 @@ use Rattle.schema_json.specs.Columns.{Column}
 use Rattle.schema_json.specs.Reading.{value_of}
 use Rattle.predicate_lang.specs.Trees.{Tree}
 use Rattle.predicate_lang.specs.Places.{Means}
-use Rattle.line_wire.specs.Questions.{Written, text_of, question_in, question_of}
-use Rattle.line_wire.specs.Requests.{IsWithin, Requests, Refuses, Asks, Reads, IsRequest, column_fault}
-use Rattle.line_wire.specs.Answers.{Answers, HasNoValue}
+use Rattle.line_wire.specs.Questions.{Written, taken, text_of, question_in, question_of}
+use Rattle.line_wire.specs.Requests.{IsWithin, Requests, Refuses, Asks, Reads, IsRequest, column_fault, secret_of}
+use Rattle.line_wire.specs.Answers.{Answers, HasNoValue, IsTaken}
+use Rattle.line_wire.specs.declared.question.Take.{Take}
+use Rattle.line_wire.specs.declared.question.Take.TheVariants as take
 use Rattle.line_wire.specs.declared.request.Request.{Request}
+use Rattle.line_wire.specs.declared.request.Request.TheVariants as request
 use Rattle.line_wire.specs.declared.request.LineFault.{LineFault}
 use Rattle.line_wire.specs.declared.request.LineFault.TheVariants as fault
 
@@ -33,6 +36,13 @@ value_of-none line none = by (is_utf8 line) refl
 -- a line writes what its value writes
 pub written_by : (line : List ℕ) (d : Data) (o : Option Written) → value_of line ≡ Some d → question_in d ≡ o → question_of line ≡ o
 written_by line d o is writes = ap (option_and_then question_in) is ∙ writes
+
+-- what is taken of the column that a question names is its request
+pub taken_is : (columns : List Column) (k : Take) (name text : List ℕ) (c : ℕ) (t : Tree) (r : Request) → IsTaken k c t r → secret_of columns name ≡ Some c → IsRequest columns (taken k name text) t r
+taken_is columns take.Sum name text c t (request.Sum d p) is found = (found ∙ ap Some (sym is.0), is.1)
+taken_is columns take.Avg name text c t (request.Avg d p) is found = (found ∙ ap Some (sym is.0), is.1)
+taken_is columns take.Max name text c t (request.Max d p) is found = (found ∙ ap Some (sym is.0), is.1)
+taken_is columns k name text c t r is found = absurd is
 
 -- what is answered is what the line means
 pub found_of : (columns : List Column) (o : Option Written) (w : Written) (r : Result Request LineFault) → o ≡ Some w → Answers columns w r → IfOk r (Requests columns o)
@@ -67,8 +77,8 @@ only_of columns o w (Err fault.NoMemory) writes a v t asks = tt
 pub fault_of : (columns : List Column) (o : Option Written) (w : Written) (r : Result Request LineFault) → o ≡ Some w → Answers columns w r → IfErr r (Refuses columns o)
 fault_of columns o w (Ok q) writes a = tt
 fault_of columns o w (Err fault.Line) writes a = absurd a
-fault_of columns o w (Err fault.Column) writes a = record { question = w; writes = writes; bad = a }
-fault_of columns o w (Err fault.Kind) writes a = record { question = w; writes = writes; bad = a }
+fault_of columns o w (Err fault.Column) writes a = ap (option_and_then (column_fault columns)) writes ∙ a
+fault_of columns o w (Err fault.Kind) writes a = ap (option_and_then (column_fault columns)) writes ∙ a
 fault_of columns o w (Err (fault.Condition at)) writes a = record { question = w; writes = writes; good = a.0; place = a.1.place }
 fault_of columns o w (Err fault.NoMemory) writes a = tt
 

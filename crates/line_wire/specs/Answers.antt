@@ -10,7 +10,7 @@ use Rattle.line_wire.specs.Requests.{role_fault, role_of, secret_of, column_faul
 use Rattle.line_wire.specs.declared.question.Take.{Take}
 use Rattle.line_wire.specs.declared.question.Take.TheVariants as take
 use Rattle.line_wire.specs.declared.request.Request.{Request}
-use Rattle.line_wire.specs.declared.request.Request.TheVariants.{Count, Sum, Avg, Max}
+use Rattle.line_wire.specs.declared.request.Request.TheVariants.{Sum, Avg, Max}
 use Rattle.line_wire.specs.declared.request.LineFault.{LineFault}
 use Rattle.line_wire.specs.declared.request.LineFault.TheVariants as fault
 
@@ -52,10 +52,10 @@ ReadsCondition columns text (Err fault.NoMemory) = Unit {0}
 
 -- this is taken of a secret column, over this tree
 abbrev pub IsTaken : Take → ℕ → Tree → Request → Type 0
-IsTaken k c t (Count p) = ⊥
-IsTaken k c t (Sum d p) = (k ≡ take.Sum) × (d ≡ c) × (tree_of p ≡ t)
-IsTaken k c t (Avg d p) = (k ≡ take.Avg) × (d ≡ c) × (tree_of p ≡ t)
-IsTaken k c t (Max d p) = (k ≡ take.Max) × (d ≡ c) × (tree_of p ≡ t)
+IsTaken take.Sum c t (Sum d p) = (d ≡ c) × (tree_of p ≡ t)
+IsTaken take.Avg c t (Avg d p) = (d ≡ c) × (tree_of p ≡ t)
+IsTaken take.Max c t (Max d p) = (d ≡ c) × (tree_of p ≡ t)
+IsTaken k c t request = ⊥
 
 -- a question is this request
 pub record IsAnswer (columns : List Column) (w : Written) (r : Request) : Type 0 where

@@ -1,5 +1,5 @@
 -- The question that a line writes: an object whose keys are all among four.
-use Rattle.std.specs.Prelude.{ℕ, Bool, true, false, ◌&&◌, ◌||◌, if◌then◌else◌, List, Option, Some, None, is_some, option_and_then, codes}
+use Rattle.std.specs.Prelude.{ℕ, Bool, true, false, ◌&&◌, ◌||◌, if◌then◌else◌, List, Option, Some, None, is_some, unwrap_or, option_map, option_and_then, codes}
 use Rattle.std.specs.Str.{bytes_eq}
 use Rattle.serde_json.specs.Data.{Data, Members, no_members, member}
 use Rattle.serde_json.specs.Find.{get, as_str, as_object}
@@ -35,30 +35,22 @@ keys_are_known (member k d ms) = is_key k && keys_are_known ms
 
 -- an object, and each of its keys is known
 abbrev pub has_known_keys : Option Members → Bool
-has_known_keys None = false
-has_known_keys (Some ms) = keys_are_known ms
+has_known_keys members = unwrap_or (option_map keys_are_known members) false
 
 -- absent, or a text
 abbrev pub may_be_text : Option Data → Bool
-may_be_text None = true
-may_be_text (Some d) = is_some (as_str d)
-
--- over a column that is a text
-abbrev pub over_column : Take → Option (List ℕ) → List ℕ → Option Written
-over_column take None text = None
-over_column take (Some c) text = Some (taken take c text)
+may_be_text value = unwrap_or (option_map (λ d. is_some (as_str d)) value) true
 
 -- a column stands exactly where something is taken of it
 abbrev pub with_column : Ask → Option Data → List ℕ → Option Written
 with_column Count None text = Some (counted text)
 with_column Count (Some d) text = None
-with_column (Of take) column text = over_column take (option_and_then as_str column) text
+with_column (Of take) column text = option_map (λ name. taken take name text) (option_and_then as_str column)
 
 -- the question of a text and of a word that asks
 abbrev pub asked_with : Option (List ℕ) → Option Ask → Option Data → Option Written
-asked_with None ask column = None
-asked_with (Some text) None column = None
 asked_with (Some text) (Some ask) column = with_column ask column text
+asked_with text ask column = None
 
 -- the question that a value writes, if it writes one
 unfoldable pub question_in : Data → Option Written
@@ -76,14 +68,6 @@ question_of line = option_and_then question_in (value_of line)
 -- a column of this kind can be taken so
 abbrev pub wants : Take → Role → Bool
 wants Sum role.Sum = true
-wants Sum role.Text = false
-wants Sum role.Number = false
-wants Sum role.Max = false
 wants Avg role.Sum = true
-wants Avg role.Text = false
-wants Avg role.Number = false
-wants Avg role.Max = false
 wants Max role.Max = true
-wants Max role.Text = false
-wants Max role.Number = false
-wants Max role.Sum = false
+wants take role = false

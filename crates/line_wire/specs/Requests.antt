@@ -36,24 +36,13 @@ column_fault columns (taken k name text) = role_fault k (role_of columns name)
 
 -- ---- what a question is answered
 
--- this is taken of the column, over this tree
-abbrev pub IsTaking : List Column → Take → List ℕ → Tree → Request → Type 0
-IsTaking columns k name t (Count p) = ⊥
-IsTaking columns k name t (Sum c p) = (k ≡ take.Sum) × (secret_of columns name ≡ Some c) × (tree_of p ≡ t)
-IsTaking columns k name t (Avg c p) = (k ≡ take.Avg) × (secret_of columns name ≡ Some c) × (tree_of p ≡ t)
-IsTaking columns k name t (Max c p) = (k ≡ take.Max) × (secret_of columns name ≡ Some c) × (tree_of p ≡ t)
-
--- a count over this tree
-abbrev pub IsCounting : Tree → Request → Type 0
-IsCounting t (Count p) = tree_of p ≡ t
-IsCounting t (Sum c p) = ⊥
-IsCounting t (Avg c p) = ⊥
-IsCounting t (Max c p) = ⊥
-
 -- the request is this question, over this tree
 abbrev pub IsRequest : List Column → Written → Tree → Request → Type 0
-IsRequest columns (counted text) t r = IsCounting t r
-IsRequest columns (taken k name text) t r = IsTaking columns k name t r
+IsRequest columns (counted text) t (Count p) = tree_of p ≡ t
+IsRequest columns (taken take.Sum name text) t (Sum c p) = (secret_of columns name ≡ Some c) × (tree_of p ≡ t)
+IsRequest columns (taken take.Avg name text) t (Avg c p) = (secret_of columns name ≡ Some c) × (tree_of p ≡ t)
+IsRequest columns (taken take.Max name text) t (Max c p) = (secret_of columns name ≡ Some c) × (tree_of p ≡ t)
+IsRequest columns question t request = ⊥
 
 -- a question that may be written means a request
 pub record Requests (columns : List Column) (o : Option Written) (r : Request) : Type 0 where
@@ -63,12 +52,6 @@ pub record Requests (columns : List Column) (o : Option Written) (r : Request) :
   pub good : column_fault columns question ≡ None
   pub means : Means columns (text_of question) tree
   pub is : IsRequest columns question tree r
-
--- a question that may be written has this fault in its column
-pub record HasColumnFault (columns : List Column) (o : Option Written) (f : LineFault) : Type 0 where
-  pub question : Written
-  pub writes : o ≡ Some question
-  pub bad : column_fault columns question ≡ Some f
 
 -- a question that may be written goes wrong at this byte of its condition
 pub record HasBadCondition (columns : List Column) (o : Option Written) (at : ℕ) : Type 0 where
@@ -80,8 +63,8 @@ pub record HasBadCondition (columns : List Column) (o : Option Written) (at : �
 -- the first refusal of a question that may be written
 abbrev pub Refuses : List Column → Option Written → LineFault → Type 0
 Refuses columns o fault.Line = o ≡ None
-Refuses columns o fault.Column = HasColumnFault columns o fault.Column
-Refuses columns o fault.Kind = HasColumnFault columns o fault.Kind
+Refuses columns o fault.Column = option_and_then (column_fault columns) o ≡ Some fault.Column
+Refuses columns o fault.Kind = option_and_then (column_fault columns) o ≡ Some fault.Kind
 Refuses columns o (fault.Condition at) = HasBadCondition columns o at
 Refuses columns o fault.NoMemory = Unit {0}
 

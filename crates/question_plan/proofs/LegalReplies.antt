@@ -78,13 +78,10 @@ module _ (grows : LegalGrows) (places : PlacesAreColumns) (base : Database) (is_
   -- the column of a request that a question means
   taken_below : (written : Written) (t : Tree) (r : Request) → IsRequest base.columns written t r → TakesColumnBelow r
   taken_below (counted condition) t (request.Count p) means = tt
-  taken_below (counted condition) t (request.Sum c p) means = absurd means
-  taken_below (counted condition) t (request.Avg c p) means = absurd means
-  taken_below (counted condition) t (request.Max c p) means = absurd means
-  taken_below (taken take name condition) t (request.Count p) means = absurd means
-  taken_below (taken take name condition) t (request.Sum c p) means = column_below name c means.1
-  taken_below (taken take name condition) t (request.Avg c p) means = column_below name c means.1
-  taken_below (taken take name condition) t (request.Max c p) means = column_below name c means.1
+  taken_below (taken Sum name condition) t (request.Sum c p) means = column_below name c means.0
+  taken_below (taken Avg name condition) t (request.Avg c p) means = column_below name c means.0
+  taken_below (taken Max name condition) t (request.Max c p) means = column_below name c means.0
+  taken_below question t r means = absurd means
 
   -- a question that a line comes to fits the shape
   plan_fits : (line : CountedLine) (take : Take) (asked : Asked) → IsPlan base.columns base.public line (Ask take asked) → FitsShape base.secret.shape asked.column asked.rows

@@ -8,7 +8,8 @@ use Rattle.std.proofs.Math.Nat.{mul-div_cancel, dvd-mul_left, mul_comm}
 use Rattle.audit_types.specs.PrimitiveLines.{scaled_gcd}
 use Rattle.line_wire.specs.declared.reply.Reply.{Reply}
 use Rattle.line_wire.specs.declared.reply.Reply.TheVariants as reply
-use Rattle.question_plan.specs.Replies.{IsMean, TellsMean}
+use Rattle.line_wire.specs.declared.question.Take.TheVariants.{Avg}
+use Rattle.question_plan.specs.Replies.{IsMean, Tells}
 
 -- what divides a product and has no common divisor with one factor divides the other
 divides_other : (a b c : ℕ) → IsGcd a b 1 → b ∣ c * a → b ∣ c
@@ -61,7 +62,7 @@ module _ (sum : ℤ) (size : ℕ) (some : 0 < size) (num other : ℤ) (den divis
   same_num = cancel_ℤ num other size some (first.same ∙ ap (λ (d : ℕ). sum *ℤ pos d) same_den ∙ sym second.same)
 
 -- so one reply tells it
-pub one_mean : (sum : ℤ) (size : ℕ) (told other : Reply) → 0 < size → TellsMean sum size told → TellsMean sum size other → told ≡ other
+pub one_mean : (sum : ℤ) (size : ℕ) (told other : Reply) → 0 < size → Tells Avg size sum told → Tells Avg size sum other → told ≡ other
 one_mean sum size told other some first second =
-    first.told_is ∙ ap (λ (n : ℤ). reply.Avg n first.den) (same_num sum size some first.num second.num first.den second.den first.mean second.mean)
-    ∙ ap (λ (d : ℕ). reply.Avg second.num d) (same_den sum size some first.num second.num first.den second.den first.mean second.mean) ∙ sym second.told_is
+    first.3 ∙ ap (λ (n : ℤ). reply.Avg n first.1) (same_num sum size some first.0 second.0 first.1 second.1 first.2 second.2)
+    ∙ ap (λ (d : ℕ). reply.Avg second.0 d) (same_den sum size some first.0 second.0 first.1 second.1 first.2 second.2) ∙ sym second.3

@@ -1,5 +1,5 @@
 -- A line comes to one plan, whatever is secret.
-use Rattle.std.proofs.Common.{◌≡◌, ℕ, ◌<◌, List, [], ◌∷◌, length, Option, Some, None, refl, sym, ◌∙◌, ap, subst, arith, inl, inr}
+use Rattle.std.proofs.Common.{◌≡◌, ℕ, ◌<◌, List, [], ◌∷◌, length, Option, Some, None, refl, sym, ◌∙◌, ap, subst, arith, inl, inr, option_and_then}
 use Rattle.audit_types.specs.declared.records.Asked.{Asked}
 use Rattle.schema_json.specs.Columns.{Column}
 use Rattle.table_load.specs.Cells.{PublicView}
@@ -9,7 +9,7 @@ use Rattle.predicate_lang.specs.Laws.{OneMeaning}
 use Rattle.set_index.specs.Asked.{meaning}
 use Rattle.line_wire.specs.Lines.{CountedLine, text, long}
 use Rattle.line_wire.specs.Questions.{Written, counted, taken, text_of, question_of}
-use Rattle.line_wire.specs.Requests.{Requests, Refuses, HasColumnFault, HasBadCondition, column_fault, IsRequest, secret_of}
+use Rattle.line_wire.specs.Requests.{Requests, Refuses, HasBadCondition, column_fault, IsRequest, secret_of}
 use Rattle.line_wire.specs.declared.question.Take.{Take}
 use Rattle.line_wire.specs.declared.question.Take.TheVariants.{Sum, Avg, Max}
 use Rattle.line_wire.specs.declared.request.Request.{Request}
@@ -54,25 +54,14 @@ module _ (columns : List Column) (public : PublicView) where
 
   requests_same : (w : Written) (t : Tree) (r q : Request) → IsRequest columns w t r → IsRequest columns w t q → plan_of public r ≡ plan_of public q
   requests_same (counted condition) t (request.Count p) (request.Count q) r_is q_is = ap (λ (u : Tree). Ready (reply.Count (length (meaning public u)))) (r_is ∙ sym q_is)
-  requests_same (counted condition) t (request.Count p) (request.Sum d q) r_is q_is = absurd q_is
-  requests_same (counted condition) t (request.Count p) (request.Avg d q) r_is q_is = absurd q_is
-  requests_same (counted condition) t (request.Count p) (request.Max d q) r_is q_is = absurd q_is
-  requests_same (counted condition) t (request.Sum c p) q r_is q_is = absurd r_is
-  requests_same (counted condition) t (request.Avg c p) q r_is q_is = absurd r_is
-  requests_same (counted condition) t (request.Max c p) q r_is q_is = absurd r_is
-  requests_same (taken k name condition) t (request.Count p) q r_is q_is = absurd r_is
-  requests_same (taken k name condition) t (request.Sum c p) (request.Count q) r_is q_is = absurd q_is
-  requests_same (taken k name condition) t (request.Sum c p) (request.Sum d q) r_is q_is = over_same Sum c d (tree_of p) (tree_of q) (some_same c d (secret_of columns name) r_is.1 q_is.1) (r_is.2 ∙ sym q_is.2)
-  requests_same (taken k name condition) t (request.Sum c p) (request.Avg d q) r_is q_is = absurd (let e : Sum ≡ Avg = sym r_is.0 ∙ q_is.0 in cc)
-  requests_same (taken k name condition) t (request.Sum c p) (request.Max d q) r_is q_is = absurd (let e : Sum ≡ Max = sym r_is.0 ∙ q_is.0 in cc)
-  requests_same (taken k name condition) t (request.Avg c p) (request.Count q) r_is q_is = absurd q_is
-  requests_same (taken k name condition) t (request.Avg c p) (request.Sum d q) r_is q_is = absurd (let e : Avg ≡ Sum = sym r_is.0 ∙ q_is.0 in cc)
-  requests_same (taken k name condition) t (request.Avg c p) (request.Avg d q) r_is q_is = over_same Avg c d (tree_of p) (tree_of q) (some_same c d (secret_of columns name) r_is.1 q_is.1) (r_is.2 ∙ sym q_is.2)
-  requests_same (taken k name condition) t (request.Avg c p) (request.Max d q) r_is q_is = absurd (let e : Avg ≡ Max = sym r_is.0 ∙ q_is.0 in cc)
-  requests_same (taken k name condition) t (request.Max c p) (request.Count q) r_is q_is = absurd q_is
-  requests_same (taken k name condition) t (request.Max c p) (request.Sum d q) r_is q_is = absurd (let e : Max ≡ Sum = sym r_is.0 ∙ q_is.0 in cc)
-  requests_same (taken k name condition) t (request.Max c p) (request.Avg d q) r_is q_is = absurd (let e : Max ≡ Avg = sym r_is.0 ∙ q_is.0 in cc)
-  requests_same (taken k name condition) t (request.Max c p) (request.Max d q) r_is q_is = over_same Max c d (tree_of p) (tree_of q) (some_same c d (secret_of columns name) r_is.1 q_is.1) (r_is.2 ∙ sym q_is.2)
+  requests_same (counted condition) t (request.Count p) q r_is q_is = absurd q_is
+  requests_same (taken Sum name condition) t (request.Sum c p) (request.Sum d q) r_is q_is = over_same Sum c d (tree_of p) (tree_of q) (some_same c d (secret_of columns name) r_is.0 q_is.0) (r_is.1 ∙ sym q_is.1)
+  requests_same (taken Sum name condition) t (request.Sum c p) q r_is q_is = absurd q_is
+  requests_same (taken Avg name condition) t (request.Avg c p) (request.Avg d q) r_is q_is = over_same Avg c d (tree_of p) (tree_of q) (some_same c d (secret_of columns name) r_is.0 q_is.0) (r_is.1 ∙ sym q_is.1)
+  requests_same (taken Avg name condition) t (request.Avg c p) q r_is q_is = absurd q_is
+  requests_same (taken Max name condition) t (request.Max c p) (request.Max d q) r_is q_is = over_same Max c d (tree_of p) (tree_of q) (some_same c d (secret_of columns name) r_is.0 q_is.0) (r_is.1 ∙ sym q_is.1)
+  requests_same (taken Max name condition) t (request.Max c p) q r_is q_is = absurd q_is
+  requests_same question t r q r_is q_is = absurd r_is
 
 -- ---- refusals
 
@@ -86,13 +75,19 @@ no_fault : (o : Option LineFault) (f : LineFault) → o ≡ None → o ≡ Some 
 no_fault o f first second = let both : None ≡ Some f = sym first ∙ second in cc
 
 module _ (columns : List Column) (o : Option Written) where
-  -- a fault of the column, and another
-  column_twice : (f g : LineFault) → HasColumnFault columns o f → HasColumnFault columns o g → f ≡ g
-  column_twice f g first second =
-      let both : Some f ≡ Some g = sym first.bad ∙ ap (column_fault columns) (one_question o first.question second.question first.writes second.writes) ∙ second.bad in cc
+  -- the fault of the column that the question names
+  abbrev has_fault : LineFault → Type 0
+  has_fault f = option_and_then (column_fault columns) o ≡ Some f
 
-  column_condition : (f : LineFault) (at : ℕ) → HasColumnFault columns o f → HasBadCondition columns o at → ⊥
-  column_condition f at first second = no_fault (column_fault columns second.question) f second.good (ap (column_fault columns) (one_question o second.question first.question second.writes first.writes) ∙ first.bad)
+  column_twice : (f g : LineFault) → has_fault f → has_fault g → f ≡ g
+  column_twice f g first second = let both : Some f ≡ Some g = sym first ∙ second in cc
+
+  -- no line has a column at fault and a good one, or no question
+  good_column : (f : LineFault) (w : Written) → has_fault f → o ≡ Some w → column_fault columns w ≡ None → ⊥
+  good_column f w bad writes good = no_fault (option_and_then (column_fault columns) o) f (ap (option_and_then (column_fault columns)) writes ∙ good) bad
+
+  no_column : (f : LineFault) → o ≡ None → has_fault f → ⊥
+  no_column f none bad = no_fault (option_and_then (column_fault columns) o) f (ap (option_and_then (column_fault columns)) none) bad
 
   condition_twice : (at other : ℕ) → HasBadCondition columns o at → HasBadCondition columns o other → at ≡ other
   condition_twice at other first second =
@@ -104,20 +99,20 @@ module _ (columns : List Column) (o : Option Written) where
   same_fault fault.NoMemory g a b first second a_is b_is = absurd cc
   same_fault f fault.NoMemory a b first second a_is b_is = absurd cc
   same_fault fault.Line fault.Line a b first second a_is b_is = refl
-  same_fault fault.Line fault.Column a b first second a_is b_is = absurd (no_question o second.question first second.writes)
-  same_fault fault.Line fault.Kind a b first second a_is b_is = absurd (no_question o second.question first second.writes)
+  same_fault fault.Line fault.Column a b first second a_is b_is = absurd (no_column fault.Column first second)
+  same_fault fault.Line fault.Kind a b first second a_is b_is = absurd (no_column fault.Kind first second)
   same_fault fault.Line (fault.Condition n) a b first second a_is b_is = absurd (no_question o second.question first second.writes)
-  same_fault fault.Column fault.Line a b first second a_is b_is = absurd (no_question o first.question second first.writes)
+  same_fault fault.Column fault.Line a b first second a_is b_is = absurd (no_column fault.Column second first)
   same_fault fault.Column fault.Column a b first second a_is b_is = refl
   same_fault fault.Column fault.Kind a b first second a_is b_is = column_twice fault.Column fault.Kind first second
-  same_fault fault.Column (fault.Condition n) a b first second a_is b_is = absurd (column_condition fault.Column n first second)
-  same_fault fault.Kind fault.Line a b first second a_is b_is = absurd (no_question o first.question second first.writes)
+  same_fault fault.Column (fault.Condition n) a b first second a_is b_is = absurd (good_column fault.Column second.question first second.writes second.good)
+  same_fault fault.Kind fault.Line a b first second a_is b_is = absurd (no_column fault.Kind second first)
   same_fault fault.Kind fault.Column a b first second a_is b_is = column_twice fault.Kind fault.Column first second
   same_fault fault.Kind fault.Kind a b first second a_is b_is = refl
-  same_fault fault.Kind (fault.Condition n) a b first second a_is b_is = absurd (column_condition fault.Kind n first second)
+  same_fault fault.Kind (fault.Condition n) a b first second a_is b_is = absurd (good_column fault.Kind second.question first second.writes second.good)
   same_fault (fault.Condition m) fault.Line a b first second a_is b_is = absurd (no_question o first.question second first.writes)
-  same_fault (fault.Condition m) fault.Column a b first second a_is b_is = absurd (column_condition fault.Column m second first)
-  same_fault (fault.Condition m) fault.Kind a b first second a_is b_is = absurd (column_condition fault.Kind m second first)
+  same_fault (fault.Condition m) fault.Column a b first second a_is b_is = absurd (good_column fault.Column first.question second first.writes first.good)
+  same_fault (fault.Condition m) fault.Kind a b first second a_is b_is = absurd (good_column fault.Kind first.question second first.writes first.good)
   same_fault (fault.Condition m) (fault.Condition n) a b first second a_is b_is = ap (λ (at : ℕ). fault.Condition at) (condition_twice m n first second)
 
   one_fault : (f g : LineFault) (a b : Reply) → Refuses columns o f → Refuses columns o g → refusal f ≡ Some a → refusal g ≡ Some b → a ≡ b
@@ -126,8 +121,8 @@ module _ (columns : List Column) (o : Option Written) where
   -- and none where it is asked
   asked_or_refused : OneMeaning → (f : LineFault) (a : Reply) (r : Request) → Refuses columns o f → refusal f ≡ Some a → Requests columns o r → ⊥
   asked_or_refused meanings fault.Line a r refuses is asks = no_question o asks.question refuses asks.writes
-  asked_or_refused meanings fault.Column a r refuses is asks = no_fault (column_fault columns asks.question) fault.Column asks.good (ap (column_fault columns) (one_question o asks.question refuses.question asks.writes refuses.writes) ∙ refuses.bad)
-  asked_or_refused meanings fault.Kind a r refuses is asks = no_fault (column_fault columns asks.question) fault.Kind asks.good (ap (column_fault columns) (one_question o asks.question refuses.question asks.writes refuses.writes) ∙ refuses.bad)
+  asked_or_refused meanings fault.Column a r refuses is asks = good_column fault.Column asks.question refuses asks.writes asks.good
+  asked_or_refused meanings fault.Kind a r refuses is asks = good_column fault.Kind asks.question refuses asks.writes asks.good
   asked_or_refused meanings (fault.Condition at) a r refuses is asks =
       meanings.none columns (text_of refuses.question) asks.tree at (subst (λ (w : Written). Means columns (text_of w) asks.tree) (one_question o asks.question refuses.question asks.writes refuses.writes) asks.means) refuses.place.refuses
   asked_or_refused meanings fault.NoMemory a r refuses is asks = cc

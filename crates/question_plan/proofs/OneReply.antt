@@ -74,10 +74,10 @@ judged_once forms setting history column rows v w first second = one_judgement f
 pub told_once : OneAnswerIsTold
 told_once Sum size a b told first second = let both : reply.Sum a ≡ reply.Sum b = sym first ∙ second in cc
 told_once Avg size a b told first second =
-    let both : reply.Avg first.num first.den ≡ reply.Avg second.num second.den = sym first.told_is ∙ second.told_is in
-    let num : first.num ≡ second.num = cc in
-    let den : first.den ≡ second.den = cc in
-    cancel_ℤ a b first.den first.mean.some (sym first.mean.same ∙ ap (λ (z : ℤ). z *ℤ pos size) num ∙ second.mean.same ∙ ap (λ (d : ℕ). b *ℤ pos d) (sym den))
+    let both : reply.Avg first.0 first.1 ≡ reply.Avg second.0 second.1 = sym first.3 ∙ second.3 in
+    let num : first.0 ≡ second.0 = cc in
+    let den : first.1 ≡ second.1 = cc in
+    cancel_ℤ a b first.1 first.2.some (sym first.2.same ∙ ap (λ (z : ℤ). z *ℤ pos size) num ∙ second.2.same ∙ ap (λ (d : ℕ). b *ℤ pos d) (sym den))
 told_once Max size a b told first second = let both : reply.Max a ≡ reply.Max b = sym first ∙ second in cc
 
 -- two replies that tell one denial, or that the history is full

@@ -54,7 +54,7 @@ outcomes_can_be_told sums maxima secret history take asked outcome is askable du
 -- each outcome has a reply that tells it
 some_telling : (take : Take) (size : ℕ) (answer : ℤ) → 0 < size → (told : Reply) × Tells take size answer told
 some_telling Sum size answer some = (reply.Sum answer, refl)
-some_telling Avg size answer some = let mean = some_mean answer size some in (reply.Avg mean.0 mean.1, record { num = mean.0; den = mean.1; mean = mean.2; told_is = refl })
+some_telling Avg size answer some = let mean = some_mean answer size some in (reply.Avg mean.0 mean.1, (mean.0, mean.1, mean.2, refl))
 some_telling Max size answer some = (reply.Max answer, refl)
 
 pub some_told : SomeReplyTells

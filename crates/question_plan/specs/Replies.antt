@@ -79,17 +79,10 @@ pub record IsMean (sum : ℤ) (size : ℕ) (num : ℤ) (den : ℕ) : Type 0 wher
   pub same : num *ℤ pos size ≡ sum *ℤ pos den
   pub lowest : IsGcd (unsigned_abs num) den 1
 
--- the reply is this average over so many rows
-pub record TellsMean (sum : ℤ) (size : ℕ) (told : Reply) : Type 0 where
-  pub num : ℤ
-  pub den : ℕ
-  pub mean : IsMean sum size num den
-  pub told_is : told ≡ reply.Avg num den
-
 -- the reply that tells an answer over so many rows
 abbrev pub Tells : Take → ℕ → ℤ → Reply → Type 0
 Tells Sum size answer told = told ≡ reply.Sum answer
-Tells Avg size answer told = TellsMean answer size told
+Tells Avg size answer told = (num : ℤ) × (den : ℕ) × IsMean answer size num den × (told ≡ reply.Avg num den)
 Tells Max size answer told = told ≡ reply.Max answer
 
 -- the reply that tells an outcome of a question over so many rows

@@ -20,9 +20,8 @@ bytes_of replies = flat_map (λ reply. reply.bytes) replies
 -- one reply to each line, each due after the history and the records of the replies before it
 abbrev pub AreReplies : {R L : Type 0} → (List R → L → Replied R → Type 0) → List R → List L → List (Replied R) → Type 0
 AreReplies rule history [] [] = Unit {0}
-AreReplies rule history [] (reply ∷ replies) = ⊥
-AreReplies rule history (line ∷ lines) [] = ⊥
 AreReplies rule history (line ∷ lines) (reply ∷ replies) = rule history line reply × AreReplies rule (history ++ option_to_list reply.added) lines replies
+AreReplies rule history lines replies = ⊥
 
 -- the first groups of so many lines each
 abbrev pub groups : {L : Type 0} → ℕ → ℕ → List L → List L

@@ -3,7 +3,8 @@ ghost use Rattle.std.specs.Prelude.{◌≡◌, ◌<◌, ◌≤◌, pos, unsigned
 ghost use Rattle.std.specs.Int.{IsGcd};
 ghost use Rattle.audit_types.specs.Limits.{most_rows, most_answer};
 ghost use Rattle.line_wire.specs.Reply.{IsInRange};
-ghost use Rattle.question_plan.specs.Replies.{TellsMean};
+ghost use Rattle.line_wire.specs.declared.question.Take.TheVariants.{Avg};
+ghost use Rattle.question_plan.specs.Replies.{Tells};
 
 use int_rows::gcd;
 use line_wire::Reply;
@@ -29,7 +30,7 @@ pub(crate) fn average(sum: i64, size: u16) -> Reply
     requires some { 0 < size }
     requires at_most { size ≤ most_rows }
     requires small { unsigned_abs sum ≤ most_answer }
-    ensures tells { TellsMean sum size result }
+    ensures tells { Tells Avg size sum result }
     ensures in_range { IsInRange result }
 {
     let divisor = divisor_of(sum, size);

@@ -1,6 +1,6 @@
 -- The chain of faults, behind what was read.
 use Rattle.std.proofs.Common.{◌≡◌, ℕ, Bool, true, false, cond, List, [], ◌∷◌, length, filter, map, Option, Some, None, refl, sym, ap, ◌∙◌, String, string_bytes, subst, ◌&&◌}
-use Rattle.std.specs.Prelude.{if◌then◌else◌, is_none, option_map, option_and_then, unwrap_or, Result, Ok, Err, nat_lt, not, ◌||◌, IsUtf8, count_by, suc}
+use Rattle.std.specs.Prelude.{if◌then◌else◌, is_none, option_and_then, Result, Err, nat_lt, not, ◌||◌, IsUtf8, count_by, suc}
 use Rattle.std.proofs.lemmas.List.{length-map}
 use Rattle.std.proofs.lemmas.List.Sums.{length-filter}
 use Rattle.std.specs.List.{list_any, list_all}
@@ -9,19 +9,17 @@ use Rattle.std.proofs.lemmas.Str.{IsUtf8-from_is_utf8, is_utf8-from_IsUtf8}
 use Rattle.std.specs.declared.alloc.Global.{Global}
 use Rattle.serde_json.specs.Data.{Data}
 use Rattle.serde_json.specs.Read.{read}
-use Rattle.schema_json.specs.Columns.{Column, has_public, has_good_names, repeats, too_many, is_good_name, is_secret, is_public, secret_count}
+use Rattle.schema_json.specs.Columns.{Column, has_public, has_good_names, too_many, is_good_name, is_secret, is_public, secret_count}
 use Rattle.schema_json.specs.Kept.{column_of_entry}
 use Rattle.schema_json.specs.Reading.{value_of, columns_of, schema_of, checked, most_schema, IsFaultOf}
 use Rattle.schema_json.specs.declared.roles.Role.{Role}
 use Rattle.schema_json.specs.declared.faults.SchemaFault.{SchemaFault}
-use Rattle.schema_json.specs.declared.faults.SchemaFault.TheVariants.{TooLong, NotJson, Shape, BadName, Repeated, TooMany}
+use Rattle.schema_json.specs.declared.faults.SchemaFault.TheVariants.{TooLong, NotJson}
 
 -- the tests in their order, over what each of them reads
 abbrev chain_of : Bool → Option Data → Option (List Column) → Result (List Column) SchemaFault
 chain_of long value columns =
-    if long then Err TooLong else (if is_none value then Err NotJson else (if is_none columns then Err Shape
-    else (if unwrap_or (option_map (λ cs. not (has_good_names cs)) columns) false then Err BadName else (if unwrap_or (option_map repeats columns) false then Err Repeated
-    else (if unwrap_or (option_map too_many columns) false then Err TooMany else Ok (unwrap_or columns []))))))
+    if long then Err TooLong else (if is_none value then Err NotJson else checked columns)
 
 -- the first fault of bytes is that of their length, value and columns
 chain : (bytes : List ℕ) → schema_of bytes ≡ chain_of (nat_lt most_schema (length bytes)) (value_of bytes) (option_and_then columns_of (value_of bytes))

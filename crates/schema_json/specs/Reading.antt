@@ -1,5 +1,5 @@
 -- The schema that bytes mean, and the first fault of bytes that mean none.
-use Rattle.std.specs.Prelude.{◌≡◌, ℕ, suc, Bool, true, false, not, if◌then◌else◌, List, [], ◌∷◌, length, Option, Some, None, is_none, option_map, option_and_then, unwrap_or, map, String, Vec, Result, Ok, Err, nat_lt, codes, ◌==◌}
+use Rattle.std.specs.Prelude.{◌≡◌, ℕ, suc, true, false, not, if◌then◌else◌, List, [], ◌∷◌, length, Option, Some, None, is_none, option_map, option_and_then, unwrap_or, map, String, Vec, Result, Ok, Err, nat_lt, codes, ◌==◌}
 use Rattle.std.specs.Str.{bytes_eq, is_utf8}
 use Rattle.serde_json.specs.Data.{Data, Items, no_items, item, Members, no_members, member}
 use Rattle.serde_json.specs.Read.{read}
@@ -32,9 +32,8 @@ role_of word = if bytes_eq word (codes "text") then Some role.Text else (if byte
 
 -- a name and a role as a column, where both are there
 abbrev pub column_with : Option (List ℕ) → Option Role → Option Column
-column_with None role = None
-column_with (Some name) None = None
 column_with (Some name) (Some r) = Some (record { name = name; role = r })
+column_with name role = None
 
 -- an object of the two keys `name` and `is`
 unfoldable pub column_of : Data → Option Column
@@ -61,37 +60,18 @@ columns_of d = option_and_then with_public (option_and_then columns_in (listed_i
 abbrev pub columns_or_none : List ℕ → Option (List Column)
 columns_or_none bytes = option_and_then columns_of (value_of bytes)
 
--- whether the bytes list columns that pass the test
-abbrev pub any_column : (List Column → Bool) → List ℕ → Bool
-any_column test bytes = unwrap_or (option_map test (columns_or_none bytes)) false
-
 -- the most bytes of a schema
 abbrev pub most_schema : ℕ
 most_schema = 65536
 
--- whether a fault holds: each is one test of what the bytes list
-abbrev pub has_fault : SchemaFault → List ℕ → Bool
-has_fault TooLong bytes = nat_lt most_schema (length bytes)
-has_fault NotJson bytes = is_none (value_of bytes)
-has_fault Shape bytes = is_none (columns_or_none bytes)
-has_fault BadName bytes = any_column (λ columns. not (has_good_names columns)) bytes
-has_fault Repeated bytes = any_column repeats bytes
-has_fault TooMany bytes = any_column too_many bytes
-has_fault NoMemory bytes = false
-
--- the first of the faults that holds, and else the columns
-abbrev pub first_fault : List SchemaFault → List ℕ → Result (List Column) SchemaFault
-first_fault [] bytes = Ok (unwrap_or (columns_or_none bytes) [])
-first_fault (f ∷ faults) bytes = if has_fault f bytes then Err f else first_fault faults bytes
-
--- the columns that bytes mean, or their first fault
-abbrev pub schema_of : List ℕ → Result (List Column) SchemaFault
-schema_of bytes = first_fault (TooLong ∷ NotJson ∷ Shape ∷ BadName ∷ Repeated ∷ TooMany ∷ []) bytes
-
--- the same, behind the faults that come before the columns
+-- the first fault of the columns that are listed, and else these columns
 abbrev pub checked : Option (List Column) → Result (List Column) SchemaFault
 checked None = Err Shape
 checked (Some columns) = if not (has_good_names columns) then Err BadName else (if repeats columns then Err Repeated else (if too_many columns then Err TooMany else Ok columns))
+
+-- the columns that bytes mean, or their first fault
+abbrev pub schema_of : List ℕ → Result (List Column) SchemaFault
+schema_of bytes = if nat_lt most_schema (length bytes) then Err TooLong else (if is_none (value_of bytes) then Err NotJson else checked (columns_or_none bytes))
 
 -- a fault is the bytes' own, unless memory was wanting
 abbrev pub IsFaultOf : SchemaFault → Result (List Column) SchemaFault → Type 0

@@ -7,7 +7,7 @@ use Rattle.std.proofs.lemmas.Str.{IsUtf8-from_is_utf8, is_utf8-from_IsUtf8}
 use Rattle.std.proofs.lemmas.Bool.{false_from_ne_true}
 use Rattle.csv.specs.Records.{field_at}
 use Rattle.schema_json.specs.declared.roles.Role.{Role}
-use Rattle.table_load.specs.Faults.{or_else}
+use Rattle.std.specs.Option.{option_or}
 use Rattle.table_load.specs.Reading.{cell_fault, cells_fault}
 
 -- a place below the number of fields has a field
@@ -35,7 +35,7 @@ texts_from fields k within = ap (list_all is_utf8) (drop_here fields k [] within
 
 -- the first fault of the fields from a place on is that of the one there, or of the later ones
 pub cells_fault_from : (line k : ℕ) (roles : List Role) (fields : List (List ℕ)) (role : Role) → k < length roles → k < length fields
-    → cells_fault line k (drop k roles) (drop k fields) ≡ or_else (cell_fault (get_or roles k role) line k (get_or fields k [])) (cells_fault line (k + 1) (drop (k + 1) roles) (drop (k + 1) fields))
+    → cells_fault line k (drop k roles) (drop k fields) ≡ option_or (cell_fault (get_or roles k role) line k (get_or fields k [])) (cells_fault line (k + 1) (drop (k + 1) roles) (drop (k + 1) fields))
 cells_fault_from line k roles fields role in_roles in_fields =
     ap (λ rs. cells_fault line k rs (drop k fields)) (drop_here roles k role in_roles)
     ∙ ap (cells_fault line k (get_or roles k role ∷ drop (k + 1) roles)) (drop_here fields k [] in_fields)

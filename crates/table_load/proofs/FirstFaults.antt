@@ -5,13 +5,13 @@ use Rattle.std.proofs.lemmas.Bool.{lt-ltb, le-ltb}
 use Rattle.std.proofs.lemmas.List.{take_all}
 use Rattle.schema_json.specs.Columns.{Column}
 use Rattle.schema_json.specs.declared.roles.Role.{Role}
-use Rattle.table_load.specs.Faults.{or_else}
+use Rattle.std.specs.Option.{option_or}
 use Rattle.table_load.specs.Reading.{Fields, record_fault, records_fault, count_fault, data_fault, header_fault, names_are, roles_of, file_fault, records_of}
 use Rattle.table_load.specs.declared.faults.TableFault.{TableFault}
 use Rattle.table_load.specs.declared.faults.TableFault.TheVariants.{TooLong, Header, TooManyRows, NoRows}
 
 -- where the first of two is none, so is the other or it counts
-pub none_first : (a b : Option TableFault) → or_else a b ≡ None → (a ≡ None) × (b ≡ None)
+pub none_first : (a b : Option TableFault) → option_or a b ≡ None → (a ≡ None) × (b ≡ None)
 none_first None b is = (refl, is)
 none_first (Some fault) b is = absurd (cc)
 
@@ -20,13 +20,13 @@ pub good-append : (roles : List Role) (line : ℕ) (xs ys : List Fields) → rec
 good-append roles line [] ys good = ap (λ n. records_fault roles n ys) (omega arith)
 good-append roles line (x ∷ xs) ys good =
     let parts = none_first (record_fault roles line x) (records_fault roles (line + 1) xs) good in
-    ap (λ fault. or_else fault (records_fault roles (line + 1) (xs ++ ys))) parts.0
+    ap (λ fault. option_or fault (records_fault roles (line + 1) (xs ++ ys))) parts.0
     ∙ good-append roles (line + 1) xs ys parts.1
     ∙ ap (λ n. records_fault roles n ys) (omega arith)
 
 -- a record without a fault joins those before it
 pub good_more : (roles : List Role) (rows : List Fields) (r : Fields) → records_fault roles 2 rows ≡ None → record_fault roles (length rows + 2) r ≡ None → records_fault roles 2 (rows ++ r ∷ []) ≡ None
-good_more roles rows r good fine = good-append roles 2 rows (r ∷ []) good ∙ ap (λ fault. or_else fault None) fine
+good_more roles rows r good fine = good-append roles 2 rows (r ∷ []) good ∙ ap (λ fault. option_or fault None) fine
 
 -- the first so many of records that have so many in front
 take_front : (n : ℕ) (xs ys : List Fields) → length xs ≤ n → take n (xs ++ ys) ≡ xs ++ take (n - length xs) ys
@@ -44,8 +44,8 @@ pub bad_row : (roles : List Role) (rows : List Fields) (r : Fields) (rest : List
     → data_fault roles (rows ++ r ∷ rest) ≡ Some fault
 bad_row roles rows r rest fault few good bad =
     let one = take_one (1024 - length rows) r rest (omega (arith, few)) in
-    ap (λ rs. or_else (records_fault roles 2 rs) (count_fault (rows ++ r ∷ rest))) (take_front 1024 rows (r ∷ rest) (omega (arith, few)) ∙ ap (λ rs. rows ++ rs) one.1)
-    ∙ ap (λ f. or_else f (count_fault (rows ++ r ∷ rest))) (good-append roles 2 rows (r ∷ take one.0 rest) good ∙ ap (λ f. or_else f (records_fault roles (length rows + 2 + 1) (take one.0 rest))) bad)
+    ap (λ rs. option_or (records_fault roles 2 rs) (count_fault (rows ++ r ∷ rest))) (take_front 1024 rows (r ∷ rest) (omega (arith, few)) ∙ ap (λ rs. rows ++ rs) one.1)
+    ∙ ap (λ f. option_or f (count_fault (rows ++ r ∷ rest))) (good-append roles 2 rows (r ∷ take one.0 rest) good ∙ ap (λ f. option_or f (records_fault roles (length rows + 2 + 1) (take one.0 rest))) bad)
 
 -- a record behind 1,024 is one too many
 count_many : (rows : List Fields) (r : Fields) (rest : List Fields) → length rows ≡ 1024 → count_fault (rows ++ r ∷ rest) ≡ Some TooManyRows
@@ -56,8 +56,8 @@ count_many (x ∷ rows) r rest full = ap (λ b. cond b (Some TooManyRows) None) 
 pub many_rows : (roles : List Role) (rows : List Fields) (r : Fields) (rest : List Fields) → length rows ≡ 1024 → records_fault roles 2 rows ≡ None → data_fault roles (rows ++ r ∷ rest) ≡ Some TooManyRows
 many_rows roles rows r rest full good =
     let none : 1024 - length rows ≡ 0 = omega (arith, full) in
-    ap (λ rs. or_else (records_fault roles 2 rs) (count_fault (rows ++ r ∷ rest))) (take_front 1024 rows (r ∷ rest) (omega (arith, full)) ∙ ap (λ k. rows ++ take k (r ∷ rest)) none ∙ append-nil rows)
-    ∙ ap (λ f. or_else f (count_fault (rows ++ r ∷ rest))) good
+    ap (λ rs. option_or (records_fault roles 2 rs) (count_fault (rows ++ r ∷ rest))) (take_front 1024 rows (r ∷ rest) (omega (arith, full)) ∙ ap (λ k. rows ++ take k (r ∷ rest)) none ∙ append-nil rows)
+    ∙ ap (λ f. option_or f (count_fault (rows ++ r ∷ rest))) good
     ∙ count_many rows r rest full
 
 -- 1 to 1,024 records are few enough
@@ -68,8 +68,8 @@ count_fine (x ∷ rows) some few = ap (λ b. cond b (Some TooManyRows) None) (le
 -- 1 to 1,024 records without a fault
 pub good_rows : (roles : List Role) (rows : List Fields) → 0 < length rows → length rows ≤ 1024 → records_fault roles 2 rows ≡ None → data_fault roles rows ≡ None
 good_rows roles rows some few good =
-    ap (λ rs. or_else (records_fault roles 2 rs) (count_fault rows)) (take_all 1024 rows few)
-    ∙ ap (λ f. or_else f (count_fault rows)) good
+    ap (λ rs. option_or (records_fault roles 2 rs) (count_fault rows)) (take_all 1024 rows few)
+    ∙ ap (λ f. option_or f (count_fault rows)) good
     ∙ count_fine rows some few
 
 -- a file that is short enough is judged by its records

@@ -37,15 +37,13 @@ cells_at p place = slice_index_or p.columns place hidden
 
 -- the numbers of a column of numbers
 abbrev pub numbers_of : Cells → List ℤ
-numbers_of hidden = []
 numbers_of (numbers xs) = xs
-numbers_of (texts ts) = []
+numbers_of cells = []
 
 -- the texts of a column of texts
 abbrev pub texts_of : Cells → List (List ℕ)
-texts_of hidden = []
-texts_of (numbers xs) = []
 texts_of (texts ts) = ts
+texts_of cells = []
 
 -- the number of a row in a column, 0 where there is none
 abbrev pub number_of_cell : PublicView → ℕ → ℕ → ℤ

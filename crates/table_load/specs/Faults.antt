@@ -15,11 +15,6 @@ fault_number TooManyRows = 7
 fault_number NoRows = 8
 fault_number NoMemory = 9
 
--- the first of two faults
-abbrev pub or_else : Option TableFault → Option TableFault → Option TableFault
-or_else None later = later
-or_else (Some fault) later = Some fault
-
 -- a value, unless there is a fault
 abbrev pub unless_fault : {X : Type 0} → Option TableFault → X → Result X TableFault
 unless_fault None x = Ok x

@@ -1,5 +1,5 @@
 -- How a field spells a whole number.
-use Rattle.std.specs.Prelude.{◌≡◌, ◌≢◌, ℕ, ◌+◌, ◌-◌, ◌*◌, ◌^◌, ℤ, pos, neg_ℤ, unsigned_abs, Bool, true, false, not, cond, List, [], ◌∷◌, ◌++◌, replicate, Option, Some, None, nat_lt, ◌==◌}
+use Rattle.std.specs.Prelude.{◌≡◌, ◌≢◌, ℕ, ◌+◌, ◌-◌, ◌*◌, ◌^◌, ℤ, pos, neg_ℤ, unsigned_abs, Bool, true, false, not, cond, List, [], ◌∷◌, ◌++◌, replicate, Option, Some, None, option_map, nat_lt, ◌==◌}
 use Rattle.std.specs.List.{list_all}
 use Rattle.std.specs.Char.{is_ascii_digit}
 
@@ -29,8 +29,7 @@ digits_number (b ∷ bytes) = cond (is_ascii_digit b) (tail_number 0 (b ∷ byte
 
 -- a size with its sign
 abbrev pub option_sign : Bool → Option ℕ → Option ℤ
-option_sign minus None = None
-option_sign minus (Some n) = Some (cond minus (neg_ℤ (pos n)) (pos n))
+option_sign minus size = option_map (λ n. cond minus (neg_ℤ (pos n)) (pos n)) size
 
 -- the number behind the spaces at the front
 abbrev pub signed_number : List ℕ → Option ℤ

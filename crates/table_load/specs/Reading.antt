@@ -1,14 +1,14 @@
 -- The table that bytes mean, over the columns of a schema, and the first fault of bytes that mean none.
 use Rattle.std.specs.Prelude.{ℕ, ◌+◌, ℤ, Bool, true, false, ◌&&◌, not, cond, if◌then◌else◌, List, [], ◌∷◌, length, map, filter, take, Option, Some, None, nat_lt, ◌==◌}
 use Rattle.std.specs.List.{list_all}
+use Rattle.std.specs.Option.{option_or}
 use Rattle.std.specs.Str.{bytes_eq, is_utf8}
 use Rattle.audit_types.specs.Limits.{most_rows}
 use Rattle.csv.specs.Reading.{default_config, strip_bom, records}
 use Rattle.schema_json.specs.Columns.{Column, is_public}
 use Rattle.schema_json.specs.declared.roles.Role.{Role}
-use Rattle.schema_json.specs.declared.roles.Role.TheVariants.{Text, Number, Sum, Max}
+use Rattle.schema_json.specs.declared.roles.Role.TheVariants.{Text}
 use Rattle.table_load.specs.Numerals.{number_in, in_range}
-use Rattle.table_load.specs.Faults.{or_else}
 use Rattle.table_load.specs.declared.faults.TableFault.{TableFault}
 use Rattle.table_load.specs.declared.faults.TableFault.TheVariants.{TooLong, Header, Length, NotText, NotNumber, OutOfRange, TooManyRows, NoRows}
 use Rattle.table_load.specs.declared.layout.FileColumns.{FileColumns}
@@ -38,9 +38,7 @@ roles_of columns = map (λ c. c.role) columns
 -- whether a column's fields are numbers
 abbrev pub has_numbers : Role → Bool
 has_numbers Text = false
-has_numbers Number = true
-has_numbers Sum = true
-has_numbers Max = true
+has_numbers role = true
 
 -- the fault of a field that should be a number, and spells this one or none
 abbrev pub number_fault : ℕ → ℕ → Option ℤ → Option TableFault
@@ -53,9 +51,8 @@ cell_fault role line column field = cond (has_numbers role) (number_fault line c
 
 -- the first fault of the fields of a record, column by column, from this column on
 abbrev pub cells_fault : ℕ → ℕ → List Role → Fields → Option TableFault
-cells_fault line column [] fields = None
-cells_fault line column (role ∷ roles) [] = None
-cells_fault line column (role ∷ roles) (field ∷ fields) = or_else (cell_fault role line column field) (cells_fault line (column + 1) roles fields)
+cells_fault line column (role ∷ roles) (field ∷ fields) = option_or (cell_fault role line column field) (cells_fault line (column + 1) roles fields)
+cells_fault line column roles fields = None
 
 -- the first fault of the record that is numbered so
 abbrev pub record_fault : List Role → ℕ → Fields → Option TableFault
@@ -66,14 +63,13 @@ record_fault roles line fields =
 -- the first fault of records, from this number on
 abbrev pub records_fault : List Role → ℕ → List Fields → Option TableFault
 records_fault roles line [] = None
-records_fault roles line (r ∷ rs) = or_else (record_fault roles line r) (records_fault roles (line + 1) rs)
+records_fault roles line (r ∷ rs) = option_or (record_fault roles line r) (records_fault roles (line + 1) rs)
 
 -- whether the fields are these columns' names
 abbrev pub names_are : Fields → List Column → Bool
 names_are [] [] = true
-names_are [] (c ∷ columns) = false
-names_are (f ∷ fields) [] = false
 names_are (f ∷ fields) (c ∷ columns) = bytes_eq f c.name && names_are fields columns
+names_are fields columns = false
 
 -- the fault of having no row, or too many
 abbrev pub count_fault : List Fields → Option TableFault
@@ -82,7 +78,7 @@ count_fault (r ∷ rs) = cond (nat_lt most_rows (length (r ∷ rs))) (Some TooMa
 
 -- the first fault of the data records: that of the first 1,024, and else that of their number
 abbrev pub data_fault : List Role → List Fields → Option TableFault
-data_fault roles rs = or_else (records_fault roles 2 (take most_rows rs)) (count_fault rs)
+data_fault roles rs = option_or (records_fault roles 2 (take most_rows rs)) (count_fault rs)
 
 -- the first fault of the records, the header among them
 abbrev pub header_fault : List Column → List Fields → Option TableFault

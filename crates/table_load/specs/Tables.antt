@@ -4,7 +4,7 @@ use Rattle.audit_types.specs.History.{Secrets}
 use Rattle.schema_json.specs.Columns.{Column, is_secret}
 use Rattle.schema_json.specs.SecretShape.{shape_of}
 use Rattle.schema_json.specs.declared.roles.Role.{Role}
-use Rattle.schema_json.specs.declared.roles.Role.TheVariants.{Text, Number, Sum, Max}
+use Rattle.schema_json.specs.declared.roles.Role.TheVariants.{Text, Number}
 use Rattle.table_load.specs.Cells.{Cells, hidden, numbers, texts, PublicView, SecretView, TableView}
 use Rattle.table_load.specs.Faults.{unless_fault}
 use Rattle.table_load.specs.Numerals.{number_in, in_range}
@@ -43,8 +43,7 @@ text_column k rows = map (field_of k) rows
 abbrev pub cells_of : Role → ℕ → List Fields → Cells
 cells_of Text k rows = texts (text_column k rows)
 cells_of Number k rows = numbers (number_column k rows)
-cells_of Sum k rows = hidden
-cells_of Max k rows = hidden
+cells_of role k rows = hidden
 
 -- the place in the file of the next column
 abbrev pub place_after : FileColumns → Role → ℕ → ℕ

@@ -1,10 +1,10 @@
 -- The condition of a question is no longer than the longest text of the value that writes it.
-use Rattle.std.proofs.Common.{◌≡◌, ℕ, ◌≤◌, ◌&&◌, List, length, Option, Some, None, option_and_then, Ordering, Less, Equal, Greater, codes, subst, arith}
+use Rattle.std.proofs.Common.{◌≡◌, ℕ, ◌≤◌, ◌&&◌, List, length, Option, Some, None, option_and_then, option_map, Ordering, Less, Equal, Greater, codes, subst, arith}
 use Rattle.std.specs.Ordering.{match_ordering}
 use Rattle.serde_json.specs.Data.{Data, null, boolean, number, string, array, object, Members, no_members, member}
 use Rattle.serde_json.specs.Find.{get_member, get, as_str, as_object}
 use Rattle.line_wire.specs.Texts.{longest, members_longest}
-use Rattle.line_wire.specs.Questions.{Written, text_of, has_known_keys, may_be_text, over_column, with_column, asked_with, question_in}
+use Rattle.line_wire.specs.Questions.{Written, taken, text_of, has_known_keys, may_be_text, with_column, asked_with, question_in}
 use Rattle.line_wire.specs.declared.question.Ask.{Ask}
 use Rattle.line_wire.specs.declared.question.Ask.TheVariants.{Count, Of}
 use Rattle.line_wire.specs.declared.question.Take.{Take}
@@ -41,14 +41,14 @@ length-as_str (object ms) n short = tt
 abbrev condition_len : Written → ℕ
 condition_len w = length (text_of w)
 
-over_column_text : (take : Take) (name : Option (List ℕ)) (text : List ℕ) (n : ℕ) → length text ≤ n → AtMost condition_len n (over_column take name text)
-over_column_text take None text n short = tt
-over_column_text take (Some name) text n short = short
+taken_text : (take : Take) (name : Option (List ℕ)) (text : List ℕ) (n : ℕ) → length text ≤ n → AtMost condition_len n (option_map (λ c. taken take c text) name)
+taken_text take None text n short = tt
+taken_text take (Some name) text n short = short
 
 with_column_text : (ask : Ask) (column : Option Data) (text : List ℕ) (n : ℕ) → length text ≤ n → AtMost condition_len n (with_column ask column text)
 with_column_text Count None text n short = short
 with_column_text Count (Some d) text n short = tt
-with_column_text (Of take) column text n short = over_column_text take (option_and_then as_str column) text n short
+with_column_text (Of take) column text n short = taken_text take (option_and_then as_str column) text n short
 
 asked_text : (text : Option (List ℕ)) (ask : Option Ask) (column : Option Data) (n : ℕ) → AtMost length n text → AtMost condition_len n (asked_with text ask column)
 asked_text None ask column n short = tt

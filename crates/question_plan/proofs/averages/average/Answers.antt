@@ -12,13 +12,12 @@ returns-clause-tells c =
     let num : FitsSigned w64 c.quotient.result = search rules in
     let sum : to_z w64 (of_z w64 c.args.sum) ≡ c.args.sum = to_z-of_z w64 c.args.sum c.ranges.sum in
     let is = to_z-of_z w64 c.quotient.result num ∙ c.quotient.ensures ∙ ap (λ (z : ℤ). int_div z (pos c.divisor_of-divisor.result)) sum in
-    let divisor = subst (λ (z : ℤ). IsGcd (unsigned_abs z) c.args.size c.divisor_of-divisor.result) sum c.divisor_of-divisor.ensures.divisor in
-    record {
-      num = to_z w64 (of_z w64 c.quotient.result);
-      den = c.args.size / c.divisor_of-divisor.result;
-      mean = subst (λ (z : ℤ). IsMean c.args.sum c.args.size z (c.args.size / c.divisor_of-divisor.result)) (sym is) (mean c.args.sum c.args.size c.divisor_of-divisor.result c.requires.some divisor);
-      told_is = refl;
-    }
+    let divisor = subst (λ (z : ℤ). IsGcd (unsigned_abs z) c.args.size c.divisor_of-divisor.result) sum c.divisor_of-divisor.ensures.divisor in (
+      to_z w64 (of_z w64 c.quotient.result),
+      c.args.size / c.divisor_of-divisor.result,
+      subst (λ (z : ℤ). IsMean c.args.sum c.args.size z (c.args.size / c.divisor_of-divisor.result)) (sym is) (mean c.args.sum c.args.size c.divisor_of-divisor.result c.requires.some divisor),
+      refl,
+    )
 
 pub returns-clause-in_range : goal.returns-clause-in_range
 returns-clause-in_range c =
