@@ -1,12 +1,15 @@
 #!/usr/bin/env python3
 """Checks that what the documents name is there: links, paths, edits, clauses and words of specs/; that README shows replies of
-the demo, in order; and that the demo and the gate's case of the program have the same files.
+the demo, in order; that the demo and the gate's case of the program have the same files; and that the promise stands on no more
+lines of definitions than it may (promise_size.py).
 
     docs/check.py           # prints each name that isn't there; exits with 1 where there is one
 """
 import re
 import sys
 from pathlib import Path
+
+import promise_size
 
 TOP = Path(__file__).resolve().parent.parent
 PAGES = [TOP / "README.md", *sorted(TOP.glob("docs/*.md")), *sorted(TOP.glob("crates/*/README.md")), TOP / "bench/README.md"]
@@ -105,7 +108,7 @@ def main():
         for check in CHECKS
         for fault in check(page, page.read_text())
     ]
-    faults += [*stale_transcript(), *stale_copies()]
+    faults += [*stale_transcript(), *stale_copies(), *promise_size.too_long()]
     print("\n".join(faults) if faults else f"{len(PAGES)} pages, and all that they name is there")
     return 1 if faults else 0
 

@@ -1,0 +1,188 @@
+#!/usr/bin/env python3
+"""Counts what a reader of the promise must believe: the bare lines (no blank line, no comment, no import) of each definition
+that the promise's clauses of `run` stand on, each counted once. Words of the kit count as known, and so do the types of the code.
+
+    docs/promise_size.py             # a table by crate; exits with 1 where there are more lines than may be
+    docs/promise_size.py --list      # with each definition and its lines
+"""
+import re
+import sys
+from collections import defaultdict
+from pathlib import Path
+
+TOP = Path(__file__).resolve().parent.parent
+RUN = TOP / "crates/auditor_top/src/running.rt"
+CLAUSES = ("lives", "served", "any_moment", "undisclosed")
+DISCLOSURE = ("audit_types.specs.History", ("IsLegal", "IsUndisclosed"))
+MOST = {"the promise": 1000, "of it disclosure": 200}
+
+IMPORT = re.compile(r"(?:ghost )?use (?:Rattle\.)?([\w.]+?)(?:\.\{(.*)\}| as (\w+));?$")
+ITEM = re.compile(r"( *)(?:(?:abbrev|unfoldable|pub) )*(record |data )?([^\s:({})]+)")
+BLOCK = re.compile(r"(abbrev )?mutual$|module ")
+WORD = re.compile(r"[^\s(){},;]+")
+
+
+class Definition:
+    """The lines of a definition, or of several that call one another; `place` is how many stand above it in its file."""
+
+    def __init__(self, module, place, is_block):
+        self.module, self.place, self.depth = module, place, 2 if is_block else 0
+        self.lines, self.names, self.constructors, self.is_data = [], set(), set(), False
+
+    def take(self, line):
+        """Takes one more line, and the name that it defines."""
+        self.lines.append(line)
+        item = ITEM.match(line)
+        if not item or BLOCK.match(line):
+            return
+        indent, kind, name = item.groups()
+        if len(indent) == self.depth and name not in self.names:
+            self.names.add(name)
+            self.is_data = kind == "data "
+        elif self.is_data and len(indent) == self.depth + 2:
+            self.constructors.add(name)
+
+
+class Module:
+    """A file: the definitions of each name, and what it brings in by a name or as a module."""
+
+    def __init__(self, name, text):
+        self.name, self.definitions, self.items, self.modules = name, {}, {}, {}
+        self.blocks = []
+        for line in text.splitlines():
+            if IMPORT.match(line):
+                self.bring_in(*IMPORT.match(line).groups())
+
+    def bring_in(self, path, names, alias):
+        if alias:
+            self.modules[alias] = path
+        for name, _, other in (part.strip().partition(" as ") for part in (names or "").split(",")):
+            self.items[other or name] = (path, name)
+
+    def define(self, line):
+        """Takes a bare line of the file into its last definition, or begins the next with it."""
+        item, last = ITEM.match(line), self.blocks[-1] if self.blocks else None
+        begins = item and not item[1] and (last is None or last.depth or BLOCK.match(line) or item[3] not in last.names)
+        if begins:
+            last = Definition(self, len(self.blocks), bool(BLOCK.match(line)))
+            self.blocks.append(last)
+        last.take(line)
+        self.definitions |= {name: last for name in last.names | last.constructors}
+
+
+def read_specs(path):
+    text = path.read_text()
+    module = Module(f"{path.parts[-3]}.specs.{path.stem}", text)
+    for line in text.splitlines():
+        if line.strip() and not line.lstrip().startswith("--") and not IMPORT.match(line):
+            module.define(line)
+    return module
+
+
+MODULES = {module.name: module for module in map(read_specs, TOP.glob("crates/*/specs/*.antt"))}
+
+
+def find(module, word, place):
+    """The definition that a word names, if it is one of this repository: one of another file, or one that stands above."""
+    head, _, rest = word.rstrip(".").partition(".")
+    path, name = (module.modules[head], rest) if head in module.modules else module.items.get(head, (module.name, head))
+    found = MODULES[path].definitions.get(name.partition(".")[0]) if path in MODULES else None
+    return found if found and (found.module is not module or found.place <= place) else None
+
+
+def is_constructor(module, word, place):
+    found = find(module, word, place)
+    return found is not None and word.rpartition(".")[2] in found.constructors
+
+
+def variables(module, text, names, place):
+    """The variables that a line brings in: in brackets with their type, behind a `λ`, or on the left of an equation."""
+    found = {name for group in re.findall(r"[({]([^(){}:]+) :", text) for name in group.split()}
+    found |= set(re.findall(r"λ (\w+)\.", text))
+    left = text.partition(" = ")[0] if " = " in text else ""
+    if ITEM.match(text) and ITEM.match(text)[3] in names and " : " not in left:
+        found |= {word for word in WORD.findall(left) if word not in names and not is_constructor(module, word, place)}
+    return found
+
+
+def whole_lines(lines):
+    """The lines, each with those that go on with it: they stand four further in."""
+    whole = []
+    for line in lines:
+        begin = whole and len(whole[-1]) - len(whole[-1].lstrip())
+        if whole and line.startswith(" " * (begin + 4)):
+            whole[-1] += " " + line.strip()
+        else:
+            whole.append(line)
+    return whole
+
+
+def words_of(module, lines, names=(), place=0):
+    """The definitions that lines name. The parameters of a record or a type are variables in all of it, and so is a field below itself."""
+    hidden = set()
+    for text in whole_lines(lines):
+        own = variables(module, text, names, place)
+        if re.match(r" *(pub )?(record|data) ", text):
+            hidden |= own
+        for word in WORD.findall(re.sub(r"(?<=[{;])\s*\w+ = ", " ", text)):
+            if word.partition(".")[0] not in own | hidden and (found := find(module, word, place)):
+                yield found
+        if field := re.match(r" +pub (\w+) :", text):
+            hidden.add(field[1])
+
+
+def all_below(found):
+    """What these definitions stand on, themselves among it."""
+    met, waiting = [], list(found)
+    while waiting:
+        if (definition := waiting.pop()) not in met:
+            met.append(definition)
+            waiting += words_of(definition.module, definition.lines, definition.names, definition.place)
+    return met
+
+
+def words_of_clauses():
+    text = RUN.read_text()
+    module = Module("run", text)
+    for clause in CLAUSES:
+        body = re.search(rf"(?s)\n    ensures {clause} \{{(.*?)\}}\n", text)[1]
+        yield from words_of(module, [body.replace("\n", " ")])
+
+
+def counted():
+    module, names = DISCLOSURE
+    return {"the promise": all_below(words_of_clauses()), "of it disclosure": all_below(MODULES[module].definitions[name] for name in names)}
+
+
+def size(definitions):
+    return sum(len(definition.lines) for definition in definitions)
+
+
+def too_long():
+    for what, definitions in counted().items():
+        if size(definitions) > MOST[what]:
+            yield f"{what}: {size(definitions)} lines of definitions, and at most {MOST[what]} may be (docs/promise_size.py --list)"
+
+
+def print_table(what, definitions, with_list):
+    print(f"{what}: {size(definitions)} lines in {len(definitions)} definitions, of at most {MOST[what]}")
+    by_crate = defaultdict(list)
+    for definition in definitions:
+        by_crate[definition.module.name.partition(".")[0]].append(definition)
+    for crate, own in sorted(by_crate.items(), key=lambda pair: -size(pair[1])):
+        print(f"{size(own):6} {crate}")
+        for definition in sorted(own, key=lambda each: (each.module.name, each.place)) if with_list else ():
+            print(f"{len(definition.lines):12} {definition.module.name.rpartition('.')[2]}: {', '.join(sorted(definition.names))}")
+
+
+def main():
+    for what, definitions in counted().items():
+        print_table(what, definitions, "--list" in sys.argv)
+    faults = list(too_long())
+    if faults:
+        print("\n".join(faults))
+    return 1 if faults else 0
+
+
+if __name__ == "__main__":
+    sys.exit(main())
