@@ -13,6 +13,8 @@ use Rattle.sum_basis.specs.declared.sparse.FreeEntry.{FreeEntry}
 use Rattle.sum_basis.specs.Combination.{combine}
 use Rattle.sum_basis.specs.Elimination.{IsSmall}
 use Rattle.sum_basis.specs.Sparse.{entry_at, row_of, IsListed}
+use Rattle.sum_basis.specs.Merging.{first_value as first_value_at}
+use Rattle.std.specs.List.Sorted.{IsNonDecreasingBy}
 use Rattle.audit_types.specs.Products.{times-add, neg-times}
 use Rattle.sum_basis.proofs.Multiples.{one-times}
 use Rattle.sum_basis.proofs.FormsAreUnique.{pivot_is}
@@ -244,3 +246,26 @@ pub entry_passed : (from n : ℕ) (es : List FreeEntry) (k : ℕ) (d : FreeEntry
 entry_passed from n es k d column h l before =
     let listed = subst (IsListed from n) (drop_entry es k d h) l in
     ap (λ xs. entry_at xs column) (drop_entry es k d h) ∙ zero_below (get_or es k d).place n (get_or es k d ∷ drop (suc k) es) column (omega arith, listed.1, listed.2, listed.3) before
+
+-- the places of a list rise
+pub places_rise : (from n : ℕ) (es : List FreeEntry) → IsListed from n es → IsNonDecreasingBy (λ (e : FreeEntry). e.place) es
+places_rise from n [] h i j d p q = absurd (omega arith)
+places_rise from n (e ∷ es) h zero zero d p q = omega arith
+places_rise from n (e ∷ es) h zero (suc j) d p q = let later = (stands_within (e.place + 1) n es j d h.3 (omega arith)).after in omega arith
+places_rise from n (e ∷ es) h (suc i) zero d p q = absurd (omega arith)
+places_rise from n (e ∷ es) h (suc i) (suc j) d p q = places_rise (e.place + 1) n es h.3 i j d (omega arith) (omega arith)
+
+-- what a list has at a column, by the first entry that stands no sooner
+pub value_from_there : (from n : ℕ) (es : List FreeEntry) (k column : ℕ) → IsListed from n es → ((i : ℕ) (d : FreeEntry) → i < k → i < length es → (get_or es i d).place < column) → ((d : FreeEntry) → k < length es → column ≤ (get_or es k d).place)
+    → first_value_at (drop k es) column ≡ entry_at es column
+value_from_there from n [] zero column h before after = refl
+value_from_there from n [] (suc k) column h before after = refl
+value_from_there from n (e ∷ es) zero column h before after =
+    let here = after e (omega arith) in
+    let rest = zero_below (e.place + 1) n es column h.3 (omega arith) in
+    omega (arith, ints)
+value_from_there from n (e ∷ es) (suc k) column h before after =
+    let past = before 0 e (omega arith) (omega arith) in
+    let first = elsewhere e column (λ same. omega arith) in
+    let rest = value_from_there (e.place + 1) n es k column h.3 (λ i d p q. before (suc i) d (omega arith) (omega arith)) (λ d p. after d (omega arith)) in
+    omega (arith, ints)

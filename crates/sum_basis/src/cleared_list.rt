@@ -2,26 +2,32 @@
 ghost use Rattle.std.specs.Prelude.{◌≡◌, ◌≢◌, ◌↔◌, ℕ, ◌<◌, ◌≤◌, ◌+◌, ◌^◌, ℤ, pos, ◌*ℤ◌, ◌<ℤ◌, List, [], ◌∷◌, length, map, unsigned_abs, slice_index_or, IsTrue, MatchOption};
 ghost use Rattle.std.specs.Int.{◌∣◌};
 ghost use Rattle.std.specs.List.{AllByRecursion};
+ghost use Rattle.std.specs.List.Sorted.{IsPartitionPoint};
 ghost use Rattle.std.specs.Vec.{vec_capacity};
 ghost use Rattle.audit_types.specs.Form.{IsContent, IsPrimitive, pivot_entry};
 ghost use Rattle.sum_basis.specs.Elimination.{IsSmall, IsCleared};
 ghost use Rattle.sum_basis.specs.Sparse.{entry_at, row_of, IsListed, entries_of, IsKept, scaled, IsNew, IsOverContent};
 
-use crate::merging::combine_into;
+use crate::merging::{combine_into, value_from};
 use crate::sparse::{FreeEntry, SparseRow};
 use int_rows::Divisor;
+
+/// How many entries stand before the column.
+pub fn places_before(entries: &[FreeEntry], column: u16) -> usize
+    requires { IsListed 0 65536 entries.now }
+    ensures within { result ≤ length entries.now }
+    ensures parted { IsPartitionPoint (λ e. e.place < column) (λ e. column ≤ e.place) entries.now result }
+{
+    entries.partition_point(|e| e.place < column)
+}
 
 /// What the list has at a column.
 pub fn value_at(entries: &[FreeEntry], column: u16) -> i128
     requires { IsListed 0 65536 entries.now }
     ensures { result ≡ entry_at entries.now column }
 {
-    for e in entries {
-        if column <= e.place {
-            return if e.place == column { e.value } else { 0 };
-        }
-    }
-    0
+    let k = places_before(entries, column);
+    value_from(entries, k, column)
 }
 
 // The greatest common divisor of the pivot entry and of all values.
@@ -58,8 +64,8 @@ fn divide(entries: &mut Vec<FreeEntry>, by: &Divisor)
     }
 }
 
-// Divides the values by the content of the pivot entry and the values, and answers the pivot entry over it.
-fn over_content(head: i128, entries: &mut Vec<FreeEntry>) -> i128
+/// Divides the values by the content of the pivot entry and the values, and answers the pivot entry over it.
+pub fn over_content(head: i128, entries: &mut Vec<FreeEntry>) -> i128
     requires head { (pos 0 <ℤ head) × (unsigned_abs head ≤ 2 ^ 126) }
     requires entries { AllByRecursion (λ e. unsigned_abs e.value ≤ 2 ^ 126) entries.old.items }
     ensures over { IsOverContent head entries.old.items result entries.new.items }

@@ -20,8 +20,8 @@ fn place_from(entries: &[FreeEntry], k: usize, columns: u16) -> u16
     }
 }
 
-// The value of entry k, if that stands at the place, and else 0.
-fn value_from(entries: &[FreeEntry], k: usize, place: u16) -> i128
+/// The value of entry k, if that stands at the place, and else 0.
+pub fn value_from(entries: &[FreeEntry], k: usize, place: u16) -> i128
     ensures { result ≡ first_value (drop k entries.now) place }
 {
     if k < entries.len() && entries[k].place == place {
