@@ -41,7 +41,7 @@ bounded_at from n most (e ∷ es) h all j = elim (cases_eq e.place j) [
 ]
 
 -- a multiple by a number that is not 0 is no smaller
-no_smaller : (c x : ℤ) → c ≢ pos 0 → unsigned_abs x ≤ unsigned_abs (c *ℤ x)
+pub no_smaller : (c x : ℤ) → c ≢ pos 0 → unsigned_abs x ≤ unsigned_abs (c *ℤ x)
 no_smaller c x n = rw (unsigned_abs-mul c x) (let more = le-mul_of_pos_right {m = unsigned_abs c} (unsigned_abs x) (size_above c n) in omega arith)
 
 module _ (n : ℕ) (r : SparseRow) (new : List FreeEntry) (kept : IsKept n r) (primitive : IsPrimitive n (row_of n (entries_of r))) (is_new : IsNew n new) (nothing : entry_at new r.pivot ≡ pos 0) (before : r.pivot < (get_or new 0 none).place)

@@ -43,7 +43,7 @@ is_led n (e ∷ es) some h = record {
 }
 
 -- what holds of 0 and of each number of a row holds of each value
-values_from : (P : ℤ → Type 0) (from n : ℕ) (es : List FreeEntry) → IsListed from n es → ((j : ℕ) → P (entry_at es j)) → P (pos 0) → AllByRecursion P (values es)
+pub values_from : (P : ℤ → Type 0) (from n : ℕ) (es : List FreeEntry) → IsListed from n es → ((j : ℕ) → P (entry_at es j)) → P (pos 0) → AllByRecursion P (values es)
 values_from P from n [] h all zero_too = tt
 values_from P from n (e ∷ es) h all zero_too = (
   subst P (first_value from n e es h) (all e.place),
@@ -57,7 +57,7 @@ values_from P from n (e ∷ es) h all zero_too = (
 )
 
 -- a list whose values have content 1 is a row of content 1
-content_of_row : (n : ℕ) (es : List FreeEntry) → IsListed 0 n es → IsContent (values es) 1 → IsContent (row_of n es) 1
+pub content_of_row : (n : ℕ) (es : List FreeEntry) → IsListed 0 n es → IsContent (values es) 1 → IsContent (row_of n es) 1
 content_of_row n es h content = record {
   divides = ones (row_of n es);
   greatest = λ d all. content.greatest d (values_from (λ x. d ∣ unsigned_abs x) 0 n es h (λ j. subst (λ x. d ∣ unsigned_abs x) (number_at-row_of 0 n es h j) (at d (row_of n es) j all)) (dvd-zero d));
@@ -83,7 +83,7 @@ listed_within from n start m (e ∷ es) h zeros l k =
     ]
 
 -- what holds of all values holds of the entries' values
-of_values : (P : ℤ → Type 0) (es : List FreeEntry) → AllByRecursion P (values es) → AllByRecursion (λ (e : FreeEntry). P e.value) es
+pub of_values : (P : ℤ → Type 0) (es : List FreeEntry) → AllByRecursion P (values es) → AllByRecursion (λ (e : FreeEntry). P e.value) es
 of_values P [] h = tt
 of_values P (e ∷ es) h = (h.0, of_values P es h.1)
 
@@ -114,7 +114,7 @@ combined_small n r new out by times kept small is_new p q h combined = of_values
         omega (arith, ints)
 
 -- a positive product of a positive factor has a positive other factor
-positive_factor : (x y : ℤ) → pos 0 <ℤ x → pos 0 <ℤ (x *ℤ y) → pos 0 <ℤ y
+pub positive_factor : (x y : ℤ) → pos 0 <ℤ x → pos 0 <ℤ (x *ℤ y) → pos 0 <ℤ y
 positive_factor x (pos (suc m)) p q = omega (arith, ints)
 positive_factor x (pos zero) p q = let none = *ℤ-zero x in absurd (omega (arith, ints))
 positive_factor (pos (suc n)) (negsuc m) p q = let product = pos-*ℤ-negsuc (suc n) m in let big : 0 < suc n * suc m = omega arith in absurd (omega (arith, ints))

@@ -1,7 +1,6 @@
 -- The new row that a set gives, and what becomes of the form with it.
-use Rattle.std.proofs.Common.{◌≡◌, ◌≢◌, ℕ, ◌<◌, ℤ, pos, List, [], ◌∷◌, ◌++◌, length, sym, subst}
+use Rattle.std.proofs.Common.{◌≡◌, ℕ, ◌<◌, ℤ, pos, List, [], ◌∷◌, ◌++◌, sym, subst}
 use Rattle.audit_types.specs.Form.{InSpan, pivot, pivot_entry}
-use Rattle.int_rows.specs.Primitive.{IsMadePrimitive}
 use Rattle.int_rows.specs.ContentLaws.{all-front}
 use Rattle.sum_basis.specs.Basis.{Echelon}
 use Rattle.sum_basis.specs.Combination.{times}
@@ -10,19 +9,18 @@ use Rattle.sum_basis.specs.Growth.{GrowsTo, GrowsWide, IsNewRow}
 use Rattle.sum_basis.proofs.FormsAreUnique.{own, leads_from}
 use Rattle.sum_basis.proofs.Clearing.{line_zero, span_times, positive_not_zero, still_zero_at}
 use Rattle.sum_basis.proofs.Reduction.{span_line}
-use Rattle.sum_basis.proofs.Remainders.{in_span, nothing_left, span_to_left, span_from_left, made_zeros, made_line}
-use Rattle.sum_basis.proofs.UnitRows.{no_pivot}
+use Rattle.sum_basis.proofs.Remainders.{in_span, nothing_left, span_to_left, span_from_left, IsLine}
+use Rattle.audit_types.specs.Truth.{number_at}
 use Rattle.sum_basis.proofs.Exactness.{other_row}
 
-module _ (old : Echelon) (v left made : List ℤ) (f : IsSmallForm old.n old.rows) (rest : (m : ℕ) × (0 < m) × IsRemainder old.rows (times (pos m) v) left) (is : IsMadePrimitive left made) where
-  -- where the primitive row is all zeros, the row of the set lies in the span
-  pub nothing_new : pivot made ≡ length made → InSpan old.rows v
-  nothing_new e = in_span old.rows v left rest.0 rest.1 rest.2 (made_zeros left made is (no_pivot made e))
+module _ (old : Echelon) (v left : List ℤ) (f : IsSmallForm old.n old.rows) (rest : (m : ℕ) × (0 < m) × IsRemainder old.rows (times (pos m) v) left) where
+  -- where nothing is left, the row of the set lies in the span
+  pub nothing_new : ((j : ℕ) → number_at left j ≡ pos 0) → InSpan old.rows v
+  nothing_new none = in_span old.rows v left rest.0 rest.1 rest.2 none
 
-  -- else it is a row that spans what the row of the set does
-  pub new_row : length left ≡ old.n → pivot made ≢ length made → IsNewRow old v made
-  new_row l some =
-      let line = made_line old.n left made l is some in
+  -- else the primitive row spans what the row of the set does
+  pub new_row : (made : List ℤ) → IsLine old.n left made → IsNewRow old v made
+  new_row made line =
       let with_v = all-front (InSpan (old.rows ++ v ∷ [])) old.rows v (own (old.rows ++ v ∷ [])) in
       let with_made = all-front (InSpan (old.rows ++ made ∷ [])) old.rows made (own (old.rows ++ made ∷ [])) in
       record {

@@ -35,3 +35,4 @@ pub mod Merges
 pub mod SparseMultiples
 pub mod Parallels
 pub mod BoundedRows
+pub mod PrimitiveLists

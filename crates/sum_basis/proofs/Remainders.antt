@@ -1,15 +1,11 @@
 -- What a form leaves of a row, and what that says of the span.
-use Rattle.std.proofs.Common.{◌≡◌, ◌≢◌, ℕ, ◌<◌, true, ℤ, pos, List, [], ◌∷◌, length, refl, sym, ap, ◌∙◌, arith, inl, inr}
+use Rattle.std.proofs.Common.{◌≡◌, ◌≢◌, ℕ, ◌<◌, true, ℤ, pos, List, [], ◌∷◌, length, refl, sym, ap, ◌∙◌, arith}
 use Rattle.std.specs.Prelude.{◌+ℤ◌, ◌*ℤ◌, neg_ℤ, ◌<ℤ◌}
 use Rattle.std.specs.List.{AllByRecursion, list_all}
 use Rattle.std.proofs.lemmas.Int.{ints}
-use Rattle.std.proofs.lemmas.List.{length-map}
-use Rattle.std.proofs.lemmas.Bool.{MatchBool-at_false, MatchBool-at_true, true≢false, cases_Bool, and_from, and_parts}
-use Rattle.std.proofs.Math.IntN.{zero-*ℤ, *ℤ-zero}
+use Rattle.std.proofs.lemmas.Bool.{and_from}
 use Rattle.audit_types.specs.Truth.{number_at, is_zero}
-use Rattle.audit_types.specs.Form.{combined, InSpan, IsContent, IsPrimitive, IsEchelon, pivot, pivot_entry}
-use Rattle.int_rows.specs.Primitive.{IsMadePrimitive}
-use Rattle.int_rows.specs.PrimitiveLaws.{zero_if}
+use Rattle.audit_types.specs.Form.{combined, InSpan, IsPrimitive, IsEchelon, pivot, pivot_entry}
 use Rattle.audit_types.specs.PrimitiveLines.{number_at-times}
 use Rattle.sum_basis.specs.Combination.{times}
 use Rattle.sum_basis.specs.Elimination.{IsRemainder}
@@ -17,7 +13,6 @@ use Rattle.audit_types.specs.Products.{neg-times}
 use Rattle.sum_basis.proofs.Spans.{spans_from, in_span_from, spans_same, spans_times, spans_add, spans_down, spans_combined, span_zero}
 use Rattle.sum_basis.proofs.FormsAreUnique.{own}
 use Rattle.sum_basis.proofs.Multiples.{one-times}
-use Rattle.sum_basis.proofs.Sizes.{all_by_place}
 
 module _ (form : List (List ℤ)) (v left : List ℤ) (m : ℕ) (above : 0 < m) (r : IsRemainder form (times (pos m) v) left) where
   -- the row of the set, a multiple of it taken apart
@@ -67,34 +62,9 @@ pub pivot_of_zeros : (row : List ℤ) → AllByRecursion (λ x. x ≡ pos 0) row
 pivot_of_zeros [] h = refl
 pivot_of_zeros (x ∷ row) h = ap (λ y. pivot (y ∷ row)) h.0 ∙ let rest = pivot_of_zeros row h.1 in omega arith
 
--- a row made primitive from one that is all zeros, or from any other
-pub made_zeros : (old made : List ℤ) → IsMadePrimitive old made → ((j : ℕ) → number_at made j ≡ pos 0) → (j : ℕ) → number_at old j ≡ pos 0
-made_zeros old made is none j = ap (λ r. number_at r j) is.is_multiple ∙ number_at-times is.factor made j ∙ ap (λ z. is.factor *ℤ z) (none j) ∙ *ℤ-zero is.factor
-
--- what `make_primitive` makes of a row that is not all zeros
+-- the primitive row on the line of a row that is not all zeros
 pub record IsLine (n : ℕ) (old made : List ℤ) : Type 0 where
   pub by : ℤ
   pub not_zero : by ≢ pos 0
   pub line : old ≡ times by made
   pub primitive : IsPrimitive n made
-
--- a row that does not become zeros becomes primitive
-pub made_line : (n : ℕ) (old made : List ℤ) → length old ≡ n → IsMadePrimitive old made → pivot made ≢ length made → IsLine n old made
-made_line n old made l is some = elim (cases_Bool (list_all is_zero old)) [
-  | inl zeros ↦ absurd (some (ap pivot (same zeros) ∙ pivot_of_zeros old (zeros_of old zeros) ∙ sym (ap length (same zeros))))
-  | inr others ↦
-      let parts = MatchBool-at_false (made ≡ old) (IsContent made 1 × (pos 0 <ℤ pivot_entry made)) others is.primitive in
-      record {
-        by = is.factor;
-        not_zero = λ none. true≢false (sym (all_zero_list old (all_by_place (λ x. x ≡ pos 0) old (λ j. ap (λ r. number_at r j) is.is_multiple ∙ number_at-times is.factor made j ∙ ap (λ z. z *ℤ number_at made j) none ∙ zero-*ℤ (number_at made j)))) ∙ others);
-        line = is.is_multiple;
-        primitive = record { one_each = sym (ap length is.is_multiple ∙ length-map made (λ z. is.factor *ℤ z)) ∙ l; content = parts.0; leading = parts.1 };
-      }
-]
-  where
-    same : list_all is_zero old ≡ true → made ≡ old
-    same zeros = MatchBool-at_true (made ≡ old) (IsContent made 1 × (pos 0 <ℤ pivot_entry made)) zeros is.primitive
-
-    zeros_of : (row : List ℤ) → list_all is_zero row ≡ true → AllByRecursion (λ x. x ≡ pos 0) row
-    zeros_of [] h = tt
-    zeros_of (x ∷ row) h = let parts = and_parts (is_zero x) (list_all is_zero row) h in (zero_if x parts.0, zeros_of row parts.1)

@@ -1,5 +1,5 @@
 -- Reduced rows as they are kept: lists of the entries that are not 0.
-use Rattle.std.specs.Prelude.{◌≡◌, ◌≢◌, ◌*ℤ◌, length, ℕ, ◌+◌, ◌<◌, ◌≤◌, ℤ, pos, ◌+ℤ◌, ◌<ℤ◌, cond, nat_eq, List, [], ◌∷◌, map, unsigned_abs}
+use Rattle.std.specs.Prelude.{◌≡◌, ◌≢◌, ◌*ℤ◌, length, ℕ, ◌+◌, ◌<◌, ◌≤◌, ℤ, pos, ◌+ℤ◌, ◌<ℤ◌, cond, nat_eq, List, [], ◌∷◌, map, unsigned_abs, slice_index_or}
 use Rattle.std.specs.List.{range_with_len, AllByRecursion}
 use Rattle.std.specs.Vec.{vec_capacity}
 use Rattle.audit_types.specs.Form.{IsPrimitive, IsContent}
@@ -54,3 +54,11 @@ pub record IsOverContent (old_head : ℤ) (old : List FreeEntry) (head : ℤ) (e
   pub head_is : old_head ≡ by *ℤ head
   pub entries_are : old ≡ map (scaled by) entries
   pub content : IsContent (head ∷ map (λ e. e.value) entries) 1
+
+-- a list over its content, the first value positive
+pub record IsMadeList (old new : List FreeEntry) : Type 0 where
+  pub by : ℤ
+  pub not_zero : by ≢ pos 0
+  pub is_multiple : old ≡ map (scaled by) new
+  pub content : IsContent (map (λ e. e.value) new) 1
+  pub leading : pos 0 <ℤ (slice_index_or new 0 (record { place = 0; value = pos 0 })).value

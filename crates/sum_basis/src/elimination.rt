@@ -24,13 +24,6 @@ pub fn pivot_of(row: &[i128]) -> usize
     row.len()
 }
 
-/// Whether no entry is above the limit.
-pub fn is_small(row: &[i128]) -> bool
-    ensures { IsTrue result ↔ IsSmall row.now }
-{
-    row.iter().all(|x| x.unsigned_abs() <= LIMIT)
-}
-
 /// Writes 1 at each row of the set, and 0 at every other one.
 pub fn write_set(row: &mut [i128], set: &RowSet)
     requires { length row.old ≡ set.now.n }

@@ -12,13 +12,13 @@ ghost use Rattle.sum_basis.specs.Growth.{Grows, GrowsForRows, GrowsWide, Foresee
 ghost use Rattle.sum_basis.specs.declared.Grown.TheVariants.{Same, Wide};
 
 use crate::cleared_list::value_at;
-use crate::elimination::{is_small, pivot_of, scale, write_bits};
+use crate::elimination::{scale, write_bits};
 use crate::growth::{common_multiple, grow_rows};
 use crate::looking::look_ahead;
+use crate::primitive_list::{are_small, make_primitive};
 use crate::sparse::{FreeEntry, SparseRow, copy_rows, list_of, reduce};
 use crate::{Grown, Prospect};
 use audit_types::NoMemory;
-use int_rows::make_primitive;
 use std::alloc::Global;
 use std::marker::Model;
 
@@ -95,14 +95,15 @@ impl Form {
         ensures narrow { IsNarrow self.now.rows }
     {
         self.remainder(row);
-        make_primitive(row);
-        if pivot_of(row) == row.len() {
+        let mut list = list_of(self.alloc, row)?;
+        if list.is_empty() {
             return Ok(Left::Nothing);
         }
-        if !is_small(row) {
+        make_primitive(&mut list);
+        if !are_small(&list) {
             return Ok(Left::Large);
         }
-        Ok(Left::Entries(list_of(self.alloc, row)?))
+        Ok(Left::Entries(list))
     }
 
     /// Tells what the form would become with a row of zeros and ones, which is used up.

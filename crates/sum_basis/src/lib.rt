@@ -13,6 +13,7 @@ pub mod laws;
 mod looking;
 mod merging;
 mod parallel;
+mod primitive_list;
 mod sparse;
 
 pub use basis::Basis;

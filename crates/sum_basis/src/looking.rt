@@ -12,6 +12,7 @@ use crate::Prospect;
 use crate::cleared_list::{bound_of, clear_into, product, value_at};
 use crate::elimination::LIMIT;
 use crate::parallel::are_parallel;
+use crate::primitive_list::are_small;
 use crate::sparse::{FreeEntry, SparseRow};
 use int_rows::lcm_within;
 
@@ -20,13 +21,6 @@ use int_rows::lcm_within;
 struct Cleared {
     head: i128,
     lone: bool,
-}
-
-// Whether no value is above the limit.
-fn are_small(entries: &[FreeEntry]) -> bool
-    ensures { IsTrue result ↔ AllByRecursion (λ e. unsigned_abs e.value ≤ 2 ^ 56) entries.now }
-{
-    entries.iter().all(|e| e.value.unsigned_abs() <= LIMIT)
 }
 
 // Whether neither the pivot entry nor a value is above the limit.

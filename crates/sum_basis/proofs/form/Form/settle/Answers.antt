@@ -1,45 +1,72 @@
-use Rattle.std.proofs.Common.{◌≡◌, ◌≢◌, ℕ, ◌≤◌, ◌^◌, Bool, true, ℤ, List, length, sym, ◌∙◌, subst, arith, IsTrue}
+use Rattle.std.proofs.Common.{◌≡◌, ◌≢◌, ℕ, ◌<◌, ◌≤◌, ◌^◌, Bool, true, false, nat_eq, ℤ, pos, List, [], ◌∷◌, length, get_or, sym, ◌∙◌, subst, arith}
 use Rattle.std.specs.Prelude.{unsigned_abs}
-use Rattle.std.proofs.lemmas.Bool.{true≢false}
-use Rattle.audit_types.specs.Form.{pivot}
-use Rattle.sum_basis.specs.Growth.{IsNewRow}
-use Rattle.sum_basis.specs.Sparse.{IsListed}
-use Rattle.sum_basis.proofs.Sizes.{all_by_place}
+use Rattle.std.specs.List.{AllByRecursion}
+use Rattle.std.proofs.lemmas.Bool.{true≢false, eqb-true, eq-eqb}
+use Rattle.audit_types.specs.Truth.{number_at}
+use Rattle.sum_basis.specs.declared.sparse.FreeEntry.{FreeEntry}
+use Rattle.sum_basis.specs.Sparse.{entry_at, IsListed}
+use Rattle.sum_basis.proofs.ListContents.{none}
+use Rattle.sum_basis.proofs.ClearedLists.{of_values, values_from}
+use Rattle.sum_basis.proofs.SparseRows.{small_row, small_values}
 use Rattle.sum_basis.proofs.WideForms.{new_too_large}
 use Rattle.sum_basis.proofs.Extending.{nothing_new, new_row, grows_wide}
-use Rattle.sum_basis.proofs.Joining.{listed_row, is_new_list}
+use Rattle.sum_basis.proofs.PrimitiveLists.{made_listed, made_some, made_line}
 use Rattle.sum_basis.proofs.form.Form.settle.Goals as goal
 
-pub make_primitive-requires : goal.make_primitive-requires
-make_primitive-requires c = all_by_place (λ x. unsigned_abs x ≤ 2 ^ 126) c.remainder.new.row (λ j. let small = c.remainder.ensures.small j in omega arith)
+-- an empty list, and one that isn't
+empty : (len : ℕ) (es : List FreeEntry) (b : Bool) → len ≡ length es → b ≡ nat_eq len 0 → b ≡ true → length es ≡ 0
+empty len es b l is holds = sym l ∙ eqb-true len 0 (sym is ∙ holds)
 
-apart : (row : List ℤ) (place : ℕ) → place ≡ pivot row → ¬ (place ≡ length row) → pivot row ≢ length row
-apart row place e n h = n (e ∙ h)
+not_empty : (len : ℕ) (es : List FreeEntry) (b : Bool) → len ≡ length es → b ≡ nat_eq len 0 → b ≡ false → 0 < length es
+not_empty len [] b l is fails = absurd (true≢false (sym (is ∙ eq-eqb len 0 l) ∙ fails))
+not_empty len (e ∷ es) b l is fails = omega arith
 
-pub returns-then-pivot_of-row-clause-left : goal.returns-then-pivot_of-row-clause-left
-returns-then-pivot_of-row-clause-left c =
-    nothing_new c.args.self.now c.args.row.now c.remainder.new.row c.make_primitive.new.row c.remainder.ensures.form c.remainder.ensures.remainder c.make_primitive.ensures (sym c.pivot_of.ensures ∙ c.if-pivot_of-row.true)
+-- an empty list has nothing
+none_listed : (list : List FreeEntry) (row : List ℤ) → length list ≡ 0 → ((j : ℕ) → entry_at list j ≡ number_at row j) → (j : ℕ) → number_at row j ≡ pos 0
+none_listed [] row e is j = sym (is j)
+none_listed (x ∷ list) row e is j = absurd (omega arith)
 
-pub returns-then-not-is_small-clause-left : goal.returns-then-not-is_small-clause-left
-returns-then-not-is_small-clause-left c =
-    let some = apart c.make_primitive.new.row c.pivot_of.result c.pivot_of.ensures c.if-pivot_of-row.false in
-    let row = new_row c.args.self.now c.args.row.now c.remainder.new.row c.make_primitive.new.row c.remainder.ensures.form c.remainder.ensures.remainder c.make_primitive.ensures c.remainder.ensures.length some in
-    (row.outside, grows_wide c.args.self.now c.args.row.now c.make_primitive.new.row row (new_too_large c.args.self.now c.make_primitive.new.row c.remainder.ensures.form row.primitive row.zeros (λ small. true≢false (sym (c.is_small.ensures.1 small) ∙ c.if-not-is_small.true))))
+pub returns-then-is_empty-clause-left : goal.returns-then-is_empty-clause-left
+returns-then-is_empty-clause-left c =
+    nothing_new c.args.self.now c.args.row.now c.remainder.new.row c.remainder.ensures.form c.remainder.ensures.remainder (none_listed c.in_ok-list.list.items c.remainder.new.row (empty c.in_ok-list.list.len c.in_ok-list.list.items c.is_empty.result c.in_ok-list.list.ok.0 c.is_empty.ensures c.if-is_empty.true) c.in_ok-list.ensures.is)
+
+first_some : (n : ℕ) (list : List FreeEntry) → IsListed 0 n list → 0 < length list → (get_or list 0 none).value ≢ pos 0
+first_some n [] h some = absurd (omega arith)
+first_some n (e ∷ list) h some = h.2
+
+pub make_primitive-requires-clause-some : goal.make_primitive-requires-clause-some
+make_primitive-requires-clause-some c =
+    let some = (not_empty c.in_ok-list.list.len c.in_ok-list.list.items c.is_empty.result c.in_ok-list.list.ok.0 c.is_empty.ensures c.if-is_empty.false) in
+    let len = c.in_ok-list.list.ok.0 in
+    omega arith
+
+pub make_primitive-requires-clause-first : goal.make_primitive-requires-clause-first
+make_primitive-requires-clause-first c = first_some (length c.remainder.new.row) c.in_ok-list.list.items c.in_ok-list.ensures.listed (not_empty c.in_ok-list.list.len c.in_ok-list.list.items c.is_empty.result c.in_ok-list.list.ok.0 c.is_empty.ensures c.if-is_empty.false)
+
+pub make_primitive-requires-clause-size : goal.make_primitive-requires-clause-size
+make_primitive-requires-clause-size c =
+    of_values (λ x. unsigned_abs x ≤ 2 ^ 126) c.in_ok-list.list.items
+    (values_from (λ x. unsigned_abs x ≤ 2 ^ 126) 0 (length c.remainder.new.row) c.in_ok-list.list.items c.in_ok-list.ensures.listed (λ j. rw (c.in_ok-list.ensures.is j) (let small = c.remainder.ensures.small j in omega arith)) (omega arith))
+
+pub returns-then-not-are_small-clause-left : goal.returns-then-not-are_small-clause-left
+returns-then-not-are_small-clause-left c =
+    let n = c.args.self.now.n in
+    let line = made_line n c.remainder.new.row c.in_ok-list.list.items c.make_primitive.new.entries.items c.remainder.ensures.length c.in_ok-list.ensures.listed c.in_ok-list.ensures.is (not_empty c.in_ok-list.list.len c.in_ok-list.list.items c.is_empty.result c.in_ok-list.list.ok.0 c.is_empty.ensures c.if-is_empty.false) c.make_primitive.ensures.made in
+    let listed = made_listed n c.remainder.new.row c.in_ok-list.list.items c.make_primitive.new.entries.items c.remainder.ensures.length c.in_ok-list.ensures.listed c.in_ok-list.ensures.is (not_empty c.in_ok-list.list.len c.in_ok-list.list.items c.is_empty.result c.in_ok-list.list.ok.0 c.is_empty.ensures c.if-is_empty.false) c.make_primitive.ensures.made in
+    let row = new_row c.args.self.now c.args.row.now c.remainder.new.row c.remainder.ensures.form c.remainder.ensures.remainder _ line in (
+      row.outside,
+      grows_wide c.args.self.now c.args.row.now _ row (new_too_large c.args.self.now _ c.remainder.ensures.form row.primitive row.zeros
+          (λ small. true≢false (sym (c.are_small.ensures.1 (subst (AllByRecursion (λ (e : FreeEntry). unsigned_abs e.value ≤ 2 ^ 56)) (sym c.deref.ensures.value) (small_values n c.make_primitive.new.entries.items listed small))) ∙ c.if-not-are_small.true))),
+    )
 
 pub returns-clause-left : goal.returns-clause-left
 returns-clause-left c =
-    let some = apart c.make_primitive.new.row c.pivot_of.result c.pivot_of.ensures c.if-pivot_of-row.false in
-    let row = new_row c.args.self.now c.args.row.now c.remainder.new.row c.make_primitive.new.row c.remainder.ensures.form c.remainder.ensures.remainder c.make_primitive.ensures c.remainder.ensures.length some in
     let n = c.args.self.now.n in
-    let long = row.primitive.one_each in
-    let list = c.in_ok-list_of.field-0.items in
-    let listed = subst (λ (m : ℕ). IsListed 0 m list) long c.in_ok-list_of.ensures.listed in
-    let small = c.is_small.ensures.0 (true_of c.is_small.result c.if-not-is_small.false) in
-    let same = listed_row n c.make_primitive.new.row list long listed c.in_ok-list_of.ensures.is in (
-      is_new_list n c.make_primitive.new.row list long listed c.in_ok-list_of.ensures.is row.primitive small,
-      subst (IsNewRow c.args.self.now c.args.row.now) (sym same) row,
-      (let room = c.in_ok-list_of.ensures.room in omega arith),
+    let listed = made_listed n c.remainder.new.row c.in_ok-list.list.items c.make_primitive.new.entries.items c.remainder.ensures.length c.in_ok-list.ensures.listed c.in_ok-list.ensures.is (not_empty c.in_ok-list.list.len c.in_ok-list.list.items c.is_empty.result c.in_ok-list.list.ok.0 c.is_empty.ensures c.if-is_empty.false) c.make_primitive.ensures.made in
+    let line = made_line n c.remainder.new.row c.in_ok-list.list.items c.make_primitive.new.entries.items c.remainder.ensures.length c.in_ok-list.ensures.listed c.in_ok-list.ensures.is (not_empty c.in_ok-list.list.len c.in_ok-list.list.items c.is_empty.result c.in_ok-list.list.ok.0 c.is_empty.ensures c.if-is_empty.false) c.make_primitive.ensures.made in
+    let row = new_row c.args.self.now c.args.row.now c.remainder.new.row c.remainder.ensures.form c.remainder.ensures.remainder _ line in
+    let small = subst (AllByRecursion (λ (e : FreeEntry). unsigned_abs e.value ≤ 2 ^ 56)) c.deref.ensures.value (c.are_small.ensures.0 c.if-not-are_small.false) in (
+      record { some = made_some n c.remainder.new.row c.in_ok-list.list.items c.make_primitive.new.entries.items c.remainder.ensures.length c.in_ok-list.ensures.listed c.in_ok-list.ensures.is (not_empty c.in_ok-list.list.len c.in_ok-list.list.items c.is_empty.result c.in_ok-list.list.ok.0 c.is_empty.ensures c.if-is_empty.false) c.make_primitive.ensures.made; listed = listed; primitive = row.primitive; small = small_row n c.make_primitive.new.entries.items listed small },
+      row,
+      (let room = c.in_ok-list.ensures.room in let long = c.remainder.ensures.length in let kept = c.make_primitive.ensures.capacity in omega arith),
     )
-  where
-    true_of : (b : Bool) → b ≡ true → IsTrue b
-    true_of b e = e

@@ -1,0 +1,41 @@
+use Rattle.std.proofs.Common.{◌≢◌, zero, suc, ◌<◌, ◌^◌, ℤ, pos, negsuc, length, get_or, refl, sym, ap, ◌∙◌, arith, rules}
+use Rattle.std.specs.Prelude.{FitsSigned, unsigned_abs, ◌<ℤ◌, ◌≤ℤ◌}
+use Rattle.std.specs.Int.{w128}
+use Rattle.std.proofs.lemmas.Int.{ints, to_z-of_z}
+use Rattle.sum_basis.proofs.ListContents.{none, entry_is}
+use Rattle.sum_basis.proofs.Clearing.{positive_not_zero}
+use Rattle.sum_basis.proofs.PrimitiveLists.{no_greater, made_as_it_is, made_turned}
+use Rattle.sum_basis.proofs.primitive_list.make_primitive.Goals as goal
+
+pub turn-requires : goal.turn-requires
+turn-requires c =
+    let over = c.over_content.ensures.over in
+    no_greater over.by c.args.entries.now.items c.over_content.new.entries.items (2 ^ 126) (positive_not_zero over.by over.positive) over.entries_are c.requires.size
+
+-- a number that is not 0 and not negative
+above_zero : (z : ℤ) → z ≢ pos 0 → pos 0 ≤ℤ z → pos 0 <ℤ z
+above_zero (pos zero) n h = absurd (n refl)
+above_zero (pos (suc m)) n h = omega (arith, ints)
+above_zero (negsuc m) n h = absurd (omega (arith, ints))
+
+pub returns-then-first-lt0-clause-made : goal.returns-then-first-lt0-clause-made
+returns-then-first-lt0-clause-made c =
+    let some : 0 < length c.args.entries.now.items = let len = c.args.entries.now.ok.0 in let some = c.requires.some in omega arith in
+    let first : FitsSigned w128 c.index.result.now.value = search rules in
+    let size : FitsSigned w128 c.size_of.result = search rules in
+    let is = to_z-of_z w128 c.index.result.now.value first in
+    let here = ap (λ e. e.value) (entry_is c.args.entries.now.items 0 c.index.result.now some c.index.ensures) in
+    let low : c.index.result.now.value <ℤ pos 0 = omega (arith, ints) in
+    made_turned c.args.entries.now.items c.over_content.new.entries.items _ _ c.over_content.ensures.over some
+    (to_z-of_z w128 c.size_of.result size ∙ c.size_of.ensures ∙ ap (λ z. pos (unsigned_abs z)) (is ∙ sym here)) c.turn.new.entries.items c.turn.ensures.scaled (rw here low)
+
+pub returns-else-first-lt0-clause-made : goal.returns-else-first-lt0-clause-made
+returns-else-first-lt0-clause-made c =
+    let some : 0 < length c.args.entries.now.items = let len = c.args.entries.now.ok.0 in let some = c.requires.some in omega arith in
+    let first : FitsSigned w128 c.index.result.now.value = search rules in
+    let size : FitsSigned w128 c.size_of.result = search rules in
+    let is = to_z-of_z w128 c.index.result.now.value first in
+    let here = ap (λ e. e.value) (entry_is c.args.entries.now.items 0 c.index.result.now some c.index.ensures) in
+    let high : pos 0 ≤ℤ c.index.result.now.value = omega (arith, ints) in
+    made_as_it_is c.args.entries.now.items c.over_content.new.entries.items _ _ c.over_content.ensures.over some
+    (to_z-of_z w128 c.size_of.result size ∙ c.size_of.ensures ∙ ap (λ z. pos (unsigned_abs z)) (is ∙ sym here)) (above_zero (get_or c.args.entries.now.items 0 none).value c.requires.first (rw here high))
