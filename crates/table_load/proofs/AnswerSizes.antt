@@ -13,7 +13,7 @@ use Rattle.table_load.specs.Cells.{SecretView, IsSecret, AreNumbers}
 use Rattle.table_load.proofs.SetSums.{number_small, at_place}
 
 -- a sum over so many rows
-sum_small : (n low : ℕ) (list : List ℤ) (rows : List ℕ) → AreNumbers n list → AscendsFrom low n rows → unsigned_abs (sum_over list rows) ≤ 10 ^ 12 * length rows
+pub sum_small : (n low : ℕ) (list : List ℤ) (rows : List ℕ) → AreNumbers n list → AscendsFrom low n rows → unsigned_abs (sum_over list rows) ≤ 10 ^ 12 * length rows
 sum_small n low list [] are ascends = omega (arith, ints)
 sum_small n low list (r ∷ rows) are ascends =
     let first = number_small n list r are ascends.1 in

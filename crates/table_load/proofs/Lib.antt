@@ -10,3 +10,5 @@ pub mod GoodCells
 pub mod ColumnSteps
 pub mod GoodFiles
 pub mod AnswerSizes
+pub mod WholeBlocks
+pub mod SecretBlocks

@@ -1,5 +1,10 @@
 -- How the two parts of a table keep their columns.
-use Rattle.std.specs.Prelude.{ℕ, List, map}
+use Rattle.std.specs.Prelude.{◌≡◌, ℕ, ◌+◌, ◌*◌, ◌/◌, ◌<◌, ◌≤◌, ℤ, pos, ◌==◌, List, [], map, slice_index_or}
+use Rattle.audit_types.specs.Rows.{rows_that}
+use Rattle.audit_types.specs.Shapes.{columns, kind_at}
+use Rattle.audit_types.specs.Truth.{truth}
+use Rattle.audit_types.specs.History.{list_of}
+use Rattle.audit_types.specs.declared.shapes.Kind.{Kind}
 use Rattle.table_load.specs.Cells as cells
 use Rattle.table_load.specs.Cells.{PublicView, SecretView, IsPublic, IsSecret}
 use Rattle.table_load.specs.declared.publics.Column.{Column}
@@ -29,6 +34,16 @@ IsKeptPublic a = IsPublic (public_view a)
 abbrev pub secret_view : secret.Inside → SecretView
 secret_view a = record { shape = a.shape; lists = map (λ v. v.items) a.lists.items }
 
+-- the rows of a block of 64, of those below n
+abbrev pub block_rows : ℕ → ℕ → List ℕ
+block_rows n block = rows_that (λ r. r / 64 == block) n
+
+-- the true answer over each block that a table of n rows has whole
+abbrev pub AreBlocks : Kind → ℕ → List ℤ → List ℤ → Type 0
+AreBlocks kind n list blocks = (block : ℕ) → 64 * block + 64 ≤ n → slice_index_or blocks block (pos 0) ≡ truth kind list (block_rows n block)
+
 -- what a secret part keeps
-abbrev pub IsKeptSecret : secret.Inside → Type 0
-IsKeptSecret a = IsSecret (secret_view a)
+pub record IsKeptSecret (a : secret.Inside) : Type 0 where
+  pub is : IsSecret (secret_view a)
+  pub few : columns a.shape ≤ 8
+  pub blocks : (column : ℕ) → column < columns a.shape → AreBlocks (kind_at a.shape column) a.shape.rows (list_of (secret_view a).lists column) (slice_index_or a.blocks column [])

@@ -4,6 +4,7 @@
 //! gives the true answer to a question. docs/FORMATS.md has the format in words.
 #![tactic(auto)]
 
+mod blocks;
 mod columns;
 mod faults;
 pub mod laws;

@@ -6,7 +6,7 @@ ghost use Rattle.audit_types.specs.Shapes.{IsShape, columns, kind_at};
 ghost use Rattle.audit_types.specs.Truth.{truth};
 ghost use Rattle.table_load.specs.Cells.{AreNumbers, IsSecret};
 
-use crate::truth::{greatest_over, sum_over};
+use crate::blocks::{Blocks, blocks_of, greatest_by_blocks, sum_by_blocks};
 use audit_types::{Kind, RowSet, Shape};
 use std::marker::Model;
 
@@ -15,6 +15,8 @@ use std::marker::Model;
 pub struct Secret {
     shape: Shape,
     lists: Vec<Vec<i64>>,
+    // For each column the true answers over blocks of rows.
+    blocks: [Blocks; 8],
 }
 
 impl Model for Secret {
@@ -38,7 +40,15 @@ impl Secret {
         ensures shape { result.shape ≡ shape }
         ensures lists { result.lists ≡ map (λ v. v.items) lists.items }
     {
-        Secret { shape, lists }
+        let mut blocks = [[0; 16]; 8];
+        for (column, list) in lists.iter().enumerate() {
+            blocks[column] = blocks_of(shape.kind(column as u8), list.as_slice(), shape.rows);
+        }
+        Secret {
+            shape,
+            lists,
+            blocks,
+        }
     }
 
     /// The number of rows, and what each secret column answers.
@@ -49,7 +59,8 @@ impl Secret {
         self.shape
     }
 
-    /// The true answer to a question: the sum over the rows, or the greatest number. It costs a step for each row.
+    /// The true answer to a question: the sum over the rows, or the greatest number. It costs a step for each
+    /// block of 64 rows, and for each row of one that the set does not have whole.
     pub fn truth(&self, column: u8, rows: &RowSet) -> i64
         requires column { column < columns self.now.shape }
         requires same_n { rows.now.n ≡ self.now.shape.rows }
@@ -57,9 +68,10 @@ impl Secret {
         ensures { result ≡ truth (kind_at self.now.shape column) (list_of self.now.lists column) rows.now.list }
     {
         let list = self.lists[column as usize].as_slice();
+        let blocks = &self.blocks[column as usize];
         match self.shape.kind(column) {
-            Kind::Sum => sum_over(list, rows),
-            Kind::Max => greatest_over(list, rows),
+            Kind::Sum => sum_by_blocks(list, blocks, rows),
+            Kind::Max => greatest_by_blocks(list, blocks, rows),
         }
     }
 }

@@ -1,0 +1,11 @@
+use Rattle.std.proofs.Common.{◌≡◌, ℕ, ◌<◌, length}
+use Rattle.std.specs.Prelude.{pos, slice_index_or}
+use Rattle.audit_types.specs.Truth.{truth}
+use Rattle.table_load.specs.Kept.{block_rows}
+use Rattle.table_load.proofs.blocks.blocks_of.Given as goal
+
+abbrev pub invariant-loop-block : goal.invariant-loop-block
+invariant-loop-block l = record {
+  sixteen : length l.blocks ≡ 16;
+  done : (k : ℕ) → k < l.block → slice_index_or l.blocks k (pos 0) ≡ truth l.kind l.list (block_rows l.n k);
+}
