@@ -3,7 +3,8 @@ use Rattle.std.proofs.Common.{◌≡◌, List, [], ◌∷◌, ◌++◌, length, 
 use Rattle.std.specs.Prelude.{reverse}
 use Rattle.predicate_lang.specs.Trees.{Tree}
 use Rattle.std.proofs.lemmas.List.{map-append, reverse-append, length-map, length-reverse, take_all, take_more}
-use Rattle.predicate_lang.specs.Building.{Frame, a_not, a_bracket, frame_of, frames_of, is_under_not, without_nots, negated}
+use Rattle.predicate_lang.specs.Machine.{Frame, a_not, a_bracket, is_under_not, without_nots, negated}
+use Rattle.predicate_lang.specs.Building.{frame_of, frames_of}
 use Rattle.predicate_lang.specs.declared.building.Opened.{Opened}
 
 -- what was opened last comes first

@@ -1,24 +1,20 @@
 -- The reader stops at the least offset that is due: each token before it may stand where it stands, and whatever comes later stands at a greater offset.
-use Rattle.std.proofs.Common.{◌≡◌, ℕ, zero, suc, ◌+◌, ◌<◌, ◌≤◌, Bool, true, false, cond, List, [], ◌∷◌, ◌++◌, length, map, take, drop, Option, Some, None, refl, sym, ap, ◌∙◌, subst, arith, length-drop}
+use Rattle.std.proofs.Common.{◌≡◌, ℕ, zero, suc, ◌+◌, ◌<◌, ◌≤◌, Bool, true, false, cond, List, [], ◌∷◌, ◌++◌, length, take, drop, Option, Some, None, refl, sym, ap, ◌∙◌, subst, arith, length-drop}
 use Rattle.std.specs.Prelude.{slice_get, is_some}
 use Rattle.std.proofs.lemmas.List.{length_push, map_push, map-append, append-nil, take-append-drop, take-append-le}
 use Rattle.std.proofs.lemmas.Bool.{false≢true}
 use Rattle.schema_json.specs.Columns.{Column}
 use Rattle.predicate_lang.specs.Trees.{Tree}
 use Rattle.predicate_lang.specs.Tokens.{Token, Front, Placed, Lexed, is_blank, front_token, lex_front, lex_from, lexed, lexed_from, no_tokens, with_token}
-use Rattle.predicate_lang.specs.Grammar.{most_depth, Writes, IsPredicate, BeginPredicate}
+use Rattle.predicate_lang.specs.Grammar.{IsPredicate, BeginPredicate}
 use Rattle.predicate_lang.specs.Places.{tokens_of, Means, Refuses, unfit, too_many, no_token, unfinished, IsPlace}
-use Rattle.predicate_lang.specs.Machine.{State, run, start, is_complete}
+use Rattle.predicate_lang.specs.Machine.{Build, run, start, put, may_put, built, is_complete}
 use Rattle.predicate_lang.specs.Lexing.{seen, IsNext}
-use Rattle.predicate_lang.specs.Building.{Build, nothing_yet, put, puts, may_put, built, erased}
 use Rattle.predicate_lang.specs.Reads.{followed, HasRead}
 use Rattle.predicate_lang.specs.declared.tokens.Lexeme.{Lexeme}
-use Rattle.predicate_lang.proofs.PredicatesRunThrough.{run-none, run-append, begins_runs, runs_predicate}
-use Rattle.predicate_lang.proofs.RunsSpellPredicates.{complete_predicate}
-use Rattle.predicate_lang.proofs.RunsCanBeCompleted.{goes_on_predicate}
-use Rattle.predicate_lang.proofs.Erased.{step_is, complete_is}
-use Rattle.predicate_lang.proofs.WaysOfTheGrammar.{way_of}
-use Rattle.predicate_lang.proofs.Built.{puts-append, built_way}
+use Rattle.predicate_lang.proofs.PredicatesRunThrough.{run-none, run-append, begins_runs, predicate_completes}
+use Rattle.predicate_lang.proofs.WrittenSoFar.{so_far, built_written}
+use Rattle.predicate_lang.proofs.BeginningsCanBeCompleted.{goes_on_predicate}
 
 -- ---- offsets rise
 
@@ -107,8 +103,8 @@ refused_within columns text at (unfinished whole none) = omega arith
 -- ---- how far was read
 
 -- before the first token
-pub nothing_read : (columns : List Column) (text : List ℕ) → HasRead columns text 0 0 nothing_yet
-nothing_read columns text = record { front = []; is_front = refl; many = refl; may_stand = refl; builds = refl }
+pub nothing_read : (columns : List Column) (text : List ℕ) → HasRead columns text 0 0 start
+nothing_read columns text = record { front = []; is_front = refl; many = refl; builds = refl }
 
 followed-push : (ps : List Placed) (p : Placed) (more : Lexed) → followed (ps ++ p ∷ []) more ≡ followed ps (with_token p.token p.at more)
 followed-push [] p more = refl
@@ -118,13 +114,12 @@ abbrev placed : Token → ℕ → Placed
 placed t at = record { token = t; at = at }
 
 -- the run over one token more
-run-push : (columns : List Column) (front : List Placed) (b : Build) (t : Token) (at : ℕ) → run columns (tokens_of front) (Some start) ≡ Some (erased b)
-    → run columns (tokens_of (front ++ placed t at ∷ [])) (Some start) ≡ cond (may_put columns b (seen columns t)) (Some (erased (put b (seen columns t)))) None
+run-push : (columns : List Column) (front : List Placed) (b : Build) (t : Token) (at : ℕ) → run columns (tokens_of front) (Some start) ≡ Some b
+    → run columns (tokens_of (front ++ placed t at ∷ [])) (Some start) ≡ cond (may_put columns b (seen columns t)) (Some (put b (seen columns t))) None
 run-push columns front b t at runs =
     ap (λ ts. run columns ts (Some start)) (map_push (λ (p : Placed). p.token) front (placed t at))
     ∙ run-append columns (tokens_of front) (t ∷ []) (Some start)
     ∙ ap (run columns (t ∷ [])) runs
-    ∙ step_is columns b t
 
 -- and one token more
 pub more_read : (columns : List Column) (text : List ℕ) (from count : ℕ) (b : Build) (l : Lexeme) → HasRead columns text from count b → IsNext columns text from l → may_put columns b l.token ≡ true → HasRead columns text l.end (count + 1) (put b l.token)
@@ -134,16 +129,10 @@ more_read columns text from count b l read next may =
       front = read.front ++ p ∷ [];
       is_front = read.is_front ∙ ap (followed read.front) next.lexed ∙ sym (followed-push read.front p (lexed_from text l.end));
       many = length_push read.front p ∙ ap (λ n. n + 1) read.many;
-      may_stand =
-          run-push columns read.front b next.token l.at read.may_stand
-          ∙ ap (λ t. cond (may_put columns b t) (Some (erased (put b t))) None) (sym next.is_seen)
-          ∙ ap (λ t. cond t (Some (erased (put b l.token))) None) may;
       builds =
-          ap (λ ts. puts nothing_yet (map (seen columns) ts)) (map_push (λ (q : Placed). q.token) read.front p)
-          ∙ ap (puts nothing_yet) (map-append (seen columns) (tokens_of read.front) (next.token ∷ []))
-          ∙ puts-append nothing_yet (map (seen columns) (tokens_of read.front)) (seen columns next.token ∷ [])
-          ∙ ap (λ c. put c (seen columns next.token)) read.builds
-          ∙ ap (put b) (sym next.is_seen);
+          run-push columns read.front b next.token l.at read.builds
+          ∙ ap (λ t. cond (may_put columns b t) (Some (put b t)) None) (sym next.is_seen)
+          ∙ ap (λ t. cond t (Some (put b l.token)) None) may;
     }
 
 -- ---- which tokens were read
@@ -187,15 +176,15 @@ taken (q ∷ front) rest p =
     ap (λ n. take n (q ∷ (front ++ p ∷ rest))) one ∙ ap (λ ps. q ∷ ps) (taken front rest p)
 
 -- a front of what isn't stopped isn't stopped
-front_runs : (columns : List Column) (x y : List Token) (s : State) → run columns (x ++ y) (Some start) ≡ Some s → is_some (run columns x (Some start)) ≡ true
+front_runs : (columns : List Column) (x y : List Token) (s : Build) → run columns (x ++ y) (Some start) ≡ Some s → is_some (run columns x (Some start)) ≡ true
 front_runs columns x y s h = go (run columns x (Some start)) (sym (run-append columns x y (Some start)) ∙ h)
   where
-    go : (o : Option State) → run columns y o ≡ Some s → is_some o ≡ true
+    go : (o : Option Build) → run columns y o ≡ Some s → is_some o ≡ true
     go None e = ap is_some (sym (run-none columns y) ∙ e)
     go (Some r) e = refl
 
 -- so the tokens up to one that was read begin a predicate
-read_begin : (columns : List Column) (front rest : List Placed) (k : ℕ) (s : State) → run columns (tokens_of front) (Some start) ≡ Some s → k < length front → BeginPredicate columns (tokens_of (take (k + 1) (front ++ rest)))
+read_begin : (columns : List Column) (front rest : List Placed) (k : ℕ) (s : Build) → run columns (tokens_of front) (Some start) ≡ Some s → k < length front → BeginPredicate columns (tokens_of (take (k + 1) (front ++ rest)))
 read_begin columns front rest k s runs low =
     let split : tokens_of front ≡ tokens_of (take (k + 1) front) ++ tokens_of (drop (k + 1) front) = ap tokens_of (sym (take-append-drop (k + 1) front)) ∙ map-append (λ (p : Placed). p.token) (take (k + 1) front) (drop (k + 1) front) in
     let begin = goes_on_predicate columns (tokens_of (take (k + 1) front)) (front_runs columns (tokens_of (take (k + 1) front)) (tokens_of (drop (k + 1) front)) s (ap (λ ts. run columns ts (Some start)) (sym split) ∙ runs)) in
@@ -208,7 +197,7 @@ pub none_before : (columns : List Column) (text : List ℕ) (from count n : ℕ)
 none_before columns text from count n b read few within all other (unfit k p is none) = go (where_is read.front (lexed_from text from).tokens k p (ap (λ ps. slice_get ps k) (sym (tokens_are columns text from count b read)) ∙ is))
   where
     go : Where read.front (lexed_from text from).tokens k p → n ≤ p.at
-    go (among_read low) = absurd (none (subst (λ (ps : List Placed). BeginPredicate columns (tokens_of (take (k + 1) ps))) (sym (tokens_are columns text from count b read)) (read_begin columns read.front (lexed_from text from).tokens k (erased b) read.may_stand low)))
+    go (among_read low) = absurd (none (subst (λ (ps : List Placed). BeginPredicate columns (tokens_of (take (k + 1) ps))) (sym (tokens_are columns text from count b read)) (read_begin columns read.front (lexed_from text from).tokens k (b) read.builds low)))
     go (among_rest j here high) = all.tokens j p here
 none_before columns text from count n b read few within all other (too_many p is) = go (where_is read.front (lexed_from text from).tokens 512 p (ap (λ ps. slice_get ps 512) (sym (tokens_are columns text from count b read)) ∙ is))
   where
@@ -239,9 +228,9 @@ unfit_there columns text from count b l read few next may =
     let up_to : take (count + 1) (lexed text).tokens ≡ read.front ++ p ∷ [] = ap (λ n. take (n + 1) (lexed text).tokens) (sym read.many) ∙ ap (take (length read.front + 1)) (next_there columns text from count b l read next) ∙ taken read.front (lexed_from text l.end).tokens p in
     let stopped : run columns (tokens_of (take (count + 1) (lexed text).tokens)) (Some start) ≡ None =
     ap (λ ps. run columns (tokens_of ps) (Some start)) up_to
-    ∙ run-push columns read.front b next.token l.at read.may_stand
-    ∙ ap (λ t. cond (may_put columns b t) (Some (erased (put b t))) None) (sym next.is_seen)
-    ∙ ap (λ t. cond t (Some (erased (put b l.token))) None) may in
+    ∙ run-push columns read.front b next.token l.at read.builds
+    ∙ ap (λ t. cond (may_put columns b t) (Some (put b t)) None) (sym next.is_seen)
+    ∙ ap (λ t. cond t (Some (put b l.token)) None) may in
     let inside : l.end ≤ length text = next.within in
     let longer : l.at < l.end = next.longer in
     record {
@@ -276,7 +265,7 @@ pub unfinished_there : (columns : List Column) (text : List ℕ) (from count : �
 unfinished_there columns text from count b read few none no_tree =
     record {
       refuses = unfinished (stop_is columns text from count b read ∙ ap (λ (l : Lexed). l.stop) none)
-          (λ is. false≢true (sym (ap is_some no_tree) ∙ sym (complete_is b) ∙ ap is_complete (sym read.may_stand ∙ ap (λ ps. run columns (tokens_of ps) (Some start)) (sym (all_read columns text from count b read none)) ∙ runs_predicate columns (tokens_of (lexed text).tokens) is)));
+          (λ is. false≢true (sym (ap is_some no_tree) ∙ ap is_complete (sym read.builds ∙ ap (λ ps. run columns (tokens_of ps) (Some start)) (sym (all_read columns text from count b read none))) ∙ predicate_completes columns (tokens_of (lexed text).tokens) is));
       least = none_before columns text from count (length text) b read few (omega arith) (subst (AllFrom (length text)) (sym none) (from_none (length text)));
     }
 
@@ -284,18 +273,13 @@ unfinished_there columns text from count b read few none no_tree =
 pub finished_there : (columns : List Column) (text : List ℕ) (from count : ℕ) (b : Build) (t : Tree) → HasRead columns text from count b → count ≤ 512 → lexed_from text from ≡ no_tokens None → built b ≡ Some t → Means columns text t
 finished_there columns text from count b t read few none is_tree =
     let are = all_read columns text from count b read none in
-    let complete : is_complete (run columns (tokens_of (lexed text).tokens) (Some start)) ≡ true = ap (λ ps. is_complete (run columns (tokens_of ps) (Some start))) are ∙ ap is_complete read.may_stand ∙ complete_is b ∙ ap is_some is_tree in
-    let is = complete_predicate columns (tokens_of (lexed text).tokens) complete in
-    let w = way_of columns most_depth (tokens_of (lexed text).tokens) is.0 is.1 in
-    let same : Some is.0 ≡ Some t =
-    sym (built_way columns w.way is.0 w.is_tree) ∙ ap (λ ts. built (puts nothing_yet (map (seen columns) ts))) (sym w.spelled ∙ ap tokens_of are) ∙ ap built read.builds ∙ is_tree in
-    let tree_is : is.0 ≡ t = cc in
+    let runs : run columns (tokens_of (lexed text).tokens) (Some start) ≡ Some b = ap (λ ps. run columns (tokens_of ps) (Some start)) are ∙ read.builds in
     let many : length read.front ≡ count = read.many in
     let long : length (lexed text).tokens ≡ length read.front = ap length are in
     record {
       whole = stop_is columns text from count b read ∙ ap (λ (l : Lexed). l.stop) none;
       few = omega (arith, many, long, few);
-      writes = subst (Writes columns (tokens_of (lexed text).tokens)) tree_is is.1;
+      writes = built_written columns (tokens_of (lexed text).tokens) b.frames b.ors b.ands b.stand t (so_far columns (tokens_of (lexed text).tokens) b runs) is_tree;
     }
 
 too_short : (ps : List Placed) (k : ℕ) (p : Placed) → length ps ≤ k → slice_get ps k ≡ Some p → ⊥

@@ -1,6 +1,6 @@
 pub mod PredicatesRunThrough
-pub mod RunsSpellPredicates
-pub mod RunsCanBeCompleted
+pub mod WrittenSoFar
+pub mod BeginningsCanBeCompleted
 pub mod RoundTrip
 pub mod ReadAgain
 pub mod LeastWays
@@ -13,8 +13,6 @@ pub mod Numbers
 pub mod Quotes
 pub mod Fronts
 pub mod NextToken
-pub mod Erased
-pub mod Built
 pub mod LeastPlace
 pub mod Refusals
 pub mod QuotedTexts

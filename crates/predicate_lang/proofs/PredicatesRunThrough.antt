@@ -1,61 +1,32 @@
--- The machine runs through every way to write a predicate.
-use Rattle.std.proofs.Common.{◌≡◌, ℕ, ◌+◌, ◌<◌, ◌≤◌, Bool, true, false, cond, ◌&&◌, List, [], ◌∷◌, ◌++◌, length, Option, Some, None, refl, sym, ap, ◌∙◌, arith}
-use Rattle.std.specs.Prelude.{is_some}
+-- The machine runs through every predicate, and builds its tree.
+use Rattle.std.proofs.Common.{◌≡◌, ℕ, ◌+◌, ◌<◌, ◌≤◌, true, false, cond, List, [], ◌∷◌, ◌++◌, length, Option, Some, None, refl, sym, ap, ◌∙◌, arith, append_assoc}
+use Rattle.std.specs.Prelude.{is_some, unwrap_or}
 use Rattle.std.specs.List.{list_all}
-use Rattle.std.proofs.lemmas.Bool.{false≢true}
-use Rattle.schema_json.specs.Columns.{Column, place_of, role_at}
+use Rattle.std.proofs.lemmas.Bool.{lt-ltb, and_parts}
+use Rattle.std.proofs.lemmas.List.{append-nil}
+use Rattle.schema_json.specs.Columns.{Column, role_at}
 use Rattle.schema_json.specs.declared.roles.Role.{Role}
 use Rattle.schema_json.specs.declared.roles.Role.TheVariants as role
-use Rattle.predicate_lang.specs.Trees.{Tree, negation, both, either, compared, among, fits, is_of_role, has_operator}
-use Rattle.predicate_lang.specs.Tokens.{Token, and_word, or_word, in_word, value, operator, open_bracket, close_bracket}
-use Rattle.predicate_lang.specs.Grammar.{more_literals, most_depth, IsPredicate, BeginPredicate}
-use Rattle.predicate_lang.proofs.Ways.{Disjunction, Conjunction, Operand, conj, or_conj, unit, and_unit, all, not_unit, in_brackets, compare, one_of, spell, spell_conj, spell_unit, depth, depth_conj, depth_unit, tree, tree_conj, tree_unit, one, two, at_column}
-use Rattle.predicate_lang.specs.Machine.{Open, a_not, a_bracket, State, Place, operand, behind_name, behind_operator, behind_literal, without_nots, done, opening, named, public_role, step, run, start}
+use Rattle.predicate_lang.specs.Trees.{Tree, compared, among, is_of_role, has_operator}
+use Rattle.predicate_lang.specs.Tokens.{Token, lexed, and_word, or_word, in_word, value, operator, open_bracket, close_bracket}
+use Rattle.predicate_lang.specs.Grammar.{Disjunction, Conjunction, Operand, conj, or_conj, unit, and_unit, all, not_unit, in_brackets, compare, one_of, more_literals, most_depth, Writes, IsPredicate, BeginPredicate}
+use Rattle.predicate_lang.specs.Places.{Means, tokens_of}
+use Rattle.predicate_lang.specs.Machine.{Frame, a_not, a_bracket, at_operand, at_name, at_operator, at_literal, behind, Build, build, start, add_and, add_or, is_under_not, negated, whole, has_room, public_role, step, run, built, is_complete}
 use Rattle.predicate_lang.specs.declared.trees.Op.{Op}
 use Rattle.predicate_lang.specs.declared.trees.Literal.{Literal}
-use Rattle.predicate_lang.proofs.WaysOfTheGrammar.{way_of}
-use Rattle.std.proofs.lemmas.Bool.{lt-ltb}
+use Rattle.predicate_lang.specs.declared.tokens.Token.TheVariants.{Column as ColumnToken}
+use Rattle.predicate_lang.proofs.Frames.{without_nots_bracket, negated_bracket}
 
 pub run-none : (columns : List Column) (ts : List Token) → run columns ts None ≡ None
 run-none columns [] = refl
 run-none columns (t ∷ ts) = refl
 
-pub run-append : (columns : List Column) (a b : List Token) (s : Option State) → run columns (a ++ b) s ≡ run columns b (run columns a s)
+pub run-append : (columns : List Column) (a b : List Token) (s : Option Build) → run columns (a ++ b) s ≡ run columns b (run columns a s)
 run-append columns [] b s = refl
 run-append columns (t ∷ a) b None = sym (run-none columns b)
-run-append columns (t ∷ a) b (Some s) = run-append columns a b (step columns s t)
+run-append columns (t ∷ a) b (Some s) = run-append columns a b (run columns (t ∷ []) (Some s))
 
--- a tree that there is, and that fits
-abbrev pub good : List Column → Option Tree → Bool
-good columns None = false
-good columns (Some t) = fits columns t
-
-pub good_one : (columns : List Column) (o : Option Tree) → good columns (one negation o) ≡ good columns o
-good_one columns None = refl
-good_one columns (Some t) = refl
-
-and_false : (b : Bool) → (b && false) ≡ false
-and_false true = refl
-and_false false = refl
-
-pub good_both : (columns : List Column) (p q : Option Tree) → good columns (two both p q) ≡ good columns p && good columns q
-good_both columns None q = refl
-good_both columns (Some p) None = sym (and_false (fits columns p))
-good_both columns (Some p) (Some q) = refl
-
-pub good_either : (columns : List Column) (p q : Option Tree) → good columns (two either p q) ≡ good columns p && good columns q
-good_either columns None q = refl
-good_either columns (Some p) None = sym (and_false (fits columns p))
-good_either columns (Some p) (Some q) = refl
-
-pub and_left : (a b : Bool) → (a && b) ≡ true → a ≡ true
-and_left true b h = refl
-and_left false b h = h
-
-pub and_right : (a b : Bool) → (a && b) ≡ true → b ≡ true
-and_right true b h = h
-and_right false b h = absurd (false≢true h)
-
+-- a column whose role takes a literal is public
 role_public : (r : Option Role) (l : Literal) → is_of_role r l ≡ true → public_role r ≡ true
 role_public (Some role.Number) l h = refl
 role_public (Some role.Text) l h = refl
@@ -63,87 +34,115 @@ role_public (Some role.Sum) l h = h
 role_public (Some role.Max) l h = h
 role_public None l h = h
 
-abbrev pub at_place : List Open → Place → State
-at_place opened place = record { opened = opened; place = place }
+-- behind a whole operand where no `not` waits for it
+plain_whole : (fs : List Frame) (ors ands : Option Tree) (t : Tree) → is_under_not fs ≡ false → whole fs ors ands t ≡ build fs ors None (behind (add_and ands t))
+plain_whole fs ors ands t plain = ap (λ gs. build gs ors None (behind (add_and ands (negated fs t)))) (without_nots_bracket fs plain) ∙ ap (λ u. build fs ors None (behind (add_and ands u))) (negated_bracket fs t plain)
 
-abbrev pub operand_at : List Open → State
-operand_at opened = at_place opened operand
+module _ (columns : List Column) where
+  -- behind a whole disjunction
+  record Behind (fs : List Frame) (t : Tree) (s : Option Build) : Type 0 where
+    ors : Option Tree
+    last : Tree
+    is : s ≡ Some (build fs ors None (behind last))
+    adds : add_or ors last ≡ t
 
-abbrev compare_runs : List Column → List Open → List ℕ → Op → Literal → Option ℕ → Type 0
-compare_runs columns opened n o l p = good columns (at_column (λ c. compared c o l) p) ≡ true → run columns (operator o ∷ value l ∷ []) (named columns opened p) ≡ Some (done opened)
+  runs_compare : (fs : List Frame) (ors ands : Option Tree) (c : ℕ) (o : Op) (l : Literal) → has_operator (role_at columns c) o ≡ true → is_of_role (role_at columns c) l ≡ true
+      → run columns (operator o ∷ value l ∷ []) (step columns (build fs ors ands at_operand) (ColumnToken (Some c))) ≡ Some (whole fs ors ands (compared c o l))
+  runs_compare fs ors ands c o l takes of_role =
+      ap (λ b. run columns (operator o ∷ value l ∷ []) (cond b (Some (build fs ors ands (at_name c))) None)) (role_public (role_at columns c) l of_role)
+      ∙ ap (λ b. run columns (value l ∷ []) (cond b (Some (build fs ors ands (at_operator c o))) None)) takes
+      ∙ ap (λ b. cond b (Some (whole fs ors ands (compared c o l))) None) of_role
 
-runs_compare : (columns : List Column) (opened : List Open) (n : List ℕ) (o : Op) (l : Literal) (p : Option ℕ) → compare_runs columns opened n o l p
-runs_compare columns opened n o l None h = absurd (false≢true h)
-runs_compare columns opened n o l (Some c) h =
-    let first = and_left (has_operator (role_at columns c) o) (is_of_role (role_at columns c) l) h in
-    let second = and_right (has_operator (role_at columns c) o) (is_of_role (role_at columns c) l) h in
-    let third = role_public (role_at columns c) l second in
-    ap (λ b. run columns (operator o ∷ value l ∷ []) (cond b (Some (at_place opened (behind_name c))) None)) third
-    ∙ ap (λ b. run columns (value l ∷ []) (cond b (Some (at_place opened (behind_operator c))) None)) first
-    ∙ ap (λ b. run columns [] (cond b (Some (done opened)) None)) second
+  runs_more : (fs : List Frame) (ors ands : Option Tree) (c : ℕ) (done ls : List Literal) → list_all (is_of_role (role_at columns c)) ls ≡ true
+      → run columns (more_literals ls) (Some (build fs ors ands (at_literal c done))) ≡ Some (whole fs ors ands (among c (done ++ ls)))
+  runs_more fs ors ands c done [] of_role = ap (λ xs. Some (whole fs ors ands (among c xs))) (sym (append-nil done))
+  runs_more fs ors ands c done (l ∷ ls) of_role =
+      let tests = and_parts (is_of_role (role_at columns c) l) (list_all (is_of_role (role_at columns c)) ls) of_role in
+      ap (λ b. run columns (more_literals ls) (cond b (Some (build fs ors ands (at_literal c (done ++ l ∷ [])))) None)) tests.0
+      ∙ runs_more fs ors ands c (done ++ l ∷ []) ls tests.1
+      ∙ ap (λ xs. Some (whole fs ors ands (among c xs))) (append_assoc done (l ∷ []) ls)
 
-runs_more : (columns : List Column) (opened : List Open) (c : ℕ) (ls : List Literal) → list_all (is_of_role (role_at columns c)) ls ≡ true → run columns (more_literals ls) (Some (at_place opened (behind_literal c))) ≡ Some (done opened)
-runs_more columns opened c [] h = refl
-runs_more columns opened c (l ∷ ls) h =
-    ap (λ b. run columns (more_literals ls) (cond b (Some (at_place opened (behind_literal c))) None)) (and_left (is_of_role (role_at columns c) l) (list_all (is_of_role (role_at columns c)) ls) h)
-    ∙ runs_more columns opened c ls (and_right (is_of_role (role_at columns c) l) (list_all (is_of_role (role_at columns c)) ls) h)
+  runs_one_of : (fs : List Frame) (ors ands : Option Tree) (c : ℕ) (l : Literal) (ls : List Literal) → list_all (is_of_role (role_at columns c)) (l ∷ ls) ≡ true
+      → run columns (in_word ∷ open_bracket ∷ value l ∷ more_literals ls) (step columns (build fs ors ands at_operand) (ColumnToken (Some c))) ≡ Some (whole fs ors ands (among c (l ∷ ls)))
+  runs_one_of fs ors ands c l ls of_role =
+      let tests = and_parts (is_of_role (role_at columns c) l) (list_all (is_of_role (role_at columns c)) ls) of_role in
+      ap (λ b. run columns (in_word ∷ open_bracket ∷ value l ∷ more_literals ls) (cond b (Some (build fs ors ands (at_name c))) None)) (role_public (role_at columns c) l tests.0)
+      ∙ ap (λ b. run columns (more_literals ls) (cond b (Some (build fs ors ands (at_literal c (l ∷ [])))) None)) tests.0
+      ∙ runs_more fs ors ands c (l ∷ []) ls tests.1
 
-runs_one_of : (columns : List Column) (opened : List Open) (l : Literal) (ls : List Literal) (p : Option ℕ) → good columns (at_column (λ c. among c (l ∷ ls)) p) ≡ true → run columns (in_word ∷ open_bracket ∷ value l ∷ more_literals ls) (named columns opened p) ≡ Some (done opened)
-runs_one_of columns opened l ls None h = absurd (false≢true h)
-runs_one_of columns opened l ls (Some c) h =
-    let first = and_left (is_of_role (role_at columns c) l) (list_all (is_of_role (role_at columns c)) ls) h in
-    ap (λ b. run columns (in_word ∷ open_bracket ∷ value l ∷ more_literals ls) (cond b (Some (at_place opened (behind_name c))) None)) (role_public (role_at columns c) l first)
-    ∙ ap (λ b. run columns (more_literals ls) (cond b (Some (at_place opened (behind_literal c))) None)) first
-    ∙ runs_more columns opened c ls (and_right (is_of_role (role_at columns c) l) (list_all (is_of_role (role_at columns c)) ls) h)
+  -- one more may be open
+  opens : (fs : List Frame) (b : Build) → length fs < 64 → cond (has_room fs) (Some b) None ≡ Some b
+  opens fs b low = ap (λ t. cond t (Some b) None) (lt-ltb (length fs) 64 low)
 
-opens_more : (opened : List Open) (o : Open) → length opened < 64 → opening opened o ≡ Some (operand_at (o ∷ opened))
-opens_more opened o h = ap (λ b. cond b (Some (operand_at (o ∷ opened))) None) (lt-ltb (length opened) 64 h)
+  mutual
+    runs_all : (room : ℕ) (ts : List Token) (t : Tree) (d : Disjunction columns room ts t) (fs : List Frame) → is_under_not fs ≡ false → length fs + room ≤ 64 → Behind fs t (run columns ts (Some (build fs None None at_operand)))
+    runs_all room ts t (conj c) fs plain deep = record { ors = None; last = t; is = runs_conj room ts t c fs None plain deep; adds = refl }
+    runs_all room ts t (or_conj {ts = xs} {us = ys} {p = p} {q = q} d c) fs plain deep =
+        let front = runs_all room xs p d fs plain deep in
+        record {
+          ors = Some p;
+          last = q;
+          is =
+              run-append columns xs (or_word ∷ ys) (Some (build fs None None at_operand))
+              ∙ ap (run columns (or_word ∷ ys)) front.is
+              ∙ ap (λ u. run columns ys (Some (build fs (Some u) None at_operand))) front.adds
+              ∙ runs_conj room ys q c fs (Some p) plain deep;
+          adds = refl;
+        }
 
-mutual
-  pub runs_disjunction : (columns : List Column) (d : Disjunction) (opened : List Open) → without_nots opened ≡ opened → length opened + depth d ≤ 64 → good columns (tree columns d) ≡ true
-      → run columns (spell d) (Some (operand_at opened)) ≡ Some (done opened)
-  runs_disjunction columns (conj c) opened plain deep fit = runs_conjunction columns c opened plain deep fit
-  runs_disjunction columns (or_conj d c) opened plain deep fit =
-      let fits_both = sym (good_either columns (tree columns d) (tree_conj columns c)) ∙ fit in
-      run-append columns (spell d) (or_word ∷ spell_conj c) (Some (operand_at opened))
-      ∙ ap (run columns (or_word ∷ spell_conj c)) (runs_disjunction columns d opened plain (omega (arith, deep)) (and_left (good columns (tree columns d)) (good columns (tree_conj columns c)) fits_both))
-      ∙ ap (λ os. run columns (spell_conj c) (Some (operand_at os))) plain
-      ∙ runs_conjunction columns c opened plain (omega (arith, deep)) (and_right (good columns (tree columns d)) (good columns (tree_conj columns c)) fits_both)
+    runs_conj : (room : ℕ) (ts : List Token) (t : Tree) (c : Conjunction columns room ts t) (fs : List Frame) (ors : Option Tree) → is_under_not fs ≡ false → length fs + room ≤ 64
+        → run columns ts (Some (build fs ors None at_operand)) ≡ Some (build fs ors None (behind t))
+    runs_conj room ts t (unit u) fs ors plain deep = runs_unit room ts t u fs ors None deep ∙ ap Some (plain_whole fs ors None t plain)
+    runs_conj room ts t (and_unit {ts = xs} {us = ys} {p = p} {q = q} c u) fs ors plain deep =
+        run-append columns xs (and_word ∷ ys) (Some (build fs ors None at_operand))
+        ∙ ap (run columns (and_word ∷ ys)) (runs_conj room xs p c fs ors plain deep)
+        ∙ runs_unit room ys q u fs ors (Some p) deep
+        ∙ ap Some (plain_whole fs ors (Some p) q plain)
 
-  pub runs_conjunction : (columns : List Column) (c : Conjunction) (opened : List Open) → without_nots opened ≡ opened → length opened + depth_conj c ≤ 64 → good columns (tree_conj columns c) ≡ true
-      → run columns (spell_conj c) (Some (operand_at opened)) ≡ Some (done opened)
-  runs_conjunction columns (unit u) opened plain deep fit = runs_operand columns u opened deep fit
-  runs_conjunction columns (and_unit c u) opened plain deep fit =
-      let fits_both = sym (good_both columns (tree_conj columns c) (tree_unit columns u)) ∙ fit in
-      run-append columns (spell_conj c) (and_word ∷ spell_unit u) (Some (operand_at opened))
-      ∙ ap (run columns (and_word ∷ spell_unit u)) (runs_conjunction columns c opened plain (omega (arith, deep)) (and_left (good columns (tree_conj columns c)) (good columns (tree_unit columns u)) fits_both))
-      ∙ ap (λ os. run columns (spell_unit u) (Some (operand_at os))) plain
-      ∙ runs_operand columns u opened (omega (arith, deep)) (and_right (good columns (tree_conj columns c)) (good columns (tree_unit columns u)) fits_both)
+    runs_unit : (room : ℕ) (ts : List Token) (t : Tree) (u : Operand columns room ts t) (fs : List Frame) (ors ands : Option Tree) → length fs + room ≤ 64
+        → run columns ts (Some (build fs ors ands at_operand)) ≡ Some (whole fs ors ands t)
+    runs_unit room ts t all fs ors ands deep = refl
+    runs_unit room ts t (not_unit {room = less} {ts = xs} {p = p} u) fs ors ands deep =
+        ap (run columns xs) (opens fs (build (a_not ∷ fs) ors ands at_operand) (omega (arith, deep))) ∙ runs_unit less xs p u (a_not ∷ fs) ors ands (omega (arith, deep))
+    runs_unit room ts t (in_brackets {room = less} {ts = xs} d) fs ors ands deep =
+        let inner = runs_all less xs t d (a_bracket ors ands ∷ fs) refl (omega (arith, deep)) in
+        ap (run columns (xs ++ close_bracket ∷ [])) (opens fs (build (a_bracket ors ands ∷ fs) None None at_operand) (omega (arith, deep)))
+        ∙ run-append columns xs (close_bracket ∷ []) (Some (build (a_bracket ors ands ∷ fs) None None at_operand))
+        ∙ ap (run columns (close_bracket ∷ [])) inner.is
+        ∙ ap (λ u. Some (whole fs ors ands u)) inner.adds
+    runs_unit room ts t (compare {c = c} {o = o} {l = l} place takes of_role) fs ors ands deep =
+        ap (λ p. run columns (operator o ∷ value l ∷ []) (step columns (build fs ors ands at_operand) (ColumnToken p))) place ∙ runs_compare fs ors ands c o l takes of_role
+    runs_unit room ts t (one_of {c = c} {l = l} {ls = ls} place of_role) fs ors ands deep =
+        ap (λ p. run columns (in_word ∷ open_bracket ∷ value l ∷ more_literals ls) (step columns (build fs ors ands at_operand) (ColumnToken p))) place ∙ runs_one_of fs ors ands c l ls of_role
 
-  pub runs_operand : (columns : List Column) (u : Operand) (opened : List Open) → length opened + depth_unit u ≤ 64 → good columns (tree_unit columns u) ≡ true
-      → run columns (spell_unit u) (Some (operand_at opened)) ≡ Some (done opened)
-  runs_operand columns all opened deep fit = refl
-  runs_operand columns (not_unit u) opened deep fit =
-      ap (run columns (spell_unit u)) (opens_more opened a_not (omega (arith, deep)))
-      ∙ runs_operand columns u (a_not ∷ opened) (omega (arith, deep)) (sym (good_one columns (tree_unit columns u)) ∙ fit)
-  runs_operand columns (in_brackets d) opened deep fit =
-      run-append columns (spell d) (close_bracket ∷ []) (opening opened a_bracket)
-      ∙ ap (λ s. run columns (close_bracket ∷ []) (run columns (spell d) s)) (opens_more opened a_bracket (omega (arith, deep)))
-      ∙ ap (run columns (close_bracket ∷ [])) (runs_disjunction columns d (a_bracket ∷ opened) refl (omega (arith, deep)) fit)
-  runs_operand columns (compare n o l) opened deep fit = runs_compare columns opened n o l (place_of n columns) fit
-  runs_operand columns (one_of n l ls) opened deep fit = runs_one_of columns opened l ls (place_of n columns) fit
+  -- the machine stands behind this tree, and nothing is open
+  pub record StandsBehind (t : Tree) (s : Option Build) : Type 0 where
+    pub last : Build
+    pub is : s ≡ Some last
+    pub built_is : built last ≡ Some t
 
--- every predicate is run through to its end
-pub runs_predicate : (columns : List Column) (tokens : List Token) → IsPredicate columns tokens → run columns tokens (Some start) ≡ Some (done [])
-runs_predicate columns tokens is =
-    let w = way_of columns most_depth tokens is.0 is.1 in
-    ap (λ ts. run columns ts (Some start)) w.spelled
-    ∙ runs_disjunction columns w.way [] refl (omega (arith, w.shallow)) (ap (good columns) w.is_tree ∙ w.fitting)
+  -- what writes a tree is run through to its end, and builds the tree
+  pub runs_predicate : (tokens : List Token) (t : Tree) → Writes columns tokens t → StandsBehind t (run columns tokens (Some start))
+  runs_predicate tokens t writes = let whole_run = runs_all most_depth tokens t writes [] refl (omega arith) in record { last = build [] whole_run.ors None (behind whole_run.last); is = whole_run.is; built_is = ap Some whole_run.adds }
 
--- and what begins one isn't stopped
-pub begins_runs : (columns : List Column) (tokens : List Token) → BeginPredicate columns tokens → is_some (run columns tokens (Some start)) ≡ true
-begins_runs columns tokens is = goes (run columns tokens (Some start)) (sym (run-append columns tokens is.0 (Some start)) ∙ runs_predicate columns (tokens ++ is.0) is.1)
-  where
-    goes : (s : Option State) → run columns is.0 s ≡ Some (done []) → is_some s ≡ true
-    goes None h = ap is_some (sym (run-none columns is.0) ∙ h)
-    goes (Some s) h = refl
+  pub predicate_completes : (tokens : List Token) → IsPredicate columns tokens → is_complete (run columns tokens (Some start)) ≡ true
+  predicate_completes tokens is = let end = runs_predicate tokens is.0 is.1 in ap is_complete end.is ∙ ap is_some end.built_is
+
+  -- and what begins one isn't stopped
+  pub begins_runs : (tokens : List Token) → BeginPredicate columns tokens → is_some (run columns tokens (Some start)) ≡ true
+  begins_runs tokens is = goes (run columns tokens (Some start)) (sym (run-append columns tokens is.0 (Some start)) ∙ end.is)
+    where
+      end : StandsBehind is.1.0 (run columns (tokens ++ is.0) (Some start))
+      end = runs_predicate (tokens ++ is.0) is.1.0 is.1.1
+
+      goes : (s : Option Build) → run columns is.0 s ≡ Some end.last → is_some s ≡ true
+      goes None h = ap is_some (sym (run-none columns is.0) ∙ h)
+      goes (Some s) h = refl
+
+  -- tokens write one tree
+  pub one_tree : (text : List ℕ) (s t : Tree) → Means columns text s → Means columns text t → s ≡ t
+  one_tree text s t first second =
+      let a = runs_predicate (tokens_of (lexed text).tokens) s first.writes in
+      let b = runs_predicate (tokens_of (lexed text).tokens) t second.writes in
+      let both : Some s ≡ Some t = sym a.built_is ∙ ap (λ o. built (unwrap_or o start)) (sym a.is ∙ b.is) ∙ b.built_is in
+      cc

@@ -5,12 +5,13 @@ use Rattle.predicate_lang.specs.Trees.{Tree, tree_of}
 use Rattle.predicate_lang.specs.Tokens.{lexed_from, no_tokens}
 use Rattle.predicate_lang.specs.Places.{Means, IsPlace, IsWhereFault, IsWithin, ReadsTree}
 use Rattle.predicate_lang.specs.Lexing.{Lexes}
-use Rattle.predicate_lang.specs.Building.{Build, Goes, Finishes}
+use Rattle.predicate_lang.specs.Machine.{Build}
+use Rattle.predicate_lang.specs.Building.{Goes, Finishes}
 use Rattle.predicate_lang.specs.declared.trees.Pred.{Pred}
 use Rattle.predicate_lang.specs.declared.trees.WhereFault.{WhereFault}
 use Rattle.predicate_lang.specs.declared.trees.WhereFault.TheVariants.{Bad, NoMemory}
 use Rattle.predicate_lang.proofs.LeastPlace.{refused_means_nothing, refused_within}
-use Rattle.predicate_lang.proofs.Built.{one_tree}
+use Rattle.predicate_lang.proofs.PredicatesRunThrough.{one_tree}
 
 pub refused_put : {X : Type 0} (columns : List Column) (text : List ℕ) (test : Bool) (b : Build) (at : ℕ) (fault : WhereFault) (left : X → Build) → Goes {X = X} test b at (Err fault) left → (test ≡ false → IsPlace columns text at) → IsWhereFault columns text fault
 refused_put columns text test b at (Bad n) left h place = subst (IsPlace columns text) (sym h.1) (place h.0)

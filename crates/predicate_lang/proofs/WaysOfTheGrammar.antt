@@ -1,6 +1,5 @@
 -- What the grammar says that tokens write, some way writes, and what a way writes, the grammar says.
 use Rattle.std.proofs.Common.{◌≡◌, ℕ, zero, suc, ◌≤◌, true, List, [], ◌∷◌, ◌++◌, Option, Some, None, refl, sym, ap, ◌∙◌, subst, arith}
-use Rattle.std.specs.List.{list_all}
 use Rattle.std.proofs.lemmas.Bool.{and_parts, and_from}
 use Rattle.schema_json.specs.Columns.{Column, place_of, role_at}
 use Rattle.predicate_lang.specs.Trees.{Tree, all_rows, negation, both, either, compared, among, fits, is_of_role, has_operator}

@@ -4,9 +4,9 @@ pub mod Grammar
 pub mod Places
 pub mod Printing
 pub mod Meaning
-pub mod Machine
 pub mod Examples
 pub mod Lexing
+pub mod Machine
 pub mod Building
 pub mod Reads
 pub mod Steps

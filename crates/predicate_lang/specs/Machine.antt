@@ -1,172 +1,164 @@
--- What may come next, token by token: a place in the grammar, and the brackets and `not` that are open there.
-use Rattle.std.specs.Prelude.{ℕ, Bool, true, false, cond, List, [], ◌∷◌, length, Option, Some, None, nat_lt}
-use Rattle.schema_json.specs.Columns.{Column, place_of, role_at}
-use Rattle.predicate_lang.specs.Trees.{is_of_role, has_operator}
-use Rattle.predicate_lang.specs.Tokens.{Token, and_word, or_word, not_word, all_word, in_word, name, value, operator, open_bracket, close_bracket, comma}
+-- The reader's machine: the tree so far with what is open, which tokens may come next, and what they make of it.
+use Rattle.std.specs.Prelude.{ℕ, Bool, true, false, cond, List, [], ◌∷◌, ◌++◌, length, Option, Some, None, is_some, option_and_then, nat_lt}
+use Rattle.schema_json.specs.Columns.{Column, role_at}
 use Rattle.schema_json.specs.declared.roles.Role.{Role}
-use Rattle.schema_json.specs.declared.roles.Role.TheVariants.{Text, Number, Sum, Max}
+use Rattle.schema_json.specs.declared.roles.Role.TheVariants.{Text, Number}
+use Rattle.predicate_lang.specs.Trees.{Tree, all_rows, negation, both, either, compared, among, is_of_role, has_operator}
+use Rattle.predicate_lang.specs.Tokens as text
+use Rattle.predicate_lang.specs.Lexing.{seen}
+use Rattle.predicate_lang.specs.declared.trees.Op.{Op}
+use Rattle.predicate_lang.specs.declared.trees.Literal.{Literal}
+use Rattle.predicate_lang.specs.declared.tokens.Token.{Token}
+use Rattle.predicate_lang.specs.declared.tokens.Token.TheVariants.{And, Or, Not, All, In, Column as ColumnToken, Value, Operator, OpenBracket, CloseBracket, Comma}
 
-pub data Open : Type 0 where
-  a_not : Open
-  a_bracket : Open
+-- ---- what is kept
 
-pub data Place : Type 0 where
-  operand : Place
-  behind_name : ℕ → Place
-  behind_operator : ℕ → Place
-  behind_in : ℕ → Place
-  behind_comma : ℕ → Place
-  behind_literal : ℕ → Place
-  behind_operand : Place
+-- a `not`, or a bracket with the `or` part and the `and` part that stand before it
+pub data Frame : Type 0 where
+  a_not : Frame
+  a_bracket : Option Tree → Option Tree → Frame
 
-pub record State : Type 0 where
-  pub opened : List Open
-  pub place : Place
+-- where the next token stands: before an operand, or behind a part or the whole of it
+pub data Stand : Type 0 where
+  at_operand : Stand
+  at_name : ℕ → Stand
+  at_operator : ℕ → Op → Stand
+  at_in : ℕ → Stand
+  at_comma : ℕ → List Literal → Stand
+  at_literal : ℕ → List Literal → Stand
+  behind : Tree → Stand
 
--- a `not` is in force up to the end of its operand
-abbrev pub without_nots : List Open → List Open
+-- what is open, the innermost first; the `or` part and the `and` part before the operand; and where the next token stands
+pub record Build : Type 0 where
+  pub frames : List Frame
+  pub ors : Option Tree
+  pub ands : Option Tree
+  pub stand : Stand
+
+abbrev pub build : List Frame → Option Tree → Option Tree → Stand → Build
+build frames ors ands stand = record { frames = frames; ors = ors; ands = ands; stand = stand }
+
+-- before the first token
+abbrev pub start : Build
+start = build [] None None at_operand
+
+-- ---- what one token more makes of it
+
+abbrev pub add_and : Option Tree → Tree → Tree
+add_and None p = p
+add_and (Some c) p = both c p
+
+abbrev pub add_or : Option Tree → Tree → Tree
+add_or None p = p
+add_or (Some d) p = either d p
+
+-- a `not` ends with its operand
+abbrev pub without_nots : List Frame → List Frame
 without_nots [] = []
-without_nots (a_not ∷ opened) = without_nots opened
-without_nots (a_bracket ∷ opened) = a_bracket ∷ opened
+without_nots (a_not ∷ fs) = without_nots fs
+without_nots (a_bracket o a ∷ fs) = a_bracket o a ∷ fs
+
+-- a `not` stands right before the operand
+abbrev pub is_under_not : List Frame → Bool
+is_under_not [] = false
+is_under_not (a_not ∷ fs) = true
+is_under_not (a_bracket o a ∷ fs) = false
+
+-- the operand under each `not` that stands right before it
+abbrev pub negated : List Frame → Tree → Tree
+negated [] p = p
+negated (a_not ∷ fs) p = negated fs (negation p)
+negated (a_bracket o a ∷ fs) p = p
 
 -- behind a whole operand
-abbrev pub done : List Open → State
-done opened = record { opened = without_nots opened; place = behind_operand }
+abbrev pub whole : List Frame → Option Tree → Option Tree → Tree → Build
+whole fs ors ands p = build (without_nots fs) ors None (behind (add_and ands (negated fs p)))
 
-abbrev pub most_open : ℕ
-most_open = 64
+-- behind a closing bracket
+abbrev pub closed : List Frame → Option Tree → Tree → Build
+closed [] ors p = build [] ors None (behind p)
+closed (a_not ∷ fs) ors p = build (a_not ∷ fs) ors None (behind p)
+closed (a_bracket o a ∷ fs) ors p = whole fs o a (add_or ors p)
 
-abbrev pub opening : List Open → Open → Option State
-opening opened o = cond (nat_lt (length opened) most_open) (Some (record { opened = o ∷ opened; place = operand })) None
+abbrev pub put_at : Build → Stand → Token → Build
+put_at b at_operand Not = build (a_not ∷ b.frames) b.ors b.ands at_operand
+put_at b at_operand All = whole b.frames b.ors b.ands all_rows
+put_at b at_operand (ColumnToken (Some c)) = build b.frames b.ors b.ands (at_name c)
+put_at b at_operand OpenBracket = build (a_bracket b.ors b.ands ∷ b.frames) None None at_operand
+put_at b (at_name c) (Operator o) = build b.frames b.ors b.ands (at_operator c o)
+put_at b (at_name c) In = build b.frames b.ors b.ands (at_in c)
+put_at b (at_operator c o) (Value l) = whole b.frames b.ors b.ands (compared c o l)
+put_at b (at_in c) OpenBracket = build b.frames b.ors b.ands (at_comma c [])
+put_at b (at_comma c ls) (Value l) = build b.frames b.ors b.ands (at_literal c (ls ++ l ∷ []))
+put_at b (at_literal c ls) Comma = build b.frames b.ors b.ands (at_comma c ls)
+put_at b (at_literal c ls) CloseBracket = whole b.frames b.ors b.ands (among c ls)
+put_at b (behind p) And = build b.frames b.ors (Some p) at_operand
+put_at b (behind p) Or = build b.frames (Some (add_or b.ors p)) None at_operand
+put_at b (behind p) CloseBracket = closed b.frames b.ors p
+put_at b stand t = b
 
-abbrev pub closing : List Open → Option State
-closing [] = None
-closing (a_not ∷ opened) = None
-closing (a_bracket ∷ opened) = Some (done opened)
+-- with one token more, where it may stand there
+abbrev pub put : Build → Token → Build
+put b t = put_at b b.stand t
 
+-- ---- which tokens may stand there
+
+-- one more `not` or bracket may be open
+abbrev pub has_room : List Frame → Bool
+has_room fs = nat_lt (length fs) 64
+
+-- the innermost that is open is a bracket
+abbrev pub is_in_bracket : List Frame → Bool
+is_in_bracket [] = false
+is_in_bracket (a_not ∷ fs) = false
+is_in_bracket (a_bracket o a ∷ fs) = true
+
+-- a condition may name a column of this role
 abbrev pub public_role : Option Role → Bool
-public_role None = false
 public_role (Some Text) = true
 public_role (Some Number) = true
-public_role (Some Sum) = false
-public_role (Some Max) = false
+public_role role = false
 
-abbrev pub named : List Column → List Open → Option ℕ → Option State
-named columns opened None = None
-named columns opened (Some c) = cond (public_role (role_at columns c)) (Some (record { opened = opened; place = behind_name c })) None
+abbrev pub may_stand : List Column → List Frame → Stand → Token → Bool
+may_stand columns fs at_operand Not = has_room fs
+may_stand columns fs at_operand OpenBracket = has_room fs
+may_stand columns fs at_operand All = true
+may_stand columns fs at_operand (ColumnToken (Some c)) = public_role (role_at columns c)
+may_stand columns fs (at_name c) In = true
+may_stand columns fs (at_name c) (Operator o) = has_operator (role_at columns c) o
+may_stand columns fs (at_operator c o) (Value l) = is_of_role (role_at columns c) l
+may_stand columns fs (at_in c) OpenBracket = true
+may_stand columns fs (at_comma c ls) (Value l) = is_of_role (role_at columns c) l
+may_stand columns fs (at_literal c ls) Comma = true
+may_stand columns fs (at_literal c ls) CloseBracket = true
+may_stand columns fs (behind p) And = true
+may_stand columns fs (behind p) Or = true
+may_stand columns fs (behind p) CloseBracket = is_in_bracket fs
+may_stand columns fs stand t = false
 
-abbrev pub at_operand : List Column → List Open → Token → Option State
-at_operand columns opened and_word = None
-at_operand columns opened or_word = None
-at_operand columns opened not_word = opening opened a_not
-at_operand columns opened all_word = Some (done opened)
-at_operand columns opened in_word = None
-at_operand columns opened (name n) = named columns opened (place_of n columns)
-at_operand columns opened (value l) = None
-at_operand columns opened (operator o) = None
-at_operand columns opened open_bracket = opening opened a_bracket
-at_operand columns opened close_bracket = None
-at_operand columns opened comma = None
+abbrev pub may_put : List Column → Build → Token → Bool
+may_put columns b t = may_stand columns b.frames b.stand t
 
-abbrev pub behind_whole : List Open → Token → Option State
-behind_whole opened and_word = Some (record { opened = opened; place = operand })
-behind_whole opened or_word = Some (record { opened = opened; place = operand })
-behind_whole opened not_word = None
-behind_whole opened all_word = None
-behind_whole opened in_word = None
-behind_whole opened (name n) = None
-behind_whole opened (value l) = None
-behind_whole opened (operator o) = None
-behind_whole opened open_bracket = None
-behind_whole opened close_bracket = closing opened
-behind_whole opened comma = None
+-- ---- runs
 
--- `goes` for the one kind of token that may stand here
-abbrev pub on_name : List Column → List Open → ℕ → Token → Option State
-on_name columns opened c and_word = None
-on_name columns opened c or_word = None
-on_name columns opened c not_word = None
-on_name columns opened c all_word = None
-on_name columns opened c in_word = Some (record { opened = opened; place = behind_in c })
-on_name columns opened c (name n) = None
-on_name columns opened c (value l) = None
-on_name columns opened c (operator o) = cond (has_operator (role_at columns c) o) (Some (record { opened = opened; place = behind_operator c })) None
-on_name columns opened c open_bracket = None
-on_name columns opened c close_bracket = None
-on_name columns opened c comma = None
+-- behind one token more, where it may stand there
+abbrev pub step : List Column → Build → Token → Option Build
+step columns b t = cond (may_put columns b t) (Some (put b t)) None
 
-abbrev pub on_literal : List Column → ℕ → State → Token → Option State
-on_literal columns c next and_word = None
-on_literal columns c next or_word = None
-on_literal columns c next not_word = None
-on_literal columns c next all_word = None
-on_literal columns c next in_word = None
-on_literal columns c next (name n) = None
-on_literal columns c next (value l) = cond (is_of_role (role_at columns c) l) (Some next) None
-on_literal columns c next (operator o) = None
-on_literal columns c next open_bracket = None
-on_literal columns c next close_bracket = None
-on_literal columns c next comma = None
-
-abbrev pub on_list : List Open → ℕ → Token → Option State
-on_list opened c and_word = None
-on_list opened c or_word = None
-on_list opened c not_word = None
-on_list opened c all_word = None
-on_list opened c in_word = None
-on_list opened c (name n) = None
-on_list opened c (value l) = None
-on_list opened c (operator o) = None
-on_list opened c open_bracket = None
-on_list opened c close_bracket = Some (done opened)
-on_list opened c comma = Some (record { opened = opened; place = behind_comma c })
-
-abbrev pub on_in : List Open → ℕ → Token → Option State
-on_in opened c and_word = None
-on_in opened c or_word = None
-on_in opened c not_word = None
-on_in opened c all_word = None
-on_in opened c in_word = None
-on_in opened c (name n) = None
-on_in opened c (value l) = None
-on_in opened c (operator o) = None
-on_in opened c open_bracket = Some (record { opened = opened; place = behind_comma c })
-on_in opened c close_bracket = None
-on_in opened c comma = None
-
--- the state behind one token more, where it may stand here
-abbrev pub step_at : List Column → List Open → Place → Token → Option State
-step_at columns opened operand t = at_operand columns opened t
-step_at columns opened (behind_name c) t = on_name columns opened c t
-step_at columns opened (behind_operator c) t = on_literal columns c (done opened) t
-step_at columns opened (behind_in c) t = on_in opened c t
-step_at columns opened (behind_comma c) t = on_literal columns c (record { opened = opened; place = behind_literal c }) t
-step_at columns opened (behind_literal c) t = on_list opened c t
-step_at columns opened behind_operand t = behind_whole opened t
-
-abbrev pub step : List Column → State → Token → Option State
-step columns s t = step_at columns s.opened s.place t
-
--- the state behind these tokens, where they may all stand here
-abbrev pub run : List Column → List Token → Option State → Option State
-run columns [] s = s
+-- behind these tokens, where they may all stand there
+abbrev pub run : List Column → List text.Token → Option Build → Option Build
+run columns [] b = b
 run columns (t ∷ ts) None = None
-run columns (t ∷ ts) (Some s) = run columns ts (step columns s t)
+run columns (t ∷ ts) (Some b) = run columns ts (step columns b (seen columns t))
 
-abbrev pub start : State
-start = record { opened = []; place = operand }
+-- the tree, where nothing is open or wanting
+abbrev pub tree_at : List Frame → Option Tree → Stand → Option Tree
+tree_at [] ors (behind p) = Some (add_or ors p)
+tree_at fs ors stand = None
 
-abbrev pub complete_at : Place → List Open → Bool
-complete_at operand opened = false
-complete_at (behind_name c) opened = false
-complete_at (behind_operator c) opened = false
-complete_at (behind_in c) opened = false
-complete_at (behind_comma c) opened = false
-complete_at (behind_literal c) opened = false
-complete_at behind_operand [] = true
-complete_at behind_operand (o ∷ opened) = false
+abbrev pub built : Build → Option Tree
+built b = tree_at b.frames b.ors b.stand
 
 -- nothing is open or wanting
-abbrev pub is_complete : Option State → Bool
-is_complete None = false
-is_complete (Some s) = complete_at s.place s.opened
+abbrev pub is_complete : Option Build → Bool
+is_complete b = is_some (option_and_then built b)

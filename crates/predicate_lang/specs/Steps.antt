@@ -3,7 +3,7 @@ use Rattle.std.specs.Prelude.{ℕ, ◌+◌, ◌<◌, ◌≤◌, List, length, Re
 use Rattle.schema_json.specs.Columns.{Column}
 use Rattle.predicate_lang.specs.Trees.{tree_of}
 use Rattle.predicate_lang.specs.Places.{Means, IsWhereFault}
-use Rattle.predicate_lang.specs.Building.{Build}
+use Rattle.predicate_lang.specs.Machine.{Build}
 use Rattle.predicate_lang.specs.Reads.{HasRead}
 use Rattle.predicate_lang.specs.declared.trees.WhereFault.{WhereFault}
 use Rattle.predicate_lang.specs.declared.reading.Step.{Step}

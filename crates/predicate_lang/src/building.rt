@@ -2,8 +2,8 @@
 ghost use Rattle.std.specs.Prelude.{◌≡◌, ◌∷◌, List, OnOk};
 ghost use Rattle.schema_json.specs.Columns.{Column, role_at};
 ghost use Rattle.predicate_lang.specs.Trees.{tree_of, is_of_role, has_operator};
-ghost use Rattle.predicate_lang.specs.Machine.{public_role};
-ghost use Rattle.predicate_lang.specs.Building.{Puts, Goes, Makes, MakesTree, Finishes, build_of, build_at, build_with, build, nothing_yet, built, whole, closed, add_and, add_or, part_of, frame_of, frames_of, is_under_not, is_in_bracket, negated, without_nots, at_operand, at_name, at_operator, at_in, at_comma, at_literal, behind, has_room};
+ghost use Rattle.predicate_lang.specs.Machine.{build, start, built, whole, closed, add_and, add_or, is_under_not, is_in_bracket, negated, without_nots, at_operand, at_name, at_operator, at_in, at_comma, at_literal, behind, has_room, public_role};
+ghost use Rattle.predicate_lang.specs.Building.{Puts, Goes, Makes, MakesTree, Finishes, build_of, build_at, build_with, part_of, frame_of, frames_of};
 
 use crate::tokens::Token;
 use crate::trees::{Literal, Literals, Op, Pred, WhereFault};
@@ -53,7 +53,7 @@ pub(crate) struct State {
 
 impl State {
     pub(crate) fn new(alloc: Global) -> State
-        ensures { build_of result ≡ nothing_yet }
+        ensures { build_of result ≡ start }
     {
         State {
             around: Around {

@@ -1,7 +1,8 @@
 -- What is left of the open constructs ends at the same bracket, and the operand under them means the same.
 use Rattle.std.proofs.Common.{◌≡◌, vec_len}
 use Rattle.predicate_lang.specs.Trees.{tree_of}
-use Rattle.predicate_lang.specs.Building.{frames_of, negated, without_nots}
+use Rattle.predicate_lang.specs.Machine.{negated, without_nots}
+use Rattle.predicate_lang.specs.Building.{frames_of}
 use Rattle.predicate_lang.proofs.building.negate.Given as goal
 
 abbrev pub invariant-nots : goal.invariant-nots

@@ -1,7 +1,8 @@
 use Rattle.std.proofs.Common.{◌≡◌, ◌<◌, ◌≤◌, ◌+◌, length, None, arith, sym, subst}
 use Rattle.predicate_lang.specs.Tokens.{lexed_from, no_tokens}
 use Rattle.predicate_lang.specs.Lexing.{IsNext}
-use Rattle.predicate_lang.specs.Building.{build_of, built, put}
+use Rattle.predicate_lang.specs.Machine.{built, put}
+use Rattle.predicate_lang.specs.Building.{build_of}
 use Rattle.predicate_lang.specs.Reads.{HasRead}
 use Rattle.predicate_lang.proofs.LeastPlace.{more_read, unfit_there, too_many_there, no_token_there, unfinished_there, finished_there}
 use Rattle.predicate_lang.proofs.Refusals.{refused_put, refused_finish, refused_token}
