@@ -1,12 +1,8 @@
 //! The program: the real files, standard input and standard output under the top call.
 #![tactic(auto)]
 
-mod adapters;
-#[cfg(test)]
-mod tests;
-
-use adapters::{FileBench, FileSource, InputSource};
 use auditor_top::{Status, run, status_code, status_text};
+use file_adapters::{FileBench, FileSource, InputSource};
 use std::io;
 use std::process::ExitCode;
 

@@ -1,5 +1,5 @@
 //! The adapters over real files, and over a file system that counts its calls and refuses one of them.
-use crate::adapters::{FileBench, FileSource, InputSource, TryLock};
+use crate::{FileBench, FileSource, InputSource, TryLock};
 use bench_core::{Bench, Failed, Source};
 use std::alloc::Allocator;
 use std::cell::RefCell;

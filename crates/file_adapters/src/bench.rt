@@ -1,124 +1,13 @@
-//! The edge: files, standard input and standard output as sources and benches. Each tells no content and counts the
-//! errors of std.
-ghost use Rattle.std.specs.Prelude.{◌≡◌, ◌≤◌, ◌+◌, ◌-◌, ◌^◌, [], length, IfOk, IsErr, MatchResult};
+//! The journal's file and standard output.
+ghost use Rattle.std.specs.Prelude.{◌≡◌, []};
 ghost use Rattle.std.specs.Io.{ReadsAtMost};
-ghost use Rattle.bench_core.specs.Causes.{HasCause};
 
-use bench_core::{Bench, Failed, Source};
+use crate::counting::{count_error, read_on};
+use bench_core::{Bench, Failed};
 use std::fs::{File, Files, OpenFile, OpenOptions};
 use std::io::{ErrorKind, Read, Seek, SeekFrom, Write};
 use std::os::unix::fs::OpenOptionsExt;
 use std::{fs, io};
-
-// Hands on what std answers, and counts an error.
-fn count_error<T>(answer: io::Result<T>, faults: &mut u64) -> Result<T, Failed>
-    ensures answer { MatchResult answer (λ value. result ≡ Ok value) (λ _. IsErr result) }
-    ensures cause { HasCause faults.old faults.new result }
-{
-    match answer {
-        Ok(value) => Ok(value),
-        Err(_) => {
-            *faults = faults.saturating_add(1);
-            Err(Failed)
-        }
-    }
-}
-
-// A read that a signal interrupted is made again.
-fn read_on<S: Read>(source: &mut S, buf: &mut [u8]) -> io::Result<usize>
-    ensures { ReadsAtMost result buf.new }
-{
-    for _ in 0..u64::MAX {
-        match source.read(buf) {
-            Err(error) if error.kind() == ErrorKind::Interrupted => {}
-            answer => return answer,
-        }
-    }
-    Err(io::Error::from(ErrorKind::Interrupted))
-}
-
-/// A file that is read from its start to its end, opened at the first read.
-#[derive(Drop)]
-pub struct FileSource<'a, R: Files> {
-    rt: &'a R,
-    path: &'static str,
-    file: Option<R::File>,
-    faults: u64,
-}
-
-impl<'a, R: Files> FileSource<'a, R> {
-    pub fn new(rt: &'a R, path: &'static str) -> Self
-        ensures fresh { result.faults ≡ 0 }
-    {
-        FileSource {
-            rt,
-            path,
-            file: None,
-            faults: 0,
-        }
-    }
-}
-
-fn read_file<R: Files>(
-    rt: &R,
-    path: &str,
-    file: &mut Option<R::File>,
-    buf: &mut [u8],
-) -> io::Result<usize>
-    ensures { ReadsAtMost result buf.new }
-{
-    match file {
-        Some(file) => read_on(file, buf),
-        None => {
-            let mut opened = fs::open(rt, path)?;
-            let count = read_on(&mut opened, buf)?;
-            *file = Some(opened);
-            Ok(count)
-        }
-    }
-}
-
-impl<R: Files> Source for FileSource<'_, R> {
-    ghost told = { ⊥ };
-
-    ghost left = { λ _. [] };
-
-    ghost faults = { λ s. s.faults };
-
-    fn read(&mut self, buf: &mut [u8]) -> Result<usize, Failed> {
-        count_error(
-            read_file(self.rt, self.path, &mut self.file, buf),
-            &mut self.faults,
-        )
-    }
-}
-
-/// Standard input, or any reader.
-#[derive(Drop)]
-pub struct InputSource<I: Read + Drop> {
-    reader: I,
-    faults: u64,
-}
-
-impl<I: Read + Drop> InputSource<I> {
-    pub fn new(reader: I) -> Self
-        ensures fresh { result.faults ≡ 0 }
-    {
-        InputSource { reader, faults: 0 }
-    }
-}
-
-impl<I: Read + Drop> Source for InputSource<I> {
-    ghost told = { ⊥ };
-
-    ghost left = { λ _. [] };
-
-    ghost faults = { λ s. s.faults };
-
-    fn read(&mut self, buf: &mut [u8]) -> Result<usize, Failed> {
-        count_error(read_on(&mut self.reader, buf), &mut self.faults)
-    }
-}
 
 /// A file that one program at a time can have for itself.
 pub trait TryLock {

@@ -1,0 +1,15 @@
+//! The edge: files, standard input and standard output as sources and benches. Each tells no content and counts the
+//! errors of std.
+//!
+//! `FileSource` and `InputSource` are read, and `FileBench` keeps the journal and sends. Their clauses are those of
+//! `Source` and `Bench`; the tests say which calls of the system they make.
+#![tactic(auto)]
+
+mod bench;
+mod counting;
+mod sources;
+#[cfg(test)]
+mod tests;
+
+pub use bench::{FileBench, TryLock};
+pub use sources::{FileSource, InputSource};
