@@ -1,5 +1,5 @@
 -- Two lists of entries combined, place by place.
-use Rattle.std.proofs.Common.{◌≡◌, ◌≢◌, ℕ, zero, suc, ◌+◌, ◌-◌, ◌<◌, ◌≤◌, Bool, true, false, cond, nat_eq, ℤ, pos, List, [], ◌∷◌, ◌++◌, length, map, take, drop, refl, sym, ap, ◌∙◌, subst, arith, inl, inr, ◌⊎◌, length-drop}
+use Rattle.std.proofs.Common.{◌≡◌, ◌≢◌, ℕ, zero, suc, ◌+◌, ◌-◌, ◌<◌, ◌≤◌, Bool, true, false, cond, nat_eq, ℤ, pos, List, [], ◌∷◌, ◌++◌, length, map, take, drop, get_or, refl, sym, ap, ◌∙◌, subst, arith, inl, inr, ◌⊎◌, length-drop}
 use Rattle.std.specs.Prelude.{◌+ℤ◌, ◌-ℤ◌, ◌*ℤ◌, neg_ℤ}
 use Rattle.std.proofs.lemmas.Int.{ints}
 use Rattle.std.proofs.lemmas.Bool.{cases_eq, cases_lt}
@@ -11,8 +11,8 @@ use Rattle.sum_basis.specs.declared.sparse.FreeEntry.{FreeEntry}
 use Rattle.sum_basis.specs.Sparse.{entry_at, IsListed, scaled}
 use Rattle.sum_basis.specs.Merging.{first_place, first_value}
 use Rattle.audit_types.specs.Products.{times-add, neg-times}
-use Rattle.sum_basis.proofs.SparseRows.{here, elsewhere, entry_at-append, listed_push, listed_to, listed_from, listed_length}
-use Rattle.sum_basis.proofs.ListContents.{entry_at-scaled}
+use Rattle.sum_basis.proofs.SparseRows.{here, elsewhere, entry_at-append, listed_push, listed_to, listed_from, listed_length, drop_entry}
+use Rattle.sum_basis.proofs.ListContents.{entry_at-scaled, none}
 
 -- what is left of a list when its entry at the place is taken
 abbrev rest : List FreeEntry → ℕ → List FreeEntry
@@ -92,12 +92,7 @@ taken : (next n : ℕ) (es : List FreeEntry) (place : ℕ) → IsListed next n e
 taken next n [] place h l e = absurd (omega arith)
 taken next n (e ∷ es) place h l same = ap is_zero (here e place (sym same)) ∙ false_if e.value h.2
 
--- an index never falls
-not_less : (b : Bool) (i : ℕ) → i ≤ cond b i (i + 1)
-not_less true i = omega arith
-not_less false i = omega arith
-
--- and stays within the list
+-- an index stays within its list
 still_within : (es : List FreeEntry) (i place : ℕ) → i ≤ length es → cond (is_zero (first_value (drop i es) place)) i (i + 1) ≤ length es
 still_within es i place h = elim (cases_lt i (length es)) [
   | inl more ↦ at_most (is_zero (first_value (drop i es) place)) more
@@ -192,13 +187,6 @@ module _ (n : ℕ) (by : ℤ) (first : List FreeEntry) (times : ℤ) (second out
       | inr same ↦ let here = first_after m.next n (drop j second) m.next_within m.second_left in omega arith
     ]
 
-    -- one of the lists goes on
-    pub goes_on : i + j < cond (is_zero (first_value (drop i first) place)) i (i + 1) + cond (is_zero (first_value (drop j second) place)) j (j + 1)
-    goes_on = elim one [
-      | inl same ↦ rw (taken m.next n (drop i first) place m.first_left place_inside same) (let other = not_less (is_zero (first_value (drop j second) place)) j in omega arith)
-      | inr same ↦ rw (taken m.next n (drop j second) place m.second_left place_inside same) (let other = not_less (is_zero (first_value (drop i first) place)) i in omega arith)
-    ]
-
     -- one place more is combined
     pub one_place_merged : (v : ℤ) → v ≡ by *ℤ first_value (drop i first) place -ℤ times *ℤ first_value (drop j second) place
         → IsMerging n by first times second (cond (is_zero v) out (out ++ record { place = place; value = v } ∷ [])) (cond (is_zero (first_value (drop i first) place)) i (i + 1)) (cond (is_zero (first_value (drop j second) place)) j (j + 1))
@@ -253,6 +241,79 @@ module _ (n : ℕ) (by : ℤ) (first : List FreeEntry) (times : ℤ) (second out
             let first_rest = ap (λ l. by *ℤ entry_at l k) (rest_drop first i (is_zero x)) in
             let second_rest = ap (λ l. times *ℤ entry_at l k) (rest_drop second j (is_zero y)) in
             omega (arith, ints)
+
+-- the first entry of what is left
+module _ (es : List FreeEntry) (k : ℕ) (l : k < length es) where
+  place_is : (n : ℕ) → first_place n (drop k es) ≡ (get_or es k none).place
+  place_is n = ap (first_place n) (drop_entry es k none l)
+
+  value_is : (place : ℕ) → (get_or es k none).place ≡ place → first_value (drop k es) place ≡ (get_or es k none).value
+  value_is place same = ap (λ xs. first_value xs place) (drop_entry es k none l) ∙ here (get_or es k none) place same
+
+  no_value : (place : ℕ) → (get_or es k none).place ≢ place → first_value (drop k es) place ≡ pos 0
+  no_value place other = ap (λ xs. first_value xs place) (drop_entry es k none l) ∙ elsewhere (get_or es k none) place other
+
+-- one step, by the order of the two places
+module _ (n : ℕ) (by : ℤ) (first : List FreeEntry) (times : ℤ) (second out : List FreeEntry) (i j : ℕ) (m : IsMerging n by first times second out i j) (p : i < length first) (q : j < length second) where
+  first_listed : IsListed m.next n (get_or first i none ∷ drop (suc i) first)
+  first_listed = subst (IsListed m.next n) (drop_entry first i none p) m.first_left
+
+  second_listed : IsListed m.next n (get_or second j none ∷ drop (suc j) second)
+  second_listed = subst (IsListed m.next n) (drop_entry second j none q) m.second_left
+
+  -- there is room for one entry more
+  pub out_room : length out < n
+  out_room = let all = out_length n by first times second out i j m in let after = first_listed.0 in let inside = first_listed.1 in omega arith
+
+  abbrev with_entry : ℕ → ℤ → List FreeEntry
+  with_entry place v = cond (is_zero v) out (out ++ record { place = place; value = v } ∷ [])
+
+  -- an index goes on where there is a value, and stays where there is none
+  on : (x y : ℤ) (k : ℕ) → x ≡ y → y ≢ pos 0 → cond (is_zero x) k (k + 1) ≡ k + 1
+  on x y k e some = ap (λ z. cond (is_zero z) k (k + 1)) e ∙ ap (λ b. cond b k (k + 1)) (false_if y some)
+
+  stays : (x : ℤ) (k : ℕ) → x ≡ pos 0 → cond (is_zero x) k (k + 1) ≡ k
+  stays x k e = ap (λ z. cond (is_zero z) k (k + 1)) e
+
+  -- the first entry of the first list comes sooner
+  pub first_merged : (v : ℤ) → (get_or first i none).place < (get_or second j none).place → v ≡ by *ℤ (get_or first i none).value → IsMerging n by first times second (with_entry (get_or first i none).place v) (i + 1) j
+  first_merged v sooner is =
+      let place = (get_or first i none).place in
+      let x = value_is first i p place refl in
+      let y = no_value second j q place (λ same. omega arith) in
+      let at = place_is first i p n in
+      let later = place_is second j q n in
+      let value : v ≡ by *ℤ first_value (drop i first) place -ℤ times *ℤ first_value (drop j second) place = is ∙ (let a = ap (λ z. by *ℤ z) x in let b = ap (λ z. times *ℤ z) y ∙ *ℤ-zero times in omega (arith, ints)) in
+      let step = one_place_merged n by first times second out i j m place (omega arith) (omega arith) (omega arith) (inl (sym at)) v value in
+      subst (λ (k : ℕ). IsMerging n by first times second (with_entry place v) k j) (on _ _ i x first_listed.2)
+      (subst (λ (k : ℕ). IsMerging n by first times second (with_entry place v) (cond (is_zero (first_value (drop i first) place)) i (i + 1)) k) (stays _ j y) step)
+
+  -- the first entry of the second list comes sooner
+  pub second_merged : (v : ℤ) → (get_or second j none).place < (get_or first i none).place → v ≡ neg_ℤ times *ℤ (get_or second j none).value → IsMerging n by first times second (with_entry (get_or second j none).place v) i (j + 1)
+  second_merged v sooner is =
+      let place = (get_or second j none).place in
+      let x = no_value first i p place (λ same. omega arith) in
+      let y = value_is second j q place refl in
+      let at = place_is second j q n in
+      let later = place_is first i p n in
+      let value : v ≡ by *ℤ first_value (drop i first) place -ℤ times *ℤ first_value (drop j second) place =
+      is ∙ (let a = ap (λ z. by *ℤ z) x ∙ *ℤ-zero by in let b = ap (λ z. times *ℤ z) y in let minus = neg-times times (get_or second j none).value in omega (arith, ints)) in
+      let step = one_place_merged n by first times second out i j m place (omega arith) (omega arith) (omega arith) (inr (sym at)) v value in
+      subst (λ (k : ℕ). IsMerging n by first times second (with_entry place v) i k) (on _ _ j y second_listed.2)
+      (subst (λ (k : ℕ). IsMerging n by first times second (with_entry place v) k (cond (is_zero (first_value (drop j second) place)) j (j + 1))) (stays _ i x) step)
+
+  -- both stand at one place
+  pub both_merged : (v : ℤ) → (get_or first i none).place ≡ (get_or second j none).place → v ≡ by *ℤ (get_or first i none).value -ℤ times *ℤ (get_or second j none).value → IsMerging n by first times second (with_entry (get_or first i none).place v) (i + 1) (j + 1)
+  both_merged v same is =
+      let place = (get_or first i none).place in
+      let x = value_is first i p place refl in
+      let y = value_is second j q place (sym same) in
+      let at = place_is first i p n in
+      let also = place_is second j q n in
+      let value : v ≡ by *ℤ first_value (drop i first) place -ℤ times *ℤ first_value (drop j second) place = is ∙ (let a = ap (λ z. by *ℤ z) x in let b = ap (λ z. times *ℤ z) y in omega (arith, ints)) in
+      let step = one_place_merged n by first times second out i j m place (omega arith) (omega arith) (omega arith) (inl (sym at)) v value in
+      subst (λ (k : ℕ). IsMerging n by first times second (with_entry place v) k (j + 1)) (on _ _ i x first_listed.2)
+      (subst (λ (k : ℕ). IsMerging n by first times second (with_entry place v) (cond (is_zero (first_value (drop i first) place)) i (i + 1)) k) (on _ _ j y second_listed.2) step)
 
 taken_all : (xs : List FreeEntry) (m : ℕ) → length xs ≤ m → take m xs ≡ xs
 taken_all [] zero h = refl

@@ -3,22 +3,11 @@ ghost use Rattle.std.specs.Prelude.{◌≡◌, ◌≢◌, ◌⊎◌, ℕ, ◌<�
 ghost use Rattle.std.specs.List.{AllByRecursion};
 ghost use Rattle.std.specs.Vec.{vec_len, vec_capacity};
 ghost use Rattle.audit_types.specs.Truth.{is_zero};
-ghost use Rattle.sum_basis.specs.Merging.{first_place, first_value};
+ghost use Rattle.sum_basis.specs.Merging.{first_value};
 ghost use Rattle.sum_basis.specs.Sparse.{entry_at, IsListed, scaled};
 
 use crate::cleared_list::product;
 use crate::sparse::FreeEntry;
-
-// The place of entry k, and the number of columns where there is none.
-fn place_from(entries: &[FreeEntry], k: usize, columns: u16) -> u16
-    ensures { result ≡ first_place columns (drop k entries.now) }
-{
-    if k < entries.len() {
-        entries[k].place
-    } else {
-        columns
-    }
-}
 
 /// The value of entry k, if that stands at the place, and else 0.
 pub fn value_from(entries: &[FreeEntry], k: usize, place: u16) -> i128
@@ -29,22 +18,6 @@ pub fn value_from(entries: &[FreeEntry], k: usize, place: u16) -> i128
     } else {
         0
     }
-}
-
-fn least(a: u16, b: u16) -> u16
-    ensures first { result ≤ a }
-    ensures second { result ≤ b }
-    ensures one { (result ≡ a) ⊎ (result ≡ b) }
-{
-    if a < b { a } else { b }
-}
-
-// One more than k, where there was a value.
-fn after(k: usize, value: i128) -> usize
-    requires { k < 65536 }
-    ensures { result ≡ cond (is_zero value) k (k + 1) }
-{
-    if value == 0 { k } else { k + 1 }
 }
 
 // As often the one as `by` says, less the other as often as `times` says.
@@ -112,15 +85,23 @@ pub fn combine_into(
     let mut i = 0;
     let mut j = 0;
     while i < first.len() && j < second.len() {
-        let place = least(
-            place_from(first, i, columns),
-            place_from(second, j, columns),
-        );
-        let x = value_from(first, i, place);
-        let y = value_from(second, j, place);
-        put(out, place, difference(by, x, times, y));
-        i = after(i, x);
-        j = after(j, y);
+        let one = first[i];
+        let other = second[j];
+        if one.place < other.place {
+            put(out, one.place, product(by, one.value));
+            i += 1;
+        } else if other.place < one.place {
+            put(out, other.place, product(-times, other.value));
+            j += 1;
+        } else {
+            put(
+                out,
+                one.place,
+                difference(by, one.value, times, other.value),
+            );
+            i += 1;
+            j += 1;
+        }
     }
     append(out, by, &first[i..]);
     append(out, -times, &second[j..]);
