@@ -1,14 +1,25 @@
 -- What contracts see of a walk over the rows of a set.
-use Rattle.std.specs.Prelude.{◌≡◌, ℕ, ◌*◌, ◌<◌, ◌≤◌, false, List, length}
-use Rattle.audit_types.specs.Words.{has_bit, rows_of_words}
+use Rattle.std.specs.Prelude.{◌≡◌, ℕ, ◌/◌, ◌%◌, ◌^◌, ◌<◌, Bool, cond, ◌&&◌, ◌==◌, nat_lt, List, length}
+use Rattle.std.specs.Int.{bit_at}
+use Rattle.audit_types.specs.Rows.{rows_that}
+use Rattle.audit_types.specs.Words.{has_bit}
+use Rattle.audit_types.specs.declared.row_iter.Spot.{Spot}
 use Rattle.audit_types.specs.declared.row_iter.RowIter.TheInside.{Inside}
+
+-- whether a row is still to come: by the bits that are left of the word at the spot, and by the words behind it
+abbrev pub is_left : List ℕ → Spot → ℕ → Bool
+is_left words spot r = cond (r / 64 == spot.place) (bit_at spot.word (r % 64) == 1) (nat_lt spot.place (r / 64) && has_bit words r)
+
+-- the rows from a spot on
+abbrev pub rows_from : List ℕ → Spot → List ℕ
+rows_from words spot = rows_that (is_left words spot) 1024
 
 -- the rows that are still to come
 abbrev pub rows_left : Inside → List ℕ
-rows_left a = rows_of_words a.words
+rows_left a = rows_from a.words a.spot
 
--- sixteen words, with no bit in a word before the place
+-- sixteen words, and a spot among them
 pub record IsWalk (a : Inside) : Type 0 where
   pub sixteen : length a.words ≡ 16
-  pub at_most : a.place ≤ 16
-  pub none_before : (r : ℕ) → r < 64 * a.place → has_bit a.words r ≡ false
+  pub within : a.spot.place < 16
+  pub fits : a.spot.word < 2 ^ 64

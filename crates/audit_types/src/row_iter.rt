@@ -1,17 +1,25 @@
 //! A walk over the rows of a set.
-ghost use Rattle.std.specs.Prelude.{◌≡◌};
+ghost use Rattle.std.specs.Prelude.{◌≡◌, ◌≢◌, ◌<◌, [], IfNone, IfSome};
 ghost use Rattle.std.specs.Iterator.{YieldsFirst, item_count};
 ghost use Rattle.audit_types.specs.Words.{rows_of_words};
+ghost use Rattle.audit_types.specs.RowsLeft.{rows_from};
 
 use crate::words::first_word;
 use std::marker::Model;
 
+// A place among the words, and the bits of its word that are still to come.
+#[derive(Clone, Copy)]
+struct Spot {
+    place: usize,
+    word: u64,
+}
+
 /// The rows of a set that are still to come, in ascending order: contracts see their list.
 #[derive(Drop)]
 pub struct RowIter {
-    // The bits of these rows; no word before `place` has one.
     words: [u64; 16],
-    place: usize,
+    // Where the walk is: the bits of the words behind it are still to come, and those that are left of its own word.
+    spot: Spot,
 }
 
 impl Model for RowIter {
@@ -30,8 +38,33 @@ impl RowIter {
     pub(crate) fn new(words: [u64; 16]) -> RowIter
         ensures { result ≡ rows_of_words words }
     {
-        RowIter { words, place: 0 }
+        RowIter {
+            words,
+            spot: Spot {
+                place: 0,
+                word: words[0],
+            },
+        }
     }
+}
+
+// The spot of the next bit that is still to come.
+fn next_spot(words: &[u64; 16], spot: Spot) -> Option<Spot>
+    requires { spot.place < 16 }
+    ensures none { IfNone result (rows_from words.now spot ≡ []) }
+    ensures some { IfSome result (λ next. (next.place < 16) × (next.word ≢ 0) × (rows_from words.now next ≡ rows_from words.now spot)) }
+{
+    if spot.word != 0 {
+        return Some(spot);
+    }
+    let place = first_word(words, spot.place + 1);
+    if place == 16 {
+        return None;
+    }
+    Some(Spot {
+        place,
+        word: words[place],
+    })
 }
 
 impl Iterator for RowIter {
@@ -42,13 +75,12 @@ impl Iterator for RowIter {
     ghost remaining = { item_count (λ s. s) };
 
     fn next(&mut self) -> Option<u16> {
-        self.place = first_word(&self.words, self.place);
-        if self.place == 16 {
-            return None;
-        }
-        let word = self.words[self.place];
-        let bit = word.trailing_zeros();
-        self.words[self.place] = word & !(1 << bit);
-        Some(64 * self.place as u16 + bit as u16)
+        let spot = next_spot(&self.words, self.spot)?;
+        let bit = spot.word.trailing_zeros();
+        self.spot = Spot {
+            place: spot.place,
+            word: spot.word & !(1 << bit),
+        };
+        Some(64 * spot.place as u16 + bit as u16)
     }
 }
