@@ -163,17 +163,17 @@ first_are_rows n order count = AreRows-rows_that (has_row (take count order)) n
 
 -- ---- the sets that are kept
 
--- each of the sets is that of the first 64 k rows
+-- each of the sets is that of the first 16 k rows
 abbrev pub Hold : ℕ → List ℕ → List Rows → Type 0
-Hold n order marks = (k : ℕ) (d : Rows) → k < length marks → get_or marks k d ≡ record { n = n; list = first_rows n order (64 * k) }
+Hold n order marks = (k : ℕ) (d : Rows) → k < length marks → get_or marks k d ≡ record { n = n; list = first_rows n order (16 * k) }
 
 -- one set more
-pub hold_more : (n : ℕ) (order : List ℕ) (marks new : List Rows) (mark : Rows) (k : ℕ) → Hold n order marks → length marks ≡ k → mark ≡ record { n = n; list = first_rows n order (64 * k) } → new ≡ marks ++ mark ∷ [] → Hold n order new
+pub hold_more : (n : ℕ) (order : List ℕ) (marks new : List Rows) (mark : Rows) (k : ℕ) → Hold n order marks → length marks ≡ k → mark ≡ record { n = n; list = first_rows n order (16 * k) } → new ≡ marks ++ mark ∷ [] → Hold n order new
 hold_more n order marks new mark k held long is more j d low = elim (cases_lt j (length marks)) [
   | inl l ↦ ap (λ xs. get_or xs j d) more ∙ get_or_append_left marks (mark ∷ []) d j l ∙ held j d l
   | inr h ↦
       let last : j ≡ k = omega (arith, simp length-append at (ap length more)) in
-      ap (λ xs. get_or xs j d) more ∙ get_or_push marks mark d j (omega arith) ∙ is ∙ ap (λ i. record { n = n; list = first_rows n order (64 * i) }) (sym last)
+      ap (λ xs. get_or xs j d) more ∙ get_or_push marks mark d j (omega arith) ∙ is ∙ ap (λ i. record { n = n; list = first_rows n order (16 * i) }) (sym last)
 ]
 
 -- the first of the sets

@@ -14,10 +14,10 @@ pub record SortedView : Type 0 where
 abbrev pub first_rows : ℕ → List ℕ → ℕ → List ℕ
 first_rows n order count = rows_that (has_row (take count order)) n
 
--- the set of the first 64 k rows, for each k up to the end of the order
+-- the set of the first 16 k rows, for each k up to the end of the order
 pub record AreMarks (n : ℕ) (order : List ℕ) (marks : List Rows) : Type 0 where
-  pub enough : length order < 64 * length marks
-  pub sets : (k : ℕ) (d : Rows) → k < length marks → slice_index_or marks k d ≡ record { n = n; list = first_rows n order (64 * k) }
+  pub enough : length order < 16 * length marks
+  pub sets : (k : ℕ) (d : Rows) → k < length marks → slice_index_or marks k d ≡ record { n = n; list = first_rows n order (16 * k) }
 
 -- the rows of a column in ascending order, and nothing where it is hidden
 abbrev pub SortsColumn : ℕ → Cells → Option SortedView → Type 0

@@ -12,10 +12,10 @@ use std::alloc::Global;
 use std::marker::Model;
 
 // How many rows of the order lie between two of the sets that are kept.
-const STEP: usize = 64;
+const STEP: usize = 16;
 
-/// The rows of a table in some order. The set of the first `64 k` rows is kept for each `k`, so that a range costs a few
-/// words and at most 63 rows at each end, however long it is.
+/// The rows of a table in some order. The set of the first `16 k` rows is kept for each `k`, so that a range costs a few
+/// words and at most 15 rows at each end, however long it is.
 #[derive(Drop)]
 pub(crate) struct Sorted {
     rows: u16,

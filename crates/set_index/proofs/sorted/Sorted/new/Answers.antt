@@ -12,21 +12,21 @@ loop-k-init c =
     record { first = is; count = ap length marks; held = hold_first c.args.rows c.args.order.items _ c.new-first.result is marks }
 
 pub add_rows-requires-clause-are_rows : goal.add_rows-requires-clause-are_rows
-add_rows-requires-clause-are_rows c = subst (λ (m : Rows). AreRows m.n m.list) (sym c.loop-k.invariant.first) (first_are_rows c.args.rows c.args.order.items (64 * c.loop-k.k))
+add_rows-requires-clause-are_rows c = subst (λ (m : Rows). AreRows m.n m.list) (sym c.loop-k.invariant.first) (first_are_rows c.args.rows c.args.order.items (16 * c.loop-k.k))
 
 pub add_rows-requires-clause-below : goal.add_rows-requires-clause-below
 add_rows-requires-clause-below c =
-    subst (λ (m : Rows). All (λ r. r < m.n) (part c.deref.result.now (64 * c.loop-k.k) (64 * (c.loop-k.k + 1)))) (sym c.loop-k.invariant.first)
-    (subst (λ xs. All (λ r. r < c.args.rows) (part xs (64 * c.loop-k.k) (64 * (c.loop-k.k + 1)))) (sym c.deref.ensures.value)
-    (part_below c.args.rows c.args.order.items (64 * c.loop-k.k) (64 * (c.loop-k.k + 1)) c.requires.each_once))
+    subst (λ (m : Rows). All (λ r. r < m.n) (part c.deref.result.now (16 * c.loop-k.k) (16 * (c.loop-k.k + 1)))) (sym c.loop-k.invariant.first)
+    (subst (λ xs. All (λ r. r < c.args.rows) (part xs (16 * c.loop-k.k) (16 * (c.loop-k.k + 1)))) (sym c.deref.ensures.value)
+    (part_below c.args.rows c.args.order.items (16 * c.loop-k.k) (16 * (c.loop-k.k + 1)) c.requires.each_once))
 
 pub loop-k-preserved : goal.loop-k-preserved
 loop-k-preserved c =
     let list = c.add_rows.ensures.added
-    ∙ ap (λ (m : Rows). union m.n m.list (part c.deref.result.now (64 * c.loop-k.k) (64 * (c.loop-k.k + 1)))) c.loop-k.invariant.first
-    ∙ ap (λ xs. union c.args.rows (first_rows c.args.rows c.args.order.items (64 * c.loop-k.k)) (part xs (64 * c.loop-k.k) (64 * (c.loop-k.k + 1)))) c.deref.ensures.value
-    ∙ first_more c.args.rows c.args.order.items (64 * c.loop-k.k) (64 * (c.loop-k.k + 1)) (omega arith) in
-    let is : c.add_rows.new.rows ≡ record { n = c.args.rows; list = first_rows c.args.rows c.args.order.items (64 * (c.loop-k.k + 1)) } =
+    ∙ ap (λ (m : Rows). union m.n m.list (part c.deref.result.now (16 * c.loop-k.k) (16 * (c.loop-k.k + 1)))) c.loop-k.invariant.first
+    ∙ ap (λ xs. union c.args.rows (first_rows c.args.rows c.args.order.items (16 * c.loop-k.k)) (part xs (16 * c.loop-k.k) (16 * (c.loop-k.k + 1)))) c.deref.ensures.value
+    ∙ first_more c.args.rows c.args.order.items (16 * c.loop-k.k) (16 * (c.loop-k.k + 1)) (omega arith) in
+    let is : c.add_rows.new.rows ≡ record { n = c.args.rows; list = first_rows c.args.rows c.args.order.items (16 * (c.loop-k.k + 1)) } =
     rows_are c.add_rows.new.rows c.args.rows _ (c.add_rows.ensures.n ∙ ap (λ (m : Rows). m.n) c.loop-k.invariant.first) list in
     record {
       first = is;

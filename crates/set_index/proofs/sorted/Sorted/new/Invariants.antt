@@ -6,7 +6,7 @@ use Rattle.set_index.proofs.sorted.Sorted.new.Given as goal
 
 abbrev pub invariant-loop-k : goal.invariant-loop-k
 invariant-loop-k l = record {
-  first : l.first ≡ record { n = l.rows; list = first_rows l.rows l.order.items (64 * l.k) };
+  first : l.first ≡ record { n = l.rows; list = first_rows l.rows l.order.items (16 * l.k) };
   count : length l.marks.items ≡ l.k + 1;
   held : Hold l.rows l.order.items l.marks.items;
 }
