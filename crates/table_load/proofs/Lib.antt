@@ -5,6 +5,7 @@ pub mod FileRoles
 pub mod SetSums
 pub mod RecordsOfBytes
 pub mod FirstFaults
+pub mod FirstOfMany
 pub mod HasReadMore
 pub mod GoodCells
 pub mod ColumnSteps

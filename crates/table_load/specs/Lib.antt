@@ -10,3 +10,4 @@ pub mod Loaded
 pub mod Database
 pub mod SchemaPlaces
 pub mod SchemaFits
+pub mod FirstFaults

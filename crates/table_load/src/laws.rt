@@ -6,15 +6,27 @@ ghost use Rattle.audit_types.specs.Shapes.{columns};
 ghost use Rattle.audit_types.specs.Truth.{sum_over, greatest_over};
 ghost use Rattle.audit_types.specs.History.{list_of, AreSecrets};
 ghost use Rattle.schema_json.specs.Columns.{Column, AreColumns};
+ghost use Rattle.schema_json.specs.declared.roles.Role.{Role};
 ghost use Rattle.schema_json.specs.SecretShape.{shape_of};
 ghost use Rattle.table_load.specs.Cells.{SecretView, TableView, IsPublic, IsSecret, FitsSchema};
 ghost use Rattle.table_load.specs.Numerals.{number_in, IsNumeral};
+ghost use Rattle.table_load.specs.declared.faults.TableFault.{TableFault};
+ghost use Rattle.table_load.specs.Reading.{Fields, records_fault, cells_fault};
+ghost use Rattle.table_load.specs.FirstFaults.{IsFirstRecord, IsFirstField};
 ghost use Rattle.table_load.specs.Tables.{table_of};
 
 /// A field spells a number exactly where it is spaces, a sign or none, digits, spaces.
 pub fn spells()
     ensures only { (field : List ℕ) (z : ℤ) → number_in field ≡ Some z → IsNumeral field z }
     ensures all { (field : List ℕ) (z : ℤ) → IsNumeral field z → number_in field ≡ Some z }
+{}
+
+/// A fault of records is that of the first record that has any, and a fault of a record's fields that of its first column with one.
+pub fn first_faults()
+    ensures first_record { (roles : List Role) (records : List Fields) (fault : TableFault) → records_fault roles 2 records ≡ Some fault → (place : ℕ) × IsFirstRecord roles records place fault }
+    ensures from_record { (roles : List Role) (records : List Fields) (place : ℕ) (fault : TableFault) → IsFirstRecord roles records place fault → records_fault roles 2 records ≡ Some fault }
+    ensures first_field { (roles : List Role) (line : ℕ) (fields : Fields) (fault : TableFault) → cells_fault line 0 roles fields ≡ Some fault → (column : ℕ) × IsFirstField roles line fields column fault }
+    ensures from_field { (roles : List Role) (line : ℕ) (fields : Fields) (column : ℕ) (fault : TableFault) → IsFirstField roles line fields column fault → cells_fault line 0 roles fields ≡ Some fault }
 {}
 
 /// A sum over secrets has a size of at most 1,024 times 10^12, and a greatest one of at most 10^12.
