@@ -3,11 +3,9 @@ pub mod WrittenSoFar
 pub mod BeginningsCanBeCompleted
 pub mod RoundTrip
 pub mod ReadAgain
-pub mod LeastWays
+pub mod LeastTokens
 pub mod TextsRead
 pub mod Frames
-pub mod Ways
-pub mod WaysOfTheGrammar
 pub mod Lexed
 pub mod Numbers
 pub mod Quotes

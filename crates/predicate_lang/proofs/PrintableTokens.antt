@@ -18,7 +18,7 @@ use Rattle.predicate_lang.specs.declared.trees.Literal.{Literal}
 use Rattle.predicate_lang.specs.declared.trees.Literal.TheVariants as literal
 use Rattle.predicate_lang.proofs.QuotedTexts.{quoted_is}
 use Rattle.predicate_lang.proofs.TokenFronts.{is_mark, Kind, a_word, a_number, a_text, a_mark, front_kind}
-use Rattle.predicate_lang.proofs.LeastWays.{total}
+use Rattle.predicate_lang.proofs.LeastTokens.{total}
 
 -- ---- which tokens are read again as they are printed
 

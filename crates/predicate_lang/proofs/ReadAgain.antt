@@ -19,7 +19,7 @@ use Rattle.predicate_lang.specs.declared.trees.Op.TheVariants as op
 use Rattle.predicate_lang.specs.declared.trees.Literal.TheVariants as literal
 use Rattle.predicate_lang.proofs.NextToken.{front_of_letter, front_of_number, front_of_quote, front_of_mark}
 use Rattle.predicate_lang.proofs.Spaced.{or_true}
-use Rattle.predicate_lang.proofs.LeastWays.{total}
+use Rattle.predicate_lang.proofs.LeastTokens.{total}
 use Rattle.predicate_lang.proofs.PrintableTokens.{is_name, size, is_printable, unprintable, decimals}
 
 -- ---- where a token ends

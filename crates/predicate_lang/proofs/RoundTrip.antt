@@ -1,14 +1,13 @@
 -- What is printed of a predicate that was read means it again, and is at most 511 bytes longer than what was read.
-use Rattle.std.proofs.Common.{◌≡◌, ℕ, suc, ◌+◌, ◌-◌, ◌≤◌, Bool, true, false, ◌||◌, cond, List, [], ◌∷◌, ◌++◌, length, refl, ap, ◌∙◌, arith, length-append}
-use Rattle.schema_json.specs.Columns.{Column}
-use Rattle.predicate_lang.specs.Trees.{Tree, all_rows, negation, both, either, compared, among, height, fits}
+use Rattle.std.proofs.Common.{◌≡◌, ℕ, suc, ◌+◌, ◌-◌, ◌≤◌, Bool, true, false, ◌||◌, cond, List, [], ◌∷◌, ◌++◌, length, refl, sym, ap, subst, arith, length-append}
+use Rattle.std.proofs.lemmas.Bool.{and_from}
+use Rattle.schema_json.specs.Columns.{Column, role_at}
+use Rattle.predicate_lang.specs.Trees.{Tree, all_rows, negation, both, either, compared, among, height, fits, is_of_role, has_operator}
 use Rattle.predicate_lang.specs.Tokens.{Token, and_word, or_word, close_bracket, Placed, lexed}
-use Rattle.predicate_lang.specs.Grammar.{most_depth}
-use Rattle.predicate_lang.proofs.Ways.{HasWay}
-use Rattle.predicate_lang.proofs.WaysOfTheGrammar.{way_of, way_writes}
+use Rattle.predicate_lang.specs.Grammar.{Disjunction, Conjunction, Operand, conj, or_conj, unit, and_unit, all, not_unit, in_brackets, compare, one_of, most_depth, Writes}
 use Rattle.predicate_lang.specs.Places.{Means, tokens_of}
 use Rattle.predicate_lang.specs.Printing.{is_or, is_or_and, bracketed, print_tokens, printed, spaced, spaced_after, token_text, opens, closes}
-use Rattle.predicate_lang.proofs.LeastWays.{total, IsLeast, printed_least}
+use Rattle.predicate_lang.proofs.LeastTokens.{total, LeastAlone, least_alone}
 use Rattle.predicate_lang.proofs.PrintableTokens.{printed_length, unprintable, ArePrintable, tokens_printable}
 use Rattle.predicate_lang.proofs.ReadAgain.{LexesAs, lexed-spaced}
 
@@ -45,20 +44,36 @@ length-bracketed : (b : Bool) (ts : List Token) → length ts ≤ length (bracke
 length-bracketed false ts = omega arith
 length-bracketed true ts = omega (arith, length-append ts (close_bracket ∷ []))
 
--- the way in which a text writes its tree
-written : (columns : List Column) (text : List ℕ) (t : Tree) → Means columns text t → HasWay columns most_depth (tokens_of (lexed text).tokens) t
-written columns text t means = way_of columns most_depth (tokens_of (lexed text).tokens) t means.writes
+-- ---- what tokens write fits the columns
 
--- a tree that a text means fits the columns
-pub means_fits : (columns : List Column) (text : List ℕ) (t : Tree) → Means columns text t → fits columns t ≡ true
-means_fits columns text t means = let way = written columns text t means in way.fitting
+module _ (columns : List Column) where
+  mutual
+    all_fit : (room : ℕ) (ts : List Token) (t : Tree) → Disjunction columns room ts t → fits columns t ≡ true
+    all_fit room ts t (conj c) = conj_fits room ts t c
+    all_fit room ts t (or_conj {ts = xs} {us = ys} {p = p} {q = q} d c) = and_from (fits columns p) (fits columns q) (all_fit room xs p d) (conj_fits room ys q c)
+
+    conj_fits : (room : ℕ) (ts : List Token) (t : Tree) → Conjunction columns room ts t → fits columns t ≡ true
+    conj_fits room ts t (unit u) = unit_fits room ts t u
+    conj_fits room ts t (and_unit {ts = xs} {us = ys} {p = p} {q = q} c u) = and_from (fits columns p) (fits columns q) (conj_fits room xs p c) (unit_fits room ys q u)
+
+    unit_fits : (room : ℕ) (ts : List Token) (t : Tree) → Operand columns room ts t → fits columns t ≡ true
+    unit_fits room ts t all = refl
+    unit_fits room ts t (not_unit {room = less} {ts = xs} {p = p} u) = unit_fits less xs p u
+    unit_fits room ts t (in_brackets {room = less} {ts = xs} d) = all_fit less xs t d
+    unit_fits room ts t (compare {c = c} {o = o} {l = l} place takes of_role) = and_from (has_operator (role_at columns c) o) (is_of_role (role_at columns c) l) takes of_role
+    unit_fits room ts t (one_of place of_role) = of_role
+
+  -- and so does a tree that a text means
+  pub means_fits : (text : List ℕ) (t : Tree) → Means columns text t → fits columns t ≡ true
+  means_fits text t means = all_fit most_depth (tokens_of (lexed text).tokens) t means.writes
+
+-- ---- what is printed
 
 -- how the tokens that are printed compare with those that were read
 least : (columns : List Column) (text : List ℕ) (t : Tree) (w : Token → ℕ) → Means columns text t → total w (print_tokens columns t) ≤ total w (tokens_of (lexed text).tokens)
 least columns text t w means =
-    let way = written columns text t means in
-    let best : IsLeast columns w way.way t = printed_least columns w way.way t way.is_tree in
-    omega (arith, best.light, ap (total w) way.spelled)
+    let best : LeastAlone columns w most_depth (tokens_of (lexed text).tokens) t = least_alone columns w most_depth (tokens_of (lexed text).tokens) t means.writes in
+    best.light
 
 -- no more tokens
 fewer : (columns : List Column) (text : List ℕ) (t : Tree) → Means columns text t → length (print_tokens columns t) ≤ 512
@@ -95,14 +110,11 @@ printable columns text t means = let source : ArePrintable (tokens_of (lexed tex
 pub printed_means : (columns : List Column) (text : List ℕ) (t : Tree) → Means columns text t → Means columns (printed columns t) t
 printed_means columns text t means =
     let again : LexesAs (lexed (printed columns t)) (print_tokens columns t) = lexed-spaced (print_tokens columns t) (printable columns text t means) in
-    let way = written columns text t means in
-    let best : IsLeast columns count_one way.way t = printed_least columns count_one way.way t way.is_tree in
-    let printed_way : HasWay columns most_depth (tokens_of (lexed (printed columns t)).tokens) t =
-    record { way = best.way; spelled = again.tokens ∙ best.spelled; shallow = omega (arith, best.shallow, way.shallow); is_tree = best.is_tree; fitting = way.fitting } in
+    let best : LeastAlone columns count_one most_depth (tokens_of (lexed text).tokens) t = least_alone columns count_one most_depth (tokens_of (lexed text).tokens) t means.writes in
     record {
       whole = again.stop;
       few = omega (arith, fewer columns text t means, ap (length {A = Token}) again.tokens, length-tokens_of (lexed (printed columns t)).tokens);
-      writes = way_writes columns most_depth (tokens_of (lexed (printed columns t)).tokens) t printed_way;
+      writes = subst (λ (ts : List Token). Writes columns ts t) (sym again.tokens) best.writes;
     }
 
 -- with at most 511 bytes more

@@ -8,14 +8,12 @@ use Rattle.std.proofs.lemmas.Bool.{eqb-true}
 use Rattle.std.proofs.lemmas.Bool.Decides.{nat_tests}
 use Rattle.std.proofs.lemmas.List.Sums.{take_while-cons}
 use Rattle.std.proofs.lemmas.Str.{IsUtf8-drop, IsCharBoundary-after_ascii}
-use Rattle.schema_json.specs.Columns.{Column, is_name_byte, place_of}
-use Rattle.predicate_lang.specs.Trees.{Tree, all_rows, negation, both, either, compared, among, AreTexts, IsTextLiteral}
+use Rattle.schema_json.specs.Columns.{Column, is_name_byte}
+use Rattle.predicate_lang.specs.Trees.{Tree, AreTexts, IsTextLiteral}
 use Rattle.predicate_lang.specs.Tokens.{Token, lexed, and_word, or_word, not_word, all_word, in_word, name, value, operator, open_bracket, close_bracket, comma, Front, front_token, word_token, lex_from, lex_front, is_blank, is_equals_next}
-use Rattle.predicate_lang.specs.Grammar.{more_literals, most_depth}
-use Rattle.predicate_lang.proofs.Ways.{Disjunction, Conjunction, Operand, conj, or_conj, unit, and_unit, all, not_unit, in_brackets, compare, one_of, spell, spell_conj, spell_unit, tree, tree_conj, tree_unit, two, one, at_column}
+use Rattle.predicate_lang.specs.Grammar.{Disjunction, Conjunction, Operand, conj, or_conj, unit, and_unit, all, not_unit, in_brackets, compare, one_of, more_literals, most_depth}
 use Rattle.predicate_lang.specs.Places.{Means, tokens_of}
 use Rattle.predicate_lang.specs.declared.trees.Literal.{Literal}
-use Rattle.predicate_lang.proofs.WaysOfTheGrammar.{way_of}
 use Rattle.predicate_lang.proofs.Fronts.{letter_ascii, name_byte_ascii}
 use Rattle.predicate_lang.proofs.QuotedTexts.{quoted_utf8}
 use Rattle.predicate_lang.proofs.TokenFronts.{is_mark, Kind, a_word, a_number, a_text, a_mark, front_kind}
@@ -137,41 +135,24 @@ list_texts : (ls : List Literal) → AreTextTokens (more_literals ls) → AllByR
 list_texts [] texts = tt
 list_texts (l ∷ ls) texts = (texts.1.0, list_texts ls texts.1.1)
 
-two_texts : (f : Tree → Tree → Tree) (o p : Option Tree) (t : Tree) → ((x y : Tree) → AreTexts x → AreTexts y → AreTexts (f x y)) → ((x : Tree) → o ≡ Some x → AreTexts x) → ((y : Tree) → p ≡ Some y → AreTexts y) → two f o p ≡ Some t → AreTexts t
-two_texts f None p t join left right h = absurd cc
-two_texts f (Some x) None t join left right h = absurd cc
-two_texts f (Some x) (Some y) t join left right h = let same : f x y ≡ t = cc in subst AreTexts same (join x y (left x refl) (right y refl))
+module _ (columns : List Column) where
+  mutual
+    all_texts : (room : ℕ) (ts : List Token) (t : Tree) → Disjunction columns room ts t → AreTextTokens ts → AreTexts t
+    all_texts room ts t (conj c) texts = conj_texts room ts t c texts
+    all_texts room ts t (or_conj {ts = xs} {us = ys} {p = p} {q = q} d c) texts = (all_texts room xs p d (front_texts xs (or_word ∷ ys) texts), conj_texts room ys q c (back_texts xs (or_word ∷ ys) texts).1)
 
-negation_texts : (o : Option Tree) (t : Tree) → ((x : Tree) → o ≡ Some x → AreTexts x) → one negation o ≡ Some t → AreTexts t
-negation_texts None t part h = absurd cc
-negation_texts (Some x) t part h = let same : negation x ≡ t = cc in subst AreTexts same (part x refl)
+    conj_texts : (room : ℕ) (ts : List Token) (t : Tree) → Conjunction columns room ts t → AreTextTokens ts → AreTexts t
+    conj_texts room ts t (unit u) texts = unit_texts room ts t u texts
+    conj_texts room ts t (and_unit {ts = xs} {us = ys} {p = p} {q = q} c u) texts = (conj_texts room xs p c (front_texts xs (and_word ∷ ys) texts), unit_texts room ys q u (back_texts xs (and_word ∷ ys) texts).1)
 
-column_texts : (f : ℕ → Tree) (o : Option ℕ) (t : Tree) → ((c : ℕ) → AreTexts (f c)) → at_column f o ≡ Some t → AreTexts t
-column_texts f None t part h = absurd cc
-column_texts f (Some c) t part h = let same : f c ≡ t = cc in subst AreTexts same (part c)
-
-mutual
-  tree_texts : (columns : List Column) (d : Disjunction) (t : Tree) → AreTextTokens (spell d) → tree columns d ≡ Some t → AreTexts t
-  tree_texts columns (conj c) t texts h = tree_conj_texts columns c t texts h
-  tree_texts columns (or_conj d c) t texts h =
-      two_texts either (tree columns d) (tree_conj columns c) t (λ x y p q. (p, q))
-      (λ x. tree_texts columns d x (front_texts (spell d) (or_word ∷ spell_conj c) texts)) (λ y. tree_conj_texts columns c y (back_texts (spell d) (or_word ∷ spell_conj c) texts).1) h
-
-  tree_conj_texts : (columns : List Column) (c : Conjunction) (t : Tree) → AreTextTokens (spell_conj c) → tree_conj columns c ≡ Some t → AreTexts t
-  tree_conj_texts columns (unit u) t texts h = tree_unit_texts columns u t texts h
-  tree_conj_texts columns (and_unit c u) t texts h =
-      two_texts both (tree_conj columns c) (tree_unit columns u) t (λ x y p q. (p, q))
-      (λ x. tree_conj_texts columns c x (front_texts (spell_conj c) (and_word ∷ spell_unit u) texts)) (λ y. tree_unit_texts columns u y (back_texts (spell_conj c) (and_word ∷ spell_unit u) texts).1) h
-
-  tree_unit_texts : (columns : List Column) (u : Operand) (t : Tree) → AreTextTokens (spell_unit u) → tree_unit columns u ≡ Some t → AreTexts t
-  tree_unit_texts columns all t texts h = let same : all_rows ≡ t = cc in subst AreTexts same tt
-  tree_unit_texts columns (not_unit u) t texts h = negation_texts (tree_unit columns u) t (λ x. tree_unit_texts columns u x texts.1) h
-  tree_unit_texts columns (in_brackets d) t texts h = tree_texts columns d t (front_texts (spell d) (close_bracket ∷ []) texts.1) h
-  tree_unit_texts columns (compare n o l) t texts h = column_texts (λ c. compared c o l) (place_of n columns) t (λ c. texts.1.1.0) h
-  tree_unit_texts columns (one_of n l ls) t texts h = column_texts (λ c. among c (l ∷ ls)) (place_of n columns) t (λ c. (texts.1.1.1.0, list_texts ls texts.1.1.1.1)) h
+    unit_texts : (room : ℕ) (ts : List Token) (t : Tree) → Operand columns room ts t → AreTextTokens ts → AreTexts t
+    unit_texts room ts t all texts = tt
+    unit_texts room ts t (not_unit {room = less} {ts = xs} {p = p} u) texts = unit_texts less xs p u texts.1
+    unit_texts room ts t (in_brackets {room = less} {ts = xs} d) texts = all_texts less xs t d (front_texts xs (close_bracket ∷ []) texts.1)
+    unit_texts room ts t (compare place takes of_role) texts = texts.1.1.0
+    unit_texts room ts t (one_of {ls = ls} place of_role) texts = (texts.1.1.1.0, list_texts ls texts.1.1.1.1)
 
 -- the texts of the tree that a text means are UTF-8
 pub means_texts : (columns : List Column) (text : List ℕ) (t : Tree) → IsUtf8 text → Means columns text t → AreTexts t
 means_texts columns text t utf8 means =
-    let w = way_of columns most_depth (tokens_of (lexed text).tokens) t means.writes in
-    tree_texts columns w.way t (subst AreTextTokens w.spelled (lexed_texts (length text + 1) 0 text utf8)) w.is_tree
+    all_texts columns most_depth (tokens_of (lexed text).tokens) t means.writes (lexed_texts (length text + 1) 0 text utf8)
