@@ -36,3 +36,5 @@ pub mod SparseMultiples
 pub mod Parallels
 pub mod BoundedRows
 pub mod PrimitiveLists
+pub mod Edits
+pub mod EditedRows

@@ -63,7 +63,7 @@ pub scaled_listed : (by : ℤ) (from n : ℕ) (es : List FreeEntry) → by ≢ p
 scaled_listed by from n [] p h = tt
 scaled_listed by from n (e ∷ es) p h = (h.0, h.1, product_not_zero by e.value p h.2, scaled_listed by (e.place + 1) n es p h.3)
 
-neg_not_zero : (z : ℤ) → z ≢ pos 0 → neg_ℤ z ≢ pos 0
+pub neg_not_zero : (z : ℤ) → z ≢ pos 0 → neg_ℤ z ≢ pos 0
 neg_not_zero z p e = p (let same : z ≡ pos 0 = omega (arith, ints) in same)
 
 -- how far the two lists were combined: everything before place `next`

@@ -52,7 +52,7 @@ ones [] = tt
 ones (x ∷ xs) = (one-dvd (unsigned_abs x), ones xs)
 
 -- the size of a negative number
-size_negated : (x : ℤ) → unsigned_abs (neg_ℤ x) ≡ unsigned_abs x
+pub size_negated : (x : ℤ) → unsigned_abs (neg_ℤ x) ≡ unsigned_abs x
 size_negated x = omega (arith, ints)
 
 -- a list over its content, where the size of its first value is divided too

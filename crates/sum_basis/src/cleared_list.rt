@@ -79,7 +79,8 @@ pub fn over_content(head: i128, entries: &mut Vec<FreeEntry>) -> i128
     divisor.quotient(head)
 }
 
-fn greater(a: u128, b: u128) -> u128
+/// The greater of two numbers.
+pub fn greater(a: u128, b: u128) -> u128
     ensures first { a ≤ result }
     ensures second { b ≤ result }
 {

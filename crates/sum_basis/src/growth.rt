@@ -8,12 +8,66 @@ ghost use Rattle.sum_basis.specs.declared.sparse.SparseRow.{SparseRow};
 ghost use Rattle.sum_basis.specs.Sparse.{entry_at, row_of, rows_of, entries_of, IsKept, IsNew};
 
 use crate::cleared_list::{bound_of, clear_into, value_at};
+use crate::editing::take_entries;
 use crate::elimination::LIMIT;
 use crate::sparse::{FreeEntry, SparseRow};
 use int_rows::lcm_within;
 use std::mem;
 
+// Whether both pivot entries are 1, and the new row has few entries beside those of the row.
+fn changes_few(row: &SparseRow, new: &[FreeEntry]) -> bool
+    requires { 0 < length new.now }
+    ensures { IsTrue result → (row.now.head ≡ pos 1) × ((slice_index_or new.now 0 (record { place = 0; value = pos 0 })).value ≡ pos 1) }
+{
+    if row.head != 1 || new[0].value != 1 {
+        return false;
+    }
+    new.len() < row.free.len() / 8
+}
+
+// Clears the row at the new row's pivot by changing its list, where both pivot entries are 1.
+fn clear_in_place(row: &mut SparseRow, columns: u16, new: &[FreeEntry], times: i128)
+    requires kept { IsKept columns row.old }
+    requires primitive { IsPrimitive columns (row_of columns (entries_of row.old)) }
+    requires small { IsSmall (row_of columns (entries_of row.old)) }
+    requires new { IsNew columns new.now }
+    requires before { row.old.pivot < (slice_index_or new.now 0 (record { place = 0; value = pos 0 })).place }
+    requires times { times ≡ entry_at row.old.free.items (slice_index_or new.now 0 (record { place = 0; value = pos 0 })).place }
+    requires some { times ≢ pos 0 }
+    requires ones { (row.old.head ≡ pos 1) × ((slice_index_or new.now 0 (record { place = 0; value = pos 0 })).value ≡ pos 1) }
+    ensures kept { IsKept columns row.new }
+    ensures cleared { IsCleared columns (row_of columns new.now) (row_of columns (entries_of row.old)) (row_of columns (entries_of row.new)) }
+{
+    row.most = take_entries(&mut row.free, columns, row.most, times, new);
+}
+
 // Clears the row at the new row's pivot, and bounds it anew.
+fn clear_anew(
+    row: &mut SparseRow,
+    columns: u16,
+    new: &[FreeEntry],
+    times: i128,
+    room: &mut Vec<FreeEntry>,
+)
+    requires room { columns ≤ vec_capacity room.old }
+    requires kept { IsKept columns row.old }
+    requires primitive { IsPrimitive columns (row_of columns (entries_of row.old)) }
+    requires small { IsSmall (row_of columns (entries_of row.old)) }
+    requires new { IsNew columns new.now }
+    requires before { row.old.pivot < (slice_index_or new.now 0 (record { place = 0; value = pos 0 })).place }
+    requires times { times ≡ entry_at row.old.free.items (slice_index_or new.now 0 (record { place = 0; value = pos 0 })).place }
+    requires some { times ≢ pos 0 }
+    ensures kept { IsKept columns row.new }
+    ensures cleared { IsCleared columns (row_of columns new.now) (row_of columns (entries_of row.old)) (row_of columns (entries_of row.new)) }
+    ensures room { columns ≤ vec_capacity room.new }
+{
+    room.clear();
+    row.head = clear_into(room, columns, row, new, times);
+    mem::swap(&mut row.free, room);
+    row.most = bound_of(row.head, &row.free);
+}
+
+// Clears the row at the new row's pivot.
 fn clear(row: &mut SparseRow, columns: u16, new: &[FreeEntry], room: &mut Vec<FreeEntry>)
     requires room { columns ≤ vec_capacity room.old }
     requires kept { IsKept columns row.old }
@@ -26,11 +80,13 @@ fn clear(row: &mut SparseRow, columns: u16, new: &[FreeEntry], room: &mut Vec<Fr
     ensures room { columns ≤ vec_capacity room.new }
 {
     let times = value_at(&row.free, new[0].place);
-    if times != 0 {
-        room.clear();
-        row.head = clear_into(room, columns, row, new, times);
-        mem::swap(&mut row.free, room);
-        row.most = bound_of(row.head, &row.free);
+    if times == 0 {
+        return;
+    }
+    if changes_few(row, new) {
+        clear_in_place(row, columns, new, times);
+    } else {
+        clear_anew(row, columns, new, times, room);
     }
 }
 

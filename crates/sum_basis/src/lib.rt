@@ -6,6 +6,7 @@
 
 mod basis;
 mod cleared_list;
+mod editing;
 mod elimination;
 mod form;
 mod growth;

@@ -15,8 +15,8 @@ pub fn are_small(entries: &[FreeEntry]) -> bool
     entries.iter().all(|e| e.value.unsigned_abs() <= LIMIT)
 }
 
-// A number with the other sign.
-fn negative(x: i128) -> i128
+/// A number with the other sign.
+pub fn negative(x: i128) -> i128
     requires { unsigned_abs x ≤ 2 ^ 126 }
     ensures { result ≡ neg_ℤ x }
 {
