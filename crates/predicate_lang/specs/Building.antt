@@ -3,6 +3,7 @@ use Rattle.std.specs.Prelude.{ℕ, Bool, true, false, List, map, reverse, Option
 use Rattle.schema_json.specs.Columns.{Column}
 use Rattle.predicate_lang.specs.Trees.{Tree, tree_of}
 use Rattle.predicate_lang.specs.Machine.{Frame, a_not, a_bracket, Stand, at_operand, at_name, at_operator, at_in, at_comma, at_literal, behind, Build, build, put, may_put}
+use Rattle.predicate_lang.specs.declared.trees.Literal.{Literal}
 use Rattle.predicate_lang.specs.declared.trees.Pred.{Pred}
 use Rattle.predicate_lang.specs.declared.trees.WhereFault.{WhereFault}
 use Rattle.predicate_lang.specs.declared.trees.WhereFault.TheVariants.{Bad, NoMemory}
@@ -11,7 +12,6 @@ use Rattle.predicate_lang.specs.declared.building.Opened.{Opened}
 use Rattle.predicate_lang.specs.declared.building.Opened.TheVariants as opened
 use Rattle.predicate_lang.specs.declared.building.Spot.{Spot}
 use Rattle.predicate_lang.specs.declared.building.Spot.TheVariants as spot
-use Rattle.predicate_lang.specs.declared.building.Around.{Around}
 use Rattle.predicate_lang.specs.declared.building.State.{State}
 
 abbrev pub part_of : Option Pred → Option Tree
@@ -26,24 +26,21 @@ frame_of (opened.Bracket ors ands) = a_bracket (part_of ors) (part_of ands)
 abbrev pub frames_of : List Opened → List Frame
 frames_of os = reverse (map frame_of os)
 
-abbrev pub stand_of : Spot → Stand
-stand_of spot.Operand = at_operand
-stand_of (spot.Name c) = at_name c
-stand_of (spot.Operator c o) = at_operator c o
-stand_of (spot.In c) = at_in c
-stand_of (spot.Comma c ls) = at_comma c ls
-stand_of (spot.Literal c ls) = at_literal c ls
-stand_of (spot.Whole p) = behind (tree_of p)
+abbrev pub stand_of : Spot → List Literal → Stand
+stand_of spot.Operand ls = at_operand
+stand_of (spot.Name c) ls = at_name c
+stand_of (spot.Operator c o) ls = at_operator c o
+stand_of (spot.In c) ls = at_in c
+stand_of (spot.Comma c) ls = at_comma c ls
+stand_of (spot.Literal c) ls = at_literal c ls
+stand_of (spot.Whole p) ls = behind (tree_of p)
 
 -- what is kept around a place
-abbrev pub build_at : Around → Stand → Build
-build_at a stand = build (frames_of a.opened.items) (part_of a.ors) (part_of a.ands) stand
-
-abbrev pub build_with : Around → Spot → Build
-build_with a spot = build_at a (stand_of spot)
+abbrev pub build_at : State → Stand → Build
+build_at s stand = build (frames_of s.opened.items) (part_of s.ors) (part_of s.ands) stand
 
 abbrev pub build_of : State → Build
-build_of s = build_with s.around s.spot
+build_of s = build_at s (stand_of s.spot s.literals.items)
 
 -- ---- what private calls answer
 

@@ -3,7 +3,7 @@ ghost use Rattle.std.specs.Prelude.{◌≡◌, ◌∷◌, List, OnOk};
 ghost use Rattle.schema_json.specs.Columns.{Column, role_at};
 ghost use Rattle.predicate_lang.specs.Trees.{tree_of, is_of_role, has_operator};
 ghost use Rattle.predicate_lang.specs.Machine.{build, start, built, whole, closed, add_and, add_or, is_under_not, is_in_bracket, negated, without_nots, at_operand, at_name, at_operator, at_in, at_comma, at_literal, behind, has_room, public_role};
-ghost use Rattle.predicate_lang.specs.Building.{Puts, Goes, Makes, MakesTree, Finishes, build_of, build_at, build_with, part_of, frame_of, frames_of};
+ghost use Rattle.predicate_lang.specs.Building.{Puts, Goes, Makes, MakesTree, Finishes, build_of, build_at, part_of, frame_of, frames_of};
 
 use crate::tokens::Token;
 use crate::trees::{Literal, Literals, Op, Pred, WhereFault};
@@ -31,39 +31,20 @@ pub(crate) enum Spot {
     Name(u8),
     Operator(u8, Op),
     In(u8),
-    Comma(u8, Literals),
-    Literal(u8, Literals),
+    Comma(u8),
+    Literal(u8),
     Whole(Pred),
 }
 
-/// What is open, the innermost last, and what stands before the operand.
+/// What the reader keeps between two tokens: what is open, the innermost last, what stands before the operand, the literals
+/// of a list that isn't closed, and where the next token stands.
 #[derive(Drop)]
-pub(crate) struct Around {
+pub(crate) struct State {
     pub opened: Vec<Opened>,
     pub ors: Option<Pred>,
     pub ands: Option<Pred>,
-}
-
-/// What the reader keeps between two tokens.
-#[derive(Drop)]
-pub(crate) struct State {
-    pub around: Around,
+    pub literals: Vec<Literal>,
     pub spot: Spot,
-}
-
-impl State {
-    pub(crate) fn new(alloc: Global) -> State
-        ensures { build_of result ≡ start }
-    {
-        State {
-            around: Around {
-                opened: Vec::new(alloc),
-                ors: None,
-                ands: None,
-            },
-            spot: Spot::Operand,
-        }
-    }
 }
 
 fn and_of(alloc: Global, ands: Option<Pred>, p: Pred) -> Result<Pred, WhereFault>
@@ -107,48 +88,6 @@ fn negate(alloc: Global, opened: &mut Vec<Opened>, operand: Pred) -> Result<Pred
         p = Pred::Not(Box::new(alloc, p)?);
     }
     Ok(p)
-}
-
-/// Puts a whole operand behind what stands before it.
-fn behind_operand(alloc: Global, around: &mut Around, operand: Pred) -> Result<Spot, WhereFault>
-    ensures { Makes (whole (frames_of around.old.opened.items) (part_of around.old.ors) (part_of around.old.ands) (tree_of operand)) result (build_with around.new) }
-{
-    let p = negate(alloc, &mut around.opened, operand)?;
-    let p = and_of(alloc, around.ands.take(), p)?;
-    Ok(Spot::Whole(p))
-}
-
-/// Opens one `not` or bracket more.
-fn behind_opening(around: &mut Around, opening: Opened, at: u32) -> Result<Spot, WhereFault>
-    ensures { Goes (has_room (frames_of around.old.opened.items)) (build (frame_of opening ∷ frames_of around.old.opened.items) (part_of around.old.ors) (part_of around.old.ands) at_operand) at result (build_with around.new) }
-{
-    if around.opened.len() >= MOST_OPEN {
-        return Err(WhereFault::Bad { at });
-    }
-    around.opened.push(opening)?;
-    Ok(Spot::Operand)
-}
-
-/// Closes the innermost bracket.
-#[tactic(auto, using(crate::proofs::Frames::frames_of_push))]
-fn behind_closing(
-    alloc: Global,
-    around: &mut Around,
-    inner: Pred,
-    at: u32,
-) -> Result<Spot, WhereFault>
-    ensures { Goes (is_in_bracket (frames_of around.old.opened.items)) (closed (frames_of around.old.opened.items) (part_of around.old.ors) (tree_of inner)) at result (build_with around.new) }
-{
-    match around.opened.pop() {
-        Some(Opened::Bracket { ors, ands }) => {
-            let p = or_of(alloc, around.ors.take(), inner)?;
-            around.ors = ors;
-            around.ands = ands;
-            behind_operand(alloc, around, p)
-        }
-        Some(Opened::Not) => Err(WhereFault::Bad { at }),
-        None => Err(WhereFault::Bad { at }),
-    }
 }
 
 fn role_of(schema: &Schema, column: u8) -> Option<Role>
@@ -201,220 +140,255 @@ fn takes_literal(role: Option<Role>, literal: &Literal) -> bool
     }
 }
 
-fn on_operand(
-    alloc: Global,
-    schema: &Schema,
-    around: &mut Around,
-    token: Token,
-    at: u32,
-) -> Result<Spot, WhereFault>
-    ensures { Puts schema.now.columns (build_at around.old at_operand) token at result (build_with around.new) }
-{
-    match token {
-        Token::Not => behind_opening(around, Opened::Not, at),
-        Token::OpenBracket => {
-            let ors = around.ors.take();
-            let ands = around.ands.take();
-            behind_opening(around, Opened::Bracket { ors, ands }, at)
+impl State {
+    pub(crate) fn new(alloc: Global) -> State
+        ensures { build_of result ≡ start }
+    {
+        State {
+            opened: Vec::new(alloc),
+            ors: None,
+            ands: None,
+            literals: Vec::new(alloc),
+            spot: Spot::Operand,
         }
-        Token::All => behind_operand(alloc, around, Pred::All),
-        Token::Column(Some(column)) => {
-            if is_public(role_of(schema, column)) {
-                Ok(Spot::Name(column))
-            } else {
-                Err(WhereFault::Bad { at })
+    }
+
+    /// Puts a whole operand behind what stands before it.
+    fn end_operand(&mut self, alloc: Global, operand: Pred) -> Result<(), WhereFault>
+        ensures { Makes (whole (frames_of self.old.opened.items) (part_of self.old.ors) (part_of self.old.ands) (tree_of operand)) result (λ _. build_of self.new) }
+    {
+        let p = negate(alloc, &mut self.opened, operand)?;
+        let p = and_of(alloc, self.ands.take(), p)?;
+        self.spot = Spot::Whole(p);
+        Ok(())
+    }
+
+    /// Opens one `not` or bracket more.
+    fn open(&mut self, opening: Opened, at: u32) -> Result<(), WhereFault>
+        ensures { Goes (has_room (frames_of self.old.opened.items)) (build (frame_of opening ∷ frames_of self.old.opened.items) (part_of self.old.ors) (part_of self.old.ands) at_operand) at result (λ _. build_of self.new) }
+    {
+        if self.opened.len() >= MOST_OPEN {
+            return Err(WhereFault::Bad { at });
+        }
+        self.opened.push(opening)?;
+        self.spot = Spot::Operand;
+        Ok(())
+    }
+
+    /// Closes the innermost bracket.
+    #[tactic(auto, using(crate::proofs::Frames::frames_of_push))]
+    fn close(&mut self, alloc: Global, inner: Pred, at: u32) -> Result<(), WhereFault>
+        ensures { Goes (is_in_bracket (frames_of self.old.opened.items)) (closed (frames_of self.old.opened.items) (part_of self.old.ors) (tree_of inner)) at result (λ _. build_of self.new) }
+    {
+        match self.opened.pop() {
+            Some(Opened::Bracket { ors, ands }) => {
+                let p = or_of(alloc, self.ors.take(), inner)?;
+                self.ors = ors;
+                self.ands = ands;
+                self.end_operand(alloc, p)
             }
+            Some(Opened::Not) => Err(WhereFault::Bad { at }),
+            None => Err(WhereFault::Bad { at }),
         }
-        _ => Err(WhereFault::Bad { at }),
     }
-}
 
-fn on_name(
-    schema: &Schema,
-    around: &Around,
-    column: u8,
-    token: Token,
-    at: u32,
-) -> Result<Spot, WhereFault>
-    ensures { Puts schema.now.columns (build_at around.now (at_name column)) token at result (build_with around.now) }
-{
-    match token {
-        Token::In => Ok(Spot::In(column)),
-        Token::Operator(op) => {
-            if takes_operator(role_of(schema, column), op) {
-                Ok(Spot::Operator(column, op))
-            } else {
-                Err(WhereFault::Bad { at })
+    fn on_operand(
+        &mut self,
+        alloc: Global,
+        schema: &Schema,
+        token: Token,
+        at: u32,
+    ) -> Result<(), WhereFault>
+        ensures { Puts schema.now.columns (build_at self.old at_operand) token at result (λ _. build_of self.new) }
+    {
+        match token {
+            Token::Not => self.open(Opened::Not, at),
+            Token::OpenBracket => {
+                let ors = self.ors.take();
+                let ands = self.ands.take();
+                self.open(Opened::Bracket { ors, ands }, at)
             }
-        }
-        _ => Err(WhereFault::Bad { at }),
-    }
-}
-
-fn on_operator(
-    alloc: Global,
-    schema: &Schema,
-    around: &mut Around,
-    column: u8,
-    op: Op,
-    token: Token,
-    at: u32,
-) -> Result<Spot, WhereFault>
-    ensures { Puts schema.now.columns (build_at around.old (at_operator column op)) token at result (build_with around.new) }
-{
-    match token {
-        Token::Value(literal) => {
-            if takes_literal(role_of(schema, column), &literal) {
-                let operand = Pred::Compare {
-                    column,
-                    op,
-                    literal,
-                };
-                behind_operand(alloc, around, operand)
-            } else {
-                Err(WhereFault::Bad { at })
+            Token::All => self.end_operand(alloc, Pred::All),
+            Token::Column(Some(column)) => {
+                if is_public(role_of(schema, column)) {
+                    self.spot = Spot::Name(column);
+                    Ok(())
+                } else {
+                    Err(WhereFault::Bad { at })
+                }
             }
+            _ => Err(WhereFault::Bad { at }),
         }
-        _ => Err(WhereFault::Bad { at }),
     }
-}
 
-fn on_in(
-    alloc: Global,
-    around: &Around,
-    column: u8,
-    token: Token,
-    at: u32,
-) -> Result<Spot, WhereFault>
-    ensures { (columns : List Column) → Puts columns (build_at around.now (at_in column)) token at result (build_with around.now) }
-{
-    match token {
-        Token::OpenBracket => {
-            let literals = Literals {
-                list: Vec::new(alloc),
-            };
-            Ok(Spot::Comma(column, literals))
-        }
-        _ => Err(WhereFault::Bad { at }),
-    }
-}
-
-fn on_comma(
-    schema: &Schema,
-    around: &Around,
-    column: u8,
-    literals: Literals,
-    token: Token,
-    at: u32,
-) -> Result<Spot, WhereFault>
-    ensures { Puts schema.now.columns (build_at around.now (at_comma column literals)) token at result (build_with around.now) }
-{
-    match token {
-        Token::Value(literal) => {
-            if takes_literal(role_of(schema, column), &literal) {
-                let Literals { mut list } = literals;
-                list.push(literal)?;
-                Ok(Spot::Literal(column, Literals { list }))
-            } else {
-                Err(WhereFault::Bad { at })
+    fn on_name(
+        &mut self,
+        schema: &Schema,
+        column: u8,
+        token: Token,
+        at: u32,
+    ) -> Result<(), WhereFault>
+        ensures { Puts schema.now.columns (build_at self.old (at_name column)) token at result (λ _. build_of self.new) }
+    {
+        match token {
+            Token::In => {
+                self.spot = Spot::In(column);
+                Ok(())
             }
-        }
-        _ => Err(WhereFault::Bad { at }),
-    }
-}
-
-fn on_literal(
-    alloc: Global,
-    around: &mut Around,
-    column: u8,
-    literals: Literals,
-    token: Token,
-    at: u32,
-) -> Result<Spot, WhereFault>
-    ensures { (columns : List Column) → Puts columns (build_at around.old (at_literal column literals)) token at result (build_with around.new) }
-{
-    match token {
-        Token::Comma => Ok(Spot::Comma(column, literals)),
-        Token::CloseBracket => behind_operand(alloc, around, Pred::Within { column, literals }),
-        _ => Err(WhereFault::Bad { at }),
-    }
-}
-
-fn on_whole(
-    alloc: Global,
-    around: &mut Around,
-    p: Pred,
-    token: Token,
-    at: u32,
-) -> Result<Spot, WhereFault>
-    ensures { (columns : List Column) → Puts columns (build_at around.old (behind (tree_of p))) token at result (build_with around.new) }
-{
-    match token {
-        Token::And => {
-            around.ands = Some(p);
-            Ok(Spot::Operand)
-        }
-        Token::Or => {
-            let ors = or_of(alloc, around.ors.take(), p)?;
-            around.ors = Some(ors);
-            around.ands = None;
-            Ok(Spot::Operand)
-        }
-        Token::CloseBracket => behind_closing(alloc, around, p, at),
-        _ => Err(WhereFault::Bad { at }),
-    }
-}
-
-/// Where the token behind this one stands, or the refusal of this one at its offset.
-fn spot_behind(
-    alloc: Global,
-    schema: &Schema,
-    around: &mut Around,
-    spot: Spot,
-    token: Token,
-    at: u32,
-) -> Result<Spot, WhereFault>
-    ensures { Puts schema.now.columns (build_with around.old spot) token at result (build_with around.new) }
-{
-    match spot {
-        Spot::Operand => on_operand(alloc, schema, around, token, at),
-        Spot::Name(column) => on_name(schema, around, column, token, at),
-        Spot::Operator(column, op) => on_operator(alloc, schema, around, column, op, token, at),
-        Spot::In(column) => on_in(alloc, around, column, token, at),
-        Spot::Comma(column, literals) => on_comma(schema, around, column, literals, token, at),
-        Spot::Literal(column, literals) => on_literal(alloc, around, column, literals, token, at),
-        Spot::Whole(p) => on_whole(alloc, around, p, token, at),
-    }
-}
-
-/// Takes one token more, or refuses it at its offset. After a refusal the state is of no use.
-pub(crate) fn put(
-    alloc: Global,
-    schema: &Schema,
-    state: &mut State,
-    token: Token,
-    at: u32,
-) -> Result<(), WhereFault>
-    ensures { Puts schema.now.columns (build_of state.old) token at result (λ _. build_of state.new) }
-{
-    let spot = mem::replace(&mut state.spot, Spot::Operand);
-    let next = spot_behind(alloc, schema, &mut state.around, spot, token, at)?;
-    state.spot = next;
-    Ok(())
-}
-
-/// The predicate, where nothing is open or wanting, and else a refusal at the end of the text.
-pub(crate) fn finish(alloc: Global, state: &mut State, end: u32) -> Result<Pred, WhereFault>
-    ensures { Finishes (built (build_of state.old)) end result }
-{
-    match mem::replace(&mut state.spot, Spot::Operand) {
-        Spot::Whole(p) => {
-            if state.around.opened.is_empty() {
-                or_of(alloc, state.around.ors.take(), p)
-            } else {
-                Err(WhereFault::Bad { at: end })
+            Token::Operator(op) => {
+                if takes_operator(role_of(schema, column), op) {
+                    self.spot = Spot::Operator(column, op);
+                    Ok(())
+                } else {
+                    Err(WhereFault::Bad { at })
+                }
             }
+            _ => Err(WhereFault::Bad { at }),
         }
-        _ => Err(WhereFault::Bad { at: end }),
+    }
+
+    fn on_operator(
+        &mut self,
+        alloc: Global,
+        schema: &Schema,
+        column: u8,
+        op: Op,
+        token: Token,
+        at: u32,
+    ) -> Result<(), WhereFault>
+        ensures { Puts schema.now.columns (build_at self.old (at_operator column op)) token at result (λ _. build_of self.new) }
+    {
+        match token {
+            Token::Value(literal) => {
+                if takes_literal(role_of(schema, column), &literal) {
+                    let operand = Pred::Compare {
+                        column,
+                        op,
+                        literal,
+                    };
+                    self.end_operand(alloc, operand)
+                } else {
+                    Err(WhereFault::Bad { at })
+                }
+            }
+            _ => Err(WhereFault::Bad { at }),
+        }
+    }
+
+    fn on_in(&mut self, alloc: Global, column: u8, token: Token, at: u32) -> Result<(), WhereFault>
+        ensures { (columns : List Column) → Puts columns (build_at self.old (at_in column)) token at result (λ _. build_of self.new) }
+    {
+        match token {
+            Token::OpenBracket => {
+                self.literals = Vec::new(alloc);
+                self.spot = Spot::Comma(column);
+                Ok(())
+            }
+            _ => Err(WhereFault::Bad { at }),
+        }
+    }
+
+    fn on_comma(
+        &mut self,
+        schema: &Schema,
+        column: u8,
+        token: Token,
+        at: u32,
+    ) -> Result<(), WhereFault>
+        ensures { Puts schema.now.columns (build_at self.old (at_comma column self.old.literals.items)) token at result (λ _. build_of self.new) }
+    {
+        match token {
+            Token::Value(literal) => {
+                if takes_literal(role_of(schema, column), &literal) {
+                    self.literals.push(literal)?;
+                    self.spot = Spot::Literal(column);
+                    Ok(())
+                } else {
+                    Err(WhereFault::Bad { at })
+                }
+            }
+            _ => Err(WhereFault::Bad { at }),
+        }
+    }
+
+    fn on_literal(
+        &mut self,
+        alloc: Global,
+        column: u8,
+        token: Token,
+        at: u32,
+    ) -> Result<(), WhereFault>
+        ensures { (columns : List Column) → Puts columns (build_at self.old (at_literal column self.old.literals.items)) token at result (λ _. build_of self.new) }
+    {
+        match token {
+            Token::Comma => {
+                self.spot = Spot::Comma(column);
+                Ok(())
+            }
+            Token::CloseBracket => {
+                let list = mem::replace(&mut self.literals, Vec::new(alloc));
+                let literals = Literals { list };
+                self.end_operand(alloc, Pred::Within { column, literals })
+            }
+            _ => Err(WhereFault::Bad { at }),
+        }
+    }
+
+    fn on_whole(&mut self, alloc: Global, p: Pred, token: Token, at: u32) -> Result<(), WhereFault>
+        ensures { (columns : List Column) → Puts columns (build_at self.old (behind (tree_of p))) token at result (λ _. build_of self.new) }
+    {
+        match token {
+            Token::And => {
+                self.ands = Some(p);
+                self.spot = Spot::Operand;
+                Ok(())
+            }
+            Token::Or => {
+                let ors = or_of(alloc, self.ors.take(), p)?;
+                self.ors = Some(ors);
+                self.ands = None;
+                self.spot = Spot::Operand;
+                Ok(())
+            }
+            Token::CloseBracket => self.close(alloc, p, at),
+            _ => Err(WhereFault::Bad { at }),
+        }
+    }
+
+    /// Takes one token more, or refuses it at its offset. After a refusal the state is of no use.
+    pub(crate) fn put(
+        &mut self,
+        alloc: Global,
+        schema: &Schema,
+        token: Token,
+        at: u32,
+    ) -> Result<(), WhereFault>
+        ensures { Puts schema.now.columns (build_of self.old) token at result (λ _. build_of self.new) }
+    {
+        match mem::replace(&mut self.spot, Spot::Operand) {
+            Spot::Operand => self.on_operand(alloc, schema, token, at),
+            Spot::Name(column) => self.on_name(schema, column, token, at),
+            Spot::Operator(column, op) => self.on_operator(alloc, schema, column, op, token, at),
+            Spot::In(column) => self.on_in(alloc, column, token, at),
+            Spot::Comma(column) => self.on_comma(schema, column, token, at),
+            Spot::Literal(column) => self.on_literal(alloc, column, token, at),
+            Spot::Whole(p) => self.on_whole(alloc, p, token, at),
+        }
+    }
+
+    /// The predicate, where nothing is open or wanting, and else a refusal at the end of the text.
+    pub(crate) fn finish(&mut self, alloc: Global, end: u32) -> Result<Pred, WhereFault>
+        ensures { Finishes (built (build_of self.old)) end result }
+    {
+        match mem::replace(&mut self.spot, Spot::Operand) {
+            Spot::Whole(p) => {
+                if self.opened.is_empty() {
+                    or_of(alloc, self.ors.take(), p)
+                } else {
+                    Err(WhereFault::Bad { at: end })
+                }
+            }
+            _ => Err(WhereFault::Bad { at: end }),
+        }
     }
 }

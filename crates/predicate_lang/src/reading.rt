@@ -6,7 +6,7 @@ ghost use Rattle.predicate_lang.specs.Building.{build_of};
 ghost use Rattle.predicate_lang.specs.Reads.{HasRead};
 ghost use Rattle.predicate_lang.specs.Steps.{Steps};
 
-use crate::building::{State, finish, put};
+use crate::building::State;
 use crate::lexing::next_token;
 use crate::tokens::Lexeme;
 use crate::trees::{Pred, WhereFault};
@@ -43,12 +43,12 @@ fn take_token(
             if count == MOST_TOKENS {
                 return Err(WhereFault::Bad { at });
             }
-            match put(alloc, schema, state, token, at) {
+            match state.put(alloc, schema, token, at) {
                 Ok(()) => Ok(Step::More(end)),
                 Err(fault) => Err(fault),
             }
         }
-        Ok(None) => match finish(alloc, state, text.len() as u32) {
+        Ok(None) => match state.finish(alloc, text.len() as u32) {
             Ok(p) => Ok(Step::Whole(p)),
             Err(fault) => Err(fault),
         },
