@@ -3,7 +3,7 @@ use Rattle.std.proofs.Common.{◌≡◌, ℕ, zero, suc, ◌+◌, ◌<◌, List,
 use Rattle.std.specs.Prelude.{slice_get}
 use Rattle.schema_json.specs.declared.roles.Role.{Role}
 use Rattle.table_load.specs.declared.faults.TableFault.{TableFault}
-use Rattle.table_load.specs.Faults.{or_else}
+use Rattle.std.specs.Option.{option_or}
 use Rattle.table_load.specs.Reading.{Fields, cell_fault, cells_fault, record_fault, records_fault}
 use Rattle.table_load.specs.FirstFaults.{IsFirstRecord, IsFirstField}
 
@@ -41,7 +41,7 @@ later_record roles line r rs place fault none first = record {
     before zero earlier lt e = at_line roles (line + 0) line earlier (omega arith) ∙ ap (record_fault roles line) (sym (same_some r earlier e)) ∙ none
     before (suc k) earlier lt e = at_line roles (line + suc k) (line + 1 + k) earlier (omega arith) ∙ first.before k earlier (omega (arith, lt)) e
 
-record_by_first : (roles : List Role) (line : ℕ) (r : Fields) (rs : List Fields) (fault : TableFault) (first : Option TableFault) → record_fault roles line r ≡ first → or_else first (records_fault roles (line + 1) rs) ≡ Some fault
+record_by_first : (roles : List Role) (line : ℕ) (r : Fields) (rs : List Fields) (fault : TableFault) (first : Option TableFault) → record_fault roles line r ≡ first → option_or first (records_fault roles (line + 1) rs) ≡ Some fault
     → (records_fault roles (line + 1) rs ≡ Some fault → (place : ℕ) × FirstRecord roles (line + 1) rs place fault) → (place : ℕ) × FirstRecord roles line (r ∷ rs) place fault
 record_by_first roles line r rs fault (Some this) is e rest = (0, this_record roles line r rs fault (is ∙ e))
 record_by_first roles line r rs fault None is e rest = let later = rest e in (suc later.0, later_record roles line r rs later.0 fault is later.1)
@@ -54,7 +54,7 @@ first_record : (roles : List Role) (line : ℕ) (rs : List Fields) (place : ℕ)
 first_record roles line [] place fault first = absurd (none_some first.fields first.stands)
 first_record roles line (r ∷ rs) zero fault first =
     let here : record_fault roles line r ≡ Some fault = ap (record_fault roles line) (same_some r first.fields first.stands) ∙ at_line roles line (line + 0) first.fields (omega arith) ∙ first.fault_is in
-    ap (λ f. or_else f (records_fault roles (line + 1) rs)) here
+    ap (λ f. option_or f (records_fault roles (line + 1) rs)) here
 first_record roles line (r ∷ rs) (suc place) fault first =
     let none : record_fault roles line r ≡ None = at_line roles line (line + 0) r (omega arith) ∙ first.before 0 r (omega arith) refl in
     let rest : FirstRecord roles (line + 1) rs place fault = record {
@@ -63,7 +63,7 @@ first_record roles line (r ∷ rs) (suc place) fault first =
       fault_is = at_line roles (line + 1 + place) (line + suc place) first.fields (omega arith) ∙ first.fault_is;
       before = λ k earlier lt e. at_line roles (line + 1 + k) (line + suc k) earlier (omega arith) ∙ first.before (suc k) earlier (omega (arith, lt)) e;
     } in
-    ap (λ f. or_else f (records_fault roles (line + 1) rs)) none ∙ first_record roles (line + 1) rs place fault rest
+    ap (λ f. option_or f (records_fault roles (line + 1) rs)) none ∙ first_record roles (line + 1) rs place fault rest
 
 pub first_of_records : (roles : List Role) (rs : List Fields) (fault : TableFault) → records_fault roles 2 rs ≡ Some fault → (place : ℕ) × IsFirstRecord roles rs place fault
 first_of_records roles rs fault e = let first = records_first roles 2 rs fault e in (first.0, record { fields = first.1.fields; stands = first.1.stands; fault_is = first.1.fault_is; before = first.1.before })
@@ -106,7 +106,7 @@ later_field role roles line from field fields column fault none first = record {
     before (suc k) other earlier lt r e = at_column other line (from + suc k) (from + 1 + k) earlier (omega arith) ∙ first.before k other earlier (omega (arith, lt)) r e
 
 field_by_first : (role : Role) (roles : List Role) (line from : ℕ) (field : List ℕ) (fields : Fields) (fault : TableFault) (first : Option TableFault) → cell_fault role line from field ≡ first
-    → or_else first (cells_fault line (from + 1) roles fields) ≡ Some fault → (cells_fault line (from + 1) roles fields ≡ Some fault → (column : ℕ) × FirstField roles line (from + 1) fields column fault)
+    → option_or first (cells_fault line (from + 1) roles fields) ≡ Some fault → (cells_fault line (from + 1) roles fields ≡ Some fault → (column : ℕ) × FirstField roles line (from + 1) fields column fault)
     → (column : ℕ) × FirstField (role ∷ roles) line from (field ∷ fields) column fault
 field_by_first role roles line from field fields fault (Some this) is e rest = (0, this_field role roles line from field fields fault (is ∙ e))
 field_by_first role roles line from field fields fault None is e rest = let later = rest e in (suc later.0, later_field role roles line from field fields later.0 fault is later.1)
@@ -122,7 +122,7 @@ first_field (role ∷ roles) line from [] column fault first = absurd (none_some
 first_field (role ∷ roles) line from (field ∷ fields) zero fault first =
     let here : cell_fault role line from field ≡ Some fault =
     ap (λ x. cell_fault x line from field) (same_some role first.role first.role_is) ∙ ap (cell_fault first.role line from) (same_some field first.field first.stands) ∙ at_column first.role line from (from + 0) first.field (omega arith) ∙ first.fault_is in
-    ap (λ f. or_else f (cells_fault line (from + 1) roles fields)) here
+    ap (λ f. option_or f (cells_fault line (from + 1) roles fields)) here
 first_field (role ∷ roles) line from (field ∷ fields) (suc column) fault first =
     let none : cell_fault role line from field ≡ None = at_column role line from (from + 0) field (omega arith) ∙ first.before 0 role field (omega arith) refl refl in
     let rest : FirstField roles line (from + 1) fields column fault = record {
@@ -133,7 +133,7 @@ first_field (role ∷ roles) line from (field ∷ fields) (suc column) fault fir
       fault_is = at_column first.role line (from + 1 + column) (from + suc column) first.field (omega arith) ∙ first.fault_is;
       before = λ k other earlier lt r e. at_column other line (from + 1 + k) (from + suc k) earlier (omega arith) ∙ first.before (suc k) other earlier (omega (arith, lt)) r e;
     } in
-    ap (λ f. or_else f (cells_fault line (from + 1) roles fields)) none ∙ first_field roles line (from + 1) fields column fault rest
+    ap (λ f. option_or f (cells_fault line (from + 1) roles fields)) none ∙ first_field roles line (from + 1) fields column fault rest
 
 pub first_of_fields : (roles : List Role) (line : ℕ) (fields : Fields) (fault : TableFault) → cells_fault line 0 roles fields ≡ Some fault → (column : ℕ) × IsFirstField roles line fields column fault
 first_of_fields roles line fields fault e =
