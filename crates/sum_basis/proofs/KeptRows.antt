@@ -1,9 +1,9 @@
 -- Kept rows at the pivot of a new one, small ones, and ones with one entry.
-use Rattle.std.proofs.Common.{◌≡◌, ◌≢◌, ◌↔◌, ℕ, ◌+◌, ◌<◌, ◌≤◌, ◌^◌, ℤ, pos, List, [], ◌∷◌, length, get_or, refl, sym, ap, ◌∙◌, subst, arith, inl, inr}
-use Rattle.std.specs.Prelude.{◌<ℤ◌, unsigned_abs}
+use Rattle.std.proofs.Common.{◌≡◌, ◌≢◌, ◌↔◌, ℕ, Bool, nat_eq, ◌+◌, ◌<◌, ◌≤◌, ◌^◌, ℤ, pos, List, [], ◌∷◌, length, get_or, refl, sym, ap, ◌∙◌, subst, arith, inl, inr}
+use Rattle.std.specs.Prelude.{◌<ℤ◌, unsigned_abs, IsTrue}
 use Rattle.std.specs.List.{AllByRecursion}
 use Rattle.std.proofs.lemmas.Int.{ints}
-use Rattle.std.proofs.lemmas.Bool.{cases_lt}
+use Rattle.std.proofs.lemmas.Bool.{cases_lt, eqb-true, eq-eqb}
 use Rattle.audit_types.specs.Truth.{number_at}
 use Rattle.audit_types.specs.Form.{IsPrimitive, pivot, pivot_entry}
 use Rattle.sum_basis.specs.declared.sparse.FreeEntry.{FreeEntry}
@@ -56,6 +56,12 @@ lone_list n e (f ∷ es) h = (
       let sum : entry_at (e ∷ f ∷ es) f.place ≡ f.value = omega (arith, ints) in
       absurd (h.3.2 (sym sum ∙ sym (number_at-row_of 0 n (e ∷ f ∷ es) h f.place) ∙ lone f.place (λ same. let p = pivot-row_of 0 n e (f ∷ es) h in omega arith))),
 )
+
+-- the same, by the length that is kept with the list
+pub lone_by_length : (n len : ℕ) (e : FreeEntry) (es : List FreeEntry) (b : Bool) → IsListed 0 n (e ∷ es) → len ≡ length es → b ≡ nat_eq len 0 → IsTrue b ↔ IsLone (row_of n (e ∷ es))
+lone_by_length n len e es b h l is =
+    let lone = lone_list n e es h in
+    (λ yes. lone.0 (sym l ∙ eqb-true len 0 (subst IsTrue is yes)), λ all. subst IsTrue (sym is) (eq-eqb len 0 (l ∙ lone.1 all)))
 
 -- a row is small exactly where its pivot entry and its list are
 pub small_list : (n : ℕ) (e : FreeEntry) (es : List FreeEntry) → IsListed 0 n (e ∷ es) → unsigned_abs e.value ≤ 2 ^ 56 → AllByRecursion (λ (f : FreeEntry). unsigned_abs f.value ≤ 2 ^ 56) es → IsSmall (row_of n (e ∷ es))

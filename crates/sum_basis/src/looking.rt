@@ -148,7 +148,10 @@ fn look_at(
 {
     let by = new[0].value;
     let times = value_at(&row.free, new[0].place);
-    if times != 0 && is_surely_small(by, row.most, times, most) {
+    if times == 0 {
+        return Some(row.free.is_empty());
+    }
+    if is_surely_small(by, row.most, times, most) {
         return Some(are_parallel(by, &row.free, times, new));
     }
     let cleared = clear_aside(row, columns, new, room)?;

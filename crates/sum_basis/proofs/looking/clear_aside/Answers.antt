@@ -1,29 +1,22 @@
-use Rattle.std.proofs.Common.{◌≡◌, ◌↔◌, ℕ, ◌+◌, ◌≤◌, ◌^◌, Bool, false, ℤ, List, ◌∷◌, length, get_or, nat_eq, sym, ap, ◌∙◌, subst, arith, rules}
+use Rattle.std.proofs.Common.{◌≡◌, ◌+◌, ◌≤◌, ◌^◌, Bool, false, ℤ, ◌∷◌, get_or, sym, ap, ◌∙◌, subst, arith, rules}
 use Rattle.std.specs.Prelude.{FitsSigned, unsigned_abs, IsTrue}
 use Rattle.std.specs.Int.{w128}
 use Rattle.std.specs.List.{AllByRecursion}
 use mir.Val.{of_z}
 use Rattle.std.proofs.lemmas.Int.{to_z-of_z}
-use Rattle.std.proofs.lemmas.Bool.{eqb-true, eq-eqb, true≢false}
+use Rattle.std.proofs.lemmas.Bool.{true≢false}
 use Rattle.int_rows.specs.PrimitiveLaws.{zero_from_bits}
 use Rattle.sum_basis.specs.declared.sparse.FreeEntry.{FreeEntry}
-use Rattle.sum_basis.specs.Elimination.{IsLone}
-use Rattle.sum_basis.specs.Sparse.{entry_at, row_of, IsListed, entries_of}
+use Rattle.sum_basis.specs.Sparse.{entry_at, row_of, entries_of}
 use Rattle.sum_basis.proofs.SparseRows.{listed_from, listed_to, pivot_entry-row_of, small_values}
 use Rattle.sum_basis.proofs.ListContents.{none}
-use Rattle.sum_basis.proofs.KeptRows.{stands_earlier, cleared_as_it_is, lone_list, small_list}
+use Rattle.sum_basis.proofs.KeptRows.{stands_earlier, cleared_as_it_is, lone_by_length, small_list}
 use Rattle.sum_basis.proofs.looking.clear_aside.Goals as goal
 
 pub value_at-times-requires : goal.value_at-times-requires
 value_at-times-requires c =
     let fits = c.ranges.columns.fits in
     rw c.deref.ensures.value (listed_to 0 c.args.columns 65536 c.args.row.now.free.items (omega arith) (listed_from (c.args.row.now.pivot + 1) 0 c.args.columns c.args.row.now.free.items (omega arith) c.requires.kept.listed.3))
-
--- a list of no entries
-lone_by_length : (n len : ℕ) (e : FreeEntry) (es : List FreeEntry) (b : Bool) → IsListed 0 n (e ∷ es) → len ≡ length es → b ≡ nat_eq len 0 → IsTrue b ↔ IsLone (row_of n (e ∷ es))
-lone_by_length n len e es b h l is =
-    let lone = lone_list n e es h in
-    (λ yes. lone.0 (sym l ∙ eqb-true len 0 (subst IsTrue is yes)), λ all. subst IsTrue (sym is) (eq-eqb len 0 (l ∙ lone.1 all)))
 
 pub returns-then-times-eq0-clause-cleared : goal.returns-then-times-eq0-clause-cleared
 returns-then-times-eq0-clause-cleared c =

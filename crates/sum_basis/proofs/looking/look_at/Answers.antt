@@ -5,6 +5,7 @@ use Rattle.std.specs.List.{AllByRecursion}
 use mir.Val.{of_z}
 use Rattle.std.proofs.lemmas.Int.{to_z-of_z}
 use Rattle.audit_types.specs.Form.{IsPrimitive}
+use Rattle.int_rows.specs.PrimitiveLaws.{zero_from_bits}
 use Rattle.sum_basis.specs.declared.sparse.FreeEntry.{FreeEntry}
 use Rattle.sum_basis.specs.declared.sparse.SparseRow.{SparseRow}
 use Rattle.sum_basis.specs.Elimination.{IsSmall, IsCleared, IsLone}
@@ -13,7 +14,7 @@ use Rattle.sum_basis.proofs.SparseRows.{listed_from, listed_to, small_values}
 use Rattle.sum_basis.proofs.ListContents.{none}
 use Rattle.sum_basis.proofs.ClearedLists.{is_led, entry_small}
 use Rattle.sum_basis.proofs.Clearing.{positive_not_zero}
-use Rattle.sum_basis.proofs.KeptRows.{stands_earlier}
+use Rattle.sum_basis.proofs.KeptRows.{stands_earlier, cleared_as_it_is, lone_by_length}
 use Rattle.sum_basis.proofs.BoundedRows.{on_line, within_bounds, lone_by_parallel}
 use Rattle.sum_basis.proofs.looking.look_at.Goals as goal
 
@@ -79,7 +80,18 @@ returns-then-is_surely_small-clause-cleared c =
     let is = to_z-of_z w128 c.value_at-times.result times in
     surely c.args.columns c.args.row.now c.args.new.now c.requires.kept c.requires.primitive c.requires.new c.requires.zero c.args.most c.value_at-times.result _ _ c.deref-then-is_surely_small.result.now c.are_parallel.result c.requires.most
     (to_z-of_z w128 (get_or c.args.new.now 0 none).value by) (c.value_at-times.ensures ∙ ap (λ l. entry_at l (get_or c.args.new.now 0 none).place) c.deref.ensures.value) is
-    (λ z. c.if-times-ne0.true (ap (of_z w128) (sym is ∙ z))) (c.is_surely_small.ensures c.if-is_surely_small.true) c.deref-then-is_surely_small.ensures.value c.are_parallel.ensures
+    (λ z. c.if-times-eq0.false (ap (of_z w128) (sym is ∙ z))) (c.is_surely_small.ensures c.if-is_surely_small.true) c.deref-then-is_surely_small.ensures.value c.are_parallel.ensures
+
+pub returns-then-times-eq0-clause-cleared : goal.returns-then-times-eq0-clause-cleared
+returns-then-times-eq0-clause-cleared c =
+    let r = c.args.row.now in
+    let n = c.args.columns in
+    let times : FitsSigned w128 c.value_at-times.result = search rules in
+    let nothing = sym c.value_at-times.ensures ∙ zero_from_bits c.value_at-times.result times c.if-times-eq0.true in (
+      row_of n (entries_of r),
+      cleared_as_it_is n r c.args.new.now c.requires.kept c.requires.new c.requires.zero c.requires.primitive (ap (λ l. entry_at l (get_or c.args.new.now 0 none).place) (sym c.deref.ensures.value) ∙ nothing),
+      (c.requires.small, lone_by_length n r.free.len (record { place = r.pivot; value = r.head }) r.free.items c.is_empty.result c.requires.kept.listed r.free.ok.0 c.is_empty.ensures),
+    )
 
 pub returns-in_err-cleared-clause-cleared : goal.returns-in_err-cleared-clause-cleared
 returns-in_err-cleared-clause-cleared c = let all = c.in_err-cleared.ensures.cleared in (all.0, all.1, rw c.from_residual.ensures all.2)
