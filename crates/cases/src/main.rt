@@ -5,6 +5,7 @@
 
 mod content;
 mod due;
+mod failures;
 mod keys;
 mod outcome;
 mod pieces;

@@ -55,13 +55,8 @@ fn play_once<R: Files + Print + AllocGlobal>(
 ) -> Result<(bool, MemoryBench)> {
     let fails = stage.case.fails()?;
     let exchange = exchange_of(rt, stage.case)?;
-    let mut bench = bench_over(
-        rt.alloc(),
-        &stage.start,
-        fails.call("bench")?,
-        fails.call("stop")?,
-    )?;
-    let status = stage.run(rt, exchange.typed, &mut bench)?;
+    let mut bench = bench_over(rt.alloc(), &stage.start, fails)?;
+    let status = stage.run(rt, exchange.typed, fails, &mut bench)?;
     let met = is_as_due(rt, name, stage, &exchange.shown, &status, &bench)?;
     Ok((met, bench))
 }

@@ -1,7 +1,9 @@
 //! What a script says: the files that lie there at the start, and the runs of the program.
 use crate::content::Content;
+use crate::failures::Failures;
 use crate::keys::{Keys, byte_of};
 use anyhow::{Result, bail};
+use auditor_top::{Status, Which};
 use toml::{Table, Value};
 
 const SCRIPT: [&str; 5] = ["words", "schema", "table", "journal", "run"];
@@ -104,12 +106,12 @@ impl<'a> Run<'a> {
         self.own.count("calls")
     }
 
-    pub fn fails(self) -> Result<Fails<'a>> {
-        Ok(Fails {
-            keys: self
-                .own
-                .table("fails", &["schema", "table", "input", "bench", "stop"])?,
-        })
+    /// The calls that fail.
+    pub fn fails(self) -> Result<Failures> {
+        match self.own.table("fails", &Failures::KEYS)? {
+            Some(keys) => Failures::of(keys),
+            None => Ok(Failures::default()),
+        }
     }
 
     /// The exit status and its text.
@@ -135,7 +137,7 @@ impl<'a> Run<'a> {
         }
     }
 
-    /// With it the run is tried with a fault at each call of the bench in turn.
+    /// With it the run is tried with a fault at each call of an object in turn.
     pub fn each(self) -> Result<Option<Each<'a>>> {
         let Some(keys) = self.own.table("each", &["fault", "histories", "then"])? else {
             return Ok(None);
@@ -146,22 +148,6 @@ impl<'a> Run<'a> {
             }
         }
         Ok(Some(Each { keys }))
-    }
-}
-
-/// The calls that fail, counted from 0.
-#[derive(Clone, Copy)]
-pub struct Fails<'a> {
-    keys: Option<Keys<'a>>,
-}
-
-impl Fails<'_> {
-    /// Of `schema`, `table`, `input` and `bench` the call that fails, of `stop` the call from which on the bench fails.
-    pub fn call(self, of: &str) -> Result<Option<u64>> {
-        match self.keys {
-            Some(keys) => keys.count(of),
-            None => Ok(None),
-        }
     }
 }
 
@@ -183,7 +169,10 @@ impl<'a> Each<'a> {
         match self.keys.text("fault")? {
             Some("stop") => Ok(Fault::Stop),
             Some("fail") => Ok(Fault::Fail),
-            _ => bail!("a fault is stop or fail"),
+            Some("schema") => Ok(Fault::Read(Which::Schema)),
+            Some("table") => Ok(Fault::Read(Which::Table)),
+            Some("input") => Ok(Fault::Read(Which::Input)),
+            _ => bail!("a fault is stop, fail, or the source of which a read fails"),
         }
     }
 
@@ -195,29 +184,52 @@ impl<'a> Each<'a> {
     }
 
     /// The terminal over a file with the last history.
-    pub fn then(self) -> Result<&'a str> {
-        match self.keys.text("then")? {
-            Some(screen) => Ok(screen),
-            None => bail!("nothing is asked then"),
+    pub fn then(self) -> Result<Option<&'a str>> {
+        self.keys.text("then")
+    }
+}
+
+/// What befalls an object at a call.
+#[derive(Clone, Copy)]
+pub enum Fault {
+    /// This call of the bench fails, and all after it.
+    Stop,
+    /// This call of the bench alone fails.
+    Fail,
+    /// This read of the source fails.
+    Read(Which),
+}
+
+impl Fault {
+    /// What fails where it befalls the call of this number.
+    pub fn at(self, call: u64) -> Failures {
+        let mut failures = Failures::default();
+        let failing = match self {
+            Fault::Stop => &mut failures.stop,
+            Fault::Fail => &mut failures.bench,
+            Fault::Read(Which::Schema) => &mut failures.schema,
+            Fault::Read(Which::Table) => &mut failures.table,
+            Fault::Read(Which::Input) => &mut failures.input,
+        };
+        *failing = Some(call);
+        failures
+    }
+
+    /// How a run ends that it befalls.
+    pub fn status(self) -> Status {
+        match self {
+            Fault::Stop | Fault::Fail => Status::BenchFault,
+            Fault::Read(which) => Status::SourceFault(which),
         }
     }
 }
 
-/// What befalls the bench at a call.
-#[derive(Clone, Copy)]
-pub enum Fault {
-    /// This call fails, and all after it.
-    Stop,
-    /// This call alone fails.
-    Fail,
-}
-
-/// How many records a journal has, and its file.
-pub fn history_of(value: &Value) -> Result<(u64, Content)> {
+/// The file of a journal, and how many records it has, where that is given.
+pub fn history_of(value: &Value) -> Result<(Option<u64>, Content)> {
     let keys = Keys::of_value(value, &["records", "file"])?;
-    match (keys.count("records")?, keys.value("file")) {
-        (Some(records), Some(file)) => Ok((records, Content::of(file))),
-        _ => bail!("a history is a number of records and a file"),
+    match keys.value("file") {
+        Some(file) => Ok((keys.count("records")?, Content::of(file))),
+        None => bail!("a history has a file"),
     }
 }
 

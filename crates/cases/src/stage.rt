@@ -1,5 +1,6 @@
 //! What a run of the program is over: its words, its sources and its bench, in memory.
 use crate::content::Content;
+use crate::failures::Failures;
 use crate::outcome::no_memory;
 use crate::pieces::{Piece, Pieces};
 use crate::script::Run;
@@ -30,12 +31,7 @@ pub fn pieces_of<R: Files + AllocGlobal>(rt: &R, content: Option<Content>) -> Re
 }
 
 /// A bench with this file, of which one call fails, or all from one on.
-pub fn bench_over(
-    alloc: Global,
-    start: &[u8],
-    fails: Option<u64>,
-    stop: Option<u64>,
-) -> Result<MemoryBench> {
+pub fn bench_over(alloc: Global, start: &[u8], failures: Failures) -> Result<MemoryBench> {
     let room = Room {
         file: (start.len() as u64).saturating_add(ROOM),
         sent: SENT,
@@ -43,10 +39,10 @@ pub fn bench_over(
         written: ROOM,
     };
     let mut failing = Vec::new(alloc);
-    if let Some(call) = fails {
+    if let Some(call) = failures.bench {
         failing.push(call)?;
     }
-    MemoryBench::new(alloc, start, room, failing, stop).map_err(no_memory)
+    MemoryBench::new(alloc, start, room, failing, failures.stop).map_err(no_memory)
 }
 
 /// A case of a script, and the journal's file at its start.
@@ -57,18 +53,19 @@ pub struct Stage<'a> {
 }
 
 impl Stage<'_> {
-    /// Runs the program over the bench.
+    /// Runs the program over the bench, and over sources of which these calls fail.
     pub fn run<R: Files + AllocGlobal>(
         &self,
         rt: &R,
         typed: Vec<Piece>,
+        failures: Failures,
         bench: &mut MemoryBench,
     ) -> Result<Status> {
         let alloc = rt.alloc();
-        let mut schema = self.source(rt, "schema")?;
-        let mut table = self.source(rt, "table")?;
-        let mut input = Pieces::new(typed, self.most()?, self.case.fails()?.call("input")?);
-        let mut spare = bench_over(alloc, b"", None, None)?;
+        let mut schema = self.source(rt, "schema", failures.schema)?;
+        let mut table = self.source(rt, "table", failures.table)?;
+        let mut input = Pieces::new(typed, self.most()?, failures.input);
+        let mut spare = bench_over(alloc, b"", Failures::default())?;
         let words = words_of(alloc, self.case)?;
         Ok(run(
             alloc,
@@ -82,14 +79,18 @@ impl Stage<'_> {
     }
 
     // The source of a file.
-    fn source<R: Files + AllocGlobal>(&self, rt: &R, name: &str) -> Result<Pieces> {
+    fn source<R: Files + AllocGlobal>(
+        &self,
+        rt: &R,
+        name: &str,
+        failing: Option<u64>,
+    ) -> Result<Pieces> {
         let pieces = pieces_of(rt, self.case.file_at_start(name))?;
-        let failing = self.case.fails()?.call(name)?;
         Ok(Pieces::new(pieces, self.most()?, failing))
     }
 
-    // The most bytes that a source gives at a read.
-    fn most(&self) -> Result<usize> {
+    /// The most bytes that a source gives at a read.
+    pub fn most(&self) -> Result<usize> {
         Ok(usize::try_from(self.case.piece()?.unwrap_or(PIECE))?)
     }
 }

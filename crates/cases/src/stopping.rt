@@ -1,10 +1,11 @@
-//! One run whose bench stops at each of its calls in turn, or fails there, and what a crash then leaves.
+//! One run of which each call of an object fails in turn, and what a crash then leaves.
+use crate::failures::Failures;
 use crate::outcome::{Bytes, Case, no_memory};
 use crate::script::{Each, Fault, Over, history_of};
 use crate::stage::{ROOM, Stage, bench_over};
 use crate::terminal::Terminal;
 use anyhow::{Result, bail};
-use auditor_top::Status;
+use auditor_top::{Status, Which};
 use bench_core::MemoryBench;
 use std::fmt;
 use std::rt::Files;
@@ -12,20 +13,30 @@ use std::rt::Files;
 // What is due at each call: what the whole run is, the files that the journal may stand as, and what is answered over the
 // last of these.
 #[derive(Drop)]
-struct Law {
+struct Law<'a> {
+    fault: Fault,
+    screen: &'a str,
     whole: Terminal,
     histories: Vec<Known>,
-    then: Terminal,
+    then: Option<Terminal>,
 }
 
-// The file of a journal with so many records.
+// The file of a journal, and how many records it has, where that is asked.
 #[derive(Drop)]
 struct Known {
-    records: u64,
+    records: Option<u64>,
     file: Vec<u8>,
 }
 
-// A call of the bench, and the file that is left after it.
+// A run that a fault befell at a call.
+#[derive(Clone, Copy)]
+struct Fallen<'a> {
+    call: u64,
+    status: &'a Status,
+    bench: &'a MemoryBench,
+}
+
+// A call that failed, and the file that is left after it.
 #[derive(Clone, Copy)]
 struct Moment {
     call: u64,
@@ -45,7 +56,7 @@ enum Breach {
 impl fmt::Display for Breach {
     fn fmt<W: fmt::Write>(&self, f: &mut fmt::Formatter<W>) -> fmt::Result {
         f.write_str(match self {
-            Breach::OtherStatus => "the run didn't end with a failed bench",
+            Breach::OtherStatus => "the run ended with another status",
             Breach::OtherReplies => "what was sent is no front of the replies due",
             Breach::NoHistory => "the file is none of the histories",
             Breach::Unrecorded => "a reply was sent whose record isn't in the file",
@@ -68,54 +79,62 @@ pub fn play_each<R: Files + Print + AllocGlobal>(
     each: Each,
 ) -> Result<bool> {
     let law = Law::of(rt, stage, each)?;
-    let fault = each.fault()?;
     let mut met = true;
     for call in 0..ROOM {
-        let (fails, stop) = match fault {
-            Fault::Fail => (Some(call), None),
-            Fault::Stop => (None, Some(call)),
-        };
-        let mut bench = bench_over(rt.alloc(), &stage.start, fails, stop)?;
-        let status = stage.run(rt, law.whole.pieces(rt.alloc())?, &mut bench)?;
+        let failures = law.fault.at(call);
+        let mut bench = bench_over(rt.alloc(), &stage.start, failures)?;
+        let status = stage.run(rt, law.whole.pieces(rt.alloc())?, failures, &mut bench)?;
         if status == Status::Done {
             return Ok(law.is_answered(rt, name, &bench)? && met);
         }
-        met &= law.is_kept(rt, name, stage, &status, &bench, call)?;
+        let fallen = Fallen {
+            call,
+            status: &status,
+            bench: &bench,
+        };
+        met &= law.is_kept(rt, name, stage, fallen)?;
     }
     bail!("no run is done")
 }
 
-impl Law {
-    fn of<R: Files + AllocGlobal>(rt: &R, stage: &Stage, each: Each) -> Result<Law> {
+impl<'a> Law<'a> {
+    fn of<R: Files + AllocGlobal>(rt: &R, stage: &Stage<'a>, each: Each) -> Result<Law<'a>> {
         let Some(screen) = stage.case.terminal()? else {
             bail!("no terminal");
         };
+        let then = match each.then()? {
+            Some(asked) => Some(Terminal::read(rt.alloc(), asked)?),
+            None => None,
+        };
         Ok(Law {
+            fault: each.fault()?,
+            screen,
             whole: Terminal::read(rt.alloc(), screen)?,
             histories: histories_of(rt, each)?,
-            then: Terminal::read(rt.alloc(), each.then()?)?,
+            then,
         })
     }
+}
 
+impl Law<'_> {
     // Whether the replies due were sent.
     fn is_answered<R: Print>(&self, rt: &R, name: Case, bench: &MemoryBench) -> Result<bool> {
         let (due, came) = (Bytes(&self.whole.shown), Bytes(bench.sent()));
         Ok(name.agrees(rt, "sent", &due, &came)?)
     }
 
-    // Whether nothing is wrong with a bench that failed at a call, in each file that may be left.
+    // Whether nothing is wrong with a run that failed, in each file that may be left.
     fn is_kept<R: Files + Print + AllocGlobal>(
         &self,
         rt: &R,
         name: Case,
         stage: &Stage,
-        status: &Status,
-        bench: &MemoryBench,
-        call: u64,
+        fallen: Fallen,
     ) -> Result<bool> {
         let mut kept = true;
         for over in Over::ALL {
-            if let Some(breach) = self.breach(rt, stage, status, bench, over)? {
+            if let Some(breach) = self.breach(rt, stage, fallen, over)? {
+                let call = fallen.call;
                 name.tell(rt, Moment { call, over }, breach)?;
                 kept = false;
             }
@@ -123,58 +142,71 @@ impl Law {
         Ok(kept)
     }
 
-    // What is wrong with a bench that failed, in the file that a crash leaves.
+    // What is wrong with a run that failed, in the file that a crash leaves.
     fn breach<R: Files + AllocGlobal>(
         &self,
         rt: &R,
         stage: &Stage,
-        status: &Status,
-        bench: &MemoryBench,
+        fallen: Fallen,
         over: Over,
     ) -> Result<Option<Breach>> {
-        if *status != Status::BenchFault {
+        let sent = fallen.bench.sent();
+        if *fallen.status != self.fault.status() {
             return Ok(Some(Breach::OtherStatus));
         }
-        if !self.whole.shown.starts_with(bench.sent()) {
+        if !self.may_have_sent(rt, stage, fallen.call, sent)? {
             return Ok(Some(Breach::OtherReplies));
         }
-        let left = bench.crashed(over.pick()).map_err(no_memory)?;
-        let Some(records) = self.records_in(left.file()) else {
+        let left = fallen.bench.crashed(over.pick()).map_err(no_memory)?;
+        let Some(known) = self.histories.iter().find(|known| known.is_in(left.file())) else {
             return Ok(Some(Breach::NoHistory));
         };
-        if records < lines_begun(bench.sent()) {
+        if !known.has_records_of(sent) {
             return Ok(Some(Breach::Unrecorded));
         }
-        if self.is_last(records) && !self.is_answered_then(rt, stage, left.file())? {
+        if !self.is_answered_then(rt, stage, left.file())? {
             return Ok(Some(Breach::OtherAnswers));
         }
         Ok(None)
     }
 
-    // The records of the history that the file stands for.
-    fn records_in(&self, file: &[u8]) -> Option<u64> {
-        self.histories
-            .iter()
-            .find(|known| known.is_in(file))
-            .map(|known| known.records)
+    // Whether a run that failed at a call may have sent this: a front of the replies where the bench failed, and where the
+    // input did, those to the lines that came before.
+    fn may_have_sent<R: AllocGlobal>(
+        &self,
+        rt: &R,
+        stage: &Stage,
+        call: u64,
+        sent: &[u8],
+    ) -> Result<bool> {
+        match self.fault {
+            Fault::Stop | Fault::Fail => Ok(self.whole.shown.starts_with(sent)),
+            Fault::Read(Which::Schema | Which::Table) => Ok(sent.is_empty()),
+            Fault::Read(Which::Input) => {
+                let read = usize::try_from(call)?.saturating_mul(stage.most()?);
+                let due = Terminal::read_up_to(rt.alloc(), self.screen, read)?;
+                Ok(due.shown.as_slice() == sent)
+            }
+        }
     }
 
-    fn is_last(&self, records: u64) -> bool {
-        self.histories
-            .last()
-            .is_some_and(|known| known.records == records)
-    }
-
-    // Whether the lines that are asked after a crash are answered as due.
+    // Whether the lines that are asked after a crash are answered as due over a file that holds the last history.
     fn is_answered_then<R: Files + AllocGlobal>(
         &self,
         rt: &R,
         stage: &Stage,
         file: &[u8],
     ) -> Result<bool> {
-        let mut bench = bench_over(rt.alloc(), file, None, None)?;
-        let status = stage.run(rt, self.then.pieces(rt.alloc())?, &mut bench)?;
-        Ok(status == Status::Done && bench.sent() == self.then.shown.as_slice())
+        let (Some(then), Some(last)) = (&self.then, self.histories.last()) else {
+            return Ok(true);
+        };
+        if !last.is_in(file) {
+            return Ok(true);
+        }
+        let failures = Failures::default();
+        let mut bench = bench_over(rt.alloc(), file, failures)?;
+        let status = stage.run(rt, then.pieces(rt.alloc())?, failures, &mut bench)?;
+        Ok(status == Status::Done && bench.sent() == then.shown.as_slice())
     }
 }
 
@@ -191,6 +223,12 @@ fn histories_of<R: Files + AllocGlobal>(rt: &R, each: Each) -> Result<Vec<Known>
 }
 
 impl Known {
+    // Whether it has a record for each reply of which a byte was sent.
+    fn has_records_of(&self, sent: &[u8]) -> bool {
+        self.records
+            .is_none_or(|records| records >= lines_begun(sent))
+    }
+
     // Whether the file has the bytes of this one up to its last gate, and there a gate that isn't open.
     fn is_in(&self, file: &[u8]) -> bool {
         match (self.file.split_last(), file.get(..self.file.len())) {

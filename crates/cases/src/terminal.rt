@@ -11,11 +11,19 @@ pub struct Terminal {
 
 impl Terminal {
     pub fn read(alloc: Global, screen: &str) -> Result<Self, AllocError> {
+        Terminal::read_up_to(alloc, screen, usize::MAX)
+    }
+
+    /// The lines up to the first that ends past so many typed bytes: what is shown where no more than these were read.
+    pub fn read_up_to(alloc: Global, screen: &str, most: usize) -> Result<Self, AllocError> {
         let mut terminal = Terminal {
             typed: Vec::new(alloc),
             shown: Vec::new(alloc),
         };
         for line in screen.lines() {
+            if terminal.typed.len() > most {
+                break;
+            }
             match typed_line(line) {
                 Some(typed) => add_line(&mut terminal.typed, typed)?,
                 None => add_line(&mut terminal.shown, line)?,

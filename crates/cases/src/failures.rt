@@ -1,0 +1,27 @@
+//! Which call of each object fails.
+use crate::keys::Keys;
+use anyhow::Result;
+
+/// The calls that fail, counted from 0: of each object one, and with `stop` all of the bench from that one on.
+#[derive(Clone, Copy, Default)]
+pub struct Failures {
+    pub schema: Option<u64>,
+    pub table: Option<u64>,
+    pub input: Option<u64>,
+    pub bench: Option<u64>,
+    pub stop: Option<u64>,
+}
+
+impl Failures {
+    pub const KEYS: [&'static str; 5] = ["schema", "table", "input", "bench", "stop"];
+
+    pub fn of(keys: Keys) -> Result<Failures> {
+        Ok(Failures {
+            schema: keys.count("schema")?,
+            table: keys.count("table")?,
+            input: keys.count("input")?,
+            bench: keys.count("bench")?,
+            stop: keys.count("stop")?,
+        })
+    }
+}
