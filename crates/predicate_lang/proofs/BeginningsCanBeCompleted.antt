@@ -21,6 +21,7 @@ some_literal : Option Role → Literal
 some_literal (Some role.Text) = literal.Text []
 some_literal role = literal.Number (pos 0)
 
+-- a public role takes it
 has_literal : (r : Option Role) → public_role r ≡ true → is_of_role r (some_literal r) ≡ true
 unfolding some_literal
 has_literal None h = h
@@ -29,6 +30,7 @@ has_literal (Some role.Text) h = refl
 has_literal (Some role.Sum) h = h
 has_literal (Some role.Max) h = h
 
+-- and is compared for equality
 has_equal : (r : Option Role) → public_role r ≡ true → has_operator r op.Eq ≡ true
 has_equal None h = h
 has_equal (Some role.Number) h = refl
@@ -41,6 +43,7 @@ module _ (columns : List Column) where
   less : (ts : List Token) (t : Token) → BeginPredicate columns (ts ++ t ∷ []) → BeginPredicate columns ts
   less ts t more = (t ∷ more.0, subst (IsPredicate columns) (append_assoc ts (t ∷ []) more.0) more.1)
 
+  -- what is left without the innermost `not` is no more
   length-without : (fs : List Frame) → length (without_nots fs) ≤ length fs
   length-without [] = omega arith
   length-without (a_not ∷ fs) = omega (arith, length-without fs)
@@ -54,23 +57,28 @@ module _ (columns : List Column) where
   closes (suc n) ts (a_bracket o a ∷ fs) ors ands p few w =
       less ts close_bracket (closes n (ts ++ close_bracket ∷ []) (without_nots fs) o None (add_and a (negated fs (add_or ors p))) (omega (arith, few, length-without fs)) (close_written columns ts fs o a ors ands p w))
 
+  -- behind a whole operand
   behind_operand : (ts : List Token) (fs : List Frame) (ors ands : Option Tree) (p : Tree) → Written columns ts (whole fs ors ands p) → BeginPredicate columns ts
   behind_operand ts fs ors ands p w = closes (length (without_nots fs)) ts (without_nots fs) ors None (add_and ands (negated fs p)) (omega arith) w
 
+  -- a list ends behind a literal
   at_a_literal : (ts : List Token) (fs : List Frame) (ors ands : Option Tree) (c : ℕ) (ls : List Literal) → Written columns ts (build fs ors ands (at_literal c ls)) → BeginPredicate columns ts
   at_a_literal ts fs ors ands c ls w = less ts close_bracket (behind_operand (ts ++ close_bracket ∷ []) fs ors ands (among c ls) (put_written columns ts fs ors ands (at_literal c ls) close_bracket w refl))
 
+  -- a literal may stand in a list
   at_a_comma : (ts : List Token) (fs : List Frame) (ors ands : Option Tree) (c : ℕ) (ls : List Literal) → Written columns ts (build fs ors ands (at_comma c ls)) → BeginPredicate columns ts
   at_a_comma ts fs ors ands c ls w =
       let l = some_literal (role_at columns c) in
       less ts (value l) (at_a_literal (ts ++ value l ∷ []) fs ors ands c (ls ++ l ∷ []) (put_written columns ts fs ors ands (at_comma c ls) (value l) w (has_literal (role_at columns c) w.stands.named.public)))
 
+  -- a literal may stand behind an operator
   at_an_operator : (ts : List Token) (fs : List Frame) (ors ands : Option Tree) (c : ℕ) (o : Op) → Written columns ts (build fs ors ands (at_operator c o)) → BeginPredicate columns ts
   at_an_operator ts fs ors ands c o w =
       let l = some_literal (role_at columns c) in
       let n = w.stands.0 in
       less ts (value l) (behind_operand (ts ++ value l ∷ []) fs ors ands (compared c o l) (put_written columns ts fs ors ands (at_operator c o) (value l) w (has_literal (role_at columns c) n.public)))
 
+  -- from wherever the machine stands
   completes : (ts : List Token) (fs : List Frame) (ors ands : Option Tree) (stand : Stand) → Written columns ts (build fs ors ands stand) → BeginPredicate columns ts
   completes ts fs ors ands at_operand w = less ts all_word (behind_operand (ts ++ all_word ∷ []) fs ors ands all_rows (put_written columns ts fs ors ands at_operand all_word w refl))
   completes ts fs ors ands (at_name c) w =
@@ -81,6 +89,7 @@ module _ (columns : List Column) where
   completes ts fs ors ands (at_literal c ls) w = at_a_literal ts fs ors ands c ls w
   completes ts fs ors ands (behind p) w = closes (length fs) ts fs ors ands p (omega arith) w
 
+  -- so what was not stopped begins a predicate
   pub goes_on_predicate : (tokens : List Token) → is_some (run columns tokens (Some start)) ≡ true → BeginPredicate columns tokens
   goes_on_predicate tokens runs = go (run columns tokens (Some start)) refl runs
     where

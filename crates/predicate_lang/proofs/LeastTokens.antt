@@ -61,6 +61,7 @@ module _ (columns : List Column) where
   -- ---- more may be open
 
   mutual
+    -- what is written with so many open is written with one more
     raise_all : (room : ℕ) (ts : List Token) (t : Tree) → Disjunction columns room ts t → Disjunction columns (suc room) ts t
     raise_all room ts t (conj c) = conj (raise_conj room ts t c)
     raise_all room ts t (or_conj {ts = xs} {us = ys} {p = p} {q = q} d c) = or_conj (raise_all room xs p d) (raise_conj room ys q c)
@@ -78,10 +79,12 @@ module _ (columns : List Column) where
 
   -- ---- what is no `or`, and what is neither
 
+  -- what is no `or` is a conjunction
   no_or : (room : ℕ) (ts : List Token) (t : Tree) → is_or t ≡ false → Disjunction columns room ts t → Conjunction columns room ts t
   no_or room ts t plain (conj c) = c
   no_or room ts t plain (or_conj d c) = absurd (false≢true (sym plain))
 
+  -- what is neither is an operand
   no_and : (room : ℕ) (ts : List Token) (t : Tree) → is_or_and t ≡ false → Conjunction columns room ts t → Operand columns room ts t
   no_and room ts t plain (unit u) = u
   no_and room ts t plain (and_unit c u) = absurd (false≢true (sym plain))
@@ -94,6 +97,7 @@ module _ (columns : List Column) where
       go true is = unit (in_brackets d)
       go false is = raise_conj room ts t (no_or room ts t is d)
 
+  -- what is neither is no `or`
   less_or : (t : Tree) → is_or_and t ≡ false → is_or t ≡ false
   less_or all_rows is = refl
   less_or (negation p) is = refl
@@ -102,6 +106,7 @@ module _ (columns : List Column) where
   less_or (compared c o l) is = refl
   less_or (among c ls) is = refl
 
+  -- the same within an `and` or a `not`
   in_and : (room : ℕ) (ts : List Token) (t : Tree) → Disjunction columns room ts t → Operand columns (suc room) (bracketed (is_or_and t) ts) t
   in_and room ts t d = go (is_or_and t) refl
     where
@@ -112,22 +117,25 @@ module _ (columns : List Column) where
   module _ (w : Token → ℕ) where
     -- ---- no tokens of the tree are lighter, by where it stands
 
+    -- by itself
     pub record LeastAlone (room : ℕ) (us : List Token) (t : Tree) : Type 0 where
       pub writes : Disjunction columns room (print_tokens columns t) t
       pub light : total w (print_tokens columns t) ≤ total w us
 
+    -- as a part of an `or`
     record LeastInOr (room : ℕ) (us : List Token) (t : Tree) : Type 0 where
       alone : Disjunction columns room (print_tokens columns t) t
       writes : Conjunction columns room (bracketed (is_or t) (print_tokens columns t)) t
       light : total w (bracketed (is_or t) (print_tokens columns t)) ≤ total w us
 
+    -- as a part of an `and`, or under a `not`
     record LeastInAnd (room : ℕ) (us : List Token) (t : Tree) : Type 0 where
       alone : Disjunction columns room (print_tokens columns t) t
       in_or_writes : Conjunction columns room (bracketed (is_or t) (print_tokens columns t)) t
       writes : Operand columns room (bracketed (is_or_and t) (print_tokens columns t)) t
       light : total w (bracketed (is_or_and t) (print_tokens columns t)) ≤ total w us
 
-    -- a comparison, and a list
+    -- a comparison
     least_compare : (room : ℕ) (n : List ℕ) (c : ℕ) (o : Op) (l : Literal) → place_of n columns ≡ Some c → has_operator (role_at columns c) o ≡ true → is_of_role (role_at columns c) l ≡ true → LeastInAnd room (name n ∷ operator o ∷ value l ∷ []) (compared c o l)
     least_compare room n c o l place takes of_role =
         let name_is : n ≡ column_name columns c = named columns n c place in
@@ -135,6 +143,7 @@ module _ (columns : List Column) where
         let way : Operand columns room (name (column_name columns c) ∷ operator o ∷ value l ∷ []) (compared c o l) = compare found takes of_role in
         record { alone = conj (unit way); in_or_writes = unit way; writes = way; light = omega (arith, ap (λ m. w (name m)) name_is) }
 
+    -- a list
     least_one_of : (room : ℕ) (n : List ℕ) (c : ℕ) (l : Literal) (ls : List Literal) → place_of n columns ≡ Some c → list_all (is_of_role (role_at columns c)) (l ∷ ls) ≡ true → LeastInAnd room (name n ∷ in_word ∷ open_bracket ∷ value l ∷ more_literals ls) (among c (l ∷ ls))
     least_one_of room n c l ls place of_role =
         let name_is : n ≡ column_name columns c = named columns n c place in

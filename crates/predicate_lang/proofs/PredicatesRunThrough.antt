@@ -17,10 +17,12 @@ use Rattle.predicate_lang.specs.declared.trees.Literal.{Literal}
 use Rattle.predicate_lang.specs.declared.tokens.Token.TheVariants.{Column as ColumnToken}
 use Rattle.predicate_lang.proofs.Frames.{without_nots_bracket, negated_bracket}
 
+-- what is stopped stays so
 pub run-none : (columns : List Column) (ts : List Token) → run columns ts None ≡ None
 run-none columns [] = refl
 run-none columns (t ∷ ts) = refl
 
+-- some tokens, and then others
 pub run-append : (columns : List Column) (a b : List Token) (s : Option Build) → run columns (a ++ b) s ≡ run columns b (run columns a s)
 run-append columns [] b s = refl
 run-append columns (t ∷ a) b None = sym (run-none columns b)
@@ -46,6 +48,7 @@ module _ (columns : List Column) where
     is : s ≡ Some (build fs ors None (behind last))
     adds : add_or ors last ≡ t
 
+  -- a comparison behind the name of a column
   runs_compare : (fs : List Frame) (ors ands : Option Tree) (c : ℕ) (o : Op) (l : Literal) → has_operator (role_at columns c) o ≡ true → is_of_role (role_at columns c) l ≡ true
       → run columns (operator o ∷ value l ∷ []) (step columns (build fs ors ands at_operand) (ColumnToken (Some c))) ≡ Some (whole fs ors ands (compared c o l))
   runs_compare fs ors ands c o l takes of_role =
@@ -53,6 +56,7 @@ module _ (columns : List Column) where
       ∙ ap (λ b. run columns (value l ∷ []) (cond b (Some (build fs ors ands (at_operator c o))) None)) takes
       ∙ ap (λ b. cond b (Some (whole fs ors ands (compared c o l))) None) of_role
 
+  -- the rest of a list
   runs_more : (fs : List Frame) (ors ands : Option Tree) (c : ℕ) (done ls : List Literal) → list_all (is_of_role (role_at columns c)) ls ≡ true
       → run columns (more_literals ls) (Some (build fs ors ands (at_literal c done))) ≡ Some (whole fs ors ands (among c (done ++ ls)))
   runs_more fs ors ands c done [] of_role = ap (λ xs. Some (whole fs ors ands (among c xs))) (sym (append-nil done))
@@ -62,6 +66,7 @@ module _ (columns : List Column) where
       ∙ runs_more fs ors ands c (done ++ l ∷ []) ls tests.1
       ∙ ap (λ xs. Some (whole fs ors ands (among c xs))) (append_assoc done (l ∷ []) ls)
 
+  -- a list behind the name of a column
   runs_one_of : (fs : List Frame) (ors ands : Option Tree) (c : ℕ) (l : Literal) (ls : List Literal) → list_all (is_of_role (role_at columns c)) (l ∷ ls) ≡ true
       → run columns (in_word ∷ open_bracket ∷ value l ∷ more_literals ls) (step columns (build fs ors ands at_operand) (ColumnToken (Some c))) ≡ Some (whole fs ors ands (among c (l ∷ ls)))
   runs_one_of fs ors ands c l ls of_role =
@@ -75,6 +80,7 @@ module _ (columns : List Column) where
   opens fs b low = ap (λ t. cond t (Some b) None) (lt-ltb (length fs) 64 low)
 
   mutual
+    -- a disjunction behind an open bracket, or at the begin
     runs_all : (room : ℕ) (ts : List Token) (t : Tree) (d : Disjunction columns room ts t) (fs : List Frame) → is_under_not fs ≡ false → length fs + room ≤ 64 → Behind fs t (run columns ts (Some (build fs None None at_operand)))
     runs_all room ts t (conj c) fs plain deep = record { ors = None; last = t; is = runs_conj room ts t c fs None plain deep; adds = refl }
     runs_all room ts t (or_conj {ts = xs} {us = ys} {p = p} {q = q} d c) fs plain deep =
@@ -90,6 +96,7 @@ module _ (columns : List Column) where
           adds = refl;
         }
 
+    -- a conjunction there, or behind an `or`
     runs_conj : (room : ℕ) (ts : List Token) (t : Tree) (c : Conjunction columns room ts t) (fs : List Frame) (ors : Option Tree) → is_under_not fs ≡ false → length fs + room ≤ 64
         → run columns ts (Some (build fs ors None at_operand)) ≡ Some (build fs ors None (behind t))
     runs_conj room ts t (unit u) fs ors plain deep = runs_unit room ts t u fs ors None deep ∙ ap Some (plain_whole fs ors None t plain)
@@ -99,6 +106,7 @@ module _ (columns : List Column) where
         ∙ runs_unit room ys q u fs ors (Some p) deep
         ∙ ap Some (plain_whole fs ors (Some p) q plain)
 
+    -- an operand wherever one may stand
     runs_unit : (room : ℕ) (ts : List Token) (t : Tree) (u : Operand columns room ts t) (fs : List Frame) (ors ands : Option Tree) → length fs + room ≤ 64
         → run columns ts (Some (build fs ors ands at_operand)) ≡ Some (whole fs ors ands t)
     runs_unit room ts t all fs ors ands deep = refl
@@ -125,6 +133,7 @@ module _ (columns : List Column) where
   pub runs_predicate : (tokens : List Token) (t : Tree) → Writes columns tokens t → StandsBehind t (run columns tokens (Some start))
   runs_predicate tokens t writes = let whole_run = runs_all most_depth tokens t writes [] refl (omega arith) in record { last = build [] whole_run.ors None (behind whole_run.last); is = whole_run.is; built_is = ap Some whole_run.adds }
 
+  -- so a predicate leaves nothing open or wanting
   pub predicate_completes : (tokens : List Token) → IsPredicate columns tokens → is_complete (run columns tokens (Some start)) ≡ true
   predicate_completes tokens is = let end = runs_predicate tokens is.0 is.1 in ap is_complete end.is ∙ ap is_some end.built_is
 

@@ -48,6 +48,7 @@ length-bracketed true ts = omega (arith, length-append ts (close_bracket ∷ [])
 
 module _ (columns : List Column) where
   mutual
+    -- by the tests that the rules make of each comparison and list
     all_fit : (room : ℕ) (ts : List Token) (t : Tree) → Disjunction columns room ts t → fits columns t ≡ true
     all_fit room ts t (conj c) = conj_fits room ts t c
     all_fit room ts t (or_conj {ts = xs} {us = ys} {p = p} {q = q} d c) = and_from (fits columns p) (fits columns q) (all_fit room xs p d) (conj_fits room ys q c)

@@ -137,6 +137,7 @@ list_texts (l ∷ ls) texts = (texts.1.0, list_texts ls texts.1.1)
 
 module _ (columns : List Column) where
   mutual
+    -- each text of the tree is one of the tokens
     all_texts : (room : ℕ) (ts : List Token) (t : Tree) → Disjunction columns room ts t → AreTextTokens ts → AreTexts t
     all_texts room ts t (conj c) texts = conj_texts room ts t c texts
     all_texts room ts t (or_conj {ts = xs} {us = ys} {p = p} {q = q} d c) texts = (all_texts room xs p d (front_texts xs (or_word ∷ ys) texts), conj_texts room ys q c (back_texts xs (or_word ∷ ys) texts).1)

@@ -46,9 +46,11 @@ pub record Listed (columns : List Column) (c : ℕ) (part : List Token) (ls : Li
   pub of_role : list_all (is_of_role (role_at columns c)) ls ≡ true
   pub goes_on : ends list ls
 
+-- with any literal more the list goes on
 abbrev pub BeforeLiteral : List Token → List Literal → Type 0
 BeforeLiteral list ls = (l : Literal) (more : List Literal) → list ++ value l ∷ more_literals more ≡ literals (ls ++ l ∷ more)
 
+-- it has a literal, and goes on with any more of them, or with none
 abbrev pub BehindLiteral : List Token → List Literal → Type 0
 BehindLiteral list ls = (has_literals ls ≡ true) × ((more : List Literal) → list ++ more_literals more ≡ literals (ls ++ more))
 
@@ -71,10 +73,12 @@ pub record Written (columns : List Column) (ts : List Token) (b : Build) : Type 
   pub before : Before columns room front b.frames b.ors b.ands
   pub stands : IsPart columns room b.frames b.ands part b.stand
 
+-- a test that one literal more passes
 all_push : (f : Literal → Bool) (ls : List Literal) (l : Literal) → list_all f ls ≡ true → f l ≡ true → list_all f (ls ++ l ∷ []) ≡ true
 all_push f [] l h is = and_from (f l) true is refl
 all_push f (k ∷ ls) l h is = let tests = and_parts (f k) (list_all f ls) h in and_from (f k) (list_all f (ls ++ l ∷ [])) tests.0 (all_push f ls l tests.1 is)
 
+-- a list with one literal more has one
 has_push : (ls : List Literal) (l : Literal) → has_literals (ls ++ l ∷ []) ≡ true
 has_push [] l = refl
 has_push (k ∷ ls) l = refl
@@ -88,17 +92,20 @@ module _ (columns : List Column) where
   rooms room ts fs ors ands (after_not {ts = xs} {fs = gs} b) = omega (arith, rooms (suc room) xs gs ors ands b)
   rooms room ts fs ors ands (after_bracket {ts = xs} {fs = gs} {ors = o} {ands = a} b) = omega (arith, rooms (suc room) xs gs o a b)
 
+  -- the same tokens, said otherwise
   along : (ts us : List Token) (b : Build) → ts ≡ us → Written columns us b → Written columns ts b
   along ts us b is w = record { room = w.room; front = w.front; part = w.part; split = is ∙ w.split; before = w.before; stands = w.stands }
 
   -- ---- behind a whole operand
 
+  -- where no `not` waits for the operand
   plain_whole : (room : ℕ) (us vs : List Token) (fs : List Frame) (ors ands : Option Tree) (p : Tree) → is_under_not fs ≡ false → Before columns room us fs ors None → Conjunction columns room vs (add_and ands p) → Written columns (us ++ vs) (whole fs ors ands p)
   plain_whole room us vs fs ors ands p plain before c =
       subst (Written columns (us ++ vs))
       (sym (ap (λ gs. build gs ors None (behind (add_and ands (negated fs p)))) (without_nots_bracket fs plain) ∙ ap (λ u. build fs ors None (behind (add_and ands u))) (negated_bracket fs p plain)))
       (record { room = room; front = us; part = vs; split = refl; before = before; stands = (plain, refl, c) })
 
+  -- an operand more is written, under each `not` that waits for it
   pub whole_written : (room : ℕ) (us vs : List Token) (fs : List Frame) (ors ands : Option Tree) (p : Tree) → Before columns room us fs ors ands → Operand columns room vs p → Written columns (us ++ vs) (whole fs ors ands p)
   whole_written room us vs fs ors ands p begin u = plain_whole room us vs [] None None p refl begin (unit u)
   whole_written room us vs fs ors ands p (after_or {d = d} plain b way) u = plain_whole room us vs fs (Some d) None p plain (after_or plain b way) (unit u)
@@ -117,6 +124,7 @@ module _ (columns : List Column) where
     split : us ≡ ts ++ open_bracket ∷ []
     before : Before columns (suc room) ts fs ors ands
 
+  -- nothing else stands right behind it
   inner : (room : ℕ) (us : List Token) (fs : List Frame) (o a : Option Tree) → Before columns room us (a_bracket o a ∷ fs) None None → Inner room us fs o a
   inner room us fs o a (after_bracket {ts = ws} b) = record { ts = ws; split = refl; before = b }
 
@@ -128,12 +136,14 @@ module _ (columns : List Column) where
     before : Before columns room ts fs None None
     way : Disjunction columns room all t
 
+  -- a disjunction ends with it
   joined : (room : ℕ) (us vs : List Token) (fs : List Frame) (ors : Option Tree) (p : Tree) → is_under_not fs ≡ false → Before columns room us fs ors None → Conjunction columns room vs p → Joined room us vs fs (add_or ors p)
   joined room us vs fs None p bare before c = record { ts = us; all = vs; split = refl; before = before; way = conj c }
   joined room us vs fs (Some d) p bare (after_or {ts = ws} {us = xs} plain b way) c =
       record { ts = ws; all = xs ++ or_word ∷ vs; split = append_assoc ws (xs ++ or_word ∷ []) vs ∙ ap (λ ys. ws ++ ys) (append_assoc xs (or_word ∷ []) vs); before = b; way = or_conj way c }
   joined room us vs fs (Some d) p bare (after_not b) c = absurd (false≢true (sym bare))
 
+  -- the bracket with all in it is an operand
   pub closed_written : (room : ℕ) (us vs : List Token) (fs : List Frame) (o a ors : Option Tree) (p : Tree) → Before columns room us (a_bracket o a ∷ fs) ors None → Conjunction columns room vs p → Written columns ((us ++ vs) ++ close_bracket ∷ []) (whole fs o a (add_or ors p))
   closed_written room us vs fs o a ors p before c =
       let j = joined room us vs (a_bracket o a ∷ fs) ors p refl before c in
@@ -157,6 +167,7 @@ module _ (columns : List Column) where
   opened_not zero ts fs ors ands before may = let low = ltb-true (length fs) 64 may in absurd (omega (arith, rooms zero ts fs ors ands before, low))
   opened_not (suc room) ts fs ors ands before may = record { room = room; front = ts ++ not_word ∷ []; part = []; split = sym (append-nil (ts ++ not_word ∷ [])); before = after_not before; stands = refl }
 
+  -- the same of a bracket
   opened_bracket : (room : ℕ) (ts : List Token) (fs : List Frame) (ors ands : Option Tree) → Before columns room ts fs ors ands → has_room fs ≡ true → Written columns (ts ++ open_bracket ∷ []) (build (a_bracket ors ands ∷ fs) None None at_operand)
   opened_bracket zero ts fs ors ands before may = let low = ltb-true (length fs) 64 may in absurd (omega (arith, rooms zero ts fs ors ands before, low))
   opened_bracket (suc room) ts fs ors ands before may = record { room = room; front = ts ++ open_bracket ∷ []; part = []; split = sym (append-nil (ts ++ open_bracket ∷ [])); before = after_bracket before; stands = refl }
@@ -165,6 +176,7 @@ module _ (columns : List Column) where
   no_part : (ts : List Token) (b : Build) (w : Written columns ts b) → w.part ≡ [] → ts ≡ w.front
   no_part ts b w none = w.split ∙ ap (λ xs. w.front ++ xs) none ∙ append-nil w.front
 
+  -- the name of a public column
   named_written : (ts : List Token) (fs : List Frame) (ors ands : Option Tree) (n : List ℕ) (place : Option ℕ) → place_of n columns ≡ place → Written columns ts (build fs ors ands at_operand) → may_stand columns fs at_operand (ColumnToken place) ≡ true
       → Written columns (ts ++ name n ∷ []) (put (build fs ors ands at_operand) (ColumnToken place))
   named_written ts fs ors ands n None is w may = absurd (false≢true may)
@@ -179,10 +191,12 @@ module _ (columns : List Column) where
       along (ts ++ value l ∷ []) (w.front ++ (name n.word ∷ operator o ∷ value l ∷ [])) (whole fs ors ands (compared c o l)) (more_tokens ts w.front w.part (value l) w.split ∙ ap (λ xs. w.front ++ xs) spelled)
       (whole_written w.room w.front (name n.word ∷ operator o ∷ value l ∷ []) fs ors ands (compared c o l) w.before (compare n.place w.stands.1 of_role))
 
+  -- a list that is not empty is an operand
   listed_operand : (room c : ℕ) (n : List ℕ) (ls : List Literal) → place_of n columns ≡ Some c → has_literals ls ≡ true → list_all (is_of_role (role_at columns c)) ls ≡ true → Operand columns room (name n ∷ in_word ∷ open_bracket ∷ literals ls) (among c ls)
   listed_operand room c n [] place some of_role = absurd (false≢true some)
   listed_operand room c n (l ∷ ls) place some of_role = one_of place of_role
 
+  -- so is a list, with the bracket that closes it
   listed_written : (ts : List Token) (fs : List Frame) (ors ands : Option Tree) (c : ℕ) (ls : List Literal) → Written columns ts (build fs ors ands (at_literal c ls)) → Written columns (ts ++ close_bracket ∷ []) (whole fs ors ands (among c ls))
   listed_written ts fs ors ands c ls w =
       let n = w.stands.named in
@@ -192,6 +206,7 @@ module _ (columns : List Column) where
       along (ts ++ close_bracket ∷ []) (w.front ++ (name n.word ∷ in_word ∷ open_bracket ∷ literals ls)) (whole fs ors ands (among c ls)) (more_tokens ts w.front w.part close_bracket w.split ∙ ap (λ xs. w.front ++ xs) spelled)
       (whole_written w.room w.front (name n.word ∷ in_word ∷ open_bracket ∷ literals ls) fs ors ands (among c ls) w.before (listed_operand w.room c n.word ls n.place closes.0 w.stands.of_role))
 
+  -- a literal more
   literal_written : (ts : List Token) (fs : List Frame) (ors ands : Option Tree) (c : ℕ) (ls : List Literal) (l : Literal) → Written columns ts (build fs ors ands (at_comma c ls)) → is_of_role (role_at columns c) l ≡ true → Written columns (ts ++ value l ∷ []) (build fs ors ands (at_literal c (ls ++ l ∷ [])))
   literal_written ts fs ors ands c ls l w of_role =
       let s = w.stands in
@@ -209,6 +224,7 @@ module _ (columns : List Column) where
         };
       }
 
+  -- a comma behind it
   comma_written : (ts : List Token) (fs : List Frame) (ors ands : Option Tree) (c : ℕ) (ls : List Literal) → Written columns ts (build fs ors ands (at_literal c ls)) → Written columns (ts ++ comma ∷ []) (build fs ors ands (at_comma c ls))
   comma_written ts fs ors ands c ls w =
       let s = w.stands in
@@ -227,6 +243,7 @@ module _ (columns : List Column) where
         };
       }
 
+  -- an `or` behind a conjunction
   or_written : (ts : List Token) (fs : List Frame) (ors ands : Option Tree) (p : Tree) → Written columns ts (build fs ors ands (behind p)) → Written columns (ts ++ or_word ∷ []) (build fs (Some (add_or ors p)) None at_operand)
   or_written ts fs ors ands p w =
       let before : Before columns w.room w.front fs ors None = subst (Before columns w.room w.front fs ors) w.stands.1 w.before in
@@ -240,6 +257,7 @@ module _ (columns : List Column) where
         stands = refl;
       }
 
+  -- an `and` behind it
   and_written : (ts : List Token) (fs : List Frame) (ors ands : Option Tree) (p : Tree) → Written columns ts (build fs ors ands (behind p)) → Written columns (ts ++ and_word ∷ []) (build fs ors (Some p) at_operand)
   and_written ts fs ors ands p w =
       let before : Before columns w.room w.front fs ors None = subst (Before columns w.room w.front fs ors) w.stands.1 w.before in
@@ -252,6 +270,7 @@ module _ (columns : List Column) where
         stands = refl;
       }
 
+  -- the bracket that closes it
   pub close_written : (ts : List Token) (fs : List Frame) (o a ors ands : Option Tree) (p : Tree) → Written columns ts (build (a_bracket o a ∷ fs) ors ands (behind p)) → Written columns (ts ++ close_bracket ∷ []) (whole fs o a (add_or ors p))
   close_written ts fs o a ors ands p w =
       let before : Before columns w.room w.front (a_bracket o a ∷ fs) ors None = subst (Before columns w.room w.front (a_bracket o a ∷ fs) ors) w.stands.1 w.before in
@@ -262,6 +281,7 @@ module _ (columns : List Column) where
   at_front : (ts : List Token) (fs : List Frame) (ors ands : Option Tree) (w : Written columns ts (build fs ors ands at_operand)) (t : Token) → ts ++ t ∷ [] ≡ w.front ++ t ∷ []
   at_front ts fs ors ands w t = ap (λ xs. xs ++ t ∷ []) (no_part ts (build fs ors ands at_operand) w w.stands)
 
+  -- any token that may stand there
   pub put_written : (ts : List Token) (fs : List Frame) (ors ands : Option Tree) (stand : Stand) (t : Token) → Written columns ts (build fs ors ands stand) → may_stand columns fs stand (seen columns t) ≡ true → Written columns (ts ++ t ∷ []) (put (build fs ors ands stand) (seen columns t))
   put_written ts fs ors ands at_operand not_word w may = along (ts ++ not_word ∷ []) (w.front ++ not_word ∷ []) (build (a_not ∷ fs) ors ands at_operand) (at_front ts fs ors ands w not_word) (opened_not w.room w.front fs ors ands w.before may)
   put_written ts fs ors ands at_operand open_bracket w may = along (ts ++ open_bracket ∷ []) (w.front ++ open_bracket ∷ []) (build (a_bracket ors ands ∷ fs) None None at_operand) (at_front ts fs ors ands w open_bracket) (opened_bracket w.room w.front fs ors ands w.before may)
@@ -284,9 +304,11 @@ module _ (columns : List Column) where
 
   -- ---- a whole run
 
+  -- before the first token
   start_written : Written columns [] start
   start_written = record { room = most_depth; front = []; part = []; split = refl; before = begin; stands = refl }
 
+  -- what was written, and the tokens that are run through then
   run_written : (done ts : List Token) (b c : Build) → Written columns done b → run columns ts (Some b) ≡ Some c → Written columns (done ++ ts) c
   run_written done [] b c w is =
       let same : b ≡ c = cc in
@@ -298,6 +320,7 @@ module _ (columns : List Column) where
       go true may e rest = along (done ++ t ∷ ts) ((done ++ t ∷ []) ++ ts) c (sym (append_assoc done (t ∷ []) ts)) (rest (put_written done b.frames b.ors b.ands b.stand t w may) e)
       go false may e rest = absurd (let none : None ≡ Some c = sym (run-none columns ts) ∙ e in cc)
 
+  -- the tokens that were run through are written
   pub so_far : (tokens : List Token) (b : Build) → run columns tokens (Some start) ≡ Some b → Written columns tokens b
   so_far tokens b is = run_written [] tokens start b start_written is
 
@@ -308,6 +331,7 @@ module _ (columns : List Column) where
     all_room : room ≡ most_depth
     none : us ≡ []
 
+  -- only the begin is such a place
   at_begin : (room : ℕ) (us : List Token) → Before columns room us [] None None → AtBegin room us
   at_begin room us begin = record { all_room = refl; none = refl }
 

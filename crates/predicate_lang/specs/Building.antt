@@ -14,10 +14,12 @@ use Rattle.predicate_lang.specs.declared.building.Spot.{Spot}
 use Rattle.predicate_lang.specs.declared.building.Spot.TheVariants as spot
 use Rattle.predicate_lang.specs.declared.building.State.{State}
 
+-- a part that stands before the operand, if there is one
 abbrev pub part_of : Option Pred → Option Tree
 part_of None = None
 part_of (Some p) = Some (tree_of p)
 
+-- what is open
 abbrev pub frame_of : Opened → Frame
 frame_of opened.Not = a_not
 frame_of (opened.Bracket ors ands) = a_bracket (part_of ors) (part_of ands)
@@ -26,6 +28,7 @@ frame_of (opened.Bracket ors ands) = a_bracket (part_of ors) (part_of ands)
 abbrev pub frames_of : List Opened → List Frame
 frames_of os = reverse (map frame_of os)
 
+-- where the next token stands, with the literals of a list that is open
 abbrev pub stand_of : Spot → List Literal → Stand
 stand_of spot.Operand ls = at_operand
 stand_of (spot.Name c) ls = at_name c
@@ -39,6 +42,7 @@ stand_of (spot.Whole p) ls = behind (tree_of p)
 abbrev pub build_at : State → Stand → Build
 build_at s stand = build (frames_of s.opened.items) (part_of s.ors) (part_of s.ands) stand
 
+-- the state that is kept
 abbrev pub build_of : State → Build
 build_of s = build_at s (stand_of s.spot s.literals.items)
 

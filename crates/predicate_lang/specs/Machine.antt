@@ -35,6 +35,7 @@ pub record Build : Type 0 where
   pub ands : Option Tree
   pub stand : Stand
 
+-- a state by its parts
 abbrev pub build : List Frame → Option Tree → Option Tree → Stand → Build
 build frames ors ands stand = record { frames = frames; ors = ors; ands = ands; stand = stand }
 
@@ -44,10 +45,12 @@ start = build [] None None at_operand
 
 -- ---- what one token more makes of it
 
+-- an `and` of what stands before the operand with it
 abbrev pub add_and : Option Tree → Tree → Tree
 add_and None p = p
 add_and (Some c) p = both c p
 
+-- an `or` of what stands before the conjunction with it
 abbrev pub add_or : Option Tree → Tree → Tree
 add_or None p = p
 add_or (Some d) p = either d p
@@ -80,6 +83,7 @@ closed [] ors p = build [] ors None (behind p)
 closed (a_not ∷ fs) ors p = build (a_not ∷ fs) ors None (behind p)
 closed (a_bracket o a ∷ fs) ors p = whole fs o a (add_or ors p)
 
+-- with one token more at this place, where it may stand there
 abbrev pub put_at : Build → Stand → Token → Build
 put_at b at_operand Not = build (a_not ∷ b.frames) b.ors b.ands at_operand
 put_at b at_operand All = whole b.frames b.ors b.ands all_rows
@@ -119,6 +123,7 @@ public_role (Some Text) = true
 public_role (Some Number) = true
 public_role role = false
 
+-- a token may stand at this place
 abbrev pub may_stand : List Column → List Frame → Stand → Token → Bool
 may_stand columns fs at_operand Not = has_room fs
 may_stand columns fs at_operand OpenBracket = has_room fs
@@ -136,6 +141,7 @@ may_stand columns fs (behind p) Or = true
 may_stand columns fs (behind p) CloseBracket = is_in_bracket fs
 may_stand columns fs stand t = false
 
+-- a token may come next
 abbrev pub may_put : List Column → Build → Token → Bool
 may_put columns b t = may_stand columns b.frames b.stand t
 
@@ -156,6 +162,7 @@ abbrev pub tree_at : List Frame → Option Tree → Stand → Option Tree
 tree_at [] ors (behind p) = Some (add_or ors p)
 tree_at fs ors stand = None
 
+-- the tree of a state, where it has one
 abbrev pub built : Build → Option Tree
 built b = tree_at b.frames b.ors b.stand
 
