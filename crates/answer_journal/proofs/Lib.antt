@@ -1,6 +1,6 @@
 pub mod Writes
 pub mod Histories
 pub mod Makes
-pub mod Backs
-pub mod Fits
-pub mod Dues
+pub mod ReadGroupByGroup
+pub mod RecordsFit
+pub mod DueIsAnswered

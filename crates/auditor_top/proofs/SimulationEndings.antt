@@ -24,8 +24,8 @@ use Rattle.auditor_top.specs.Status.{open_status, simulation_status}
 use Rattle.auditor_top.specs.Ends.{LeavesFile, SimulateEnds, SimulateSends}
 use Rattle.auditor_top.specs.Commands.{ArePublicFilesOf}
 use Rattle.auditor_top.specs.Causes.{FaultCounts, FaultCause, SchemaCause, TableCause, InputCause, NothingFailed, IsDoneOrWants}
-use Rattle.auditor_top.proofs.Bases.{same_ok}
-use Rattle.auditor_top.proofs.Endings.{not_both, same_bench, same_input, same_both}
+use Rattle.auditor_top.proofs.OneTable.{same_ok}
+use Rattle.auditor_top.proofs.StepFaults.{not_both, same_bench, same_input, same_both}
 
 -- the files mean one schema
 pub same_columns : (schema table : List ℕ) (opened columns : List Column) (public : PublicView) → schema_of schema ≡ Ok opened → ArePublicFilesOf schema table columns public → opened ≡ columns

@@ -1,5 +1,5 @@
 pub mod Writes
-pub mod Flags
-pub mod Kept
-pub mod Ties
-pub mod Steps
+pub mod TouchedPlaces
+pub mod KeptCalls
+pub mod TiedToItsCalls
+pub mod WhatCallsLeave

@@ -1,13 +1,19 @@
-pub mod Ranges
-pub mod Passing
-pub mod Reaching
-pub mod Turning
-pub mod KnownKeys
-pub mod Answered
-pub mod Averages
-pub mod ReplyParts
-pub mod OneReply
-pub mod Commas
-pub mod EachForm
+-- ---- lines: how the bytes at hand are cut
+
+pub mod NextCountedLine
+pub mod FromTurnToTurn
+pub mod PassedBytes
+pub mod BufferRanges
+-- ---- requests: what a line asks
+
+pub mod AnsweredLines
 pub mod Texts
+pub mod KnownKeys
 pub mod FoundColumns
+-- ---- replies: what a line tells
+
+pub mod OneReply
+pub mod NoOtherForm
+pub mod ReplyParts
+pub mod Commas
+pub mod Averages

@@ -4,7 +4,7 @@ use Rattle.journal_form.specs.Journal.{most_bytes, StandsAt}
 use Rattle.answer_journal.specs.declared.journal.BackFault.{BackFault}
 use Rattle.answer_journal.specs.declared.reading.Contents.{Contents}
 use Rattle.answer_journal.specs.Faults.{IsFaultOf}
-use Rattle.answer_journal.proofs.Dues.{fault_of_file}
+use Rattle.answer_journal.proofs.DueIsAnswered.{fault_of_file}
 use Rattle.answer_journal.proofs.back.contents_of.Goals as goal
 
 pub returns-clause-ok : goal.returns-clause-ok

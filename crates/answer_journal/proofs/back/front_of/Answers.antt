@@ -1,6 +1,6 @@
 use Rattle.std.proofs.Common.{◌≡◌, length, drop, min, ap, ◌∙◌}
 use Rattle.journal_form.specs.Journal.{most_bytes}
-use Rattle.answer_journal.proofs.Dues.{front_read}
+use Rattle.answer_journal.proofs.DueIsAnswered.{front_read}
 use Rattle.answer_journal.proofs.back.front_of.Goals as goal
 
 pub returns-clause-bytes : goal.returns-clause-bytes

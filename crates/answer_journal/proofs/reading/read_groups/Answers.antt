@@ -1,7 +1,7 @@
 use Rattle.std.proofs.Common.{rules, ◌≡◌, ◌+◌, ◌-◌, ◌++◌, ℕ, length, drop, arith, ap, sym, subst, inr, Err}
 use Rattle.journal_form.specs.Group.{GroupBreaks}
 use Rattle.journal_form.specs.Journal.{BreaksBehind}
-use Rattle.answer_journal.proofs.Backs.{read_none, read_ends, read_more, breaks_in_group, rest_is, breaks_at_end}
+use Rattle.answer_journal.proofs.ReadGroupByGroup.{read_none, read_ends, read_more, breaks_in_group, rest_is, breaks_at_end}
 use Rattle.answer_journal.proofs.reading.read_groups.Goals as goal
 
 pub loop-gate-init : goal.loop-gate-init

@@ -1,5 +1,5 @@
 use Rattle.std.proofs.Common.{◌-◌, length}
-use Rattle.answer_journal.proofs.Backs.{IsReadSoFar}
+use Rattle.answer_journal.proofs.ReadGroupByGroup.{IsReadSoFar}
 use Rattle.answer_journal.proofs.reading.read_groups.Given as goal
 
 -- the bytes before the gate are the header and the groups so far

@@ -14,9 +14,9 @@ use Rattle.auditor_top.specs.declared.status.Status.{Status}
 use Rattle.auditor_top.specs.Status.{open_status, start_status}
 use Rattle.auditor_top.specs.Ends.{AuditEnds, audit_over}
 use Rattle.auditor_top.specs.Causes.{SchemaCause, TableCause, FileCause, FaultCause, HoldsLegal, IsDoneOrWants, counts}
-use Rattle.auditor_top.proofs.Bases.{same_base}
+use Rattle.auditor_top.proofs.OneTable.{same_base}
 use Rattle.auditor_top.proofs.Calls.{report_done}
-use Rattle.auditor_top.proofs.Endings.{moved, unopened_wants, unstarted_faults, unstarted_wants}
+use Rattle.auditor_top.proofs.StepFaults.{moved, unopened_wants, unstarted_faults, unstarted_wants}
 use Rattle.auditor_top.proofs.AuditEndings.{same_audit, untouched_report, unopened_report, unstarted_report, unstarted_report_cause, report_cause, report_ends, report_faults, report_wants}
 use Rattle.auditor_top.proofs.auditing.audit.Goals as goal
 

@@ -1,6 +1,6 @@
 use Rattle.std.proofs.Common.{rules, sym, ◌∙◌, ap}
 use Rattle.table_load.specs.Tables.{public_of}
-use Rattle.auditor_top.proofs.Whole.{same_public, own_table_fault}
+use Rattle.auditor_top.proofs.WholeFiles.{same_public, own_table_fault}
 use Rattle.auditor_top.proofs.files.public_from.Goals as goal
 
 pub returns-in-Ok-load_public-clause-means : goal.returns-in-Ok-load_public-clause-means

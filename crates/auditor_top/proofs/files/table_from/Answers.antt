@@ -1,6 +1,6 @@
 use Rattle.std.proofs.Common.{rules, sym, ◌∙◌, ap}
 use Rattle.table_load.specs.Tables.{table_of}
-use Rattle.auditor_top.proofs.Whole.{same_table, own_table_fault}
+use Rattle.auditor_top.proofs.WholeFiles.{same_table, own_table_fault}
 use Rattle.auditor_top.proofs.files.table_from.Goals as goal
 
 pub returns-in-Ok-load-clause-means : goal.returns-in-Ok-load-clause-means

@@ -7,8 +7,8 @@ use Rattle.answer_journal.specs.Moments.{IsAlready, IsUnmadeOrEmpty}
 use Rattle.auditor_top.specs.declared.status.Status.{Status}
 use Rattle.auditor_top.specs.Causes.{SchemaCause, TableCause, FaultCause, IsDoneOrWants, counts}
 use Rattle.auditor_top.specs.Status.{open_status}
-use Rattle.auditor_top.proofs.Bases.{same_base}
-use Rattle.auditor_top.proofs.Endings.{unopened_wants, refused_is, unmade_faults, moved}
+use Rattle.auditor_top.proofs.OneTable.{same_base}
+use Rattle.auditor_top.proofs.StepFaults.{unopened_wants, refused_is, unmade_faults, moved}
 use Rattle.auditor_top.proofs.init.init.Goals as goal
 
 pub returns-in-Err-clause-complete : goal.returns-in-Err-clause-complete

@@ -1,7 +1,7 @@
 use Rattle.std.proofs.Common.{[]}
 use Rattle.table_load.specs.Cells.{TableView}
 use Rattle.table_load.specs.Database.{IsDatabase, secret_table}
-use Rattle.auditor_top.proofs.WholeLives.{nothing_is_legal, all_kept, stays_legal, lead_push}
+use Rattle.auditor_top.proofs.KeptByEveryLife.{nothing_is_legal, all_kept, stays_legal, lead_push}
 use Rattle.auditor_top.proofs.laws.lives.Goals as goal
 
 pub returns-clause-keep : goal.returns-clause-keep

@@ -1,5 +1,5 @@
 use Rattle.table_load.specs.Database.{secret_table}
-use Rattle.auditor_top.proofs.WholeLives.{nothing_is_legal}
+use Rattle.auditor_top.proofs.KeptByEveryLife.{nothing_is_legal}
 use Rattle.auditor_top.proofs.laws.never_refused.Goals as goal
 
 pub returns-clause-made : goal.returns-clause-made

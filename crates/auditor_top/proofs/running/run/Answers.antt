@@ -13,10 +13,10 @@ use Rattle.auditor_top.specs.Commands.{opens_journal, reads_files, reads_secrets
 use Rattle.auditor_top.specs.Causes.{WordCause, FileCause}
 use Rattle.auditor_top.specs.Drills.{DrillEnds}
 use Rattle.auditor_top.specs.Ends.{ServeEnds, audit_over, outside}
-use Rattle.auditor_top.proofs.Bases.{nothing_served, untouched_stops}
+use Rattle.auditor_top.proofs.OneTable.{nothing_served, untouched_stops}
 use Rattle.auditor_top.proofs.AuditEndings.{none_sent, untouched_report}
 use Rattle.auditor_top.proofs.SimulationEndings.{none_begun, before_lines, still_file}
-use Rattle.auditor_top.proofs.Named.{one_command, one_batch, one_drill, not_false}
+use Rattle.auditor_top.proofs.OneCommand.{one_command, one_batch, one_drill, not_false}
 use Rattle.auditor_top.proofs.running.run.Goals as goal
 
 -- ---- no memory for the words

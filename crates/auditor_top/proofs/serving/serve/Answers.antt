@@ -18,9 +18,9 @@ use Rattle.auditor_top.specs.declared.status.Status.{Status}
 use Rattle.auditor_top.specs.Status.{open_status, start_status, session_status}
 use Rattle.auditor_top.specs.Ends.{ServeEnds, outside}
 use Rattle.auditor_top.specs.Causes.{SchemaCause, TableCause, FileCause, FaultCause, HoldsLegal, InputCause, IsDoneOrWants, counts}
-use Rattle.auditor_top.proofs.Bases.{same_base, same_parts, nothing_served, untouched_stops}
+use Rattle.auditor_top.proofs.OneTable.{same_base, same_parts, nothing_served, untouched_stops}
 use Rattle.auditor_top.proofs.Calls.{session_done}
-use Rattle.auditor_top.proofs.Endings.{moved, unopened_ends, unopened_wants, unstarted_ends, unstarted_cause, unstarted_faults, unstarted_wants, session_cause, session_ends, session_faults, session_reads, session_wants}
+use Rattle.auditor_top.proofs.StepFaults.{moved, unopened_ends, unopened_wants, unstarted_ends, unstarted_cause, unstarted_faults, unstarted_wants, session_cause, session_ends, session_faults, session_reads, session_wants}
 use Rattle.auditor_top.proofs.serving.serve.Goals as goal
 
 -- ---- the files weren't opened

@@ -11,7 +11,7 @@ use Rattle.auditor_top.specs.Status.{open_status}
 use Rattle.auditor_top.specs.Ends.{SimulateEnds, SimulateSends}
 use Rattle.auditor_top.specs.Causes.{SchemaCause, TableCause, FaultCause, InputCause, IsDoneOrWants, counts}
 use Rattle.auditor_top.proofs.Calls.{simulation_done}
-use Rattle.auditor_top.proofs.Endings.{moved}
+use Rattle.auditor_top.proofs.StepFaults.{moved}
 use Rattle.auditor_top.proofs.SimulationEndings.{same_columns, same_public_part, none_begun, before_lines, still_file, unopened_verdicts, unopened_sends, unopened_simulation, simulation_ends, simulation_sends, simulation_reads, simulation_faults, simulation_wants}
 use Rattle.auditor_top.proofs.simulating.simulate.Goals as goal
 

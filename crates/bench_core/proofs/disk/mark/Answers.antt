@@ -1,7 +1,7 @@
 use Rattle.std.proofs.Common.{arith, ap, ◌∙◌, ◌≡◌, ◌≤◌, ◌⊎◌, ◌+◌, inl, inr, length}
 use Rattle.std.specs.Prelude.{◌||◌, ◌&&◌, nat_le, nat_lt}
 use Rattle.bench_core.specs.DiskContents.{is_dirty}
-use Rattle.bench_core.proofs.Flags.{touched_more, touched_none, same_end}
+use Rattle.bench_core.proofs.TouchedPlaces.{touched_more, touched_none, same_end}
 use Rattle.bench_core.proofs.disk.mark.Goals as goal
 use Rattle.bench_core.proofs.disk.mark.Goals.{then-count-left, else-count-left}
 

@@ -1,4 +1,4 @@
-use Rattle.bench_core.proofs.Flags.{Touched}
+use Rattle.bench_core.proofs.TouchedPlaces.{Touched}
 use Rattle.bench_core.proofs.disk.mark.Given as goal
 
 -- the places so far are touched

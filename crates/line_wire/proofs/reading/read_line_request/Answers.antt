@@ -2,7 +2,7 @@ use Rattle.std.proofs.Common.{◌≡◌, Some, sym}
 use Rattle.line_wire.specs.Kept.{written_of}
 use Rattle.line_wire.specs.Questions.{question_of}
 use Rattle.line_wire.proofs.Texts.Asked.{condition_within}
-use Rattle.line_wire.proofs.Answered.{written_by, found_of, only_of, fault_of, nothing_asked, unread_only, unread_fault, unread_within}
+use Rattle.line_wire.proofs.AnsweredLines.{written_by, found_of, only_of, fault_of, nothing_asked, unread_only, unread_fault, unread_within}
 use Rattle.line_wire.proofs.reading.read_line_request.Goals as goal
 
 pub request_of-requires : goal.request_of-requires

@@ -1,5 +1,5 @@
 use Rattle.std.proofs.Common.{List, ℕ}
-use Rattle.line_wire.proofs.EachForm.{IsTried, NoForm, tried_both, read_only}
+use Rattle.line_wire.proofs.NoOtherForm.{IsTried, NoForm, tried_both, read_only}
 use Rattle.line_wire.proofs.reply_reading.read_reply.Goals as goal
 
 tried : (c : goal.After-or-5) → IsTried c.args.line.now c.or-5.result (NoForm c.args.line.now)

@@ -4,8 +4,8 @@ use Rattle.audit_types.specs.declared.records.Answered.{Answered}
 use Rattle.audit_types.specs.History.{FitsShape}
 use Rattle.answer_journal.specs.Contents.{IsJournal, JournalContents}
 use Rattle.answer_journal.proofs.Histories.{is_journal}
-use Rattle.answer_journal.proofs.Fits.{history_fits}
-use Rattle.answer_journal.proofs.Dues.{damage_is_due, whole_has_no_fault}
+use Rattle.answer_journal.proofs.RecordsFit.{history_fits}
+use Rattle.answer_journal.proofs.DueIsAnswered.{damage_is_due, whole_has_no_fault}
 use Rattle.answer_journal.proofs.journal.Journal.read_back.Goals as goal
 
 pub ending_at-requires : goal.ending_at-requires

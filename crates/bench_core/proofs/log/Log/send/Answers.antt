@@ -3,7 +3,7 @@ use Rattle.std.specs.List.{AllByRecursion}
 use Rattle.bench_core.specs.Machine.{sending}
 use Rattle.bench_core.specs.LogContents.{LogContents, call_of, IsKept}
 use Rattle.bench_core.specs.declared.log.Past.TheVariants.{Sent}
-use Rattle.bench_core.proofs.Kept.{sent_grows}
+use Rattle.bench_core.proofs.KeptCalls.{sent_grows}
 use Rattle.bench_core.proofs.log.Log.send.Goals as goal
 
 pub returns : goal.returns

@@ -3,7 +3,7 @@ use Rattle.std.specs.List.{AllByRecursion}
 use Rattle.bench_core.specs.Machine.{wrote}
 use Rattle.bench_core.specs.LogContents.{LogContents, call_of, IsKept}
 use Rattle.bench_core.specs.declared.log.Past.TheVariants.{Wrote}
-use Rattle.bench_core.proofs.Kept.{written_grows}
+use Rattle.bench_core.proofs.KeptCalls.{written_grows}
 use Rattle.bench_core.proofs.log.Log.write.Goals as goal
 
 pub returns : goal.returns

@@ -2,7 +2,7 @@ use Rattle.std.proofs.Common.{List, ℕ, length, arith, ap, sym, subst, ◌∙�
 use Rattle.std.proofs.lemmas.Result.{IfOk-weaker}
 use Rattle.bench_core.specs.BenchContents.{may_leave}
 use Rattle.bench_core.specs.BenchLaws.{always_sound, reads_itself}
-use Rattle.bench_core.proofs.Steps.{stable_image, torn_image}
+use Rattle.bench_core.proofs.WhatCallsLeave.{stable_image, torn_image}
 use Rattle.bench_core.proofs.memory_bench.MemoryBench.crashed.Goals as goal
 
 pub with_file-requires : goal.with_file-requires

@@ -2,7 +2,7 @@ use Rattle.std.proofs.Common.{rules, ◌<◌, ◌++◌, length, arith, ap, refl,
 use Rattle.bench_core.specs.Machine.{sending}
 use Rattle.bench_core.specs.LogContents.{LogContents}
 use Rattle.bench_core.specs.BenchContents.{BenchContents, sent_of}
-use Rattle.bench_core.proofs.Ties.{tied_step}
+use Rattle.bench_core.proofs.TiedToItsCalls.{tied_step}
 use Rattle.bench_core.proofs.memory_bench.MemoryBench.fail_send.Goals as goal
 
 pub invariant_of-self : goal.invariant_of-self

@@ -1,7 +1,7 @@
 use Rattle.std.proofs.Common.{rules, ◌<◌, ◌+◌, ◌||◌, length, arith, ap, ◌∙◌}
 use Rattle.bench_core.specs.Machine.{unwritten, in_range}
 use Rattle.bench_core.specs.LogContents.{LogContents}
-use Rattle.bench_core.proofs.Ties.{tied_step}
+use Rattle.bench_core.proofs.TiedToItsCalls.{tied_step}
 use Rattle.bench_core.proofs.memory_bench.MemoryBench.fail_write.Goals as goal
 
 pub invariant_of-self : goal.invariant_of-self

@@ -2,7 +2,7 @@ use Rattle.std.proofs.Common.{rules, ◌<◌, ◌≤◌, ◌+◌, ◌||◌, leng
 use Rattle.bench_core.specs.Machine.{wrote, in_range, written}
 use Rattle.bench_core.specs.LogContents.{LogContents}
 use Rattle.bench_core.specs.BenchContents.{BenchContents, file_of}
-use Rattle.bench_core.proofs.Ties.{tied_step, length-written}
+use Rattle.bench_core.proofs.TiedToItsCalls.{tied_step, length-written}
 use Rattle.bench_core.proofs.memory_bench.MemoryBench.pass_write.Goals as goal
 
 pub invariant_of-self : goal.invariant_of-self

@@ -1,6 +1,6 @@
 use Rattle.std.proofs.Common.{length, ap, refl, ◌∙◌}
 use Rattle.bench_core.specs.Machine.{State, other}
-use Rattle.bench_core.proofs.Steps.{passed_state, time_unsent, same_images}
+use Rattle.bench_core.proofs.WhatCallsLeave.{passed_state, time_unsent, same_images}
 use Rattle.bench_core.proofs.memory_bench.MemoryBenchBench.length.Goals as goal
 
 pub returns-clause-file : goal.returns-clause-file

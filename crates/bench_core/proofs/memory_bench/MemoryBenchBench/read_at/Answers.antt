@@ -1,6 +1,6 @@
 use Rattle.std.proofs.Common.{ℕ, ◌-◌, List, length, take, drop, min, ap, refl, ◌∙◌}
 use Rattle.bench_core.specs.Machine.{State, other}
-use Rattle.bench_core.proofs.Steps.{passed_state, time_unsent, same_images}
+use Rattle.bench_core.proofs.WhatCallsLeave.{passed_state, time_unsent, same_images}
 use Rattle.bench_core.proofs.memory_bench.MemoryBenchBench.read_at.Goals as goal
 
 pub returns-clause-file : goal.returns-clause-file

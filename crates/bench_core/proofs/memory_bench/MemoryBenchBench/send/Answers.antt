@@ -4,7 +4,7 @@ use Rattle.bench_core.specs.Causes.{HasCause, next_count}
 use Rattle.bench_core.specs.Bench.{AppendsFront, Sending, Elapses}
 use Rattle.bench_core.specs.Machine.{State, sending}
 use Rattle.bench_core.specs.BenchContents.{file_of, sent_of, may_leave, found_since}
-use Rattle.bench_core.proofs.Steps.{passed_state, time_still, time_sending, sent_images, front_or_none, failed_cause, shorter_front, no_front}
+use Rattle.bench_core.proofs.WhatCallsLeave.{passed_state, time_still, time_sending, sent_images, front_or_none, failed_cause, shorter_front, no_front}
 use Rattle.bench_core.proofs.memory_bench.MemoryBenchBench.send.Goals as goal
 
 pub returns-clause-all : goal.returns-clause-all

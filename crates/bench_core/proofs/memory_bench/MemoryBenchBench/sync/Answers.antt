@@ -1,6 +1,6 @@
 use Rattle.std.proofs.Common.{ap, refl}
 use Rattle.bench_core.specs.Machine.{State, synced}
-use Rattle.bench_core.proofs.Steps.{passed_state, time_unsent, synced_file, synced_images}
+use Rattle.bench_core.proofs.WhatCallsLeave.{passed_state, time_unsent, synced_file, synced_images}
 use Rattle.bench_core.proofs.memory_bench.MemoryBenchBench.sync.Goals as goal
 
 pub returns-clause-file : goal.returns-clause-file

@@ -4,7 +4,7 @@ use Rattle.bench_core.specs.Causes.{HasCause, next_count}
 use Rattle.bench_core.specs.Bench.{Torn, Follows, Unsent, Elapses}
 use Rattle.bench_core.specs.Machine.{State, wrote, unwritten}
 use Rattle.bench_core.specs.BenchContents.{file_of, sent_of, may_leave, found_since}
-use Rattle.bench_core.proofs.Steps.{passed_state, time_still, time_unsent, torn_same, follows_write, follows_touch, follows_nothing, touched_or_not, failed_cause}
+use Rattle.bench_core.proofs.WhatCallsLeave.{passed_state, time_still, time_unsent, torn_same, follows_write, follows_touch, follows_nothing, touched_or_not, failed_cause}
 use Rattle.bench_core.proofs.memory_bench.MemoryBenchBench.write_at.Goals as goal
 
 pub returns-clause-written : goal.returns-clause-written

@@ -2,7 +2,7 @@ use Rattle.std.proofs.Common.{ℕ, List, ◌≡◌, ◌+◌, ◌-◌, ◌++◌, 
 use Rattle.std.proofs.lemmas.List.{length-take-le}
 use Rattle.line_wire.specs.Lines.{kept}
 use Rattle.line_wire.specs.Buffer.{Held}
-use Rattle.line_wire.proofs.Ranges.{written_back, range-later, range-long, rest-same, kept-full, kept-grown}
+use Rattle.line_wire.proofs.BufferRanges.{written_back, range-later, range-long, rest-same, kept-full, kept-grown}
 use Rattle.line_wire.proofs.buffer.Buffer.add.Goals as goal
 
 pub returns-then-len-eq-KEPT-clause-pending : goal.returns-then-len-eq-KEPT-clause-pending

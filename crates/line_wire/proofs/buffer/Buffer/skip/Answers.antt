@@ -1,6 +1,6 @@
 use Rattle.std.proofs.Common.{ℕ, List, ◌≤◌, length, drop, ap, ◌∙◌, arith}
 use Rattle.line_wire.specs.Buffer.{Held}
-use Rattle.line_wire.proofs.Ranges.{range-later, range-long}
+use Rattle.line_wire.proofs.BufferRanges.{range-later, range-long}
 use Rattle.line_wire.proofs.buffer.Buffer.skip.Goals as goal
 
 pub returns-clause-pending : goal.returns-clause-pending

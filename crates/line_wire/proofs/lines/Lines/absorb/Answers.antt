@@ -1,6 +1,6 @@
 use Rattle.std.proofs.Common.{ℕ, List, length, take, ap, ◌∙◌, arith, length-drop, length-take}
 use Rattle.std.proofs.lemmas.List.{drop_all}
-use Rattle.line_wire.proofs.Passing.{passes_feed, passes_none}
+use Rattle.line_wire.proofs.PassedBytes.{passes_feed, passes_none}
 use Rattle.line_wire.proofs.lines.Lines.absorb.Goals as goal
 
 pub invariant_of-self : goal.invariant_of-self

@@ -2,8 +2,8 @@ use Rattle.std.proofs.Common.{ℕ, List, length, inl, inr, refl, sym, ◌∙◌,
 use Rattle.std.proofs.lemmas.Bool.{both_ways}
 use Rattle.line_wire.specs.Lines.{whole_lines}
 use Rattle.line_wire.specs.Cutter.{Cutter}
-use Rattle.line_wire.proofs.Reaching.{starts, to_feed, to_more, to_read, to_next, no_whole, answers_fed, answers_last, none_left, counts_from}
-use Rattle.line_wire.proofs.Turning.{grown_feed, grown_none, advances_fed, advances_last, still_unread, next_unread}
+use Rattle.line_wire.proofs.NextCountedLine.{starts, to_feed, to_more, to_read, to_next, no_whole, answers_fed, answers_last, none_left, counts_from}
+use Rattle.line_wire.proofs.FromTurnToTurn.{grown_feed, grown_none, advances_fed, advances_last, still_unread, next_unread}
 use Rattle.line_wire.proofs.lines.Lines.next.Goals as goal
 
 pub loop-self-init : goal.loop-self-init

@@ -1,6 +1,6 @@
 use Rattle.std.proofs.Common.{◌+◌, ◌-◌, length, cond}
 use Rattle.line_wire.specs.Lines.{most_input}
-use Rattle.line_wire.proofs.Turning.{Turn}
+use Rattle.line_wire.proofs.FromTurnToTurn.{Turn}
 use Rattle.line_wire.proofs.lines.Lines.next.Given as goal
 
 abbrev pub invariant-loop-self : goal.invariant-loop-self

@@ -11,7 +11,7 @@ use Rattle.bench_core.specs.MachineLaws.{after_all-push, elapses, synced_quiet}
 use Rattle.bench_core.specs.BenchContents.{BenchContents, state_of, file_of, sent_of, may_leave, found_since, passed, failed, failed_write, failed_send, torn_byte, IsTornFile}
 use Rattle.bench_core.specs.BenchLaws.{always_sound, reads_itself}
 use Rattle.bench_core.proofs.Writes.{before_write, was_left, is_torn}
-use Rattle.bench_core.proofs.Ties.{length-written}
+use Rattle.bench_core.proofs.TiedToItsCalls.{length-written}
 
 pub passed_state : (b : BenchContents) (c : Call) → state_of (passed b c) ≡ after (state_of b) c
 passed_state b c = after_all-push (start b.first) b.past c

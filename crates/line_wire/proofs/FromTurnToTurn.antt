@@ -8,7 +8,7 @@ use Rattle.line_wire.specs.Steps.{Gives, Advances}
 use Rattle.line_wire.specs.declared.lines.Next.{Next}
 use Rattle.line_wire.specs.declared.lines.Next.TheVariants as next
 use Rattle.line_wire.specs.LineLaws.{kept-le}
-use Rattle.line_wire.proofs.Reaching.{to_feed, to_more, to_next, no_whole}
+use Rattle.line_wire.proofs.NextCountedLine.{to_feed, to_more, to_next, no_whole}
 
 -- what holds at each turn of a call
 pub record Turn {S : Type 0} (told : Type 0) (left : S → List ℕ) (faults : S → ℕ) (old now : Cutter) (first source : S) : Type 0 where

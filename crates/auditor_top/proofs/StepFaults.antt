@@ -24,7 +24,7 @@ use Rattle.auditor_top.specs.declared.status.Status.TheVariants.{BenchFault}
 use Rattle.auditor_top.specs.Status.{open_status, make_status, start_status, session_status}
 use Rattle.auditor_top.specs.Ends.{Outside, ServeEnds}
 use Rattle.auditor_top.specs.Causes.{FaultCounts, counts, FaultCause, SchemaCause, TableCause, FileCause, HoldsLegal, InputCause, NothingFailed, IsDoneOrWants}
-use Rattle.auditor_top.proofs.Bases.{nothing_served}
+use Rattle.auditor_top.proofs.OneTable.{nothing_served}
 
 -- an answer isn't good and bad
 pub not_both : {X E : Type 0} (x : X) (e : E) → Ok x ≡ Err e → ⊥
