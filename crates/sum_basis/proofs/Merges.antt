@@ -9,10 +9,15 @@ use Rattle.audit_types.specs.Truth.{is_zero}
 use Rattle.int_rows.specs.PrimitiveLaws.{false_if, zero_or_not, product_not_zero}
 use Rattle.sum_basis.specs.declared.sparse.FreeEntry.{FreeEntry}
 use Rattle.sum_basis.specs.Sparse.{entry_at, IsListed, scaled}
-use Rattle.sum_basis.specs.Merging.{first_place, first_value}
+use Rattle.sum_basis.specs.Merging.{first_value}
 use Rattle.audit_types.specs.Products.{times-add, neg-times}
 use Rattle.sum_basis.proofs.SparseRows.{here, elsewhere, entry_at-append, listed_push, listed_to, listed_from, listed_length, drop_entry}
 use Rattle.sum_basis.proofs.ListContents.{entry_at-scaled, none}
+
+-- the place of the first entry, and the number of columns for no entries
+abbrev first_place : ℕ → List FreeEntry → ℕ
+first_place n [] = n
+first_place n (e ∷ entries) = e.place
 
 -- what is left of a list when its entry at the place is taken
 abbrev rest : List FreeEntry → ℕ → List FreeEntry

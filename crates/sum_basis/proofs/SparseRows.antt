@@ -235,18 +235,6 @@ drop_entry [] k d h = absurd (omega arith)
 drop_entry (e ∷ es) zero d h = refl
 drop_entry (e ∷ es) (suc k) d h = drop_entry es k d (omega arith)
 
--- what they have at the place of the first
-pub entry_found : (from n : ℕ) (es : List FreeEntry) (k : ℕ) (d : FreeEntry) (column : ℕ) → k < length es → IsListed from n (drop k es) → (get_or es k d).place ≡ column → entry_at (drop k es) column ≡ (get_or es k d).value
-entry_found from n es k d column h l same =
-    let listed = subst (IsListed from n) (drop_entry es k d h) l in
-    ap (λ xs. entry_at xs column) (drop_entry es k d h) ∙ ap (entry_at (get_or es k d ∷ drop (suc k) es)) (sym same) ∙ first_value from n (get_or es k d) (drop (suc k) es) listed
-
--- and before it
-pub entry_passed : (from n : ℕ) (es : List FreeEntry) (k : ℕ) (d : FreeEntry) (column : ℕ) → k < length es → IsListed from n (drop k es) → column < (get_or es k d).place → entry_at (drop k es) column ≡ pos 0
-entry_passed from n es k d column h l before =
-    let listed = subst (IsListed from n) (drop_entry es k d h) l in
-    ap (λ xs. entry_at xs column) (drop_entry es k d h) ∙ zero_below (get_or es k d).place n (get_or es k d ∷ drop (suc k) es) column (omega arith, listed.1, listed.2, listed.3) before
-
 -- the places of a list rise
 pub places_rise : (from n : ℕ) (es : List FreeEntry) → IsListed from n es → IsNonDecreasingBy (λ (e : FreeEntry). e.place) es
 places_rise from n [] h i j d p q = absurd (omega arith)
