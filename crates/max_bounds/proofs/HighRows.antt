@@ -1,13 +1,15 @@
 -- The rows with high bounds stand for all where one of them counts.
-use Rattle.std.proofs.Common.{◌≡◌, ◌⊎◌, ℕ, ◌<◌, ℤ, Bool, true, false, cond, not, ◌&&◌, List, refl, sym, ap, ◌∙◌, arith, inl, inr, Option, Some, None}
+use Rattle.std.proofs.Common.{◌≡◌, ◌⊎◌, ℕ, zero, suc, ◌<◌, ℤ, Bool, true, false, cond, not, ◌&&◌, List, [], ◌∷◌, ◌++◌, take, drop, set, refl, sym, ap, ◌∙◌, arith, inl, inr, Option, Some, None}
 use Rattle.std.specs.Prelude.{◌↔◌, ◌<ℤ◌, ◌≤ℤ◌, int_lt}
-use Rattle.std.specs.List.{filter}
-use Rattle.std.proofs.lemmas.Int.{ints}
+use Rattle.std.specs.Int.{int_min}
+use Rattle.std.specs.List.{filter, AllByRecursion}
+use Rattle.std.proofs.lemmas.Int.{ints, clamps}
 use Rattle.std.proofs.lemmas.Bool.{true≢false, cases_lt, cases_eq}
-use Rattle.audit_types.specs.Rows.{has_row, AreRows, intersection}
+use Rattle.audit_types.specs.Rows.{has_row, AreRows, intersection, complement}
+use Rattle.audit_types.specs.Extremes.{least_of}
 use Rattle.audit_types.specs.RowLaws.{ascending_same, AreRows-rows_that, has-rows_that, has-rows_that_above}
 use Rattle.max_bounds.specs.Outside.{IsBelowBound, HasOneHighest}
-use Rattle.max_bounds.specs.Kept.{is_at_least, is_above, rows_at_least, rows_above, IsHigh}
+use Rattle.max_bounds.specs.Kept.{is_at_least, is_above, rows_at_least, rows_above, IsHigh, AreLow}
 use Rattle.max_bounds.specs.RowListLaws.{filter-has, has-filter, filter-ascends, row_below}
 use Rattle.max_bounds.specs.declared.high_rows.HighRows.{HighRows}
 use Rattle.max_bounds.proofs.LoweredSets.{same_test}
@@ -134,3 +136,61 @@ high_stays n before after high x rows is settled = record {
     step : (r : ℕ) (b : Bool) → has_row (rows_at_least before x rows) r ≡ b → is_at_least high.cut (cond b (Some x) (before r)) ≡ true → is_at_least high.cut (before r) ≡ true
     step r true there reaches = fallen (before r) high.cut x (filter-has (λ q. is_at_least x (before q)) rows r there).1 reaches
     step r false there reaches = reaches
+
+-- so do all, for all cuts
+pub all_stay : (n : ℕ) (before after : ℕ → Option ℤ) (x : ℤ) (rows : List ℕ) (highs : List HighRows) → AllByRecursion (IsHigh n before) highs →
+    ((r : ℕ) → after r ≡ cond (has_row (rows_at_least before x rows) r) (Some x) (before r)) → AllByRecursion (IsHigh n after) highs
+all_stay n before after x rows [] all settled = tt
+all_stay n before after x rows (h ∷ highs) all settled = (high_stays n before after h x rows all.0 settled, all_stay n before after x rows highs all.1 settled)
+
+-- the sets of all are over as many rows
+pub all_over : (n m : ℕ) (bound : ℕ → Option ℤ) (highs : List HighRows) → n ≡ m → AllByRecursion (IsHigh n bound) highs → AllByRecursion (λ h. h.rows.n ≡ m) highs
+all_over n m bound [] same all = tt
+all_over n m bound (h ∷ highs) same all = (all.0.same_n ∙ same, all_over n m bound highs same all.1)
+
+-- one more among all
+pub all_inserted : {X : Type 0} (P : X → Type 0) (xs : List X) (i : ℕ) (x : X) → AllByRecursion P xs → P x → AllByRecursion P (take i xs ++ x ∷ drop i xs)
+all_inserted P [] zero x all p = (p, tt)
+all_inserted P [] (suc i) x all p = (p, tt)
+all_inserted P (y ∷ xs) zero x all p = (p, all)
+all_inserted P (y ∷ xs) (suc i) x all p = (all.0, all_inserted P xs i x all.1 p)
+
+-- one of all replaced
+pub all_replaced : {X : Type 0} (P : X → Type 0) (xs : List X) (i : ℕ) (x : X) → AllByRecursion P xs → P x → AllByRecursion P (set xs i x)
+all_replaced P [] i x all p = tt
+all_replaced P (y ∷ xs) zero x all p = (p, all.1)
+all_replaced P (y ∷ xs) (suc i) x all p = (all.0, all_replaced P xs i x all.1 p)
+
+-- the high rows of a cut stay so without rows whose bounds are below it
+pub low_leave : (n : ℕ) (bound : ℕ → Option ℤ) (before after : HighRows) (answer : ℤ) (others rows : List ℕ) → after.rows.n ≡ before.rows.n → after.cut ≡ before.cut →
+    after.rows.list ≡ intersection before.rows.n before.rows.list others → others ≡ complement n rows → answer <ℤ before.cut → AreLow bound answer rows → IsHigh n bound before → IsHigh n bound after
+low_leave n bound before after answer others rows same cut both are higher low is = record {
+  same_n = same ∙ is.same_n;
+  covers = λ r below reaches.
+      let high : is_at_least before.cut (bound r) ≡ true = ap (λ x. is_at_least x (bound r)) (sym cut) ∙ reaches in
+      let there : has_row before.rows.list r ≡ true = is.covers r below high in
+      let small : r < before.rows.n = omega (arith, is.same_n) in
+      ap (λ l. has_row l r) both ∙ has-rows_that (λ q. has_row before.rows.list q && has_row others q) before.rows.n r small
+      ∙ ap (λ b. b && has_row others r) there ∙ ap (λ l. has_row l r) are ∙ has-rows_that (λ q. not (has_row rows q)) n r below ∙ gone r high (has_row rows r) refl;
+}
+  where
+    gone : (r : ℕ) → is_at_least before.cut (bound r) ≡ true → (b : Bool) → has_row rows r ≡ b → not b ≡ true
+    gone r high true there = absurd (true≢false (sym high ∙ low r before.cut there higher))
+    gone r high false there = refl
+
+-- a number below a cut isn't at least the cut
+under_cut : (b cut : ℤ) → b <ℤ cut → not (int_lt b cut) ≡ false
+under_cut b cut less = elim (int_lt b cut) as (λ t. int_lt b cut ≡ t → not t ≡ false) [
+  | true ↦ λ yes. refl
+  | false ↦ λ no. absurd (omega (arith, ints))
+] refl
+
+-- nor is the bound of a row that has an answer below it
+pub least_low : (o : Option ℤ) (x cut : ℤ) → x <ℤ cut → is_at_least cut (Some (least_of x o)) ≡ false
+least_low None x cut higher = under_cut x cut higher
+least_low (Some b) x cut higher = under_cut (int_min x b) cut (omega (arith, ints, clamps))
+
+-- what holds of all of either list
+pub of_either : {X : Type 0} (P : X → Type 0) (b : Bool) (xs ys : List X) → AllByRecursion P xs → AllByRecursion P ys → AllByRecursion P (cond b xs ys)
+of_either P true xs ys one other = one
+of_either P false xs ys one other = other

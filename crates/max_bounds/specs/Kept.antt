@@ -52,6 +52,10 @@ pub record IsHigh (n : ℕ) (bound : ℕ → Option ℤ) (high : HighRows) : Typ
   pub same_n : high.rows.n ≡ n
   pub covers : (r : ℕ) → r < n → is_at_least high.cut (bound r) ≡ true → has_row high.rows.list r ≡ true
 
+-- these rows have bounds, none of them above the answer
+abbrev pub AreLow : (ℕ → Option ℤ) → ℤ → List ℕ → Type 0
+AreLow bound answer rows = (r : ℕ) (cut : ℤ) → has_row rows r ≡ true → answer <ℤ cut → is_at_least cut (bound r) ≡ false
+
 -- the rows of an answer that reach their bound and are among the falling ones
 abbrev pub falls_of : (ℕ → Option ℤ) → List ℕ → Answer → List ℕ
 falls_of bound falling a = filter (λ r. has_row a.rows r && is_bound (bound r) a.value) falling
@@ -101,5 +105,5 @@ pub record IsKept (b : Inside) : Type 0 where
   pub one_each : length b.upper.items ≡ b.n
   pub bounds : (r : ℕ) → bound_at b.upper.items r ≡ upper_bound (answers_of b.pairs.items) r
   pub same_n_least : AllByRecursion (λ p. p.rows.n ≡ b.n) b.least.items
-  pub high : IsHigh b.n (bound_at b.upper.items) b.high
+  pub high : AllByRecursion (IsHigh b.n (bound_at b.upper.items)) b.high.items
   pub tells : TellsExtremes (extremes (answers_of b.pairs.items)) (answers_of b.pairs.items) b.counts.items b.fewest (answers_of b.least.items)

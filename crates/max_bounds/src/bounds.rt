@@ -9,7 +9,7 @@ ghost use Rattle.max_bounds.specs.Outside.{IsDangerousByExtremes};
 ghost use Rattle.max_bounds.specs.Kept.{extreme_counts};
 
 use crate::answered::AnsweredMax;
-use crate::high_rows::HighRows;
+use crate::high_rows::{HighRows, one_highest_of, reach_high, renew_high};
 use crate::kept::{fall, insert};
 use crate::reach::settle;
 use crate::stranding::strands;
@@ -30,8 +30,8 @@ pub struct Bounds {
     fewest: u16,
     // Extreme rows of pairs, with their answer. Each pair has such a set of its own answer and with no other rows.
     least: Vec<AnsweredMax>,
-    // The rows with high bounds, which mostly tell of all.
-    high: HighRows,
+    // The rows with high bounds, for cuts in descending order, which mostly tell of all.
+    high: Vec<HighRows>,
 }
 
 impl Model for Bounds {
@@ -60,7 +60,7 @@ impl Bounds {
             counts: Vec::new(alloc),
             fewest: u16::MAX,
             least: Vec::new(alloc),
-            high: HighRows::new(n),
+            high: Vec::new(alloc),
         })
     }
 
@@ -88,7 +88,7 @@ impl Bounds {
             rows: *rows,
             answer,
         };
-        let affected = self.high.reach(&self.upper, rows, answer);
+        let affected = reach_high(&self.high, &self.upper, rows, answer);
         let fewest = fall(
             &mut self.counts,
             self.fewest,
@@ -104,7 +104,7 @@ impl Bounds {
         self.counts.push_reserved(count);
         insert(&mut self.least, &affected.extremes, &asked, &self.pairs);
         self.pairs.push_reserved(asked);
-        self.high = self.high.next(&self.upper, self.n, self.pairs.len());
+        renew_high(&mut self.high, &self.upper, &affected, rows, answer);
         Ok(())
     }
 
@@ -175,6 +175,6 @@ impl Bounds {
             // Some answer has no extreme row, or else one has a lone row.
             return self.fewest == 1;
         }
-        self.high.one_highest(&self.upper, rows) || strands(&self.least, rows)
+        one_highest_of(&self.high, &self.upper, rows) || strands(&self.least, rows)
     }
 }

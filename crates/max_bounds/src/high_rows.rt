@@ -1,20 +1,19 @@
-//! The rows with high bounds. Most questions on many rows have one of them, and then no other row counts.
-ghost use Rattle.std.specs.Prelude.{◌≡◌, ◌↔◌, ◌<◌, ◌≤◌, ℕ, true, IsTrue, length};
+//! The rows with high bounds, for some cuts. Most questions on many rows have such a row for a high cut, and then no other row
+//! counts.
+ghost use Rattle.std.specs.Prelude.{◌≡◌, ◌↔◌, ◌<◌, ◌≤◌, ◌≤ℤ◌, ℕ, ℤ, true, List, Option, IsTrue, IfSome, length};
+ghost use Rattle.std.specs.List.{AllByRecursion};
 ghost use Rattle.audit_types.specs.Limits.{most_rows};
-ghost use Rattle.audit_types.specs.Rows.{has_row};
+ghost use Rattle.audit_types.specs.Rows.{has_row, complement};
 ghost use Rattle.max_bounds.specs.Reaching.{bound_at};
 ghost use Rattle.max_bounds.specs.Outside.{HasOneHighest};
-ghost use Rattle.max_bounds.specs.Kept.{is_at_least, rows_at_least, rows_above, IsHigh};
+ghost use Rattle.max_bounds.specs.Kept.{is_at_least, rows_at_least, rows_above, IsHigh, AreLow};
 
 use crate::highest::one_highest;
 use crate::reach::{Affected, is_at_least, reach};
 use audit_types::RowSet;
 
-// How many answers join before the high rows are told anew.
-const ANSWERS_BETWEEN: usize = 64;
-
-// How many bounds are read for a new cut, at least.
-const SAMPLE: usize = 8;
+// How many cuts there are at most.
+const MOST_CUTS: usize = 128;
 
 /// Each row without a bound or with one that is at least the cut, and maybe others.
 #[derive(Clone, Copy)]
@@ -34,15 +33,6 @@ fn all_rows(n: u16) -> RowSet
     rows
 }
 
-// A number that most bounds are below, as some of them tell. The high rows are right with any.
-fn sampled_cut(upper: &[Option<i64>]) -> i64 {
-    let mut cut = i64::MIN;
-    for bound in upper.iter().step_by(upper.len() / SAMPLE + 1) {
-        cut = cut.max(bound.unwrap_or(i64::MIN));
-    }
-    cut
-}
-
 // Whether the bound of some row of the set is at least this number.
 fn has_at_least(upper: &[Option<i64>], rows: &RowSet, cut: i64) -> bool
     requires within { rows.now.n ≤ length upper.now }
@@ -59,58 +49,16 @@ fn has_at_least(upper: &[Option<i64>], rows: &RowSet, cut: i64) -> bool
 }
 
 impl HighRows {
-    /// All rows.
-    pub(crate) fn new(n: u16) -> HighRows
-        requires some { 0 < n }
-        requires at_most { n ≤ most_rows }
-        ensures same_n { result.rows.n ≡ n }
-        ensures all { (r : ℕ) → r < n → has_row result.rows.list r ≡ true }
-    {
-        HighRows {
-            rows: all_rows(n),
-            cut: i64::MIN,
-        }
-    }
-
-    // The high rows by a new cut.
-    fn told_anew(upper: &[Option<i64>], n: u16) -> HighRows
-        requires some { 0 < n }
-        requires at_most { n ≤ most_rows }
-        requires within { n ≤ length upper.now }
-        ensures high { IsHigh n (bound_at upper.now) result }
-    {
-        let cut = sampled_cut(upper);
-        let rows = reach(upper, &all_rows(n), cut).extremes;
-        HighRows { rows, cut }
-    }
-
-    /// What stays, or the high rows told anew, once so many answers have joined. Bounds only fall, so that these rows stay right.
-    pub(crate) fn next(self, upper: &[Option<i64>], n: u16, answers: usize) -> HighRows
-        requires some { 0 < n }
-        requires at_most { n ≤ most_rows }
-        requires within { n ≤ length upper.now }
-        requires high { IsHigh n (bound_at upper.now) self }
-        ensures high { IsHigh n (bound_at upper.now) result }
-    {
-        if answers % ANSWERS_BETWEEN == 0 {
-            HighRows::told_anew(upper, n)
-        } else {
-            self
-        }
-    }
-
-    /// What an answer over these rows does to them.
-    pub(crate) fn reach(&self, upper: &[Option<i64>], rows: &RowSet, answer: i64) -> Affected
+    // What an answer over these rows does to them, where it isn't below the cut.
+    fn reach(&self, upper: &[Option<i64>], rows: &RowSet, answer: i64) -> Affected
         requires within { rows.now.n ≤ length upper.now }
         requires high { IsHigh rows.now.n (bound_at upper.now) self.now }
+        requires reaches { self.now.cut ≤ℤ answer }
         ensures extremes_n { result.extremes.n ≡ rows.now.n }
         ensures falling_n { result.falling.n ≡ rows.now.n }
         ensures extremes { result.extremes.list ≡ rows_at_least (bound_at upper.now) answer rows.now.list }
         ensures falling { result.falling.list ≡ rows_above (bound_at upper.now) answer rows.now.list }
     {
-        if answer < self.cut {
-            return reach(upper, rows, answer);
-        }
         // A set says of its n that no row is past it.
         let _ = rows.n();
         let mut high = *rows;
@@ -118,20 +66,129 @@ impl HighRows {
         reach(upper, &high, answer)
     }
 
-    /// Whether the bound of one row of the set is above those of its other rows, where a row without a bound stands above all.
-    pub(crate) fn one_highest(&self, upper: &[Option<i64>], rows: &RowSet) -> bool
+    // Whether one row of the set is above the others, where the set has one of the high rows.
+    fn one_highest(&self, upper: &[Option<i64>], rows: &RowSet) -> Option<bool>
         requires within { rows.now.n ≤ length upper.now }
         requires high { IsHigh rows.now.n (bound_at upper.now) self.now }
-        ensures { IsTrue result ↔ HasOneHighest (bound_at upper.now) rows.now.list }
+        ensures { IfSome result (λ one. IsTrue one ↔ HasOneHighest (bound_at upper.now) rows.now.list) }
     {
         // A set says of its n that no row is past it.
         let _ = rows.n();
         let mut high = *rows;
         high.and_with(&self.rows);
-        if has_at_least(upper, &high, self.cut) {
-            one_highest(upper, &high)
-        } else {
-            one_highest(upper, rows)
+        if !has_at_least(upper, &high, self.cut) {
+            return None;
+        }
+        Some(one_highest(upper, &high))
+    }
+}
+
+/// What an answer over these rows does to them.
+pub(crate) fn reach_high(
+    high: &[HighRows],
+    upper: &[Option<i64>],
+    rows: &RowSet,
+    answer: i64,
+) -> Affected
+    requires within { rows.now.n ≤ length upper.now }
+    requires high { AllByRecursion (IsHigh rows.now.n (bound_at upper.now)) high.now }
+    ensures extremes_n { result.extremes.n ≡ rows.now.n }
+    ensures falling_n { result.falling.n ≡ rows.now.n }
+    ensures extremes { result.extremes.list ≡ rows_at_least (bound_at upper.now) answer rows.now.list }
+    ensures falling { result.falling.list ≡ rows_above (bound_at upper.now) answer rows.now.list }
+{
+    for kept in high {
+        if kept.cut <= answer {
+            return kept.reach(upper, rows, answer);
         }
     }
+    reach(upper, rows, answer)
+}
+
+/// Whether the bound of one row of the set is above those of its other rows, where a row without a bound stands above all.
+pub(crate) fn one_highest_of(high: &[HighRows], upper: &[Option<i64>], rows: &RowSet) -> bool
+    requires within { rows.now.n ≤ length upper.now }
+    requires high { AllByRecursion (IsHigh rows.now.n (bound_at upper.now)) high.now }
+    ensures { IsTrue result ↔ HasOneHighest (bound_at upper.now) rows.now.list }
+{
+    for kept in high {
+        if let Some(one) = kept.one_highest(upper, rows) {
+            return one;
+        }
+    }
+    one_highest(upper, rows)
+}
+
+// Leaves the high rows of a cut above an answer none but these, the others than those of the answer's set.
+fn lower_one(high: &mut HighRows, others: &RowSet, answer: i64)
+    requires same_n { high.old.rows.n ≡ others.now.n }
+    ensures n { high.new.rows.n ≡ high.old.rows.n }
+    ensures high { (bound : ℕ → Option ℤ) (rows : List ℕ) → others.now.list ≡ complement others.now.n rows → AreLow bound answer rows → IsHigh others.now.n bound high.old → IsHigh others.now.n bound high.new }
+{
+    if high.cut > answer {
+        high.rows.and_with(others);
+    }
+}
+
+// Takes the rows of a new answer from the high rows of each higher cut: their bounds are below it.
+fn lower_high(high: &mut [HighRows], rows: &RowSet, answer: i64)
+    requires { AllByRecursion (λ h. h.rows.n ≡ rows.now.n) high.old }
+    ensures { (bound : ℕ → Option ℤ) → AreLow bound answer rows.now.list → AllByRecursion (IsHigh rows.now.n bound) high.old → AllByRecursion (IsHigh rows.now.n bound) high.new }
+{
+    let mut others = *rows;
+    others.flip();
+    for kept in high.iter_mut() {
+        lower_one(kept, &others, answer);
+    }
+}
+
+// Where a cut goes among the others, in descending order, unless it is one of them.
+fn place_of(high: &[HighRows], cut: i64) -> Option<usize>
+    ensures { IfSome result (λ place. place ≤ length high.now) }
+{
+    for (place, kept) in high.iter().enumerate() {
+        if kept.cut == cut {
+            return None;
+        }
+        if kept.cut < cut {
+            return Some(place);
+        }
+    }
+    Some(high.len())
+}
+
+// Keeps the high rows of one cut more. Without room or memory for it the others do.
+fn insert_high(high: &mut Vec<HighRows>, upper: &[Option<i64>], n: u16, cut: i64)
+    requires some { 0 < n }
+    requires at_most { n ≤ most_rows }
+    requires within { n ≤ length upper.now }
+    requires high { AllByRecursion (IsHigh n (bound_at upper.now)) high.old.items }
+    ensures { AllByRecursion (IsHigh n (bound_at upper.now)) high.new.items }
+{
+    if high.len() >= MOST_CUTS {
+        return;
+    }
+    if let Some(place) = place_of(high, cut) {
+        let rows = reach_high(high, upper, &all_rows(n), cut).extremes;
+        let _ = high.insert(place, HighRows { rows, cut });
+    }
+}
+
+/// Makes the high rows fit the bounds behind a new answer, and keeps those of the answer as a cut.
+pub(crate) fn renew_high(
+    high: &mut Vec<HighRows>,
+    upper: &[Option<i64>],
+    affected: &Affected,
+    rows: &RowSet,
+    answer: i64,
+)
+    requires within { rows.now.n ≤ length upper.now }
+    requires low { AreLow (bound_at upper.now) answer rows.now.list }
+    requires high { AllByRecursion (IsHigh rows.now.n (bound_at upper.now)) high.old.items }
+    ensures { AllByRecursion (IsHigh rows.now.n (bound_at upper.now)) high.new.items }
+{
+    if !affected.falling.is_empty() {
+        lower_high(high, rows, answer);
+    }
+    insert_high(high, upper, rows.n(), answer);
 }

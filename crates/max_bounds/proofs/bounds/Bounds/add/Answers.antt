@@ -10,10 +10,11 @@ use Rattle.audit_types.specs.Column.{Answer}
 use Rattle.audit_types.specs.Extremes.{upper_bound, extremes}
 use Rattle.max_bounds.specs.Maxima.{Maxima, answer_of, answers_of, and_answer}
 use Rattle.max_bounds.specs.Reaching.{bound_at}
-use Rattle.max_bounds.specs.Kept.{rows_at_least, fewest_of, AreLeast, IsHigh, TellsExtremes}
+use Rattle.max_bounds.specs.Kept.{is_at_least, rows_at_least, fewest_of, AreLeast, IsHigh, TellsExtremes}
 use Rattle.max_bounds.specs.AnswerLaws.{all-push}
 use Rattle.max_bounds.proofs.FallingCounts.{fewest_of-push}
-use Rattle.max_bounds.proofs.HighRows.{high_stays}
+use Rattle.max_bounds.proofs.HighRows.{all_stay, least_low}
+use Rattle.max_bounds.specs.OneMoreLaws.{bound_in_set}
 use Rattle.max_bounds.proofs.NextExtremes.{next_extremes, next_bounds, all_last}
 use Rattle.max_bounds.proofs.bounds.Bounds.add.Goals as goal
 
@@ -22,22 +23,38 @@ insert-requires-clause-own c =
     let answers = answers_of c.self.inside.pairs.items in
     let rows = c.args.rows.now.list in
     let x = to_z w64 (of_z w64 c.args.answer) in
-    let bounds : bound_at c.deref.result.now ≡ upper_bound answers = ap bound_at c.deref.ensures.value ∙ fun_ext c.self.invariant.bounds in
-    let before : answers ≡ answers_of c.deref-4.result.now = sym (ap answers_of (c.deref-4.ensures.value ∙ c.in_ok-reserve.ensures.items)) in
-    c.reach-affected.ensures.extremes ∙ ap (λ u. rows_at_least u x rows) bounds ∙ next_extremes answers rows x
+    let bounds : bound_at c.deref-2.result.now ≡ upper_bound answers = ap bound_at c.deref-2.ensures.value ∙ fun_ext c.self.invariant.bounds in
+    let before : answers ≡ answers_of c.deref-5.result.now = sym (ap answers_of (c.deref-5.ensures.value ∙ c.in_ok-reserve.ensures.items)) in
+    c.reach_high-affected.ensures.extremes ∙ ap (λ u. rows_at_least u x rows) bounds ∙ next_extremes answers rows x
     ∙ ap (λ a. extremes (and_answer a rows x) (record { rows = rows; value = x })) before
 
-pub next-self-inside-requires-clause-high : goal.next-self-inside-requires-clause-high
-next-self-inside-requires-clause-high c =
+pub renew_high-requires-clause-low : goal.renew_high-requires-clause-low
+renew_high-requires-clause-low c =
+    let answers = answers_of c.self.inside.pairs.items in
+    let rows = c.args.rows.now.list in
+    let x = to_z w64 (of_z w64 c.args.answer) in
+    let bounds : bound_at c.deref-2.result.now ≡ upper_bound answers = ap bound_at c.deref-2.ensures.value ∙ fun_ext c.self.invariant.bounds in
+    let upper_is : (with_items c.self.inside.upper c.settle.new.upper).items ≡ c.settle.new.upper = with_items_is c.self.inside.upper c.settle.new.upper (c.settle.auto.upper ∙ c.deref_mut-3.ensures.len) in
+    let reached : c.reach_high-affected.result.extremes.list ≡ rows_at_least (upper_bound answers) x rows = c.reach_high-affected.ensures.extremes ∙ ap (λ u. rows_at_least u x rows) bounds in
+    λ r cut there higher. ap (is_at_least cut) (ap (λ l. bound_at l r) (c.deref-6.ensures.value ∙ upper_is) ∙ c.settle.ensures.settled r
+    ∙ ap (λ l. cond (has_row l r) (Some x) (bound_at c.deref_mut-3.result.now r)) reached
+    ∙ ap (λ o. cond (has_row (rows_at_least (upper_bound answers) x rows) r) (Some x) o) (ap (λ l. bound_at l r) c.deref_mut-3.ensures.value ∙ c.self.invariant.bounds r)
+    ∙ next_bounds answers rows x r ∙ bound_in_set answers rows x r there)
+    ∙ least_low (upper_bound answers r) x cut higher
+
+pub renew_high-requires-clause-high : goal.renew_high-requires-clause-high
+renew_high-requires-clause-high c =
     let rows = c.args.rows.now.list in
     let x = to_z w64 (of_z w64 c.args.answer) in
     let upper = c.self.inside.upper.items in
+    let same_n : c.args.rows.now.n ≡ c.self.inside.n = c.requires.same_n ∙ sym (ap (λ (m : Maxima). m.n) c.self.view_is) in
     let upper_is : (with_items c.self.inside.upper c.settle.new.upper).items ≡ c.settle.new.upper = with_items_is c.self.inside.upper c.settle.new.upper (c.settle.auto.upper ∙ c.deref_mut-3.ensures.len) in
-    let reached : c.reach-affected.result.extremes.list ≡ rows_at_least (bound_at upper) x rows = c.reach-affected.ensures.extremes ∙ ap (λ l. rows_at_least (bound_at l) x rows) c.deref.ensures.value in
-    high_stays c.self.inside.n (bound_at upper) (bound_at c.deref-5.result.now) c.self.inside.high x rows c.self.invariant.high (λ r.
-    ap (λ l. bound_at l r) (c.deref-5.ensures.value ∙ upper_is) ∙ c.settle.ensures.settled r
+    let reached : c.reach_high-affected.result.extremes.list ≡ rows_at_least (bound_at upper) x rows = c.reach_high-affected.ensures.extremes ∙ ap (λ l. rows_at_least (bound_at l) x rows) c.deref-2.ensures.value in
+    subst (λ n. AllByRecursion (IsHigh n (bound_at c.deref-6.result.now)) c.self.inside.high.items) (sym same_n)
+    (all_stay c.self.inside.n (bound_at upper) (bound_at c.deref-6.result.now) x rows c.self.inside.high.items c.self.invariant.high (λ r.
+    ap (λ l. bound_at l r) (c.deref-6.ensures.value ∙ upper_is) ∙ c.settle.ensures.settled r
     ∙ ap (λ l. cond (has_row l r) (Some x) (bound_at c.deref_mut-3.result.now r)) reached
-    ∙ ap (λ l. cond (has_row (rows_at_least (bound_at upper) x rows) r) (Some x) (bound_at l r)) c.deref_mut-3.ensures.value)
+    ∙ ap (λ l. cond (has_row (rows_at_least (bound_at upper) x rows) r) (Some x) (bound_at l r)) c.deref_mut-3.ensures.value))
 
 pub invariant_of-self-2 : goal.invariant_of-self-2
 invariant_of-self-2 c =
@@ -49,11 +66,11 @@ invariant_of-self-2 c =
     let same_n : c.args.rows.now.n ≡ c.self.inside.n = c.requires.same_n ∙ sym (ap (λ (m : Maxima). m.n) c.self.view_is) in
     let pairs_are = c.push_reserved-2.ensures.items ∙ ap (λ l. l ++ record { rows = c.args.rows.now; answer = x } ∷ []) c.in_ok-reserve.ensures.items in
     let answers_are : answers_of c.push_reserved-2.new.self.items ≡ more = ap answers_of pairs_are ∙ map-append answer_of c.self.inside.pairs.items _ in
-    let bounds : bound_at c.deref.result.now ≡ upper_bound answers = ap bound_at c.deref.ensures.value ∙ fun_ext c.self.invariant.bounds in
-    let reached : c.reach-affected.result.extremes.list ≡ rows_at_least (upper_bound answers) x rows = c.reach-affected.ensures.extremes ∙ ap (λ u. rows_at_least u x rows) bounds in
-    let own : c.reach-affected.result.extremes.list ≡ extremes more last = reached ∙ next_extremes answers rows x in
+    let bounds : bound_at c.deref-2.result.now ≡ upper_bound answers = ap bound_at c.deref-2.ensures.value ∙ fun_ext c.self.invariant.bounds in
+    let reached : c.reach_high-affected.result.extremes.list ≡ rows_at_least (upper_bound answers) x rows = c.reach_high-affected.ensures.extremes ∙ ap (λ u. rows_at_least u x rows) bounds in
+    let own : c.reach_high-affected.result.extremes.list ≡ extremes more last = reached ∙ next_extremes answers rows x in
     let fallen : TellsExtremes (extremes more) answers c.fall-fewest.new.counts c.fall-fewest.result (answers_of c.fall-fewest.new.least) =
-    subst (λ l. TellsExtremes (extremes (and_answer (answers_of l) rows x)) (answers_of l) c.fall-fewest.new.counts c.fall-fewest.result (answers_of c.fall-fewest.new.least)) (c.deref-2.ensures.value ∙ c.in_ok-reserve.ensures.items) c.fall-fewest.ensures.tells in
+    subst (λ l. TellsExtremes (extremes (and_answer (answers_of l) rows x)) (answers_of l) c.fall-fewest.new.counts c.fall-fewest.result (answers_of c.fall-fewest.new.least)) (c.deref-3.ensures.value ∙ c.in_ok-reserve.ensures.items) c.fall-fewest.ensures.tells in
     let count : c.len-count.result ≡ length (extremes more last) = c.len-count.ensures ∙ ap length own in
     let counts_are : c.push_reserved.new.self.items ≡ c.fall-fewest.new.counts ++ c.len-count.result ∷ [] =
     c.push_reserved.ensures.items ∙ ap (λ l. l ++ c.len-count.result ∷ []) (with_items_is c.reserve-2.new.self c.fall-fewest.new.counts (c.fall-fewest.auto.counts ∙ c.deref_mut.ensures.len)) in
@@ -70,13 +87,13 @@ invariant_of-self-2 c =
           ∙ ap (λ o. cond (has_row (rows_at_least (upper_bound answers) x rows) r) (Some x) o) (ap (λ l. bound_at l r) c.deref_mut-3.ensures.value ∙ c.self.invariant.bounds r)
           ∙ next_bounds answers rows x r ∙ ap (λ l. upper_bound l r) (sym answers_are);
       same_n_least = subst (λ n. AllByRecursion (λ p. p.rows.n ≡ n) c.insert.new.least.items) same_n c.insert.ensures.same_n_least;
-      high = subst (λ l. IsHigh c.self.inside.n (bound_at l) c.next-self-inside.result) c.deref-5.ensures.value c.next-self-inside.ensures.high;
+      high = subst (λ l. AllByRecursion (IsHigh c.self.inside.n (bound_at l)) c.renew_high.new.high.items) c.deref-6.ensures.value (subst (λ n. AllByRecursion (IsHigh n (bound_at c.deref-6.result.now)) c.renew_high.new.high.items) same_n c.renew_high.ensures);
       tells = subst (λ l. TellsExtremes (extremes l) l c.push_reserved.new.self.items c.min-self-inside.result (answers_of c.insert.new.least.items)) (sym answers_are) (record {
         counted = counts_are ∙ ap (λ l. l ++ c.len-count.result ∷ []) fallen.counted ∙ ap (λ k. map (λ a. length (extremes more a)) answers ++ k ∷ []) count
             ∙ sym (map-append (λ a. length (extremes more a)) answers (last ∷ []));
         fewest_is = c.min-self-inside.ensures ∙ ap (λ f. min f c.len-count.result) fallen.fewest_is
             ∙ sym (ap fewest_of counts_are ∙ fewest_of-push c.fall-fewest.new.counts c.len-count.result small);
-        are_least = subst (λ l. AreLeast (extremes (and_answer (answers_of l) rows x)) (and_answer (answers_of l) rows x) (answers_of c.insert.new.least.items)) (c.deref-4.ensures.value ∙ c.in_ok-reserve.ensures.items) c.insert.ensures.tells;
+        are_least = subst (λ l. AreLeast (extremes (and_answer (answers_of l) rows x)) (and_answer (answers_of l) rows x) (answers_of c.insert.new.least.items)) (c.deref-5.ensures.value ∙ c.in_ok-reserve.ensures.items) c.insert.ensures.tells;
       });
     }
 

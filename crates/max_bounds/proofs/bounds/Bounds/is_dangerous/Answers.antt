@@ -29,32 +29,32 @@ pub strands-requires : goal.strands-requires
 strands-requires c =
     let same_n : c.self.inside.n ≡ c.args.rows.now.n = ap (λ (m : Maxima). m.n) c.self.view_is ∙ sym c.requires.same_n in
     record {
-      same_n = subst (AllByRecursion (λ p. p.rows.n ≡ c.args.rows.now.n)) (sym c.deref-else-one_highest.ensures.value)
+      same_n = subst (AllByRecursion (λ p. p.rows.n ≡ c.args.rows.now.n)) (sym c.deref-else-one_highest_of.ensures.value)
           (subst (λ n. AllByRecursion (λ p. p.rows.n ≡ n) c.self.inside.least.items) same_n c.self.invariant.same_n_least);
     }
 
-pub returns-then-one_highest : goal.returns-then-one_highest
-returns-then-one_highest c =
+pub returns-then-one_highest_of : goal.returns-then-one_highest_of
+returns-then-one_highest_of c =
     let kept = c.self.invariant in
     let answers = answers_of c.self.inside.pairs.items in
-    let bounds : bound_at c.deref.result.now ≡ upper_bound answers = ap bound_at c.deref.ensures.value ∙ fun_ext kept.bounds in
+    let bounds : bound_at c.deref-2.result.now ≡ upper_bound answers = ap bound_at c.deref-2.ensures.value ∙ fun_ext kept.bounds in
     let some : 0 < c.self.inside.fewest = omega arith in
-    subst (λ (m : Maxima). IsTrue c.one_highest.result ↔ IsDangerousByExtremes m.answers c.args.rows.now.list) c.self.view_is (
+    subst (λ (m : Maxima). IsTrue c.one_highest_of.result ↔ IsDangerousByExtremes m.answers c.args.rows.now.list) c.self.view_is (
       (λ yes. record {
         consistent = consistent answers c.self.inside.counts.items c.self.inside.fewest (answers_of c.self.inside.least.items) kept.tells some;
-        cause = inr (inl (subst (λ u. HasOneHighest u c.args.rows.now.list) bounds (c.one_highest.ensures.0 yes)));
+        cause = inr (inl (subst (λ u. HasOneHighest u c.args.rows.now.list) bounds (c.one_highest_of.ensures.0 yes)));
       }),
-      (λ danger. c.if-one_highest.true),
+      (λ danger. c.if-one_highest_of.true),
     )
 
-pub returns-else-one_highest : goal.returns-else-one_highest
-returns-else-one_highest c =
+pub returns-else-one_highest_of : goal.returns-else-one_highest_of
+returns-else-one_highest_of c =
     let kept = c.self.invariant in
     let answers = answers_of c.self.inside.pairs.items in
     let sets = answers_of c.self.inside.least.items in
     let rows = c.args.rows.now.list in
-    let bounds : bound_at c.deref.result.now ≡ upper_bound answers = ap bound_at c.deref.ensures.value ∙ fun_ext kept.bounds in
-    let least : answers_of c.deref-else-one_highest.result.now ≡ sets = ap answers_of c.deref-else-one_highest.ensures.value in
+    let bounds : bound_at c.deref-2.result.now ≡ upper_bound answers = ap bound_at c.deref-2.ensures.value ∙ fun_ext kept.bounds in
+    let least : answers_of c.deref-else-one_highest_of.result.now ≡ sets = ap answers_of c.deref-else-one_highest_of.ensures.value in
     let more : 1 < c.self.inside.fewest = omega arith in
     let some : 0 < c.self.inside.fewest = omega arith in
     subst (λ (m : Maxima). IsTrue c.strands.result ↔ IsDangerousByExtremes m.answers rows) c.self.view_is (
@@ -63,5 +63,5 @@ returns-else-one_highest c =
         cause = inr (inr (stranded_answer answers c.self.inside.counts.items c.self.inside.fewest sets kept.tells rows (subst (λ l. HasStranded (λ a. a.rows) l rows) least (c.strands.ensures.0 yes))));
       }),
       (λ danger. c.strands.ensures.1 (subst (λ l. HasStranded (λ a. a.rows) l rows) (sym least) (decides answers c.self.inside.counts.items c.self.inside.fewest sets kept.tells c.self.inside.n kept.are_rows rows more danger
-          (λ highest. true≢false (sym (c.one_highest.ensures.1 (subst (λ u. HasOneHighest u rows) (sym bounds) highest)) ∙ c.if-one_highest.false))))),
+          (λ highest. true≢false (sym (c.one_highest_of.ensures.1 (subst (λ u. HasOneHighest u rows) (sym bounds) highest)) ∙ c.if-one_highest_of.false))))),
     )

@@ -9,10 +9,10 @@ use Rattle.max_bounds.specs.Kept.{is_at_least}
 use Rattle.max_bounds.proofs.HighRows.{same_highest}
 use Rattle.max_bounds.proofs.high_rows.HighRows.one_highest.Goals as goal
 
-pub returns-then-has_at_least : goal.returns-then-has_at_least
-returns-then-has_at_least c =
+pub returns : goal.returns
+returns c =
     let bound = bound_at c.args.upper.now in
-    let found = c.has_at_least.ensures c.if-has_at_least.true in
+    let found = c.has_at_least.ensures c.if-not-has_at_least.false in
     let fits : SFits w64 c.args.self.now.cut = search rules in
     let reaches : is_at_least c.args.self.now.cut (bound found.0) ≡ true = ap (λ a. is_at_least a (bound found.0)) (sym (to_z-of_z w64 c.args.self.now.cut fits)) ∙ found.2 in
     let told : IsTrue c.one_highest.result ↔ HasOneHighest bound (intersection c.args.rows.now.n c.args.rows.now.list c.args.self.now.rows.list) =
