@@ -106,13 +106,22 @@ pub fn bound_of(head: i128, entries: &[FreeEntry]) -> u128
     greater(greatest(entries), head.unsigned_abs())
 }
 
+// A product of numbers of 64 bits, which takes one multiplication.
+fn short_product(x: i64, y: i64) -> i128
+    requires x { unsigned_abs x ≤ 2 ^ 56 }
+    requires y { unsigned_abs y ≤ 2 ^ 56 }
+    ensures { result ≡ x *ℤ y }
+{
+    x as i128 * y as i128
+}
+
 /// A product of numbers within the limit.
 pub fn product(x: i128, y: i128) -> i128
     requires x { unsigned_abs x ≤ 2 ^ 56 }
     requires y { unsigned_abs y ≤ 2 ^ 56 }
     ensures { result ≡ x *ℤ y }
 {
-    x * y
+    short_product(x as i64, y as i64)
 }
 
 /// Writes the list of the row, cleared at the new row's pivot, and answers its pivot entry.

@@ -28,7 +28,7 @@ fn difference(by: i128, x: i128, times: i128, y: i128) -> i128
     requires y { unsigned_abs y ≤ 2 ^ 56 }
     ensures { result ≡ by *ℤ x -ℤ times *ℤ y }
 {
-    by * x - times * y
+    product(by, x) - product(times, y)
 }
 
 /// Appends an entry, if it is not 0. There is room for it.

@@ -9,6 +9,7 @@ ghost use Rattle.sum_basis.specs.Elimination.{IsSmall, IsSmallForm, IsLessMultip
 ghost use Rattle.audit_types.specs.Form.{pivot, pivot_entry};
 ghost use Rattle.sum_basis.specs.Sparse.{entry_at, row_of, IsListed, entries_of, rows_of, IsKept};
 
+use crate::cleared_list::product;
 use crate::merging::put;
 use audit_types::NoMemory;
 use int_rows::quotient;
@@ -55,7 +56,7 @@ fn less(x: i128, times: i128, y: i128) -> i128
     requires y { unsigned_abs y ≤ 2 ^ 56 }
     ensures { result ≡ x -ℤ times *ℤ y }
 {
-    x - times * y
+    x - product(times, y)
 }
 
 /// Takes a multiple of the listed entries from the row.
