@@ -27,6 +27,7 @@ use Rattle.line_wire.specs.declared.request.Request.{Request}
 use Rattle.line_wire.specs.declared.request.Request.TheVariants as request
 use Rattle.question_plan.specs.declared.planning.Plan.{Plan}
 use Rattle.question_plan.specs.declared.planning.Plan.TheVariants.{Ready, Ask}
+use Rattle.question_plan.proofs.OnePlan.{never_asks}
 use Rattle.question_plan.specs.Session.{Replied, records_of, AreReplies}
 use Rattle.question_plan.specs.Replies.{IsDue, IsPlan, IsReplyOf, plan_of, question_over}
 
@@ -86,7 +87,7 @@ module _ (grows : LegalGrows) (places : PlacesAreColumns) (base : Database) (is_
   -- a question that a line comes to fits the shape
   plan_fits : (line : CountedLine) (take : Take) (asked : Asked) → IsPlan base.columns base.public line (Ask take asked) → FitsShape base.secret.shape asked.column asked.rows
   plan_fits long take asked is = absurd (cc)
-  plan_fits (text line) take asked (inl refused) = absurd (let e = refused.plan_is in cc)
+  plan_fits (text line) take asked (inl refused) = never_asks refused.fault take asked refused.told
   plan_fits (text line) take asked (inr requested) =
       request_fits requested.request take asked (taken_below requested.requests.question requested.requests.tree requested.request requested.requests.is) (sym requested.plan_is)
 

@@ -16,7 +16,6 @@ use Rattle.line_wire.specs.declared.request.Request.{Request}
 use Rattle.line_wire.specs.declared.request.Request.TheVariants as request
 use Rattle.line_wire.specs.declared.request.LineFault.{LineFault}
 use Rattle.line_wire.specs.declared.request.LineFault.TheVariants as fault
-use Rattle.line_wire.specs.declared.reply.Reply.{Reply}
 use Rattle.line_wire.specs.declared.reply.Reply.TheVariants as reply
 use Rattle.question_plan.specs.declared.planning.Plan.{Plan}
 use Rattle.question_plan.specs.declared.planning.Plan.TheVariants.{Ready, Ask}
@@ -37,9 +36,17 @@ request_some public (request.Sum c p) take asked is = question_some Sum take c p
 request_some public (request.Avg c p) take asked is = question_some Avg take c public.rows (meaning public (tree_of p)) asked is
 request_some public (request.Max c p) take asked is = question_some Max take c public.rows (meaning public (tree_of p)) asked is
 
+-- a refusal asks nothing
+pub never_asks : {X : Type 0} (f : LineFault) (take : Take) (asked : Asked) → refusal f ≡ Some (Ask take asked) → X
+never_asks fault.Line take asked is = absurd cc
+never_asks fault.Column take asked is = absurd cc
+never_asks fault.Kind take asked is = absurd cc
+never_asks (fault.Condition at) take asked is = absurd cc
+never_asks fault.NoMemory take asked is = absurd cc
+
 pub asked_some : (columns : List Column) (public : PublicView) (line : CountedLine) (take : Take) (asked : Asked) → IsPlan columns public line (Ask take asked) → 0 < length asked.rows.list
 asked_some columns public long take asked is = absurd (cc)
-asked_some columns public (text line) take asked (inl refused) = absurd (let e = refused.plan_is in cc)
+asked_some columns public (text line) take asked (inl refused) = never_asks refused.fault take asked refused.told
 asked_some columns public (text line) take asked (inr requested) = request_some public requested.request take asked (sym requested.plan_is)
 
 -- ---- requests that one question means
@@ -95,7 +102,7 @@ module _ (columns : List Column) (o : Option Written) where
       omega (arith, first.place.least other place.refuses, place.least at first.place.refuses)
 
   -- a question has one first fault
-  same_fault : (f g : LineFault) (a b : Reply) → Refuses columns o f → Refuses columns o g → refusal f ≡ Some a → refusal g ≡ Some b → f ≡ g
+  same_fault : (f g : LineFault) (a b : Plan) → Refuses columns o f → Refuses columns o g → refusal f ≡ Some a → refusal g ≡ Some b → f ≡ g
   same_fault fault.NoMemory g a b first second a_is b_is = absurd cc
   same_fault f fault.NoMemory a b first second a_is b_is = absurd cc
   same_fault fault.Line fault.Line a b first second a_is b_is = refl
@@ -115,11 +122,11 @@ module _ (columns : List Column) (o : Option Written) where
   same_fault (fault.Condition m) fault.Kind a b first second a_is b_is = absurd (good_column fault.Kind first.question second first.writes first.good)
   same_fault (fault.Condition m) (fault.Condition n) a b first second a_is b_is = ap (λ (at : ℕ). fault.Condition at) (condition_twice m n first second)
 
-  one_fault : (f g : LineFault) (a b : Reply) → Refuses columns o f → Refuses columns o g → refusal f ≡ Some a → refusal g ≡ Some b → a ≡ b
+  one_fault : (f g : LineFault) (a b : Plan) → Refuses columns o f → Refuses columns o g → refusal f ≡ Some a → refusal g ≡ Some b → a ≡ b
   one_fault f g a b first second a_is b_is = let both : Some a ≡ Some b = sym a_is ∙ ap refusal (same_fault f g a b first second a_is b_is) ∙ b_is in cc
 
   -- and none where it is asked
-  asked_or_refused : OneMeaning → (f : LineFault) (a : Reply) (r : Request) → Refuses columns o f → refusal f ≡ Some a → Requests columns o r → ⊥
+  asked_or_refused : OneMeaning → (f : LineFault) (a : Plan) (r : Request) → Refuses columns o f → refusal f ≡ Some a → Requests columns o r → ⊥
   asked_or_refused meanings fault.Line a r refuses is asks = no_question o asks.question refuses asks.writes
   asked_or_refused meanings fault.Column a r refuses is asks = good_column fault.Column asks.question refuses asks.writes asks.good
   asked_or_refused meanings fault.Kind a r refuses is asks = good_column fault.Kind asks.question refuses asks.writes asks.good
@@ -140,8 +147,7 @@ module _ (meanings : OneMeaning) (columns : List Column) (public : PublicView) w
 
   pub one_plan : (line : CountedLine) (p q : Plan) → IsPlan columns public line p → IsPlan columns public line q → p ≡ q
   one_plan long p q first second = first ∙ sym second
-  one_plan (text line) p q (inl first) (inl second) =
-      first.plan_is ∙ ap (λ (r : Reply). Ready r) (one_fault columns (question_of line) first.fault second.fault first.answer second.answer first.refuses second.refuses first.told second.told) ∙ sym second.plan_is
-  one_plan (text line) p q (inl first) (inr second) = absurd (asked_or_refused columns (question_of line) meanings first.fault first.answer second.request first.refuses first.told second.requests)
-  one_plan (text line) p q (inr first) (inl second) = absurd (asked_or_refused columns (question_of line) meanings second.fault second.answer first.request second.refuses second.told first.requests)
+  one_plan (text line) p q (inl first) (inl second) = one_fault columns (question_of line) first.fault second.fault p q first.refuses second.refuses first.told second.told
+  one_plan (text line) p q (inl first) (inr second) = absurd (asked_or_refused columns (question_of line) meanings first.fault p second.request first.refuses first.told second.requests)
+  one_plan (text line) p q (inr first) (inl second) = absurd (asked_or_refused columns (question_of line) meanings second.fault q first.request second.refuses second.told first.requests)
   one_plan (text line) p q (inr first) (inr second) = first.plan_is ∙ one_request (question_of line) first.request second.request first.requests second.requests ∙ sym second.plan_is

@@ -32,12 +32,12 @@ use Rattle.question_plan.specs.Session.{Replied}
 
 -- ---- what a line comes to before any history is known
 
--- the reply that tells why a line is refused
-abbrev pub refusal : LineFault → Option Reply
-refusal fault.Line = Some reply.Line
-refusal fault.Column = Some reply.Column
-refusal fault.Kind = Some reply.Kind
-refusal (fault.Condition at) = Some (reply.Condition at)
+-- what a line comes to that is refused: the reply that tells why
+abbrev pub refusal : LineFault → Option Plan
+refusal fault.Line = Some (Ready reply.Line)
+refusal fault.Column = Some (Ready reply.Column)
+refusal fault.Kind = Some (Ready reply.Kind)
+refusal (fault.Condition at) = Some (Ready (reply.Condition at))
 refusal fault.NoMemory = None
 
 -- what a question of a secret column comes to, over these rows of n: where there is none, it is refused
@@ -56,9 +56,7 @@ plan_of public (request.Max column p) = question_over Max column public.rows (me
 pub record IsRefused (columns : List Column) (line : List ℕ) (plan : Plan) : Type 0 where
   pub fault : LineFault
   pub refuses : Refuses columns (question_of line) fault
-  pub answer : Reply
-  pub told : refusal fault ≡ Some answer
-  pub plan_is : plan ≡ Ready answer
+  pub told : refusal fault ≡ Some plan
 
 -- a line that is a request comes to what the request does
 pub record IsRequested (columns : List Column) (public : PublicView) (line : List ℕ) (plan : Plan) : Type 0 where

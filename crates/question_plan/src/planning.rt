@@ -61,7 +61,7 @@ fn plan_request(index: &Index, request: Request) -> Plan
 // The reply that tells why a line is refused.
 fn refused(fault: LineFault) -> Result<Reply, NoMemory>
     requires { IsWithin 8192 fault }
-    ensures { IfOk result (λ reply. (refusal fault ≡ Some reply) × IsInRange reply) }
+    ensures { IfOk result (λ reply. (refusal fault ≡ Some (Plan.Ready reply)) × IsInRange reply) }
 {
     match fault {
         LineFault::Line => Ok(Reply::Line),
