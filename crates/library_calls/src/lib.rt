@@ -13,10 +13,4 @@ mod definitions;
 #[cfg(test)]
 mod devices;
 #[cfg(test)]
-mod drills;
-#[cfg(test)]
-mod journals;
-#[cfg(test)]
-mod publics;
-#[cfg(test)]
 mod sets;

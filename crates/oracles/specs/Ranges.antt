@@ -1,11 +1,12 @@
 -- What a small input is: numbers and sets that the plain programs can be run on.
-use Rattle.std.specs.Prelude.{◌≡◌, ℕ, ◌<◌, ◌≤◌, ◌^◌, ℤ, List, unsigned_abs}
+use Rattle.std.specs.Prelude.{◌≡◌, ℕ, ◌<◌, ◌≤◌, ℤ, List, unsigned_abs}
 use Rattle.std.specs.List.{AllByRecursion}
+use Rattle.audit_types.specs.Limits.{most_number}
 use Rattle.audit_types.specs.declared.records.Answered.{Answered}
 
--- numbers of a size of at most 10 ^ 12, as a table may have
+-- numbers of a size that a table may have
 abbrev pub AreInRange : List ℤ → Type 0
-AreInRange numbers = AllByRecursion (λ x. unsigned_abs x ≤ 10 ^ 12) numbers
+AreInRange numbers = AllByRecursion (λ x. unsigned_abs x ≤ most_number) numbers
 
 -- records over tables of n rows
 abbrev pub AreOver : ℕ → List Answered → Type 0

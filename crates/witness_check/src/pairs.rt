@@ -29,11 +29,11 @@ fn greatest(numbers: &[i128], rows: &RowSet) -> Option<i128>
     greatest
 }
 
-fn is_answer(numbers: &[i128], record: &Answered) -> bool
-    requires within { record.now.rows.n ≤ length numbers.now }
-    ensures exact { IsTrue result ↔ IsAnswerOf numbers.now (answer_in record.now) }
+fn is_answer(numbers: &[i128], answered: &Answered) -> bool
+    requires within { answered.now.rows.n ≤ length numbers.now }
+    ensures exact { IsTrue result ↔ IsAnswerOf numbers.now (answer_in answered.now) }
 {
-    greatest(numbers, &record.rows) == Some(record.answer as i128)
+    greatest(numbers, &answered.rows) == Some(answered.answer as i128)
 }
 
 // Whether the numbers give each answer of the column.
@@ -41,8 +41,8 @@ fn gives_answers(column: u8, list: &[Answered], numbers: &[i128]) -> bool
     requires within { AllByRecursion (λ r. r.rows.n ≤ length numbers.now) list.now }
     ensures exact { IsTrue result ↔ AllByRecursion (IsAnswerOf numbers.now) (answers_of column list.now) }
 {
-    for record in list {
-        if record.column == column && !is_answer(numbers, record) {
+    for answered in list {
+        if answered.column == column && !is_answer(numbers, answered) {
             return false;
         }
     }

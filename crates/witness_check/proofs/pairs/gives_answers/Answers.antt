@@ -9,7 +9,7 @@ returns-then-not-is_answer c = record {
   exact = (
     (λ yes. absurd (true≢false (sym yes))),
     (λ all. absurd (true≢false (sym (c.is_answer.ensures.exact.1
-        (holds_at (IsAnswerOf c.args.numbers.now) c.args.column c.args.list.now c.loop-record.record-index c.record-item.result c.loop-record-test.true c.record-item.is c.if-record-column.true all))
+        (holds_at (IsAnswerOf c.args.numbers.now) c.args.column c.args.list.now c.loop-answered.answered-index c.answered-item.result c.loop-answered-test.true c.answered-item.is c.if-answered-column.true all))
         ∙ c.if-not-is_answer.true))),
   );
 }
