@@ -6,7 +6,7 @@ use crate::counting::{count_error, read_on};
 use bench_core::{Bench, Failed};
 use std::fs::{File, Files, OpenFile, OpenOptions};
 use std::io::{ErrorKind, Read, Seek, SeekFrom, Write};
-use std::os::unix::fs::OpenOptionsExt;
+use std::os::unix::fs::{FileExt, OpenOptionsExt};
 use std::{fs, io};
 
 /// A file that one program at a time can have for itself.
@@ -100,11 +100,6 @@ fn read_whole<F: Read + Seek>(file: &mut F, at: u64, buf: &mut [u8]) -> io::Resu
     Ok(count)
 }
 
-fn write_whole<F: Write + Seek>(file: &mut F, at: u64, piece: &[u8]) -> io::Result<()> {
-    file.seek(SeekFrom::Start(at))?;
-    file.write_all(piece)
-}
-
 // Where a write takes nothing, `write_all` answers an error.
 fn write_out<R: Print>(rt: &R, piece: &[u8]) -> io::Result<()> {
     let mut out = io::writer(rt);
@@ -114,7 +109,7 @@ fn write_out<R: Print>(rt: &R, piece: &[u8]) -> io::Result<()> {
 
 impl<R: Files + Print> Bench for FileBench<'_, R>
 where
-    R::File: TryLock,
+    R::File: TryLock + FileExt,
 {
     ghost told = { ⊥ };
 
@@ -148,7 +143,8 @@ where
 
     fn write_at(&mut self, at: u64, piece: &[u8]) -> Result<(), Failed> {
         let done = match opened(self.rt, self.path, &mut self.file) {
-            Ok(file) => write_whole(file, at, piece),
+            // One call of the system, where a seek and a write are two.
+            Ok(file) => file.write_all_at(piece, at),
             Err(error) => Err(error),
         };
         count_error(done, &mut self.faults)

@@ -50,11 +50,15 @@ outside_is n set rows are = ascending_same 0 n n (intersection n rows (complemen
           ∙ sym (none_above 0 n (outside set rows) (filter-ascends 0 n (λ q. not (has_row set q)) rows are) r above)
     ])
 
+-- so what a set has in common with the others is what is left of it
+pub left_is : (n m : ℕ) (rows set others after : List ℕ) → n ≡ m → AreRows n set → others ≡ complement m rows → after ≡ intersection n set others → after ≡ outside rows set
+left_is n m rows set others after same are flipped both = both ∙ ap (intersection n set) (flipped ∙ ap (λ k. complement k rows) (sym same)) ∙ outside_is n rows set are
+
 -- a set with a higher answer loses them
 pub lowered : (n m : ℕ) (answer value : ℤ) (rows set others after : List ℕ) → n ≡ m → AreRows n set → others ≡ complement m rows → after ≡ intersection n set others → int_lt answer value ≡ true →
     record { rows = after; value = value } ≡ lowered_set answer rows (record { rows = set; value = value })
 lowered n m answer value rows set others after same are flipped both higher =
-    let left : after ≡ outside rows set = both ∙ ap (intersection n set) (flipped ∙ ap (λ k. complement k rows) (sym same)) ∙ outside_is n rows set are in
+    let left = left_is n m rows set others after same are flipped both in
     ap (λ l. record { rows = l; value = value }) left ∙ ap (λ b. cond b (record { rows = outside rows set; value = value }) (record { rows = set; value = value })) (sym higher)
 
 -- and no other

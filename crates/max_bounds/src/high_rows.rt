@@ -76,7 +76,7 @@ impl HighRows {
         let _ = rows.n();
         let mut high = *rows;
         high.and_with(&self.rows);
-        if !has_at_least(upper, &high, self.cut) {
+        if high.is_empty() || !has_at_least(upper, &high, self.cut) {
             return None;
         }
         Some(one_highest(upper, &high))

@@ -1,5 +1,6 @@
 //! Sets of extreme rows that a question's set holds but for one row.
-ghost use Rattle.std.specs.Prelude.{◌≡◌, ◌↔◌, ℤ, IsTrue, []};
+ghost use Rattle.std.specs.Prelude.{◌≡◌, ◌↔◌, ℕ, ℤ, List, IsTrue, []};
+ghost use Rattle.audit_types.specs.Rows.{complement};
 ghost use Rattle.std.specs.List.{AllByRecursion};
 ghost use Rattle.max_bounds.specs.Maxima.{answer_of, answers_of};
 ghost use Rattle.max_bounds.specs.Outside.{outside, HasStranded, IsWithin, HasWithin};
@@ -16,22 +17,23 @@ pub(crate) enum Left {
     More,
 }
 
-fn left_outside(extremes: &RowSet, rows: &RowSet) -> Left
-    requires same_n { extremes.now.n ≡ rows.now.n }
-    ensures { IsLeft (outside rows.now.list extremes.now.list) result }
+// How many rows of a set are left outside another, told from the rows that are not in that.
+fn left_outside(extremes: &RowSet, others: &RowSet) -> Left
+    requires same_n { extremes.now.n ≡ others.now.n }
+    ensures { (rows : List ℕ) → others.now.list ≡ complement others.now.n rows → IsLeft (outside rows extremes.now.list) result }
 {
     // A set says of its n that no row is past it.
     let _ = extremes.n();
-    let mut one = false;
-    for row in extremes.iter() {
-        if !rows.has(row) {
-            if one {
-                return Left::More;
-            }
-            one = true;
-        }
+    let mut left = *extremes;
+    left.and_with(others);
+    let mut rows = left.iter();
+    match rows.next() {
+        None => Left::Nothing,
+        Some(_) => match rows.next() {
+            None => Left::One,
+            Some(_) => Left::More,
+        },
     }
-    if one { Left::One } else { Left::Nothing }
 }
 
 // The greatest answer of a set of which at most one row is left, and whether a set of this answer is held whole.
@@ -58,10 +60,12 @@ pub(crate) fn strands(least: &[AnsweredMax], rows: &RowSet) -> bool
     requires same_n { AllByRecursion (λ p. p.rows.n ≡ rows.now.n) least.now }
     ensures { IsTrue result ↔ HasStranded (λ a. a.rows) (answers_of least.now) rows.now.list }
 {
+    let mut others = *rows;
+    others.flip();
     let mut lost = Lost::Neither;
     for set in least {
         if matters(lost, set.answer) {
-            match left_outside(&set.rows, rows) {
+            match left_outside(&set.rows, &others) {
                 Left::Nothing => lost = Lost::Whole(set.answer),
                 Left::One => lost = Lost::AllButOne(set.answer),
                 Left::More => {}
@@ -71,15 +75,15 @@ pub(crate) fn strands(least: &[AnsweredMax], rows: &RowSet) -> bool
     matches!(lost, Lost::AllButOne(_))
 }
 
-// Whether a set has this answer and lies in the question's.
-fn is_within(set: &AnsweredMax, rows: &RowSet, answer: i64) -> bool
-    requires same_n { set.now.rows.n ≡ rows.now.n }
-    ensures { IsTrue result ↔ IsWithin rows.now.list answer (answer_of set.now) }
+// Whether a set has this answer and lies in the question's, told from the rows that are not in that.
+fn is_within(set: &AnsweredMax, others: &RowSet, answer: i64) -> bool
+    requires same_n { set.now.rows.n ≡ others.now.n }
+    ensures { (rows : List ℕ) → others.now.list ≡ complement others.now.n rows → IsTrue result ↔ IsWithin rows answer (answer_of set.now) }
 {
     if set.answer != answer {
         return false;
     }
-    matches!(left_outside(&set.rows, rows), Left::Nothing)
+    matches!(left_outside(&set.rows, others), Left::Nothing)
 }
 
 /// Whether some set with this answer lies in the question's.
@@ -87,8 +91,10 @@ pub(crate) fn has_within(least: &[AnsweredMax], rows: &RowSet, answer: i64) -> b
     requires same_n { AllByRecursion (λ p. p.rows.n ≡ rows.now.n) least.now }
     ensures { IsTrue result ↔ HasWithin (answers_of least.now) rows.now.list answer }
 {
+    let mut others = *rows;
+    others.flip();
     for set in least {
-        if is_within(set, rows, answer) {
+        if is_within(set, &others, answer) {
             return true;
         }
     }

@@ -1,6 +1,7 @@
 //! The public part of a table, asked for the rows that satisfy a condition.
 ghost use Rattle.std.specs.Prelude.{◌≡◌, ◌<◌, ◌≤◌, ℕ, true, map, None, IfOk};
 ghost use Rattle.std.specs.List.Sorted.{IsSorted};
+ghost use Rattle.std.specs.Ordering.{nat_cmp};
 ghost use Rattle.predicate_lang.specs.Trees.{tree_of};
 ghost use Rattle.table_load.specs.Cells.{cells_at, numbers, texts};
 ghost use Rattle.audit_types.specs.Limits.{most_rows};
@@ -39,7 +40,8 @@ impl Model for Index {
 
 // The rows in ascending order of number.
 fn all_rows(alloc: Global, rows: u16) -> Result<Vec<u16>, NoMemory>
-    ensures { IfOk result (λ list. list.items ≡ rows_that (λ r. true) rows) }
+    ensures all { IfOk result (λ list. list.items ≡ rows_that (λ r. true) rows) }
+    ensures ascending { IfOk result (λ list. IsSorted nat_cmp list.items) }
 {
     let mut list = Vec::new(alloc);
     for row in 0..rows {
@@ -58,12 +60,12 @@ fn sorted(alloc: Global, rows: u16, column: &Column) -> Result<Option<Sorted>, N
         Column::Hidden => Ok(None),
         Column::Numbers(list) => {
             let mut order = all_rows(alloc, rows)?;
-            sort_by_number(order.as_mut_slice(), list.as_slice());
+            sort_by_number(alloc, order.as_mut_slice(), list.as_slice())?;
             Ok(Some(Sorted::new(alloc, rows, order)?))
         }
         Column::Texts(list) => {
             let mut order = all_rows(alloc, rows)?;
-            sort_by_text(order.as_mut_slice(), list.as_slice());
+            sort_by_text(alloc, order.as_mut_slice(), list.as_slice())?;
             Ok(Some(Sorted::new(alloc, rows, order)?))
         }
     }

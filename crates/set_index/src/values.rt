@@ -1,11 +1,13 @@
 //! Rows by the values of a column: sorted, and searched for a value.
-ghost use Rattle.std.specs.Prelude.{◌≡◌, ◌≤◌, pos, true, false, [], length, map, slice_index_or};
+ghost use Rattle.std.specs.Prelude.{◌≡◌, ◌≤◌, pos, true, false, [], length, map, slice_index_or, OnOk};
 ghost use Rattle.std.specs.Cmp.Lexicographic.{slice_cmp};
 ghost use Rattle.std.specs.List.Sorted.{IsPermutation, IsPartitionPoint, IsSorted};
 ghost use Rattle.std.specs.Ordering.{int_cmp, is_le, is_lt, nat_cmp};
 ghost use Rattle.table_load.specs.Cells.{numbers, texts};
-ghost use Rattle.set_index.specs.Ordered.{compare_rows};
+ghost use Rattle.set_index.specs.Ordered.{compare_cells, compare_rows};
 
+use audit_types::NoMemory;
+use std::alloc::Global;
 use std::cmp::Ordering;
 
 /// The number of a row, 0 where there is none.
@@ -26,35 +28,39 @@ fn text_at(list: &[Vec<u8>], row: u16) -> &[u8]
 }
 
 fn compare_by_number(list: &[i64], row: u16, other: u16) -> Ordering
-    ensures { result ≡ compare_rows (numbers list.now) row other }
+    ensures { result ≡ compare_cells (numbers list.now) row other }
 {
-    number_at(list, row)
-        .cmp(&number_at(list, other))
-        .then(row.cmp(&other))
+    number_at(list, row).cmp(&number_at(list, other))
 }
 
 fn compare_by_text(list: &[Vec<u8>], row: u16, other: u16) -> Ordering
-    ensures { result ≡ compare_rows (texts (map (λ t. t.items) list.now)) row other }
+    ensures { result ≡ compare_cells (texts (map (λ t. t.items) list.now)) row other }
 {
-    text_at(list, row)
-        .cmp(text_at(list, other))
-        .then(row.cmp(&other))
+    text_at(list, row).cmp(text_at(list, other))
 }
 
-/// Sorts rows by number, and rows of equal numbers by row.
-pub(crate) fn sort_by_number(rows: &mut [u16], list: &[i64])
+/// Sorts ascending rows by number. Rows of equal numbers stay in their order, so a column of few numbers is sorted in few steps.
+pub(crate) fn sort_by_number(alloc: Global, rows: &mut [u16], list: &[i64]) -> Result<(), NoMemory>
+    requires by_row { IsSorted nat_cmp rows.old }
     ensures permutation { IsPermutation rows.old rows.new }
-    ensures ascending { IsSorted (compare_rows (numbers list.now)) rows.new }
+    ensures ascending { OnOk result (IsSorted (compare_rows (numbers list.now)) rows.new) }
 {
-    rows.sort_unstable_by(|row, other| compare_by_number(list, *row, *other));
+    rows.sort_by(alloc, |row, other| compare_by_number(list, *row, *other))?;
+    Ok(())
 }
 
-/// Sorts rows by the bytes of their texts, and rows of equal texts by row.
-pub(crate) fn sort_by_text(rows: &mut [u16], list: &[Vec<u8>])
+/// Sorts ascending rows by the bytes of their texts. Rows of equal texts stay in their order.
+pub(crate) fn sort_by_text(
+    alloc: Global,
+    rows: &mut [u16],
+    list: &[Vec<u8>],
+) -> Result<(), NoMemory>
+    requires by_row { IsSorted nat_cmp rows.old }
     ensures permutation { IsPermutation rows.old rows.new }
-    ensures ascending { IsSorted (compare_rows (texts (map (λ t. t.items) list.now))) rows.new }
+    ensures ascending { OnOk result (IsSorted (compare_rows (texts (map (λ t. t.items) list.now))) rows.new) }
 {
-    rows.sort_unstable_by(|row, other| compare_by_text(list, *row, *other));
+    rows.sort_by(alloc, |row, other| compare_by_text(list, *row, *other))?;
+    Ok(())
 }
 
 /// How many rows have smaller numbers.

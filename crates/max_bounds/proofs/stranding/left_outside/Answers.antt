@@ -1,29 +1,22 @@
-use Rattle.std.proofs.Common.{◌≡◌, ◌+◌, ◌≤◌, ◌++◌, ◌∷◌, [], arith, ap, sym, ◌∙◌, cond, not, length}
-use Rattle.audit_types.specs.RowLaws.{walk_row, walk_more}
+use Rattle.std.proofs.Common.{◌≡◌, ℕ, List, ◌∷◌, [], arith, ap, sym, ◌∙◌, length}
+use Rattle.audit_types.specs.Rows.{complement}
 use Rattle.max_bounds.specs.Outside.{outside}
-use Rattle.max_bounds.proofs.Walks.{counted-push, no_more, walk_ends, empty}
+use Rattle.max_bounds.proofs.LoweredSets.{left_is}
 use Rattle.max_bounds.proofs.stranding.left_outside.Goals as goal
 
-pub has-requires : goal.has-requires
-has-requires c =
-    let below = walk_row c.args.extremes.now.n c.loop-row.yielded c.loop-row.row-iterator c.next.new.self c.args.extremes.now.list c.in-Some.row
-    c.n.ensures.are_rows c.loop-row.invariant.together c.in-Some.ensures.steps in
-    omega (arith, c.requires)
+pub returns-in-None : goal.returns-in-None
+returns-in-None c = λ rows flipped.
+    let left = left_is c.args.extremes.now.n c.args.others.now.n rows c.args.extremes.now.list c.args.others.now.list c.and_with.new.self.list c.requires.same_n c.n.ensures.are_rows flipped c.and_with.ensures.both in
+    sym left ∙ sym c.iter-rows.ensures ∙ c.in-None.ensures.steps.0
 
-pub returns-then-one : goal.returns-then-one
-returns-then-one c =
-    let more = walk_more c.loop-row.yielded c.loop-row.row-iterator c.next.new.self c.args.extremes.now.list c.in-Some.row c.loop-row.invariant.together c.in-Some.ensures.steps in
-    let one = c.loop-row.invariant.counted ∙ ap (λ b. cond b 1 0) c.if-one.true in
-    let two : 1 + 1 ≡ length (outside c.args.rows.now.list (c.loop-row.yielded ++ c.in-Some.row ∷ [])) = counted-push _ c.loop-row.yielded c.in-Some.row 1 (sym one) (ap not (sym c.has.ensures ∙ c.if-not-has.true)) in
-    let most : length (outside c.args.rows.now.list (c.loop-row.yielded ++ c.in-Some.row ∷ [])) ≤ length (outside c.args.rows.now.list c.args.extremes.now.list) = no_more _ _ c.next.new.self c.args.extremes.now.list more in
+pub returns-in-None-next : goal.returns-in-None-next
+returns-in-None-next c = λ rows flipped.
+    let left = left_is c.args.extremes.now.n c.args.others.now.n rows c.args.extremes.now.list c.args.others.now.list c.and_with.new.self.list c.requires.same_n c.n.ensures.are_rows flipped c.and_with.ensures.both in
+    ap length (sym left ∙ sym c.iter-rows.ensures ∙ c.in-Some.ensures.steps ∙ ap (λ l. c.in-Some.field-0 ∷ l) c.in-None-next.ensures.steps.0)
+
+pub returns-in-Some-next : goal.returns-in-Some-next
+returns-in-Some-next c = λ rows flipped.
+    let left = left_is c.args.extremes.now.n c.args.others.now.n rows c.args.extremes.now.list c.args.others.now.list c.and_with.new.self.list c.requires.same_n c.n.ensures.are_rows flipped c.and_with.ensures.both in
+    let is : length (outside rows c.args.extremes.now.list) ≡ length (c.in-Some.field-0 ∷ c.in-Some-next.field-0 ∷ c.next-in-Some.new.self) =
+    ap length (sym left ∙ sym c.iter-rows.ensures ∙ c.in-Some.ensures.steps ∙ ap (λ l. c.in-Some.field-0 ∷ l) c.in-Some-next.ensures.steps) in
     omega arith
-
-pub returns-then-one-2 : goal.returns-then-one-2
-returns-then-one-2 c =
-    let all = walk_ends c.loop-row.yielded c.loop-row.row-iterator c.args.extremes.now.list c.loop-row.invariant.together c.in-None.ensures.steps.0 in
-    ap (λ l. length (outside c.args.rows.now.list l)) (sym all) ∙ c.loop-row.invariant.counted ∙ ap (λ b. cond b 1 0) c.if-one-2.true
-
-pub returns-else-one-2 : goal.returns-else-one-2
-returns-else-one-2 c =
-    let all = walk_ends c.loop-row.yielded c.loop-row.row-iterator c.args.extremes.now.list c.loop-row.invariant.together c.in-None.ensures.steps.0 in
-    empty (outside c.args.rows.now.list c.args.extremes.now.list) (ap (λ l. length (outside c.args.rows.now.list l)) (sym all) ∙ c.loop-row.invariant.counted ∙ ap (λ b. cond b 1 0) c.if-one-2.false)
