@@ -1,10 +1,10 @@
 -- What the bounds of two rows tell of the one, cleared at the other's pivot.
-use Rattle.std.proofs.Common.{◌≡◌, ◌≢◌, ◌↔◌, ℕ, ◌+◌, ◌*◌, ◌<◌, ◌≤◌, ℤ, pos, List, [], ◌∷◌, map, get_or, sym, ap, ◌∙◌, arith, inl, inr}
+use Rattle.std.proofs.Common.{◌≡◌, ◌≢◌, ◌↔◌, ℕ, ◌+◌, ◌*◌, ◌<◌, ◌≤◌, ◌^◌, Bool, ℤ, pos, List, [], ◌∷◌, length, map, get_or, refl, sym, ap, ◌∙◌, arith, inl, inr, IsTrue}
 use Rattle.std.specs.Prelude.{◌+ℤ◌, ◌-ℤ◌, ◌*ℤ◌, neg_ℤ, unsigned_abs}
 use Rattle.std.specs.List.{AllByRecursion}
 use Rattle.std.proofs.lemmas.Int.{ints, unsigned_abs-mul}
 use Rattle.std.proofs.lemmas.Bool.{cases_eq}
-use Rattle.std.proofs.Math.Nat.{mul-le-mul_left, le-mul_of_pos_right}
+use Rattle.std.proofs.Math.Nat.{mul-le-mul_left, mul-le-mul_right, le-mul_of_pos_right}
 use Rattle.std.proofs.Math.IntN.{*ℤ-zero}
 use Rattle.audit_types.specs.Truth.{number_at}
 use Rattle.audit_types.specs.Form.{IsPrimitive, pivot, pivot_entry}
@@ -13,17 +13,18 @@ use Rattle.audit_types.specs.Products.{neg-times}
 use Rattle.int_rows.specs.PrimitiveLaws.{product_not_zero, size_above, zero_or_not}
 use Rattle.sum_basis.specs.declared.sparse.FreeEntry.{FreeEntry}
 use Rattle.sum_basis.specs.declared.sparse.SparseRow.{SparseRow}
-use Rattle.sum_basis.specs.Elimination.{IsCleared, IsLone}
+use Rattle.sum_basis.specs.Elimination.{IsSmall, IsCleared, IsLone}
 use Rattle.sum_basis.specs.Sparse.{entry_at, row_of, IsListed, entries_of, IsKept, IsNew, scaled}
 use Rattle.sum_basis.proofs.Reduction.{length-combine, primitive_exists}
-use Rattle.sum_basis.proofs.Clearing.{cleared_from, some_entry, leads_combination}
+use Rattle.sum_basis.proofs.Clearing.{cleared_from, some_entry, leads_combination, positive_not_zero}
 use Rattle.sum_basis.proofs.Sizes.{all_by_place}
 use Rattle.sum_basis.proofs.SparseRows.{here, elsewhere, zero_below, number_at-row_of, length-row_of, listed_from}
 use Rattle.sum_basis.proofs.SparseMultiples.{kept_pivot}
 use Rattle.sum_basis.proofs.ListContents.{none, entry_at-scaled}
 use Rattle.sum_basis.proofs.ClearedLists.{IsLed, is_led, combined_rows, combined_rows_at}
 use Rattle.sum_basis.proofs.Merges.{scaled_listed}
-use Rattle.sum_basis.proofs.Parallels.{same_listed}
+use Rattle.sum_basis.proofs.Parallels.{same_listed, same_length}
+use Rattle.sum_basis.proofs.KeptRows.{stands_earlier, cleared_as_it_is, lone_list}
 
 -- a list has nothing above its bound
 pub bounded_at : (from n most : ℕ) (es : List FreeEntry) → IsListed from n es → AllByRecursion (λ (e : FreeEntry). unsigned_abs e.value ≤ most) es → (j : ℕ) → unsigned_abs (entry_at es j) ≤ most
@@ -137,3 +138,39 @@ module _ (n : ℕ) (r : SparseRow) (new : List FreeEntry) (kept : IsKept n r) (p
               let gone = ap (λ z. l.over *ℤ z) (lone j (λ e. other (e ∙ made_pivot))) ∙ *ℤ-zero l.over in
               omega (arith, ints)
         ]
+
+module _ (n : ℕ) (r : SparseRow) (new : List FreeEntry) (kept : IsKept n r) (primitive : IsPrimitive n (row_of n (entries_of r))) (is_new : IsNew n new) (nothing : entry_at new r.pivot ≡ pos 0)
+    (most : ℕ) (all : AllByRecursion (λ (e : FreeEntry). unsigned_abs e.value ≤ most) new) (by : ℤ) (by_is : by ≡ (get_or new 0 none).value) where
+  -- a row that the bounds show to be small, and whether it is lone
+  pub by_bounds : (times : ℤ) (b : Bool) → times ≡ entry_at r.free.items (get_or new 0 none).place → times ≢ pos 0 → unsigned_abs by * r.most + unsigned_abs times * most ≤ 2 ^ 56 → IsTrue b ↔ (map (scaled by) r.free.items ≡ map (scaled times) new)
+      → (made : List ℤ) × IsCleared n (row_of n new) (row_of n (entries_of r)) made × (IsSmall made × (IsTrue b ↔ IsLone made))
+  by_bounds times b is some enough told =
+      let before = stands_earlier n r new kept is_new (λ z. some (is ∙ z)) in
+      let line = on_line n r new kept primitive is_new nothing before by times by_is is in
+      let first = is_led n new is_new.some is_new.listed in
+      let by_some = λ (z : by ≡ pos 0). positive_not_zero _ is_new.primitive.leading (first.pivot_entry_is ∙ sym by_is ∙ z) in
+      let lone = lone_by_parallel n r new kept primitive is_new nothing before by times by_is is line.0 line.1 by_some some in (
+        line.0,
+        line.1.cleared,
+        (within_bounds n r new kept primitive is_new nothing before by times by_is is line.0 line.1 most (2 ^ 56) all enough, (λ yes. lone.0 (told.0 yes), λ is_lone. told.1 (lone.1 is_lone))),
+      )
+
+  -- where its list has another length than the new one it is lone exactly where it was
+  pub by_length : (b : Bool) → IsSmall (row_of n (entries_of r)) → length r.free.items ≢ length new → unsigned_abs by * r.most + r.most * most ≤ 2 ^ 56 → IsTrue b ↔ (length r.free.items ≡ 0)
+      → (made : List ℤ) × IsCleared n (row_of n new) (row_of n (entries_of r)) made × (IsSmall made × (IsTrue b ↔ IsLone made))
+  by_length b small other enough empty =
+      let place = (get_or new 0 none).place in
+      let times = entry_at r.free.items place in
+      elim (zero_or_not times) [
+        | inl z ↦
+            let lone = lone_list n (record { place = r.pivot; value = r.head }) r.free.items kept.listed in
+            (row_of n (entries_of r), cleared_as_it_is n r new kept is_new nothing primitive z, (small, (λ yes. lone.0 (empty.0 yes), λ is_lone. empty.1 (lone.1 is_lone))))
+        | inr some ↦
+            let bound = bounded_at (r.pivot + 1) n r.most r.free.items kept.listed.3 kept.bounded.1 place in
+            let part = mul-le-mul_right most bound in
+            by_bounds times b refl some (omega arith) (λ yes. absurd (some (no_entry r.free.items place (empty.0 yes))), λ same. absurd (other (same_length by times r.free.items new same)))
+      ]
+    where
+      no_entry : (es : List FreeEntry) (j : ℕ) → length es ≡ 0 → entry_at es j ≡ pos 0
+      no_entry [] j h = refl
+      no_entry (e ∷ es) j h = absurd (omega arith)

@@ -38,3 +38,4 @@ pub mod BoundedRows
 pub mod PrimitiveLists
 pub mod Edits
 pub mod EditedRows
+pub mod LoneRows

@@ -1,11 +1,12 @@
 -- What is told of a form with a new row while its rows are cleared one after the other.
-use Rattle.std.proofs.Common.{◌≡◌, ◌↔◌, ℕ, zero, suc, ◌+◌, ◌*◌, ◌<◌, ◌≤◌, ◌^◌, Bool, ℤ, pos, List, [], ◌∷◌, ◌++◌, length, take, get_or, refl, sym, ap, subst, arith, inl, inr, ◌⊎◌, IsTrue}
+use Rattle.std.proofs.Common.{◌≡◌, ◌↔◌, ℕ, zero, suc, ◌+◌, ◌*◌, ◌<◌, ◌≤◌, ◌^◌, Bool, true, ℤ, pos, List, [], ◌∷◌, ◌++◌, length, take, get_or, refl, sym, ap, subst, arith, inl, inr, ◌⊎◌, IsTrue}
 use Rattle.std.specs.Prelude.{◌<ℤ◌, unsigned_abs}
 use Rattle.std.specs.Int.{◌∣◌}
 use Rattle.std.specs.List.{AllByRecursion}
 use Rattle.std.proofs.lemmas.Int.{ints}
 use Rattle.std.proofs.lemmas.Nat.Gcd.{dvd_refl, dvd_trans, le_of_dvd}
 use Rattle.std.proofs.Math.Nat.{dvd-mul_right, mul-dvd-mul_left, mul-pos}
+use Rattle.std.proofs.Math.Seq.{take-length}
 use Rattle.std.proofs.lemmas.List.Elements.{All-from_recursion}
 use Rattle.audit_types.specs.Form.{InSpan, IsPrimitive, IsReducedForm, IsLeastCommonMultiple, pivot, pivot_entry, pivot_entries}
 use Rattle.int_rows.specs.ContentLaws.{all-push}
@@ -114,6 +115,26 @@ one_more_glanced n form new k fixing row lone also h g is small one both = recor
       (dvd_trans (unsigned_abs (pivot_entry row)) is.head (mul-dvd-mul_left (unsigned_abs (pivot_entry (get_or form k []))) (unsigned_abs (pivot_entry new)) (All-from_recursion (λ r. unsigned_abs (pivot_entry r) ∣ m) form (all_rows m form all) k [] h)));
   lone = λ yes. elim (both.0 yes) [ inl before ↦ some_push (new ∷ g.made) row (inl (g.lone before)) | inr here ↦ some_push (new ∷ g.made) row (inr (one.0 here)) ];
   none = λ no. all-push (λ r. ¬ (IsLone r)) (new ∷ g.made) row (g.none (λ before. no (both.1 (inl before)))) (λ here. no (both.1 (inr (one.1 here))));
+}
+
+-- each cleared pivot entry divides what the new one makes of a multiple of the form's
+heads_divide : (n : ℕ) (new : List ℤ) (form made : List (List ℤ)) (m : ℕ) → AreCleared n new form made → AllByRecursion (λ r. unsigned_abs (pivot_entry r) ∣ m) form → AllByRecursion (λ r. unsigned_abs (pivot_entry r) ∣ (unsigned_abs (pivot_entry new) * m)) made
+heads_divide n new [] [] m cleared all = tt
+heads_divide n new [] (row ∷ made) m cleared all = absurd cleared
+heads_divide n new (r ∷ form) [] m cleared all = absurd cleared
+heads_divide n new (r ∷ form) (row ∷ made) m cleared all = (
+  dvd_trans (unsigned_abs (pivot_entry row)) cleared.0.head (mul-dvd-mul_left (unsigned_abs (pivot_entry r)) (unsigned_abs (pivot_entry new)) all.0),
+  heads_divide n new form made m cleared.1 all.1,
+)
+
+-- a lone new row that leaves all rows small fixes a number
+pub glanced_at_once : (n : ℕ) (form : List (List ℤ)) (new : List ℤ) (made : List (List ℤ)) → AreCleared n new form made → AllByRecursion IsSmall made → IsLone new → IsGlanced n form new (length form) true
+glanced_at_once n form new made cleared small lone = record {
+  made = made;
+  clears = record { cleared = rw (take-length form) cleared; small = small };
+  divides = λ m all. (dvd-mul_right (unsigned_abs (pivot_entry new)) m, heads_divide n new form made m cleared (all_rows m form all));
+  lone = λ yes. inl lone;
+  none = λ no. absurd (no refl);
 }
 
 -- where that product is within the limit, so is the least common multiple

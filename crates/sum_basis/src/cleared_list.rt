@@ -26,6 +26,9 @@ pub fn value_at(entries: &[FreeEntry], column: u16) -> i128
     requires { IsListed 0 65536 entries.now }
     ensures { result ≡ entry_at entries.now column }
 {
+    if entries.is_empty() || column < entries[0].place {
+        return 0;
+    }
     let k = places_before(entries, column);
     value_from(entries, k, column)
 }

@@ -107,29 +107,28 @@ fn look_at_each(
 }
 
 // The greatest size that a multiple of bounded entries can have.
-fn weight(times: i128, most: u128) -> u128
-    requires times { unsigned_abs times ≤ 2 ^ 56 }
+fn weight(times: u128, most: u128) -> u128
+    requires times { times ≤ 2 ^ 56 }
     requires most { most ≤ 2 ^ 56 }
-    ensures is { result ≡ unsigned_abs times * most }
+    ensures is { result ≡ times * most }
     ensures small { result ≤ 2 ^ 112 }
 {
-    times.unsigned_abs() * most
+    times * most
 }
 
 // Whether the bounds show that no entry of the combination is above the limit.
-fn is_surely_small(by: i128, most: u128, times: i128, new_most: u128) -> bool
+fn is_surely_small(by: i128, most: u128, times: u128, new_most: u128) -> bool
     requires by { unsigned_abs by ≤ 2 ^ 56 }
-    requires times { unsigned_abs times ≤ 2 ^ 56 }
-    ensures { IsTrue result → unsigned_abs by * most + unsigned_abs times * new_most ≤ 2 ^ 56 }
+    ensures { IsTrue result → unsigned_abs by * most + times * new_most ≤ 2 ^ 56 }
 {
-    if most > LIMIT || new_most > LIMIT {
+    if most > LIMIT || times > LIMIT || new_most > LIMIT {
         return false;
     }
-    weight(by, most) + weight(times, new_most) <= LIMIT
+    weight(by.unsigned_abs(), most) + weight(times, new_most) <= LIMIT
 }
 
 // Whether the row, cleared at the new row's pivot, has one entry that is not 0. None where an entry is above the limit.
-fn look_at(
+fn look_closely(
     row: &SparseRow,
     columns: u16,
     new: &[FreeEntry],
@@ -151,11 +150,36 @@ fn look_at(
     if times == 0 {
         return Some(row.free.is_empty());
     }
-    if is_surely_small(by, row.most, times, most) {
+    if is_surely_small(by, row.most, times.unsigned_abs(), most) {
         return Some(are_parallel(by, &row.free, times, new));
     }
     let cleared = clear_aside(row, columns, new, room)?;
     Some(cleared.lone)
+}
+
+// The same. Where the row's bound suffices, and its list is longer or shorter than the new one, the list is not read.
+fn look_at(
+    row: &SparseRow,
+    columns: u16,
+    new: &[FreeEntry],
+    most: u128,
+    room: &mut Vec<FreeEntry>,
+) -> Option<bool>
+    requires room { columns ≤ vec_capacity room.old }
+    requires kept { IsKept columns row.now }
+    requires primitive { IsPrimitive columns (row_of columns (entries_of row.now)) }
+    requires small { IsSmall (row_of columns (entries_of row.now)) }
+    requires new { IsNew columns new.now }
+    requires most { AllByRecursion (λ e. unsigned_abs e.value ≤ most) new.now }
+    requires zero { entry_at new.now row.now.pivot ≡ pos 0 }
+    ensures cleared { (made : List ℤ) × IsCleared columns (row_of columns new.now) (row_of columns (entries_of row.now)) made × MatchOption result (¬ (IsSmall made)) (λ lone. IsSmall made × (IsTrue lone ↔ IsLone made)) }
+    ensures room { columns ≤ vec_capacity room.new }
+{
+    let other_length = row.free.len() != new.len();
+    if other_length && is_surely_small(new[0].value, row.most, row.most, most) {
+        return Some(row.free.is_empty());
+    }
+    look_closely(row, columns, new, most, room)
 }
 
 // Tells it where the multiple of the pivot entries is surely within the limit: few rows have to be cleared.
@@ -174,8 +198,12 @@ fn look_by_bounds(
     ensures foresees { Foresees (record { n = columns; rows = rows_of columns rows.now }) (row_of columns new.now) result }
     ensures room { columns ≤ vec_capacity room.new }
 {
+    if new.len() == 1 {
+        // A unit row takes a column out of the others, and so leaves none with a greater entry.
+        return Prospect::Fixing;
+    }
     let most = bound_of(new[0].value, new);
-    let mut fixing = new.len() == 1;
+    let mut fixing = false;
     for row in rows {
         let Some(lone) = look_at(row, columns, new, most, room) else {
             return Prospect::Wide;

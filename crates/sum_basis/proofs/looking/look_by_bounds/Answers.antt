@@ -1,9 +1,9 @@
-use Rattle.std.proofs.Common.{◌≡◌, ℕ, ◌*◌, ◌<◌, ◌≤◌, ◌^◌, Bool, ℤ, pos, List, [], length, get_or, nat_eq, sym, ◌∙◌, subst, arith}
+use Rattle.std.proofs.Common.{◌≡◌, ℕ, ◌*◌, ◌<◌, ◌≤◌, ◌^◌, Bool, true, ℤ, pos, List, [], length, get_or, nat_eq, refl, sym, ◌∙◌, subst, arith}
 use Rattle.std.specs.Prelude.{unsigned_abs}
 use Rattle.std.specs.Int.{◌∣◌}
 use Rattle.std.specs.List.{AllByRecursion}
 use Rattle.std.proofs.lemmas.List.{length-map}
-use Rattle.std.proofs.lemmas.Bool.{eqb-true, eq-eqb, true≢false}
+use Rattle.std.proofs.lemmas.Bool.{eqb-true, eq-eqb, ne_eqb, true≢false}
 use Rattle.audit_types.specs.Truth.{number_at}
 use Rattle.audit_types.specs.Form.{IsPrimitive, pivot, pivot_entries}
 use Rattle.sum_basis.specs.declared.sparse.FreeEntry.{FreeEntry}
@@ -14,7 +14,8 @@ use Rattle.sum_basis.specs.Sparse.{row_of, rows_of, entries_of, IsKept, IsNew}
 use Rattle.sum_basis.proofs.ListContents.{none}
 use Rattle.sum_basis.proofs.ClearedLists.{is_led}
 use Rattle.sum_basis.proofs.KeptRows.{row_is, of_row, of_whole_row, nothing_at, lone_new}
-use Rattle.sum_basis.proofs.LookingAhead.{IsLooked, IsGlanced, nothing_glanced, one_more_glanced, glanced_is_looked, looked_large, foreseen, looked_grows, looked_fixing, looked_open}
+use Rattle.sum_basis.proofs.LookingAhead.{IsLooked, IsGlanced, nothing_glanced, one_more_glanced, glanced_is_looked, glanced_at_once, looked_large, foreseen, looked_grows, looked_fixing, looked_open}
+use Rattle.sum_basis.proofs.LoneRows.{all_cleared_small}
 use Rattle.sum_basis.proofs.looking.look_by_bounds.Goals as goal
 
 -- at the start
@@ -24,7 +25,7 @@ start n rows new is_new =
     nothing_glanced n (rows_of n rows) (row_of n new) (nat_eq (length new) 1) (λ t. lone.0 (eqb-true (length new) 1 t), λ is. eq-eqb (length new) 1 (lone.1 is))
 
 pub loop-row-init : goal.loop-row-init
-loop-row-init c = record { glanced = start c.args.columns c.args.rows.now c.args.new.now c.requires.new; room = c.requires.room }
+loop-row-init c = record { glanced = subst (λ b. IsGlanced c.args.columns (rows_of c.args.columns c.args.rows.now) (row_of c.args.columns c.args.new.now) 0 b) (ne_eqb (length c.args.new.now) 1 c.if-new-eq1.false) (start c.args.columns c.args.rows.now c.args.new.now c.requires.new); room = c.requires.room }
 
 pub look_at-requires-clause-most : goal.look_at-requires-clause-most
 look_at-requires-clause-most c = c.bound_of-most.ensures.values
@@ -87,6 +88,20 @@ returns-then-fixing-clause-foresees c =
       foreseen form new c.requires.form c.requires.new.primitive c.requires.zero c.loop-row.row-index l.0 c.loop-row.fixing past l.1 c.requires.new.small,
       looked_grows form new c.requires.form c.requires.new.primitive c.requires.zero c.loop-row.row-index l.0 c.loop-row.fixing past l.1 c.requires.new.small,
       looked_fixing form new c.requires.form c.requires.new.primitive c.requires.zero c.loop-row.row-index l.0 c.loop-row.fixing past l.1 c.requires.new.small c.if-fixing.true,
+    )
+
+pub returns-then-new-eq1-clause-foresees : goal.returns-then-new-eq1-clause-foresees
+returns-then-new-eq1-clause-foresees c =
+    let n = c.args.columns in
+    let rows = c.args.rows.now in
+    let form : Echelon = record { n = n; rows = rows_of n rows } in
+    let new = row_of n c.args.new.now in
+    let made = all_cleared_small n c.args.new.now c.requires.new c.if-new-eq1.true rows c.requires.kept c.requires.form.primitive c.requires.form.entries c.requires.zero in
+    let all = length form.rows in
+    let l = looked n (rows_of n rows) c.args.new.now all true c.requires.new c.requires.multiple (glanced_at_once n form.rows new made.0 made.1 made.2 ((lone_new n c.args.new.now c.requires.new).0 c.if-new-eq1.true)) in (
+      foreseen form new c.requires.form c.requires.new.primitive c.requires.zero all l.0 true (omega arith) l.1 c.requires.new.small,
+      looked_grows form new c.requires.form c.requires.new.primitive c.requires.zero all l.0 true (omega arith) l.1 c.requires.new.small,
+      looked_fixing form new c.requires.form c.requires.new.primitive c.requires.zero all l.0 true (omega arith) l.1 c.requires.new.small refl,
     )
 
 pub returns-else-fixing-clause-foresees : goal.returns-else-fixing-clause-foresees
