@@ -13,4 +13,6 @@ mod definitions;
 #[cfg(test)]
 mod devices;
 #[cfg(test)]
+mod journals;
+#[cfg(test)]
 mod sets;
