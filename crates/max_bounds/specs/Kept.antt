@@ -48,6 +48,10 @@ rows_at_least bound answer rows = filter (λ r. is_at_least answer (bound r)) ro
 abbrev pub rows_above : (ℕ → Option ℤ) → ℤ → List ℕ → List ℕ
 rows_above bound answer rows = filter (λ r. is_above answer (bound r)) rows
 
+-- each of these rows has the answer for its bound
+abbrev pub AreSettled : (ℕ → Option ℤ) → ℤ → List ℕ → Type 0
+AreSettled bound answer rows = (r : ℕ) → has_row rows r ≡ true → bound r ≡ Some answer
+
 -- these rows of n have each one whose bound is at least the cut
 pub record IsHigh (n : ℕ) (bound : ℕ → Option ℤ) (high : HighRows) : Type 0 where
   pub same_n : high.rows.n ≡ n

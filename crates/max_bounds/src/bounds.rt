@@ -99,7 +99,7 @@ impl Bounds {
             &asked,
             &affected.falling,
         );
-        settle(&mut self.upper, &affected.extremes, answer);
+        settle(&mut self.upper, &affected, answer);
         let count = affected.extremes.len();
         self.fewest = fewest.min(count);
         self.counts.push_reserved(count);
