@@ -8,5 +8,6 @@ pub mod ReachedRows
 pub mod Spans
 pub mod FallingCounts
 pub mod LoweredSets
+pub mod Descending
 pub mod NextExtremes
 pub mod DangerCases

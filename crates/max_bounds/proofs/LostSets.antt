@@ -1,27 +1,14 @@
 -- Sets of which at most one row is left: the greatest answer of one so far, and whether a set of this answer is held whole.
-use Rattle.std.proofs.Common.{◌≡◌, ℕ, ◌<◌, ◌≤◌, ℤ, List, [], ◌∷◌, ◌++◌, length, refl, sym, ap, ◌∙◌, subst, arith, inl, inr}
+use Rattle.std.proofs.Common.{append-nil, append_assoc, ◌≡◌, ℕ, ◌<◌, ◌≤◌, ℤ, List, [], ◌∷◌, ◌++◌, length, refl, sym, ap, ◌∙◌, subst, arith, inl, inr}
 use Rattle.std.specs.Prelude.{◌<ℤ◌, ◌≤ℤ◌}
 use Rattle.std.proofs.lemmas.Int.{ints, by_lt_z}
+use Rattle.std.specs.List.{AllByRecursion}
 use Rattle.audit_types.specs.Column.{Answer, IsOneOf}
-use Rattle.max_bounds.specs.Outside.{outside, IsStranded, HasStranded, IsWithin, HasWithin}
-use Rattle.max_bounds.specs.Kept.{Matters}
+use Rattle.max_bounds.specs.Outside.{IsStranded, HasStranded, IsWithin, HasWithin}
+use Rattle.max_bounds.specs.Kept.{Matters, left_of, IsMost, IsLost}
 use Rattle.max_bounds.specs.AnswerLaws.{one_of_front, one_of_last, front_or_last}
 use Rattle.max_bounds.specs.declared.stranding.Lost.{Lost}
 use Rattle.max_bounds.specs.declared.stranding.Lost.TheVariants.{Neither, AllButOne, Whole}
-
--- the rows that are left of a set
-abbrev pub left_of : List ℕ → Answer → List ℕ
-left_of rows a = outside rows a.rows
-
--- a set of which at most one row is left has an answer at most this
-abbrev pub IsMost : List Answer → List ℕ → ℤ → Type 0
-IsMost seen rows v = (b : Answer) → IsOneOf b seen → length (left_of rows b) ≤ 1 → b.value ≤ℤ v
-
--- what is lost of the sets so far
-abbrev pub IsLost : List Answer → List ℕ → Lost → Type 0
-IsLost seen rows Neither = (b : Answer) → IsOneOf b seen → 1 < length (left_of rows b)
-IsLost seen rows (AllButOne v) = ((a : Answer) × IsStranded (λ b. b.rows) seen rows a × (a.value ≡ v)) × IsMost seen rows v
-IsLost seen rows (Whole v) = ((a : Answer) × IsOneOf a seen × (left_of rows a ≡ []) × (a.value ≡ v)) × IsMost seen rows v
 
 -- an empty list has no row
 none : (rows : List ℕ) → rows ≡ [] → length rows ≡ 0
@@ -98,6 +85,19 @@ module _ (seen : List Answer) (rows : List ℕ) (x : Answer) where
   -- a set that is held whole
   pub lost_whole : (lost : Lost) → IsLost seen rows lost → Matters lost x.value → left_of rows x ≡ [] → IsLost (seen ++ x ∷ []) rows (Whole x.value)
   lost_whole lost h matters whole = ((x, one_of_last seen x, whole, refl), most-push x.value (most_here lost h matters) (λ few. omega (arith, ints)))
+
+-- what matters to what is lost has a higher answer than what does not
+matters_above : (lost : Lost) (low high : ℤ) → low ≤ℤ high → Matters lost low → Matters lost high
+matters_above Neither low high less matters = tt
+matters_above (AllButOne v) low high less matters = omega (arith, ints)
+matters_above (Whole v) low high less matters = omega (arith, ints)
+
+-- sets with answers not above one that does not matter
+pub lost_behind : (seen rest : List Answer) (rows : List ℕ) (top : ℤ) (lost : Lost) → IsLost seen rows lost → (Matters lost top → ⊥) → AllByRecursion (λ b. b.value ≤ℤ top) rest → IsLost (seen ++ rest) rows lost
+lost_behind seen [] rows top lost h not low = subst (λ l. IsLost l rows lost) (sym (append-nil seen)) h
+lost_behind seen (x ∷ rest) rows top lost h not low =
+    subst (λ l. IsLost l rows lost) (append_assoc seen (x ∷ []) rest)
+    (lost_behind (seen ++ x ∷ []) rest rows top lost (lost_passed seen rows x lost h (λ matters. not (matters_above lost x.value top low.0 matters))) not low.1)
 
 -- at the end: where the greatest answer has a set with one row left, and none held whole, that is stranded
 pub stranded_from : (sets : List Answer) (rows : List ℕ) (v : ℤ) → IsLost sets rows (AllButOne v) → HasStranded (λ b. b.rows) sets rows

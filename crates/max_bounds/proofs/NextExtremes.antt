@@ -1,5 +1,5 @@
 -- The extreme rows of all answers once one more joins them.
-use Rattle.std.proofs.Common.{◌≡◌, ℕ, ◌-◌, ◌≤◌, ℤ, Bool, true, false, cond, not, ◌&&◌, List, [], ◌∷◌, ◌++◌, length, map, refl, sym, ap, ◌∙◌, arith, inl, inr, Option, Some, None}
+use Rattle.std.proofs.Common.{◌≡◌, ℕ, ◌-◌, ◌≤◌, ℤ, Bool, true, false, cond, not, ◌&&◌, List, [], ◌∷◌, ◌++◌, length, map, take, drop, refl, sym, ap, ◌∙◌, arith, inl, inr, Option, Some, None}
 use Rattle.std.specs.Prelude.{◌<ℤ◌, ◌≤ℤ◌, int_lt}
 use Rattle.std.specs.Int.{int_min}
 use Rattle.std.specs.Ordering.{int_eq}
@@ -21,6 +21,7 @@ use Rattle.max_bounds.specs.BoundLaws.{upper_bound-push, exact_bound}
 use Rattle.max_bounds.specs.OneMoreLaws.{filters_agree_on, asked, bound_in_set, keeps_extremes, lower_keeps, higher_loses}
 use Rattle.max_bounds.proofs.Walks.{filter-none}
 use Rattle.max_bounds.proofs.LoweredSets.{has_filtered, same_test}
+use Rattle.max_bounds.proofs.Descending.{inserted_is, inserted_has, one_of_inserted}
 
 -- what is at least a number, by the bound with it
 at_least_test : (o : Option ℤ) (x : ℤ) → is_at_least x o ≡ is_bound (Some (least_of x o)) x
@@ -219,19 +220,19 @@ module _ (answers : List Answer) (rows : List ℕ) (x : ℤ) where
       to_map (b ∷ all) e (inl same) = inl (ap (lowered_set x rows) same)
       to_map (b ∷ all) e (inr later) = inr (to_map all e later)
 
-  -- with the new answer's own set
-  pub least_inserted : (sets : List Answer) (own : List ℕ) → own ≡ extremes more (asked answers rows x) → AreLeast (extremes more) answers sets →
-      AreLeast (extremes more) more (sets ++ record { rows = own; value = x } ∷ [])
-  least_inserted sets own is h = record {
-    each = λ e one. elim (front_or_last sets (record { rows = own; value = x }) e one) [
-      | inl front ↦ let found = h.each e front in (found.0, one_of_front answers (asked answers rows x) found.0 found.1, found.2, found.3)
-      | inr last ↦ (asked answers rows x, one_of_last answers (asked answers rows x), ap (λ (b : Answer). b.value) last, sym is ∙ ap (λ (b : Answer). b.rows) last)
+  -- with the new answer's own set, at any place
+  pub least_inserted : (sets : List Answer) (place : ℕ) (own : List ℕ) → own ≡ extremes more (asked answers rows x) → AreLeast (extremes more) answers sets →
+      AreLeast (extremes more) more (take place sets ++ record { rows = own; value = x } ∷ drop place sets)
+  least_inserted sets place own is h = record {
+    each = λ e one. elim (one_of_inserted sets place (record { rows = own; value = x }) e one) [
+      | inl other ↦ let found = h.each e other in (found.0, one_of_front answers (asked answers rows x) found.0 found.1, found.2, found.3)
+      | inr this ↦ (asked answers rows x, one_of_last answers (asked answers rows x), ap (λ (b : Answer). b.value) this, sym is ∙ ap (λ (b : Answer). b.rows) this)
     ];
     covered = λ a one. elim (front_or_last answers (asked answers rows x) a one) [
-      | inl front ↦ let found = h.covered a front in (found.0, one_of_front sets (record { rows = own; value = x }) found.0 found.1, found.2, found.3)
+      | inl front ↦ let found = h.covered a front in (found.0, inserted_has sets place (record { rows = own; value = x }) found.0 found.1, found.2, found.3)
       | inr last ↦ (
         record { rows = own; value = x },
-        one_of_last sets (record { rows = own; value = x }),
+        inserted_is sets place (record { rows = own; value = x }),
         ap (λ (b : Answer). b.value) last,
         λ r there. ap (λ b. has_row (extremes more b) r) (sym last) ∙ ap (λ l. has_row l r) (sym is) ∙ there,
       )

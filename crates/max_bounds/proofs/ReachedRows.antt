@@ -1,9 +1,12 @@
--- Bounds of rows that get a new one.
-use Rattle.std.proofs.Common.{◌≡◌, ℕ, ◌<◌, ℤ, true, false, cond, List, [], ◌∷◌, ◌++◌, length, refl, sym, ap, ◌∙◌, inl, inr, Option, Some, None, set, get_or-set_same, get_or-set_other}
+-- Bounds of rows that get a new one, or have it already.
+use Rattle.std.proofs.Common.{◌≡◌, ℕ, ◌<◌, ℤ, true, false, not, cond, arith, List, [], ◌∷◌, ◌++◌, length, refl, sym, ap, ◌∙◌, inl, inr, Option, Some, None, set, get_or-set_same, get_or-set_other}
+use Rattle.std.specs.Prelude.{int_lt}
+use Rattle.std.proofs.lemmas.Int.{ints}
 use Rattle.std.proofs.lemmas.Bool.{cases_eq}
 use Rattle.audit_types.specs.Rows.{has_row}
 use Rattle.max_bounds.specs.Reaching.{bound_at}
-use Rattle.max_bounds.proofs.Walks.{has-push, has-front, has-last}
+use Rattle.max_bounds.specs.Kept.{is_at_least, is_above, rows_at_least, rows_above, AreSettled}
+use Rattle.max_bounds.proofs.Walks.{has-push, has-front, has-last, filter-all, filter-none}
 
 -- one row more has its new bound
 pub settled_step : (x : ℤ) (yielded : List ℕ) (before bounds : List (Option ℤ)) (q : ℕ) → q < length bounds →
@@ -28,3 +31,16 @@ settled_step x yielded before bounds q below so_far r = elim (cases_eq q r) [
         | false ↦ λ f. refl
       ] refl
     ] refl
+
+-- no number is below itself
+not_less : (x : ℤ) → int_lt x x ≡ false
+not_less x = elim (int_lt x x) as (λ t. int_lt x x ≡ t → t ≡ false) [ true ↦ λ less. absurd (omega (arith, ints)) | false ↦ λ no. refl ] refl
+
+module _ (bound : ℕ → Option ℤ) (x : ℤ) (rows : List ℕ) (settled : AreSettled bound x rows) where
+  -- rows that have the answer for their bound are its extreme rows
+  pub all_reach : rows ≡ rows_at_least bound x rows
+  all_reach = sym (filter-all (λ r. is_at_least x (bound r)) rows (λ r there. ap (is_at_least x) (settled r there) ∙ ap not (not_less x)))
+
+  -- and none of them falls
+  pub none_above : [] ≡ rows_above bound x rows
+  none_above = sym (filter-none (λ r. is_above x (bound r)) rows (λ r there. ap (is_above x) (settled r there) ∙ not_less x))

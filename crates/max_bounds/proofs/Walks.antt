@@ -162,3 +162,11 @@ filter-none test rows fails = filters_agree_on test (λ r. false) rows fails ∙
     nothing : (l : List ℕ) → filter (λ r. false) l ≡ []
     nothing [] = refl
     nothing (r ∷ l) = nothing l
+
+-- and one that every row passes leaves all
+pub filter-all : (test : ℕ → Bool) (rows : List ℕ) → ((r : ℕ) → has_row rows r ≡ true → test r ≡ true) → filter test rows ≡ rows
+filter-all test rows passes = filters_agree_on test (λ r. true) rows passes ∙ all rows
+  where
+    all : (l : List ℕ) → filter (λ r. true) l ≡ l
+    all [] = refl
+    all (r ∷ l) = ap (λ k. r ∷ k) (all l)

@@ -1,5 +1,5 @@
 -- What is kept of answered maxima beside the answers.
-use Rattle.std.specs.Prelude.{◌≡◌, ℕ, ◌<◌, ◌≤◌, ℤ, ◌<ℤ◌, ◌≤ℤ◌, Bool, true, false, not, ◌&&◌, int_lt, List, [], ◌∷◌, map, length, Option, Some, None, min, cond}
+use Rattle.std.specs.Prelude.{◌≡◌, ℕ, ◌<◌, ◌≤◌, ℤ, ◌<ℤ◌, ◌≤ℤ◌, Bool, true, false, not, ◌&&◌, int_lt, List, [], ◌∷◌, map, length, take, drop, Option, Some, None, min, cond}
 use Rattle.audit_types.specs.Limits.{most_rows}
 use Rattle.std.specs.List.{filter, AllByRecursion}
 use Rattle.audit_types.specs.Rows.{AreRows, has_row}
@@ -7,7 +7,8 @@ use Rattle.audit_types.specs.Column.{Answer, IsOneOf}
 use Rattle.audit_types.specs.Extremes.{upper_bound, is_bound, extremes}
 use Rattle.max_bounds.specs.Maxima.{answers_of}
 use Rattle.max_bounds.specs.Reaching.{bound_at, reaching}
-use Rattle.max_bounds.specs.Outside.{outside}
+use Rattle.max_bounds.specs.Outside.{outside, IsStranded}
+use Rattle.max_bounds.specs.declared.answered.AnsweredMax.{AnsweredMax}
 use Rattle.max_bounds.specs.declared.bounds.Bounds.TheInside.{Inside}
 use Rattle.max_bounds.specs.declared.counts.Span.{Span}
 use Rattle.max_bounds.specs.declared.high_rows.HighRows.{HighRows}
@@ -46,6 +47,10 @@ rows_at_least bound answer rows = filter (λ r. is_at_least answer (bound r)) ro
 -- the rows of a set whose bound the answer lowers
 abbrev pub rows_above : (ℕ → Option ℤ) → ℤ → List ℕ → List ℕ
 rows_above bound answer rows = filter (λ r. is_above answer (bound r)) rows
+
+-- each of these rows has the answer for its bound
+abbrev pub AreSettled : (ℕ → Option ℤ) → ℤ → List ℕ → Type 0
+AreSettled bound answer rows = (r : ℕ) → has_row rows r ≡ true → bound r ≡ Some answer
 
 -- these rows of n have each one whose bound is at least the cut
 pub record IsHigh (n : ℕ) (bound : ℕ → Option ℤ) (high : HighRows) : Type 0 where
@@ -86,6 +91,30 @@ Matters Neither answer = Unit {0}
 Matters (AllButOne highest) answer = highest ≤ℤ answer
 Matters (Whole highest) answer = highest <ℤ answer
 
+-- of a set a question leaves the rows that are outside its own
+abbrev pub left_of : List ℕ → Answer → List ℕ
+left_of rows a = outside rows a.rows
+
+-- a set of which at most one row is left has an answer at most this
+abbrev pub IsMost : List Answer → List ℕ → ℤ → Type 0
+IsMost sets rows v = (b : Answer) → IsOneOf b sets → length (left_of rows b) ≤ 1 → b.value ≤ℤ v
+
+-- what is lost of sets: of which at most one row is left, the greatest answer, and whether a set with it is held whole
+abbrev pub IsLost : List Answer → List ℕ → Lost → Type 0
+IsLost sets rows Neither = (b : Answer) → IsOneOf b sets → 1 < length (left_of rows b)
+IsLost sets rows (AllButOne v) = ((a : Answer) × IsStranded (λ b. b.rows) sets rows a × (a.value ≡ v)) × IsMost sets rows v
+IsLost sets rows (Whole v) = ((a : Answer) × IsOneOf a sets × (left_of rows a ≡ []) × (a.value ≡ v)) × IsMost sets rows v
+
+-- answers that descend: none is above an earlier one
+abbrev pub Descend : List Answer → Type 0
+Descend [] = Unit {0}
+Descend (a ∷ sets) = AllByRecursion (λ b. b.value ≤ℤ a.value) sets × Descend sets
+
+-- at this place an answer goes among descending ones
+pub record IsPlaceOf (answer : ℤ) (least : List AnsweredMax) (place : ℕ) : Type 0 where
+  pub front : AllByRecursion (λ b. answer ≤ℤ b.value) (answers_of (take place least))
+  pub rest : AllByRecursion (λ b. b.value ≤ℤ answer) (answers_of (drop place least))
+
 -- sets that stand for the extreme rows of all answers: each is those of an answer, and each answer has such a set of its value, with no other row
 pub record AreLeast (extreme_rows : Answer → List ℕ) (answers sets : List Answer) : Type 0 where
   pub each : (e : Answer) → IsOneOf e sets → (a : Answer) × IsOneOf a answers × (a.value ≡ e.value) × (extreme_rows a ≡ e.rows)
@@ -105,5 +134,6 @@ pub record IsKept (b : Inside) : Type 0 where
   pub one_each : length b.upper.items ≡ b.n
   pub bounds : (r : ℕ) → bound_at b.upper.items r ≡ upper_bound (answers_of b.pairs.items) r
   pub same_n_least : AllByRecursion (λ p. p.rows.n ≡ b.n) b.least.items
+  pub descend : Descend (answers_of b.least.items)
   pub high : AllByRecursion (IsHigh b.n (bound_at b.upper.items)) b.high.items
   pub tells : TellsExtremes (extremes (answers_of b.pairs.items)) (answers_of b.pairs.items) b.counts.items b.fewest (answers_of b.least.items)

@@ -28,7 +28,8 @@ pub struct Bounds {
     // The number of extreme rows of each pair, and the least of these numbers.
     counts: Vec<u16>,
     fewest: u16,
-    // Extreme rows of pairs, with their answer. Each pair has such a set of its own answer and with no other rows.
+    // Extreme rows of pairs, with their answer, in descending order of answers. Each pair has such a set of its own answer and
+    // with no other rows.
     least: Vec<AnsweredMax>,
     // The rows with high bounds, for cuts in descending order, which mostly tell of all.
     high: Vec<HighRows>,
@@ -98,7 +99,7 @@ impl Bounds {
             &asked,
             &affected.falling,
         );
-        settle(&mut self.upper, &affected.extremes, answer);
+        settle(&mut self.upper, &affected, answer);
         let count = affected.extremes.len();
         self.fewest = fewest.min(count);
         self.counts.push_reserved(count);

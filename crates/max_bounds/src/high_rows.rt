@@ -6,7 +6,7 @@ ghost use Rattle.audit_types.specs.Limits.{most_rows};
 ghost use Rattle.audit_types.specs.Rows.{has_row, complement};
 ghost use Rattle.max_bounds.specs.Reaching.{bound_at};
 ghost use Rattle.max_bounds.specs.Outside.{HasOneHighest};
-ghost use Rattle.max_bounds.specs.Kept.{is_at_least, rows_at_least, rows_above, IsHigh, AreLow};
+ghost use Rattle.max_bounds.specs.Kept.{is_at_least, rows_at_least, rows_above, AreSettled, IsHigh, AreLow};
 
 use crate::highest::one_highest;
 use crate::reach::{Affected, is_at_least, reach};
@@ -58,6 +58,7 @@ impl HighRows {
         ensures falling_n { result.falling.n ≡ rows.now.n }
         ensures extremes { result.extremes.list ≡ rows_at_least (bound_at upper.now) answer rows.now.list }
         ensures falling { result.falling.list ≡ rows_above (bound_at upper.now) answer rows.now.list }
+        ensures settled { IsTrue result.settled → AreSettled (bound_at upper.now) answer result.extremes.list }
     {
         // A set says of its n that no row is past it.
         let _ = rows.n();
@@ -96,6 +97,7 @@ pub(crate) fn reach_high(
     ensures falling_n { result.falling.n ≡ rows.now.n }
     ensures extremes { result.extremes.list ≡ rows_at_least (bound_at upper.now) answer rows.now.list }
     ensures falling { result.falling.list ≡ rows_above (bound_at upper.now) answer rows.now.list }
+    ensures settled { IsTrue result.settled → AreSettled (bound_at upper.now) answer result.extremes.list }
 {
     for kept in high {
         if kept.cut <= answer {
@@ -187,7 +189,7 @@ pub(crate) fn renew_high(
     requires high { AllByRecursion (IsHigh rows.now.n (bound_at upper.now)) high.old.items }
     ensures { AllByRecursion (IsHigh rows.now.n (bound_at upper.now)) high.new.items }
 {
-    if !affected.falling.is_empty() {
+    if !affected.settled {
         lower_high(high, rows, answer);
     }
     insert_high(high, upper, rows.n(), answer);

@@ -5,7 +5,7 @@ ghost use Rattle.audit_types.specs.Rows.{AreRows};
 ghost use Rattle.audit_types.specs.Extremes.{upper_bound, extremes};
 ghost use Rattle.max_bounds.specs.Maxima.{answer_of, answers_of, and_answer};
 ghost use Rattle.max_bounds.specs.Reaching.{bound_at};
-ghost use Rattle.max_bounds.specs.Kept.{rows_above, AreLeast, TellsExtremes};
+ghost use Rattle.max_bounds.specs.Kept.{rows_above, AreLeast, Descend, IsPlaceOf, TellsExtremes};
 
 use crate::answered::AnsweredMax;
 use crate::counts::{fewest, lower_counts};
@@ -30,8 +30,10 @@ pub(crate) fn fall(
     requires are_rows { AllByRecursion (λ a. AreRows asked.now.rows.n a.rows) (answers_of pairs.now) }
     requires bounds { (r : ℕ) → bound_at upper.now r ≡ upper_bound (answers_of pairs.now) r }
     requires falling { falling.now.list ≡ rows_above (bound_at upper.now) asked.now.answer asked.now.rows.list }
+    requires descend { Descend (answers_of least.old) }
     requires told { TellsExtremes (extremes (answers_of pairs.now)) (answers_of pairs.now) counts.old least_count (answers_of least.old) }
     ensures same_n_least { AllByRecursion (λ p. p.rows.n ≡ asked.now.rows.n) least.new }
+    ensures descend { Descend (answers_of least.new) }
     ensures tells { TellsExtremes (extremes (and_answer (answers_of pairs.now) asked.now.rows.list asked.now.answer)) (answers_of pairs.now) counts.new result (answers_of least.new) }
 {
     if falling.is_empty() {
@@ -44,7 +46,21 @@ pub(crate) fn fall(
     fewest(counts)
 }
 
-/// Puts a new answer's own extreme rows behind the least sets, unless one of this answer lies in its set.
+// Where an answer goes among descending ones.
+fn place_of(least: &[AnsweredMax], answer: i64) -> usize
+    requires descend { Descend (answers_of least.now) }
+    ensures at_most { result ≤ length least.now }
+    ensures place { IsPlaceOf answer least.now result }
+{
+    for (place, set) in least.iter().enumerate() {
+        if set.answer <= answer {
+            return place;
+        }
+    }
+    least.len()
+}
+
+/// Puts a new answer's own extreme rows among the least sets, unless one of this answer lies in its set.
 pub(crate) fn insert(
     least: &mut Vec<AnsweredMax>,
     own: &RowSet,
@@ -55,15 +71,20 @@ pub(crate) fn insert(
     requires same_n_least { AllByRecursion (λ p. p.rows.n ≡ asked.now.rows.n) least.old.items }
     requires same_n { own.now.n ≡ asked.now.rows.n }
     requires own { own.now.list ≡ extremes (and_answer (answers_of pairs.now) asked.now.rows.list asked.now.answer) (answer_of asked.now) }
+    requires descend { Descend (answers_of least.old.items) }
     requires told { AreLeast (extremes (and_answer (answers_of pairs.now) asked.now.rows.list asked.now.answer)) (answers_of pairs.now) (answers_of least.old.items) }
     ensures same_n_least { AllByRecursion (λ p. p.rows.n ≡ asked.now.rows.n) least.new.items }
+    ensures descend { Descend (answers_of least.new.items) }
     ensures tells { AreLeast (extremes (and_answer (answers_of pairs.now) asked.now.rows.list asked.now.answer))
         (and_answer (answers_of pairs.now) asked.now.rows.list asked.now.answer) (answers_of least.new.items) }
 {
     if !has_within(least, &asked.rows, asked.answer) {
-        least.push_reserved(AnsweredMax {
+        let place = place_of(least, asked.answer);
+        let set = AnsweredMax {
             rows: *own,
             answer: asked.answer,
-        });
+        };
+        // There is room for it.
+        let _ = least.insert(place, set);
     }
 }

@@ -1,8 +1,8 @@
 //! What a new answer does to the rows of its set.
-ghost use Rattle.std.specs.Prelude.{◌≡◌, ◌≤◌, ◌<◌, ℕ, cond, Some, length};
+ghost use Rattle.std.specs.Prelude.{◌≡◌, ◌≤◌, ◌<◌, ℕ, cond, Some, length, IsTrue};
 ghost use Rattle.audit_types.specs.Rows.{has_row, with_row};
 ghost use Rattle.max_bounds.specs.Reaching.{bound_at};
-ghost use Rattle.max_bounds.specs.Kept.{is_at_least, is_above, rows_at_least, rows_above};
+ghost use Rattle.max_bounds.specs.Kept.{is_at_least, is_above, rows_at_least, rows_above, AreSettled};
 
 use audit_types::RowSet;
 
@@ -11,6 +11,8 @@ use audit_types::RowSet;
 pub(crate) struct Affected {
     pub extremes: RowSet,
     pub falling: RowSet,
+    // The first rows have this bound already. Then none falls.
+    pub settled: bool,
 }
 
 /// Whether there is no bound, or one that is not below the answer.
@@ -42,6 +44,21 @@ fn add_if(set: &mut RowSet, row: u16, test: bool)
     }
 }
 
+// Whether each of these rows has the answer for its bound already.
+fn are_settled(upper: &[Option<i64>], rows: &RowSet, answer: i64) -> bool
+    requires within { rows.now.n ≤ length upper.now }
+    ensures { IsTrue result → AreSettled (bound_at upper.now) answer rows.now.list }
+{
+    // A set says of its n that no row is past it.
+    let _ = rows.n();
+    for row in rows.iter() {
+        if upper[row as usize] != Some(answer) {
+            return false;
+        }
+    }
+    true
+}
+
 /// What an answer over these rows does to them.
 pub(crate) fn reach(upper: &[Option<i64>], rows: &RowSet, answer: i64) -> Affected
     requires within { rows.now.n ≤ length upper.now }
@@ -49,8 +66,16 @@ pub(crate) fn reach(upper: &[Option<i64>], rows: &RowSet, answer: i64) -> Affect
     ensures falling_n { result.falling.n ≡ rows.now.n }
     ensures extremes { result.extremes.list ≡ rows_at_least (bound_at upper.now) answer rows.now.list }
     ensures falling { result.falling.list ≡ rows_above (bound_at upper.now) answer rows.now.list }
+    ensures settled { IsTrue result.settled → AreSettled (bound_at upper.now) answer result.extremes.list }
 {
     let n = rows.n();
+    if are_settled(upper, rows, answer) {
+        return Affected {
+            extremes: *rows,
+            falling: RowSet::new(n),
+            settled: true,
+        };
+    }
     let mut extremes = RowSet::new(n);
     let mut falling = RowSet::new(n);
     for row in rows.iter() {
@@ -58,17 +83,25 @@ pub(crate) fn reach(upper: &[Option<i64>], rows: &RowSet, answer: i64) -> Affect
         add_if(&mut extremes, row, is_at_least(answer, bound));
         add_if(&mut falling, row, is_above(answer, bound));
     }
-    Affected { extremes, falling }
+    Affected {
+        extremes,
+        falling,
+        settled: false,
+    }
 }
 
-/// Gives these rows the answer for their bound.
-pub(crate) fn settle(upper: &mut [Option<i64>], extremes: &RowSet, answer: i64)
-    requires within { extremes.now.n ≤ length upper.old }
-    ensures settled { (r : ℕ) → bound_at upper.new r ≡ cond (has_row extremes.now.list r) (Some answer) (bound_at upper.old r) }
+/// Gives the rows that an answer reaches the answer for their bound.
+pub(crate) fn settle(upper: &mut [Option<i64>], affected: &Affected, answer: i64)
+    requires within { affected.now.extremes.n ≤ length upper.old }
+    requires settled { IsTrue affected.now.settled → AreSettled (bound_at upper.old) answer affected.now.extremes.list }
+    ensures settled { (r : ℕ) → bound_at upper.new r ≡ cond (has_row affected.now.extremes.list r) (Some answer) (bound_at upper.old r) }
 {
+    if affected.settled {
+        return;
+    }
     // A set says of its n that no row is past it.
-    let _ = extremes.n();
-    for row in extremes.iter() {
+    let _ = affected.extremes.n();
+    for row in affected.extremes.iter() {
         upper[row as usize] = Some(answer);
     }
 }

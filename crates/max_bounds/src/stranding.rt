@@ -4,7 +4,7 @@ ghost use Rattle.audit_types.specs.Rows.{complement};
 ghost use Rattle.std.specs.List.{AllByRecursion};
 ghost use Rattle.max_bounds.specs.Maxima.{answer_of, answers_of};
 ghost use Rattle.max_bounds.specs.Outside.{outside, HasStranded, IsWithin, HasWithin};
-ghost use Rattle.max_bounds.specs.Kept.{IsLeft, Matters};
+ghost use Rattle.max_bounds.specs.Kept.{IsLeft, Matters, IsLost, Descend};
 
 use crate::answered::AnsweredMax;
 use audit_types::RowSet;
@@ -55,24 +55,36 @@ fn matters(lost: Lost, answer: i64) -> bool
     }
 }
 
+// What is lost of sets with descending answers, told from the rows that are not in the question's.
+fn lost_of(least: &[AnsweredMax], others: &RowSet) -> Lost
+    requires same_n { AllByRecursion (λ p. p.rows.n ≡ others.now.n) least.now }
+    requires descend { Descend (answers_of least.now) }
+    ensures { (rows : List ℕ) → others.now.list ≡ complement others.now.n rows → IsLost (answers_of least.now) rows result }
+{
+    let mut lost = Lost::Neither;
+    for set in least {
+        if !matters(lost, set.answer) {
+            // No later answer is higher.
+            return lost;
+        }
+        match left_outside(&set.rows, others) {
+            Left::Nothing => lost = Lost::Whole(set.answer),
+            Left::One => lost = Lost::AllButOne(set.answer),
+            Left::More => {}
+        }
+    }
+    lost
+}
+
 /// Whether all rows of some set but one lie in the question's, and each set that lies there whole has a lower answer.
 pub(crate) fn strands(least: &[AnsweredMax], rows: &RowSet) -> bool
     requires same_n { AllByRecursion (λ p. p.rows.n ≡ rows.now.n) least.now }
+    requires descend { Descend (answers_of least.now) }
     ensures { IsTrue result ↔ HasStranded (λ a. a.rows) (answers_of least.now) rows.now.list }
 {
     let mut others = *rows;
     others.flip();
-    let mut lost = Lost::Neither;
-    for set in least {
-        if matters(lost, set.answer) {
-            match left_outside(&set.rows, &others) {
-                Left::Nothing => lost = Lost::Whole(set.answer),
-                Left::One => lost = Lost::AllButOne(set.answer),
-                Left::More => {}
-            }
-        }
-    }
-    matches!(lost, Lost::AllButOne(_))
+    matches!(lost_of(least, &others), Lost::AllButOne(_))
 }
 
 // Whether a set has this answer and lies in the question's, told from the rows that are not in that.

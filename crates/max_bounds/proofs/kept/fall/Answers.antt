@@ -8,9 +8,10 @@ use Rattle.audit_types.specs.Column.{Answer}
 use Rattle.audit_types.specs.Extremes.{upper_bound, extremes}
 use Rattle.max_bounds.specs.Maxima.{answers_of, and_answer}
 use Rattle.max_bounds.specs.Reaching.{bound_at, reaching}
-use Rattle.max_bounds.specs.Kept.{rows_above, falls_of, lowered_set, AreLeast}
+use Rattle.max_bounds.specs.Kept.{rows_above, falls_of, lowered_set, AreLeast, Descend}
 use Rattle.max_bounds.specs.AnswerLaws.{all_at, all_from}
 use Rattle.max_bounds.proofs.NextExtremes.{none_falls, least_same, least_lowered, next_count, map_agree}
+use Rattle.max_bounds.proofs.Descending.{lowered_descend}
 use Rattle.max_bounds.proofs.kept.fall.Goals as goal
 
 pub returns-then-is_empty-clause-tells : goal.returns-then-is_empty-clause-tells
@@ -63,3 +64,6 @@ returns-clause-tells c =
       fewest_is = c.fewest.ensures;
       are_least = subst (AreLeast (extremes (and_answer answers rows x)) answers) (sym (c.lower_sets.ensures.lowered ∙ ap (λ a. map (lowered_set a rows) (answers_of c.args.least.now)) same)) (least_lowered answers rows x (answers_of c.args.least.now) c.requires.told.are_least);
     }
+
+pub returns-clause-descend : goal.returns-clause-descend
+returns-clause-descend c = subst Descend (sym c.lower_sets.ensures.lowered) (lowered_descend _ c.args.asked.now.rows.list (answers_of c.args.least.now) c.requires.descend)

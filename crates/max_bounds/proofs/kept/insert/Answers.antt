@@ -1,13 +1,23 @@
-use Rattle.std.proofs.Common.{◌++◌, ◌∷◌, [], rules, SFits, sym, ap, ◌∙◌, subst, to_z, of_z}
+use Rattle.std.specs.List.{insert}
+use Rattle.std.proofs.Common.{take, drop, cond, ◌≡◌, ◌++◌, ◌∷◌, rules, SFits, sym, ap, ◌∙◌, subst, to_z, of_z}
 use Rattle.std.specs.Int.{w64}
 use Rattle.std.proofs.lemmas.Int.{to_z-of_z}
-use Rattle.std.proofs.lemmas.List.{map-append}
 use Rattle.audit_types.specs.Extremes.{extremes}
-use Rattle.max_bounds.specs.Maxima.{answer_of, answers_of, and_answer}
+use Rattle.max_bounds.specs.Maxima.{answers_of, and_answer}
 use Rattle.max_bounds.specs.Outside.{HasWithin}
-use Rattle.max_bounds.specs.Kept.{AreLeast}
+use Rattle.max_bounds.specs.Kept.{AreLeast, Descend, IsPlaceOf}
+use Rattle.max_bounds.specs.declared.answered.AnsweredMax.{AnsweredMax}
 use Rattle.max_bounds.proofs.NextExtremes.{least_inserted, least_within}
+use Rattle.max_bounds.proofs.Descending.{answers_inserted, inserted_descend}
 use Rattle.max_bounds.proofs.kept.insert.Goals as goal
+
+pub returns-then-not-has_within-clause-descend : goal.returns-then-not-has_within-clause-descend
+returns-then-not-has_within-clause-descend c =
+    let least = c.args.least.now.items in
+    let place = c.place_of-place.result in
+    let set : AnsweredMax = record { rows = c.args.own.now; answer = to_z w64 (of_z w64 c.args.asked.now.answer) } in
+    let items_are : c.insert.new.self.items ≡ insert least place set = c.insert.ensures.items ∙ ap (λ b. cond b (insert least place set) least) (c.insert.ensures.succeeds c.requires.room) in
+    subst (λ l. Descend (answers_of l)) (sym items_are) (inserted_descend least place set c.requires.descend (subst (λ l. IsPlaceOf (to_z w64 (of_z w64 c.args.asked.now.answer)) l place) c.deref-then-not-has_within.ensures.value c.place_of-place.ensures.place))
 
 pub returns-then-not-has_within-clause-tells : goal.returns-then-not-has_within-clause-tells
 returns-then-not-has_within-clause-tells c =
@@ -16,9 +26,13 @@ returns-then-not-has_within-clause-tells c =
     let x = c.args.asked.now.answer in
     let fits : SFits w64 x = search rules in
     let same = to_z-of_z w64 x fits in
+    let least = c.args.least.now.items in
+    let place = c.place_of-place.result in
+    let set : AnsweredMax = record { rows = c.args.own.now; answer = to_z w64 (of_z w64 c.args.asked.now.answer) } in
+    let items_are : c.insert.new.self.items ≡ insert least place set = c.insert.ensures.items ∙ ap (λ b. cond b (insert least place set) least) (c.insert.ensures.succeeds c.requires.room) in
     subst (AreLeast (extremes (and_answer answers rows x)) (and_answer answers rows x))
-    (sym (ap answers_of c.push_reserved.ensures.items ∙ map-append answer_of c.args.least.now.items _ ∙ ap (λ a. answers_of c.args.least.now.items ++ record { rows = c.args.own.now.list; value = a } ∷ []) same))
-    (least_inserted answers rows x (answers_of c.args.least.now.items) c.args.own.now.list c.requires.own c.requires.told)
+    (sym (ap answers_of items_are ∙ answers_inserted least place set ∙ ap (λ a. take place (answers_of least) ++ record { rows = c.args.own.now.list; value = a } ∷ drop place (answers_of least)) same))
+    (least_inserted answers rows x (answers_of least) place c.args.own.now.list c.requires.own c.requires.told)
 
 pub returns-else-not-has_within-clause-tells : goal.returns-else-not-has_within-clause-tells
 returns-else-not-has_within-clause-tells c =

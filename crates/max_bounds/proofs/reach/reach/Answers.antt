@@ -1,10 +1,12 @@
-use Rattle.std.proofs.Common.{◌≡◌, arith, ◌∙◌, to_z, of_z}
+use Rattle.std.proofs.Common.{◌≡◌, arith, sym, subst, ◌∙◌, to_z, of_z}
+use Rattle.std.proofs.lemmas.Bool.{true≢false}
 use Rattle.std.specs.Int.{w64}
 use Rattle.std.proofs.lemmas.Int.{to_z-of_z}
 use Rattle.audit_types.specs.RowLaws.{walk_row, walk_more}
 use Rattle.max_bounds.specs.Reaching.{bound_at}
-use Rattle.max_bounds.specs.Kept.{is_at_least, is_above}
+use Rattle.max_bounds.specs.Kept.{is_at_least, is_above, AreSettled}
 use Rattle.max_bounds.proofs.Walks.{joined, walk_ends}
+use Rattle.max_bounds.proofs.ReachedRows.{all_reach, none_above}
 use Rattle.max_bounds.proofs.reach.reach.Goals as goal
 
 pub bounds-upper-row : goal.bounds-upper-row
@@ -51,4 +53,15 @@ returns c =
       falling_n = c.loop-row.invariant.falling_n;
       extremes = rw (all, same) at c.loop-row.invariant.extremes;
       falling = rw (all, same) at c.loop-row.invariant.falling;
+      settled = λ yes. absurd (true≢false (sym yes));
     }
+
+pub returns-then-are_settled-clause-extremes : goal.returns-then-are_settled-clause-extremes
+returns-then-are_settled-clause-extremes c =
+    let same : to_z w64 (of_z w64 c.args.answer) ≡ c.args.answer = to_z-of_z w64 c.args.answer c.ranges.answer in
+    all_reach (bound_at c.args.upper.now) c.args.answer c.args.rows.now.list (subst (λ a. AreSettled (bound_at c.args.upper.now) a c.args.rows.now.list) same (c.are_settled.ensures c.if-are_settled.true))
+
+pub returns-then-are_settled-clause-falling : goal.returns-then-are_settled-clause-falling
+returns-then-are_settled-clause-falling c =
+    let same : to_z w64 (of_z w64 c.args.answer) ≡ c.args.answer = to_z-of_z w64 c.args.answer c.ranges.answer in
+    c.new.ensures.empty ∙ none_above (bound_at c.args.upper.now) c.args.answer c.args.rows.now.list (subst (λ a. AreSettled (bound_at c.args.upper.now) a c.args.rows.now.list) same (c.are_settled.ensures c.if-are_settled.true))

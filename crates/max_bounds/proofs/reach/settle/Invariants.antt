@@ -5,6 +5,6 @@ use Rattle.max_bounds.proofs.reach.settle.Given as goal
 
 abbrev pub invariant-loop-row : goal.invariant-loop-row
 invariant-loop-row l = record {
-  together : l.yielded ++ l.row-iterator ≡ l.extremes.list;
+  together : l.yielded ++ l.row-iterator ≡ l.affected.extremes.list;
   settled : (r : ℕ) → bound_at l.upper r ≡ cond (has_row l.yielded r) (Some l.answer) (bound_at l.fn.upper r);
 }

@@ -1,5 +1,4 @@
-use Rattle.std.proofs.Common.{◌≡◌, ℕ, List, ◌∷◌, [], arith, ap, sym, ◌∙◌, length}
-use Rattle.audit_types.specs.Rows.{complement}
+use Rattle.std.proofs.Common.{◌≡◌, ◌∷◌, arith, ap, sym, ◌∙◌, length}
 use Rattle.max_bounds.specs.Outside.{outside}
 use Rattle.max_bounds.proofs.LoweredSets.{left_is}
 use Rattle.max_bounds.proofs.stranding.left_outside.Goals as goal

@@ -87,6 +87,7 @@ invariant_of-self-2 c =
           ∙ ap (λ o. cond (has_row (rows_at_least (upper_bound answers) x rows) r) (Some x) o) (ap (λ l. bound_at l r) c.deref_mut-3.ensures.value ∙ c.self.invariant.bounds r)
           ∙ next_bounds answers rows x r ∙ ap (λ l. upper_bound l r) (sym answers_are);
       same_n_least = subst (λ n. AllByRecursion (λ p. p.rows.n ≡ n) c.insert.new.least.items) same_n c.insert.ensures.same_n_least;
+      descend = c.insert.ensures.descend;
       high = subst (λ l. AllByRecursion (IsHigh c.self.inside.n (bound_at l)) c.renew_high.new.high.items) c.deref-6.ensures.value (subst (λ n. AllByRecursion (IsHigh n (bound_at c.deref-6.result.now)) c.renew_high.new.high.items) same_n c.renew_high.ensures);
       tells = subst (λ l. TellsExtremes (extremes l) l c.push_reserved.new.self.items c.min-self-inside.result (answers_of c.insert.new.least.items)) (sym answers_are) (record {
         counted = counts_are ∙ ap (λ l. l ++ c.len-count.result ∷ []) fallen.counted ∙ ap (λ k. map (λ a. length (extremes more a)) answers ++ k ∷ []) count

@@ -7,6 +7,7 @@ use Rattle.audit_types.specs.Extremes.{upper_bound}
 use Rattle.max_bounds.specs.Maxima.{Maxima, answers_of}
 use Rattle.max_bounds.specs.Reaching.{bound_at}
 use Rattle.max_bounds.specs.Outside.{HasOneHighest, HasStranded, IsDangerousByExtremes}
+use Rattle.max_bounds.specs.Kept.{Descend}
 use Rattle.max_bounds.proofs.DangerCases.{decides, stranded_answer, some_lone, consistent, not_consistent}
 use Rattle.max_bounds.proofs.bounds.Bounds.is_dangerous.Goals as goal
 
@@ -31,6 +32,7 @@ strands-requires c =
     record {
       same_n = subst (AllByRecursion (λ p. p.rows.n ≡ c.args.rows.now.n)) (sym c.deref-else-one_highest_of.ensures.value)
           (subst (λ n. AllByRecursion (λ p. p.rows.n ≡ n) c.self.inside.least.items) same_n c.self.invariant.same_n_least);
+      descend = subst (λ l. Descend (answers_of l)) (sym c.deref-else-one_highest_of.ensures.value) c.self.invariant.descend;
     }
 
 pub returns-then-one_highest_of : goal.returns-then-one_highest_of

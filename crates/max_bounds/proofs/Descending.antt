@@ -1,0 +1,84 @@
+-- Sets with descending answers, as a new one goes among them.
+use Rattle.std.proofs.Common.{◌≡◌, ℕ, ◌<◌, zero, suc, ℤ, true, false, cond, List, [], ◌∷◌, ◌++◌, length, map, take, drop, get_or, refl, sym, ap, ◌∙◌, subst, arith, inl, inr, ◌⊎◌}
+use Rattle.std.specs.Prelude.{◌≤ℤ◌, int_lt}
+use Rattle.std.specs.List.{AllByRecursion}
+use Rattle.std.proofs.Math.Seq.{split_at}
+use Rattle.std.proofs.lemmas.Int.{ints}
+use Rattle.std.proofs.lemmas.List.{map-append}
+use Rattle.audit_types.specs.Column.{Answer, IsOneOf}
+use Rattle.max_bounds.specs.Outside.{outside}
+use Rattle.max_bounds.specs.Maxima.{answer_of, answers_of}
+use Rattle.max_bounds.specs.Kept.{lowered_set, Descend, IsPlaceOf}
+use Rattle.max_bounds.specs.declared.answered.AnsweredMax.{AnsweredMax}
+use Rattle.max_bounds.proofs.HighRows.{all_inserted}
+
+-- the answers behind one are not above it
+pub behind : (seen : List Answer) (x : Answer) (rest : List Answer) → Descend (seen ++ x ∷ rest) → AllByRecursion (λ b. b.value ≤ℤ x.value) rest
+behind [] x rest h = h.0
+behind (y ∷ seen) x rest h = behind seen x rest h.1
+
+-- nor above what is not below it
+pub all_below : (low high : ℤ) (sets : List Answer) → low ≤ℤ high → AllByRecursion (λ b. b.value ≤ℤ low) sets → AllByRecursion (λ b. b.value ≤ℤ high) sets
+all_below low high [] less h = tt
+all_below low high (b ∷ sets) less h = (let first = h.0 in omega (arith, ints), all_below low high sets less h.1)
+
+-- sets, cut around one of them
+pub answers_split : (least : List AnsweredMax) (i : ℕ) (x : AnsweredMax) → i < length least → x ≡ get_or least i x → answers_of least ≡ answers_of (take i least) ++ answer_of x ∷ answers_of (drop (suc i) least)
+answers_split least i x within is =
+    ap answers_of (split_at least i x within) ∙ map-append answer_of (take i least) _
+    ∙ ap (λ z. answers_of (take i least) ++ answer_of z ∷ answers_of (drop (suc i) least)) (sym is)
+
+-- a lowered set keeps its answer
+value_kept : (x : ℤ) (rows : List ℕ) (a : Answer) → (lowered_set x rows a).value ≡ a.value
+value_kept x rows a = elim (int_lt x a.value) as (λ b. (cond b (record { rows = outside rows a.rows; value = a.value }) a).value ≡ a.value) [ true ↦ refl | false ↦ refl ]
+
+-- so lowered sets descend as before
+pub lowered_descend : (x : ℤ) (rows : List ℕ) (sets : List Answer) → Descend sets → Descend (map (lowered_set x rows) sets)
+lowered_descend x rows [] h = tt
+lowered_descend x rows (a ∷ sets) h = (still sets h.0, lowered_descend x rows sets h.1)
+  where
+    still : (l : List Answer) → AllByRecursion (λ b. b.value ≤ℤ a.value) l → AllByRecursion (λ b. b.value ≤ℤ (lowered_set x rows a).value) (map (lowered_set x rows) l)
+    still [] low = tt
+    still (b ∷ l) low = (subst (λ v. (lowered_set x rows b).value ≤ℤ v) (sym (value_kept x rows a)) (subst (λ v. v ≤ℤ a.value) (sym (value_kept x rows b)) low.0), still l low.1)
+
+-- one more among sets
+pub answers_inserted : (least : List AnsweredMax) (i : ℕ) (y : AnsweredMax) → answers_of (take i least ++ y ∷ drop i least) ≡ take i (answers_of least) ++ answer_of y ∷ drop i (answers_of least)
+answers_inserted [] zero y = refl
+answers_inserted [] (suc i) y = refl
+answers_inserted (z ∷ least) zero y = refl
+answers_inserted (z ∷ least) (suc i) y = ap (λ l. answer_of z ∷ l) (answers_inserted least i y)
+
+-- at its place it leaves them descending
+pub inserted_descend : (least : List AnsweredMax) (place : ℕ) (y : AnsweredMax) → Descend (answers_of least) → IsPlaceOf y.answer least place → Descend (answers_of (take place least ++ y ∷ drop place least))
+inserted_descend [] zero y h at = (tt, tt)
+inserted_descend [] (suc i) y h at = (tt, tt)
+inserted_descend (z ∷ least) zero y h at = (at.rest, h)
+inserted_descend (z ∷ least) (suc i) y h at = (
+  subst (AllByRecursion (λ b. b.value ≤ℤ z.answer)) (sym (answers_inserted least i y)) (all_inserted (λ b. b.value ≤ℤ z.answer) (answers_of least) i (answer_of y) h.0 at.front.0),
+  inserted_descend least i y h.1 (record { front = at.front.1; rest = at.rest }),
+)
+
+-- it is one of them then
+pub inserted_is : (sets : List Answer) (i : ℕ) (x : Answer) → IsOneOf x (take i sets ++ x ∷ drop i sets)
+inserted_is [] zero x = inl refl
+inserted_is [] (suc i) x = inl refl
+inserted_is (y ∷ sets) zero x = inl refl
+inserted_is (y ∷ sets) (suc i) x = inr (inserted_is sets i x)
+
+-- as the others are
+pub inserted_has : (sets : List Answer) (i : ℕ) (x e : Answer) → IsOneOf e sets → IsOneOf e (take i sets ++ x ∷ drop i sets)
+inserted_has [] i x e one = absurd one
+inserted_has (y ∷ sets) zero x e one = inr one
+inserted_has (y ∷ sets) (suc i) x e (inl same) = inl same
+inserted_has (y ∷ sets) (suc i) x e (inr later) = inr (inserted_has sets i x e later)
+
+-- and no more are
+pub one_of_inserted : (sets : List Answer) (i : ℕ) (x e : Answer) → IsOneOf e (take i sets ++ x ∷ drop i sets) → IsOneOf e sets ⊎ (x ≡ e)
+one_of_inserted [] zero x e (inl same) = inr same
+one_of_inserted [] zero x e (inr later) = absurd later
+one_of_inserted [] (suc i) x e (inl same) = inr same
+one_of_inserted [] (suc i) x e (inr later) = absurd later
+one_of_inserted (y ∷ sets) zero x e (inl same) = inr same
+one_of_inserted (y ∷ sets) zero x e (inr later) = inl later
+one_of_inserted (y ∷ sets) (suc i) x e (inl same) = inl (inl same)
+one_of_inserted (y ∷ sets) (suc i) x e (inr later) = elim (one_of_inserted sets i x e later) [ inl one ↦ inl (inr one) | inr same ↦ inr same ]
