@@ -73,3 +73,20 @@ module _ (shape : Shape) (history : List Answered) (r : Answered) where
         };
         fit = All-push (λ (a : Answered). FitsShape shape a.column a.rows) history r core.fit fits;
       }
+
+-- where a column is replaced by one that knows the same, the core is as before
+pub same_known : (shape : Shape) (history : List Answered) (list : List Column) (place : ℕ) (old new : Column) → IsCore shape list history → place < columns shape → old ≡ get_or list place old → known_in new ≡ known_in old →
+    IsCore shape (slice_set list place new) history
+same_known shape history list place old new core below reads same =
+    let known = column_at shape history (columns shape) list place old core.columns_after below reads in
+    record {
+      valid = core.valid;
+      columns_after = record {
+        one_each = length-set list place new ∙ core.columns_after.one_each;
+        each = λ other column here. elim (new_or_other list place new other column here) [
+          | inl (at, is_new) ↦ ap known_in (sym is_new) ∙ same ∙ known ∙ ap (known_of (setting_of shape) history) (sym at)
+          | inr (apart, old_there) ↦ core.columns_after.each other column old_there
+        ];
+      };
+      fit = core.fit;
+    }

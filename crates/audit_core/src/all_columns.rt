@@ -68,6 +68,16 @@ impl Core {
         self.columns[asked.column as usize].probe(&asked.rows)
     }
 
+    /// The same verdict as `decide`, which may keep what it found, so that `take` of an answer to the question takes less time.
+    pub fn weigh(&mut self, asked: &Asked) -> Result<Verdict, NoMemory>
+        requires { FitsShape self.old.setting.shape asked.now.column asked.now.rows }
+        ensures judged { IfOk result (λ verdict. IsJudgementAfter self.old.setting self.old.history asked.now.column asked.now.rows.list verdict) }
+        ensures decided { IfOk result (λ verdict. IsPossibleHistory self.old.setting self.old.history → IsDecisionAfter self.old.setting self.old.history asked.now.column asked.now.rows.list verdict) }
+        ensures same { self.new ≡ self.old }
+    {
+        self.columns[asked.column as usize].weigh(&asked.rows)
+    }
+
     /// Adds a record. On `NoMemory` the history is as before.
     pub fn take(&mut self, answered: &Answered) -> Result<(), NoMemory>
         requires fits { FitsShape self.old.setting.shape answered.now.column answered.now.rows }

@@ -1,5 +1,7 @@
 //! A secret column, whatever its kind.
-ghost use Rattle.std.specs.Prelude.{◌≡◌, ◌<◌, ◌≤◌, IfOk};
+ghost use Rattle.std.specs.Prelude.{◌≡◌, ◌≢◌, ◌<◌, ◌≤◌, [], IfOk};
+ghost use Rattle.audit_types.specs.Column.{IsPossible};
+ghost use Rattle.audit_types.specs.Judgement.{IsJudgement, IsDecision};
 ghost use Rattle.audit_types.specs.Limits.{most_rows};
 ghost use Rattle.audit_core.specs.Columns.{known_in, known_at_first};
 
@@ -32,6 +34,22 @@ impl Column {
         match kind {
             Kind::Sum => Ok(Column::Sum(SumColumn::new(alloc, n)?)),
             Kind::Max => Ok(Column::Max(MaxColumn::new(alloc, n)?)),
+        }
+    }
+}
+
+impl Column {
+    /// The same verdict as `probe`, which may keep what it found, so that `accept` of the same rows takes less time.
+    pub(crate) fn weigh(&mut self, rows: &RowSet) -> Result<Verdict, NoMemory>
+        requires same_n { rows.now.n ≡ (known_in self.old).n }
+        requires some { rows.now.list ≢ [] }
+        ensures judged { IfOk result (λ verdict. IsJudgement (known_in self.old) rows.now.list verdict) }
+        ensures decided { IfOk result (λ verdict. IsPossible (known_in self.old) → IsDecision (known_in self.old) rows.now.list verdict) }
+        ensures same { known_in self.new ≡ known_in self.old }
+    {
+        match self {
+            Column::Sum(sums) => sums.weigh(rows),
+            Column::Max(maxima) => maxima.probe(rows),
         }
     }
 }

@@ -23,11 +23,12 @@ use std::alloc::Global;
 use table_load::Secret;
 
 /// What becomes of a question after the records of the core. The decision reads no secret, and the answer is read after it.
-pub fn outcome_of(secret: &Secret, core: &Core, asked: &Asked) -> Result<Outcome, NoMemory>
-    requires same_setting { core.now.setting ≡ setting_of secret.now.shape }
-    requires legal { IsLegal (secret_table secret.now) core.now.history }
+pub fn outcome_of(secret: &Secret, core: &mut Core, asked: &Asked) -> Result<Outcome, NoMemory>
+    requires same_setting { core.old.setting ≡ setting_of secret.now.shape }
+    requires legal { IsLegal (secret_table secret.now) core.old.history }
     requires fits { FitsShape secret.now.shape asked.now.column asked.now.rows }
-    ensures { IfOk result (λ outcome. IsOutcome (secret_table secret.now) core.now.history asked.now outcome) }
+    ensures outcome { IfOk result (λ outcome. IsOutcome (secret_table secret.now) core.old.history asked.now outcome) }
+    ensures same { core.new ≡ core.old }
 {
     true_answers();
     // The secrets say of themselves that they are a table's.
@@ -35,7 +36,7 @@ pub fn outcome_of(secret: &Secret, core: &Core, asked: &Asked) -> Result<Outcome
     if core.history().len() >= MOST_RECORDS {
         return Ok(Outcome::Full);
     }
-    match core.decide(asked) {
+    match core.weigh(asked) {
         Ok(Verdict::Released) => Ok(Outcome::Answer(secret.truth(asked.column, &asked.rows))),
         Ok(Verdict::DeniedUnsafe) => Ok(Outcome::Denied(Verdict::DeniedUnsafe)),
         Ok(Verdict::DeniedWide) => Ok(Outcome::Denied(Verdict::DeniedWide)),

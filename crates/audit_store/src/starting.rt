@@ -67,18 +67,19 @@ fn test_truth(secret: &Secret, list: &[Answered]) -> Result<(), StartFault>
 }
 
 // Whether the question of a record is released after the records of the core.
-fn is_released(core: &Core, answered: &Answered) -> Result<bool, NoMemory>
-    requires fits { FitsShape core.now.setting.shape answered.now.column answered.now.rows }
-    requires possible { IsPossibleHistory core.now.setting core.now.history }
-    ensures yes { result ≡ Ok true → IsDecisionAfter core.now.setting core.now.history answered.now.column answered.now.rows.list Released }
-    ensures no { result ≡ Ok false → ¬ (IsDecisionAfter core.now.setting core.now.history answered.now.column answered.now.rows.list Released) }
+fn is_released(core: &mut Core, answered: &Answered) -> Result<bool, NoMemory>
+    requires fits { FitsShape core.old.setting.shape answered.now.column answered.now.rows }
+    requires possible { IsPossibleHistory core.old.setting core.old.history }
+    ensures yes { result ≡ Ok true → IsDecisionAfter core.old.setting core.old.history answered.now.column answered.now.rows.list Released }
+    ensures no { result ≡ Ok false → ¬ (IsDecisionAfter core.old.setting core.old.history answered.now.column answered.now.rows.list Released) }
+    ensures same { core.new ≡ core.old }
 {
     narrow_or_wide();
     let asked = Asked {
         column: answered.column,
         rows: answered.rows,
     };
-    match core.decide(&asked)? {
+    match core.weigh(&asked)? {
         Verdict::Released => Ok(true),
         Verdict::DeniedUnsafe => Ok(false),
         Verdict::DeniedWide => Ok(false),
@@ -100,7 +101,7 @@ fn replay(alloc: Global, secret: &Secret, list: &[Answered]) -> Result<Core, Sta
         Err(NoMemory) => return Err(StartFault::NoMemory),
     };
     for (place, answered) in list.iter().enumerate() {
-        match is_released(&core, answered) {
+        match is_released(&mut core, answered) {
             Ok(true) => {}
             Ok(false) => {
                 return Err(StartFault::Illegal {

@@ -1,16 +1,12 @@
 -- What a reduced form tells of a question on sums, and of the least pinned row.
-use Rattle.std.proofs.Common.{◌≡◌, ℕ, zero, suc, ◌<◌, ◌≤◌, ℤ, pos, List, [], ◌∷◌, ◌++◌, length, map, refl, sym, ap, ◌∙◌, subst, arith, inl, inr, ◌⊎◌, Option, Some, None, MatchOption}
-use Rattle.std.specs.Prelude.{◌+ℤ◌, ◌*ℤ◌}
+use Rattle.std.proofs.Common.{◌≡◌, ℕ, ℤ, List, [], ◌∷◌, ◌++◌, sym, ap, ◌∙◌, subst, Option, Some, None}
 use Rattle.std.specs.List.{AllByRecursion}
-use Rattle.std.proofs.lemmas.List.{map-append}
 use Rattle.audit_types.specs.declared.records.Verdict.{Verdict}
 use Rattle.audit_types.specs.declared.records.Verdict.TheVariants.{Released, DeniedUnsafe, DeniedWide}
 use Rattle.audit_types.specs.Rows.{AreRows}
-use Rattle.audit_types.specs.Truth.{number_at}
 use Rattle.audit_types.specs.Column.{Known, Answer, known_sum, IsPossible}
-use Rattle.audit_types.specs.Form.{set_row, combined, InSpan, IsReducedForm, IsNarrow, Reduced}
-use Rattle.audit_types.specs.Direction.{IsPinned}
-use Rattle.audit_types.specs.Judgement.{sets_with, IsJudgement, IsDecision, IsWide}
+use Rattle.audit_types.specs.Form.{set_row, IsReducedForm, IsNarrow, Reduced}
+use Rattle.audit_types.specs.Judgement.{sets_with, IsJudgement, IsDecision}
 use Rattle.sum_basis.specs.Basis.{Echelon, IsLeastUnit}
 use Rattle.sum_basis.specs.Growth.{GrowsTo, Foresees}
 use Rattle.sum_basis.specs.Laws.{OneMoreSet}

@@ -1,9 +1,10 @@
 //! A column of sums and its audit.
-ghost use Rattle.std.specs.Prelude.{◌≡◌, ◌<◌, ◌≤◌, [], IfOk};
+ghost use Rattle.std.specs.Prelude.{◌≡◌, ◌≢◌, ◌<◌, ◌≤◌, [], IfOk};
 ghost use Rattle.audit_types.specs.Limits.{most_rows};
 ghost use Rattle.std.specs.List.{AllByRecursion};
 ghost use Rattle.audit_types.specs.Rows.{AreRows};
-ghost use Rattle.audit_types.specs.Column.{known_sum};
+ghost use Rattle.audit_types.specs.Column.{IsPossible, known_sum};
+ghost use Rattle.audit_types.specs.Judgement.{IsJudgement, IsDecision};
 ghost use Rattle.audit_types.specs.Form.{Reduced};
 ghost use Rattle.audit_types.specs.declared.shapes.Kind.TheVariants.{Sum};
 ghost use Rattle.sum_audit.specs.Laws.{IsLeastPinned};
@@ -75,6 +76,21 @@ impl SumColumn {
         ensures { IsLeastPinned self.now.n (sets_of self.now.answers) result }
     {
         self.basis.unit_row()
+    }
+
+    /// The same verdict as `probe`, which keeps what it found of the set, so that `accept` needn't find it again.
+    pub fn weigh(&mut self, rows: &RowSet) -> Result<Verdict, NoMemory>
+        requires same_n { rows.now.n ≡ self.old.n }
+        requires some { rows.now.list ≢ [] }
+        ensures judged { IfOk result (λ verdict. IsJudgement self.old rows.now.list verdict) }
+        ensures decided { IfOk result (λ verdict. IsPossible self.old → IsDecision self.old rows.now.list verdict) }
+        ensures same { self.new ≡ self.old }
+    {
+        // A set says of itself that its rows are rows of the table.
+        let _ = rows.n();
+        one_more_set();
+        let prospect = self.basis.weigh(rows)?;
+        Ok(verdict_of(prospect))
     }
 
     /// The reduced form of the sets.

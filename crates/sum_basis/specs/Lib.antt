@@ -5,3 +5,4 @@ pub mod Combination
 pub mod Elimination
 pub mod Sparse
 pub mod Merging
+pub mod Holding

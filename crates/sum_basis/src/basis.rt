@@ -1,5 +1,5 @@
 //! The reduced form of the sets of a sum column, kept as long as it is narrow.
-ghost use Rattle.std.specs.Prelude.{◌≡◌, ◌↔◌, ℕ, ◌<◌, ◌≤◌, ◌++◌, ◌^◌, List, pos, [], ◌∷◌, length, IfOk, OnOk, OnErr, IsTrue, slice_index_or};
+ghost use Rattle.std.specs.Prelude.{◌≡◌, ◌↔◌, ℕ, ◌<◌, ◌≤◌, ◌++◌, ◌^◌, List, pos, [], ◌∷◌, length, Some, IfOk, OnOk, OnErr, IfSome, IsTrue, slice_index_or};
 ghost use Rattle.audit_types.specs.Limits.{most_rows};
 ghost use Rattle.audit_types.specs.Form.{set_row, InSpan, IsNarrow, IsReducedForm, Reduced, pivot, pivot_entries, IsLeastCommonMultiple};
 ghost use Rattle.audit_types.specs.Truth.{number_at};
@@ -8,20 +8,31 @@ ghost use Rattle.sum_basis.specs.Growth.{Grows, GrowsFor, GrowsWide, Foresees, S
 ghost use Rattle.sum_basis.specs.declared.Grown.TheVariants.{Same, Wide};
 
 use crate::elimination::{pivot_of, write_set};
-use crate::form::Form;
+use crate::form::{Form, Weighed};
+use crate::sparse::FreeEntry;
 use crate::{Grown, Prospect};
 use audit_types::{NoMemory, RowSet};
 use std::alloc::Global;
 use std::marker::Model;
 
+// The list that the form leaves of the row of a set.
+#[derive(Drop)]
+struct Held {
+    rows: RowSet,
+    list: Vec<FreeEntry>,
+}
+
 /// A reduced form that is narrow. It keeps no sets: it stands for each list of sets whose reduced form it is.
 #[derive(Drop)]
 pub struct Basis {
     form: Form,
+    // What was weighed last, while the form is as it was.
+    held: Option<Held>,
 }
 
 impl Model for Basis {
     ghost use Rattle.std.specs.Prelude.{◌≤◌};
+    ghost use Rattle.sum_basis.specs.Holding.{IsHeld};
     ghost use Rattle.audit_types.specs.Limits.{most_rows};
     ghost use Rattle.sum_basis.specs.Basis.{Echelon};
 
@@ -29,7 +40,15 @@ impl Model for Basis {
 
     ghost view = { λ b. b.form };
 
-    ghost invariant = { λ b. b.form.n ≤ most_rows };
+    ghost invariant = { λ b. (b.form.n ≤ most_rows) × IsHeld b.form b.held };
+}
+
+// The held list, if it is that of the set.
+fn list_of_set(held: Option<Held>, rows: &RowSet) -> Option<Vec<FreeEntry>>
+    ensures { IfSome result (λ list. held ≡ Some (record { rows = rows.now; list = list })) }
+{
+    let Held { rows: kept, list } = held?;
+    if kept.same(rows) { Some(list) } else { None }
 }
 
 impl Basis {
@@ -40,7 +59,7 @@ impl Basis {
         ensures { IfOk result (λ basis. basis ≡ record { n = n; rows = [] }) }
     {
         let form = Form::new(alloc, n)?;
-        Ok(Basis { form })
+        Ok(Basis { form, held: None })
     }
 
     /// Adds the row of a set, unless the form would no longer be narrow.
@@ -55,6 +74,7 @@ impl Basis {
         ensures wide { IfOk result (λ grown. (grown ≡ Wide) ↔ GrowsWide self.old (set_row self.old.n rows.now.list)) }
         ensures err { OnErr result (self.new ≡ self.old) }
     {
+        self.held = None;
         let mut room = [0; 1024];
         let row = &mut room[..self.form.columns() as usize];
         write_set(row, rows);
@@ -62,7 +82,8 @@ impl Basis {
         Ok(grown)
     }
 
-    /// Adds the row of a set with which the form is narrow. It does not look ahead, so it takes less time than `extend`.
+    /// Adds the row of a set with which the form is narrow. It does not look ahead, so it takes less time than `extend`, and
+    /// still less where the set is the one that was weighed last.
     pub fn insert(&mut self, rows: &RowSet) -> Result<(), NoMemory>
         requires n { rows.now.n ≡ self.old.n }
         requires narrow { StaysNarrow self.old rows.now.list }
@@ -71,6 +92,11 @@ impl Basis {
         ensures n { self.new.n ≡ self.old.n }
         ensures err { OnErr result (self.new ≡ self.old) }
     {
+        let held = self.held.take();
+        if let Some(list) = list_of_set(held, rows) {
+            self.form.insert_list(list)?;
+            return Ok(());
+        }
         let mut room = [0; 1024];
         let row = &mut room[..self.form.columns() as usize];
         write_set(row, rows);
@@ -87,6 +113,24 @@ impl Basis {
         let row = &mut room[..self.form.columns() as usize];
         write_set(row, rows);
         let prospect = self.form.prospect(row)?;
+        Ok(prospect)
+    }
+
+    /// The same, and keeps what it found of the set, so that `insert` needn't find it again.
+    pub fn weigh(&mut self, rows: &RowSet) -> Result<Prospect, NoMemory>
+        requires { rows.now.n ≡ self.old.n }
+        ensures foresees { IfOk result (λ prospect. Foresees self.old (set_row self.old.n rows.now.list) prospect) }
+        ensures same { self.new ≡ self.old }
+    {
+        self.held = None;
+        let mut room = [0; 1024];
+        let row = &mut room[..self.form.columns() as usize];
+        write_set(row, rows);
+        let Weighed { prospect, list } = self.form.weigh(row)?;
+        self.held = match list {
+            Some(list) => Some(Held { rows: *rows, list }),
+            None => None,
+        };
         Ok(prospect)
     }
 
@@ -157,6 +201,6 @@ impl Basis {
         ensures { IfOk result (λ basis. basis ≡ self.now) }
     {
         let form = self.form.copy()?;
-        Ok(Basis { form })
+        Ok(Basis { form, held: None })
     }
 }

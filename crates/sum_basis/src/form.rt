@@ -1,5 +1,5 @@
 //! The reduced form of rows of whole numbers, kept as long as it is narrow.
-ghost use Rattle.std.specs.Prelude.{◌≡◌, ◌↔◌, ℕ, ◌<◌, ◌≤◌, ◌++◌, ◌^◌, ℤ, List, pos, [], ◌∷◌, length, map, IfOk, OnOk, OnErr, IsTrue, MatchOption, slice_index_or, unsigned_abs};
+ghost use Rattle.std.specs.Prelude.{◌≡◌, ◌↔◌, ℕ, ◌<◌, ◌≤◌, ◌++◌, ◌^◌, ℤ, List, pos, [], ◌∷◌, length, map, IfOk, OnOk, OnErr, IfSome, IsTrue, MatchOption, slice_index_or, unsigned_abs};
 ghost use Rattle.std.specs.List.{AllByRecursion};
 ghost use Rattle.audit_types.specs.Form.{InSpan, IsNarrow, IsReducedForm, pivot, pivot_entries, IsLeastCommonMultiple};
 ghost use Rattle.audit_types.specs.Truth.{number_at};
@@ -10,6 +10,7 @@ ghost use Rattle.std.specs.Vec.{vec_capacity};
 ghost use Rattle.sum_basis.specs.Sparse.{row_of, IsNew};
 ghost use Rattle.sum_basis.specs.Growth.{Grows, GrowsForRows, GrowsWide, Foresees, IsLeft, IsAsItIs};
 ghost use Rattle.sum_basis.specs.declared.Grown.TheVariants.{Same, Wide};
+ghost use Rattle.sum_basis.specs.declared.form.Left.TheVariants.{Entries};
 
 use crate::cleared_list::value_at;
 use crate::elimination::{scale, write_bits};
@@ -51,6 +52,14 @@ enum Left {
     Large,
     // The list of the primitive row.
     Entries(Vec<FreeEntry>),
+}
+
+// What a row would do to a form, and the list that the form leaves of it.
+#[derive(Drop)]
+pub(crate) struct Weighed {
+    pub prospect: Prospect,
+    // None where the form is told without it.
+    pub list: Option<Vec<FreeEntry>>,
 }
 
 impl Form {
@@ -106,20 +115,41 @@ impl Form {
         Ok(Left::Entries(list))
     }
 
+    /// Tells what the form would become with a row of zeros and ones, which is used up, and the list that the form leaves of it.
+    pub(crate) fn weigh(&self, row: &mut [i128]) -> Result<Weighed, NoMemory>
+        requires length { length row.old ≡ self.now.n }
+        requires bits { (j : ℕ) → unsigned_abs (number_at row.old j) ≤ 1 }
+        ensures foresees { IfOk result (λ weighed. Foresees self.now row.old weighed.prospect) }
+        ensures left { IfOk result (λ weighed. IfSome weighed.list (λ list. IsLeft self.now row.old (Entries list))) }
+    {
+        match self.settle(row)? {
+            Left::Nothing => Ok(Weighed {
+                prospect: self.as_it_is(),
+                list: None,
+            }),
+            Left::Large => Ok(Weighed {
+                prospect: Prospect::Wide,
+                list: None,
+            }),
+            Left::Entries(new) => {
+                let mut room = Vec::with_capacity(self.alloc, self.columns as usize)?;
+                let prospect = look_ahead(&self.rows, self.columns, self.common, &new, &mut room);
+                Ok(Weighed {
+                    prospect,
+                    list: Some(new),
+                })
+            }
+        }
+    }
+
     /// Tells what the form would become with a row of zeros and ones, which is used up.
     pub(crate) fn prospect(&self, row: &mut [i128]) -> Result<Prospect, NoMemory>
         requires length { length row.old ≡ self.now.n }
         requires bits { (j : ℕ) → unsigned_abs (number_at row.old j) ≤ 1 }
         ensures { IfOk result (λ prospect. Foresees self.now row.old prospect) }
     {
-        match self.settle(row)? {
-            Left::Nothing => Ok(self.as_it_is()),
-            Left::Large => Ok(Prospect::Wide),
-            Left::Entries(new) => {
-                let mut room = Vec::with_capacity(self.alloc, self.columns as usize)?;
-                Ok(look_ahead(&self.rows, self.columns, self.common, &new, &mut room))
-            }
-        }
+        let weighed = self.weigh(row)?;
+        Ok(weighed.prospect)
     }
 
     // What the form is with a row of its span.
@@ -167,6 +197,20 @@ impl Form {
             Left::Large => unreachable!(),
             Left::Entries(new) => new,
         };
+        self.insert_list(new)?;
+        Ok(())
+    }
+
+    /// Adds the list of a new row with which the form is narrow.
+    pub(crate) fn insert_list(&mut self, new: Vec<FreeEntry>) -> Result<(), NoMemory>
+        requires new { IsNew self.old.n new.items }
+        requires new_room { self.old.n ≤ vec_capacity new }
+        requires zero { IsZeroAtPivots self.old.rows (row_of self.old.n new.items) }
+        requires narrow { ¬ (GrowsWide self.old (row_of self.old.n new.items)) }
+        ensures reduced { OnOk result (IsReducedForm self.old.n (self.old.rows ++ row_of self.old.n new.items ∷ []) self.new.rows) }
+        ensures n { self.new.n ≡ self.old.n }
+        ensures err { OnErr result (self.new ≡ self.old) }
+    {
         let mut room = Vec::with_capacity(self.alloc, self.columns as usize)?;
         self.grow(new, &mut room)?;
         Ok(())

@@ -1,4 +1,4 @@
-use Rattle.std.proofs.Common.{rules, List, sym, ap, subst, ◌∙◌, FitsSigned, to_z, of_z}
+use Rattle.std.proofs.Common.{rules, List, [], ◌∷◌, ◌++◌, sym, ap, subst, ◌∙◌, FitsSigned, to_z, of_z}
 use Rattle.std.specs.Int.{w64}
 use Rattle.std.proofs.Math.Facts.{to_z-of_z}
 use Rattle.audit_types.specs.declared.records.Answered.{Answered}
@@ -16,7 +16,7 @@ returns-in_ok-take-in-Answer-clause-legal c =
     let asked = c.args.asked.now in
     let in_range : FitsSigned w64 c.in-Answer.answer = search rules in
     let r : Answered = record { column = asked.column; rows = asked.rows; answer = to_z w64 (of_z w64 c.in-Answer.answer) } in
-    let outcome = subst (λ (o : Outcome). IsOutcome table history asked o) c.in-Answer.is c.in_ok-answer.ensures in
-    let grown = ap (λ (a : Audited). a.history) c.in_ok-take-in-Answer.ensures.ok in
+    let outcome = subst (λ (o : Outcome). IsOutcome table history asked o) c.in-Answer.is c.in_ok-answer.ensures.outcome in
+    let grown = ap (λ (a : Audited). a.history) c.in_ok-take-in-Answer.ensures.ok ∙ ap (λ (a : Audited). a.history ++ r ∷ []) c.in_ok-answer.ensures.same in
     let more = c.released_records.ensures table history r c.requires.legal outcome.0 (record { fits = c.requires.fits; true_answer = to_z-of_z in_range ∙ outcome.2; released = outcome.1 }) in
     subst (λ (h : List Answered). IsLegal table h) (sym grown) more

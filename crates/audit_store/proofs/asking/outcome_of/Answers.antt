@@ -7,8 +7,8 @@ use Rattle.audit_types.specs.History.{Setting, IsPossibleHistory, IsDecisionAfte
 use Rattle.audit_store.proofs.LegalHistories.{legal_is_possible}
 use Rattle.audit_store.proofs.asking.outcome_of.Goals as goal
 
-pub returns-in-Ok-Released : goal.returns-in-Ok-Released
-returns-in-Ok-Released c =
+pub returns-in-Ok-Released-clause-outcome : goal.returns-in-Ok-Released-clause-outcome
+returns-in-Ok-Released-clause-outcome c =
     let secret = c.args.secret.now in
     let history = c.args.core.now.history in
     let column = c.args.asked.now.column in
@@ -21,8 +21,8 @@ returns-in-Ok-Released c =
     let in_range : FitsSigned w64 c.truth.result = search rules in
     (few, subst (λ (s : Setting). IsDecisionAfter s history column rows Released) setting released, to_z-of_z in_range ∙ c.truth.ensures)
 
-pub returns-in-Ok-DeniedUnsafe : goal.returns-in-Ok-DeniedUnsafe
-returns-in-Ok-DeniedUnsafe c =
+pub returns-in-Ok-DeniedUnsafe-clause-outcome : goal.returns-in-Ok-DeniedUnsafe-clause-outcome
+returns-in-Ok-DeniedUnsafe-clause-outcome c =
     let secret = c.args.secret.now in
     let history = c.args.core.now.history in
     let column = c.args.asked.now.column in

@@ -1,3 +1,13 @@
+use Rattle.std.proofs.Common.{◌≡◌, ℕ, ℤ, List, [], ◌∷◌, ◌++◌, refl, sym, ap, ◌∙◌, subst}
+use Rattle.std.specs.Prelude.{Option, Some}
+use Rattle.audit_types.specs.Form.{set_row, IsReducedForm}
+use Rattle.sum_basis.specs.Basis.{Echelon}
+use Rattle.sum_basis.specs.Growth.{GrowsWide, StaysNarrow, IsLeft}
+use Rattle.sum_basis.specs.Holding.{IsHeld}
+use Rattle.sum_basis.specs.Sparse.{row_of}
+use Rattle.sum_basis.specs.declared.basis.Held.{Held}
+use Rattle.sum_basis.specs.declared.form.Left.TheVariants.{Entries}
+use Rattle.sum_basis.proofs.Joining.{not_wide_with, grown_with}
 use Rattle.sum_basis.proofs.SetRows.{set_bits}
 use Rattle.sum_basis.proofs.Exactness.{not_wide_at, reduced_at, stands_with}
 use Rattle.sum_basis.proofs.basis.Basis.insert.Goals as goal
@@ -15,3 +25,35 @@ pub returns-clause-stands : goal.returns-clause-stands
 returns-clause-stands c =
     stands_with c.args.self.now c.insert.new.self c.args.rows.now.list
     (reduced_at c.self.inside.form c.args.self.now c.insert.new.self.rows c.write_set.new.row c.args.rows.now.n c.args.rows.now.list c.self.view_is c.write_set.ensures c.requires.n c.in_ok-insert.ensures.reduced)
+
+-- the held list is that of the set
+module _ (form seen : Echelon) (held : Option Held) (m : ℕ) (list : List ℕ) (new : Held) (view : form ≡ seen) (is_held : IsHeld form held) (is : held ≡ Some new) (same : new.rows.list ≡ list) (n : m ≡ seen.n) where
+  left : IsLeft form (set_row form.n list) (Entries new.list)
+  left = subst (λ rows. IsLeft form (set_row form.n rows) (Entries new.list)) same (subst (IsHeld form) is is_held)
+
+  row_is : set_row form.n list ≡ set_row m list
+  row_is = ap (λ (k : ℕ). set_row k list) (ap (λ (e : Echelon). e.n) view ∙ sym n)
+
+  list_not_wide : StaysNarrow seen list → ¬ (GrowsWide form (row_of form.n new.list.items))
+  list_not_wide narrow = not_wide_with form (set_row form.n list) (row_of form.n new.list.items) left.1 (not_wide_at form seen (set_row form.n list) m list view row_is n narrow)
+
+  with_list : (rows : List (List ℤ)) → IsReducedForm form.n (form.rows ++ row_of form.n new.list.items ∷ []) rows → IsReducedForm seen.n (seen.rows ++ set_row seen.n list ∷ []) rows
+  with_list rows reduced = reduced_at form seen rows (set_row form.n list) m list view row_is n (grown_with form rows new.list.items (set_row form.n list) left.1 reduced)
+
+pub insert_list-requires-clause-narrow : goal.insert_list-requires-clause-narrow
+insert_list-requires-clause-narrow c =
+    let is = rw c.in-Some.is at c.list_of_set.ensures in
+    list_not_wide c.self.inside.form c.args.self.now c.self.inside.held c.args.rows.now.n c.args.rows.now.list (record { rows = c.args.rows.now; list = c.in-Some.list }) c.self.view_is c.self.invariant.1 (sym c.take-held.ensures.value ∙ is) refl c.requires.n c.requires.narrow
+
+pub returns-in-Some-clause-reduced : goal.returns-in-Some-clause-reduced
+returns-in-Some-clause-reduced c =
+    let is = rw c.in-Some.is at c.list_of_set.ensures in
+    with_list c.self.inside.form c.args.self.now c.self.inside.held c.args.rows.now.n c.args.rows.now.list (record { rows = c.args.rows.now; list = c.in-Some.list }) c.self.view_is c.self.invariant.1 (sym c.take-held.ensures.value ∙ is) refl c.requires.n c.insert_list.new.self.rows
+    c.in_ok-insert_list.ensures.reduced
+
+pub returns-in-Some-clause-stands : goal.returns-in-Some-clause-stands
+returns-in-Some-clause-stands c =
+    let is = rw c.in-Some.is at c.list_of_set.ensures in
+    stands_with c.args.self.now c.insert_list.new.self c.args.rows.now.list
+    (with_list c.self.inside.form c.args.self.now c.self.inside.held c.args.rows.now.n c.args.rows.now.list (record { rows = c.args.rows.now; list = c.in-Some.list }) c.self.view_is c.self.invariant.1 (sym c.take-held.ensures.value ∙ is) refl c.requires.n c.insert_list.new.self.rows
+    c.in_ok-insert_list.ensures.reduced)

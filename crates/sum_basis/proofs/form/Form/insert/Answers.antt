@@ -6,12 +6,12 @@ returns-in-Nothing-clause-reduced c =
     let left = rw c.in-Nothing.is at c.in_ok-settle.ensures.left in
     same_form c.args.self.now c.args.row.now c.in_ok-settle.ensures.form left
 
-pub grow-requires-clause-narrow : goal.grow-requires-clause-narrow
-grow-requires-clause-narrow c =
+pub insert_list-requires-clause-narrow : goal.insert_list-requires-clause-narrow
+insert_list-requires-clause-narrow c =
     let left = rw c.in-Entries.is at c.in_ok-settle.ensures.left in
     not_wide_with c.args.self.now c.args.row.now _ left.1 c.requires.narrow
 
 pub returns-clause-reduced : goal.returns-clause-reduced
 returns-clause-reduced c =
     let left = rw c.in-Entries.is at c.in_ok-settle.ensures.left in
-    grown_with c.args.self.now c.grow.new.self.rows c.in-Entries.new.items c.args.row.now left.1 c.in_ok-grow.ensures.reduced
+    grown_with c.args.self.now c.insert_list.new.self.rows c.in-Entries.new.items c.args.row.now left.1 c.in_ok-insert_list.ensures.reduced
