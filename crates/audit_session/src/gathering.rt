@@ -13,18 +13,20 @@ ghost use Rattle.audit_session.specs.Groups.{CutsShort, Gathers, GivesNext, Take
 use crate::serving::EndFault;
 use audit_types::{Asked, NoMemory};
 use bench_core::Source;
+use json::Scratch;
 use line_wire::{Lines, Next, Reply};
 use question_plan::{Plan, plan_line};
 use schema_json::Schema;
 use set_index::Index;
 use std::alloc::Global;
 
-/// What the lines of a group come to, their questions, and room for their replies.
+/// What the lines of a group come to, their questions, room for their replies, and the memory that JSON is read with.
 #[derive(Drop)]
 pub(crate) struct Group {
     pub(crate) plans: Vec<Plan>,
     pub(crate) asked: Vec<Asked>,
     pub(crate) replies: Vec<Reply>,
+    scratch: Scratch,
 }
 
 // Adds the question of a plan, if it asks one.
@@ -49,6 +51,7 @@ impl Group {
             plans: Vec::with_capacity(alloc, batch as usize)?,
             asked: Vec::with_capacity(alloc, batch as usize)?,
             replies: Vec::with_capacity(alloc, batch as usize)?,
+            scratch: Scratch::new(alloc),
         })
     }
 
@@ -81,6 +84,7 @@ fn next_plan<P: Source>(
     schema: &Schema,
     index: &Index,
     source: &mut P,
+    scratch: &mut Scratch,
 ) -> Result<Option<Plan>, EndFault>
     requires same { P.told → lines.old.ended ≡ true → P.left source.old ≡ [] }
     requires fits { FitsSchema schema.now.columns index.now }
@@ -101,7 +105,7 @@ fn next_plan<P: Source>(
     ensures others { result ≢ Err EndFault.Bench }
 {
     match lines.next(source)? {
-        Next::Line => Ok(Some(plan_line(alloc, schema, index, lines.text())?)),
+        Next::Line => Ok(Some(plan_line(alloc, schema, index, lines.text(), scratch)?)),
         Next::Long => Ok(Some(Plan::Ready(Reply::Long))),
         Next::End => Ok(None),
     }
@@ -151,7 +155,7 @@ pub(crate) fn gather<P: Source>(
 {
     group.clear();
     while group.plans.len() < batch as usize {
-        match next_plan(alloc, lines, schema, index, source)? {
+        match next_plan(alloc, lines, schema, index, source, &mut group.scratch)? {
             Some(plan) => group.add(plan)?,
             None => return Ok(false),
         }

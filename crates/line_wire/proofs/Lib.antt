@@ -9,6 +9,9 @@ pub mod BufferRanges
 pub mod AnsweredLines
 pub mod Texts
 pub mod KnownKeys
+pub mod PlainMembers
+pub mod PlainObjects
+pub mod PlainLines
 pub mod FoundColumns
 -- ---- replies: what a line tells
 

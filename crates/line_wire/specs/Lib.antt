@@ -4,6 +4,7 @@ pub mod Cutter
 pub mod Steps
 pub mod Reply
 pub mod Questions
+pub mod Plain
 pub mod Kept
 pub mod Requests
 pub mod Answers

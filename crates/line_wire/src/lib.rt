@@ -10,6 +10,7 @@ mod buffer;
 mod edits;
 pub mod laws;
 mod lines;
+mod plain;
 mod question;
 mod range;
 mod reading;

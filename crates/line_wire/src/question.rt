@@ -2,6 +2,7 @@
 ghost use Rattle.std.specs.Prelude.{◌≡◌, List, option_map, string_bytes};
 ghost use Rattle.std.specs.List.{list_all};
 ghost use Rattle.std.specs.BTreeMap.{keys};
+ghost use Rattle.serde_json.specs.Data.{string};
 ghost use Rattle.serde_json.specs.View.{view};
 ghost use Rattle.serde_json.specs.Find.{as_object};
 ghost use Rattle.line_wire.specs.Questions.{ask_of, is_key, has_known_keys, may_be_text, question_in, with_column, wants};
@@ -19,7 +20,7 @@ pub enum Take {
 }
 
 #[derive(Clone, Copy, Debug, PartialEq, Eq, Drop)]
-enum Ask {
+pub(crate) enum Ask {
     Count,
     Of(Take),
 }
@@ -37,7 +38,7 @@ pub(crate) enum Question<'a> {
     },
 }
 
-fn ask_of(word: &str) -> Option<Ask>
+pub(crate) fn ask_of(word: &str) -> Option<Ask>
     ensures { result ≡ ask_of word.now }
 {
     if word == "count" {
@@ -64,7 +65,7 @@ pub(crate) fn wants(take: Take, role: Role) -> bool
     }
 }
 
-fn is_key(key: &str) -> bool
+pub(crate) fn is_key(key: &str) -> bool
     ensures { result ≡ is_key key.now }
 {
     key == "ask" || key == "column" || key == "where" || key == "user"
@@ -95,16 +96,24 @@ fn may_be_text(value: Option<&Value>) -> bool
     }
 }
 
+/// The question with a column of this name, or with none.
+pub(crate) fn with_name<'a>(ask: Ask, name: Option<&'a str>, text: &'a str) -> Option<Question<'a>>
+    ensures { option_map written_of result ≡ with_column ask (option_map (λ s. string s.now) name.entry) text.now }
+{
+    match (ask, name) {
+        (Ask::Count, None) => Some(Question::Count { text }),
+        (Ask::Of(take), Some(column)) => Some(Question::Of { take, column, text }),
+        _ => None,
+    }
+}
+
 fn with_column<'a>(ask: Ask, column: Option<&'a Value>, text: &'a str) -> Option<Question<'a>>
     ensures { option_map written_of result ≡ with_column ask (option_map (λ v. view v.now) column.entry) text.now }
 {
-    match ask {
-        Ask::Count => match column {
-            None => Some(Question::Count { text }),
-            Some(_) => None,
-        },
-        Ask::Of(take) => match column.and_then(Value::as_str) {
-            Some(column) => Some(Question::Of { take, column, text }),
+    match column {
+        None => with_name(ask, None, text),
+        Some(value) => match value.as_str() {
+            Some(name) => with_name(ask, Some(name), text),
             None => None,
         },
     }

@@ -10,8 +10,10 @@ ghost use Rattle.line_wire.specs.Questions.{Written, text_of, question_of, quest
 ghost use Rattle.line_wire.specs.Requests.{Requests, Refuses, Asks, Reads, IsWithin, CanBeAsked, kind_for};
 ghost use Rattle.line_wire.specs.Answers.{HasNoValue, FindsColumn, ReadsCondition, Answers, IsTaken};
 
+use crate::plain::read_plain;
 use crate::question::{Question, Take, question_in, wants};
 use crate::request::{LineFault, Request};
+use json::Scratch;
 use predicate_lang::{Pred, WhereFault, read_where};
 use schema_json::Schema;
 use serde_json::Value;
@@ -101,7 +103,14 @@ fn value_of(alloc: Global, line: &[u8]) -> Result<Value, LineFault>
 }
 
 /// The request that a line means, after docs/FORMATS.md. The refusals come in the order of `LineFault`.
-pub fn read_line_request(alloc: Global, schema: &Schema, line: &[u8]) -> Result<Request, LineFault>
+///
+/// The scratch is the memory of the reader of JSON, which is kept from line to line.
+pub fn read_line_request(
+    alloc: Global,
+    schema: &Schema,
+    line: &[u8],
+    scratch: &mut Scratch,
+) -> Result<Request, LineFault>
     requires { length line.now ≤ 8192 }
     // What is read is what the line means.
     ensures found { IfOk result (Requests schema.now.columns (question_of line.now)) }
@@ -114,6 +123,9 @@ pub fn read_line_request(alloc: Global, schema: &Schema, line: &[u8]) -> Result<
     // The byte that it names can be replied.
     ensures within { IfErr result (IsWithin 8192) }
 {
+    if let Some(question) = read_plain(alloc, line, scratch) {
+        return request_of(alloc, schema, question);
+    }
     match value_of(alloc, line) {
         Ok(value) => match question_in(&value) {
             Some(question) => request_of(alloc, schema, question),

@@ -11,6 +11,7 @@ ghost use Rattle.question_plan.specs.Plans.{CanBeServed, condition_of};
 ghost use Rattle.question_plan.specs.Replies.{IsPlan, plan_of, question_over, refusal};
 
 use audit_types::{Asked, NoMemory};
+use json::Scratch;
 use line_wire::{LineFault, Reply, Request, Take, read_line_request};
 use schema_json::Schema;
 use set_index::{Index, reads_what_fits};
@@ -73,12 +74,13 @@ fn refused(fault: LineFault) -> Result<Reply, NoMemory>
 }
 
 /// Plans a line by the schema and the public part alone. A question that it gives can be decided over each table of the
-/// schema with as many rows, and a reply that it gives can be written.
+/// schema with as many rows, and a reply that it gives can be written. The scratch is kept from line to line.
 pub fn plan_line(
     alloc: Global,
     schema: &Schema,
     index: &Index,
     line: &[u8],
+    scratch: &mut Scratch,
 ) -> Result<Plan, NoMemory>
     requires short { length line.now ≤ 8192 }
     requires fits { FitsSchema schema.now.columns index.now }
@@ -87,7 +89,7 @@ pub fn plan_line(
     ensures served { IfOk result (CanBeServed (shape_of schema.now.columns index.now.rows)) }
 {
     reads_what_fits();
-    match read_line_request(alloc, schema, line) {
+    match read_line_request(alloc, schema, line, scratch) {
         Ok(request) => Ok(plan_request(index, request)),
         Err(fault) => Ok(Plan::Ready(refused(fault)?)),
     }

@@ -11,6 +11,7 @@ use crate::shown::Shown;
 use crate::simulating::SimulationFault;
 use audit_core::Core;
 use bench_core::Source;
+use json::Scratch;
 use line_wire::laws::lines_in_turn;
 use line_wire::{Lines, Next, Reply};
 use question_plan::plan_line;
@@ -26,6 +27,7 @@ pub(crate) fn next_question<P: Source>(
     index: &Index,
     core: &Core,
     source: &mut P,
+    scratch: &mut Scratch,
 ) -> Result<Option<Expected>, SimulationFault>
     requires same { P.told → lines.old.ended ≡ true → P.left source.old ≡ [] }
     requires fits { FitsSchema schema.now.columns index.now }
@@ -38,7 +40,7 @@ pub(crate) fn next_question<P: Source>(
     lines_in_turn();
     match lines.next(source)? {
         Next::Line => {
-            let plan = plan_line(alloc, schema, index, lines.text())?;
+            let plan = plan_line(alloc, schema, index, lines.text(), scratch)?;
             Ok(Some(expected_of(core, plan)?))
         }
         Next::Long => Ok(Some(Expected::Only(Reply::Long))),

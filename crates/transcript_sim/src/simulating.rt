@@ -22,6 +22,7 @@ use crate::shown::Shown;
 use audit_core::Core;
 use audit_types::NoMemory;
 use bench_core::{Bench, Failed, Source};
+use json::Scratch;
 use line_wire::laws::lines_in_turn;
 use line_wire::{LineStop, Lines};
 use schema_json::Schema;
@@ -102,8 +103,17 @@ fn judge<P: Source, B: Bench>(
 {
     lines_in_turn();
     one_verdict();
+    let mut scratch = Scratch::new(alloc);
     let mut line = 0;
-    while let Some(expected) = next_question(alloc, lines, schema, index, core, source)? {
+    while let Some(expected) = next_question(
+        alloc,
+        lines,
+        schema,
+        index,
+        core,
+        source,
+        &mut scratch,
+    )? {
         let due = expected.due();
         send_verdict(bench, due)?;
         line += 2;

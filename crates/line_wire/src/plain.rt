@@ -1,0 +1,62 @@
+//! The question of an object of texts, which needs no copy of any.
+ghost use Rattle.std.specs.Prelude.{◌≡◌, true, Some, OnSome, IfSome, ◌≤◌, length};
+ghost use Rattle.std.specs.List.{list_all};
+ghost use Rattle.json.specs.Value.{value_view, members_view};
+ghost use Rattle.line_wire.specs.Plain.{is_text_at, are_texts, is_plain, question_in_json};
+ghost use Rattle.line_wire.specs.Kept.{written_of};
+ghost use Rattle.line_wire.specs.Questions.{question_of, text_of};
+
+use crate::question::{Question, ask_of, is_key, with_name};
+use json::{Scratch, Value};
+use std::alloc::Global;
+
+fn is_text_at(key: &str, value: &Value) -> bool
+    ensures { result ≡ is_text_at key.now (value_view value.now) }
+{
+    is_key(key) && value.as_str().is_some()
+}
+
+fn are_texts(members: &[(&str, Value)]) -> bool
+    ensures { result ≡ list_all (λ m. is_text_at m.0.now (value_view m.1)) members.now }
+{
+    members.iter().all(|member| is_text_at(member.0, &member.1))
+}
+
+#[tactic(auto, using(crate::proofs::PlainMembers::object_view, crate::proofs::PlainMembers::are_texts_view))]
+fn is_plain(value: &Value) -> bool
+    ensures { result ≡ is_plain (value_view value.now) }
+{
+    match value {
+        Value::Object(members) => are_texts(members.as_slice()),
+        _ => false,
+    }
+}
+
+/// The question that a value writes, where it is an object of known keys with texts.
+fn plain_question<'a>(value: &Value<'a>) -> Option<Question<'a>>
+    ensures plain { OnSome result (is_plain (value_view value.now) ≡ true) }
+    ensures writes { IfSome result (λ question. question_in_json (value_view value.now) ≡ Some (written_of question)) }
+{
+    if !is_plain(value) {
+        return None;
+    }
+    let text = value.get("where").and_then(Value::as_str)?;
+    let word = value.get("ask").and_then(Value::as_str)?;
+    let ask = ask_of(word)?;
+    with_name(ask, value.get("column").and_then(Value::as_str), text)
+}
+
+/// The question of a line that is an object of known keys with texts. None of its texts is longer than the line.
+pub(crate) fn read_plain<'a>(
+    alloc: Global,
+    line: &'a [u8],
+    scratch: &'a mut Scratch,
+) -> Option<Question<'a>>
+    ensures writes { IfSome result (λ question. question_of line.now ≡ Some (written_of question)) }
+    ensures short { IfSome result (λ question. length (text_of (written_of question)) ≤ length line.now) }
+{
+    match Value::from_slice(alloc, line, scratch) {
+        Ok(value) => plain_question(&value),
+        Err(_) => None,
+    }
+}
