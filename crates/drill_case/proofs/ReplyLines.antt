@@ -1,8 +1,8 @@
 -- The bytes of a reply are one line: a line feed stands at their end, and nowhere else.
-use Rattle.std.proofs.Common.{◌≡◌, ◌<◌, ℕ, zero, suc, ◌+◌, ◌/◌, ◌%◌, ℤ, pos, negsuc, Bool, true, false, not, ◌&&◌, cond, nat_lt, ◌==◌, List, [], ◌∷◌, ◌++◌, length, filter, codes, decimal, refl, sym, ap, ◌∙◌, subst, arith, append_assoc, length-append}
+use Rattle.std.proofs.Common.{◌≡◌, ◌<◌, ℕ, zero, suc, ◌+◌, ◌/◌, ◌%◌, ℤ, pos, negsuc, Bool, true, false, not, cond, nat_lt, ◌==◌, List, [], ◌∷◌, ◌++◌, length, filter, codes, decimal, refl, sym, ap, ◌∙◌, subst, arith, append_assoc, length-append}
 use Rattle.std.specs.Fmt.{digits, digits_onto, digit_glyph, signed_decimal}
 use Rattle.std.specs.List.{AllByRecursion, list_all, slice_split, flat_map, onto_first}
-use Rattle.std.proofs.lemmas.Bool.{ne_eqb, and_from, and_parts, cond-true, cond-false}
+use Rattle.std.proofs.lemmas.Bool.{ne_eqb, and_from, and_parts}
 use Rattle.std.proofs.lemmas.List.Folds.{list_all-append}
 use Rattle.line_wire.specs.Lines.{is_feed}
 use Rattle.line_wire.specs.Reply.{reply_bytes, numbered, average}

@@ -1,13 +1,12 @@
 -- What a store's history leaves free in one column.
-use Rattle.std.proofs.Common.{◌≡◌, ℕ, suc, Bool, true, false, cond, ◌<◌, List, [], ◌∷◌, length, map, refl, sym, ap, ◌∙◌, subst, arith, Some}
-use Rattle.std.specs.Prelude.{slice_get, ◌==◌}
+use Rattle.std.proofs.Common.{◌≡◌, ℕ, suc, Bool, true, false, cond, List, [], ◌∷◌, map, refl, ap, Some}
+use Rattle.std.specs.Prelude.{slice_get}
 use Rattle.std.specs.List.{AllByRecursion, filter}
 use Rattle.audit_types.specs.Rows.{Rows}
 use Rattle.audit_types.specs.Column.{Answer}
 use Rattle.audit_types.specs.declared.records.Answered.{Answered}
-use Rattle.audit_types.specs.History.{Table, IsLegal, answers_of}
+use Rattle.audit_types.specs.History.{Table, IsLegal}
 use Rattle.witness_check.specs.Directions.{lists_of}
-use Rattle.journal_audit.specs.Reports.{sets_of_column}
 
 -- the sets of a column's records, as lists of rows
 pub lists_of_records : (records : List Answered) → lists_of (map (λ r. r.rows) records) ≡ map (λ (a : Answer). a.rows) (map (λ (r : Answered). record { rows = r.rows.list; value = r.answer }) records)

@@ -1,13 +1,12 @@
 -- Sending lines on one subject after another: what was sent on the first ones and then on more was sent on all of them.
-use Rattle.std.proofs.Common.{◌≡◌, ℕ, List, [], ◌∷◌, ◌++◌, length, Result, Ok, Err, refl, sym, ap, ◌∙◌, subst, arith, length-append}
+use Rattle.std.proofs.Common.{◌≡◌, ℕ, List, [], ◌∷◌, ◌++◌, Result, Ok, Err, refl, sym, ◌∙◌, subst, arith, length-append}
 use Rattle.std.proofs.lemmas.Bool.{false≢true}
 use Rattle.std.specs.Result.{IsErr, IsErrAnd}
 use Rattle.bench_core.specs.declared.bench.Bench.{Ghosts}
-use Rattle.bench_core.specs.Bench.{AppendsFront, Elapses, Sending}
+use Rattle.bench_core.specs.Bench.{Sending}
 use Rattle.bench_core.specs.Calls.{IsQuiet, LeavesOnly}
 use Rattle.bench_core.specs.Moments.{started, goes_on, joins, weakens}
-use Rattle.bench_core.specs.Causes.{Rose}
-use Rattle.journal_audit.specs.Reports.{Audit, Subject, IsLineOn, Sends, SendsFront, SendsMeanwhile, SendsLine, SendsLinesOn}
+use Rattle.journal_audit.specs.Reports.{Audit, Subject, IsLineOn, SendsFront, SendsMeanwhile, SendsLine, SendsLinesOn}
 use Rattle.journal_audit.specs.declared.faults.AuditFault.{AuditFault}
 use Rattle.journal_audit.specs.declared.faults.AuditFault.TheVariants as fault
 use Rattle.journal_audit.proofs.Sending.{none_sent, none_front, one_sent, one_front, sent_then, front_of_more, then_front}

@@ -1,5 +1,5 @@
 -- The lines on the rows of a column of sums.
-use Rattle.std.proofs.Common.{◌≡◌, ℕ, ◌+◌, ◌<◌, ℤ, List, [], ◌∷◌, ◌++◌, map, sym, ap, ◌∙◌, subst, arith}
+use Rattle.std.proofs.Common.{◌≡◌, ℕ, ◌+◌, ◌<◌, ℤ, List, [], ◌∷◌, ◌++◌, ap, ◌∙◌, subst, arith}
 use Rattle.audit_types.specs.Column.{Answer}
 use Rattle.audit_types.specs.Form.{Reduced}
 use Rattle.audit_types.specs.Direction.{IsPinned, IsCanonicalDirection}

@@ -1,5 +1,5 @@
 -- The report of an audit: for each secret number a line, or a line for a column of them, that shows it to be free.
-use Rattle.std.specs.Prelude.{◌≡◌, ◌≤◌, ◌+◌, ℕ, ℤ, List, [], ◌∷◌, ◌++◌, length, map, filter, slice_index_or, Result, Ok, Err, OnOk, OnErr}
+use Rattle.std.specs.Prelude.{◌≡◌, ◌≤◌, ◌+◌, ℕ, ℤ, List, [], ◌∷◌, ◌++◌, length, map, filter, slice_index_or, Result, Err, OnOk, OnErr}
 use Rattle.std.specs.List.{flat_map, concat, range_with_len}
 use Rattle.audit_types.specs.declared.shapes.Kind.{Kind}
 use Rattle.audit_types.specs.declared.shapes.Kind.TheVariants.{Sum, Max}

@@ -1,5 +1,5 @@
 -- What was solved and divided is the canonical direction of the row.
-use Rattle.std.proofs.Common.{◌≡◌, ◌≢◌, ℕ, zero, suc, ◌+◌, ◌<◌, ◌≤◌, Bool, true, false, ◌||◌, ◌==◌, ℤ, pos, negsuc, List, [], ◌∷◌, ◌++◌, length, map, take, drop, refl, sym, ap, ◌∙◌, subst, arith, inl, inr}
+use Rattle.std.proofs.Common.{◌≡◌, ◌≢◌, ℕ, zero, suc, ◌<◌, Bool, true, false, ◌==◌, ℤ, pos, List, [], ◌∷◌, ◌++◌, length, map, take, drop, refl, sym, ap, ◌∙◌, subst, arith, inl, inr}
 use Rattle.std.specs.Prelude.{◌+ℤ◌, ◌*ℤ◌, neg_ℤ, ◌<ℤ◌}
 use Rattle.std.specs.List.{AllByRecursion}
 use Rattle.std.proofs.Math.IntN.{*ℤ_comm, zero-*ℤ, *ℤ-zero}
@@ -10,13 +10,13 @@ use Rattle.audit_types.specs.Rows.{AreRows}
 use Rattle.audit_types.specs.Truth.{number_at, sum_over}
 use Rattle.audit_types.specs.Form.{pivot, pivot_entry, IsPrimitive, Reduced}
 use Rattle.audit_types.specs.Direction.{IsDirection, IsPinned, IsCanonicalDirection, is_pivot, free_column_of}
-use Rattle.audit_types.specs.Products.{times-add, neg-times}
+use Rattle.audit_types.specs.Products.{times-add}
 use Rattle.sum_basis.specs.Laws.{FormsAreUnique}
 use Rattle.sum_audit.specs.Dot.{dot}
 use Rattle.sum_audit.specs.DotLaws.{dot_two}
 use Rattle.sum_audit.specs.Laws.{DirectionsByForm}
 use Rattle.witness_build.specs.Directions.{IsSmall, IsForm, IsSolved, IsSolvedWith, Solves, IsDivided}
-use Rattle.witness_build.proofs.FormRows.{ZeroAtOthers, zero_at_others}
+use Rattle.witness_build.proofs.FormRows.{left_false, right_false, ZeroAtOthers, zero_at_others}
 use Rattle.witness_build.proofs.FreeColumns.{Reaches, IsFreeColumn, free_column_found}
 use Rattle.witness_build.proofs.Dividing.{product_zero, number_at-multiple, small_divided}
 
@@ -25,14 +25,6 @@ pivot_below n row p = elim (cases_lt (pivot row) n) [
   | inl l ↦ l
   | inr past ↦ let none = get_or_past row (pivot row) (pos 0) (let long = p.one_each in omega arith) in let leading = p.leading in absurd (omega (arith, ints))
 ]
-
-left_false : (a b : Bool) → (a || b) ≡ false → a ≡ false
-left_false true b e = absurd cc
-left_false false b e = refl
-
-right_false : (a b : Bool) → (a || b) ≡ false → b ≡ false
-right_false true b e = absurd cc
-right_false false b e = e
 
 no_pivot : (rows : List (List ℤ)) (j : ℕ) → is_pivot rows j ≡ false → AllByRecursion (λ r. j ≢ pivot r) rows
 no_pivot [] j e = tt

@@ -1,13 +1,22 @@
 -- Rows of a reduced form at each other's pivots.
-use Rattle.std.proofs.Common.{◌≡◌, ◌≢◌, ℕ, zero, suc, ◌+◌, ◌<◌, ◌≤◌, Bool, true, false, ◌||◌, ◌==◌, ℤ, pos, negsuc, List, [], ◌∷◌, ◌++◌, length, get_or, take, refl, sym, ap, ◌∙◌, arith, inl, inr, ◌⊎◌}
-use Rattle.std.specs.Prelude.{◌<ℤ◌}
-use Rattle.std.specs.List.{AllByRecursion, list_any}
+use Rattle.std.proofs.Common.{◌≡◌, ◌≢◌, ℕ, zero, suc, ◌<◌, Bool, true, false, ◌||◌, ◌==◌, ℤ, pos, negsuc, List, [], ◌∷◌, ◌++◌, length, get_or, take, refl, sym, ap, ◌∙◌, arith, inl, inr}
+use Rattle.std.specs.List.{AllByRecursion}
 use Rattle.std.proofs.lemmas.Bool.{or_cases, or_left, eqb-true, eq-eqb}
 use Rattle.std.proofs.lemmas.List.Folds.{list_any-append}
 use Rattle.std.proofs.lemmas.Int.{ints}
 use Rattle.audit_types.specs.Truth.{number_at, is_zero}
-use Rattle.audit_types.specs.Form.{pivot, pivot_entry, IsEchelon, StandsBefore}
+use Rattle.audit_types.specs.Form.{pivot, IsEchelon, StandsBefore}
 use Rattle.audit_types.specs.Direction.{is_pivot}
+
+-- where neither of two tests holds, the first doesn't
+pub left_false : (a b : Bool) → (a || b) ≡ false → a ≡ false
+left_false true b e = absurd cc
+left_false false b e = refl
+
+-- and the second doesn't
+pub right_false : (a b : Bool) → (a || b) ≡ false → b ≡ false
+right_false true b e = absurd cc
+right_false false b e = e
 
 -- the row is 0 at the pivots but its own
 abbrev pub ZeroAtOthers : List (List ℤ) → List ℤ → Type 0

@@ -1,10 +1,9 @@
 -- The free column of a row, as the code looks for it, and that there is one where the row isn't pinned.
 use Rattle.std.proofs.Common.{◌≡◌, ◌≢◌, ℕ, zero, suc, ◌+◌, ◌<◌, ◌≤◌, Bool, true, false, cond, ◌||◌, ◌==◌, ℤ, pos, List, [], ◌∷◌, length, get_or, drop, refl, sym, ap, ◌∙◌, arith, inl, inr, ◌⊎◌, add-one, drop-cons}
-use Rattle.std.specs.Prelude.{◌+ℤ◌, ◌*ℤ◌, ◌<ℤ◌}
+use Rattle.std.specs.Prelude.{◌*ℤ◌, ◌<ℤ◌}
 use Rattle.std.specs.List.{AllByRecursion}
-use Rattle.std.proofs.lemmas.Bool.{or_cases, or_left, eqb-true, eq-eqb, ne_eqb, true≢false, cases_eq, cases_lt}
+use Rattle.std.proofs.lemmas.Bool.{or_cases, or_left, eqb-true, eq-eqb, ne_eqb, cases_lt}
 use Rattle.std.proofs.lemmas.Int.{ints}
-use Rattle.std.proofs.lemmas.List.{get_or_past}
 use Rattle.std.proofs.lemmas.List.Elements.{All-from_recursion}
 use Rattle.std.proofs.Math.IntN.{*ℤ_comm, zero-*ℤ}
 use Rattle.audit_types.specs.Truth.{number_at, is_zero}
@@ -12,11 +11,11 @@ use Rattle.audit_types.specs.Form.{pivot, pivot_entry, IsPrimitive, Reduced}
 use Rattle.audit_types.specs.Rows.{AreRows}
 use Rattle.audit_types.specs.Direction.{IsDirection, IsPinned, is_pivot, first_free, free_column_of}
 use Rattle.audit_types.specs.Products.{zero_factor}
-use Rattle.sum_audit.specs.Dot.{dot, IsOrthogonal}
+use Rattle.sum_audit.specs.Dot.{dot}
 use Rattle.sum_audit.specs.DotLaws.{dot_one}
 use Rattle.sum_audit.specs.Laws.{DirectionsByForm}
 use Rattle.witness_build.specs.Directions.{IsForm}
-use Rattle.witness_build.proofs.FormRows.{ZeroAtOthers, zero_at_others, is_pivot_at, zero_from_test, not_zero_from_test, test_of_zero, test_of_not_zero}
+use Rattle.witness_build.proofs.FormRows.{left_false, right_false, ZeroAtOthers, zero_at_others, is_pivot_at, zero_from_test, not_zero_from_test, test_of_zero, test_of_not_zero}
 
 -- the search from column j on
 abbrev pub free_from : List (List ℤ) → List ℤ → ℕ → ℕ
@@ -101,14 +100,6 @@ record IsFirstFree (form : List (List ℤ)) (row : List ℤ) (s j : ℕ) : Type 
   hit : j < s + length row → (is_pivot form j ≡ false) × ((i : ℕ) → s + i ≡ j → number_at row i ≢ pos 0)
   before : (i : ℕ) → s + i < j → (is_pivot form (s + i) || is_zero (number_at row i)) ≡ true
 
-test_left : (a b : Bool) → (a || b) ≡ false → a ≡ false
-test_left true b e = absurd cc
-test_left false b e = refl
-
-test_right : (a b : Bool) → (a || b) ≡ false → b ≡ false
-test_right true b e = absurd cc
-test_right false b e = e
-
 -- a column that is passed over, and the search behind it
 passed_over : (form : List (List ℤ)) (x : ℤ) (row : List ℤ) (s j : ℕ) → (is_pivot form s || is_zero x) ≡ true → IsFirstFree form row (s + 1) j → IsFirstFree form (x ∷ row) s j
 passed_over form x row s j e rest =
@@ -134,12 +125,12 @@ stopped_at : (form : List (List ℤ)) (x : ℤ) (row : List ℤ) (s : ℕ) → (
 stopped_at form x row s e = record {
   from = omega arith;
   within = omega arith;
-  hit = λ l. (test_left (is_pivot form s) (is_zero x) e, here);
+  hit = λ l. (left_false (is_pivot form s) (is_zero x) e, here);
   before = λ i l. absurd (omega arith);
 }
   where
     here : (i : ℕ) → s + i ≡ s → number_at (x ∷ row) i ≢ pos 0
-    here zero same = not_zero_from_test x (test_right (is_pivot form s) (is_zero x) e)
+    here zero same = not_zero_from_test x (right_false (is_pivot form s) (is_zero x) e)
     here (suc i) same = absurd (omega arith)
 
 by_test : (form : List (List ℤ)) (x : ℤ) (row : List ℤ) (s j : ℕ) (b : Bool) → (is_pivot form s || is_zero x) ≡ b → IsFirstFree form row (s + 1) j → IsFirstFree form (x ∷ row) s (cond b j s)

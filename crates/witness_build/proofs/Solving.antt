@@ -1,5 +1,5 @@
 -- The numbers at the pivots, written one after another.
-use Rattle.std.proofs.Common.{◌≡◌, ◌≢◌, ℕ, zero, suc, ◌+◌, ◌*◌, ◌/◌, ◌%◌, ◌^◌, ◌<◌, ◌≤◌, Bool, true, false, ◌||◌, ◌==◌, ℤ, pos, negsuc, List, [], ◌∷◌, ◌++◌, length, get_or, set, take, refl, sym, ap, ◌∙◌, subst, arith, inl, inr, to_z, of_z}
+use Rattle.std.proofs.Common.{◌≡◌, ◌≢◌, ℕ, zero, suc, ◌+◌, ◌*◌, ◌/◌, ◌^◌, ◌<◌, ◌≤◌, Bool, true, false, ◌||◌, ◌==◌, ℤ, pos, negsuc, List, [], ◌∷◌, ◌++◌, length, get_or, set, take, refl, sym, ap, ◌∙◌, subst, arith, to_z, of_z}
 use Rattle.std.specs.Prelude.{◌*ℤ◌, ◌-ℤ◌, neg_ℤ, ◌<ℤ◌, unsigned_abs, FitsSigned}
 use Rattle.std.specs.Int.{w128, ◌∣◌}
 use Rattle.std.specs.List.{AllByRecursion}
@@ -15,7 +15,7 @@ use Rattle.audit_types.specs.Form.{pivot, pivot_entry, pivot_entries}
 use Rattle.audit_types.specs.Direction.{is_pivot}
 use Rattle.audit_types.specs.Products.{neg-times, times_assoc}
 use Rattle.witness_build.specs.Directions.{IsSmall, IsForm, Solves, IsSolvedWith}
-use Rattle.witness_build.proofs.FormRows.{is_pivot_at, other_pivots, is_pivot-more}
+use Rattle.witness_build.proofs.FormRows.{left_false, right_false, is_pivot_at, other_pivots, is_pivot-more}
 
 -- how often the pivot entry goes into the common multiple
 pub record IsQuotient (common pivot_entry : ℤ) (times : ℕ) : Type 0 where
@@ -111,14 +111,6 @@ still_solves d common free p x (r ∷ rows) h k = (ap (λ z. z *ℤ pivot_entry 
 push_solved : (d : List ℤ) (common : ℤ) (free : ℕ) (rows : List (List ℤ)) (row : List ℤ) → AllByRecursion (Solves d common free) rows → Solves d common free row → AllByRecursion (Solves d common free) (rows ++ row ∷ [])
 push_solved d common free [] row h last = (last, tt)
 push_solved d common free (r ∷ rows) row h last = (h.0, push_solved d common free rows row h.1 last)
-
-left_false : (a b : Bool) → (a || b) ≡ false → a ≡ false
-left_false true b e = absurd cc
-left_false false b e = refl
-
-right_false : (a b : Bool) → (a || b) ≡ false → b ≡ false
-right_false true b e = absurd cc
-right_false false b e = e
 
 -- one row more is solved
 solved_more : (n : ℕ) (common : ℤ) (rows : List (List ℤ)) (row : List ℤ) (free p : ℕ) (d : List ℤ) (x : ℤ) → p ≡ pivot row → p < n → free ≢ p → AllByRecursion (λ r. pivot r ≢ p) rows → IsSolvedWith n common rows free d → IsSolution (number_at row free) (pivot_entry row) common x →

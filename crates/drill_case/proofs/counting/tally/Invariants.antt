@@ -1,4 +1,4 @@
-use Rattle.std.proofs.Common.{◌≡◌, List, length, take}
+use Rattle.std.proofs.Common.{List, length, take}
 use Rattle.drill_case.specs.declared.kinds.ReplyKind.{ReplyKind}
 use Rattle.drill_case.specs.Tallies.{Counts, HaveKinds, lines_in}
 use Rattle.drill_case.proofs.counting.tally.Given as goal

@@ -1,7 +1,7 @@
 use Rattle.std.proofs.Common.{◌≡◌, ◌+◌, ◌*◌, ◌++◌, ℕ, List, get_or, sym, ap, ◌∙◌, arith}
-use Rattle.drill_case.specs.Draws.{draw, state_after}
+use Rattle.drill_case.specs.Draws.{state_after}
 use Rattle.drill_case.specs.Tables.{drill_rows}
-use Rattle.drill_case.specs.Lines.{drill_line, line_of_draws, first_lines}
+use Rattle.drill_case.specs.Lines.{drill_line, line_of_draws}
 use Rattle.drill_case.proofs.LinesInOrder.{one_line_more}
 use Rattle.drill_case.proofs.lines.write_lines.Goals as goal
 

@@ -1,4 +1,4 @@
-use Rattle.std.proofs.Common.{◌≡◌, [], ◌∷◌, Ok, Err, sym, ap, ◌∙◌, subst}
+use Rattle.std.proofs.Common.{[], ◌∷◌, Err, sym, ap, ◌∙◌, subst}
 use Rattle.audit_types.specs.Shapes.{columns}
 use Rattle.journal_audit.specs.Reports.{audit_of, subjects, subjects_before, totals, SendsLinesOn}
 use Rattle.journal_audit.proofs.LinesOn.{refusal_is, and_then, refused}

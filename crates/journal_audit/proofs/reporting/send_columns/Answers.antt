@@ -1,7 +1,7 @@
-use Rattle.std.proofs.Common.{◌≡◌, ◌<◌, [], ◌++◌, Ok, Err, Some, None, length, take, sym, ap, ◌∙◌, subst, arith}
+use Rattle.std.proofs.Common.{◌≡◌, ◌<◌, ◌++◌, Ok, Err, length, take, sym, ap, ◌∙◌, subst, arith}
 use Rattle.std.proofs.Math.Seq.{take-length}
 use Rattle.audit_types.specs.Shapes.{columns, kind_at}
-use Rattle.schema_json.specs.Columns.{secret_count, secret_place}
+use Rattle.schema_json.specs.Columns.{secret_count}
 use Rattle.journal_audit.specs.Reports.{audit_of, subjects_before, subjects_of, SendsLinesOn}
 use Rattle.journal_audit.proofs.LinesOn.{refusal_is, no_lines, and_then, refused_among}
 use Rattle.journal_audit.proofs.SecretNames.{secret_at, one_more_secret, no_more_secret}

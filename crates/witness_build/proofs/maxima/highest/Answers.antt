@@ -1,4 +1,4 @@
-use Rattle.std.proofs.Common.{◌≡◌, ℕ, rules, length, ap, ◌∙◌, arith, SFits, to_z, of_z}
+use Rattle.std.proofs.Common.{rules, length, ap, ◌∙◌, arith, SFits}
 use Rattle.std.specs.Int.{w128}
 use Rattle.std.proofs.lemmas.Int.{to_z-of_z}
 use Rattle.max_audit.specs.Witnesses.{bound_or_zero}

@@ -1,6 +1,5 @@
-use Rattle.std.proofs.Common.{◌≡◌, rules}
-use Rattle.std.specs.Prelude.{unsigned_abs}
-use Rattle.witness_build.proofs.Solving.{IsQuotient, quotient, product_fits, turned_fits, solution_is}
+use Rattle.std.proofs.Common.{rules}
+use Rattle.witness_build.proofs.Solving.{quotient, product_fits, turned_fits, solution_is}
 use Rattle.witness_build.proofs.sums.solution.Goals as goal
 
 pub overflow_mul-result : goal.overflow_mul-result

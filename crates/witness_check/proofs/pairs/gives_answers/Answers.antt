@@ -1,4 +1,4 @@
-use Rattle.std.proofs.Common.{◌≡◌, true, false, sym, ◌∙◌}
+use Rattle.std.proofs.Common.{sym, ◌∙◌}
 use Rattle.std.proofs.lemmas.Bool.{true≢false}
 use Rattle.witness_check.specs.Pairs.{IsAnswerOf}
 use Rattle.witness_check.proofs.AnswersOfColumn.{holds_at}

@@ -1,4 +1,4 @@
-use Rattle.std.proofs.Common.{◌≡◌, ℤ, pos, rules, get_or, ap, ◌∙◌, SFits, to_z, of_z}
+use Rattle.std.proofs.Common.{◌≡◌, pos, rules, get_or, ap, ◌∙◌, SFits, to_z, of_z}
 use Rattle.std.specs.Int.{w128}
 use Rattle.std.proofs.lemmas.Int.{to_z-of_z}
 use Rattle.witness_check.specs.Pairs.{greater_of}

@@ -1,4 +1,4 @@
-use Rattle.std.proofs.Common.{◌≡◌, ◌+◌, ◌*◌, ap, ◌∙◌, arith}
+use Rattle.std.proofs.Common.{◌*◌, ap, ◌∙◌, arith}
 use Rattle.drill_case.specs.Draws.{state_after}
 use Rattle.drill_case.proofs.draws.Draws.skip_fours.Goals as goal
 
