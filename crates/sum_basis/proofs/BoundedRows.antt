@@ -18,7 +18,7 @@ use Rattle.sum_basis.specs.Sparse.{entry_at, row_of, IsListed, entries_of, IsKep
 use Rattle.sum_basis.proofs.Reduction.{length-combine, primitive_exists}
 use Rattle.sum_basis.proofs.Clearing.{cleared_from, some_entry, leads_combination, positive_not_zero}
 use Rattle.sum_basis.proofs.Sizes.{all_by_place}
-use Rattle.sum_basis.proofs.SparseRows.{here, elsewhere, zero_below, number_at-row_of, length-row_of, listed_from}
+use Rattle.sum_basis.proofs.SparseRows.{here, elsewhere, no_entry, zero_below, number_at-row_of, length-row_of, listed_from}
 use Rattle.sum_basis.proofs.SparseMultiples.{kept_pivot}
 use Rattle.sum_basis.proofs.ListContents.{none, entry_at-scaled}
 use Rattle.sum_basis.proofs.ClearedLists.{IsLed, is_led, combined_rows, combined_rows_at}
@@ -40,6 +40,10 @@ bounded_at from n most (e ∷ es) h all j = elim (cases_eq e.place j) [
       let sum : entry_at (e ∷ es) j ≡ entry_at es j = omega (arith, ints) in
       rw sum (bounded_at (e.place + 1) n most es h.3 all.1 j)
 ]
+
+-- the first entry of a new row is small, also as the code has it
+pub first_small : (n : ℕ) (new : List FreeEntry) (by : ℤ) → IsNew n new → by ≡ (get_or new 0 none).value → unsigned_abs by ≤ 2 ^ 56
+first_small n new by is e = rw e ((is_led n new is.some is.listed).small is.small)
 
 -- a multiple by a number that is not 0 is no smaller
 pub no_smaller : (c x : ℤ) → c ≢ pos 0 → unsigned_abs x ≤ unsigned_abs (c *ℤ x)
@@ -170,7 +174,3 @@ module _ (n : ℕ) (r : SparseRow) (new : List FreeEntry) (kept : IsKept n r) (p
             let part = mul-le-mul_right most bound in
             by_bounds times b refl some (omega arith) (λ yes. absurd (some (no_entry r.free.items place (empty.0 yes))), λ same. absurd (other (same_length by times r.free.items new same)))
       ]
-    where
-      no_entry : (es : List FreeEntry) (j : ℕ) → length es ≡ 0 → entry_at es j ≡ pos 0
-      no_entry [] j h = refl
-      no_entry (e ∷ es) j h = absurd (omega arith)

@@ -30,6 +30,11 @@ here e j h = ap (λ b. cond b e.value (pos 0)) (eq-eqb e.place j h)
 pub elsewhere : (e : FreeEntry) (j : ℕ) → e.place ≢ j → cond (nat_eq e.place j) e.value (pos 0) ≡ pos 0
 elsewhere e j h = ap (λ b. cond b e.value (pos 0)) (ne_eqb e.place j h)
 
+-- no entries have nothing
+pub no_entry : (es : List FreeEntry) (j : ℕ) → length es ≡ 0 → entry_at es j ≡ pos 0
+no_entry [] j h = refl
+no_entry (e ∷ es) j h = absurd (omega arith)
+
 -- two lists of entries have the sum of what they have
 pub entry_at-append : (xs ys : List FreeEntry) (j : ℕ) → entry_at (xs ++ ys) j ≡ entry_at xs j +ℤ entry_at ys j
 entry_at-append [] ys j = sym (+ℤ_idl (entry_at ys j))

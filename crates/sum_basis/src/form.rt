@@ -58,7 +58,7 @@ enum Left {
 #[derive(Drop)]
 pub(crate) struct Weighed {
     pub prospect: Prospect,
-    // None where the form is told without it.
+    // None where nothing is left, or an entry above the limit.
     pub list: Option<Vec<FreeEntry>>,
 }
 

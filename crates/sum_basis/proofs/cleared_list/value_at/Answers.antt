@@ -5,17 +5,12 @@ use Rattle.std.proofs.lemmas.Int.{to_z-of_z}
 use Rattle.std.proofs.lemmas.Bool.{eqb-true}
 use Rattle.sum_basis.specs.declared.sparse.FreeEntry.{FreeEntry}
 use Rattle.sum_basis.specs.Sparse.{entry_at, IsListed}
-use Rattle.sum_basis.proofs.SparseRows.{value_from_there, zero_below}
+use Rattle.sum_basis.proofs.SparseRows.{no_entry, value_from_there, zero_below}
 use Rattle.sum_basis.proofs.ListContents.{none}
 use Rattle.sum_basis.proofs.cleared_list.value_at.Goals.{then-is_empty-via-then-is_empty, then-is_empty-via-else-is_empty+then-column-entries}
 use Rattle.sum_basis.proofs.cleared_list.value_at.Goals as goal
 
--- no entries have nothing
-no_entry : (es : List FreeEntry) (j : ℕ) → length es ≡ 0 → entry_at es j ≡ pos 0
-no_entry [] j h = refl
-no_entry (e ∷ es) j h = absurd (omega arith)
-
--- and nothing stands before the first entry
+-- nothing stands before the first entry
 before_first : (n : ℕ) (es : List FreeEntry) (j : ℕ) → IsListed 0 n es → j < (get_or es 0 none).place → entry_at es j ≡ pos 0
 before_first n [] j h before = refl
 before_first n (e ∷ es) j h before = zero_below e.place n (e ∷ es) j (omega arith, h.1, h.2, h.3) before

@@ -1,23 +1,16 @@
-use Rattle.std.proofs.Common.{◌≡◌, ℕ, ◌≤◌, ◌^◌, ℤ, pos, List, get_or, sym, ◌∙◌, rules, IsTrue, subst}
-use Rattle.std.specs.Prelude.{FitsSigned, unsigned_abs}
+use Rattle.std.proofs.Common.{pos, get_or, sym, ◌∙◌, rules, IsTrue, subst}
+use Rattle.std.specs.Prelude.{FitsSigned}
 use Rattle.std.specs.Int.{w128}
 use Rattle.std.proofs.lemmas.Int.{to_z-of_z}
 use Rattle.std.proofs.lemmas.Bool.{eqb-true, eq-eqb}
-use Rattle.sum_basis.specs.declared.sparse.FreeEntry.{FreeEntry}
-use Rattle.sum_basis.specs.Sparse.{IsNew}
 use Rattle.sum_basis.proofs.ListContents.{none}
-use Rattle.sum_basis.proofs.ClearedLists.{is_led}
-use Rattle.sum_basis.proofs.BoundedRows.{by_length}
+use Rattle.sum_basis.proofs.BoundedRows.{first_small, by_length}
 use Rattle.sum_basis.proofs.looking.look_at.Goals as goal
-
--- the first entry of the new row is small, as the code has it
-by_small : (n : ℕ) (new : List FreeEntry) (by : ℤ) → IsNew n new → by ≡ (get_or new 0 none).value → unsigned_abs by ≤ 2 ^ 56
-by_small n new by is e = rw e ((is_led n new is.some is.listed).small is.small)
 
 pub is_surely_small-requires : goal.is_surely_small-requires
 is_surely_small-requires c =
     let fits : FitsSigned w128 (get_or c.args.new.now 0 (record { place = 0; value = pos 0 })).value = search rules in
-    record { by = by_small c.args.columns c.args.new.now _ c.requires.new (to_z-of_z w128 (get_or c.args.new.now 0 none).value fits) }
+    record { by = first_small c.args.columns c.args.new.now _ c.requires.new (to_z-of_z w128 (get_or c.args.new.now 0 none).value fits) }
 
 pub returns-then-is_surely_small-clause-cleared : goal.returns-then-is_surely_small-clause-cleared
 returns-then-is_surely_small-clause-cleared c =

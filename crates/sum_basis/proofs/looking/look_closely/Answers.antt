@@ -8,22 +8,18 @@ use Rattle.int_rows.specs.PrimitiveLaws.{zero_from_bits}
 use Rattle.sum_basis.specs.declared.sparse.FreeEntry.{FreeEntry}
 use Rattle.sum_basis.specs.declared.sparse.SparseRow.{SparseRow}
 use Rattle.sum_basis.specs.Elimination.{IsSmall}
-use Rattle.sum_basis.specs.Sparse.{entry_at, row_of, entries_of, IsKept, IsNew, scaled}
+use Rattle.sum_basis.specs.Sparse.{entry_at, row_of, entries_of, IsKept, scaled}
 use Rattle.sum_basis.proofs.SparseRows.{listed_from, listed_to, small_values}
 use Rattle.sum_basis.proofs.ListContents.{none}
-use Rattle.sum_basis.proofs.ClearedLists.{is_led, entry_small}
+use Rattle.sum_basis.proofs.ClearedLists.{entry_small}
 use Rattle.sum_basis.proofs.KeptRows.{cleared_as_it_is, lone_by_length}
-use Rattle.sum_basis.proofs.BoundedRows.{by_bounds}
+use Rattle.sum_basis.proofs.BoundedRows.{first_small, by_bounds}
 use Rattle.sum_basis.proofs.looking.look_closely.Goals as goal
 
 pub value_at-times-requires : goal.value_at-times-requires
 value_at-times-requires c =
     let fits = c.ranges.columns.fits in
     rw c.deref.ensures.value (listed_to 0 c.args.columns 65536 c.args.row.now.free.items (omega arith) (listed_from (c.args.row.now.pivot + 1) 0 c.args.columns c.args.row.now.free.items (omega arith) c.requires.kept.listed.3))
-
--- the first entry of the new row is small, as the code has it
-by_small : (n : ℕ) (new : List FreeEntry) (by : ℤ) → IsNew n new → by ≡ (get_or new 0 none).value → unsigned_abs by ≤ 2 ^ 56
-by_small n new by is e = rw e ((is_led n new is.some is.listed).small is.small)
 
 -- and so is the row's entry at its place
 times_small : (n : ℕ) (r : SparseRow) (place : ℕ) (list : List FreeEntry) (found times : ℤ) → IsKept n r → IsSmall (row_of n (entries_of r)) → list ≡ r.free.items → found ≡ entry_at list place → times ≡ found → unsigned_abs times ≤ 2 ^ 56
@@ -32,7 +28,7 @@ times_small n r place list found times kept small l is e = rw (e, is, l) (entry_
 pub is_surely_small-requires : goal.is_surely_small-requires
 is_surely_small-requires c =
     let fits : FitsSigned w128 (get_or c.args.new.now 0 (record { place = 0; value = pos 0 })).value = search rules in
-    record { by = by_small c.args.columns c.args.new.now _ c.requires.new (to_z-of_z w128 (get_or c.args.new.now 0 none).value fits) }
+    record { by = first_small c.args.columns c.args.new.now _ c.requires.new (to_z-of_z w128 (get_or c.args.new.now 0 none).value fits) }
 
 pub are_parallel-requires-clause-first : goal.are_parallel-requires-clause-first
 are_parallel-requires-clause-first c =
