@@ -30,10 +30,12 @@ Keeps form (Some x) p = form x.0 ≡ true → p ≡ Some x
 abbrev is_text : json.Json → Bool
 is_text j = is_some (found.as_str j)
 
+-- what has another form keeps nothing
 never : {A B : Type 0} (h : A → B) (form : B → Bool) → ((a : A) → form (h a) ≡ false) → (o : Option (A × List Token)) (p : Option (B × List Token)) → Keeps form (json.parse_map h o) p
 never h form other None p = tt
 never h form other (Some x) p = λ is. absurd (false≢true (sym (other x.0) ∙ is))
 
+-- a text is read alike, whatever arrays and objects are read as
 one_text : (a b : json.Parse json.Items) (o p : json.Parse json.Members) (ts : List Token) → Keeps is_text (json.value_with a o ts) (json.value_with b p ts)
 one_text a b o p [] = tt
 one_text a b o p (Token.begin_object ∷ ts) = never json.object is_text (λ ms. refl) (o ts) _
@@ -47,12 +49,14 @@ one_text a b o p (Token.boolean b' ∷ ts) = λ is. refl
 one_text a b o p (Token.null ∷ ts) = λ is. refl
 one_text a b o p (Token.bad ∷ ts) = tt
 
+-- the items and the members that a value of this depth may hold
 abbrev inner_items : ℕ → json.Parse json.Items
 inner_items d ts = json.items (json.value d) (length ts) ts
 
 abbrev inner_members : ℕ → json.Parse json.Members
 inner_members d ts = json.members (json.value d) (length ts) ts
 
+-- so at each depth
 text_value : (d e : ℕ) (ts : List Token) → Keeps is_text (json.value d ts) (json.value e ts)
 unfolding json.value
 text_value zero zero ts = one_text (λ us. None) (λ us. None) (λ us. None) (λ us. None) ts
@@ -60,11 +64,13 @@ text_value zero (suc e) ts = one_text (λ us. None) (inner_items e) (λ us. None
 text_value (suc d) zero ts = one_text (inner_items d) (λ us. None) (inner_members d) (λ us. None) ts
 text_value (suc d) (suc e) ts = one_text (inner_items d) (inner_items e) (inner_members d) (inner_members e) ts
 
+-- the form of a whole says that of its part
 mapped : {A B : Type 0} (f : A → Bool) (g : B → Bool) (h : A → B) → ((a : A) → g (h a) ≡ true → f a ≡ true) → (o p : Option (A × List Token)) → Keeps f o p → Keeps g (json.parse_map h o) (json.parse_map h p)
 mapped f g h part None p keeps = tt
 mapped f g h part (Some x) p keeps = λ is. ap (json.parse_map h) (keeps (part x.0 is))
 
 module _ (p q : json.Parse json.Json) (each : (ts : List Token) → Keeps is_text (p ts) (q ts)) where
+  -- a key and its text, before members that are read alike
   first : (k : List ℕ) (m n : json.Parse json.Members) → ((ts : List Token) → Keeps are_texts (m ts) (n ts)) → (o r : Option (json.Json × List Token)) → Keeps is_text o r
       → Keeps are_texts (option_and_then (λ x. json.parse_map (json.member k x.0) (m x.1)) o) (option_and_then (λ x. json.parse_map (json.member k x.0) (n x.1)) r)
   first k m n more None r keeps = tt
@@ -77,17 +83,20 @@ module _ (p q : json.Parse json.Json) (each : (ts : List Token) → Keeps is_tex
           let text = and_parts (is_key k) (is_text x.0) parts.0 in
           ap (option_and_then (λ z. json.parse_map (json.member k z.0) (n z.1))) (keeps text.1) ∙ ap (json.parse_map (json.member k x.0)) (same parts.1)
 
+  -- members from the next key on
   turn : (m n : json.Parse json.Members) → ((ts : List Token) → Keeps are_texts (m ts) (n ts)) → (o : Option (Option (List ℕ) × List Token))
       → Keeps are_texts (option_and_then (λ x. json.members_step p m x.0 x.1) o) (option_and_then (λ x. json.members_step q n x.0 x.1) o)
   turn m n more None = tt
   turn m n more (Some (None, ts)) = λ is. refl
   turn m n more (Some (Some k, ts)) = first k m n more (p ts) (q ts) (each ts)
 
+  -- all members
   text_members : (turns : ℕ) (ts : List Token) → Keeps are_texts (json.members p turns ts) (json.members q turns ts)
   unfolding json.members
   text_members zero ts = tt
   text_members (suc turns) ts = turn (json.members p turns) (json.members q turns) (text_members turns) (json.read_key ts)
 
+-- an object of texts is read alike where its members are
 either_plain : (a b : json.Parse json.Items) (o p : json.Parse json.Members) → ((ts : List Token) → Keeps are_texts (o ts) (p ts)) → (ts : List Token) → Keeps is_plain (json.value_with a o ts) (json.value_with b p ts)
 either_plain a b o p both [] = tt
 either_plain a b o p both (Token.begin_object ∷ ts) = mapped are_texts is_plain json.object (λ ms is. is) (o ts) (p ts) (both ts)
@@ -101,6 +110,7 @@ either_plain a b o p both (Token.boolean c ∷ ts) = λ is. refl
 either_plain a b o p both (Token.null ∷ ts) = λ is. refl
 either_plain a b o p both (Token.bad ∷ ts) = tt
 
+-- so at each depth of at least one
 plain_value : (d e : ℕ) (ts : List Token) → Keeps is_plain (json.value (suc d) ts) (json.value (suc e) ts)
 unfolding json.value
 plain_value d e ts = either_plain (inner_items d) (inner_items e) (inner_members d) (inner_members e) (λ rest. text_members (json.value d) (json.value e) (text_value d e) (length rest) rest) ts
@@ -111,6 +121,7 @@ none≢some j e = cc
 inner : (i j : json.Json) → Some i ≡ Some j → i ≡ j
 inner i j e = cc
 
+-- the value of a text is the last that stands there
 whole : (o p : Option (json.Json × List Token)) (j : json.Json) → Keeps is_plain o p → option_and_then (λ x. json.if_last x.0 x.1) o ≡ Some j → is_plain j ≡ true → option_and_then (λ x. json.if_last x.0 x.1) p ≡ Some j
 whole None p j keeps is plain = absurd (none≢some j is)
 whole (Some (i, [])) p j keeps is plain = ap (option_and_then (λ x. json.if_last x.0 x.1)) (keeps (ap is_plain (inner i j is) ∙ plain)) ∙ is
@@ -131,6 +142,7 @@ abbrev gathered : json.Members → Members → Members
 gathered json.no_members ms = ms
 gathered (json.member k j rest) ms = gathered rest (put k (string (text_in j)) ms)
 
+-- a text is kept as it is
 of_text : (j : json.Json) → is_text j ≡ true → of_json j ≡ Some (string (text_in j))
 of_text json.null is = absurd (false≢true is)
 of_text (json.boolean b) is = absurd (false≢true is)
@@ -139,6 +151,7 @@ of_text (json.string s) is = refl
 of_text (json.array js) is = absurd (false≢true is)
 of_text (json.object ms) is = absurd (false≢true is)
 
+-- and so are an object's
 of_texts : (ms : json.Members) (before : Members) → are_texts ms ≡ true → of_members ms before ≡ Some (gathered ms before)
 of_texts json.no_members before is = refl
 of_texts (json.member k j ms) before is =
@@ -151,21 +164,25 @@ abbrev text_or : Option json.Json → Option Data → Option Data
 text_or None before = before
 text_or (Some j) before = Some (string (text_in j))
 
+-- what is put at a key is found at that key alone
 one_put : (b : Bool) (k l : List ℕ) (j : json.Json) (before : Members) → bytes_eq l k ≡ b → get_member k (put l (string (text_in j)) before) ≡ text_or (cond b (Some j) None) (get_member k before)
 one_put true k l j before same =
     let is : l ≡ k = (bytes_eq-Decides l k).0 same in
     subst (λ m. get_member k (put m (string (text_in j)) before) ≡ Some (string (text_in j))) (sym is) (get_member-put k (string (text_in j)) before)
 one_put false k l j before other = get_member-put_other k l (string (text_in j)) before (λ is. false≢true (sym other ∙ (bytes_eq-Decides l k).1 (sym is)))
 
+-- of two equal keys the later one counts
 later : (o : Option json.Json) (here : Option json.Json) (before : Option Data) → text_or (found.later_or o here) before ≡ text_or o (text_or here before)
 later None here before = refl
 later (Some j) here before = refl
 
+-- what is found in an object of texts
 get-gathered : (k : List ℕ) (ms : json.Members) (before : Members) → get_member k (gathered ms before) ≡ text_or (found.get_member k ms) (get_member k before)
 get-gathered k json.no_members before = refl
 get-gathered k (json.member l j ms) before =
     get-gathered k ms (put l (string (text_in j)) before) ∙ ap (text_or (found.get_member k ms)) (one_put (bytes_eq l k) k l j before refl) ∙ sym (later (found.get_member k ms) _ _)
 
+-- a known key more
 known_put_at : (o : Ordering) (k l : List ℕ) (d e : Data) (ms : Members) → is_key k ≡ true → keys_are_known (member l e ms) ≡ true → keys_are_known (put k d ms) ≡ true
     → keys_are_known (match_ordering o (member k d (member l e ms)) (member l d ms) (member l e (put k d ms))) ≡ true
 known_put_at Less k l d e ms key known rest = and_from _ _ key known
@@ -176,6 +193,7 @@ known_put : (k : List ℕ) (d : Data) (ms : Members) → is_key k ≡ true → k
 known_put k d no_members key known = and_from _ _ key refl
 known_put k d (member l e ms) key known = known_put_at _ k l d e ms key known (known_put k d ms key (and_parts _ _ known).1)
 
+-- each key of such an object is known
 known_gathered : (ms : json.Members) (before : Members) → are_texts ms ≡ true → keys_are_known before ≡ true → keys_are_known (gathered ms before) ≡ true
 known_gathered json.no_members before is known = known
 known_gathered (json.member k j ms) before is known =
@@ -184,6 +202,7 @@ known_gathered (json.member k j ms) before is known =
 
 -- ---- the question that it writes
 
+-- what is found is a text
 found_text : (k : List ℕ) (ms : json.Members) → are_texts ms ≡ true → text_or (found.get_member k ms) None ≡ option_map string (option_and_then found.as_str (found.get_member k ms))
 found_text k json.no_members is = refl
 found_text k (json.member l j ms) is =
@@ -212,6 +231,7 @@ own_text : (o : Option (List ℕ)) → option_and_then as_str (option_map string
 own_text None = refl
 own_text (Some s) = refl
 
+-- the question of a value by what is found in it
 written : (d : Data) (text word : List ℕ) (ask : Ask) (user column : Option (List ℕ)) → has_known_keys (as_object d) ≡ true → get (codes "user") d ≡ option_map string user → get (codes "where") d ≡ Some (string text)
     → get (codes "ask") d ≡ Some (string word) → ask_of word ≡ Some ask → get (codes "column") d ≡ option_map string column → question_in d ≡ with_column ask (option_map string column) text
 unfolding question_in

@@ -2,7 +2,9 @@
 use Rattle.std.proofs.Common.{◌≡◌, ℕ, ◌+◌, ◌-◌, ◌*◌, ◌<◌, ◌≤◌, ◌^◌, List, [], ◌∷◌, length, get_or, drop, Some, None, cond, sym, ap, ◌∙◌, arith}
 use Rattle.std.proofs.lemmas.Bool.{lt-leb}
 use Rattle.std.proofs.lemmas.List.{drop_more}
-use Rattle.predicate_lang.specs.Tokens.{decimal_after, within_most, most}
+use Rattle.audit_types.specs.Limits.{most_number}
+use Rattle.schema_json.specs.Decimals.{decimal_after}
+use Rattle.predicate_lang.specs.Tokens.{within_most}
 
 -- digits never make a number smaller
 pub decimal_after_grows : (bytes : List ℕ) (n : ℕ) → n ≤ decimal_after n bytes
@@ -14,4 +16,4 @@ pub too_large : (digits : List ℕ) (i v d : ℕ) → i < length digits → d �
 too_large digits i v d inside is same large =
     let next : decimal_after v (drop i digits) ≡ decimal_after (10 * v + (d - 48)) (drop (i + 1) digits) = ap (decimal_after v) (drop_more digits i 0 inside) ∙ ap (λ b. decimal_after (10 * v + (b - 48)) (drop (i + 1) digits)) (sym is) in
     let grows : 10 * v + (d - 48) ≤ decimal_after 0 digits = omega (arith, decimal_after_grows (drop (i + 1) digits) (10 * v + (d - 48)), next, same) in
-    ap (λ b. cond b (Some (decimal_after 0 digits)) None) (lt-leb (decimal_after 0 digits) most (omega (arith, grows, large)))
+    ap (λ b. cond b (Some (decimal_after 0 digits)) None) (lt-leb (decimal_after 0 digits) most_number (omega (arith, grows, large)))

@@ -11,7 +11,9 @@ use Rattle.std.proofs.lemmas.Bool.{leb-true, le-leb}
 use Rattle.std.proofs.lemmas.List.Sums.{take_while-cons}
 use Rattle.std.proofs.lemmas.Slice.Eq.{bytes_eq-Decides}
 use Rattle.schema_json.specs.Columns.{is_name_byte, is_keyword}
-use Rattle.predicate_lang.specs.Tokens.{Token, and_word, or_word, not_word, all_word, in_word, name, value, operator, open_bracket, close_bracket, comma, Front, front_token, word_token, number_of, number_at, decimal_after, within_most, most, signed, lex_from, lex_front, is_blank, is_equals_next}
+use Rattle.audit_types.specs.Limits.{most_number}
+use Rattle.schema_json.specs.Decimals.{decimal_after, signed}
+use Rattle.predicate_lang.specs.Tokens.{Token, and_word, or_word, not_word, all_word, in_word, name, value, operator, open_bracket, close_bracket, comma, Front, front_token, word_token, number_of, number_at, within_most, lex_from, lex_front, is_blank, is_equals_next}
 use Rattle.predicate_lang.specs.Printing.{doubled, token_text}
 use Rattle.predicate_lang.specs.Places.{tokens_of}
 use Rattle.predicate_lang.specs.declared.trees.Literal.{Literal}
@@ -34,7 +36,7 @@ size (negsuc n) = suc n
 
 -- a text, or a number that is not too great
 abbrev pub is_printable_literal : Literal → Bool
-is_printable_literal (literal.Number z) = nat_le (size z) most
+is_printable_literal (literal.Number z) = nat_le (size z) most_number
 is_printable_literal (literal.Text t) = true
 
 -- a token that is read again as it is printed
@@ -110,20 +112,20 @@ pub decimals : IsNumeralModel (λ ds. list_all is_ascii_digit ds ≡ true) (deci
 decimals = numerals_by_fold _ (search rules) decimal_after (search rules)
 
 -- no digits write a number shorter
-shortest : (ds : List ℕ) → list_all is_ascii_digit ds ≡ true → 0 < length ds → decimal_after 0 ds ≤ most → length (decimal (decimal_after 0 ds)) ≤ length ds
+shortest : (ds : List ℕ) → list_all is_ascii_digit ds ≡ true → 0 < length ds → decimal_after 0 ds ≤ most_number → length (decimal (decimal_after 0 ds)) ≤ length ds
 shortest ds digits some small = length-decimal-le (length ds) (decimal_after 0 ds) some (digits_value_short decimals ds (length ds) digits (omega arith)) (omega arith)
 
 -- a number that is not too great
-within_is : (n v : ℕ) → within_most n ≡ Some v → (v ≡ n) × (n ≤ most)
-within_is n v h = go (nat_le n most) refl h
+within_is : (n v : ℕ) → within_most n ≡ Some v → (v ≡ n) × (n ≤ most_number)
+within_is n v h = go (nat_le n most_number) refl h
   where
-    go : (t : Bool) → nat_le n most ≡ t → cond t (Some n) None ≡ Some v → (v ≡ n) × (n ≤ most)
-    go true e i = (cc, leb-true n most e)
+    go : (t : Bool) → nat_le n most_number ≡ t → cond t (Some n) None ≡ Some v → (v ≡ n) × (n ≤ most_number)
+    go true e i = (cc, leb-true n most_number e)
     go false e i = absurd cc
 
 record IsNumber (minus : Bool) (ds : List ℕ) (z : ℤ) : Type 0 where
   is : z ≡ signed minus (decimal_after 0 ds)
-  small : decimal_after 0 ds ≤ most
+  small : decimal_after 0 ds ≤ most_number
   some : 0 < length ds
 
 -- a number that was read
@@ -139,26 +141,26 @@ number_is minus (d ∷ ds) z h = go (within_most (decimal_after 0 (d ∷ ds))) r
         record { is = sym same ∙ ap (signed minus) found.0; small = found.1; some = omega arith }
 
 -- with a minus sign or none
-signed_facts : (minus : Bool) (v k : ℕ) → v ≤ most → length (decimal v) ≤ k → (nat_le (size (signed minus v)) most ≡ true) × (length (signed_decimal (signed minus v)) ≤ cond minus (suc k) k)
-signed_facts false v k small short = (le-leb v most small, short)
-signed_facts true zero k small short = (le-leb 0 most small, omega arith)
-signed_facts true (suc v) k small short = (le-leb (suc v) most small, omega arith)
+signed_facts : (minus : Bool) (v k : ℕ) → v ≤ most_number → length (decimal v) ≤ k → (nat_le (size (signed minus v)) most_number ≡ true) × (length (signed_decimal (signed minus v)) ≤ cond minus (suc k) k)
+signed_facts false v k small short = (le-leb v most_number small, short)
+signed_facts true zero k small short = (le-leb 0 most_number small, omega arith)
+signed_facts true (suc v) k small short = (le-leb (suc v) most_number small, omega arith)
 
 -- a number that was read can be printed, and no shorter
-number_facts : (minus : Bool) (ds : List ℕ) (z : ℤ) → list_all is_ascii_digit ds ≡ true → IsNumber minus ds z → (nat_le (size z) most ≡ true) × (length (signed_decimal z) ≤ cond minus (suc (length ds)) (length ds))
+number_facts : (minus : Bool) (ds : List ℕ) (z : ℤ) → list_all is_ascii_digit ds ≡ true → IsNumber minus ds z → (nat_le (size z) most_number ≡ true) × (length (signed_decimal z) ≤ cond minus (suc (length ds)) (length ds))
 number_facts minus ds z digits is =
-    subst (λ (y : ℤ). (nat_le (size y) most ≡ true) × (length (signed_decimal y) ≤ cond minus (suc (length ds)) (length ds))) (sym is.is)
+    subst (λ (y : ℤ). (nat_le (size y) most_number ≡ true) × (length (signed_decimal y) ≤ cond minus (suc (length ds)) (length ds))) (sym is.is)
     (signed_facts minus (decimal_after 0 ds) (length ds) is.small (shortest ds digits is.some is.small))
 
 -- so can one at the front
-number_front_facts : (b : ℕ) (bytes : List ℕ) (z : ℤ) → (is_ascii_digit b || (b == 45)) ≡ true → number_at b bytes ≡ Some z → (nat_le (size z) most ≡ true) × (length (signed_decimal z) ≤ 1 + length (take_while is_ascii_digit bytes))
+number_front_facts : (b : ℕ) (bytes : List ℕ) (z : ℤ) → (is_ascii_digit b || (b == 45)) ≡ true → number_at b bytes ≡ Some z → (nat_le (size z) most_number ≡ true) × (length (signed_decimal z) ≤ 1 + length (take_while is_ascii_digit bytes))
 number_front_facts b bytes z begins h = go (b == 45) (is_ascii_digit b) refl refl begins h
   where
     digits : list_all is_ascii_digit (take_while is_ascii_digit bytes) ≡ true
     digits = list_all-take_while is_ascii_digit bytes
 
     go : (s t : Bool) → (b == 45) ≡ s → is_ascii_digit b ≡ t → (t || s) ≡ true → cond s (number_of true (take_while is_ascii_digit bytes)) (number_of false (b ∷ take_while is_ascii_digit bytes)) ≡ Some z
-        → (nat_le (size z) most ≡ true) × (length (signed_decimal z) ≤ 1 + length (take_while is_ascii_digit bytes))
+        → (nat_le (size z) most_number ≡ true) × (length (signed_decimal z) ≤ 1 + length (take_while is_ascii_digit bytes))
     go true t e f i j = let facts = number_facts true (take_while is_ascii_digit bytes) z digits (number_is true (take_while is_ascii_digit bytes) z j) in (facts.0, omega (arith, facts.1))
     go false true e f i j = let facts = number_facts false (b ∷ take_while is_ascii_digit bytes) z (ap (λ t. t && list_all is_ascii_digit (take_while is_ascii_digit bytes)) f ∙ digits) (number_is false (b ∷ take_while is_ascii_digit bytes) z j) in (facts.0, omega (arith, facts.1))
     go false false e f i j = absurd cc

@@ -11,7 +11,9 @@ use Rattle.std.proofs.lemmas.Bool.Decides.{nat_tests}
 use Rattle.std.proofs.lemmas.List.{append-nil, drop_at}
 use Rattle.std.proofs.lemmas.List.Sums.{take_while-cons}
 use Rattle.schema_json.specs.Columns.{is_name_byte, is_keyword}
-use Rattle.predicate_lang.specs.Tokens.{Token, and_word, or_word, not_word, all_word, in_word, name, value, operator, open_bracket, close_bracket, comma, Lexed, front_token, word_token, number_token, number_of, decimal_after, within_most, most, signed, quoted, with_front, text_front, taking, lex_from, lex_front, lexed, with_token, is_blank, is_equals_next}
+use Rattle.audit_types.specs.Limits.{most_number}
+use Rattle.schema_json.specs.Decimals.{decimal_after, signed}
+use Rattle.predicate_lang.specs.Tokens.{Token, and_word, or_word, not_word, all_word, in_word, name, value, operator, open_bracket, close_bracket, comma, Lexed, front_token, word_token, number_token, number_of, within_most, quoted, with_front, text_front, taking, lex_from, lex_front, lexed, with_token, is_blank, is_equals_next}
 use Rattle.predicate_lang.specs.Printing.{doubled, token_text, opens, closes, spaced_after, spaced}
 use Rattle.predicate_lang.specs.Places.{tokens_of}
 use Rattle.predicate_lang.specs.declared.trees.Op.{Op}
@@ -116,13 +118,13 @@ name_read (b ∷ bytes) rest h stop = go (is_ascii_alphabetic b) (list_all is_na
 
 -- ---- numbers
 
-number_of_digits : (minus : Bool) (ds : List ℕ) (n : ℕ) → 0 < length ds → decimal_after 0 ds ≡ n → n ≤ most → number_of minus ds ≡ Some (signed minus n)
+number_of_digits : (minus : Bool) (ds : List ℕ) (n : ℕ) → 0 < length ds → decimal_after 0 ds ≡ n → n ≤ most_number → number_of minus ds ≡ Some (signed minus n)
 number_of_digits minus [] n some is small = absurd (omega arith)
 number_of_digits minus (d ∷ ds) n some is small =
-    ap (λ v. option_map (signed minus) (within_most v)) is ∙ ap (λ t. option_map (signed minus) (cond t (Some n) None)) (le-leb n most small)
+    ap (λ v. option_map (signed minus) (within_most v)) is ∙ ap (λ t. option_map (signed minus) (cond t (Some n) None)) (le-leb n most_number small)
 
 -- a number that is not below zero
-plain_number_read : (n : ℕ) (ds rest : List ℕ) → decimal n ≡ ds → n ≤ most → is_stop rest ≡ true → IsReadBefore (value (literal.Number (pos n))) rest
+plain_number_read : (n : ℕ) (ds rest : List ℕ) → decimal n ≡ ds → n ≤ most_number → is_stop rest ≡ true → IsReadBefore (value (literal.Number (pos n))) rest
 plain_number_read n [] rest is small stop = absurd (omega (arith, decimal_nonempty n (omega arith), ap (length {A = ℕ}) is))
 plain_number_read n (d ∷ ds) rest is small stop = go (is_ascii_digit d) (list_all is_ascii_digit ds) refl refl (ap (list_all is_ascii_digit) (sym is) ∙ digits_decimal decimals n (omega arith))
   where
@@ -144,7 +146,7 @@ plain_number_read n (d ∷ ds) rest is small stop = go (is_ascii_digit d) (list_
     go false y e f i = absurd cc
 
 -- a number below zero
-minus_number_read : (n : ℕ) (rest : List ℕ) → suc n ≤ most → is_stop rest ≡ true → IsReadBefore (value (literal.Number (negsuc n))) rest
+minus_number_read : (n : ℕ) (rest : List ℕ) → suc n ≤ most_number → is_stop rest ≡ true → IsReadBefore (value (literal.Number (negsuc n))) rest
 minus_number_read n rest small stop = record {
   first = 45;
   more = decimal (suc n);
@@ -156,7 +158,7 @@ minus_number_read n rest small stop = record {
 }
 
 -- a number
-number_read : (z : ℤ) (rest : List ℕ) → size z ≤ most → is_stop rest ≡ true → IsReadBefore (value (literal.Number z)) rest
+number_read : (z : ℤ) (rest : List ℕ) → size z ≤ most_number → is_stop rest ≡ true → IsReadBefore (value (literal.Number z)) rest
 number_read (pos n) rest small stop = plain_number_read n (decimal n) rest refl small stop
 number_read (negsuc n) rest small stop = minus_number_read n rest small stop
 
@@ -228,7 +230,7 @@ token_read not_word rest fit stop = record { first = 110; more = 111 ∷ 116 ∷
 token_read all_word rest fit stop = record { first = 97; more = 108 ∷ 108 ∷ []; is = refl; solid = refl; front = word_read 97 (108 ∷ 108 ∷ []) rest refl refl stop }
 token_read in_word rest fit stop = record { first = 105; more = 110 ∷ []; is = refl; solid = refl; front = word_read 105 (110 ∷ []) rest refl refl stop }
 token_read (name n) rest fit stop = name_read n rest fit stop
-token_read (value (literal.Number z)) rest fit stop = number_read z rest (leb-true (size z) most fit) stop
+token_read (value (literal.Number z)) rest fit stop = number_read z rest (leb-true (size z) most_number fit) stop
 token_read (value (literal.Text t)) rest fit stop = text_read t rest stop
 token_read (operator o) rest fit stop = operator_read o rest stop
 token_read open_bracket rest fit stop = record { first = 40; more = []; is = refl; solid = refl; front = front_of_mark 40 rest refl refl refl }

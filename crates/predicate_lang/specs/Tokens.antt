@@ -1,9 +1,11 @@
 -- Texts as tokens with their places: the longest token is taken, and blanks may stand between any two.
-use Rattle.std.specs.Prelude.{ℕ, ℤ, zero, suc, ◌+◌, ◌-◌, ◌*◌, ◌^◌, pos, neg_ℤ, Bool, true, false, ◌||◌, cond, if◌then◌else◌, List, [], ◌∷◌, ◌++◌, length, drop, Option, Some, None, option_map, nat_le, codes, ◌==◌}
+use Rattle.std.specs.Prelude.{ℕ, ℤ, zero, suc, ◌+◌, Bool, true, false, ◌||◌, cond, if◌then◌else◌, List, [], ◌∷◌, ◌++◌, length, drop, Option, Some, None, option_map, nat_le, codes, ◌==◌}
 use Rattle.std.specs.List.{take_while}
 use Rattle.std.specs.Str.{bytes_eq}
 use Rattle.std.specs.Char.{is_ascii_alphabetic, is_ascii_digit}
+use Rattle.audit_types.specs.Limits.{most_number}
 use Rattle.schema_json.specs.Columns.{is_name_byte}
+use Rattle.schema_json.specs.Decimals.{decimal_after, signed}
 use Rattle.predicate_lang.specs.declared.trees.Op.{Op}
 use Rattle.predicate_lang.specs.declared.trees.Op.TheVariants as op
 use Rattle.predicate_lang.specs.declared.trees.Literal.{Literal}
@@ -44,22 +46,9 @@ pub record Front : Type 0 where
 abbrev pub taking : ℕ → Option Token → Option Front
 taking n token = option_map (λ t. record { token = t; more = n }) token
 
--- the number that decimal digits mean, after a number that was read before them
-abbrev pub decimal_after : ℕ → List ℕ → ℕ
-decimal_after n [] = n
-decimal_after n (b ∷ bytes) = decimal_after (10 * n + (b - 48)) bytes
-
--- the greatest size of a number
-abbrev pub most : ℕ
-most = 10 ^ 12
-
 -- a size that is not too great
 abbrev pub within_most : ℕ → Option ℕ
-within_most n = cond (nat_le n most) (Some n) None
-
--- a number with a minus sign or none
-abbrev pub signed : Bool → ℕ → ℤ
-signed minus n = cond minus (neg_ℤ (pos n)) (pos n)
+within_most n = cond (nat_le n most_number) (Some n) None
 
 -- the number of one or more digits behind a minus sign or none, where it is not too large
 abbrev pub number_of : Bool → List ℕ → Option ℤ

@@ -3,7 +3,8 @@ ghost use Rattle.std.specs.Prelude.{◌≡◌, ◌≤◌, ◌<◌, ◌+◌, ℕ,
 ghost use Rattle.std.specs.List.{take_while};
 ghost use Rattle.std.specs.Char.{is_ascii_alphabetic, is_ascii_digit};
 ghost use Rattle.schema_json.specs.Columns.{Column, is_name_byte};
-ghost use Rattle.predicate_lang.specs.Tokens.{is_blank, lexed_from, decimal_after, within_most, number_of, number_at, number_front, quoted, text_front, mark_front, front_token, word_token, word_front, is_equals_next};
+ghost use Rattle.schema_json.specs.Decimals.{decimal_after};
+ghost use Rattle.predicate_lang.specs.Tokens.{is_blank, lexed_from, within_most, number_of, number_at, number_front, quoted, text_front, mark_front, front_token, word_token, word_front, is_equals_next};
 ghost use Rattle.predicate_lang.specs.Lexing.{seen, seen_front, lexeme, Takes, Quotes, Lexes};
 
 use crate::tokens::{Lexeme, Quote, Token};

@@ -3,3 +3,4 @@ pub mod SecretShape
 pub mod Faults
 pub mod Kept
 pub mod Reading
+pub mod Decimals

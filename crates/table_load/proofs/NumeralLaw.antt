@@ -4,7 +4,8 @@ use Rattle.std.specs.Prelude.{ℤ, pos, neg_ℤ, unwrap_or, ◌==◌}
 use Rattle.std.specs.List.{list_all}
 use Rattle.std.specs.Char.{is_ascii_digit}
 use Rattle.std.proofs.lemmas.Bool.{false≢true, eqb-true, ne_eqb, and_parts, and_from}
-use Rattle.table_load.specs.Numerals.{is_space, after_spaces, decimal_after, tail_number, digits_number, option_sign, signed_number, number_in, Sign, none, plus, minus, sign_bytes, with_sign, IsNumeral}
+use Rattle.schema_json.specs.Decimals.{decimal_after}
+use Rattle.table_load.specs.Numerals.{is_space, after_spaces, tail_number, digits_number, option_sign, signed_number, number_in, Sign, none, plus, minus, sign_bytes, with_sign, IsNumeral}
 
 -- spaces, and what stands behind them
 record Front (field : List ℕ) : Type 0 where

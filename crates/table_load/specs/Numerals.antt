@@ -1,7 +1,9 @@
 -- How a field spells a whole number.
-use Rattle.std.specs.Prelude.{◌≡◌, ◌≢◌, ℕ, ◌+◌, ◌-◌, ◌*◌, ◌^◌, ℤ, pos, neg_ℤ, unsigned_abs, Bool, true, false, not, cond, List, [], ◌∷◌, ◌++◌, replicate, Option, Some, None, option_map, nat_lt, ◌==◌}
+use Rattle.std.specs.Prelude.{◌≡◌, ◌≢◌, ℕ, ◌+◌, ◌-◌, ◌*◌, ℤ, pos, neg_ℤ, unsigned_abs, Bool, true, false, not, cond, List, [], ◌∷◌, ◌++◌, replicate, Option, Some, None, option_map, nat_lt, ◌==◌}
 use Rattle.std.specs.List.{list_all}
 use Rattle.std.specs.Char.{is_ascii_digit}
+use Rattle.audit_types.specs.Limits.{most_number}
+use Rattle.schema_json.specs.Decimals.{decimal_after, signed}
 
 -- whether a byte is a space
 abbrev pub is_space : ℕ → Bool
@@ -11,11 +13,6 @@ is_space b = b == 32
 abbrev pub after_spaces : List ℕ → List ℕ
 after_spaces [] = []
 after_spaces (b ∷ bytes) = cond (is_space b) (after_spaces bytes) (b ∷ bytes)
-
--- the number that digits make behind those that made n
-abbrev pub decimal_after : ℕ → List ℕ → ℕ
-decimal_after n [] = n
-decimal_after n (b ∷ bytes) = decimal_after (10 * n + (b - 48)) bytes
 
 -- the number that digits make behind those that made n, where spaces alone follow them
 abbrev pub tail_number : ℕ → List ℕ → Option ℕ
@@ -29,7 +26,7 @@ digits_number (b ∷ bytes) = cond (is_ascii_digit b) (tail_number 0 (b ∷ byte
 
 -- a size with its sign
 abbrev pub option_sign : Bool → Option ℕ → Option ℤ
-option_sign minus size = option_map (λ n. cond minus (neg_ℤ (pos n)) (pos n)) size
+option_sign minus size = option_map (signed minus) size
 
 -- the number behind the spaces at the front
 abbrev pub signed_number : List ℕ → Option ℤ
@@ -69,6 +66,6 @@ pub record IsNumeral (field : List ℕ) (z : ℤ) : Type 0 where
   pub field_is : field ≡ replicate before 32 ++ (sign_bytes sign ++ (digits ++ replicate after 32))
   pub value_is : z ≡ with_sign sign (decimal_after 0 digits)
 
--- at most 10 ^ 12 in size
+-- not too large
 abbrev pub in_range : ℤ → Bool
-in_range z = not (nat_lt (10 ^ 12) (unsigned_abs z))
+in_range z = not (nat_lt most_number (unsigned_abs z))

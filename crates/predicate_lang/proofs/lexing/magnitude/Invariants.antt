@@ -1,6 +1,7 @@
 -- The digits so far with those to come mean the number of all.
 use Rattle.std.proofs.Common.{◌≡◌, ◌≤◌, ◌^◌, drop}
-use Rattle.predicate_lang.specs.Tokens.{decimal_after}
+use Rattle.schema_json.specs.Decimals.{decimal_after}
+use Rattle.predicate_lang.specs.Tokens.{}
 use Rattle.predicate_lang.proofs.lexing.magnitude.Given as goal
 
 abbrev pub invariant-loop-digit : goal.invariant-loop-digit
