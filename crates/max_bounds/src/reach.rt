@@ -11,7 +11,7 @@ use audit_types::RowSet;
 pub(crate) struct Affected {
     pub extremes: RowSet,
     pub falling: RowSet,
-    // The first rows have this bound already. Then none falls.
+    // Whether the extremes have the answer for their bound before. Then none falls.
     pub settled: bool,
 }
 
