@@ -1,5 +1,5 @@
 -- Whether a list over its content is within the limit, told by the content alone.
-use Rattle.std.proofs.Common.{◌≡◌, ℕ, zero, suc, ◌+◌, ◌*◌, ◌<◌, ◌≤◌, ◌^◌, ℤ, pos, List, [], ◌∷◌, map, take, refl, sym, ap, ◌∙◌, subst, arith}
+use Rattle.std.proofs.Common.{◌≡◌, ℕ, ◌+◌, ◌*◌, ◌<◌, ◌≤◌, ◌^◌, ℤ, pos, List, [], ◌∷◌, map, take, refl, sym, ap, ◌∙◌, subst, arith}
 use Rattle.std.specs.Prelude.{◌*ℤ◌, ◌<ℤ◌, int_div, unsigned_abs}
 use Rattle.std.specs.Int.{◌∣◌}
 use Rattle.std.specs.List.{AllByRecursion}
@@ -11,7 +11,7 @@ use Rattle.audit_types.specs.PrimitiveLines.{scaled_content, size_positive}
 use Rattle.int_rows.specs.Exact.{exact}
 use Rattle.sum_basis.specs.declared.sparse.FreeEntry.{FreeEntry}
 use Rattle.sum_basis.specs.Sparse.{scaled, IsOverContent}
-use Rattle.sum_basis.proofs.ListContents.{values, all_divided_by, over_content}
+use Rattle.sum_basis.proofs.ListContents.{values, divides_first, all_divided_by, over_content}
 
 -- the content of a positive pivot entry and of some values is positive, and not above that of the first of them
 pub record HasContent (head : ℤ) (es : List FreeEntry) (g : ℕ) : Type 0 where
@@ -20,12 +20,7 @@ pub record HasContent (head : ℤ) (es : List FreeEntry) (g : ℕ) : Type 0 wher
   pub positive : 0 < content
   pub at_most : content ≤ g
 
-front : (d : ℕ) (es : List FreeEntry) (k : ℕ) → AllByRecursion (λ x. d ∣ unsigned_abs x) (values es) → AllByRecursion (λ x. d ∣ unsigned_abs x) (values (take k es))
-front d es zero all = tt
-front d [] (suc k) all = tt
-front d (e ∷ es) (suc k) all = (all.0, front d es k all.1)
-
-pub content_positive : (head : ℤ) (es : List FreeEntry) (g : ℕ) → pos 0 <ℤ head → IsContent (head ∷ values es) g → 0 < g
+content_positive : (head : ℤ) (es : List FreeEntry) (g : ℕ) → pos 0 <ℤ head → IsContent (head ∷ values es) g → 0 < g
 content_positive head es g p content = pos_of_dvd_of_pos content.divides.0 (size_positive head p)
 
 pub has_content : (head : ℤ) (es : List FreeEntry) (k g : ℕ) → pos 0 <ℤ head → 0 < g → IsContent (head ∷ values (take k es)) g → HasContent head es g
@@ -36,7 +31,7 @@ has_content head es k g p some so_far =
       content = any.0;
       is = any.1;
       positive = content_positive head es any.0 p any.1;
-      at_most = le_of_dvd some (so_far.greatest any.0 (all.0, front any.0 es k all.1));
+      at_most = le_of_dvd some (so_far.greatest any.0 (all.0, divides_first any.0 es k all.1));
     }
 
 -- a list over a common divisor of its values

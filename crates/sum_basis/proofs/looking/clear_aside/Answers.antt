@@ -3,6 +3,7 @@ use Rattle.std.specs.Prelude.{FitsSigned}
 use Rattle.std.specs.Int.{w128}
 use mir.Val.{of_z}
 use Rattle.std.proofs.lemmas.Int.{to_z-of_z}
+use Rattle.std.proofs.lemmas.List.{length-map}
 use Rattle.int_rows.specs.PrimitiveLaws.{zero_from_bits}
 use Rattle.sum_basis.specs.declared.sparse.FreeEntry.{FreeEntry}
 use Rattle.sum_basis.specs.Sparse.{entry_at, row_of, entries_of, scaled}
@@ -10,7 +11,6 @@ use Rattle.sum_basis.proofs.SparseRows.{listed_from, listed_to, pivot_entry-row_
 use Rattle.sum_basis.proofs.ListContents.{none}
 use Rattle.sum_basis.proofs.KeptRows.{stands_earlier, cleared_as_it_is, lone_by_length, small_list}
 use Rattle.sum_basis.proofs.ClearedLists.{result_of_bits}
-use Rattle.std.proofs.lemmas.List.{length-map}
 use Rattle.sum_basis.proofs.looking.clear_aside.Goals as goal
 
 pub value_at-times-requires : goal.value_at-times-requires

@@ -3,13 +3,13 @@ use Rattle.std.specs.Prelude.{FitsSigned, unsigned_abs}
 use Rattle.std.specs.Int.{w128, IsGcd}
 use mir.Val.{to_z, of_z}
 use Rattle.std.proofs.lemmas.Int.{to_z-of_z}
+use Rattle.std.proofs.lemmas.Bool.{cases_lt, true≢false}
 use Rattle.audit_types.specs.Form.{IsContent}
-use Rattle.int_rows.specs.Multiples.{positive_divisor}
 use Rattle.audit_types.specs.PrimitiveLines.{size_positive}
+use Rattle.int_rows.specs.Multiples.{positive_divisor}
+use Rattle.sum_basis.specs.declared.sparse.FreeEntry.{FreeEntry}
 use Rattle.sum_basis.proofs.ListContents.{values, content_of_one, one_more_value, stays_one}
 use Rattle.sum_basis.proofs.WithinLimit.{has_content}
-use Rattle.std.proofs.lemmas.Bool.{cases_lt, true≢false}
-use Rattle.sum_basis.specs.declared.sparse.FreeEntry.{FreeEntry}
 use Rattle.sum_basis.proofs.within_limit.content_from.Goals as goal
 
 pub loop-e-init : goal.loop-e-init
