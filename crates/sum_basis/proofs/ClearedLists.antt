@@ -1,9 +1,10 @@
 -- A kept row cleared at the pivot of a new one, as whole rows.
-use Rattle.std.proofs.Common.{◌≡◌, ℕ, zero, suc, ◌+◌, ◌<◌, ◌≤◌, ◌^◌, Bool, true, false, cond, nat_eq, ◌*◌, ℤ, pos, negsuc, List, [], ◌∷◌, length, get_or, sym, ap, ◌∙◌, subst, arith, inl, inr}
-use Rattle.std.specs.Prelude.{◌+ℤ◌, ◌-ℤ◌, ◌*ℤ◌, neg_ℤ, ◌<ℤ◌, unsigned_abs}
-use Rattle.std.specs.Int.{◌∣◌}
+use Rattle.std.proofs.Common.{◌≡◌, ℕ, zero, suc, ◌+◌, ◌<◌, ◌≤◌, ◌^◌, Bool, true, false, cond, nat_eq, ◌*◌, ℤ, pos, negsuc, List, [], ◌∷◌, length, get_or, refl, sym, ap, ◌∙◌, subst, arith, inl, inr}
+use Rattle.std.specs.Prelude.{◌+ℤ◌, ◌-ℤ◌, ◌*ℤ◌, neg_ℤ, ◌<ℤ◌, unsigned_abs, FitsSigned}
+use Rattle.std.specs.Int.{◌∣◌, w128}
+use mir.Val.{to_z, of_z}
 use Rattle.std.specs.List.{AllByRecursion}
-use Rattle.std.proofs.lemmas.Int.{ints}
+use Rattle.std.proofs.lemmas.Int.{ints, to_z-of_z}
 use Rattle.std.proofs.lemmas.Bool.{cases_eq, cases_lt}
 use Rattle.std.proofs.lemmas.List.{length-map}
 use Rattle.std.proofs.Math.Nat.{one-dvd}
@@ -231,3 +232,27 @@ module _ (n : ℕ) (r : SparseRow) (new : List FreeEntry) (kept : IsKept n r) (p
       cleared_from n (row_of n new) (row_of n (entries_of r)) (row_of n whole) over.by is_new.primitive primitive
       (number_at-row_of 0 n new is_new.listed (pivot (row_of n (entries_of r))) ∙ led.before (pivot (row_of n (entries_of r))) (omega arith))
       (omega arith) (positive_not_zero over.by over.positive) combination is_primitive
+
+-- what is true of the row and the new one combined, over their content
+pub record IsResult (n : ℕ) (r : SparseRow) (new : List FreeEntry) (head : ℤ) (made : List FreeEntry) : Type 0 where
+  pub leading : pos 0 <ℤ head
+  pub listed : IsListed 0 n (record { place = r.pivot; value = head } ∷ made)
+  pub cleared : IsCleared n (row_of n new) (row_of n (entries_of r)) (row_of n (record { place = r.pivot; value = head } ∷ made))
+
+pub result_is : (n : ℕ) (r : SparseRow) (new out : List FreeEntry) (times p head : ℤ) (made : List FreeEntry) → IsKept n r → IsPrimitive n (row_of n (entries_of r)) → IsNew n new → r.pivot < (get_or new 0 none).place → times ≡ entry_at r.free.items (get_or new 0 none).place
+    → IsListed 0 n out → ((j : ℕ) → entry_at out j ≡ (get_or new 0 none).value *ℤ entry_at r.free.items j -ℤ times *ℤ entry_at new j) → p ≡ (get_or new 0 none).value *ℤ r.head → IsOverContent p out head made → IsResult n r new head made
+result_is n r new out times p head made kept primitive is_new before times_is h combined e over =
+    let whole = subst (λ z. IsOverContent z out head made) e over in
+    let by = (get_or new 0 none).value in
+    record {
+      leading = head_positive n r new kept primitive is_new before by times refl times_is out h combined head made whole;
+      listed = cleared_listed n r new kept primitive is_new before by times refl times_is out h combined head made whole;
+      cleared = is_cleared n r new kept primitive is_new before by times refl times_is out h combined head made whole;
+    }
+
+-- the same of numbers that are kept as bits
+pub result_of_bits : (n : ℕ) (r : SparseRow) (new out list made : List FreeEntry) (given p head : ℤ) → FitsSigned w128 given → FitsSigned w128 p → IsKept n r → IsPrimitive n (row_of n (entries_of r)) → IsNew n new → r.pivot < (get_or new 0 none).place → given ≡ entry_at r.free.items (get_or new 0 none).place
+    → IsListed 0 n out → ((j : ℕ) → entry_at out j ≡ (get_or new 0 none).value *ℤ entry_at r.free.items j -ℤ to_z w128 (of_z w128 given) *ℤ entry_at new j) → p ≡ (get_or new 0 none).value *ℤ r.head → list ≡ out → IsOverContent (to_z w128 (of_z w128 p)) list head made → IsResult n r new head made
+result_of_bits n r new out list made given p head f g kept primitive is_new before times_is listed combined e same over =
+    result_is n r new out given p head made kept primitive is_new before times_is listed (λ j. combined j ∙ ap (λ z. (get_or new 0 none).value *ℤ entry_at r.free.items j -ℤ z *ℤ entry_at new j) (to_z-of_z w128 given f)) e
+    (subst (λ l. IsOverContent p l head made) same (subst (λ z. IsOverContent z list head made) (to_z-of_z w128 p g) over))

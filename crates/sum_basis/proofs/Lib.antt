@@ -39,3 +39,4 @@ pub mod PrimitiveLists
 pub mod Edits
 pub mod EditedRows
 pub mod LoneRows
+pub mod WithinLimit

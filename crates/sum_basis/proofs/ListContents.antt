@@ -35,21 +35,22 @@ pub one_more_value : (head : ℤ) (es : List FreeEntry) (k g h : ℕ) → k < le
 one_more_value head es k g h l content common =
     rw (take_more es k none l, map-append (λ (e : FreeEntry). e.value) (take k es) (get_or es k none ∷ [])) (IsContent-push (head ∷ values (take k es)) (get_or es k none).value g h content common)
 
+-- what divides all values divides the first of them
+pub divides_first : (d : ℕ) (es : List FreeEntry) (k : ℕ) → AllByRecursion (λ x. d ∣ unsigned_abs x) (values es) → AllByRecursion (λ x. d ∣ unsigned_abs x) (values (take k es))
+divides_first d es zero all = tt
+divides_first d [] (suc k) all = tt
+divides_first d (e ∷ es) (suc k) all = (all.0, divides_first d es k all.1)
+
 -- once the content is 1 it stays
 pub stays_one : (head : ℤ) (es : List FreeEntry) (k : ℕ) → IsContent (head ∷ values (take k es)) 1 → IsContent (head ∷ values es) 1
 stays_one head es k content = record {
   divides = (one-dvd (unsigned_abs head), ones es);
-  greatest = λ d all. content.greatest d (all.0, front d es k all.1);
+  greatest = λ d all. content.greatest d (all.0, divides_first d es k all.1);
 }
   where
     ones : (xs : List FreeEntry) → AllByRecursion (λ x. 1 ∣ unsigned_abs x) (values xs)
     ones [] = tt
     ones (x ∷ xs) = (one-dvd (unsigned_abs x.value), ones xs)
-
-    front : (d : ℕ) (xs : List FreeEntry) (m : ℕ) → AllByRecursion (λ x. d ∣ unsigned_abs x) (values xs) → AllByRecursion (λ x. d ∣ unsigned_abs x) (values (take m xs))
-    front d xs zero all = tt
-    front d [] (suc m) all = tt
-    front d (x ∷ xs) (suc m) all = (all.0, front d xs m all.1)
 
 -- the first k entries are divided, and the others as they were
 pub record IsPartlyScaled (old new : List FreeEntry) (by : ℤ) (k : ℕ) : Type 0 where

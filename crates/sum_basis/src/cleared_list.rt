@@ -1,5 +1,5 @@
 //! A kept row cleared at the pivot of a new one: its list, over its content.
-ghost use Rattle.std.specs.Prelude.{◌≡◌, ◌≢◌, ◌↔◌, ℕ, ◌<◌, ◌≤◌, ◌+◌, ◌^◌, ℤ, pos, ◌*ℤ◌, ◌<ℤ◌, List, [], ◌∷◌, length, map, unsigned_abs, slice_index_or, IsTrue, MatchOption};
+ghost use Rattle.std.specs.Prelude.{◌≡◌, ◌≢◌, ◌↔◌, ℕ, ◌<◌, ◌≤◌, ◌+◌, ◌^◌, ℤ, pos, ◌-ℤ◌, ◌*ℤ◌, ◌<ℤ◌, List, [], ◌∷◌, length, map, unsigned_abs, slice_index_or, IsTrue, MatchOption};
 ghost use Rattle.std.specs.Int.{◌∣◌};
 ghost use Rattle.std.specs.List.{AllByRecursion};
 ghost use Rattle.std.specs.List.Sorted.{IsPartitionPoint};
@@ -86,13 +86,15 @@ pub fn over_content(head: i128, entries: &mut Vec<FreeEntry>) -> i128
 pub fn greater(a: u128, b: u128) -> u128
     ensures first { a ≤ result }
     ensures second { b ≤ result }
+    ensures least { (m : ℕ) → a ≤ m → b ≤ m → result ≤ m }
 {
     a.max(b)
 }
 
 // The greatest size of a value, 0 for no entries.
 fn greatest(entries: &[FreeEntry]) -> u128
-    ensures { AllByRecursion (λ e. unsigned_abs e.value ≤ result) entries.now }
+    ensures values { AllByRecursion (λ e. unsigned_abs e.value ≤ result) entries.now }
+    ensures least { (m : ℕ) → AllByRecursion (λ e. unsigned_abs e.value ≤ m) entries.now → result ≤ m }
 {
     let mut most = 0;
     for e in entries {
@@ -101,10 +103,11 @@ fn greatest(entries: &[FreeEntry]) -> u128
     most
 }
 
-/// A number that no size of the pivot entry and of the values is above.
+/// The greatest size of the pivot entry and of the values.
 pub fn bound_of(head: i128, entries: &[FreeEntry]) -> u128
     ensures head { unsigned_abs head ≤ result }
     ensures values { AllByRecursion (λ e. unsigned_abs e.value ≤ result) entries.now }
+    ensures least { (m : ℕ) → unsigned_abs head ≤ m → AllByRecursion (λ e. unsigned_abs e.value ≤ m) entries.now → result ≤ m }
 {
     greater(greatest(entries), head.unsigned_abs())
 }
@@ -125,6 +128,34 @@ pub fn product(x: i128, y: i128) -> i128
     ensures { result ≡ x *ℤ y }
 {
     short_product(x as i64, y as i64)
+}
+
+/// Writes the list of the row combined with the new one, so that it is 0 at the new pivot, and answers its pivot entry.
+/// Neither is divided by their content.
+pub fn combine_at_pivot(
+    out: &mut Vec<FreeEntry>,
+    columns: u16,
+    row: &SparseRow,
+    new: &[FreeEntry],
+    times: i128,
+) -> i128
+    requires empty { out.old.items ≡ [] }
+    requires room { columns ≤ vec_capacity out.old }
+    requires kept { IsKept columns row.now }
+    requires small { IsSmall (row_of columns (entries_of row.now)) }
+    requires new { IsNew columns new.now }
+    requires times { times ≡ entry_at row.now.free.items (slice_index_or new.now 0 (record { place = 0; value = pos 0 })).place }
+    requires some { times ≢ pos 0 }
+    ensures listed { IsListed 0 columns out.new.items }
+    ensures combined { (j : ℕ) → entry_at out.new.items j ≡ (slice_index_or new.now 0 (record { place = 0; value = pos 0 })).value *ℤ entry_at row.now.free.items j -ℤ times *ℤ entry_at new.now j }
+    ensures head { result ≡ (slice_index_or new.now 0 (record { place = 0; value = pos 0 })).value *ℤ row.now.head }
+    ensures leading { (pos 0 <ℤ result) × (unsigned_abs result ≤ 2 ^ 126) }
+    ensures sizes { AllByRecursion (λ e. unsigned_abs e.value ≤ 2 ^ 126) out.new.items }
+    ensures capacity { vec_capacity out.new ≡ vec_capacity out.old }
+{
+    let by = new[0].value;
+    combine_into(out, columns, by, &row.free, times, new);
+    product(by, row.head)
 }
 
 /// Writes the list of the row, cleared at the new row's pivot, and answers its pivot entry.
@@ -149,8 +180,6 @@ pub fn clear_into(
     ensures cleared { IsCleared columns (row_of columns new.now) (row_of columns (entries_of row.now)) (row_of columns (record { place = row.now.pivot; value = result } ∷ out.new.items)) }
     ensures capacity { vec_capacity out.new ≡ vec_capacity out.old }
 {
-    let by = new[0].value;
-    combine_into(out, columns, by, &row.free, times, new);
-    let head = product(by, row.head);
+    let head = combine_at_pivot(out, columns, row, new, times);
     over_content(head, out)
 }

@@ -16,6 +16,7 @@ mod merging;
 mod parallel;
 mod primitive_list;
 mod sparse;
+mod within_limit;
 
 pub use basis::Basis;
 pub use form::Form;

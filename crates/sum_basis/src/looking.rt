@@ -9,11 +9,11 @@ ghost use Rattle.sum_basis.specs.Growth.{Foresees};
 ghost use Rattle.sum_basis.specs.Sparse.{entry_at, row_of, rows_of, entries_of, IsKept, IsNew};
 
 use crate::Prospect;
-use crate::cleared_list::{bound_of, clear_into, product, value_at};
+use crate::cleared_list::{bound_of, combine_at_pivot, product, value_at};
 use crate::elimination::LIMIT;
 use crate::parallel::are_parallel;
-use crate::primitive_list::are_small;
 use crate::sparse::{FreeEntry, SparseRow};
+use crate::within_limit::head_within;
 use int_rows::lcm_within;
 
 // A row that was cleared: its pivot entry, and whether this is the only one that is not 0.
@@ -21,13 +21,6 @@ use int_rows::lcm_within;
 struct Cleared {
     head: i128,
     lone: bool,
-}
-
-// Whether neither the pivot entry nor a value is above the limit.
-fn is_small(head: i128, entries: &[FreeEntry]) -> bool
-    ensures { IsTrue result ↔ ((unsigned_abs head ≤ 2 ^ 56) × AllByRecursion (λ e. unsigned_abs e.value ≤ 2 ^ 56) entries.now) }
-{
-    head.unsigned_abs() <= LIMIT && are_small(entries)
 }
 
 // The row cleared at the new row's pivot, which stays as it is. None where an entry is above the limit.
@@ -54,15 +47,12 @@ fn clear_aside(
         });
     }
     room.clear();
-    let head = clear_into(room, columns, row, new, times);
-    if is_small(head, room) {
-        Some(Cleared {
-            head,
-            lone: room.is_empty(),
-        })
-    } else {
-        None
-    }
+    let combined = combine_at_pivot(room, columns, row, new, times);
+    let head = head_within(combined, room)?;
+    Some(Cleared {
+        head,
+        lone: room.is_empty(),
+    })
 }
 
 // Whether one of the two holds.

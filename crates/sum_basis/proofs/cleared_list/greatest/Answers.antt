@@ -1,9 +1,11 @@
-use Rattle.std.proofs.Common.{◌≤◌, pos, take, get_or, ap, ◌∙◌, arith, rules}
+use Rattle.std.proofs.Common.{◌≡◌, ◌≤◌, pos, length, take, get_or, sym, ap, ◌∙◌, subst, arith, rules}
 use Rattle.std.specs.Prelude.{FitsSigned, unsigned_abs}
 use Rattle.std.specs.Int.{w128}
+use Rattle.std.specs.List.{AllByRecursion}
 use Rattle.std.proofs.lemmas.Int.{to_z-of_z}
 use Rattle.std.proofs.lemmas.List.{take_more}
-use Rattle.int_rows.specs.ContentLaws.{all-push, all-weaker}
+use Rattle.std.proofs.Math.Seq.{take-length}
+use Rattle.int_rows.specs.ContentLaws.{all-push, all-front, all-weaker}
 use Rattle.sum_basis.specs.declared.sparse.FreeEntry.{FreeEntry}
 use Rattle.sum_basis.proofs.ListContents.{none}
 use Rattle.sum_basis.proofs.cleared_list.greatest.Goals as goal
@@ -15,6 +17,21 @@ loop-e-preserved c =
     let size = c.unsigned_abs.ensures.value ∙ ap unsigned_abs (to_z-of_z w128 e.value fits) in
     let old = c.greater-most.ensures.first in
     let now = c.greater-most.ensures.second in
-    rw (take_more c.args.entries.now c.loop-e.e-index none c.loop-e-test.true)
-    (all-push (λ (x : FreeEntry). unsigned_abs x.value ≤ c.greater-most.result) (take c.loop-e.e-index c.args.entries.now) e
-    (all-weaker (λ (x : FreeEntry). unsigned_abs x.value ≤ c.loop-e.most) (λ (x : FreeEntry). unsigned_abs x.value ≤ c.greater-most.result) (λ x h. omega arith) (take c.loop-e.e-index c.args.entries.now) c.loop-e.invariant) (omega arith))
+    let before = take c.loop-e.e-index c.args.entries.now in
+    let more = take_more c.args.entries.now c.loop-e.e-index none c.loop-e-test.true in
+    record {
+      values = rw more
+          (all-push (λ (x : FreeEntry). unsigned_abs x.value ≤ c.greater-most.result) before e
+          (all-weaker (λ (x : FreeEntry). unsigned_abs x.value ≤ c.loop-e.most) (λ (x : FreeEntry). unsigned_abs x.value ≤ c.greater-most.result) (λ x h. omega arith) before c.loop-e.invariant.values) (omega arith));
+      least = λ m all.
+          let parts = all-front (λ (x : FreeEntry). unsigned_abs x.value ≤ m) before e (subst (AllByRecursion (λ (x : FreeEntry). unsigned_abs x.value ≤ m)) more all) in
+          let here = parts.1 in
+          c.greater-most.ensures.least m (c.loop-e.invariant.least m parts.0) (omega arith);
+    }
+
+pub returns-clause-least : goal.returns-clause-least
+returns-clause-least c =
+    let entries = c.args.entries.now in
+    let end : length entries ≡ c.loop-e.e-index = omega arith in
+    λ m all. c.loop-e.invariant.least m
+    (subst (λ k. AllByRecursion (λ (x : FreeEntry). unsigned_abs x.value ≤ m) (take k entries)) end (subst (AllByRecursion (λ (x : FreeEntry). unsigned_abs x.value ≤ m)) (sym (take-length entries)) all))

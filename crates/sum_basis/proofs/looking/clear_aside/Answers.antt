@@ -1,16 +1,16 @@
-use Rattle.std.proofs.Common.{◌≡◌, ◌+◌, ◌≤◌, ◌^◌, Bool, false, ℤ, ◌∷◌, get_or, sym, ap, ◌∙◌, subst, arith, rules}
-use Rattle.std.specs.Prelude.{FitsSigned, unsigned_abs, IsTrue}
+use Rattle.std.proofs.Common.{◌+◌, ◌∷◌, length, get_or, sym, ap, ◌∙◌, arith, rules}
+use Rattle.std.specs.Prelude.{FitsSigned}
 use Rattle.std.specs.Int.{w128}
-use Rattle.std.specs.List.{AllByRecursion}
 use mir.Val.{of_z}
 use Rattle.std.proofs.lemmas.Int.{to_z-of_z}
-use Rattle.std.proofs.lemmas.Bool.{true≢false}
+use Rattle.std.proofs.lemmas.List.{length-map}
 use Rattle.int_rows.specs.PrimitiveLaws.{zero_from_bits}
 use Rattle.sum_basis.specs.declared.sparse.FreeEntry.{FreeEntry}
-use Rattle.sum_basis.specs.Sparse.{entry_at, row_of, entries_of}
+use Rattle.sum_basis.specs.Sparse.{entry_at, row_of, entries_of, scaled}
 use Rattle.sum_basis.proofs.SparseRows.{listed_from, listed_to, pivot_entry-row_of, small_values}
 use Rattle.sum_basis.proofs.ListContents.{none}
 use Rattle.sum_basis.proofs.KeptRows.{stands_earlier, cleared_as_it_is, lone_by_length, small_list}
+use Rattle.sum_basis.proofs.ClearedLists.{result_of_bits}
 use Rattle.sum_basis.proofs.looking.clear_aside.Goals as goal
 
 pub value_at-times-requires : goal.value_at-times-requires
@@ -34,42 +34,48 @@ returns-then-times-eq0-clause-cleared c =
       ),
     )
 
-pub clear_into-head-requires-clause-before : goal.clear_into-head-requires-clause-before
-clear_into-head-requires-clause-before c =
-    let times : FitsSigned w128 c.value_at-times.result = search rules in
-    stands_earlier c.args.columns c.args.row.now c.args.new.now c.requires.kept c.requires.new
-    (λ z. c.if-times-eq0.false (ap (of_z w128) (c.value_at-times.ensures ∙ ap (λ l. entry_at l (get_or c.args.new.now 0 none).place) c.deref.ensures.value ∙ z)))
+pub head_within-requires-clause-head : goal.head_within-requires-clause-head
+head_within-requires-clause-head c =
+    let combined : FitsSigned w128 c.combine_at_pivot-combined.result = search rules in
+    rw (to_z-of_z w128 c.combine_at_pivot-combined.result combined) c.combine_at_pivot-combined.ensures.leading
 
-pub returns-then-is_small-clause-cleared : goal.returns-then-is_small-clause-cleared
-returns-then-is_small-clause-cleared c =
-    let head : FitsSigned w128 c.clear_into-head.result = search rules in
+pub returns-in_err-head-clause-cleared : goal.returns-in_err-head-clause-cleared
+returns-in_err-head-clause-cleared c =
     let n = c.args.columns in
-    let out = c.clear_into-head.new.out in
-    let yes = c.is_small.ensures.0 (subst IsTrue (sym c.if-is_small.true) (search rules)) in
-    let e : FreeEntry = record { place = c.args.row.now.pivot; value = c.clear_into-head.result } in
-    let listed = c.clear_into-head.ensures.listed in (
-      row_of n (e ∷ out.items),
-      c.clear_into-head.ensures.cleared,
+    let r = c.args.row.now in
+    let found : FitsSigned w128 c.value_at-times.result = search rules in
+    let combined : FitsSigned w128 c.combine_at_pivot-combined.result = search rules in
+    let is = c.value_at-times.ensures ∙ ap (λ l. entry_at l (get_or c.args.new.now 0 none).place) c.deref.ensures.value in
+    let before = stands_earlier n r c.args.new.now c.requires.kept c.requires.new (λ z. c.if-times-eq0.false (ap (of_z w128) (is ∙ z))) in
+    let all = c.in_err-head.ensures.within in
+    let made = result_of_bits n r c.args.new.now c.combine_at_pivot-combined.new.out.items c.deref-2.result.now all.1 c.value_at-times.result c.combine_at_pivot-combined.result all.0 found combined c.requires.kept c.requires.primitive c.requires.new before is
+    c.combine_at_pivot-combined.ensures.listed c.combine_at_pivot-combined.ensures.combined c.combine_at_pivot-combined.ensures.head c.deref-2.ensures.value all.2 in
+    let e : FreeEntry = record { place = r.pivot; value = all.0 } in (
+      row_of n (e ∷ all.1),
+      made.cleared,
+      rw c.from_residual.ensures (λ small. all.3 (small_values n (e ∷ all.1) made.listed small)),
+    )
+
+pub returns-clause-cleared : goal.returns-clause-cleared
+returns-clause-cleared c =
+    let n = c.args.columns in
+    let r = c.args.row.now in
+    let found : FitsSigned w128 c.value_at-times.result = search rules in
+    let combined : FitsSigned w128 c.combine_at_pivot-combined.result = search rules in
+    let head : FitsSigned w128 c.in_ok-head.head = search rules in
+    let is = c.value_at-times.ensures ∙ ap (λ l. entry_at l (get_or c.args.new.now 0 none).place) c.deref.ensures.value in
+    let before = stands_earlier n r c.args.new.now c.requires.kept c.requires.new (λ z. c.if-times-eq0.false (ap (of_z w128) (is ∙ z))) in
+    let all = c.in_ok-head.ensures.within in
+    let out = c.combine_at_pivot-combined.new.out in
+    let made = result_of_bits n r c.args.new.now out.items c.deref-2.result.now all.1 c.value_at-times.result c.combine_at_pivot-combined.result all.0 found combined c.requires.kept c.requires.primitive c.requires.new before is
+    c.combine_at_pivot-combined.ensures.listed c.combine_at_pivot-combined.ensures.combined c.combine_at_pivot-combined.ensures.head c.deref-2.ensures.value all.2 in
+    let e : FreeEntry = record { place = r.pivot; value = all.0 } in
+    let length_is = out.ok.0 ∙ ap length (sym c.deref-2.ensures.value ∙ all.2.entries_are) ∙ length-map all.1 (scaled all.2.by) in (
+      row_of n (e ∷ all.1),
+      made.cleared,
       (
-        small_list n e out.items listed (subst (λ (z : ℤ). unsigned_abs z ≤ 2 ^ 56) (to_z-of_z w128 c.clear_into-head.result head) yes.0) (subst (AllByRecursion (λ (f : FreeEntry). unsigned_abs f.value ≤ 2 ^ 56)) c.deref-2.ensures.value yes.1),
-        to_z-of_z w128 c.clear_into-head.result head ∙ sym (pivot_entry-row_of 0 n e out.items listed),
-        lone_by_length n out.len e out.items c.is_empty-then-is_small.result listed out.ok.0 c.is_empty-then-is_small.ensures,
+        small_list n e all.1 made.listed all.3.1 all.3.2,
+        to_z-of_z w128 c.in_ok-head.head head ∙ all.3.0 ∙ sym (pivot_entry-row_of 0 n e all.1 made.listed),
+        lone_by_length n out.len e all.1 c.is_empty-2.result made.listed length_is c.is_empty-2.ensures,
       ),
     )
-
-pub returns-else-is_small-clause-cleared : goal.returns-else-is_small-clause-cleared
-returns-else-is_small-clause-cleared c =
-    let head : FitsSigned w128 c.clear_into-head.result = search rules in
-    let n = c.args.columns in
-    let out = c.clear_into-head.new.out in
-    let e : FreeEntry = record { place = c.args.row.now.pivot; value = c.clear_into-head.result } in
-    let listed = c.clear_into-head.ensures.listed in (
-      row_of n (e ∷ out.items),
-      c.clear_into-head.ensures.cleared,
-      λ small.
-          let all = small_values n (e ∷ out.items) listed small in
-          false_not (c.is_small.result) c.if-is_small.false (c.is_small.ensures.1 (subst (λ (z : ℤ). unsigned_abs z ≤ 2 ^ 56) (sym (to_z-of_z w128 c.clear_into-head.result head)) all.0, subst (AllByRecursion (λ (f : FreeEntry). unsigned_abs f.value ≤ 2 ^ 56)) (sym c.deref-2.ensures.value) all.1)),
-    )
-  where
-    false_not : (b : Bool) → b ≡ false → IsTrue b → ⊥
-    false_not b e h = true≢false (sym h ∙ e)

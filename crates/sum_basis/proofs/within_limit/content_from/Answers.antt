@@ -1,0 +1,50 @@
+use Rattle.std.proofs.Common.{ℕ, ◌∷◌, ◌≤◌, ℤ, pos, List, get_or, take, sym, ap, ◌∙◌, subst, rules, arith, inl, inr}
+use Rattle.std.specs.Prelude.{FitsSigned, unsigned_abs}
+use Rattle.std.specs.Int.{w128, IsGcd}
+use mir.Val.{to_z, of_z}
+use Rattle.std.proofs.lemmas.Int.{to_z-of_z}
+use Rattle.std.proofs.lemmas.Bool.{cases_lt, true≢false}
+use Rattle.audit_types.specs.Form.{IsContent}
+use Rattle.audit_types.specs.PrimitiveLines.{size_positive}
+use Rattle.int_rows.specs.Multiples.{positive_divisor}
+use Rattle.sum_basis.specs.declared.sparse.FreeEntry.{FreeEntry}
+use Rattle.sum_basis.proofs.ListContents.{values, content_of_one, one_more_value, stays_one}
+use Rattle.sum_basis.proofs.WithinLimit.{has_content}
+use Rattle.sum_basis.proofs.within_limit.content_from.Goals as goal
+
+pub loop-e-init : goal.loop-e-init
+loop-e-init c =
+    let same = to_z-of_z w128 c.args.head c.ranges.head in
+    let is = c.new-divisor.ensures ∙ ap unsigned_abs same in
+    record { content = rw (same, is) (content_of_one c.args.head); positive = rw is (size_positive c.args.head c.requires.head.0) }
+
+pub loop-e-preserved : goal.loop-e-preserved
+loop-e-preserved c =
+    let value : FitsSigned w128 (get_or c.args.entries.now c.loop-e.e-index (record { place = 0; value = pos 0 })).value = search rules in
+    let common : IsGcd c.loop-e.divisor (unsigned_abs (get_or c.args.entries.now c.loop-e.e-index (record { place = 0; value = pos 0 })).value) c.with-divisor.result =
+    subst (λ (m : ℤ). IsGcd c.loop-e.divisor (unsigned_abs m) c.with-divisor.result) (to_z-of_z w128 (get_or c.args.entries.now c.loop-e.e-index (record { place = 0; value = pos 0 })).value value) c.with-divisor.ensures in
+    record {
+      content = one_more_value (to_z w128 (of_z w128 c.args.head)) c.args.entries.now c.loop-e.e-index c.loop-e.divisor c.with-divisor.result c.loop-e-test.true c.loop-e.invariant.content common;
+      positive = positive_divisor _ _ c.with-divisor.result c.loop-e.invariant.positive common;
+    }
+
+-- what the values so far have in common
+so_far : (head : ℤ) (es : List FreeEntry) (k g : ℕ) → FitsSigned w128 head → IsContent (to_z w128 (of_z w128 head) ∷ values (take k es)) g → IsContent (head ∷ values (take k es)) g
+so_far head es k g fits content = subst (λ (h : ℤ). IsContent (h ∷ values (take k es)) g) (to_z-of_z w128 head fits) content
+
+pub returns-then-is_below : goal.returns-then-is_below
+returns-then-is_below c =
+    let has = has_content c.args.head c.args.entries.now c.loop-e.e-index c.loop-e.divisor c.requires.head.0 c.loop-e.invariant.positive (so_far c.args.head c.args.entries.now c.loop-e.e-index c.loop-e.divisor c.ranges.head c.loop-e.invariant.content) in
+    let below = c.is_below.ensures.0 c.if-is_below.true in
+    let most = has.at_most in
+    record { content = (has.content, has.is, has.positive, omega arith) }
+
+pub returns-then-is_one : goal.returns-then-is_one
+returns-then-is_one c =
+    let one = c.is_one.ensures.0 c.if-is_one.true in
+    let content = so_far c.args.head c.args.entries.now c.loop-e.e-index c.loop-e.divisor c.ranges.head c.loop-e.invariant.content in
+    let enough : c.args.least ≤ 1 = elim (cases_lt c.loop-e.divisor c.args.least) [
+      | inl below ↦ absurd (true≢false (sym (c.is_below.ensures.1 below) ∙ c.if-is_below.false))
+      | inr enough ↦ omega arith
+    ] in
+    record { content = (1, stays_one c.args.head c.args.entries.now c.loop-e.e-index (subst (IsContent (c.args.head ∷ values (take c.loop-e.e-index c.args.entries.now))) one content), omega arith, (one, enough)) }

@@ -1,0 +1,59 @@
+//! Whether a row over its content is within the limit. Only its pivot entry is divided.
+ghost use Rattle.std.specs.Prelude.{◌≡◌, ◌↔◌, ℕ, ◌*◌, ◌<◌, ◌≤◌, ◌+◌, ◌^◌, ℤ, pos, ◌<ℤ◌, List, ◌∷◌, map, unsigned_abs, IsTrue, MatchOption};
+ghost use Rattle.std.specs.List.{AllByRecursion};
+ghost use Rattle.audit_types.specs.Form.{IsContent};
+ghost use Rattle.sum_basis.specs.declared.sparse.FreeEntry.{FreeEntry};
+ghost use Rattle.sum_basis.specs.Sparse.{IsOverContent};
+
+use crate::cleared_list::bound_of;
+use crate::elimination::LIMIT;
+use crate::sparse::FreeEntry;
+use int_rows::Divisor;
+
+// The least content that brings a size within the limit.
+fn least_content(size: u128) -> u128
+    requires { size ≤ 2 ^ 126 }
+    ensures enough { size ≤ result * 2 ^ 56 }
+    ensures least { result * 2 ^ 56 < size + 2 ^ 56 }
+{
+    (size + (LIMIT - 1)) / LIMIT
+}
+
+fn is_below(divisor: &Divisor, least: u128) -> bool
+    ensures { IsTrue result ↔ (divisor.now < least) }
+{
+    (divisor.size() as u128) < least
+}
+
+// The greatest common divisor of the pivot entry and of all values, unless it is below the least: the first of them may show that.
+fn content_from(head: i128, entries: &[FreeEntry], least: u128) -> Option<Divisor>
+    requires head { (pos 0 <ℤ head) × (unsigned_abs head ≤ 2 ^ 126) }
+    requires entries { AllByRecursion (λ e. unsigned_abs e.value ≤ 2 ^ 126) entries.now }
+    ensures content { (content : ℕ) × IsContent (head ∷ map (λ e. e.value) entries.now) content × (0 < content) × MatchOption result (content < least) (λ divisor. (divisor ≡ content) × (least ≤ content)) }
+{
+    let mut divisor = Divisor::new(head);
+    for e in entries {
+        if is_below(&divisor, least) {
+            return None;
+        }
+        if divisor.is_one() {
+            return Some(divisor);
+        }
+        divisor = divisor.with(e.value);
+    }
+    if is_below(&divisor, least) {
+        return None;
+    }
+    Some(divisor)
+}
+
+/// The pivot entry over the content of it and the values. None where it or a value, over the content, is above the limit.
+pub fn head_within(head: i128, entries: &[FreeEntry]) -> Option<i128>
+    requires head { (pos 0 <ℤ head) × (unsigned_abs head ≤ 2 ^ 126) }
+    requires entries { AllByRecursion (λ e. unsigned_abs e.value ≤ 2 ^ 126) entries.now }
+    ensures within { (over : ℤ) × (made : List FreeEntry) × IsOverContent head entries.now over made × MatchOption result (¬ ((unsigned_abs over ≤ 2 ^ 56) × AllByRecursion (λ e. unsigned_abs e.value ≤ 2 ^ 56) made)) (λ h. (h ≡ over) × (unsigned_abs over ≤ 2 ^ 56) × AllByRecursion (λ e. unsigned_abs e.value ≤ 2 ^ 56) made) }
+{
+    let most = bound_of(head, entries);
+    let divisor = content_from(head, entries, least_content(most))?;
+    Some(divisor.quotient(head))
+}
