@@ -16,7 +16,7 @@ use Rattle.bench_core.specs.declared.bench.Bench.{Ghosts}
 use Rattle.bench_core.specs.Calls.{LeavesOnly}
 use Rattle.bench_core.specs.Moments.{weakens}
 
--- a file is a header, groups, and what stands behind them
+-- a file is a header, groups, and what stands after them
 pub stands_by : (image : List ℕ) (shape : Shape) (history : List Answered) (gate : ℕ) (groups : List Written) (rest : List ℕ) → IsWholeShape shape → AreGroups shape groups → length history ≤ 65536 → history ≡ records groups → gate ≡ gate_behind groups → IsClosed rest → image ≡ (header shape ++ texts groups) ++ rest → StandsAt image shape history gate
 stands_by image shape history gate groups rest shaped whole few history_is gate_is ends is = record {
   groups = groups;

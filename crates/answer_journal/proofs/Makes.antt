@@ -45,7 +45,7 @@ module _ (file : List ℕ) (shape : Shape) (shaped : IsWholeShape shape) (some :
 pub short_unmade : (shape : Shape) (before image sent : List ℕ) → (sent ≡ before) × IsShort image → IsUnmadeOrEmpty shape before image sent
 short_unmade shape before image sent (same, short) = (same, inl (λ made. omega (arith, made.0, short)))
 
--- what write_header writes behind its first byte
+-- what write_header writes after its first byte
 pub header_behind : (shape : Shape) (out : List ℕ) → length shape.kinds ≡ 8 → out ≡ 0 ∷ (named shape ++ 0 ∷ []) → take 20 (drop 1 out) ≡ named shape ++ 0 ∷ []
 header_behind shape out eight is =
     ap (λ o. take 20 (drop 1 o)) is ∙ take_all 20 (named shape ++ 0 ∷ []) (omega (arith, length-append (named shape) (0 ∷ []), eight))

@@ -1,7 +1,7 @@
 -- Reading a journal from its front, group by group.
 use Rattle.std.proofs.Common.{◌≡◌, ◌≢◌, ℕ, ◌+◌, ◌-◌, ◌<◌, ◌≤◌, inl, inr, List, [], ◌∷◌, ◌++◌, length, get_or, take, drop, refl, sym, ap, subst, ◌∙◌, arith, append_assoc, append-nil, add-one, one-add, length-append, length-take, length-drop, take-add}
 use Rattle.std.proofs.Math.Seq.{drop-cons}
-use Rattle.std.proofs.lemmas.List.{take-append-drop, take_all, nil_from_length}
+use Rattle.std.proofs.lemmas.List.{take-append-drop, nil_from_length}
 use Rattle.std.proofs.lemmas.List.Concat.{flat_map-cons}
 use Rattle.std.proofs.lemmas.Grind.{flat_map-append}
 use Rattle.audit_types.specs.declared.shapes.Shape.{Shape}
@@ -97,7 +97,3 @@ module _ (bytes : List ℕ) (shape : Shape) (list : List Answered) (gate : ℕ) 
       whole_more : (gs : List Written) (g : Written) → AreGroups shape gs → IsGroup shape g.text g.list → AreGroups shape (gs ++ g ∷ [])
       whole_more [] g whole is = (is, tt)
       whole_more (first ∷ gs) g whole is = (whole.0, whole_more gs g whole.1 is)
-
--- a slice from a place on
-pub rest_is : (n : ℕ) (bytes : List ℕ) → take (length bytes - n) (drop n bytes) ≡ drop n bytes
-rest_is n bytes = take_all (length bytes - n) (drop n bytes) (omega (arith, length-drop n bytes))

@@ -37,7 +37,7 @@ pub fn read_all(alloc: Global, bytes: &[u8]) -> Result<Contents, BackFault>
     }
 }
 
-// Reads the groups behind the header.
+// Reads the groups after the header.
 fn read_groups(alloc: Global, shape: Shape, bytes: &[u8]) -> Result<Contents, BackFault>
     requires shape { IsWholeShape shape }
     requires header { take 20 bytes.now ≡ header shape }

@@ -1,28 +1,20 @@
 -- Histories that are replayed record by record stay legal.
 use Rattle.std.proofs.Common.{◌≡◌, ℕ, ◌+◌, ◌<◌, ◌≤◌, List, [], ◌∷◌, ◌++◌, length, get_or, take, Some, sym, ap, subst, ◌∙◌, arith, length-take}
 use Rattle.std.specs.Prelude.{slice_get}
-use Rattle.std.specs.List.{AllByRecursion}
 use Rattle.std.proofs.lemmas.List.{take_more, take-take, get_or-take}
 use Rattle.std.proofs.lemmas.Option.{slice_get_within, get_or_from_slice_get, slice_get-get_or}
 use Rattle.audit_types.specs.declared.records.Answered.{Answered}
-use Rattle.audit_types.specs.History.{Table, Secrets, AreSecrets, FitsShape, IsLegal, IsPossibleHistory}
+use Rattle.audit_types.specs.History.{Table, FitsShape, IsLegal, IsPossibleHistory}
 use Rattle.audit_types.specs.Laws.{LegalIsPossible}
 use Rattle.audit_core.specs.Laws.{LegalGrows}
-use Rattle.table_load.specs.Cells.{SecretView, AreNumbers, IsSecret}
+use Rattle.table_load.specs.Cells.{SecretView, IsSecret}
 use Rattle.audit_store.specs.Starting.{IsTrue, IsReleasedAfter}
 use Rattle.table_load.specs.Database.{secret_table}
+use Rattle.table_load.specs.SecretLists.{are_secrets}
 
-as_long : (n : ℕ) (lists : Secrets) → AllByRecursion (AreNumbers n) lists → AllByRecursion (λ w. length w ≡ n) lists
-as_long n [] all = tt
-as_long n (w ∷ lists) all = (all.0.one_each, as_long n lists all.1)
-
--- the secrets of a table are a list for each column, with a number for each row
-pub secrets_are : (secret : SecretView) → IsSecret secret → AreSecrets secret.shape secret.lists
-secrets_are secret is = record { one_each = is.one_each; numbers = as_long secret.shape.rows secret.lists is.numbers }
-
--- so a legal history of them is possible
+-- a legal history of the secrets of a table is possible
 pub legal_is_possible : (secret : SecretView) (history : List Answered) → LegalIsPossible → IsSecret secret → IsLegal (secret_table secret) history → IsPossibleHistory (secret_table secret).setting history
-legal_is_possible secret history law is legal = law (secret_table secret) history (secrets_are secret is) legal
+legal_is_possible secret history law is legal = law (secret_table secret) history (are_secrets secret is) legal
 
 module _ (table : Table) (list : List Answered) (k : ℕ) (legal : IsLegal table (take k list)) where
   -- a record more that fits, is true and was to be released

@@ -20,10 +20,7 @@ use Rattle.auditor_top.specs.declared.words.Command.TheVariants as command
 use Rattle.auditor_top.specs.Status.{open_status, start_status, audit_status}
 use Rattle.auditor_top.specs.Ends.{AuditEnds, audit_over}
 use Rattle.auditor_top.specs.Causes.{FaultCounts, FaultCause, SchemaCause, TableCause, FileCause, HoldsLegal, NothingFailed, IsDoneOrWants}
-
--- an answer isn't good and bad
-not_both : {X E : Type 0} (x : X) (e : E) → Ok x ≡ Err e → ⊥
-not_both x e is = search rules
+use Rattle.auditor_top.proofs.StepFaults.{not_both}
 
 -- what is audited, by parts that are equal
 pub same_audit : (schema other : List Column) (secret hidden : SecretView) (history past : List Answered) → schema ≡ other → secret ≡ hidden → history ≡ past

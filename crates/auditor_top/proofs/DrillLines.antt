@@ -1,5 +1,5 @@
 -- A drill's replies are at most as many lines as its questions have bytes.
-use Rattle.std.proofs.Common.{◌≡◌, ◌≤◌, ◌<◌, ◌+◌, ℕ, suc, Bool, true, false, cond, nat_lt, List, [], ◌∷◌, ◌++◌, length, map, option_to_list, refl, sym, ap, ◌∙◌, subst, arith, length-append}
+use Rattle.std.proofs.Common.{◌≡◌, ◌≤◌, ◌<◌, ◌+◌, ℕ, Bool, true, false, cond, nat_lt, List, [], ◌∷◌, ◌++◌, length, map, option_to_list, refl, ap, ◌∙◌, arith, length-append}
 use Rattle.std.specs.List.{AllByRecursion, flat_map, slice_split, onto_first}
 use Rattle.std.proofs.lemmas.List.Splits.{length-slice_split}
 use Rattle.audit_types.specs.declared.records.Answered.{Answered}

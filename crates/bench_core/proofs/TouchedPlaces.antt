@@ -1,13 +1,9 @@
 -- Places that a loop touches one after the other.
 use Rattle.std.proofs.Common.{◌≡◌, ◌≢◌, ℕ, ◌+◌, ◌<◌, ◌≤◌, ◌⊎◌, inl, inr, Bool, true, false, ◌&&◌, ◌||◌, List, length, get_or, set, refl, sym, ap, ◌∙◌, arith, get_or-set_same, get_or-set_other, length-set}
 use Rattle.std.specs.Prelude.{nat_le, nat_lt}
-use Rattle.std.proofs.lemmas.Bool.{cases_eq}
+use Rattle.std.proofs.lemmas.Bool.{cases_eq, or_right}
 use Rattle.std.proofs.lemmas.Bool.Decides.{nat_tests}
 use Rattle.bench_core.specs.DiskContents.{is_dirty}
-
-or_true : (b : Bool) → (b || true) ≡ true
-or_true true = refl
-or_true false = refl
 
 -- the places from `at` on, below `place`, are touched as well
 pub record Touched (old : List Bool) (at place : ℕ) (new : List Bool) : Type 0 where
@@ -23,7 +19,7 @@ this_test at place le = grind (arith, nat_tests)
 pub touched_more : (old : List Bool) (at place : ℕ) (new : List Bool) → at ≤ place → place < length new → Touched old at place new → Touched old at (place + 1) (set new place true)
 touched_more old at place new le lt so_far = record {
   flags = λ k. elim (cases_eq k place) [
-    | inl e ↦ ap (λ j. get_or (set new place true) j false) e ∙ get_or-set_same new place true false lt ∙ sym (ap (λ j. is_dirty old j || (nat_le at j && nat_lt j (place + 1))) e ∙ ap (λ b. is_dirty old place || b) (this_test at place le) ∙ or_true (is_dirty old place))
+    | inl e ↦ ap (λ j. get_or (set new place true) j false) e ∙ get_or-set_same new place true false lt ∙ sym (ap (λ j. is_dirty old j || (nat_le at j && nat_lt j (place + 1))) e ∙ ap (λ b. is_dirty old place || b) (this_test at place le) ∙ or_right (is_dirty old place) true refl)
     | inr other ↦ get_or-set_other new place k true false other ∙ so_far.flags k ∙ ap (λ b. is_dirty old k || b) (same_test at place k other)
   ];
   long = length-set new place true ∙ so_far.long;

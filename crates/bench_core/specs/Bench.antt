@@ -2,7 +2,7 @@
 -- of the file and the bytes sent.
 use Rattle.std.specs.Prelude.{◌≡◌, ◌⊎◌, ℕ, ◌+◌, ◌≤◌, max, List, ◌++◌, length, take, drop}
 
--- the new bytes are the old ones with a front of the piece behind it
+-- the new bytes are the old ones with a front of the piece after it
 abbrev pub AppendsFront : List ℕ → List ℕ → List ℕ → Type 0
 AppendsFront old piece new = (count : ℕ) × (new ≡ old ++ take count piece)
 

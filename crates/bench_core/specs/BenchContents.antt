@@ -37,7 +37,7 @@ may_leave bench image = Leaves (state_of bench) image
 abbrev pub found_since : BenchContents → ℕ → List ℕ → List ℕ → Type 0
 found_since bench t image sent = Since (start bench.first) bench.past t image sent
 
--- a call of this number comes at the stop or behind it
+-- a call of this number comes at the stop or after it
 abbrev pub is_stopped : Option ℕ → ℕ → Bool
 is_stopped None call = false
 is_stopped (Some stop) call = nat_le stop call

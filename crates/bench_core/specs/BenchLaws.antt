@@ -1,9 +1,8 @@
 -- The laws of the trait for a bench in memory.
-use Rattle.std.proofs.Common.{◌≡◌, ℕ, ◌+◌, ◌-◌, ◌<◌, ◌≤◌, ◌⊎◌, inl, inr, Bool, true, false, List, [], ◌∷◌, ◌++◌, length, get_or, take, drop, refl, ap, ◌∙◌, arith, length-append, length-take, length-drop, append_assoc}
-use Rattle.std.specs.Prelude.{◌||◌}
+use Rattle.std.proofs.Common.{◌≡◌, ℕ, ◌+◌, ◌-◌, ◌<◌, ◌≤◌, ◌⊎◌, inl, inr, false, List, [], ◌∷◌, ◌++◌, length, get_or, take, drop, refl, ap, ◌∙◌, arith, length-append, length-take, length-drop, append_assoc}
 use Rattle.std.proofs.Math.ListN.{get_or-append}
 use Rattle.std.proofs.lemmas.List.{get_or-append_right, get_or-take, get_or-drop}
-use Rattle.std.proofs.lemmas.Bool.{true≢false}
+use Rattle.std.proofs.lemmas.Bool.{or_parts}
 use Rattle.std.proofs.lemmas.Bool.Decides.{nat_tests}
 use Rattle.bench_core.specs.Machine.{Call, wrote, unwritten, synced, sending, other, State, start, after, after_all, in_range, written}
 use Rattle.bench_core.specs.MachineLaws.{counts_now, only_now}
@@ -14,19 +13,11 @@ pub record IsSound (s : State) : Type 0 where
   pub long : length s.stable ≤ length s.file
   pub clean : (k : ℕ) → k < length s.stable → s.dirty k ≡ false → get_or s.file k 0 ≡ get_or s.stable k 0
 
-or_left_false : (a b : Bool) → (a || b) ≡ false → a ≡ false
-or_left_false true b e = e
-or_left_false false b e = refl
-
-or_right_false : (a b : Bool) → (a || b) ≡ false → b ≡ false
-or_right_false true b e = absurd (true≢false e)
-or_right_false false b e = e
-
--- a place out of the range is before it or behind it
+-- a place out of the range is before it or after it
 out_of_range : (at count k : ℕ) → in_range at count k ≡ false → (k < at) ⊎ (at + count ≤ k)
 out_of_range at count k e = grind (arith, nat_tests)
 
--- a write leaves the places before it and behind it
+-- a write leaves the places before it and after it
 written_before : (file : List ℕ) (at : ℕ) (piece : List ℕ) (k : ℕ) → k < length file → k < at → get_or (written file at piece) k 0 ≡ get_or file k 0
 written_before file at piece k inside before =
     ap (λ l. get_or l k 0) (append_assoc (take at file) piece (drop (at + length piece) file)) ∙ get_or-append (take at file) (piece ++ drop (at + length piece) file) 0 k (omega (arith, length-take at file)) ∙ get_or-take at file k 0 before
@@ -39,13 +30,13 @@ written_behind file at piece k inside behind =
 sound_after : (s : State) (c : Call) → IsSound s → IsSound (after s c)
 sound_after s (wrote at piece) sound = record {
   long = omega (arith, sound.long, length-append (take at s.file ++ piece) (drop (at + length piece) s.file), length-append (take at s.file) piece, length-take at s.file, length-drop (at + length piece) s.file);
-  clean = λ k lt clean. let before = or_left_false (s.dirty k) (in_range at (length piece) k) clean in
-      elim (out_of_range at (length piece) k (or_right_false (s.dirty k) (in_range at (length piece) k) clean)) [
-        | inl low ↦ written_before s.file at piece k (omega (arith, lt, sound.long)) low ∙ sound.clean k lt before
-        | inr high ↦ written_behind s.file at piece k (omega (arith, lt, sound.long)) high ∙ sound.clean k lt before
+  clean = λ k lt clean. let neither = or_parts (s.dirty k) (in_range at (length piece) k) clean in
+      elim (out_of_range at (length piece) k neither.1) [
+        | inl low ↦ written_before s.file at piece k (omega (arith, lt, sound.long)) low ∙ sound.clean k lt neither.0
+        | inr high ↦ written_behind s.file at piece k (omega (arith, lt, sound.long)) high ∙ sound.clean k lt neither.0
       ];
 }
-sound_after s (unwritten at count) sound = record { long = sound.long; clean = λ k lt clean. sound.clean k lt (or_left_false (s.dirty k) (in_range at count k) clean) }
+sound_after s (unwritten at count) sound = record { long = sound.long; clean = λ k lt clean. sound.clean k lt (or_parts (s.dirty k) (in_range at count k) clean).0 }
 sound_after s synced sound = record { long = omega arith; clean = λ k lt clean. refl }
 sound_after s (sending piece) sound = record { long = sound.long; clean = sound.clean }
 sound_after s other sound = sound

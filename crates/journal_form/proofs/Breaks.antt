@@ -67,7 +67,7 @@ whole_record shape text rest r at is breaks =
         let last : 9 + (set_size shape.rows - 1) ≡ at = omega (arith, e, some_bytes) in
         sym (get_or-take (set_size shape.rows) (drop 9 text) (set_size shape.rows - 1) 0 (omega (arith, some_bytes)) ∙ get_or-drop 9 text (set_size shape.rows - 1) 0 ∙ ap (λ k. get_or text k 0) last)
 
--- behind fewer records than stand there, none is broken
+-- after fewer records than stand there, none is broken
 whole_records : (shape : Shape) (a b x y : List ℕ) (list others : List Answered) (at : ℕ) → AreRecords shape a list → AreRecords shape b others → length others < length list → a ++ x ≡ b ++ y → RecordBreaks shape y at → ⊥
 whole_records shape a b x y [] others at p q fewer e breaks = absurd (omega arith)
 whole_records shape a b x y (r ∷ list) [] at p q fewer e breaks =
@@ -138,7 +138,7 @@ whole_header file shape groups behind at begins breaks =
       | inr bad ↦ bad.1 (subst (λ l. IsGoodHeaderByte l at) (sym begins.file_is) (header_is_good shape rest at begins.shaped breaks.within))
     ]
 
--- two places behind whole groups are one
+-- two places after whole groups are one
 behind_once : (file : List ℕ) (a b : ℕ) → BreaksBehind file a → BreaksBehind file b → a ≡ b
 behind_once file a b p q =
     let same = same_begins file p.shape q.shape p.groups q.groups p.behind q.behind p.begins q.begins (broken_ends file a p) (broken_ends file b q) in

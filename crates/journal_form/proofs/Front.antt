@@ -1,4 +1,4 @@
--- What stands behind the greatest length of a journal has no meaning.
+-- What stands after the greatest length of a journal has no meaning.
 use Rattle.std.proofs.Common.{◌≡◌, ℕ, ◌+◌, ◌-◌, ◌*◌, ◌<◌, ◌≤◌, inl, inr, List, [], ◌∷◌, ◌++◌, length, take, drop, sym, ap, subst, ◌∙◌, arith, append_assoc, length-append, length-take}
 use Rattle.std.proofs.lemmas.Bool.{cases_lt}
 use Rattle.std.proofs.lemmas.List.{take-append-drop, take_all, take-append-le}
@@ -12,7 +12,7 @@ use Rattle.journal_form.specs.Group.{AreRecords, IsGroup, CountBreaks, GroupBrea
 use Rattle.journal_form.specs.Journal.{Written, AreGroups, texts, records, gate_behind, most_bytes, Begins, StandsAt, BreaksBehind, BreaksAt}
 use Rattle.journal_form.proofs.UpTo.{header_breaks_up_to, record_breaks_up_to}
 
--- more bytes behind a place leave the bytes up to it
+-- more bytes after a place leave the bytes up to it
 same_front : (front rest : List ℕ) (at : ℕ) → at < length front → take (at + 1) front ≡ take (at + 1) (front ++ rest)
 same_front front rest at inside = sym (take-append-le (at + 1) front rest (omega (arith, inside)))
 

@@ -54,7 +54,7 @@ AreGood good bytes = (k : ℕ) → k < length bytes → good bytes k
 abbrev IsByFront : (List ℕ → ℕ → Type 0) → Type 0
 IsByFront good = (a b : List ℕ) (k : ℕ) → take (k + 1) a ≡ take (k + 1) b → good a k → good b k
 
--- behind fewer good bytes than these there may be one more
+-- after fewer good bytes than these there may be one more
 abbrev GoesOnBelow : (List ℕ → ℕ → Type 0) → ℕ → Type 0
 GoesOnBelow good size = (bytes : List ℕ) → length bytes < size → AreGood good bytes → (b : ℕ) × (b < 256) × good (bytes ++ b ∷ []) (length bytes)
 
@@ -115,7 +115,7 @@ middle_goes_on bytes from below are =
       ]
     ]
 
--- a kind for each column, and 0 behind them
+-- a kind for each column, and 0 after them
 kinds_go_on : (bytes : List ℕ) → 12 ≤ length bytes → (b : ℕ) × (b < 256) × IsGoodHeaderByte (bytes ++ b ∷ []) (length bytes)
 kinds_go_on bytes from =
     let n = length bytes in

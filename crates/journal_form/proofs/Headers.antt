@@ -64,7 +64,7 @@ one_counted : (b : ℕ) → (b ≡ 1) ⊎ (b ≡ 2) → count_by (λ x. nat_lt 0
 one_counted b (inl e) = rw e refl
 one_counted b (inr e) = rw e refl
 
--- 1 or 2 for each column, and 0 behind them
+-- 1 or 2 for each column, and 0 after them
 pub are_kinds : (kinds : List ℕ) (columns : ℕ) → columns ≤ length kinds → ((k : ℕ) → k < columns → (get_or kinds k 0 ≡ 1) ⊎ (get_or kinds k 0 ≡ 2)) → ((k : ℕ) → k < length kinds → columns ≤ k → get_or kinds k 0 ≡ 0) → AreKinds kinds
 are_kinds [] columns le some none = tt
 are_kinds (b ∷ kinds) zero le some none = inr (none 0 (omega arith) (omega arith), all_zero kinds (λ k lt. none (suc k) (omega arith) (omega arith)))
@@ -98,7 +98,7 @@ zeros_behind (b ∷ kinds) zero (inl some) le = absurd (omega (arith, one_counte
 zeros_behind (b ∷ kinds) (suc k) (inl some) le = zeros_behind kinds k some.1 (omega (arith, one_counted b some.0, sum_by-cons (λ x. cond (nat_lt 0 x) 1 0) b kinds))
 zeros_behind (b ∷ kinds) k (inr none) le = zeros (b ∷ kinds) k none
 
--- each byte of a shape's header is good, whatever stands behind it
+-- each byte of a shape's header is good, whatever stands after it
 pub header_is_good : (shape : Shape) (rest : List ℕ) (k : ℕ) → IsWholeShape shape → k < 20 → IsGoodHeaderByte (header shape ++ rest) k
 header_is_good shape rest k whole lt =
     let kinds = shape.kinds in

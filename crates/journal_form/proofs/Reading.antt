@@ -66,7 +66,7 @@ same_group shape (count ∷ bytes) (number ∷ body) more rest list others p q e
 pub no_begins : (shape : Shape) (text other more rest : List ℕ) (list others : List Answered) → IsGroup shape text list → IsGroup shape other others → text ++ more ≡ other ++ rest → (text ≡ other) × (list ≡ others)
 no_begins shape text other more rest list others p q e = let same = same_group shape text other more rest list others p q e in (same.text, same.list_same)
 
--- groups that tell each other's bytes and records, and what stands behind them
+-- groups that tell each other's bytes and records, and what stands after them
 pub record SameGroups (gs hs : List Written) (x y : List ℕ) : Type 0 where
   pub texts_same : texts gs ≡ texts hs
   pub records_same : records gs ≡ records hs
@@ -79,7 +79,7 @@ texts-cons g gs x = ap (λ t. t ++ x) (flat_map-cons (λ group. 1 ∷ group.text
 count_more : (before : ℕ) (g : Written) (gs : List Written) → before + length (records (g ∷ gs)) ≡ (before + length g.list) + length (records gs)
 count_more before g gs = omega (arith, ap length (flat_map-cons (λ group. group.list) g gs), length-append g.list (records gs))
 
--- behind so many records no group stands here that the journal may still hold
+-- after so many records no group stands here that the journal may still hold
 unfoldable pub NoGroup : Shape → ℕ → List ℕ → Type 0
 NoGroup shape before bytes = (text rest : List ℕ) (list : List Answered) → IsGroup shape text list → length list ≤ 65536 - before → bytes ≡ 1 ∷ (text ++ rest) → ⊥
 

@@ -11,7 +11,7 @@ use Rattle.audit_types.specs.Shapes.{columns}
 use Rattle.audit_types.specs.History.{FitsShape}
 use Rattle.journal_form.specs.Record.{set_size, record_size, set_in, IsSet, IsRecord}
 
--- three pieces, written one behind the other
+-- three pieces, written one after the other
 pub text_behind : (out : List ℕ) (column : ℕ) (answer set : List ℕ) → ((out ++ column ∷ []) ++ answer) ++ set ≡ out ++ (column ∷ (answer ++ set))
 text_behind out column answer set = append_assoc (out ++ column ∷ []) answer set ∙ append_assoc out (column ∷ []) (answer ++ set)
 
@@ -49,7 +49,7 @@ record_read shape bytes r long column below answer same_n is_set some =
       some = some;
     }
 
--- more bytes behind a record leave its set
+-- more bytes after a record leave its set
 pub set_in_longer : (shape : Shape) (text rest : List ℕ) → record_size shape ≤ length text → set_in shape.rows (text ++ rest) ≡ set_in shape.rows text
 set_in_longer shape text rest long =
     ap (take (set_size shape.rows)) (drop-append-le 9 text rest (omega arith)) ∙ take-append-le (set_size shape.rows) (drop 9 text) rest (omega (arith, long, length-drop 9 text))

@@ -4,7 +4,7 @@ use Rattle.audit_types.specs.declared.shapes.Shape.{Shape}
 use Rattle.audit_types.specs.declared.records.Answered.{Answered}
 use Rattle.journal_form.specs.Record.{IsRecord, RecordBreaks}
 
--- these bytes are the records, one behind the other
+-- these bytes are the records, one after the other
 abbrev pub AreRecords : Shape → List ℕ → List Answered → Type 0
 AreRecords shape bytes [] = bytes ≡ []
 AreRecords shape bytes (r ∷ list) = (text : List ℕ) × (behind : List ℕ) × (bytes ≡ text ++ behind) × IsRecord shape text r × AreRecords shape behind list
@@ -23,7 +23,7 @@ abbrev pub CountBreaks : ℕ → List ℕ → Type 0
 CountBreaks left [] = Unit {0}
 CountBreaks left (count ∷ behind) = IsCount left count → ⊥
 
--- behind a good count and some whole records, fewer than it says, a byte breaks the next record
+-- after a good count and some whole records, fewer than it says, a byte breaks the next record
 pub record BreaksInRecord (shape : Shape) (left : ℕ) (bytes : List ℕ) (at : ℕ) : Type 0 where
   pub count : ℕ
   pub whole : List ℕ

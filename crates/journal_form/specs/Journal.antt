@@ -25,7 +25,7 @@ texts groups = flat_map (λ group. 1 ∷ group.text) groups
 abbrev pub records : List Written → List Answered
 records groups = flat_map (λ group. group.list) groups
 
--- whole groups behind the header of a shape, and what stands behind them
+-- whole groups after the header of a shape, and what stands after them
 pub record Begins (file : List ℕ) (shape : Shape) (groups : List Written) (behind : List ℕ) : Type 0 where
   pub shaped : IsWholeShape shape
   pub whole : AreGroups shape groups
@@ -81,7 +81,7 @@ MayFollow shape groups = (0 < columns shape) × (length (records groups) < most_
 abbrev pub AreBytes : List ℕ → Type 0
 AreBytes numbers = AllByRecursion (λ b. b < 256) numbers
 
--- some bytes behind these make a journal of them
+-- some bytes after these make a journal of them
 pub record BeginsJournal (bytes : List ℕ) : Type 0 where
   pub more : List ℕ
   pub are_bytes : AreBytes more

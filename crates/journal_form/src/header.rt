@@ -66,7 +66,7 @@ fn bad_front(bytes: &[u8; 20]) -> Option<u32>
     None
 }
 
-// The first kind byte that is none, or that isn't 0 behind the last column.
+// The first kind byte that is none, or that isn't 0 after the last column.
 fn bad_kind(bytes: &[u8; 20]) -> Option<u32>
     requires columns { slice_index bytes.now 11 ≤ 8 }
     requires before { (place : ℕ) → place < 12 → IsGoodHeaderByte bytes.now place }

@@ -27,7 +27,7 @@ pub fn no_break_in_a_journal()
     ensures { (file : List ℕ) (shape : Shape) (history : List Answered) (gate at : ℕ) → StandsAt file shape history gate → BreaksAt file at → ⊥ }
 {}
 
-/// The bytes up to the one that breaks a file begin no journal: whatever stands behind them, the same byte breaks it.
+/// The bytes up to the one that breaks a file begin no journal: whatever stands after them, the same byte breaks it.
 pub fn broken_bytes_begin_no_journal()
     ensures breaks { (file more : List ℕ) (at : ℕ) → at < length file → BreaksAt file at → BreaksAt (take (at + 1) file ++ more) at }
     ensures none { (file : List ℕ) (at : ℕ) → at < length file → BreaksAt file at → BeginsJournal (take (at + 1) file) → ⊥ }

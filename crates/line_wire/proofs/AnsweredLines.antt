@@ -1,10 +1,8 @@
 -- What a question is answered, its line is answered.
-use Rattle.std.proofs.Common.{◌≡◌, ℕ, Bool, true, false, List, Option, Some, None, Result, Ok, Err, refl, sym, ap, ◌∙◌, subst}
-use Rattle.std.specs.Prelude.{if◌then◌else◌, IfOk, IfErr, IsUtf8, option_and_then}
-use Rattle.std.specs.Str.{is_utf8}
-use Rattle.std.proofs.lemmas.Str.{IsUtf8-from_is_utf8, is_utf8-from_IsUtf8}
+use Rattle.std.proofs.Common.{◌≡◌, ℕ, List, Option, Some, None, Result, Ok, Err, sym, ap, ◌∙◌, subst}
+use Rattle.std.specs.Prelude.{IfOk, IfErr, option_and_then}
+use Rattle.std.proofs.lemmas.Option.{none-some, same_Some}
 use Rattle.serde_json.specs.Data.{Data}
-use Rattle.serde_json.specs.Read.{read}
 use Rattle.schema_json.specs.Columns.{Column}
 use Rattle.schema_json.specs.Reading.{value_of}
 use Rattle.predicate_lang.specs.Trees.{Tree}
@@ -18,20 +16,6 @@ use Rattle.line_wire.specs.declared.request.Request.{Request}
 use Rattle.line_wire.specs.declared.request.Request.TheVariants as request
 use Rattle.line_wire.specs.declared.request.LineFault.{LineFault}
 use Rattle.line_wire.specs.declared.request.LineFault.TheVariants as fault
-
--- text that is read as a value has this value
-pub value_of-read : (line : List ℕ) (d : Data) → IsUtf8 line → read line ≡ Some d → value_of line ≡ Some d
-unfolding value_of
-value_of-read line d text is = ap (λ b. if b then read line else None) (is_utf8-from_IsUtf8 line text) ∙ is
-
--- what is read as no value has none
-pub value_of-none : (line : List ℕ) → (IsUtf8 line → read line ≡ None) → value_of line ≡ None
-unfolding value_of
-value_of-none line none = by (is_utf8 line) refl
-  where
-    by : (b : Bool) → is_utf8 line ≡ b → (if b then read line else None) ≡ None
-    by true e = none (IsUtf8-from_is_utf8 line e)
-    by false e = refl
 
 -- a line writes what its value writes
 pub written_by : (line : List ℕ) (d : Data) (o : Option Written) → value_of line ≡ Some d → question_in d ≡ o → question_of line ≡ o
@@ -49,28 +33,16 @@ pub found_of : (columns : List Column) (o : Option Written) (w : Written) (r : R
 found_of columns o w (Ok q) writes a = record { question = w; tree = a.tree; writes = writes; good = a.good; means = a.means.means; is = a.is }
 found_of columns o w (Err f) writes a = tt
 
-same_question : (o : Option Written) (w v : Written) → o ≡ Some w → o ≡ Some v → w ≡ v
-same_question o w v h i = go (sym h ∙ i)
-  where
-    go : Some w ≡ Some v → w ≡ v
-    go e = cc
-
-clash : (f : LineFault) (o : Option LineFault) → o ≡ None → o ≡ Some f → ⊥
-clash f o h i = go (sym h ∙ i)
-  where
-    go : None ≡ Some f → ⊥
-    go e = cc
-
 -- what the line means is answered
 pub only_of : (columns : List Column) (o : Option Written) (w : Written) (r : Result Request LineFault) → o ≡ Some w → Answers columns w r → (v : Written) (t : Tree) → Asks columns o v t → Reads columns v t r
 only_of columns o w (Ok q) writes a v t asks =
-    let same : w ≡ v = same_question o w v writes asks.writes in
+    let same : w ≡ v = same_Some w v (sym writes ∙ asks.writes) in
     let tree : a.tree ≡ t = a.means.single t (subst (λ (u : Written). Means columns (text_of u) t) (sym same) asks.means) in
     subst (λ (u : Written). IsRequest columns u t q) same (subst (λ (x : Tree). IsRequest columns w x q) tree a.is)
 only_of columns o w (Err fault.Line) writes a v t asks = a
-only_of columns o w (Err fault.Column) writes a v t asks = clash fault.Column (column_fault columns w) (ap (column_fault columns) (same_question o w v writes asks.writes) ∙ asks.good) a
-only_of columns o w (Err fault.Kind) writes a v t asks = clash fault.Kind (column_fault columns w) (ap (column_fault columns) (same_question o w v writes asks.writes) ∙ asks.good) a
-only_of columns o w (Err (fault.Condition at)) writes a v t asks = a.1.nothing t (subst (λ (u : Written). Means columns (text_of u) t) (sym (same_question o w v writes asks.writes)) asks.means)
+only_of columns o w (Err fault.Column) writes a v t asks = none-some fault.Column (sym (ap (column_fault columns) (same_Some w v (sym writes ∙ asks.writes)) ∙ asks.good) ∙ a)
+only_of columns o w (Err fault.Kind) writes a v t asks = none-some fault.Kind (sym (ap (column_fault columns) (same_Some w v (sym writes ∙ asks.writes)) ∙ asks.good) ∙ a)
+only_of columns o w (Err (fault.Condition at)) writes a v t asks = a.1.nothing t (subst (λ (u : Written). Means columns (text_of u) t) (sym (same_Some w v (sym writes ∙ asks.writes))) asks.means)
 only_of columns o w (Err fault.NoMemory) writes a v t asks = tt
 
 -- a refusal is the first that holds

@@ -1,4 +1,4 @@
--- Ranges of a buffer: what is left of one, and one that grows by what stands behind it.
+-- Ranges of a buffer: what is left of one, and one that grows by what stands after it.
 use Rattle.std.proofs.Common.{◌≡◌, ℕ, ◌+◌, ◌-◌, ◌≤◌, min, List, ◌++◌, length, take, drop, slice_range, sym, ◌∙◌, ap, arith, length-drop}
 use Rattle.std.proofs.lemmas.List.{take_min, take_all, drop_all, append-nil, take-take, take_at, drop-take, drop-drop, length-take, length-take-le}
 use Rattle.std.proofs.Math.Seq.{take-add, take-append-add}
@@ -54,7 +54,7 @@ pub kept-full : (line piece : List ℕ) → length line ≡ 8193 → line ≡ ke
 unfolding kept
 kept-full = full-line 8193
 
--- A line was moved up to what stands behind it, and takes a piece of that.
+-- A line was moved up to what stands after it, and takes a piece of that.
 module _ (most : ℕ) (bytes moved : List ℕ) (start stop from end count : ℕ) (ordered : start ≤ stop) (before : stop ≤ from) (short : stop ≤ start + most) (fits : from + count ≤ end) (inside : end ≤ length bytes)
     (here : slice_range moved (from - (stop - start)) (from - (stop - start) + (stop - start)) ≡ slice_range bytes start stop)
     (behind : drop (from - (stop - start) + (stop - start)) moved ≡ drop (from - (stop - start) + (stop - start)) bytes) where

@@ -5,9 +5,10 @@ use Rattle.std.specs.Fmt.{signed_decimal}
 use Rattle.std.specs.Str.Parse.{AllDigits, digits_value}
 use Rattle.std.proofs.lemmas.Bool.{ne_eqb, lt-ltb}
 use Rattle.std.proofs.lemmas.Fmt.{digits_decimal}
+use Rattle.std.proofs.lemmas.Option.{same_Some}
 use Rattle.std.proofs.lemmas.Str.Parse.{IsNumeralModel, numerals_by_value, tells_digits, not_in_digits}
 use Rattle.std.proofs.Math.Seq.{take-append_seam, drop-append_seam}
-use Rattle.std.proofs.lemmas.List.{append_cancel_right, append-nil, take_all, length-drop}
+use Rattle.std.proofs.lemmas.List.{append_cancel_right, append-nil}
 use Rattle.line_wire.specs.Reply.{average}
 
 abbrev is_comma : ℕ → Bool
@@ -40,13 +41,13 @@ front_len [] rest none = refl
 front_len (x ∷ front) rest none =
     ap (λ (b : Bool). cond (not b) (1 + position_or_len is_comma (front ++ 44 ∷ rest)) 0) none.0 ∙ ap (λ (n : ℕ). 1 + n) (front_len front rest none.1) ∙ omega arith
 
--- the first comma stands behind a front that has none
+-- the first comma stands after a front that has none
 position_behind : (front rest : List ℕ) → IsCommaless front → position (λ b. b == 44) (front ++ 44 ∷ rest) ≡ Some (length front)
 position_behind front rest none =
     let inside : nat_lt (length front) (length (front ++ 44 ∷ rest)) ≡ true = lt-ltb (length front) (length (front ++ 44 ∷ rest)) (omega (arith, length-append front (44 ∷ rest))) in
     ap (λ (n : ℕ). cond (nat_lt n (length (front ++ 44 ∷ rest))) (Some n) None) (front_len front rest none) ∙ ap (λ (b : Bool). cond b (Some (length front)) None) inside
 
--- the numerator with what stands before it, and what stands behind the comma
+-- the numerator with what stands before it, and what stands after the comma
 abbrev pub front_of : ℤ → List ℕ
 front_of num = codes "{\"num\":" ++ signed_decimal num
 
@@ -60,13 +61,10 @@ average_parts num den = simp append_assoc
 pub commaless-front_of : (num : ℤ) → unsigned_abs num < 2 ^ 63 → IsCommaless (front_of num)
 commaless-front_of num small = (refl, (refl, (refl, (refl, (refl, (refl, (refl, commaless-signed_decimal num small)))))))
 
-same_some : (m n : ℕ) → Some m ≡ Some n → m ≡ n
-same_some m n is = cc
-
--- wholes that are equal have equal fronts before their first comma, and equal rests behind it
+-- wholes that are equal have equal fronts before their first comma, and equal rests after it
 pub same_parts : (a b r s : List ℕ) → IsCommaless a → IsCommaless b → a ++ 44 ∷ r ≡ b ++ 44 ∷ s → (a ≡ b) × (r ≡ s)
 same_parts a b r s first second is =
-    let place : length a ≡ length b = same_some (length a) (length b) (sym (position_behind a r first) ∙ ap (position (λ b. b == 44)) is ∙ position_behind b s second) in (
+    let place : length a ≡ length b = same_Some (length a) (length b) (sym (position_behind a r first) ∙ ap (position (λ b. b == 44)) is ∙ position_behind b s second) in (
       sym (take-append_seam a (44 ∷ r)) ∙ (λ i. take (place i) (is i)) ∙ take-append_seam b (44 ∷ s),
       ap (λ (l : List ℕ). drop 1 l) (sym (drop-append_seam a (44 ∷ r)) ∙ (λ i. drop (place i) (is i)) ∙ drop-append_seam b (44 ∷ s)),
     )
@@ -82,15 +80,11 @@ average_comma line num den small is = ap (position (λ b. b == 44)) (average_lin
 -- what stands before it
 pub average_front : (line : List ℕ) (num : ℤ) (den comma : ℕ) → unsigned_abs num < 2 ^ 63 → line ++ 10 ∷ [] ≡ average num den → position (λ b. b == 44) line ≡ Some comma → take comma line ≡ codes "{\"num\":" ++ (signed_decimal num ++ [])
 average_front line num den comma small is at =
-    let place : comma ≡ length (front_of num) = same_some comma (length (front_of num)) (sym at ∙ average_comma line num den small is) in
+    let place : comma ≡ length (front_of num) = same_Some comma (length (front_of num)) (sym at ∙ average_comma line num den small is) in
     (λ i. take (place i) (average_line line num den is i)) ∙ take-append_seam (front_of num) (44 ∷ rest_of den (codes "}")) ∙ ap (λ (l : List ℕ). codes "{\"num\":" ++ l) (sym (append-nil (signed_decimal num)))
 
 -- what stands from it on
 pub average_rest : (line : List ℕ) (num : ℤ) (den comma : ℕ) → unsigned_abs num < 2 ^ 63 → line ++ 10 ∷ [] ≡ average num den → position (λ b. b == 44) line ≡ Some comma → drop comma line ≡ codes ",\"den\":" ++ (decimal den ++ codes "}")
 average_rest line num den comma small is at =
-    let place : comma ≡ length (front_of num) = same_some comma (length (front_of num)) (sym at ∙ average_comma line num den small is) in
+    let place : comma ≡ length (front_of num) = same_Some comma (length (front_of num)) (sym at ∙ average_comma line num den small is) in
     (λ i. drop (place i) (average_line line num den is i)) ∙ drop-append_seam (front_of num) (44 ∷ rest_of den (codes "}"))
-
--- the range of a slice from a place on
-pub rest_whole : (at : ℕ) (l : List ℕ) → take (length l - at) (drop at l) ≡ drop at l
-rest_whole at l = take_all (length l - at) (drop at l) (omega (arith, length-drop at l))

@@ -137,7 +137,7 @@ pub none_left : (before pending after : List ℕ) → before ≡ pending ++ afte
 none_left before [] after is none = sym is ∙ none
 none_left before (b ∷ pending) after is none = let no : b ∷ (pending ++ after) ≡ [] = sym is ∙ none in cc
 
--- the first counted line, and those behind it, are the counted lines
+-- the first counted line, and those after it, are the counted lines
 takes_counted : (rest : List ℕ) (ended : Bool) (line : CountedLine) (behind : List ℕ) → TakesLine rest ended line behind → counted_lines rest ≡ line ∷ counted_lines behind
 takes_counted rest ended line behind takes = by_end takes.ends
   where

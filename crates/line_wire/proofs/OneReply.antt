@@ -9,7 +9,7 @@ use Rattle.line_wire.specs.declared.reply.Reply.TheVariants.{Count, Sum, Avg, Ma
 use Rattle.line_wire.proofs.ReplyParts.{mag_below}
 use Rattle.line_wire.proofs.Commas.{front_of, rest_of, average_parts, commaless-front_of, same_parts}
 
--- the number that is behind a front
+-- the number that is after a front
 same_number : (front a b : List ℕ) → numbered front a ≡ numbered front b → a ≡ b
 same_number front a b is = append_cancel_left front a b (append_cancel_right (front ++ a) (front ++ b) (codes "}\n") is)
 

@@ -4,7 +4,7 @@ use Rattle.std.proofs.lemmas.List.{drop-append-le, drop-drop, take-take}
 use Rattle.line_wire.specs.Lines.{kept}
 use Rattle.line_wire.specs.Cutter.{Cutter, IsFirstFeed, IsFeedless, PassesFeed, PassesNone}
 
--- the bytes up to a line feed in the front, and those behind it
+-- the bytes up to a line feed in the front, and those after it
 fed_split : (pending front : List ℕ) (count at : ℕ) → front ≡ take count pending → IsFirstFeed front at → pending ≡ take at front ++ 10 ∷ drop (at + 1) pending
 fed_split pending front count at is first =
     let whole : pending ≡ front ++ drop count pending = sym (ap (λ (l : List ℕ). l ++ drop count pending) is ∙ take-append-drop count pending) in

@@ -8,7 +8,7 @@ use Rattle.line_wire.specs.Questions.{Written, text_of, question_in, question_of
 use Rattle.line_wire.specs.Plain.{is_plain, question_in_json}
 use Rattle.line_wire.specs.Kept.{written_of}
 use Rattle.line_wire.specs.declared.question.Question.{Question}
-use Rattle.line_wire.proofs.AnsweredLines.{value_of-read}
+use Rattle.schema_json.specs.ValueLaws.{value_of-read}
 use Rattle.line_wire.proofs.PlainObjects.{read-plain}
 use Rattle.line_wire.proofs.Texts.Values.{longest-read}
 use Rattle.line_wire.proofs.Texts.Asked.{condition_within}

@@ -32,7 +32,7 @@ same_line line written bytes end same ends feed tests = (to, from)
     from : written ≡ line ++ 10 ∷ [] → IsTrue same
     from is = tests ∙ (bytes_eq-Decides bytes line).1 (append_cancel_right bytes line (10 ∷ []) (sym with_feed ∙ is))
 
--- the line of a number behind what names it
+-- the line of a number after what names it
 pub numbered_line : (line front number : List ℕ) → line ++ 10 ∷ [] ≡ numbered front number → line ≡ front ++ (number ++ codes "}")
 numbered_line line front number is = append_cancel_right line (front ++ (number ++ codes "}")) (10 ∷ []) (is ∙ sym regroup)
   where

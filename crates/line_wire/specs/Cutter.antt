@@ -15,12 +15,12 @@ pub record Cutter : Type 0 where
 abbrev pub IsFeedless : List ℕ → Type 0
 IsFeedless piece = All (λ b. is_feed b ≡ false) piece
 
--- whatever stands behind these bytes, they add no line
+-- whatever stands after these bytes, they add no line
 pub record IsPassedOver (bytes : List ℕ) : Type 0 where
   pub counted : (behind : List ℕ) → counted_lines (bytes ++ behind) ≡ counted_lines behind
   pub whole : (behind : List ℕ) → whole_lines (bytes ++ behind) ≡ whole_lines behind
 
--- the first counted line of the rest, and what stands behind it
+-- the first counted line of the rest, and what stands after it
 pub record TakesLine (rest : List ℕ) (ended : Bool) (line : CountedLine) (behind : List ℕ) : Type 0 where
   pub skipped : List ℕ
   pub piece : List ℕ

@@ -1,4 +1,4 @@
--- Facts on counted lines: what a line feed cuts off, and what stands behind the last one.
+-- Facts on counted lines: what a line feed cuts off, and what stands after the last one.
 use Rattle.std.proofs.Common.{◌≡◌, ℕ, zero, suc, ◌+◌, ◌<◌, ◌≤◌, List, [], ◌∷◌, ◌++◌, length, take, refl, sym, ◌∙◌, ap, arith, inl, inr, append_assoc, length-append}
 use Rattle.std.specs.List.{slice_split, flat_map}
 use Rattle.std.proofs.lemmas.List.{take_all, append-nil, length-take}
@@ -61,7 +61,7 @@ pub line_of-kept : (piece : List ℕ) → line_of (kept piece) ≡ line_of piece
 unfolding kept
 line_of-kept piece = front-line 8193 piece refl
 
--- the front of a front with more behind it
+-- the front of a front with more after it
 front-more : (most : ℕ) (line piece : List ℕ) → take most (take most line ++ piece) ≡ take most (line ++ piece)
 front-more zero line piece = refl
 front-more (suc most) [] piece = refl

@@ -28,7 +28,7 @@ unless_empty (b ∷ bytes) = text (b ∷ bytes) ∷ []
 abbrev pub line_of : List ℕ → List CountedLine
 line_of piece = if nat_lt 8192 (length piece) then long ∷ [] else unless_empty (without_return piece)
 
--- the counted lines; what stands behind the last line feed is one where it isn't empty
+-- the counted lines; what stands after the last line feed is one where it isn't empty
 abbrev pub counted_lines : List ℕ → List CountedLine
 counted_lines input = flat_map line_of (slice_split is_feed input)
 

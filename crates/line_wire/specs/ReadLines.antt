@@ -1,4 +1,4 @@
--- Lines that were read of an input: what they are, and what is left behind them.
+-- Lines that were read of an input: what they are, and what is left after them.
 use Rattle.std.specs.Prelude.{◌≡◌, ◌⊎◌, Bool, true, ℕ, List, [], ◌∷◌, ◌++◌}
 use Rattle.line_wire.specs.Lines.{CountedLine, counted_lines, whole_lines}
 use Rattle.line_wire.specs.Cutter.{TakesLine}

@@ -6,7 +6,7 @@ use Rattle.audit_types.specs.Limits.{most_rows, most_number, most_answer}
 use Rattle.line_wire.specs.declared.reply.Reply.{Reply}
 use Rattle.line_wire.specs.declared.reply.Reply.TheVariants.{Count, Sum, Avg, Max, Unsafe, Wide, Line, Long, Column, Kind, Condition, Empty, Full}
 
--- a number behind what names it
+-- a number after what names it
 abbrev pub numbered : List ℕ → List ℕ → List ℕ
 numbered front number = front ++ number ++ codes "}\n"
 

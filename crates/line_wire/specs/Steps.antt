@@ -50,7 +50,7 @@ Advances old new next.Line = old.taken + length new.pending < new.taken + length
 Advances old new next.Long = old.taken + length new.pending < new.taken + length old.pending
 Advances old new next.End = Unit {0}
 
--- the counted lines of the rest are the one that an answer gives and those behind it
+-- the counted lines of the rest are the one that an answer gives and those after it
 abbrev pub Counts : Next → List CountedLine → List ℕ → List CountedLine → Type 0
 Counts next.Line before shown behind = before ≡ text shown ∷ behind
 Counts next.Long before shown behind = before ≡ long ∷ behind

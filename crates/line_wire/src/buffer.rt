@@ -88,7 +88,7 @@ impl Buffer {
     }
 
     /// Gives the next bytes to the line, which keeps as many as there is room for. Nothing is copied, unless a byte was
-    /// skipped behind the line.
+    /// skipped after the line.
     pub fn add(&mut self, count: usize)
         requires { count ≤ length self.old.pending }
         ensures line { self.new.line ≡ kept (self.old.line ++ take count self.old.pending) }
@@ -116,7 +116,7 @@ impl Buffer {
         }
     }
 
-    /// Reads the next bytes, as many as there is room for behind the line.
+    /// Reads the next bytes, as many as there is room for after the line.
     pub fn fill<P: Source>(&mut self, source: &mut P) -> Result<usize, Failed>
         requires { self.old.pending ≡ [] }
         ensures line { self.new.line ≡ self.old.line }

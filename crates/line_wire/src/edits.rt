@@ -14,7 +14,7 @@ pub fn put(bytes: &mut [u8], at: usize, piece: &[u8])
     bytes[at..at + piece.len()].copy_from_slice(piece);
 }
 
-/// Moves the bytes from `start` up to `stop` to the place `to`, and leaves what stands behind that place.
+/// Moves the bytes from `start` up to `stop` to the place `to`, and leaves what stands after that place.
 pub fn move_bytes(bytes: &mut [u8], start: usize, stop: usize, to: usize)
     requires range { (start ≤ stop) × (stop ≤ length bytes.old) }
     requires room { to + (stop - start) ≤ length bytes.old }

@@ -36,7 +36,7 @@ pub enum Reply {
     Full,
 }
 
-// Writes a piece behind what stands before `at`, and answers the place behind it.
+// Writes a piece after what stands before `at`, and answers the place after it.
 fn append(out: &mut [u8; 64], at: usize, piece: &[u8]) -> usize
     requires { at + length piece.now ≤ 64 }
     ensures at { result ≡ at + length piece.now }

@@ -57,11 +57,11 @@ module _ (columns : List Column) where
   closes (suc n) ts (a_bracket o a ∷ fs) ors ands p few w =
       less ts close_bracket (closes n (ts ++ close_bracket ∷ []) (without_nots fs) o None (add_and a (negated fs (add_or ors p))) (omega (arith, few, length-without fs)) (close_written columns ts fs o a ors ands p w))
 
-  -- behind a whole operand
+  -- after a whole operand
   behind_operand : (ts : List Token) (fs : List Frame) (ors ands : Option Tree) (p : Tree) → Written columns ts (whole fs ors ands p) → BeginPredicate columns ts
   behind_operand ts fs ors ands p w = closes (length (without_nots fs)) ts (without_nots fs) ors None (add_and ands (negated fs p)) (omega arith) w
 
-  -- a list ends behind a literal
+  -- a list ends after a literal
   at_a_literal : (ts : List Token) (fs : List Frame) (ors ands : Option Tree) (c : ℕ) (ls : List Literal) → Written columns ts (build fs ors ands (at_literal c ls)) → BeginPredicate columns ts
   at_a_literal ts fs ors ands c ls w = less ts close_bracket (behind_operand (ts ++ close_bracket ∷ []) fs ors ands (among c ls) (put_written columns ts fs ors ands (at_literal c ls) close_bracket w refl))
 
@@ -71,7 +71,7 @@ module _ (columns : List Column) where
       let l = some_literal (role_at columns c) in
       less ts (value l) (at_a_literal (ts ++ value l ∷ []) fs ors ands c (ls ++ l ∷ []) (put_written columns ts fs ors ands (at_comma c ls) (value l) w (has_literal (role_at columns c) w.stands.named.public)))
 
-  -- a literal may stand behind an operator
+  -- a literal may stand after an operator
   at_an_operator : (ts : List Token) (fs : List Frame) (ors ands : Option Tree) (c : ℕ) (o : Op) → Written columns ts (build fs ors ands (at_operator c o)) → BeginPredicate columns ts
   at_an_operator ts fs ors ands c o w =
       let l = some_literal (role_at columns c) in

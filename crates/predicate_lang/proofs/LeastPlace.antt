@@ -213,7 +213,7 @@ next_all columns text from l next =
     let longer : l.at < l.end = next.longer in
     subst (AllFrom l.at) (sym next.lexed) (from_token l.at l.at next.token (lexed_from text l.end) (omega arith) (from_lower l.end l.at (lexed_from text l.end) (omega (arith, longer)) (lexed_from_rises text l.end)))
 
--- the next token is the one behind those that were read
+-- the next token is the one after those that were read
 next_there : (columns : List Column) (text : List ℕ) (from count : ℕ) (b : Build) (l : Lexeme) (read : HasRead columns text from count b) (next : IsNext columns text from l) → (lexed text).tokens ≡ read.front ++ placed next.token l.at ∷ (lexed_from text l.end).tokens
 next_there columns text from count b l read next = tokens_are columns text from count b read ∙ ap (λ (m : Lexed). read.front ++ m.tokens) next.lexed
 

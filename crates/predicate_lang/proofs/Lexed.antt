@@ -32,7 +32,7 @@ unfolding lex_from
 lexed_from_step text at inside =
     ap (λ n. lex_from n at (drop at text)) (add-one (length text)) ∙ ap (lex_from (suc (length text)) at) (drop_more text at 0 inside)
 
--- one turn less is enough behind a place in the text
+-- one turn less is enough after a place in the text
 one_less : (text : List ℕ) (at : ℕ) → 0 < at → at ≤ length text → lex_from (length text) at (drop at text) ≡ lexed_from text at
 one_less text at some inside = enough (length text) (length text + 1) at (drop at text) (omega (arith, length-drop at text)) (omega (arith, length-drop at text))
 
@@ -50,7 +50,7 @@ lexed_from_front text at inside solid =
     lexed_from_step text at inside
     ∙ ap (λ b. cond b (lex_from (length text) (at + 1) (drop (at + 1) text)) (lex_front at (front_token (get_or text at 0) (drop (at + 1) text)) (λ n. lex_from (length text) (at + 1 + n) (drop n (drop (at + 1) text))))) solid
 
--- a token, and then those behind it
+-- a token, and then those after it
 pub lexed_from_token : (text : List ℕ) (at : ℕ) (f : Front) → at < length text → is_blank (get_or text at 0) ≡ false → front_token (get_or text at 0) (drop (at + 1) text) ≡ Some f → at + 1 + f.more ≤ length text
     → lexed_from text at ≡ with_token f.token at (lexed_from text (at + 1 + f.more))
 lexed_from_token text at f inside solid is fits =

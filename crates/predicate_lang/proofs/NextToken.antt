@@ -43,7 +43,7 @@ begins_number b r told (inr p) = ap (λ t. t || (b == 45)) (sym told ∙ p.0) �
 
 -- ---- the next token
 
--- an offset behind the blanks, at which a token may begin
+-- an offset after the blanks, at which a token may begin
 pub record IsFirst (text : List ℕ) (from at : ℕ) : Type 0 where
   pub behind : from ≤ at
   pub inside : at < length text

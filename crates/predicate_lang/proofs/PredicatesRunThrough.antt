@@ -36,19 +36,19 @@ role_public (Some role.Sum) l h = h
 role_public (Some role.Max) l h = h
 role_public None l h = h
 
--- behind a whole operand where no `not` waits for it
+-- after a whole operand where no `not` waits for it
 plain_whole : (fs : List Frame) (ors ands : Option Tree) (t : Tree) → is_under_not fs ≡ false → whole fs ors ands t ≡ build fs ors None (behind (add_and ands t))
 plain_whole fs ors ands t plain = ap (λ gs. build gs ors None (behind (add_and ands (negated fs t)))) (without_nots_bracket fs plain) ∙ ap (λ u. build fs ors None (behind (add_and ands u))) (negated_bracket fs t plain)
 
 module _ (columns : List Column) where
-  -- behind a whole disjunction
+  -- after a whole disjunction
   record Behind (fs : List Frame) (t : Tree) (s : Option Build) : Type 0 where
     ors : Option Tree
     last : Tree
     is : s ≡ Some (build fs ors None (behind last))
     adds : add_or ors last ≡ t
 
-  -- a comparison behind the name of a column
+  -- a comparison after the name of a column
   runs_compare : (fs : List Frame) (ors ands : Option Tree) (c : ℕ) (o : Op) (l : Literal) → has_operator (role_at columns c) o ≡ true → is_of_role (role_at columns c) l ≡ true
       → run columns (operator o ∷ value l ∷ []) (step columns (build fs ors ands at_operand) (ColumnToken (Some c))) ≡ Some (whole fs ors ands (compared c o l))
   runs_compare fs ors ands c o l takes of_role =
@@ -66,7 +66,7 @@ module _ (columns : List Column) where
       ∙ runs_more fs ors ands c (done ++ l ∷ []) ls tests.1
       ∙ ap (λ xs. Some (whole fs ors ands (among c xs))) (append_assoc done (l ∷ []) ls)
 
-  -- a list behind the name of a column
+  -- a list after the name of a column
   runs_one_of : (fs : List Frame) (ors ands : Option Tree) (c : ℕ) (l : Literal) (ls : List Literal) → list_all (is_of_role (role_at columns c)) (l ∷ ls) ≡ true
       → run columns (in_word ∷ open_bracket ∷ value l ∷ more_literals ls) (step columns (build fs ors ands at_operand) (ColumnToken (Some c))) ≡ Some (whole fs ors ands (among c (l ∷ ls)))
   runs_one_of fs ors ands c l ls of_role =
@@ -80,7 +80,7 @@ module _ (columns : List Column) where
   opens fs b low = ap (λ t. cond t (Some b) None) (lt-ltb (length fs) 64 low)
 
   mutual
-    -- a disjunction behind an open bracket, or at the begin
+    -- a disjunction after an open bracket, or at the begin
     runs_all : (room : ℕ) (ts : List Token) (t : Tree) (d : Disjunction columns room ts t) (fs : List Frame) → is_under_not fs ≡ false → length fs + room ≤ 64 → Behind fs t (run columns ts (Some (build fs None None at_operand)))
     runs_all room ts t (conj c) fs plain deep = record { ors = None; last = t; is = runs_conj room ts t c fs None plain deep; adds = refl }
     runs_all room ts t (or_conj {ts = xs} {us = ys} {p = p} {q = q} d c) fs plain deep =
@@ -96,7 +96,7 @@ module _ (columns : List Column) where
           adds = refl;
         }
 
-    -- a conjunction there, or behind an `or`
+    -- a conjunction there, or after an `or`
     runs_conj : (room : ℕ) (ts : List Token) (t : Tree) (c : Conjunction columns room ts t) (fs : List Frame) (ors : Option Tree) → is_under_not fs ≡ false → length fs + room ≤ 64
         → run columns ts (Some (build fs ors None at_operand)) ≡ Some (build fs ors None (behind t))
     runs_conj room ts t (unit u) fs ors plain deep = runs_unit room ts t u fs ors None deep ∙ ap Some (plain_whole fs ors None t plain)
@@ -123,7 +123,7 @@ module _ (columns : List Column) where
     runs_unit room ts t (one_of {c = c} {l = l} {ls = ls} place of_role) fs ors ands deep =
         ap (λ p. run columns (in_word ∷ open_bracket ∷ value l ∷ more_literals ls) (step columns (build fs ors ands at_operand) (ColumnToken p))) place ∙ runs_one_of fs ors ands c l ls of_role
 
-  -- the machine stands behind this tree, and nothing is open
+  -- the machine stands after this tree, and nothing is open
   pub record StandsBehind (t : Tree) (s : Option Build) : Type 0 where
     pub last : Build
     pub is : s ≡ Some last

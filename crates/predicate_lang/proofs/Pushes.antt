@@ -8,7 +8,7 @@ pub pushed : {A E : Type 0} (r : Result A E) (new old bytes whole : List ℕ) �
 pushed (Ok u) new old bytes whole h e = h ∙ e
 pushed (Err f) new old bytes whole h e = tt
 
--- what stands behind a push
+-- what stands after a push
 pub behind_push : (old new bytes rest : List ℕ) → new ≡ old ++ bytes → new ++ rest ≡ old ++ (bytes ++ rest)
 behind_push old new bytes rest h = ap (λ xs. xs ++ rest) h ∙ append_assoc old bytes rest
 

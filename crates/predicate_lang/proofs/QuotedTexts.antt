@@ -69,20 +69,20 @@ quoted_flag true (b ∷ bytes) q h = go (b == 39) refl h (quoted_flag false byte
     go true e i rest = subst (λ x. IsQuoted (39 ∷ x ∷ bytes) q) (sym (eqb-true b 39 e)) (twice (quoted false bytes) refl i rest)
     go false e i rest = closed_here (b ∷ bytes) q i
 
--- what stands behind an opening quote, up to the closing one
+-- what stands after an opening quote, up to the closing one
 pub quoted_is : (bytes : List ℕ) (q : Quoted) → quoted false bytes ≡ Some q → IsQuoted bytes q
 quoted_is bytes q h = quoted_flag false bytes q h
 
 -- ---- UTF-8
 
--- a text may be cut before and behind a quote in it
+-- a text may be cut before and after a quote in it
 cut_before : (xs ys : List ℕ) → IsUtf8 (xs ++ 39 ∷ ys) → IsUtf8 xs
 cut_before xs ys utf8 =
     let inside : length xs < length (xs ++ 39 ∷ ys) = omega (arith, length-append xs (39 ∷ ys)) in
     let here : get_or (xs ++ 39 ∷ ys) (length xs) 0 ≡ 39 = ap (λ n. get_or (xs ++ 39 ∷ ys) n 0) (omega arith) ∙ get_or-append-add xs (39 ∷ ys) 0 0 in
     subst IsUtf8 (take_at xs (39 ∷ ys) (length xs) refl) (IsUtf8-take (xs ++ 39 ∷ ys) (length xs) utf8 (IsCharBoundary-before_ascii (xs ++ 39 ∷ ys) (length xs) inside (omega (arith, here))))
 
--- what stands behind a quote
+-- what stands after a quote
 pub cut_behind : (xs ys : List ℕ) → IsUtf8 (xs ++ 39 ∷ ys) → IsUtf8 ys
 cut_behind xs ys utf8 =
     let inside : length xs < length (xs ++ 39 ∷ ys) = omega (arith, length-append xs (39 ∷ ys)) in

@@ -6,7 +6,7 @@ use Rattle.std.specs.Str.{bytes_eq}
 use Rattle.std.specs.Char.{is_ascii_alphabetic, is_ascii_digit}
 use Rattle.std.specs.Fmt.{decimal}
 use Rattle.std.proofs.lemmas.Fmt.{digits_decimal, digits_value-decimal, decimal_nonempty}
-use Rattle.std.proofs.lemmas.Bool.{eqb-true, leb-true, le-leb}
+use Rattle.std.proofs.lemmas.Bool.{eqb-true, leb-true, le-leb, or_right}
 use Rattle.std.proofs.lemmas.Bool.Decides.{nat_tests}
 use Rattle.std.proofs.lemmas.List.{append-nil, drop_at}
 use Rattle.std.proofs.lemmas.List.Sums.{take_while-cons}
@@ -20,7 +20,6 @@ use Rattle.predicate_lang.specs.declared.trees.Op.{Op}
 use Rattle.predicate_lang.specs.declared.trees.Op.TheVariants as op
 use Rattle.predicate_lang.specs.declared.trees.Literal.TheVariants as literal
 use Rattle.predicate_lang.proofs.NextToken.{front_of_letter, front_of_number, front_of_quote, front_of_mark}
-use Rattle.predicate_lang.proofs.Spaced.{or_true}
 use Rattle.predicate_lang.proofs.LeastTokens.{total}
 use Rattle.predicate_lang.proofs.PrintableTokens.{is_name, size, is_printable, unprintable, decimals}
 
@@ -222,7 +221,7 @@ operator_read op.Gt rest stop = record {
   front = front_of_mark 62 rest refl refl refl ∙ ap (λ t. cond t (taking 1 (Some (operator op.Ge))) (taking 0 (Some (operator op.Gt)))) (no_equals rest stop);
 }
 
--- each token that can be printed is read again, behind an opening bracket whatever follows
+-- each token that can be printed is read again, after an opening bracket whatever follows
 token_read : (t : Token) (rest : List ℕ) → is_printable t ≡ true → (opens t || is_stop rest) ≡ true → IsReadBefore t rest
 token_read and_word rest fit stop = record { first = 97; more = 110 ∷ 100 ∷ []; is = refl; solid = refl; front = word_read 97 (110 ∷ 100 ∷ []) rest refl refl stop }
 token_read or_word rest fit stop = record { first = 111; more = 114 ∷ []; is = refl; solid = refl; front = word_read 111 (114 ∷ []) rest refl refl stop }
@@ -247,7 +246,7 @@ pub record LexesAs (l : Lexed) (ts : List Token) : Type 0 where
 with_one : (t : Token) (ts : List Token) (at : ℕ) (l : Lexed) → LexesAs l ts → LexesAs (with_token t at l) (t ∷ ts)
 with_one t ts at l h = record { tokens = ap (λ us. t ∷ us) h.tokens; stop = h.stop }
 
--- a token, and then what stands behind it
+-- a token, and then what stands after it
 lex_token : (t : Token) (rest : List ℕ) (turns at : ℕ) (read : IsReadBefore t rest) → lex_from (suc turns) at (token_text t ++ rest) ≡ with_token t at (lex_from turns (at + 1 + length read.more) rest)
 unfolding lex_from
 lex_token t rest turns at read =
@@ -300,7 +299,7 @@ printable_first false n h = absurd (omega arith)
 lexed_after : (t : Token) (ts : List Token) (turns at : ℕ) → total unprintable (t ∷ ts) ≡ 0 → length (spaced_after t ts) < turns → LexesAs (lex_from turns at (spaced_after t ts)) (t ∷ ts)
 lexed_after t ts zero at fit enough = absurd (omega arith)
 lexed_after t [] (suc turns) at fit enough =
-    let read : IsReadBefore t [] = token_read t [] (printable_first (is_printable t) (total unprintable []) fit).0 (or_true (opens t)) in
+    let read : IsReadBefore t [] = token_read t [] (printable_first (is_printable t) (total unprintable []) fit).0 (or_right (opens t) true refl) in
     subst (λ (xs : List ℕ). LexesAs (lex_from (suc turns) at xs) (t ∷ [])) (append-nil (token_text t))
     (subst (λ (l : Lexed). LexesAs l (t ∷ [])) (sym (lex_token t [] turns at read)) (with_one t [] at (lex_from turns (at + 1 + length read.more) []) (at_end turns (at + 1 + length read.more))))
 lexed_after t (u ∷ ts) (suc turns) at fit enough =

@@ -1,6 +1,7 @@
 -- The text of a predicate, part by part.
-use Rattle.std.proofs.Common.{◌≡◌, ℕ, Bool, true, false, ◌||◌, ◌&&◌, cond, List, [], ◌∷◌, ◌++◌, refl, sym, ap, ◌∙◌, append_assoc, arith, ◌≤◌, length, drop, get_or}
+use Rattle.std.proofs.Common.{◌≡◌, ℕ, Bool, true, false, ◌||◌, cond, List, [], ◌∷◌, ◌++◌, refl, sym, ap, ◌∙◌, append_assoc, arith, ◌≤◌, length, drop, get_or}
 use Rattle.std.specs.Prelude.{codes}
+use Rattle.std.proofs.lemmas.Bool.{and_parts, or_right}
 use Rattle.std.proofs.lemmas.List.{append-nil, drop_all}
 use Rattle.std.specs.List.{list_all}
 use Rattle.schema_json.specs.Columns.{Column, role_at}
@@ -10,7 +11,7 @@ use Rattle.predicate_lang.specs.Grammar.{more_literals}
 use Rattle.predicate_lang.specs.Printing.{bracketed, is_or, is_or_and, name_of, list_tokens, print_tokens, literal_text, token_text, closes, opens, spaced_after, spaced, printed}
 use Rattle.predicate_lang.specs.declared.trees.Literal.{Literal}
 
--- the last of a token and those behind it
+-- the last of a token and those after it
 abbrev last : Token → List Token → Token
 last t [] = t
 last t (u ∷ ts) = last u ts
@@ -41,10 +42,6 @@ record IsPart (ts : List Token) : Type 0 where
 
 open_gap : (t u : Token) → opens t ≡ false → closes u ≡ false → gap t u ≡ 32 ∷ []
 open_gap t u p q = ap (λ b. cond (b || closes u) [] (32 ∷ [])) p ∙ ap (λ b. cond b [] (32 ∷ [])) q
-
-pub or_true : (b : Bool) → (b || true) ≡ true
-or_true true = refl
-or_true false = refl
 
 -- two parts, one after the other
 join_part : (xs ys : List Token) → IsPart xs → IsPart ys → IsPart (xs ++ ys)
@@ -81,7 +78,7 @@ spaced-bracketed false ts p = sym (append-nil (spaced ts))
 spaced-bracketed true ts p =
     ap (λ us. spaced (open_bracket ∷ (us ++ close_bracket ∷ []))) p.is
     ∙ ap (λ xs. 40 ∷ xs) (spaced_after-append p.first close_bracket p.rest [])
-    ∙ ap (λ b. 40 ∷ (spaced_after p.first p.rest ++ (cond b [] (32 ∷ []) ++ 41 ∷ []))) (or_true (opens (last p.first p.rest)))
+    ∙ ap (λ b. 40 ∷ (spaced_after p.first p.rest ++ (cond b [] (32 ∷ []) ++ 41 ∷ []))) (or_right (opens (last p.first p.rest)) true refl)
     ∙ ap (λ us. 40 ∷ (spaced us ++ 41 ∷ [])) (sym p.is)
 
 one_part : (t : Token) → closes t ≡ false → opens t ≡ false → IsPart (t ∷ [])
@@ -114,14 +111,6 @@ spaced-list_tokens l ls = spaced_list l ls
 
 -- ---- trees
 
-pub and_left : (a b : Bool) → (a && b) ≡ true → a ≡ true
-and_left true b h = refl
-and_left false b h = h
-
-pub and_right : (a b : Bool) → (a && b) ≡ true → b ≡ true
-and_right true b h = h
-and_right false b h = absurd cc
-
 -- the tokens of a tree are a part
 tree_part : (columns : List Column) (t : Tree) → fits columns t ≡ true → IsPart (print_tokens columns t)
 tree_part columns all_rows fit = one_part all_word refl refl
@@ -129,19 +118,19 @@ tree_part columns (negation p) fit =
     join_part (not_word ∷ []) (bracketed (is_or_and p) (print_tokens columns p)) (one_part not_word refl refl) (bracketed_part (is_or_and p) (print_tokens columns p) (tree_part columns p fit))
 tree_part columns (both p q) fit =
     join_part (bracketed (is_or p) (print_tokens columns p)) (and_word ∷ bracketed (is_or_and q) (print_tokens columns q))
-    (bracketed_part (is_or p) (print_tokens columns p) (tree_part columns p (and_left (fits columns p) (fits columns q) fit)))
-    (join_part (and_word ∷ []) (bracketed (is_or_and q) (print_tokens columns q)) (one_part and_word refl refl) (bracketed_part (is_or_and q) (print_tokens columns q) (tree_part columns q (and_right (fits columns p) (fits columns q) fit))))
+    (bracketed_part (is_or p) (print_tokens columns p) (tree_part columns p (and_parts (fits columns p) (fits columns q) fit).0))
+    (join_part (and_word ∷ []) (bracketed (is_or_and q) (print_tokens columns q)) (one_part and_word refl refl) (bracketed_part (is_or_and q) (print_tokens columns q) (tree_part columns q (and_parts (fits columns p) (fits columns q) fit).1)))
 tree_part columns (either p q) fit =
     join_part (print_tokens columns p) (or_word ∷ bracketed (is_or q) (print_tokens columns q))
-    (tree_part columns p (and_left (fits columns p) (fits columns q) fit))
-    (join_part (or_word ∷ []) (bracketed (is_or q) (print_tokens columns q)) (one_part or_word refl refl) (bracketed_part (is_or q) (print_tokens columns q) (tree_part columns q (and_right (fits columns p) (fits columns q) fit))))
+    (tree_part columns p (and_parts (fits columns p) (fits columns q) fit).0)
+    (join_part (or_word ∷ []) (bracketed (is_or q) (print_tokens columns q)) (one_part or_word refl refl) (bracketed_part (is_or q) (print_tokens columns q) (tree_part columns q (and_parts (fits columns p) (fits columns q) fit).1)))
 tree_part columns (compared c o l) fit = record { first = name_of columns c; rest = operator o ∷ value l ∷ []; is = refl; starts = refl; ends = refl }
 tree_part columns (among c ls) fit = record {
   first = name_of columns c;
   rest = in_word ∷ open_bracket ∷ list_tokens ls;
   is = refl;
   starts = refl;
-  ends = list_tokens_end open_bracket ls (and_left (has_literals ls) (list_all (is_of_role (role_at columns c)) ls) fit);
+  ends = list_tokens_end open_bracket ls (and_parts (has_literals ls) (list_all (is_of_role (role_at columns c)) ls) fit).0;
 }
 
 -- a part as it stands within another
@@ -158,8 +147,8 @@ printed-negation columns p fit =
 -- how an `and` is printed
 pub printed-both : (columns : List Column) (p q : Tree) → fits columns (both p q) ≡ true → printed columns (both p q) ≡ part_text columns (is_or p) p ++ (codes " and " ++ part_text columns (is_or_and q) q)
 printed-both columns p q fit =
-    let left = tree_part columns p (and_left (fits columns p) (fits columns q) fit) in
-    let right = tree_part columns q (and_right (fits columns p) (fits columns q) fit) in
+    let left = tree_part columns p (and_parts (fits columns p) (fits columns q) fit).0 in
+    let right = tree_part columns q (and_parts (fits columns p) (fits columns q) fit).1 in
     let behind = bracketed_part (is_or_and q) (print_tokens columns q) right in
     spaced-join (bracketed (is_or p) (print_tokens columns p)) (and_word ∷ bracketed (is_or_and q) (print_tokens columns q))
     (bracketed_part (is_or p) (print_tokens columns p) left) (join_part (and_word ∷ []) (bracketed (is_or_and q) (print_tokens columns q)) (one_part and_word refl refl) behind)
@@ -170,8 +159,8 @@ printed-both columns p q fit =
 -- how an `or` is printed
 pub printed-either : (columns : List Column) (p q : Tree) → fits columns (either p q) ≡ true → printed columns (either p q) ≡ printed columns p ++ (codes " or " ++ part_text columns (is_or q) q)
 printed-either columns p q fit =
-    let left = tree_part columns p (and_left (fits columns p) (fits columns q) fit) in
-    let right = tree_part columns q (and_right (fits columns p) (fits columns q) fit) in
+    let left = tree_part columns p (and_parts (fits columns p) (fits columns q) fit).0 in
+    let right = tree_part columns q (and_parts (fits columns p) (fits columns q) fit).1 in
     let behind = bracketed_part (is_or q) (print_tokens columns q) right in
     spaced-join (print_tokens columns p) (or_word ∷ bracketed (is_or q) (print_tokens columns q))
     left (join_part (or_word ∷ []) (bracketed (is_or q) (print_tokens columns q)) (one_part or_word refl refl) behind)

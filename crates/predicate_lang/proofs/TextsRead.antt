@@ -40,7 +40,7 @@ AreTextTokens = AllByRecursion IsTextToken
 behind_ascii : (b : ℕ) (bytes : List ℕ) → b < 128 → IsUtf8 (b ∷ bytes) → IsUtf8 bytes
 behind_ascii b bytes low utf8 = IsUtf8-drop (b ∷ bytes) 1 utf8 (IsCharBoundary-after_ascii (b ∷ bytes) 0 utf8 (omega arith) low)
 
--- behind bytes at the front that pass a test of ASCII
+-- after bytes at the front that pass a test of ASCII
 behind_passing : (p : ℕ → Bool) → ((b : ℕ) → p b ≡ true → b < 128) → (bytes : List ℕ) → IsUtf8 bytes → IsUtf8 (drop (length (take_while p bytes)) bytes)
 behind_passing p low [] utf8 = utf8
 behind_passing p low (b ∷ bytes) utf8 = go (p b) refl (behind_passing p low bytes)

@@ -2,6 +2,7 @@
 use Rattle.std.proofs.Common.{◌≡◌, ◌<◌, ℕ, Bool, true, false, cond, List, [], ◌∷◌, ◌++◌, length, Option, Some, None, refl, sym, ap, ◌∙◌, append_assoc}
 use Rattle.std.specs.Prelude.{codes, slice_get, option_map, unwrap_or}
 use Rattle.std.specs.List.{list_all}
+use Rattle.std.proofs.lemmas.Bool.{and_parts}
 use Rattle.std.proofs.lemmas.Option.{slice_get_within}
 use Rattle.schema_json.specs.Columns.{Column, role_at, name_at}
 use Rattle.schema_json.specs.declared.roles.Role.{Role}
@@ -10,7 +11,7 @@ use Rattle.predicate_lang.specs.Printing.{printed, is_or, is_or_and, list_tokens
 use Rattle.predicate_lang.specs.declared.trees.Op.{Op}
 use Rattle.predicate_lang.specs.declared.trees.Literal.{Literal}
 use Rattle.predicate_lang.proofs.Pushes.{behind_push}
-use Rattle.predicate_lang.proofs.Spaced.{and_left, part_text, printed-negation, printed-both, printed-either}
+use Rattle.predicate_lang.proofs.Spaced.{part_text, printed-negation, printed-both, printed-either}
 
 -- ---- the columns
 
@@ -25,18 +26,18 @@ in_schema columns c f none h = go (slice_get columns c) refl h
 -- the column of a comparison that fits
 pub compared_inside : (columns : List Column) (t : Tree) (c : ℕ) (o : Op) (l : Literal) → t ≡ compared c o l → fits columns t ≡ true → c < length columns
 compared_inside columns t c o l is fit =
-    in_schema columns c (λ r. has_operator r o) refl (and_left (has_operator (role_at columns c) o) (is_of_role (role_at columns c) l) (ap (fits columns) (sym is) ∙ fit))
+    in_schema columns c (λ r. has_operator r o) refl (and_parts (has_operator (role_at columns c) o) (is_of_role (role_at columns c) l) (ap (fits columns) (sym is) ∙ fit)).0
 
 -- the column of an `in` that fits
 pub among_inside : (columns : List Column) (t : Tree) (c : ℕ) (ls : List Literal) → t ≡ among c ls → fits columns t ≡ true → c < length columns
 among_inside columns t c [] is fit = let none : false ≡ true = ap (fits columns) (sym is) ∙ fit in absurd cc
 among_inside columns t c (l ∷ ls) is fit =
     let all : list_all (is_of_role (role_at columns c)) (l ∷ ls) ≡ true = ap (fits columns) (sym is) ∙ fit in
-    in_schema columns c (λ r. is_of_role r l) refl (and_left (is_of_role (role_at columns c) l) (list_all (is_of_role (role_at columns c)) ls) all)
+    in_schema columns c (λ r. is_of_role r l) refl (and_parts (is_of_role (role_at columns c) l) (list_all (is_of_role (role_at columns c)) ls) all).0
 
 -- an `in` that fits has a literal
 pub fits_some : (columns : List Column) (t : Tree) (c : ℕ) (ls : List Literal) → t ≡ among c ls → fits columns t ≡ true → has_literals ls ≡ true
-fits_some columns t c ls is fit = and_left (has_literals ls) (list_all (is_of_role (role_at columns c)) ls) (ap (fits columns) (sym is) ∙ fit)
+fits_some columns t c ls is fit = (and_parts (has_literals ls) (list_all (is_of_role (role_at columns c)) ls) (ap (fits columns) (sym is) ∙ fit)).0
 
 -- ---- the parts
 

@@ -25,7 +25,7 @@ pub data Before (columns : List Column) : ℕ → List Token → List Frame → 
   after_not : {room : ℕ} {ts : List Token} {fs : List Frame} {ors ands : Option Tree} → Before columns (suc room) ts fs ors ands → Before columns room (ts ++ not_word ∷ []) (a_not ∷ fs) ors ands
   after_bracket : {room : ℕ} {ts : List Token} {fs : List Frame} {ors ands : Option Tree} → Before columns (suc room) ts fs ors ands → Before columns room (ts ++ open_bracket ∷ []) (a_bracket ors ands ∷ fs) None None
 
--- ---- behind it, or behind a part of it
+-- ---- after it, or after a part of it
 
 -- the part begins with the name of a public column
 pub record Named (columns : List Column) (c : ℕ) (part rest : List Token) : Type 0 where
@@ -96,7 +96,7 @@ module _ (columns : List Column) where
   along : (ts us : List Token) (b : Build) → ts ≡ us → Written columns us b → Written columns ts b
   along ts us b is w = record { room = w.room; front = w.front; part = w.part; split = is ∙ w.split; before = w.before; stands = w.stands }
 
-  -- ---- behind a whole operand
+  -- ---- after a whole operand
 
   -- where no `not` waits for the operand
   plain_whole : (room : ℕ) (us vs : List Token) (fs : List Frame) (ors ands : Option Tree) (p : Tree) → is_under_not fs ≡ false → Before columns room us fs ors None → Conjunction columns room vs (add_and ands p) → Written columns (us ++ vs) (whole fs ors ands p)
@@ -116,15 +116,15 @@ module _ (columns : List Column) where
       along (us ++ vs) (ws ++ not_word ∷ vs) (whole gs ors ands (negation p)) (append_assoc ws (not_word ∷ []) vs) (whole_written (suc room) ws (not_word ∷ vs) gs ors ands (negation p) b (not_unit u))
   whole_written room us vs fs ors ands p (after_bracket {fs = gs} {ors = o} {ands = a} b) u = plain_whole room us vs (a_bracket o a ∷ gs) None None p refl (after_bracket b) (unit u)
 
-  -- ---- behind a bracket
+  -- ---- after a bracket
 
-  -- the tokens before an open bracket, and behind it
+  -- the tokens before an open bracket, and after it
   record Inner (room : ℕ) (us : List Token) (fs : List Frame) (ors ands : Option Tree) : Type 0 where
     ts : List Token
     split : us ≡ ts ++ open_bracket ∷ []
     before : Before columns (suc room) ts fs ors ands
 
-  -- nothing else stands right behind it
+  -- nothing else stands right after it
   inner : (room : ℕ) (us : List Token) (fs : List Frame) (o a : Option Tree) → Before columns room us (a_bracket o a ∷ fs) None None → Inner room us fs o a
   inner room us fs o a (after_bracket {ts = ws} b) = record { ts = ws; split = refl; before = b }
 
@@ -154,11 +154,11 @@ module _ (columns : List Column) where
 
   -- ---- with one token more
 
-  -- a token more behind the part
+  -- a token more after the part
   more_tokens : (ts front part : List Token) (t : Token) → ts ≡ front ++ part → ts ++ t ∷ [] ≡ front ++ (part ++ t ∷ [])
   more_tokens ts front part t split = ap (λ xs. xs ++ t ∷ []) split ∙ append_assoc front part (t ∷ [])
 
-  -- a token more behind a name
+  -- a token more after a name
   more_named : (c : ℕ) (part rest : List Token) (t : Token) → Named columns c part rest → Named columns c (part ++ t ∷ []) (rest ++ t ∷ [])
   more_named c part rest t n = record { word = n.word; place = n.place; public = n.public; split = ap (λ xs. xs ++ t ∷ []) n.split }
 
@@ -224,7 +224,7 @@ module _ (columns : List Column) where
         };
       }
 
-  -- a comma behind it
+  -- a comma after it
   comma_written : (ts : List Token) (fs : List Frame) (ors ands : Option Tree) (c : ℕ) (ls : List Literal) → Written columns ts (build fs ors ands (at_literal c ls)) → Written columns (ts ++ comma ∷ []) (build fs ors ands (at_comma c ls))
   comma_written ts fs ors ands c ls w =
       let s = w.stands in
@@ -243,7 +243,7 @@ module _ (columns : List Column) where
         };
       }
 
-  -- an `or` behind a conjunction
+  -- an `or` after a conjunction
   or_written : (ts : List Token) (fs : List Frame) (ors ands : Option Tree) (p : Tree) → Written columns ts (build fs ors ands (behind p)) → Written columns (ts ++ or_word ∷ []) (build fs (Some (add_or ors p)) None at_operand)
   or_written ts fs ors ands p w =
       let before : Before columns w.room w.front fs ors None = subst (Before columns w.room w.front fs ors) w.stands.1 w.before in
@@ -257,7 +257,7 @@ module _ (columns : List Column) where
         stands = refl;
       }
 
-  -- an `and` behind it
+  -- an `and` after it
   and_written : (ts : List Token) (fs : List Frame) (ors ands : Option Tree) (p : Tree) → Written columns ts (build fs ors ands (behind p)) → Written columns (ts ++ and_word ∷ []) (build fs ors (Some p) at_operand)
   and_written ts fs ors ands p w =
       let before : Before columns w.room w.front fs ors None = subst (Before columns w.room w.front fs ors) w.stands.1 w.before in

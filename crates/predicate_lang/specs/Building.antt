@@ -54,7 +54,7 @@ Goes test b at (Ok x) left = (test ≡ true) × (left x ≡ b)
 Goes test b at (Err (Bad n)) left = (test ≡ false) × (n ≡ at)
 Goes test b at (Err NoMemory) left = Unit {0}
 
--- what is left behind a token at an offset, or its refusal there
+-- what is left after a token at an offset, or its refusal there
 abbrev pub Puts : {X : Type 0} → List Column → Build → Token → ℕ → Result X WhereFault → (X → Build) → Type 0
 Puts columns b t at r left = Goes (may_put columns b t) (put b t) at r left
 

@@ -7,7 +7,7 @@ use Rattle.predicate_lang.specs.Tokens.{Token, and_word, or_word, not_word, all_
 use Rattle.predicate_lang.specs.declared.trees.Op.{Op}
 use Rattle.predicate_lang.specs.declared.trees.Literal.{Literal}
 
--- the tokens behind the first literal of a list
+-- the tokens after the first literal of a list
 abbrev pub more_literals : List Literal → List Token
 more_literals [] = close_bracket ∷ []
 more_literals (l ∷ ls) = comma ∷ value l ∷ more_literals ls

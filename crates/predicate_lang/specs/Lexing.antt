@@ -28,7 +28,7 @@ abbrev pub seen_front : List Column → Option Front → Option (Token × ℕ)
 seen_front columns None = None
 seen_front columns (Some f) = Some (seen columns f.token, f.more)
 
--- the token at an offset, with the offset behind it
+-- the token at an offset, with the offset after it
 abbrev pub lexeme : List Column → ℕ → Option Front → Option Lexeme
 lexeme columns at None = None
 lexeme columns at (Some f) = Some (record { token = seen columns f.token; at = at; end = at + 1 + f.more })

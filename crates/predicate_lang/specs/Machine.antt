@@ -18,7 +18,7 @@ pub data Frame : Type 0 where
   a_not : Frame
   a_bracket : Option Tree → Option Tree → Frame
 
--- where the next token stands: before an operand, or behind a part or the whole of it
+-- where the next token stands: before an operand, or after a part or the whole of it
 pub data Stand : Type 0 where
   at_operand : Stand
   at_name : ℕ → Stand
@@ -73,11 +73,11 @@ negated [] p = p
 negated (a_not ∷ fs) p = negated fs (negation p)
 negated (a_bracket o a ∷ fs) p = p
 
--- behind a whole operand
+-- after a whole operand
 abbrev pub whole : List Frame → Option Tree → Option Tree → Tree → Build
 whole fs ors ands p = build (without_nots fs) ors None (behind (add_and ands (negated fs p)))
 
--- behind a closing bracket
+-- after a closing bracket
 abbrev pub closed : List Frame → Option Tree → Tree → Build
 closed [] ors p = build [] ors None (behind p)
 closed (a_not ∷ fs) ors p = build (a_not ∷ fs) ors None (behind p)
@@ -147,11 +147,11 @@ may_put columns b t = may_stand columns b.frames b.stand t
 
 -- ---- runs
 
--- behind one token more, where it may stand there
+-- after one token more, where it may stand there
 abbrev pub step : List Column → Build → Token → Option Build
 step columns b t = cond (may_put columns b t) (Some (put b t)) None
 
--- behind these tokens, where they may all stand there
+-- after these tokens, where they may all stand there
 abbrev pub run : List Column → List text.Token → Option Build → Option Build
 run columns [] b = b
 run columns (t ∷ ts) None = None

@@ -110,7 +110,7 @@ opens (name n) = false
 opens (value l) = false
 opens (operator o) = false
 
--- a token and those behind it
+-- a token and those after it
 abbrev pub spaced_after : Token → List Token → List ℕ
 spaced_after t [] = token_text t
 spaced_after t (u ∷ ts) = token_text t ++ (cond (opens t || closes u) [] (32 ∷ []) ++ spaced_after u ts)

@@ -50,7 +50,7 @@ taking n token = option_map (λ t. record { token = t; more = n }) token
 abbrev pub within_most : ℕ → Option ℕ
 within_most n = cond (nat_le n most_number) (Some n) None
 
--- the number of one or more digits behind a minus sign or none, where it is not too large
+-- the number of one or more digits after a minus sign or none, where it is not too large
 abbrev pub number_of : Bool → List ℕ → Option ℤ
 number_of minus [] = None
 number_of minus (d ∷ digits) = option_map (signed minus) (within_most (decimal_after 0 (d ∷ digits)))
@@ -67,7 +67,7 @@ pub record Quoted : Type 0 where
 abbrev pub with_front : List ℕ → ℕ → Option Quoted → Option Quoted
 with_front front n rest = option_map (λ q. record { text = front ++ q.text; bytes = n + q.bytes }) rest
 
--- what stands behind an opening quote, up to the closing one; a doubled quote is one. The flag says that the byte before was a quote.
+-- what stands after an opening quote, up to the closing one; a doubled quote is one. The flag says that the byte before was a quote.
 abbrev pub quoted : Bool → List ℕ → Option Quoted
 quoted false [] = None
 quoted true [] = Some (record { text = []; bytes = 1 })

@@ -153,7 +153,7 @@ impl State {
         }
     }
 
-    /// Puts a whole operand behind what stands before it.
+    /// Puts a whole operand after what stands before it.
     fn end_operand(&mut self, alloc: Global, operand: Pred) -> Result<(), WhereFault>
         ensures { Makes (whole (frames_of self.old.opened.items) (part_of self.old.ors) (part_of self.old.ands) (tree_of operand)) result (λ _. build_of self.new) }
     {

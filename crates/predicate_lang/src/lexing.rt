@@ -78,7 +78,7 @@ fn magnitude(digits: &[u8]) -> Option<u64>
     Some(value)
 }
 
-/// The number of digits behind a minus sign or none.
+/// The number of digits after a minus sign or none.
 fn number_of(minus: bool, digits: &[u8]) -> Option<i64>
     ensures { result ≡ number_of minus digits.now }
 {
@@ -93,7 +93,7 @@ fn number_of(minus: bool, digits: &[u8]) -> Option<i64>
     }
 }
 
-/// What stands behind an opening quote, if it is closed. A doubled quote is one.
+/// What stands after an opening quote, if it is closed. A doubled quote is one.
 fn quoted(alloc: Global, rest: &[u8]) -> Result<Option<Quote>, WhereFault>
     requires { length rest.now ≤ 16384 }
     ensures exact { Quotes (quoted false rest.now) result }
@@ -154,7 +154,7 @@ fn word(schema: &Schema, text: &str, at: usize) -> Lexeme
     }
 }
 
-/// The number whose minus sign or first digit stands at an offset, and behind whose digits another one is.
+/// The number whose minus sign or first digit stands at an offset, and after whose digits another one is.
 #[tactic(auto, using(crate::proofs::Fronts::take_front, crate::proofs::Fronts::take_behind))]
 fn number_between(bytes: &[u8], at: usize, end: usize) -> Option<i64>
     requires inside { at < length bytes.now }

@@ -16,7 +16,7 @@ use std::alloc::Global;
 /// How many tokens a predicate may have.
 const MOST_TOKENS: usize = 512;
 
-/// What one token more leads to: the offset behind it, or the predicate at the end.
+/// What one token more leads to: the offset after it, or the predicate at the end.
 #[derive(Drop)]
 enum Step {
     More(usize),

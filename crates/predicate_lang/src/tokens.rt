@@ -18,7 +18,7 @@ pub(crate) enum Token {
     Comma,
 }
 
-/// A token, the offset of its first byte, and the offset behind its last.
+/// A token, the offset of its first byte, and the offset after its last.
 #[derive(Drop)]
 pub(crate) struct Lexeme {
     pub token: Token,

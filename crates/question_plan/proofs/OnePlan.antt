@@ -1,5 +1,6 @@
 -- A line comes to one plan, whatever is secret.
 use Rattle.std.proofs.Common.{◌≡◌, ℕ, ◌<◌, List, [], ◌∷◌, length, Option, Some, None, refl, sym, ◌∙◌, ap, subst, arith, inl, inr, option_and_then}
+use Rattle.std.proofs.lemmas.Option.{none-some, same_Some}
 use Rattle.audit_types.specs.declared.records.Asked.{Asked}
 use Rattle.schema_json.specs.Columns.{Column}
 use Rattle.table_load.specs.Cells.{PublicView}
@@ -72,12 +73,6 @@ module _ (columns : List Column) (public : PublicView) where
 
 -- ---- refusals
 
-one_question : (o : Option Written) (w v : Written) → o ≡ Some w → o ≡ Some v → w ≡ v
-one_question o w v first second = let both : Some w ≡ Some v = sym first ∙ second in cc
-
-no_question : (o : Option Written) (w : Written) → o ≡ None → o ≡ Some w → ⊥
-no_question o w first second = let both : None ≡ Some w = sym first ∙ second in cc
-
 no_fault : (o : Option LineFault) (f : LineFault) → o ≡ None → o ≡ Some f → ⊥
 no_fault o f first second = let both : None ≡ Some f = sym first ∙ second in cc
 
@@ -98,7 +93,7 @@ module _ (columns : List Column) (o : Option Written) where
 
   condition_twice : (at other : ℕ) → HasBadCondition columns o at → HasBadCondition columns o other → at ≡ other
   condition_twice at other first second =
-      let place = subst (λ (w : Written). IsPlace columns (text_of w) other) (one_question o second.question first.question second.writes first.writes) second.place in
+      let place = subst (λ (w : Written). IsPlace columns (text_of w) other) (same_Some second.question first.question (sym second.writes ∙ first.writes)) second.place in
       omega (arith, first.place.least other place.refuses, place.least at first.place.refuses)
 
   -- a question has one first fault
@@ -108,7 +103,7 @@ module _ (columns : List Column) (o : Option Written) where
   same_fault fault.Line fault.Line a b first second a_is b_is = refl
   same_fault fault.Line fault.Column a b first second a_is b_is = absurd (no_column fault.Column first second)
   same_fault fault.Line fault.Kind a b first second a_is b_is = absurd (no_column fault.Kind first second)
-  same_fault fault.Line (fault.Condition n) a b first second a_is b_is = absurd (no_question o second.question first second.writes)
+  same_fault fault.Line (fault.Condition n) a b first second a_is b_is = absurd (none-some second.question (sym first ∙ second.writes))
   same_fault fault.Column fault.Line a b first second a_is b_is = absurd (no_column fault.Column second first)
   same_fault fault.Column fault.Column a b first second a_is b_is = refl
   same_fault fault.Column fault.Kind a b first second a_is b_is = column_twice fault.Column fault.Kind first second
@@ -117,7 +112,7 @@ module _ (columns : List Column) (o : Option Written) where
   same_fault fault.Kind fault.Column a b first second a_is b_is = column_twice fault.Kind fault.Column first second
   same_fault fault.Kind fault.Kind a b first second a_is b_is = refl
   same_fault fault.Kind (fault.Condition n) a b first second a_is b_is = absurd (good_column fault.Kind second.question first second.writes second.good)
-  same_fault (fault.Condition m) fault.Line a b first second a_is b_is = absurd (no_question o first.question second first.writes)
+  same_fault (fault.Condition m) fault.Line a b first second a_is b_is = absurd (none-some first.question (sym second ∙ first.writes))
   same_fault (fault.Condition m) fault.Column a b first second a_is b_is = absurd (good_column fault.Column first.question second first.writes first.good)
   same_fault (fault.Condition m) fault.Kind a b first second a_is b_is = absurd (good_column fault.Kind first.question second first.writes first.good)
   same_fault (fault.Condition m) (fault.Condition n) a b first second a_is b_is = ap (λ (at : ℕ). fault.Condition at) (condition_twice m n first second)
@@ -127,11 +122,11 @@ module _ (columns : List Column) (o : Option Written) where
 
   -- and none where it is asked
   asked_or_refused : OneMeaning → (f : LineFault) (a : Plan) (r : Request) → Refuses columns o f → refusal f ≡ Some a → Requests columns o r → ⊥
-  asked_or_refused meanings fault.Line a r refuses is asks = no_question o asks.question refuses asks.writes
+  asked_or_refused meanings fault.Line a r refuses is asks = none-some asks.question (sym refuses ∙ asks.writes)
   asked_or_refused meanings fault.Column a r refuses is asks = good_column fault.Column asks.question refuses asks.writes asks.good
   asked_or_refused meanings fault.Kind a r refuses is asks = good_column fault.Kind asks.question refuses asks.writes asks.good
   asked_or_refused meanings (fault.Condition at) a r refuses is asks =
-      meanings.none columns (text_of refuses.question) asks.tree at (subst (λ (w : Written). Means columns (text_of w) asks.tree) (one_question o asks.question refuses.question asks.writes refuses.writes) asks.means) refuses.place.refuses
+      meanings.none columns (text_of refuses.question) asks.tree at (subst (λ (w : Written). Means columns (text_of w) asks.tree) (same_Some asks.question refuses.question (sym asks.writes ∙ refuses.writes)) asks.means) refuses.place.refuses
   asked_or_refused meanings fault.NoMemory a r refuses is asks = cc
 
 -- ---- lines
@@ -139,7 +134,7 @@ module _ (columns : List Column) (o : Option Written) where
 module _ (meanings : OneMeaning) (columns : List Column) (public : PublicView) where
   one_request : (o : Option Written) (r q : Request) → Requests columns o r → Requests columns o q → plan_of public r ≡ plan_of public q
   one_request o r q first second =
-      let one = one_question o second.question first.question second.writes first.writes in
+      let one = same_Some second.question first.question (sym second.writes ∙ first.writes) in
       let means = subst (λ (w : Written). Means columns (text_of w) second.tree) one second.means in
       let tree = meanings.tree columns (text_of first.question) second.tree first.tree means first.means in
       let is = subst (λ (w : Written). IsRequest columns w first.tree q) one (subst (λ (t : Tree). IsRequest columns second.question t q) tree second.is) in

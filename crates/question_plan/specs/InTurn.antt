@@ -9,7 +9,7 @@ use Rattle.question_plan.specs.Session.{Replied, records_of, bytes_of, AreReplie
 abbrev pub MakesOneDue : {R L : Type 0} → (List R → L → Replied R → Type 0) → Type 0
 MakesOneDue {R} {L} rule = (history : List R) (line : L) (a b : Replied R) → rule history line a → rule history line b → a ≡ b
 
--- the records and the bytes of replies behind others
+-- the records and the bytes of replies after others
 pub records_of-append : {R : Type 0} (xs ys : List (Replied R)) → records_of (xs ++ ys) ≡ records_of xs ++ records_of ys
 records_of-append xs ys = flat_map-append (λ reply. option_to_list reply.added) xs ys
 
@@ -49,7 +49,7 @@ module _ {R L : Type 0} (rule : List R → L → Replied R → Type 0) where
         (subst (λ (r : Replied R). AreReplies rule (history ++ option_to_list r.added) lines others) (sym e) those.1) in
         ap (λ (rs : List (Replied R)). a ∷ rs) rest ∙ ap (λ (r : Replied R). r ∷ others) e
 
-    -- where no reply is due to the line behind them, lines with that one have no replies
+    -- where no reply is due to the line after them, lines with that one have no replies
     pub none_behind : (history : List R) (lines : List L) (next : L) (replies : List (Replied R)) → AreReplies rule history lines replies → ((reply : Replied R) → rule (history ++ records_of replies) next reply → ⊥)
         → (all : List (Replied R)) → AreReplies rule history (lines ++ next ∷ []) all → ⊥
     none_behind history [] next [] are none [] those = those

@@ -19,7 +19,7 @@ Entries = List (String Global × Role)
 abbrev Answer : Type 0
 Answer = Result (List Column) SchemaFault
 
--- what the entries mean behind the tests of names and numbers
+-- what the entries mean after the tests of names and numbers
 abbrev meant : Entries → Answer
 meant es = checked (with_public (map column_of_entry es))
 
@@ -98,7 +98,7 @@ gathers_fault NotJson o h = absurd h
 gathers_fault BadName o h = absurd h
 gathers_fault TooMany o h = absurd h
 
--- what is meant behind the first tests is what the bytes mean
+-- what is meant after the first tests is what the bytes mean
 pub reads_along : (r : Result SchemaView SchemaFault) (bytes : List ℕ) (m : Result (List Column) SchemaFault) → schema_of bytes ≡ m → ReadsColumns r m → ReadsSchema r bytes
 reads_along (Ok schema) bytes m e h = e ∙ h
 reads_along (Err f) bytes m e h = fault_along f m (schema_of bytes) e h

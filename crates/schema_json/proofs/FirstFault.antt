@@ -1,14 +1,11 @@
--- The chain of faults, behind what was read.
+-- The chain of faults, after what was read.
 use Rattle.std.proofs.Common.{◌≡◌, ℕ, Bool, true, false, cond, List, [], ◌∷◌, length, filter, map, Option, Some, None, refl, sym, ap, ◌∙◌, String, string_bytes, subst, ◌&&◌}
-use Rattle.std.specs.Prelude.{if◌then◌else◌, is_none, option_and_then, Result, Err, nat_lt, not, ◌||◌, IsUtf8, count_by, suc}
+use Rattle.std.specs.Prelude.{if◌then◌else◌, is_none, option_and_then, Result, Err, nat_lt, not, ◌||◌, count_by, suc}
 use Rattle.std.proofs.lemmas.List.{length-map}
 use Rattle.std.proofs.lemmas.List.Sums.{length-filter}
 use Rattle.std.specs.List.{list_any, list_all}
-use Rattle.std.specs.Str.{is_utf8}
-use Rattle.std.proofs.lemmas.Str.{IsUtf8-from_is_utf8, is_utf8-from_IsUtf8}
 use Rattle.std.specs.declared.alloc.Global.{Global}
 use Rattle.serde_json.specs.Data.{Data}
-use Rattle.serde_json.specs.Read.{read}
 use Rattle.schema_json.specs.Columns.{Column, has_public, has_good_names, too_many, is_good_name, is_secret, is_public, secret_count}
 use Rattle.schema_json.specs.Kept.{column_of_entry}
 use Rattle.schema_json.specs.Reading.{value_of, columns_of, schema_of, checked, most_schema, IsFaultOf}
@@ -25,10 +22,10 @@ chain_of long value columns =
 chain : (bytes : List ℕ) → schema_of bytes ≡ chain_of (nat_lt most_schema (length bytes)) (value_of bytes) (option_and_then columns_of (value_of bytes))
 chain bytes = refl
 
--- behind the tests of length and JSON those of the columns are left
-chain_behind : (d : Data) (o : Option (List Column)) → chain_of false (Some d) o ≡ checked o
-chain_behind d None = refl
-chain_behind d (Some cs) = refl
+-- after the tests of length and JSON those of the columns are left
+chain_after : (d : Data) (o : Option (List Column)) → chain_of false (Some d) o ≡ checked o
+chain_after d None = refl
+chain_after d (Some cs) = refl
 
 -- bytes that are too long have that fault
 pub schema_long : (bytes : List ℕ) → nat_lt most_schema (length bytes) ≡ true → schema_of bytes ≡ Err TooLong
@@ -40,21 +37,7 @@ schema_no_value bytes short none = chain bytes ∙ ap (λ b. chain_of b (value_o
 
 -- of bytes that are JSON the value is tested
 pub schema_value : (bytes : List ℕ) (d : Data) → nat_lt most_schema (length bytes) ≡ false → value_of bytes ≡ Some d → schema_of bytes ≡ checked (columns_of d)
-schema_value bytes d short some = chain bytes ∙ ap (λ b. chain_of b (value_of bytes) (option_and_then columns_of (value_of bytes))) short ∙ ap (λ v. chain_of false v (option_and_then columns_of v)) some ∙ chain_behind d (columns_of d)
-
--- the value of a text is what `serde_json` reads
-pub value_of_text : (bytes : List ℕ) (d : Data) → IsUtf8 bytes → read bytes ≡ Some d → value_of bytes ≡ Some d
-unfolding value_of
-value_of_text bytes d text is = ap (λ b. if b then read bytes else None) (is_utf8-from_IsUtf8 bytes text) ∙ is
-
--- bytes have no value where a text of them would have none
-pub value_of_none : (bytes : List ℕ) → (IsUtf8 bytes → read bytes ≡ None) → value_of bytes ≡ None
-unfolding value_of
-value_of_none bytes none = by (is_utf8 bytes) refl
-  where
-    by : (b : Bool) → is_utf8 bytes ≡ b → (if b then read bytes else None) ≡ None
-    by true e = none (IsUtf8-from_is_utf8 bytes e)
-    by false e = refl
+schema_value bytes d short some = chain bytes ∙ ap (λ b. chain_of b (value_of bytes) (option_and_then columns_of (value_of bytes))) short ∙ ap (λ v. chain_of false v (option_and_then columns_of v)) some ∙ chain_after d (columns_of d)
 
 -- a fault of memory or the one that is meant
 pub fault_along : (f : SchemaFault) (a b : Result (List Column) SchemaFault) → b ≡ a → IsFaultOf f a → IsFaultOf f b

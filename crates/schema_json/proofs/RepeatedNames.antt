@@ -4,7 +4,7 @@ use Rattle.std.specs.Prelude.{is_some, not, nat_lt}
 use Rattle.std.proofs.lemmas.List.{map-append}
 use Rattle.std.specs.List.{list_any, position, prefix_len}
 use Rattle.std.proofs.lemmas.List.{length-map}
-use Rattle.std.proofs.lemmas.Bool.{false≢true}
+use Rattle.std.proofs.lemmas.Bool.{false≢true, or_right}
 use Rattle.std.specs.Str.{bytes_eq}
 use Rattle.std.specs.Map.{lookup, keys_of}
 use Rattle.std.specs.declared.alloc.Global.{Global}
@@ -76,11 +76,6 @@ any_front test (x ∷ xs) ys e = half (test x) (any_front test xs ys) e
     half : (b : Bool) → (list_any test xs ≡ true → list_any test (xs ++ ys) ≡ true) → (b || list_any test xs) ≡ true → (b || list_any test (xs ++ ys)) ≡ true
     half true f e = refl
     half false f e = f e
-
--- the second of two tests holds
-or_right : (a b : Bool) → b ≡ true → (a || b) ≡ true
-or_right true b e = refl
-or_right false b e = e
 
 -- a name that comes twice in a front comes twice in the whole
 pub repeats_front : (cs ds : List Column) → repeats cs ≡ true → repeats (cs ++ ds) ≡ true

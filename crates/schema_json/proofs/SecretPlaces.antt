@@ -6,7 +6,7 @@ use Rattle.schema_json.specs.Columns.{Column, is_secret, secret_count, role_at, 
 use Rattle.schema_json.specs.declared.roles.Role.{Role}
 
 -- how a column that is kept or not counts
-filtered : (c : Column) (cs : List Column) (b : Bool) → length (cond b (c ∷ cs) cs) ≡ cond b 1 0 + length cs
+pub filtered : (c : Column) (cs : List Column) (b : Bool) → length (cond b (c ∷ cs) cs) ≡ cond b 1 0 + length cs
 filtered c cs true = omega arith
 filtered c cs false = omega arith
 

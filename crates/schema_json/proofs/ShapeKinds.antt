@@ -1,10 +1,11 @@
 -- Eight kind bytes, written one by one.
-use Rattle.std.proofs.Common.{◌≡◌, ℕ, zero, suc, ◌+◌, ◌<◌, ◌≤◌, Bool, true, false, cond, List, [], ◌∷◌, ◌++◌, length, take, set, replicate, filter, Some, refl, sym, ap, ◌∙◌, arith, add-one, append_assoc, length-append}
-use Rattle.std.specs.Prelude.{is_some, unwrap_or, nat_lt, ◌||◌}
-use Rattle.std.proofs.lemmas.Bool.{false≢true, ltb-false}
+use Rattle.std.proofs.Common.{◌≡◌, ℕ, zero, suc, ◌+◌, ◌<◌, ◌≤◌, true, false, cond, List, [], ◌∷◌, ◌++◌, length, take, set, replicate, filter, Some, refl, sym, ap, ◌∙◌, arith, add-one, append_assoc, length-append}
+use Rattle.std.specs.Prelude.{is_some, unwrap_or, nat_lt}
+use Rattle.std.proofs.lemmas.Bool.{false≢true, ltb-false, or_parts}
 use Rattle.std.proofs.lemmas.List.{append-nil}
 use Rattle.schema_json.specs.Columns.{Column, AreColumns, is_secret, secret_count, role_at}
 use Rattle.schema_json.specs.SecretShape.{kind_bytes, kind_byte_and}
+use Rattle.schema_json.proofs.SecretPlaces.{filtered}
 use Rattle.schema_json.specs.declared.roles.Role.{Role}
 use Rattle.schema_json.specs.declared.roles.Role.TheVariants as role
 
@@ -29,7 +30,7 @@ kinds_suc (c ∷ cs) (suc k) r is =
     ∙ sym (append_assoc (byte_of c.role) (kind_bytes (take k cs)) (byte_of r))
     ∙ ap (λ xs. xs ++ byte_of r) (sym (kinds_and c.role (kind_bytes (take k cs))))
 
--- one column more puts its byte behind the others
+-- one column more puts its byte after the others
 pub kinds_more : (cs : List Column) (k : ℕ) (r : Role) → Some r ≡ role_at cs k → kind_bytes (take (k + 1) cs) ≡ kind_bytes (take k cs) ++ byte_of r
 kinds_more cs k r is = ap (λ n. kind_bytes (take n cs)) (add-one k) ∙ kinds_suc cs k r is
 
@@ -42,11 +43,6 @@ kinds_step c m n bytes h = by c.role
     by role.Number = omega (arith, h)
     by role.Sum = omega (arith, h)
     by role.Max = omega (arith, h)
-
--- how a column that is kept or not counts
-filtered : (c : Column) (cs : List Column) (b : Bool) → length (cond b (c ∷ cs) cs) ≡ cond b 1 0 + length cs
-filtered c cs true = omega arith
-filtered c cs false = omega arith
 
 -- as many bytes as secret columns
 pub kinds_count : (cs : List Column) → length (kind_bytes cs) ≡ secret_count cs
@@ -62,15 +58,14 @@ taken_count (c ∷ cs) (suc k) =
     let b = kinds_step c 0 (length (kind_bytes cs)) (kind_bytes cs) refl in
     omega (arith, a, b, taken_count cs k)
 
--- of two tests of which neither holds the second does not
-pub few : (a b : Bool) → (a || b) ≡ false → b ≡ false
-few true b h = absurd (false≢true (sym h))
-few false b h = h
+-- at most eight columns are secret
+pub at_most_eight : (cs : List Column) → AreColumns cs → secret_count cs ≤ 8
+at_most_eight cs are = ltb-false 8 (secret_count cs) (or_parts (nat_lt 32 (length cs)) (nat_lt 8 (secret_count cs)) are.within).1
 
 -- a secret column finds room
 pub kinds_room : (cs : List Column) (k : ℕ) (r : Role) → AreColumns cs → Some r ≡ role_at cs k → is_secret r ≡ true → length (kind_bytes (take k cs)) < 8
 kinds_room cs k r are is secret =
-    let below = ltb-false 8 (secret_count cs) (few (nat_lt 32 (length cs)) (nat_lt 8 (secret_count cs)) are.within) in
+    let below = at_most_eight cs are in
     let more = ap length (kinds_more cs k r is) in
     let one : length (byte_of r) ≡ 1 = by r secret in
     let sum = length-append (kind_bytes (take k cs)) (byte_of r) in
@@ -95,7 +90,7 @@ set_at [] (suc m) zero b h le = absurd (omega (arith, le))
 set_at [] (suc m) (suc n) b h le = ap (λ xs. b ∷ xs) (zeros m n (omega (arith, le)) ∙ sym (zeros m (suc n) (omega (arith, le))))
 set_at (x ∷ xs) (suc m) n b h le = ap (λ ys. x ∷ ys) (set_at xs m n b (omega (arith, h)) (omega (arith, le)))
 
--- a write behind the bytes so far
+-- a write after the bytes so far
 pub set_behind : (xs : List ℕ) (b : ℕ) → length xs < 8 → set (take 8 (xs ++ replicate 8 0)) (length xs) b ≡ take 8 ((xs ++ b ∷ []) ++ replicate 8 0)
 set_behind xs b h = set_at xs 8 8 b h (omega arith)
 

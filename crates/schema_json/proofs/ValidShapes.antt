@@ -2,7 +2,6 @@
 use Rattle.std.proofs.Common.{◌≡◌, ℕ, zero, suc, ◌+◌, ◌<◌, ◌≤◌, Bool, true, false, cond, List, [], ◌∷◌, ◌++◌, length, take, filter, replicate, get_or, Option, Some, None, refl, sym, ap, ◌∙◌, arith, inl, inr, subst, one-add}
 use Rattle.std.specs.Prelude.{option_map, option_and_then, unwrap_or, slice_get, nat_lt, count_by}
 use Rattle.std.specs.List.{AllByRecursion}
-use Rattle.std.proofs.lemmas.Bool.{ltb-false}
 use Rattle.std.proofs.lemmas.List.{get_or-take}
 use Rattle.std.proofs.Math.ListN.{get_or-append}
 use Rattle.std.proofs.lemmas.List.Sums.{sum_by-cons}
@@ -11,7 +10,7 @@ use Rattle.schema_json.specs.Columns.{Column, AreColumns, is_secret, secret_coun
 use Rattle.schema_json.specs.SecretShape.{IsSecretOf, kind_bytes, kind_byte_and, shape_of, role_of_kind}
 use Rattle.schema_json.specs.declared.roles.Role.{Role}
 use Rattle.schema_json.specs.declared.roles.Role.TheVariants as role
-use Rattle.schema_json.proofs.ShapeKinds.{kinds_count, few}
+use Rattle.schema_json.proofs.ShapeKinds.{kinds_count, at_most_eight}
 
 -- zeros alone
 all_zeros : (m n : ℕ) → AllByRecursion (λ x. x ≡ 0) (take {A = ℕ} m (replicate n 0))
@@ -35,7 +34,7 @@ before-append role.Number bytes more = refl
 before-append role.Sum bytes more = refl
 before-append role.Max bytes more = refl
 
--- the bytes of the secret columns, and zeros behind them, are kinds
+-- the bytes of the secret columns, and zeros after them, are kinds
 are_kinds : (cs : List Column) (m n : ℕ) → AreKinds (take m (kind_bytes cs ++ replicate n 0))
 are_kinds [] zero n = tt
 are_kinds [] (suc m) zero = tt
@@ -66,10 +65,6 @@ counted : (cs : List Column) (m n : ℕ) → length (kind_bytes cs) ≤ m → co
 counted [] m n fits = none_counted m n
 counted (c ∷ cs) m n fits = counted_before c.role (kind_bytes cs) m n (λ k. counted cs k n) fits
 
--- at most eight columns are secret
-at_most_eight : (cs : List Column) → AreColumns cs → secret_count cs ≤ 8
-at_most_eight cs are = ltb-false 8 (secret_count cs) (few (nat_lt 32 (length cs)) (nat_lt 8 (secret_count cs)) are.within)
-
 -- the place of a column among the secret ones, by how many secret ones stand before it
 abbrev place_after : Option Column → ℕ → Option ℕ
 place_after o n = option_and_then (λ c. cond (is_secret c.role) (Some n) None) o
@@ -79,7 +74,7 @@ below_first : (b : Bool) (c : Column) (xs : List Column) (k : ℕ) → cond b (S
 below_first true c xs k is = let e : 0 ≡ k = ap (λ o. unwrap_or o 0) is in omega arith
 below_first false c xs k is = absurd (cc)
 
--- a place moves by one behind a secret column
+-- a place moves by one after a secret column
 below_one_more : (b : Bool) (n k count : ℕ) → ((m : ℕ) → cond b (Some n) None ≡ Some m → m < count) → cond b (Some (suc n)) None ≡ Some k → k < suc count
 below_one_more true n k count earlier is = let e : suc n ≡ k = ap (λ o. unwrap_or o 0) is in let l : n < count = earlier n refl in omega arith
 below_one_more false n k count earlier is = absurd (cc)

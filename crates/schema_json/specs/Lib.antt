@@ -3,4 +3,5 @@ pub mod SecretShape
 pub mod Faults
 pub mod Kept
 pub mod Reading
+pub mod ValueLaws
 pub mod Decimals

@@ -1,14 +1,14 @@
 -- How large the answers over secrets can be.
-use Rattle.std.proofs.Common.{◌≡◌, ℕ, ◌+◌, ◌*◌, ◌^◌, ◌<◌, ◌≤◌, List, [], ◌∷◌, length, map, refl, arith}
+use Rattle.std.proofs.Common.{ℕ, ◌+◌, ◌*◌, ◌^◌, ◌<◌, ◌≤◌, List, [], ◌∷◌, length, map, refl, arith}
 use Rattle.std.specs.Prelude.{ℤ, ◌≢◌, unsigned_abs}
 use Rattle.std.specs.Int.{int_max}
-use Rattle.std.specs.List.{AllByRecursion, fold}
+use Rattle.std.specs.List.{fold}
 use Rattle.std.proofs.lemmas.Int.{ints}
 use Rattle.audit_types.specs.Rows.{AreRows, AscendsFrom}
 use Rattle.audit_types.specs.RowLaws.{length-rows}
 use Rattle.audit_types.specs.Shapes.{columns}
 use Rattle.audit_types.specs.Truth.{number_at, sum_over, greatest_over}
-use Rattle.audit_types.specs.History.{list_of, AreSecrets}
+use Rattle.audit_types.specs.History.{list_of}
 use Rattle.table_load.specs.Cells.{SecretView, IsSecret, AreNumbers}
 use Rattle.table_load.proofs.SetSums.{number_small, at_place}
 
@@ -46,11 +46,3 @@ maxima_small s column [] is below are some = absurd (some refl)
 maxima_small s column (r ∷ rows) is below are some =
     let numbers = numbers_of s column is below in
     greatest_small s.shape.rows (r + 1) (list_of s.lists column) (number_at (list_of s.lists column) r) rows numbers are.2 (number_small s.shape.rows (list_of s.lists column) r numbers are.1)
-
--- the lengths alone
-lengths : (n : ℕ) (lists : List (List ℤ)) → AllByRecursion (AreNumbers n) lists → AllByRecursion (λ w. length w ≡ n) lists
-lengths n [] all = tt
-lengths n (w ∷ lists) all = (all.0.one_each, lengths n lists all.1)
-
-pub are_secrets : (s : SecretView) → IsSecret s → AreSecrets s.shape s.lists
-are_secrets s is = record { one_each = is.one_each; numbers = lengths s.shape.rows s.lists is.numbers }

@@ -21,7 +21,7 @@ pub public_in_file : (which : FileColumns) (r : Role) → is_public r ≡ true �
 public_in_file file.All r public = refl
 public_in_file file.Public r public = public
 
--- the elements behind the first of those from a place on
+-- the elements after the first of those from a place on
 pub drop_tail : {X : Type 0} (xs : List X) (k : ℕ) (x : X) (rest : List X) → drop k xs ≡ x ∷ rest → drop (k + 1) xs ≡ rest
 drop_tail [] zero x rest is = absurd (cc)
 drop_tail [] (suc k) x rest is = absurd (cc)
@@ -97,7 +97,7 @@ cells_are role.Max k rows all = tt
 roles_in : (which : FileColumns) (c : Column) (cs : List Column) (r : Role) (b : Bool) → is_in_file which r ≡ b → b ≡ true → roles_of (cond (is_in_file which r) (c ∷ file_columns which cs) (file_columns which cs)) ≡ c.role ∷ roles_of (file_columns which cs)
 roles_in which c cs r b is in_file = ap (λ x. roles_of (cond x (c ∷ file_columns which cs) (file_columns which cs))) (is ∙ in_file)
 
--- behind the next column of the file the later roles are left
+-- after the next column of the file the later roles are left
 next_roles : (which : FileColumns) (roles : List Role) (k : ℕ) (c : Column) (cs : List Column) (b : Bool) → drop k roles ≡ roles_of (cond b (c ∷ file_columns which cs) (file_columns which cs)) → drop (cond b (k + 1) k) roles ≡ roles_of (file_columns which cs)
 next_roles which roles k c cs true at_k = drop_tail roles k c.role (roles_of (file_columns which cs)) at_k
 next_roles which roles k c cs false at_k = at_k

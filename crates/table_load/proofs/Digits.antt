@@ -63,12 +63,12 @@ pub begins_not : (bytes : List ℕ) → is_ascii_digit (get_or bytes 0 0) ≡ fa
 begins_not [] other = refl
 begins_not (b ∷ bytes) other = ap (λ d. cond d (tail_number 0 (b ∷ bytes)) None) other
 
--- a minus and a size behind it
+-- a minus and a size after it
 pub behind_minus : (bytes : List ℕ) → 0 < length bytes → get_or bytes 0 0 ≡ 45 → signed_number bytes ≡ option_sign true (digits_number (drop 1 bytes))
 behind_minus [] some is = absurd (omega (arith, some))
 behind_minus (b ∷ bytes) some is = ap (λ x. signed_number (x ∷ bytes)) is
 
--- a plus and a size behind it
+-- a plus and a size after it
 pub behind_plus : (bytes : List ℕ) → 0 < length bytes → get_or bytes 0 0 ≡ 43 → signed_number bytes ≡ option_sign false (digits_number (drop 1 bytes))
 behind_plus [] some is = absurd (omega (arith, some))
 behind_plus (b ∷ bytes) some is = ap (λ x. signed_number (x ∷ bytes)) is

@@ -78,7 +78,7 @@ names_from which cs place r name fields k within in_fields is in_file named =
     ∙ ap (λ fs. names_are fs (h.column ∷ file_columns which (drop (place + 1) cs))) (drop_here fields k [] in_fields)
     ∙ ap (λ n. bytes_eq (get_or fields k []) n && names_are (drop (k + 1) fields) (file_columns which (drop (place + 1) cs))) (sym (name_is cs place h name named))
 
--- behind the last column no field may be left
+-- after the last column no field may be left
 pub names_end : (fields : Fields) (k : ℕ) → k ≤ length fields → names_are (drop k fields) [] ≡ (k == length fields)
 names_end fields k most =
     elim (cases_eq k (length fields)) [

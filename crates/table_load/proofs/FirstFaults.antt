@@ -47,12 +47,12 @@ bad_row roles rows r rest fault few good bad =
     ap (λ rs. option_or (records_fault roles 2 rs) (count_fault (rows ++ r ∷ rest))) (take_front 1024 rows (r ∷ rest) (omega (arith, few)) ∙ ap (λ rs. rows ++ rs) one.1)
     ∙ ap (λ f. option_or f (count_fault (rows ++ r ∷ rest))) (good-append roles 2 rows (r ∷ take one.0 rest) good ∙ ap (λ f. option_or f (records_fault roles (length rows + 2 + 1) (take one.0 rest))) bad)
 
--- a record behind 1,024 is one too many
+-- a record after 1,024 is one too many
 count_many : (rows : List Fields) (r : Fields) (rest : List Fields) → length rows ≡ 1024 → count_fault (rows ++ r ∷ rest) ≡ Some TooManyRows
 count_many [] r rest full = absurd (omega (arith, full))
 count_many (x ∷ rows) r rest full = ap (λ b. cond b (Some TooManyRows) None) (lt-ltb 1024 (length (x ∷ (rows ++ r ∷ rest))) (omega (arith, full, length-append rows (r ∷ rest))))
 
--- one record behind 1,024 without a fault
+-- one record after 1,024 without a fault
 pub many_rows : (roles : List Role) (rows : List Fields) (r : Fields) (rest : List Fields) → length rows ≡ 1024 → records_fault roles 2 rows ≡ None → data_fault roles (rows ++ r ∷ rest) ≡ Some TooManyRows
 many_rows roles rows r rest full good =
     let none : 1024 - length rows ≡ 0 = omega (arith, full) in
@@ -82,7 +82,7 @@ pub long_file : (columns : List Column) (bytes : List ℕ) → 16777216 < length
 unfolding file_fault
 long_file columns bytes long = ap (λ b. if b then Some TooLong else header_fault columns (records_of bytes)) (lt-ltb 16777216 (length bytes) long)
 
--- behind a good header the data records are judged
+-- after a good header the data records are judged
 pub good_header : (columns : List Column) (h : Fields) (rs : List Fields) → names_are h columns ≡ true → header_fault columns (h ∷ rs) ≡ data_fault (roles_of columns) rs
 good_header columns h rs good = ap (λ b. if not b then Some Header else data_fault (roles_of columns) rs) good
 

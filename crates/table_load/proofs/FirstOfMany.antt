@@ -1,17 +1,12 @@
 -- The first fault of records, and of the fields of one, is that of the first that has any.
 use Rattle.std.proofs.Common.{◌≡◌, ℕ, zero, suc, ◌+◌, ◌<◌, List, [], ◌∷◌, Option, Some, None, refl, sym, ap, ◌∙◌, arith}
 use Rattle.std.specs.Prelude.{slice_get}
+use Rattle.std.proofs.lemmas.Option.{none-some, same_Some}
 use Rattle.schema_json.specs.declared.roles.Role.{Role}
 use Rattle.table_load.specs.declared.faults.TableFault.{TableFault}
 use Rattle.std.specs.Option.{option_or}
 use Rattle.table_load.specs.Reading.{Fields, cell_fault, cells_fault, record_fault, records_fault}
 use Rattle.table_load.specs.FirstFaults.{IsFirstRecord, IsFirstField}
-
-same_some : {X : Type 0} (a b : X) → Some a ≡ Some b → a ≡ b
-same_some a b e = cc
-
-none_some : {X : Type 0} (a : X) → None ≡ Some a → ⊥
-none_some a e = cc
 
 -- ---- records
 
@@ -38,7 +33,7 @@ later_record roles line r rs place fault none first = record {
 }
   where
     before : (k : ℕ) (earlier : Fields) → k < suc place → slice_get (r ∷ rs) k ≡ Some earlier → record_fault roles (line + k) earlier ≡ None
-    before zero earlier lt e = at_line roles (line + 0) line earlier (omega arith) ∙ ap (record_fault roles line) (sym (same_some r earlier e)) ∙ none
+    before zero earlier lt e = at_line roles (line + 0) line earlier (omega arith) ∙ ap (record_fault roles line) (sym (same_Some r earlier e)) ∙ none
     before (suc k) earlier lt e = at_line roles (line + suc k) (line + 1 + k) earlier (omega arith) ∙ first.before k earlier (omega (arith, lt)) e
 
 record_by_first : (roles : List Role) (line : ℕ) (r : Fields) (rs : List Fields) (fault : TableFault) (first : Option TableFault) → record_fault roles line r ≡ first → option_or first (records_fault roles (line + 1) rs) ≡ Some fault
@@ -47,13 +42,13 @@ record_by_first roles line r rs fault (Some this) is e rest = (0, this_record ro
 record_by_first roles line r rs fault None is e rest = let later = rest e in (suc later.0, later_record roles line r rs later.0 fault is later.1)
 
 records_first : (roles : List Role) (line : ℕ) (rs : List Fields) (fault : TableFault) → records_fault roles line rs ≡ Some fault → (place : ℕ) × FirstRecord roles line rs place fault
-records_first roles line [] fault e = absurd (none_some fault e)
+records_first roles line [] fault e = absurd (none-some fault e)
 records_first roles line (r ∷ rs) fault e = record_by_first roles line r rs fault (record_fault roles line r) refl e (records_first roles (line + 1) rs fault)
 
 first_record : (roles : List Role) (line : ℕ) (rs : List Fields) (place : ℕ) (fault : TableFault) → FirstRecord roles line rs place fault → records_fault roles line rs ≡ Some fault
-first_record roles line [] place fault first = absurd (none_some first.fields first.stands)
+first_record roles line [] place fault first = absurd (none-some first.fields first.stands)
 first_record roles line (r ∷ rs) zero fault first =
-    let here : record_fault roles line r ≡ Some fault = ap (record_fault roles line) (same_some r first.fields first.stands) ∙ at_line roles line (line + 0) first.fields (omega arith) ∙ first.fault_is in
+    let here : record_fault roles line r ≡ Some fault = ap (record_fault roles line) (same_Some r first.fields first.stands) ∙ at_line roles line (line + 0) first.fields (omega arith) ∙ first.fault_is in
     ap (λ f. option_or f (records_fault roles (line + 1) rs)) here
 first_record roles line (r ∷ rs) (suc place) fault first =
     let none : record_fault roles line r ≡ None = at_line roles line (line + 0) r (omega arith) ∙ first.before 0 r (omega arith) refl in
@@ -102,7 +97,7 @@ later_field role roles line from field fields column fault none first = record {
   where
     before : (k : ℕ) (other : Role) (earlier : List ℕ) → k < suc column → slice_get (role ∷ roles) k ≡ Some other → slice_get (field ∷ fields) k ≡ Some earlier → cell_fault other line (from + k) earlier ≡ None
     before zero other earlier lt r e =
-        at_column other line (from + 0) from earlier (omega arith) ∙ ap (λ x. cell_fault x line from earlier) (sym (same_some role other r)) ∙ ap (cell_fault role line from) (sym (same_some field earlier e)) ∙ none
+        at_column other line (from + 0) from earlier (omega arith) ∙ ap (λ x. cell_fault x line from earlier) (sym (same_Some role other r)) ∙ ap (cell_fault role line from) (sym (same_Some field earlier e)) ∙ none
     before (suc k) other earlier lt r e = at_column other line (from + suc k) (from + 1 + k) earlier (omega arith) ∙ first.before k other earlier (omega (arith, lt)) r e
 
 field_by_first : (role : Role) (roles : List Role) (line from : ℕ) (field : List ℕ) (fields : Fields) (fault : TableFault) (first : Option TableFault) → cell_fault role line from field ≡ first
@@ -112,16 +107,16 @@ field_by_first role roles line from field fields fault (Some this) is e rest = (
 field_by_first role roles line from field fields fault None is e rest = let later = rest e in (suc later.0, later_field role roles line from field fields later.0 fault is later.1)
 
 fields_first : (roles : List Role) (line from : ℕ) (fields : Fields) (fault : TableFault) → cells_fault line from roles fields ≡ Some fault → (column : ℕ) × FirstField roles line from fields column fault
-fields_first [] line from fields fault e = absurd (none_some fault e)
-fields_first (role ∷ roles) line from [] fault e = absurd (none_some fault e)
+fields_first [] line from fields fault e = absurd (none-some fault e)
+fields_first (role ∷ roles) line from [] fault e = absurd (none-some fault e)
 fields_first (role ∷ roles) line from (field ∷ fields) fault e = field_by_first role roles line from field fields fault (cell_fault role line from field) refl e (fields_first roles line (from + 1) fields fault)
 
 first_field : (roles : List Role) (line from : ℕ) (fields : Fields) (column : ℕ) (fault : TableFault) → FirstField roles line from fields column fault → cells_fault line from roles fields ≡ Some fault
-first_field [] line from fields column fault first = absurd (none_some first.role first.role_is)
-first_field (role ∷ roles) line from [] column fault first = absurd (none_some first.field first.stands)
+first_field [] line from fields column fault first = absurd (none-some first.role first.role_is)
+first_field (role ∷ roles) line from [] column fault first = absurd (none-some first.field first.stands)
 first_field (role ∷ roles) line from (field ∷ fields) zero fault first =
     let here : cell_fault role line from field ≡ Some fault =
-    ap (λ x. cell_fault x line from field) (same_some role first.role first.role_is) ∙ ap (cell_fault first.role line from) (same_some field first.field first.stands) ∙ at_column first.role line from (from + 0) first.field (omega arith) ∙ first.fault_is in
+    ap (λ x. cell_fault x line from field) (same_Some role first.role first.role_is) ∙ ap (cell_fault first.role line from) (same_Some field first.field first.stands) ∙ at_column first.role line from (from + 0) first.field (omega arith) ∙ first.fault_is in
     ap (λ f. option_or f (cells_fault line (from + 1) roles fields)) here
 first_field (role ∷ roles) line from (field ∷ fields) (suc column) fault first =
     let none : cell_fault role line from field ≡ None = at_column role line from (from + 0) field (omega arith) ∙ first.before 0 role field (omega arith) refl refl in

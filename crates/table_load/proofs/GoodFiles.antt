@@ -32,7 +32,7 @@ fine_count (r ∷ rows) fine = by (nat_lt 1024 (length (r ∷ rows))) refl fine
     by true many fine = absurd (cc)
     by false few fine = record { some = omega arith; at_most = ltb-false 1024 (length (r ∷ rows)) few }
 
--- behind a header without a fault the data records have none
+-- after a header without a fault the data records have none
 fine_header : (columns : List Column) (rs : List Fields) → header_fault columns rs ≡ None → data_fault (roles_of columns) (drop 1 rs) ≡ None
 fine_header columns [] fine = absurd (cc)
 fine_header columns (h ∷ rs) fine = by (names_are h columns) fine

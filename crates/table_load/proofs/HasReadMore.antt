@@ -23,7 +23,7 @@ use Rattle.table_load.proofs.RecordsOfBytes.{all_of_records, front_of_records}
 abbrev Reads : Type 0
 Reads = ByteRecordsIntoIter (Bor (List ℕ))
 
--- a read that gives a record leaves the reader behind it
+-- a read that gives a record leaves the reader after it
 pub read_more : (bytes : List ℕ) (rows : List Fields) (a b : Reads) (row : Row) → HasRead bytes rows a → RowStep (λ (s : Bor (List ℕ)). Some s.now) a.rdr b.rdr b.left (Some (Ok row)) → is_flexible b.rdr ≡ is_flexible a.rdr → HasRead bytes (rows ++ fields_of row ∷ []) b
 read_more bytes rows a b row has step still =
     let more = rows-more (λ (s : Bor (List ℕ)). Some s.now) a.rdr b.rdr (fields_of row) default_config state.StartRecord (strip_bom bytes) has.left rows has.as_usual has.source has.reached step.0 in

@@ -7,7 +7,7 @@ use Rattle.std.proofs.lemmas.Bool.{false≢true, eqb-true, ne_eqb, and_parts, an
 use Rattle.schema_json.specs.Decimals.{decimal_after}
 use Rattle.table_load.specs.Numerals.{is_space, after_spaces, tail_number, digits_number, option_sign, signed_number, number_in, Sign, none, plus, minus, sign_bytes, with_sign, IsNumeral}
 
--- spaces, and what stands behind them
+-- spaces, and what stands after them
 record Front (field : List ℕ) : Type 0 where
   spaces : ℕ
   field_is : field ≡ replicate spaces 32 ++ after_spaces field
@@ -17,7 +17,7 @@ front_step : (b : ℕ) (bytes : List ℕ) (s : Bool) → is_space b ≡ s → Fr
 front_step b bytes true is more = (suc more.spaces, ap (λ x. x ∷ bytes) (eqb-true b 32 is) ∙ ap (λ xs. 32 ∷ xs) more.field_is)
 front_step b bytes false is more = (0, refl)
 
--- a field is the spaces at its front and what stands behind them
+-- a field is the spaces at its front and what stands after them
 front_of : (field : List ℕ) → Front field
 front_of [] = record { spaces = 0; field_is = refl }
 front_of (b ∷ bytes) = let more = front_step b bytes (is_space b) refl (front_of bytes) in record { spaces = more.0; field_is = more.1 }
@@ -39,7 +39,7 @@ spaces_only (b ∷ bytes) all =
     let parts = and_parts (is_space b) (list_all is_space bytes) all in
     ap (λ x. x ∷ bytes) (eqb-true b 32 parts.0) ∙ ap (λ xs. 32 ∷ xs) (spaces_only bytes parts.1)
 
--- digits behind those that made n, and spaces behind them, make m
+-- digits after those that made n, and spaces after them, make m
 record Tail (n : ℕ) (bytes : List ℕ) (m : ℕ) : Type 0 where
   digits : List ℕ
   after : ℕ
@@ -104,7 +104,7 @@ digits_number-digits b digits k are =
     let parts = and_parts (is_ascii_digit b) (list_all is_ascii_digit digits) are in
     ap (λ d. cond d (tail_number 0 (b ∷ (digits ++ replicate k 32))) None) parts.0 ∙ tail_number-digits 0 (b ∷ digits) k are
 
--- a sign or none, and a size behind it
+-- a sign or none, and a size after it
 record Signed (bytes : List ℕ) (z : ℤ) : Type 0 where
   sign : Sign
   digits : List ℕ

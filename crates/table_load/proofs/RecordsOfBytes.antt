@@ -14,7 +14,7 @@ use Rattle.csv.specs.declared.parser.Action.TheVariants as act
 abbrev Rests : State × Action → Type 0
 Rests p = is_end p.1 ≡ true → ends_at_end p.0 ≡ false
 
--- behind the end of a line no record has begun
+-- after the end of a line no record has begun
 rests_end : (c : ℕ) (b : Bool) → ends_at_end (if b then st.AfterCr else st.StartRecord) ≡ false
 rests_end c true = refl
 rests_end c false = refl
@@ -34,7 +34,7 @@ rests_quote : (c : ℕ) (b : Bool) → Rests (if b then (st.InQuoted, act.Skip) 
 rests_quote c true = λ h. absurd (false≢true h)
 rests_quote c false = rests_in_field c
 
--- the same, of a byte behind a quote
+-- the same, of a byte after a quote
 rests_copy : (c : ℕ) (b : Bool) → Rests (if b then (st.InQuoted, act.Copy) else in_field default_config c)
 rests_copy c true = λ h. absurd (false≢true h)
 rests_copy c false = rests_in_field c
@@ -79,7 +79,7 @@ longer : (o : Option Read) (n : ℕ) → IsShort o n → IsShort o (suc n)
 longer None n h = tt
 longer (Some p) n h = (omega (arith, h.0), h.1)
 
--- a read that goes on behind one byte leaves less than there was
+-- a read that goes on after one byte leaves less than there was
 short_step : (s : State) (f : List (List ℕ)) (p : List ℕ) (c : ℕ) (rest : List ℕ)
     → IsShort (next_record default_config (step default_config s c).0 (fields_after (step default_config s c).1 f p) (field_after (step default_config s c).1 c p) rest) (length rest)
     → IsShort (next_record default_config s f p (c ∷ rest)) (length rest)

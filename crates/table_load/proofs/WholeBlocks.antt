@@ -116,7 +116,7 @@ none_below n block = rows_that_none _ n (λ r l. elim (cases_eq (r / 64) block) 
   | inr other ↦ rw (ne_eqb (r / 64) block other) refl
 ])
 
--- and with the next row they are those below the one behind it
+-- and with the next row they are those below the one after it
 pub next_below : (n block row : ℕ) (rows : List ℕ) → 64 * block ≤ row → row < 64 * block + 64 → rows ≡ rows_below n block row → with_row n rows row ≡ rows_below n block (row + 1)
 next_below n block row rows from to are = rows_that_agree _ _ n (λ r l.
     ap (λ b. b || (r == row)) (ap (λ xs. has_row xs r) are ∙ has-rows_that (λ q. (q / 64 == block) && nat_lt q row) n r l) ∙ elim (cases_eq r row) [

@@ -8,6 +8,7 @@ pub mod Kept
 pub mod Steps
 pub mod Loaded
 pub mod Database
+pub mod SecretLists
 pub mod SchemaPlaces
 pub mod SchemaFits
 pub mod FirstFaults

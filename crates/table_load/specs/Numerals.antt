@@ -9,12 +9,12 @@ use Rattle.schema_json.specs.Decimals.{decimal_after, signed}
 abbrev pub is_space : ℕ → Bool
 is_space b = b == 32
 
--- the bytes behind the spaces at the front
+-- the bytes after the spaces at the front
 abbrev pub after_spaces : List ℕ → List ℕ
 after_spaces [] = []
 after_spaces (b ∷ bytes) = cond (is_space b) (after_spaces bytes) (b ∷ bytes)
 
--- the number that digits make behind those that made n, where spaces alone follow them
+-- the number that digits make after those that made n, where spaces alone follow them
 abbrev pub tail_number : ℕ → List ℕ → Option ℕ
 tail_number n [] = Some n
 tail_number n (b ∷ bytes) = cond (is_ascii_digit b) (tail_number (10 * n + (b - 48)) bytes) (cond (list_all is_space (b ∷ bytes)) (Some n) None)
@@ -28,7 +28,7 @@ digits_number (b ∷ bytes) = cond (is_ascii_digit b) (tail_number 0 (b ∷ byte
 abbrev pub option_sign : Bool → Option ℕ → Option ℤ
 option_sign minus size = option_map (signed minus) size
 
--- the number behind the spaces at the front
+-- the number after the spaces at the front
 abbrev pub signed_number : List ℕ → Option ℤ
 signed_number [] = None
 signed_number (b ∷ bytes) = cond (b == 45) (option_sign true (digits_number bytes)) (cond (b == 43) (option_sign false (digits_number bytes)) (option_sign false (digits_number (b ∷ bytes))))

@@ -102,7 +102,7 @@ count_from cs place r within is =
     let h = here cs place within in
     ap public_count h.from_here ∙ count_more h.column (drop (place + 1) cs) ∙ ap (λ x. cond (is_public x) 1 0 + public_count (drop (place + 1) cs)) (sym (role_is cs place h r is))
 
--- as many lists are left behind one column more
+-- as many lists are left after one column more
 left_step : (public : Bool) (n : ℕ) (lists left : List (Vec ℤ Global)) → length lists ≡ cond public 1 0 + n → left ≡ cond (not public) lists (drop 1 lists) → length left ≡ n
 left_step true n lists left same rest = omega (arith, same, ap length rest, length-drop 1 lists)
 left_step false n lists left same rest = omega (arith, same, ap length rest)

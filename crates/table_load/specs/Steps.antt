@@ -16,7 +16,7 @@ use Rattle.table_load.specs.Reading.{Fields, names_are, records_fault, roles_of,
 use Rattle.table_load.specs.Tables.{data_of}
 use Rattle.table_load.specs.declared.faults.TableFault.{TableFault}
 
--- these are the first records of the bytes, and the reader stands behind them
+-- these are the first records of the bytes, and the reader stands after them
 pub record HasRead (bytes : List ℕ) (rows : List Fields) (reader : ByteRecordsIntoIter (Bor (List ℕ))) : Type 0 where
   pub plain : reader.rdr.trim ≡ trim.None
   pub ready : Ready reader.rdr
@@ -37,8 +37,8 @@ IsOfMemory (kind.UnequalLengths at expected length) = ⊥
 IsOfMemory (kind.Serialize why) = ⊥
 IsOfMemory (kind.Deserialize at why) = ⊥
 
--- the bytes are few enough, have a header with these columns' names, and behind it first these records; the reader
--- stands behind them
+-- the bytes are few enough, have a header with these columns' names, and after it first these records; the reader
+-- stands after them
 pub record HasOpened (columns : List Column) (bytes : List ℕ) (rows : List Fields) (reader : ByteRecordsIntoIter (Bor (List ℕ))) : Type 0 where
   pub short : length bytes ≤ most_table
   pub header : Fields
@@ -50,7 +50,7 @@ abbrev pub Opens : Result (ByteRecordsIntoIter (Bor (List ℕ))) TableFault → 
 Opens (Ok reader) columns bytes = HasOpened columns bytes [] reader
 Opens (Err fault) columns bytes = UnlessMemory fault (file_fault columns bytes ≡ Some fault)
 
--- 1 to 1,024 records behind the header, in a file with these columns and no fault
+-- 1 to 1,024 records after the header, in a file with these columns and no fault
 pub record AreData (columns : List Column) (bytes : List ℕ) (rows : List Fields) : Type 0 where
   pub no_fault : file_fault columns bytes ≡ None
   pub data_are : data_of bytes ≡ rows

@@ -59,7 +59,7 @@ abbrev pub secrets_from : ℕ → List Column → List Fields → Secrets
 secrets_from k [] rows = []
 secrets_from k (c ∷ columns) rows = cond (is_secret c.role) (number_column k rows ∷ secrets_from (k + 1) columns rows) (secrets_from (k + 1) columns rows)
 
--- the records behind the header
+-- the records after the header
 abbrev pub data_of : List ℕ → List Fields
 data_of bytes = drop 1 (records_of bytes)
 

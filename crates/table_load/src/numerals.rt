@@ -26,7 +26,7 @@ pub(crate) fn numeral_in(field: &[u8]) -> Numeral
     signed(minus, size_in(digits))
 }
 
-// Whether there is a minus, and the bytes behind the sign, if there is one.
+// Whether there is a minus, and the bytes after the sign, if there is one.
 #[tactic(auto, using(crate::proofs::Digits::behind_minus, crate::proofs::Digits::behind_plus, crate::proofs::Digits::no_sign))]
 fn split_sign(bytes: &[u8]) -> (bool, &[u8])
     ensures { signed_number bytes.now ≡ option_sign result.0 (digits_number result.1.now) }
@@ -50,7 +50,7 @@ fn signed(minus: bool, size: Option<u64>) -> Numeral
     }
 }
 
-// The bytes behind the spaces at the front.
+// The bytes after the spaces at the front.
 fn after_spaces(field: &[u8]) -> &[u8]
     ensures { result.now ≡ after_spaces field.now }
 {
@@ -61,7 +61,7 @@ fn after_spaces(field: &[u8]) -> &[u8]
     &field[start..]
 }
 
-// The number of digits with nothing but spaces behind them. All sizes above the limit are told as one above it.
+// The number of digits with nothing but spaces after them. All sizes above the limit are told as one above it.
 fn size_in(bytes: &[u8]) -> Option<u64>
     ensures { result ≡ option_map capped (digits_number bytes.now) }
 {

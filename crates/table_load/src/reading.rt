@@ -41,7 +41,7 @@ fn read_fault(error: &Error) -> TableFault
     }
 }
 
-// A reader behind the header of a file.
+// A reader after the header of a file.
 fn open_file<'b>(
     alloc: Global,
     schema: &Schema,

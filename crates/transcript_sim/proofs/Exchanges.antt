@@ -1,4 +1,4 @@
--- Exchanges behind others.
+-- Exchanges after others.
 use Rattle.std.proofs.Common.{◌≡◌, ℕ, ◌-◌, ◌*◌, List, [], ◌∷◌, ◌++◌, length, Some, refl, ap, arith}
 use Rattle.line_wire.specs.Lines.{CountedLine}
 use Rattle.transcript_sim.specs.Verdicts.{Exchange, exchanges}

@@ -59,7 +59,7 @@ module _ {P B : Type 0} (source : SourceGhosts P) (bench : Ghosts B) (columns : 
   abbrev whole : List CountedLine
   whole = asked ++ shown ∷ []
 
-  -- the exchange of the question and this line, behind the others
+  -- the exchange of the question and this line, after the others
   exchanges_are : exchanges whole ≡ exchanges half.lines ++ record { question = half.question; shown = Some shown } ∷ []
   exchanges_are = ap exchanges (append_assoc half.lines (half.question ∷ []) (shown ∷ [])) ∙ exchanges-append half.lines (half.question ∷ shown ∷ []) (length half.verdicts) half.even
 

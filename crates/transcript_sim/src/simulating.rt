@@ -84,7 +84,7 @@ fn send_verdict<B: Bench>(bench: &mut B, due: Due) -> Result<(), Failed>
     bench.send(verdict_line(due))
 }
 
-// Judges the exchanges that are still to come. A reply's line is read behind its question's verdict alone.
+// Judges the exchanges that are still to come. A reply's line is read after its question's verdict alone.
 fn judge<P: Source, B: Bench>(
     alloc: Global,
     lines: &mut Lines,

@@ -41,7 +41,7 @@ and_more : {B : Type 0} (g : B → ℕ) (n : ℕ) (h : Json → B → B) → ((j
 and_more g n h step more again None short = tt
 and_more g n h step more again (Some q) short = mapped g g n (h q.0) (λ b small. step q.0 b short.0 small) _ (again q.1 short.1)
 
--- what stands behind a bracket that closes an array
+-- what stands after a bracket that closes an array
 IsRestShort : ℕ → Option (List Token) → Type 0
 IsRestShort n None = ⊤
 IsRestShort n (Some ts) = longest_text ts ≤ n

@@ -1,4 +1,4 @@
-use Rattle.std.proofs.Common.{◌≡◌, []}
+use Rattle.std.proofs.Common.{[]}
 use Rattle.bench_core.specs.BenchContents.{file_of}
 use Rattle.auditor_top.proofs.drilling.start.Goals as goal
 

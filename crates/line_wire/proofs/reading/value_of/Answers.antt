@@ -1,6 +1,6 @@
 use Rattle.std.proofs.Common.{sym, ◌∙◌}
 use Rattle.std.proofs.lemmas.Bool.{false≢true}
-use Rattle.line_wire.proofs.AnsweredLines.{value_of-read, value_of-none}
+use Rattle.schema_json.specs.ValueLaws.{value_of-read, value_of-none}
 use Rattle.line_wire.proofs.Texts.Values.{longest-read}
 use Rattle.line_wire.proofs.reading.value_of.Goals as goal
 
