@@ -15,3 +15,4 @@ pub mod RowsLeft
 pub mod WordLaws
 pub mod Products
 pub mod PrimitiveLines
+pub mod NumberTests
