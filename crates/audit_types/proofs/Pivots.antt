@@ -5,7 +5,6 @@ use Rattle.std.proofs.lemmas.Bool.{or_cases, or_parts, eqb-true, true≢false}
 use Rattle.audit_types.specs.Truth.{number_at, is_zero}
 use Rattle.audit_types.specs.Form.{pivot, IsEchelon, StandsBefore}
 use Rattle.audit_types.specs.Direction.{is_pivot, first_free}
-use Rattle.audit_types.specs.NumberTests.{not_zero}
 
 -- what is said of each pivot holds at each column that is one
 pub at_pivot : (P : ℕ → Type 0) (rows : List (List ℤ)) (j : ℕ) → AllByRecursion (λ row. P (pivot row)) rows → is_pivot rows j ≡ true → P j
@@ -54,6 +53,10 @@ not_before form (x ∷ row) j = at_least (is_pivot form j || is_zero x) j (first
     at_least : (b : Bool) (j later : ℕ) → j + 1 ≤ later → j ≤ cond b later j
     at_least true j later h = omega arith
     at_least false j later h = omega arith
+
+-- what the test passes is not 0
+not_zero : (x : ℤ) → is_zero x ≡ false → x ≢ pos 0
+not_zero x e z = absurd (true≢false (sym (ap is_zero z) ∙ e))
 
 -- the row is not 0 at its first free column, where it has one
 pub first_free_entry : (form : List (List ℤ)) (row : List ℤ) (j k : ℕ) → first_free form row j ≡ j + k → k < length row → number_at row k ≢ pos 0

@@ -2,6 +2,7 @@ pub mod Limits
 pub mod Shapes
 pub mod Rows
 pub mod RowLaws
+pub mod FilteredRows
 pub mod Truth
 pub mod Column
 pub mod Extremes
@@ -15,4 +16,3 @@ pub mod RowsLeft
 pub mod WordLaws
 pub mod Products
 pub mod PrimitiveLines
-pub mod NumberTests

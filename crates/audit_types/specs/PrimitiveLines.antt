@@ -104,12 +104,6 @@ number_at-times k [] j = sym (*ℤ-zero k)
 number_at-times k (x ∷ f) zero = refl
 number_at-times k (x ∷ f) (suc j) = number_at-times k f j
 
--- a number of a list whose signs are turned
-pub number_at-negated : (f : List ℤ) (j : ℕ) → number_at (map neg_ℤ f) j ≡ neg_ℤ (number_at f j)
-number_at-negated [] j = refl
-number_at-negated (x ∷ f) zero = refl
-number_at-negated (x ∷ f) (suc j) = number_at-negated f j
-
 -- two primitive lists on one line, in one direction, are one
 pub one_primitive : (x y : ℤ) (f g : List ℤ) → pos 0 <ℤ x → pos 0 <ℤ y → length f ≡ length g → IsContent f 1 → IsContent g 1 → ((j : ℕ) → x *ℤ number_at f j ≡ y *ℤ number_at g j) → f ≡ g
 one_primitive x y f g p q l one two h =
