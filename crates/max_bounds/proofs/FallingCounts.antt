@@ -7,13 +7,13 @@ use Rattle.max_bounds.specs.declared.answered.AnsweredMax.{AnsweredMax}
 use Rattle.max_bounds.specs.Maxima.{answer_of, answers_of}
 use Rattle.max_bounds.specs.Kept.{fewest_of}
 
--- the least count with one more behind the others
+-- the least count with one more after the others
 pub fewest_of-push : (counts : List ℕ) (c : ℕ) → c ≤ 65535 → fewest_of (counts ++ c ∷ []) ≡ min (fewest_of counts) c
 fewest_of-push [] c low = omega arith
 fewest_of-push (d ∷ counts) c low = let rest = fewest_of-push counts c low in omega arith
 
 module _ {X : Type 0} where
-  -- lists that end alike from here on have one element here, and end alike behind it
+  -- lists that end alike from here on have one element here, and end alike after it
   pub same_here : (xs ys : List X) (i : ℕ) (d : X) → i < length xs → i < length ys → drop i xs ≡ drop i ys → get_or xs i d ≡ get_or ys i d
   same_here xs ys i d one other same =
       let first : (get_or xs i d ∷ drop (suc i) xs) ≡ (get_or ys i d ∷ drop (suc i) ys) = sym (drop-cons xs i d one) ∙ same ∙ drop-cons ys i d other in cc
