@@ -59,7 +59,7 @@ around-push (a ∷ answers) x = ap (λ l. a.value ∷ (a.value +ℤ pos 1) ∷ l
 here : (x y : ℤ) (list : List ℤ) → y ≡ x → Contains (y ∷ list) x
 here x y list e = (0, omega arith, e)
 
--- and those behind it
+-- and those after it
 later : (x y : ℤ) (list : List ℤ) → Contains list x → Contains (y ∷ list) x
 later x y list (k, within, e) = (suc k, omega arith, e)
 
