@@ -57,9 +57,3 @@ pub all_here : {X : Type 0} (P : X → Type 0) (xs : List X) (i : ℕ) (x : X) �
 all_here P [] i x within is all = absurd (omega arith)
 all_here P (y ∷ xs) zero x within is all = subst P (sym is) all.0
 all_here P (y ∷ xs) (suc i) x within is all = all_here P xs i x (omega arith) is all.1
-
--- an answer of the pair at a place is one of all
-pub one_here : (pairs : List AnsweredMax) (i : ℕ) (x : AnsweredMax) → i < length pairs → x ≡ get_or pairs i x → IsOneOf (answer_of x) (answers_of pairs)
-one_here [] i x within is = absurd (omega arith)
-one_here (y ∷ pairs) zero x within is = inl (ap answer_of (sym is))
-one_here (y ∷ pairs) (suc i) x within is = inr (one_here pairs i x (omega arith) is)

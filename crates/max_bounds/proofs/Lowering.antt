@@ -75,7 +75,3 @@ pub AreBounds-push : (answers : List Answer) (x : Answer) (bounds after : List (
 AreBounds-push answers x bounds after h lowered = record {
   each = λ r. lowered r ∙ ap (bound_with x.rows x.value r) (h.each r) ∙ sym (upper_bound-push answers x r);
 }
-
--- a number of 64 bits, read as one of 128
-pub widened : (a : ℤ) → SFits w64 a → to_z w128 (of_z w128 (to_z w64 (of_z w64 a))) ≡ a
-widened a fits = omega (arith, ints)
