@@ -7,7 +7,7 @@ use Rattle.std.proofs.lemmas.Bool.Decides.{nat_tests}
 use Rattle.std.proofs.lemmas.Nat.{or_lt, mul-le, pow_pos}
 use Rattle.std.proofs.lemmas.Nat.Bits.{bit_at-lt, bit_at_or, bit_at-zero, bit_at_above, bit_at_cat_low, bit_at_cat_high, bit_at_ones, same_from_bits_below}
 use Rattle.audit_types.specs.Words.{has_bit, rows_of_set, AreWords, IsSetOfWords}
-use Rattle.audit_types.specs.WordLaws.{same_place, has-view}
+use Rattle.audit_types.specs.WordLaws.{same_place, has-view, or_false, max_test}
 use Rattle.audit_types.specs.Rows.{Rows, has_row}
 use Rattle.audit_types.specs.declared.rows.RowSet.TheInside.{Inside}
 
@@ -30,10 +30,6 @@ unmoved at byte small =
     below : (x : ℕ) → x ≤ 255 * 2 ^ 56 → x % 2 ^ 64 ≡ x + 0
     below x h = omega arith
 
--- a number has a bit or another has it
-or_test : (x y : ℕ) → x < 2 → y < 2 → (max x y == 1) ≡ ((x == 1) || (y == 1))
-or_test x y p q = grind (arith, nat_tests)
-
 -- the bit of a row in a moved byte
 bit_of_moved : (at byte r : ℕ) → byte < 256 → r / 64 ≡ at / 8 → (bit_at (moved at byte) (r % 64) == 1) ≡ ((r / 8 == at) && (bit_at byte (r % 8) == 1))
 bit_of_moved at byte r small word = ap (λ x. bit_at x (r % 64) == 1) (unmoved at byte small) ∙ elim (cases_lt (r % 64) (8 * (at % 8))) [
@@ -53,11 +49,6 @@ bit_of_moved at byte r small word = ap (λ x. bit_at x (r % 64) == 1) (unmoved a
 not_in_byte : (at byte r : ℕ) → r / 64 ≢ at / 8 → ((r / 8 == at) && (bit_at byte (r % 8) == 1)) ≡ false
 not_in_byte at byte r apart = rw (ne_eqb (r / 8) at (λ e. apart (omega arith))) refl
 
--- a test or none
-or_false : (b : Bool) → (b || false) ≡ b
-or_false true = refl
-or_false false = refl
-
 -- the rows of the words with a byte are those before and the byte's
 pub has_bit-byte : (words : List ℕ) (at byte r : ℕ) → at / 8 < length words → byte < 256 →
     has_bit (with_byte words at byte) r ≡ (has_bit words r || ((r / 8 == at) && (bit_at byte (r % 8) == 1)))
@@ -68,7 +59,7 @@ has_bit-byte words at byte r l small = elim (cases_eq (r / 64) (at / 8)) [
       ap (λ k. get_or (with_byte words at byte) k 0) word ∙ get_or-set_same words (at / 8) _ 0 l in
       ap (λ x. bit_at x (r % 64) == 1) read
       ∙ ap (λ x. x == 1) (bit_at_or (get_or words (at / 8) 0) (moved at byte) (r % 64))
-      ∙ or_test _ _ (bit_at-lt (get_or words (at / 8) 0) (r % 64)) (bit_at-lt (moved at byte) (r % 64))
+      ∙ max_test _ _ (bit_at-lt (get_or words (at / 8) 0) (r % 64)) (bit_at-lt (moved at byte) (r % 64))
       ∙ ap (λ b. (bit_at (get_or words (at / 8) 0) (r % 64) == 1) || b) (bit_of_moved at byte r small word)
       ∙ ap (λ k. (bit_at (get_or words k 0) (r % 64) == 1) || ((r / 8 == at) && (bit_at byte (r % 8) == 1))) (sym word)
   | inr word ↦

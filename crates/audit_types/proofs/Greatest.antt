@@ -3,7 +3,7 @@ use Rattle.std.proofs.Common.{◌≡◌, ◌≢◌, ℕ, ℤ, true, false, cond,
 use Rattle.std.specs.List.{fold}
 use Rattle.std.specs.Prelude.{int_lt}
 use Rattle.std.specs.Int.{int_max}
-use Rattle.std.proofs.lemmas.Bool.{or_left, or_right, or_cases, eq-eqb, eqb-true, true≢false}
+use Rattle.std.proofs.lemmas.Bool.{cases_cond, or_left, or_right, or_cases, eq-eqb, eqb-true, true≢false}
 use Rattle.std.proofs.lemmas.Int.{ints, int_max_is}
 use Rattle.audit_types.specs.Rows.{has_row}
 use Rattle.audit_types.specs.Truth.{number_at, greatest_over}
@@ -31,16 +31,12 @@ each_below w (x ∷ rows) a r h =
       | inr later ↦ each_below w rows (int_max a (number_at w x)) r later
     ]
 
--- the greater of two is one of them
-max_cases : (a b : ℤ) → (int_max a b ≡ a) ⊎ (int_max a b ≡ b)
-max_cases a b = elim (int_lt b a) as (λ t. (cond t a b ≡ a) ⊎ (cond t a b ≡ b)) [ true ↦ inl refl | false ↦ inr refl ]
-
 -- the greatest is the number to begin with, or that of a row
 pub reached : (w : List ℤ) (rows : List ℕ) (a : ℤ) →
     (greatest_from w a rows ≡ a) ⊎ ((r : ℕ) × (has_row rows r ≡ true) × (number_at w r ≡ greatest_from w a rows))
 reached w [] a = inl refl
 reached w (x ∷ rows) a = elim (reached w rows (int_max a (number_at w x))) [
-  | inl start ↦ elim (max_cases a (number_at w x)) [
+  | inl start ↦ elim (cases_cond (int_lt (number_at w x) a) a (number_at w x) (int_max a (number_at w x)) refl) [
     | inl first ↦ inl (start ∙ first)
     | inr second ↦ inr (x, or_left (x == x) (has_row rows x) (eq-eqb x x refl), sym (start ∙ second))
   ]

@@ -1,7 +1,7 @@
 -- Pivots and free columns of a reduced form.
 use Rattle.std.proofs.Common.{◌≡◌, ◌≢◌, ℕ, zero, suc, ◌+◌, ◌<◌, ◌≤◌, Bool, true, false, cond, ◌||◌, ◌==◌, ℤ, pos, List, [], ◌∷◌, length, refl, sym, ap, ◌∙◌, arith, inl, inr, subst}
 use Rattle.std.specs.List.{AllByRecursion}
-use Rattle.std.proofs.lemmas.Bool.{or_cases, eqb-true, true≢false}
+use Rattle.std.proofs.lemmas.Bool.{or_cases, or_parts, eqb-true, true≢false}
 use Rattle.audit_types.specs.Truth.{number_at, is_zero}
 use Rattle.audit_types.specs.Form.{pivot, IsEchelon, StandsBefore}
 use Rattle.audit_types.specs.Direction.{is_pivot, first_free}
@@ -18,7 +18,7 @@ at_pivot P (row ∷ rows) j h e = elim (or_cases (pivot row == j) (is_pivot rows
 abbrev pub IsZeroAtOthers : List (List ℤ) → List ℤ → Type 0
 IsZeroAtOthers form row = (j : ℕ) → is_pivot form j ≡ true → j ≢ pivot row → number_at row j ≡ pos 0
 
--- a row is 0 at the pivots of the rows behind it
+-- a row is 0 at the pivots of the rows after it
 zero_later : (row : List ℤ) (rows : List (List ℤ)) → AllByRecursion (StandsBefore row) rows → AllByRecursion (λ later. number_at row (pivot later) ≡ pos 0) rows
 zero_later row [] h = tt
 zero_later row (later ∷ rows) h = (h.0.1, zero_later row rows h.1)
@@ -58,11 +58,6 @@ not_before form (x ∷ row) j = at_least (is_pivot form j || is_zero x) j (first
 not_zero : (x : ℤ) → is_zero x ≡ false → x ≢ pos 0
 not_zero x e z = absurd (true≢false (sym (ap is_zero z) ∙ e))
 
--- where neither holds, the second does not
-or_right_false : (a b : Bool) → (a || b) ≡ false → b ≡ false
-or_right_false true b e = absurd (true≢false e)
-or_right_false false b e = e
-
 -- the row is not 0 at its first free column, where it has one
 pub first_free_entry : (form : List (List ℤ)) (row : List ℤ) (j k : ℕ) → first_free form row j ≡ j + k → k < length row → number_at row k ≢ pos 0
 first_free_entry form [] j k e l = absurd (omega arith)
@@ -82,4 +77,4 @@ first_free_entry form (x ∷ row) j k e l =
         ((i : ℕ) → first_free form row (j + 1) ≡ j + 1 + i → i < length row → number_at row i ≢ pos 0) →
         (m : ℕ) → cond (is_pivot form j || is_zero x) (first_free form row (j + 1)) j ≡ j + m → m < length (x ∷ row) → number_at (x ∷ row) m ≢ pos 0
     by_test true test rest m e l = passed m (ap (λ t. cond t (first_free form row (j + 1)) j) (sym test) ∙ e) l rest
-    by_test false test rest m e l = stopped m (ap (λ t. cond t (first_free form row (j + 1)) j) (sym test) ∙ e) (or_right_false (is_pivot form j) (is_zero x) test)
+    by_test false test rest m e l = stopped m (ap (λ t. cond t (first_free form row (j + 1)) j) (sym test) ∙ e) (or_parts (is_pivot form j) (is_zero x) test).1

@@ -57,7 +57,7 @@ module _ (table : Table) where
   pub legal_is_possible : (history : List Answered) → AreSecrets table.setting.shape table.secrets → IsLegal table history → IsPossibleHistory table.setting history
   legal_is_possible history secrets legal = (table.secrets, secrets, true_history secrets history (λ i r here. (legal.each i r here).true_answer))
 
--- the answers of two histories, one behind the other
+-- the answers of two histories, one after the other
 answers_of-append : (column : ℕ) (history more : List Answered) → answers_of column (history ++ more) ≡ answers_of column history ++ answers_of column more
 answers_of-append column history more =
     ap (map answer_in) (filter-append (λ r. r.column == column) history more)
@@ -68,7 +68,7 @@ all-append : (P : Answer → Type 0) (xs ys : List Answer) → AllByRecursion P 
 all-append P [] ys p q = q
 all-append P (x ∷ xs) ys p q = (p.0, all-append P xs ys p.1 q)
 
--- secrets that agree do so behind a record of their own answer
+-- secrets that agree do so after a record of their own answer
 pub keeps_agreement : (table : Table) (history : List Answered) (r : Answered) → AgreeWithHistory table.setting history table.secrets → IsTrueAnswer table r →
     AgreeWithHistory table.setting (history ++ r ∷ []) table.secrets
 keeps_agreement table history r agree true_answer column below = record {
@@ -77,7 +77,7 @@ keeps_agreement table history r agree true_answer column below = record {
       (all-append (Gives table column) (answers_of column history) (answers_of column (r ∷ [])) (agree column below).same (all_given table column (r ∷ []) (true_answer, tt)));
 }
 
--- so there is an answer behind which the history is possible
+-- so there is an answer after which the history is possible
 pub some_answer : (setting : Setting) (history : List Answered) (column : ℕ) (rows : Rows) → IsPossibleHistory setting history →
     (answer : ℤ) × IsPossibleHistory setting (history ++ record { column = column; rows = rows; answer = answer } ∷ [])
 some_answer setting history column rows possible =

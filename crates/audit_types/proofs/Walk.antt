@@ -27,7 +27,7 @@ at_spot words spot r here = rw (eq-eqb (r / 64) spot.place here) refl
 before_spot : (words : List ℕ) (spot : Spot) (r : ℕ) → r / 64 < spot.place → is_left words spot r ≡ false
 before_spot words spot r before = rw (ne_eqb (r / 64) spot.place (λ e. omega arith), le-ltb spot.place (r / 64) (omega arith)) refl
 
--- a row of a word behind it
+-- a row of a word after it
 behind_spot : (words : List ℕ) (spot : Spot) (r : ℕ) → spot.place < r / 64 → is_left words spot r ≡ has_bit words r
 behind_spot words spot r behind = rw (ne_eqb (r / 64) spot.place (λ e. omega arith), lt-ltb spot.place (r / 64) behind) refl
 
@@ -114,7 +114,7 @@ module _ (words : List ℕ) (spot next : Spot) (within : spot.place < 16) (fits 
         ∙ rw (ne_eqb (r / 64) spot.place elsewhere) refl
   ]
 
-  -- the first row that is left, and the rows behind it
+  -- the first row that is left, and the rows after it
   pub first_row : rows_from words spot ≡ (64 * spot.place + bit) ∷ rows_from words next
   first_row =
       let low = lowest.0 in

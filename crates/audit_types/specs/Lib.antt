@@ -2,6 +2,7 @@ pub mod Limits
 pub mod Shapes
 pub mod Rows
 pub mod RowLaws
+pub mod FilteredRows
 pub mod Truth
 pub mod Column
 pub mod Extremes

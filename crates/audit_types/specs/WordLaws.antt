@@ -4,7 +4,7 @@ use Rattle.std.proofs.lemmas.List.{get_or_past}
 use Rattle.std.specs.Int.Bits.{or_zero_l}
 use Rattle.std.specs.Prelude.{bit_or, bit_and, nat_lt}
 use Rattle.std.specs.Int.{bit_at, bit_not, w64}
-use Rattle.std.proofs.lemmas.Bool.{cases_lt, cases_eq, eq-eqb, ne_eqb, lt-ltb, le-ltb, true≢false}
+use Rattle.std.proofs.lemmas.Bool.{cases_lt, cases_eq, eq-eqb, ne_eqb, lt-ltb, le-ltb, true≢false, or_right}
 use Rattle.std.proofs.lemmas.Bool.Decides.{nat_tests}
 use Rattle.std.proofs.lemmas.Nat.{mod-pow-add, pow-add, pow_pos, or_lt, and_le_l, and_le_r}
 use Rattle.std.proofs.lemmas.Nat.Bits.{bit_at-lt, bit_at_and, bit_at_or, bit_at_set_same, bit_at_set_other, bit_at-zero, bit_at_ones, bit_at_ones_above, bit_at_not, bit_at_above, same_from_bits, shr_and_one}
@@ -132,14 +132,9 @@ pub AreWords-none : (n : ℕ) → 0 < n → n ≤ 1024 → AreWords n (replicate
 AreWords-none n s h = record { some = s; at_most = h; sixteen = refl; ranges = λ k. omega (arith, zero_at 16 k); none_above = λ r l. no_bit 16 r }
 
 -- a test or none
-or_false : (b : Bool) → (b || false) ≡ b
+pub or_false : (b : Bool) → (b || false) ≡ b
 or_false true = refl
 or_false false = refl
-
--- a test or all
-or_true : (b : Bool) → (b || true) ≡ true
-or_true true = refl
-or_true false = refl
 
 -- a bit is set
 pub has_bit-set : (words : List ℕ) (row r : ℕ) → row / 64 < length words →
@@ -154,7 +149,7 @@ has_bit-set words row r l =
                 let one : bit_at (bit_or (get_or words (row / 64) 0) (1 * 2 ^ (row % 64) % 2 ^ 64)) (r % 64) ≡ 1 =
                 ap (bit_at (bit_or (get_or words (row / 64) 0) (1 * 2 ^ (row % 64) % 2 ^ 64))) bit ∙ bit_at_set_same w64 (get_or words (row / 64) 0) (row % 64) (omega arith) in
                 let same : (r == row) ≡ true = eq-eqb r row (omega arith) in
-                ap (λ x. bit_at x (r % 64) == 1) read ∙ ap (λ x. x == 1) one ∙ sym (ap (λ b. has_bit words r || b) same ∙ or_true (has_bit words r))
+                ap (λ x. bit_at x (r % 64) == 1) read ∙ ap (λ x. x == 1) one ∙ sym (ap (λ b. has_bit words r || b) same ∙ or_right (has_bit words r) true refl)
             | inr bit ↦
                 let kept : bit_at (bit_or (get_or words (row / 64) 0) (1 * 2 ^ (row % 64) % 2 ^ 64)) (r % 64) ≡ bit_at (get_or words (row / 64) 0) (r % 64) =
                 bit_at_set_other w64 (get_or words (row / 64) 0) (row % 64) (omega arith) (r % 64) bit in
@@ -190,7 +185,7 @@ min_test : (a b : ℕ) → a < 2 → b < 2 → (min a b == 1) ≡ ((a == 1) && (
 min_test a b p q = grind (arith, nat_tests)
 
 -- one of two bits is set
-max_test : (a b : ℕ) → a < 2 → b < 2 → (max a b == 1) ≡ ((a == 1) || (b == 1))
+pub max_test : (a b : ℕ) → a < 2 → b < 2 → (max a b == 1) ≡ ((a == 1) || (b == 1))
 max_test a b p q = grind (arith, nat_tests)
 
 module _ (a b words : List ℕ) (n : ℕ) (p : AreWords n a) (q : AreWords n b) (l : length words ≡ 16) where

@@ -18,7 +18,7 @@ struct Spot {
 #[derive(Drop)]
 pub struct RowIter {
     words: [u64; 16],
-    // Where the walk is: the bits of the words behind it are still to come, and those that are left of its own word.
+    // Where the walk is: the bits of the words after it are still to come, and those that are left of its own word.
     spot: Spot,
 }
 

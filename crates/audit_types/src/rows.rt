@@ -169,7 +169,7 @@ impl RowSet {
     ///     total : l.total + sum_of l.numbers l.row-iterator ≡ sum_of l.numbers l.set.list
     ///
     /// In a step `c.in-Some.ensures.steps` says that the row was the first that was left, and `c.next.new.self` is the
-    /// list that is left behind it. `walk_row` of specs/RowLaws.antt says then that the row is below n, `walk_more`
+    /// list that is left after it. `walk_row` of specs/RowLaws.antt says then that the row is below n, `walk_more`
     /// that `together` stays, and `length-rows` that the list has at most n rows; each takes `are_rows` of `n`.
     pub fn iter(&self) -> RowIter
         ensures { result ≡ self.now.list }

@@ -9,7 +9,7 @@ pub enum Kind {
     Max,
 }
 
-/// The number of rows, and a kind byte for each secret column: 1 for sums, 2 for maxima, and 0 behind the last column.
+/// The number of rows, and a kind byte for each secret column: 1 for sums, 2 for maxima, and 0 after the last column.
 #[derive(Clone, Copy, Debug, PartialEq, Eq)]
 pub struct Shape {
     pub rows: u16,

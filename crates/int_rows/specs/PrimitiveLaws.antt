@@ -16,6 +16,7 @@ use Rattle.audit_types.specs.Truth.{number_at, is_zero}
 use Rattle.audit_types.specs.Form.{IsContent, pivot, pivot_entry}
 use Rattle.audit_types.specs.Products.{zero_size}
 use Rattle.audit_types.specs.PrimitiveLines.{number_at-times}
+use Rattle.int_rows.specs.ContentLaws.{all-ones}
 use Rattle.int_rows.specs.Primitive.{IsMadePrimitive, IsSignedContent}
 
 pub zero_or_not : (z : ℤ) → (z ≡ pos 0) ⊎ (z ≢ pos 0)
@@ -92,13 +93,9 @@ scaled_divisor : (c : ℤ) (d : ℕ) (xs : List ℤ) → AllByRecursion (λ x. d
 scaled_divisor c d [] h = tt
 scaled_divisor c d (x ∷ xs) h = (subst (λ m. (unsigned_abs c * d) ∣ m) (sym (unsigned_abs-mul c x)) (mul-dvd-mul_left d (unsigned_abs c) h.0), scaled_divisor c d xs h.1)
 
-ones_divide : (xs : List ℤ) → AllByRecursion (λ x. 1 ∣ unsigned_abs x) xs
-ones_divide [] = tt
-ones_divide (x ∷ xs) = (one-dvd (unsigned_abs x), ones_divide xs)
-
 pub content_one : (c : ℤ) (xs : List ℤ) → c ≢ pos 0 → IsContent (map (λ x. c *ℤ x) xs) (unsigned_abs c) → IsContent xs 1
 content_one c xs n content = record {
-  divides = ones_divide xs;
+  divides = all-ones xs;
   greatest = λ d h. at_most_one d (unsigned_abs c) (size_above c n) (content.greatest (unsigned_abs c * d) (scaled_divisor c d xs h));
 }
 

@@ -8,7 +8,7 @@ use Rattle.std.specs.Int.{int_min}
 use Rattle.std.specs.Ordering.{int_eq}
 use Rattle.std.specs.List.{AllByRecursion, filter}
 use Rattle.std.proofs.lemmas.Int.{ints, clamps}
-use Rattle.std.proofs.lemmas.Bool.Decides.{Decides-int_eq}
+use Rattle.std.proofs.lemmas.Bool.Decides.{Decides-int_eq, Decides-like, same_from_decides}
 use Rattle.audit_types.specs.Rows.{has_row}
 use Rattle.audit_types.specs.Column.{Answer, known_max}
 use Rattle.audit_types.specs.Extremes.{least_of, upper_bound, is_bound, extremes}
@@ -19,17 +19,9 @@ use Rattle.max_bounds.specs.AnswerLaws.{all_at, all_from, all-push, all-front, o
 abbrev pub LiesAlike : ℤ → ℤ → ℤ → Type 0
 LiesAlike x y v = ((v <ℤ x) × (v <ℤ y)) ⊎ (((v ≡ x) × (v ≡ y)) ⊎ ((x <ℤ v) × (y <ℤ v)))
 
--- tests that are true together are one
-same_test : (p q : Bool) → (p ≡ true → q ≡ true) → (q ≡ true → p ≡ true) → p ≡ q
-same_test true q f g = sym (f refl)
-same_test false true f g = g refl
-same_test false false f g = refl
-
 -- equal where one is equal
 equal_alike : (a b c d : ℤ) → (a ≡ b → c ≡ d) → (c ≡ d → a ≡ b) → int_eq a b ≡ int_eq c d
-equal_alike a b c d f g = same_test (int_eq a b) (int_eq c d)
-    (λ e. (Decides-int_eq c d).1 (f ((Decides-int_eq a b).0 e)))
-    (λ e. (Decides-int_eq a b).1 (g ((Decides-int_eq c d).0 e)))
+equal_alike a b c d f g = same_from_decides (int_eq a b) (int_eq c d) (Decides-like (int_eq a b) f g (Decides-int_eq a b)) (Decides-int_eq c d)
 
 -- filters by tests that agree
 filters_agree : (p q : ℕ → Bool) → ((r : ℕ) → p r ≡ q r) → (rows : List ℕ) → filter p rows ≡ filter q rows

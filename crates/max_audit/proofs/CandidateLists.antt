@@ -59,7 +59,7 @@ around-push (a ∷ answers) x = ap (λ l. a.value ∷ (a.value +ℤ pos 1) ∷ l
 here : (x y : ℤ) (list : List ℤ) → y ≡ x → Contains (y ∷ list) x
 here x y list e = (0, omega arith, e)
 
--- and those behind it
+-- and those after it
 later : (x y : ℤ) (list : List ℤ) → Contains list x → Contains (y ∷ list) x
 later x y list (k, within, e) = (suc k, omega arith, e)
 
@@ -121,19 +121,9 @@ gathered answers lowest is x = (
     among all low x below_all (above a one) = later (a.value +ℤ pos 1) low (around all) (to_around all (a.value +ℤ pos 1) a one (inr refl))
     among all low x below_all (below a one least) = here (a.value -ℤ pos 1) low (around all) (candidate_below all low a one least below_all)
 
--- each pair is one of the answers
-pub one_of_get : (pairs : List AnsweredMax) (i : ℕ) (x : AnsweredMax) → i < length pairs → x ≡ get_or pairs i x → IsOneOf (answer_of x) (answers_of pairs)
-one_of_get [] i x within e = absurd (omega arith)
-one_of_get (y ∷ pairs) zero x within e = inl (ap answer_of (sym e))
-one_of_get (y ∷ pairs) (suc i) x within e = inr (one_of_get pairs i x (omega arith) e)
-
 -- the number below one of 64 bits, as the code reckons it
 pub one_below : (z : ℤ) → SFits w64 z → to_z w128 (of_z w128 (to_z w128 (of_z w128 z) -ℤ pos 1)) ≡ z -ℤ pos 1
 one_below z fits = omega (arith, ints)
-
--- a number of 64 bits, as the code reads it
-pub widened : (z : ℤ) → SFits w64 z → to_z w128 (of_z w128 (to_z w64 (of_z w64 z))) ≡ z
-widened z fits = omega (arith, ints)
 
 -- and the number above it
 pub one_above : (z : ℤ) → SFits w64 z → to_z w128 (of_z w128 (to_z w128 (of_z w128 (to_z w64 (of_z w64 z))) +ℤ pos 1)) ≡ z +ℤ pos 1

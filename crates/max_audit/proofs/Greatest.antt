@@ -17,7 +17,7 @@ top w a rows = fold int_max a (map (number_at w) rows)
 start_below : (w : List ℤ) (a : ℤ) (rows : List ℕ) → a ≤ℤ top w a rows
 start_below w a rows = (fold-int_max_bounds a (map (number_at w) rows) (top w a rows) refl).0
 
--- and at least each number behind it
+-- and at least each number after it
 each_below : (w : List ℤ) (a : ℤ) (rows : List ℕ) (q : ℕ) → has_row rows q ≡ true → number_at w q ≤ℤ top w a rows
 each_below w a [] q there = absurd (true≢false (sym there))
 each_below w a (r ∷ rows) q there =
@@ -36,16 +36,12 @@ at_most w (r ∷ rows) q there =
       | inr later ↦ each_below w (number_at w r) rows q later
     ]
 
--- the greater of two numbers is one of them
-int_max_is_one : (a b : ℤ) → (int_max a b ≡ a) ⊎ (int_max a b ≡ b)
-int_max_is_one a b = cases_cond (int_lt b a) a b (int_max a b) refl
-
 -- the greatest is what it starts from, or some row has it
 found : (w : List ℤ) (a : ℤ) (rows : List ℕ) → (top w a rows ≡ a) ⊎ ((q : ℕ) × (has_row rows q ≡ true) × (number_at w q ≡ top w a rows))
 found w a [] = inl refl
 found w a (r ∷ rows) =
     elim (found w (int_max a (number_at w r)) rows) [
-      | inl e ↦ elim (int_max_is_one a (number_at w r)) [ inl f ↦ inl (e ∙ f) | inr f ↦ inr (r, has_first r rows, sym (e ∙ f)) ]
+      | inl e ↦ elim (cases_cond (int_lt (number_at w r) a) a (number_at w r) (int_max a (number_at w r)) refl) [ inl f ↦ inl (e ∙ f) | inr f ↦ inr (r, has_first r rows, sym (e ∙ f)) ]
       | inr (q, there, is) ↦ inr (q, has_later r q rows there, is)
     ]
 

@@ -12,7 +12,7 @@ use Rattle.max_bounds.specs.Kept.{lowered_set, Descend, IsPlaceOf}
 use Rattle.max_bounds.specs.declared.answered.AnsweredMax.{AnsweredMax}
 use Rattle.max_bounds.proofs.HighRows.{all_inserted}
 
--- the answers behind one are not above it
+-- the answers after one are not above it
 pub behind : (seen : List Answer) (x : Answer) (rest : List Answer) → Descend (seen ++ x ∷ rest) → AllByRecursion (λ b. b.value ≤ℤ x.value) rest
 behind [] x rest h = h.0
 behind (y ∷ seen) x rest h = behind seen x rest h.1

@@ -7,13 +7,13 @@ use Rattle.max_bounds.specs.declared.answered.AnsweredMax.{AnsweredMax}
 use Rattle.max_bounds.specs.Maxima.{answer_of, answers_of}
 use Rattle.max_bounds.specs.Kept.{fewest_of}
 
--- the least count with one more behind the others
+-- the least count with one more after the others
 pub fewest_of-push : (counts : List ℕ) (c : ℕ) → c ≤ 65535 → fewest_of (counts ++ c ∷ []) ≡ min (fewest_of counts) c
 fewest_of-push [] c low = omega arith
 fewest_of-push (d ∷ counts) c low = let rest = fewest_of-push counts c low in omega arith
 
 module _ {X : Type 0} where
-  -- lists that end alike from here on have one element here, and end alike behind it
+  -- lists that end alike from here on have one element here, and end alike after it
   pub same_here : (xs ys : List X) (i : ℕ) (d : X) → i < length xs → i < length ys → drop i xs ≡ drop i ys → get_or xs i d ≡ get_or ys i d
   same_here xs ys i d one other same =
       let first : (get_or xs i d ∷ drop (suc i) xs) ≡ (get_or ys i d ∷ drop (suc i) ys) = sym (drop-cons xs i d one) ∙ same ∙ drop-cons ys i d other in cc
@@ -57,9 +57,3 @@ pub all_here : {X : Type 0} (P : X → Type 0) (xs : List X) (i : ℕ) (x : X) �
 all_here P [] i x within is all = absurd (omega arith)
 all_here P (y ∷ xs) zero x within is all = subst P (sym is) all.0
 all_here P (y ∷ xs) (suc i) x within is all = all_here P xs i x (omega arith) is all.1
-
--- an answer of the pair at a place is one of all
-pub one_here : (pairs : List AnsweredMax) (i : ℕ) (x : AnsweredMax) → i < length pairs → x ≡ get_or pairs i x → IsOneOf (answer_of x) (answers_of pairs)
-one_here [] i x within is = absurd (omega arith)
-one_here (y ∷ pairs) zero x within is = inl (ap answer_of (sym is))
-one_here (y ∷ pairs) (suc i) x within is = inr (one_here pairs i x (omega arith) is)

@@ -4,7 +4,7 @@ use Rattle.std.specs.Prelude.{◌↔◌, ◌<ℤ◌, ◌≤ℤ◌, int_lt}
 use Rattle.std.specs.Int.{int_min}
 use Rattle.std.specs.List.{filter, AllByRecursion}
 use Rattle.std.proofs.lemmas.Int.{ints, clamps}
-use Rattle.std.proofs.lemmas.Bool.{true≢false, cases_lt, cases_eq}
+use Rattle.std.proofs.lemmas.Bool.{true≢false, cases_lt, cases_eq, and_parts, and_from}
 use Rattle.audit_types.specs.Rows.{has_row, AreRows, intersection, complement}
 use Rattle.audit_types.specs.Extremes.{least_of}
 use Rattle.audit_types.specs.RowLaws.{ascending_same, AreRows-rows_that, has-rows_that, has-rows_that_above}
@@ -13,14 +13,6 @@ use Rattle.max_bounds.specs.Kept.{is_at_least, is_above, rows_at_least, rows_abo
 use Rattle.max_bounds.specs.RowListLaws.{filter-has, has-filter, filter-ascends, row_below}
 use Rattle.max_bounds.specs.declared.high_rows.HighRows.{HighRows}
 use Rattle.max_bounds.proofs.LoweredSets.{same_test}
-
--- both of two
-both : (a b : Bool) → a ≡ true → b ≡ true → (a && b) ≡ true
-both a b e f = rw (e, f) refl
-
-first : (a b : Bool) → (a && b) ≡ true → a ≡ true
-first true b e = refl
-first false b e = e
 
 -- a bound that is not below a number
 from_at_least : (b x : ℤ) → not (int_lt b x) ≡ true → x ≤ℤ b
@@ -48,12 +40,12 @@ above_at_least (Some b) cut answer low h = to_at_least b cut (omega (arith, ints
 -- a row of both sets
 of_both : (n : ℕ) (rows high : List ℕ) (r : ℕ) → has_row (intersection n rows high) r ≡ true → has_row rows r ≡ true
 of_both n rows high r there = elim (cases_lt r n) [
-  | inl below ↦ first (has_row rows r) (has_row high r) (sym (has-rows_that (λ q. has_row rows q && has_row high q) n r below) ∙ there)
+  | inl below ↦ (and_parts (has_row rows r) (has_row high r) (sym (has-rows_that (λ q. has_row rows q && has_row high q) n r below) ∙ there)).0
   | inr above ↦ absurd (true≢false (sym there ∙ has-rows_that_above (λ q. has_row rows q && has_row high q) n r above))
 ]
 
 in_both : (n : ℕ) (rows high : List ℕ) (r : ℕ) → AreRows n rows → has_row rows r ≡ true → has_row high r ≡ true → has_row (intersection n rows high) r ≡ true
-in_both n rows high r are there here = has-rows_that (λ q. has_row rows q && has_row high q) n r (row_below n rows r are there) ∙ both (has_row rows r) (has_row high r) there here
+in_both n rows high r are there here = has-rows_that (λ q. has_row rows q && has_row high q) n r (row_below n rows r are there) ∙ and_from (has_row rows r) (has_row high r) there here
 
 -- a test that only high rows pass passes the same rows among them
 narrow : (n : ℕ) (test : ℕ → Bool) (rows high : List ℕ) → AreRows n rows → ((r : ℕ) → r < n → test r ≡ true → has_row high r ≡ true) →

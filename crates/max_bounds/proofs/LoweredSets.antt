@@ -13,29 +13,13 @@ use Rattle.max_bounds.specs.Maxima.{answer_of, answers_of}
 use Rattle.max_bounds.specs.declared.answered.AnsweredMax.{AnsweredMax}
 use Rattle.max_bounds.proofs.FallingCounts.{same_here}
 use Rattle.max_bounds.specs.RowListLaws.{filter-has, has-filter, filter-ascends}
+use Rattle.audit_types.specs.FilteredRows.{has_filtered}
 
 -- tests that are true together are one
 pub same_test : (p q : Bool) → (p ≡ true → q ≡ true) → (q ≡ true → p ≡ true) → p ≡ q
 same_test true q f g = sym (f refl)
 same_test false true f g = g refl
 same_test false false f g = refl
-
--- whether a filter has a row
-pub has_filtered : (test : ℕ → Bool) (rows : List ℕ) (q : ℕ) → has_row (filter test rows) q ≡ (has_row rows q && test q)
-has_filtered test rows q = same_test (has_row (filter test rows) q) (has_row rows q && test q)
-    (λ there. let found = filter-has test rows q there in both (has_row rows q) (test q) found.0 found.1)
-    (λ there. has-filter test rows q (first (has_row rows q) (test q) there) (second (has_row rows q) (test q) there))
-  where
-    both : (a b : Bool) → a ≡ true → b ≡ true → (a && b) ≡ true
-    both a b e f = rw (e, f) refl
-
-    first : (a b : Bool) → (a && b) ≡ true → a ≡ true
-    first true b e = refl
-    first false b e = e
-
-    second : (a b : Bool) → (a && b) ≡ true → b ≡ true
-    second true b e = e
-    second false b e = absurd (true≢false (sym e))
 
 -- the rows of a list that are among the others than a set's are those outside the set
 pub outside_is : (n : ℕ) (set rows : List ℕ) → AreRows n rows → intersection n rows (complement n set) ≡ outside set rows

@@ -9,20 +9,7 @@ use Rattle.audit_types.specs.Column.{Answer}
 use Rattle.audit_types.specs.Extremes.{least_of, upper_bound}
 use Rattle.max_bounds.specs.Reaching.{bound_at, bound_with}
 use Rattle.max_bounds.specs.BoundLaws.{upper_bound-push}
-
--- the rows of a table have a place in the array
-pub rows_within : (low n : ℕ) (rows : List ℕ) → n ≤ 1024 → AscendsFrom low n rows → AllByRecursion (λ q. q < 1024) rows
-rows_within low n [] most are = tt
-rows_within low n (q ∷ rows) most are = (omega (arith, are.1), rows_within (q + 1) n rows most are.2)
-
--- rows that ascend are no more than there are numbers from `low` to n
-rows_few : (low n : ℕ) (rows : List ℕ) → low ≤ n → AscendsFrom low n rows → length rows + low ≤ n
-rows_few low n [] below are = omega arith
-rows_few low n (q ∷ rows) below are = let rest = rows_few (q + 1) n rows (omega (arith, are.1)) are.2 in omega (arith, are.0)
-
--- the rows of a table are no more than it has
-pub rows_at_most : (n : ℕ) (rows : List ℕ) → AreRows n rows → length rows ≤ n
-rows_at_most n rows are = let few = rows_few 0 n rows (omega arith) are in omega arith
+use Rattle.audit_types.specs.FilteredRows.{rows_within}
 
 -- a walk that lowers the bounds of the rows of an answer: what is left to do leads from here to the end
 pub record IsLowering (answer : ℤ) (rows : List ℕ) (before : List (Option ℤ)) (rest : List ℕ) (bounds : List (Option ℤ)) : Type 0 where
@@ -32,7 +19,7 @@ pub record IsLowering (answer : ℤ) (rows : List ℕ) (before : List (Option �
 
 -- at first all is left to do
 pub lowering_begins : (answer : ℤ) (n : ℕ) (rows : List ℕ) (bounds : List (Option ℤ)) → length bounds ≡ 1024 → AreRows n rows → n ≤ 1024 → IsLowering answer rows bounds rows bounds
-lowering_begins answer n rows bounds size are most = record { size = size; within = rows_within 0 n rows most are; lowered = λ r. refl }
+lowering_begins answer n rows bounds size are most = record { size = size; within = rows_within 0 n 1024 rows most are; lowered = λ r. refl }
 
 -- a bound that is lowered stays so
 lowered_again : (a : ℤ) (o : Option ℤ) (has : Bool) → cond has (Some (least_of a (Some (least_of a o)))) (Some (least_of a o)) ≡ Some (least_of a o)
@@ -88,7 +75,3 @@ pub AreBounds-push : (answers : List Answer) (x : Answer) (bounds after : List (
 AreBounds-push answers x bounds after h lowered = record {
   each = λ r. lowered r ∙ ap (bound_with x.rows x.value r) (h.each r) ∙ sym (upper_bound-push answers x r);
 }
-
--- a number of 64 bits, read as one of 128
-pub widened : (a : ℤ) → SFits w64 a → to_z w128 (of_z w128 (to_z w64 (of_z w64 a))) ≡ a
-widened a fits = omega (arith, ints)

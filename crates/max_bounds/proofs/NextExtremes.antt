@@ -5,7 +5,7 @@ use Rattle.std.specs.Int.{int_min}
 use Rattle.std.specs.Ordering.{int_eq}
 use Rattle.std.specs.List.{filter, AllByRecursion}
 use Rattle.std.proofs.lemmas.Int.{ints, clamps, by_lt_z}
-use Rattle.std.proofs.lemmas.Bool.{true≢false}
+use Rattle.std.proofs.lemmas.Bool.{true≢false, and_parts, and_from}
 use Rattle.std.proofs.lemmas.Bool.Decides.{Decides-int_eq}
 use Rattle.std.proofs.lemmas.List.Filters.{length-filter_both}
 use Rattle.audit_types.specs.Rows.{has_row, AreRows}
@@ -20,8 +20,9 @@ use Rattle.max_bounds.specs.RowListLaws.{filter-has, has-filter, filter-ascends}
 use Rattle.max_bounds.specs.BoundLaws.{upper_bound-push, exact_bound}
 use Rattle.max_bounds.specs.OneMoreLaws.{filters_agree_on, asked, bound_in_set, keeps_extremes, lower_keeps, higher_loses}
 use Rattle.max_bounds.proofs.Walks.{filter-none}
-use Rattle.max_bounds.proofs.LoweredSets.{has_filtered, same_test}
+use Rattle.max_bounds.proofs.LoweredSets.{same_test}
 use Rattle.max_bounds.proofs.Descending.{inserted_is, inserted_has, one_of_inserted}
+use Rattle.audit_types.specs.FilteredRows.{has_filtered}
 
 -- what is at least a number, by the bound with it
 at_least_test : (o : Option ℤ) (x : ℤ) → is_at_least x o ≡ is_bound (Some (least_of x o)) x
@@ -67,18 +68,6 @@ not_it (Some b) v x low above = elim (int_eq b v) as (λ t. int_eq b v ≡ t →
   | true ↦ λ e. let same = (Decides-int_eq b v).0 e in absurd (omega (arith, ints))
   | false ↦ λ e. refl
 ] refl
-
--- both of two
-both : (a b : Bool) → a ≡ true → b ≡ true → (a && b) ≡ true
-both a b e f = rw (e, f) refl
-
-first : (a b : Bool) → (a && b) ≡ true → a ≡ true
-first true b e = refl
-first false b e = e
-
-second : (a b : Bool) → (a && b) ≡ true → b ≡ true
-second true b e = e
-second false b e = absurd (true≢false (sym e))
 
 -- what holds of all, and of one more, holds of all with it
 pub all_last : {X : Type 0} (P : X → Type 0) (xs : List X) (y : X) → AllByRecursion P xs → P y → AllByRecursion P (xs ++ y ∷ [])
@@ -130,12 +119,12 @@ module _ (answers : List Answer) (rows : List ℕ) (x : ℤ) where
         (λ there.
         let one = filter-has (has_row rows) (extremes answers a) r there in
         let two = filter-has (λ q. is_bound (upper_bound answers q) a.value) a.rows r one.0 in
-        has-filter test falling r (has-filter (λ q. is_above x (upper_bound answers q)) rows r one.1 (above_it (upper_bound answers r) a.value x less two.1)) (both (has_row a.rows r) (is_bound (upper_bound answers r) a.value) two.0 two.1))
+        has-filter test falling r (has-filter (λ q. is_above x (upper_bound answers q)) rows r one.1 (above_it (upper_bound answers r) a.value x less two.1)) (and_from (has_row a.rows r) (is_bound (upper_bound answers r) a.value) two.0 two.1))
         (λ there.
         let one = filter-has test falling r there in
         let two = filter-has (λ q. is_above x (upper_bound answers q)) rows r one.0 in
         has-filter (has_row rows) (extremes answers a) r
-        (has-filter (λ q. is_bound (upper_bound answers q) a.value) a.rows r (first (has_row a.rows r) (is_bound (upper_bound answers r) a.value) one.1) (second (has_row a.rows r) (is_bound (upper_bound answers r) a.value) one.1))
+        (has-filter (λ q. is_bound (upper_bound answers q) a.value) a.rows r (and_parts (has_row a.rows r) (is_bound (upper_bound answers r) a.value) one.1).0 (and_parts (has_row a.rows r) (is_bound (upper_bound answers r) a.value) one.1).1)
         two.0))
 
     -- none of another's falls

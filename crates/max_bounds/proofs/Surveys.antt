@@ -11,7 +11,8 @@ use Rattle.audit_types.specs.Column.{Answer}
 use Rattle.max_bounds.specs.declared.survey.Trial.{Trial}
 use Rattle.max_bounds.specs.Reaching.{reaching, lone_of, lesser_of, IsLeast, IsAlone, TellsOf}
 use Rattle.max_bounds.specs.AnswerLaws.{all-push, all-front, one_of_front, one_of_last, front_or_last}
-use Rattle.max_bounds.proofs.Lowering.{rows_within, rows_at_most}
+use Rattle.audit_types.specs.FilteredRows.{rows_within}
+use Rattle.audit_types.specs.RowLaws.{length-rows}
 
 -- the code's test of a bound
 pub tested : (bound : Option ℤ) (answer : ℤ) → option_eq int_eq bound (Some answer) ≡ is_bound bound answer
@@ -34,8 +35,8 @@ counting_begins bound n rows answer are most = record {
   together = refl;
   counted = refl;
   alone = refl;
-  within = rows_within 0 n rows most are;
-  few = omega (arith, rows_at_most n rows are);
+  within = rows_within 0 n 1024 rows most are;
+  few = omega (arith, length-rows n rows are);
 }
 
 -- the lone row with one row more

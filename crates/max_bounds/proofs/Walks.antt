@@ -59,7 +59,7 @@ filter-push test rows r b is = filter-append test rows (r ∷ []) ∙ ap (λ t. 
 turned : (r k : ℕ) → (k == r) ≡ ((r == k) || false)
 turned r k = grind (arith, nat_tests)
 
--- a row behind all others is added behind them
+-- a row after all others is added after them
 pub added_last : (n : ℕ) (rows later : List ℕ) (r : ℕ) → AreRows n (rows ++ r ∷ []) → with_row n rows r ≡ rows ++ r ∷ []
 added_last n rows later r are =
     ascending_same 0 n n (with_row n rows r) (rows ++ r ∷ []) (AreRows-rows_that (λ k. has_row rows k || (k == r)) n) are (λ k. elim (cases_lt k n) [

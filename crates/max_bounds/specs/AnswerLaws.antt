@@ -1,7 +1,11 @@
 -- Laws of what holds of each answer of a list.
-use Rattle.std.proofs.Common.{◌≡◌, List, [], ◌∷◌, ◌++◌, refl, subst, inl, inr, ◌⊎◌}
+use Rattle.std.proofs.Common.{◌≡◌, List, [], ◌∷◌, ◌++◌, refl, subst, inl, inr, ◌⊎◌, ℕ, zero, suc, ◌<◌, length, get_or, ℤ, SFits, to_z, of_z, sym, ap, arith}
 use Rattle.std.specs.List.{AllByRecursion}
 use Rattle.audit_types.specs.Column.{Answer, IsOneOf}
+use Rattle.std.specs.Int.{w64, w128}
+use Rattle.std.proofs.lemmas.Int.{ints}
+use Rattle.max_bounds.specs.declared.answered.AnsweredMax.{AnsweredMax}
+use Rattle.max_bounds.specs.Maxima.{answer_of, answers_of}
 
 module _ (P : Answer → Type 0) where
   -- what holds of all answers holds of each
@@ -54,3 +58,13 @@ front_or_last [] x a (inl e) = inr e
 front_or_last [] x a (inr later) = absurd later
 front_or_last (y ∷ answers) x a (inl e) = inl (inl e)
 front_or_last (y ∷ answers) x a (inr later) = elim (front_or_last answers x a later) [ inl one ↦ inl (inr one) | inr e ↦ inr e ]
+
+-- an answer of the pair at a place is one of all
+pub one_here : (pairs : List AnsweredMax) (i : ℕ) (x : AnsweredMax) → i < length pairs → x ≡ get_or pairs i x → IsOneOf (answer_of x) (answers_of pairs)
+one_here [] i x within is = absurd (omega arith)
+one_here (y ∷ pairs) zero x within is = inl (ap answer_of (sym is))
+one_here (y ∷ pairs) (suc i) x within is = inr (one_here pairs i x (omega arith) is)
+
+-- an answer of 64 bits, as one of 128
+pub widened : (a : ℤ) → SFits w64 a → to_z w128 (of_z w128 (to_z w64 (of_z w64 a))) ≡ a
+widened a fits = omega (arith, ints)

@@ -3,12 +3,13 @@ use Rattle.std.proofs.Common.{◌≡◌, ◌≢◌, ℕ, ◌+◌, ◌<◌, ◌�
 use Rattle.std.specs.List.{filter}
 use Rattle.std.proofs.lemmas.Bool.{eqb-true, or_cases, eq-eqb, or_left, or_right, cases_eq, true≢false}
 use Rattle.audit_types.specs.Rows.{has_row, AscendsFrom, AreRows}
+use Rattle.audit_types.specs.FilteredRows.{from_lower}
 
 -- a list has its first row
 pub has_first : (x : ℕ) (rows : List ℕ) → has_row (x ∷ rows) x ≡ true
 has_first x rows = or_left (x == x) (has_row rows x) (eq-eqb x x refl)
 
--- and the rows behind it
+-- and the rows after it
 pub has_later : (x r : ℕ) (rows : List ℕ) → has_row rows r ≡ true → has_row (x ∷ rows) r ≡ true
 has_later x r rows h = or_right (x == r) (has_row rows r) h
 
@@ -52,11 +53,6 @@ has-filter test (r ∷ rows) q there passes =
         | false ↦ has-filter test rows q h passes
       ]
     ]
-
--- a list that ascends from a number ascends from each smaller one
-from_lower : (low m n : ℕ) (rows : List ℕ) → low ≤ m → AscendsFrom m n rows → AscendsFrom low n rows
-from_lower low m n [] l h = tt
-from_lower low m n (r ∷ rows) l h = (omega (arith, h.0), h.1, h.2)
 
 -- a filtered list ascends
 pub filter-ascends : (low n : ℕ) (test : ℕ → Bool) (rows : List ℕ) → AscendsFrom low n rows → AscendsFrom low n (filter test rows)

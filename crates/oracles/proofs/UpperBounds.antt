@@ -8,6 +8,7 @@ use Rattle.std.proofs.lemmas.Bool.Decides.{nat_tests}
 use Rattle.std.proofs.lemmas.List.Folds.{list_any-append}
 use Rattle.audit_types.specs.Rows.{has_row, rows_that, AreRows, AscendsFrom}
 use Rattle.audit_types.specs.RowLaws.{rows_that_agree, has-rows_that, has-rows_that_above, AreRows-rows_that, ascending_same, none_above}
+use Rattle.audit_types.specs.FilteredRows.{from_lower, has_filtered}
 use Rattle.audit_types.specs.Column.{Answer}
 use Rattle.audit_types.specs.declared.records.Answered.{Answered}
 use Rattle.audit_types.specs.History.{answers_of, answer_in}
@@ -30,7 +31,7 @@ least_turn : (a b : ℤ) (bound : Option ℤ) → least_of a (Some (least_of b b
 least_turn a b None = min_swap a b
 least_turn a b (Some c) = min_turn a b c
 
--- the bound of a row behind an answer: the least of both where the answer's set has the row
+-- the bound of a row after an answer: the least of both where the answer's set has the row
 abbrev pub bound_with : Bool → ℤ → Option ℤ → Option ℤ
 bound_with has a bound = cond has (Some (least_of a bound)) bound
 
@@ -67,50 +68,20 @@ module _ (column : ℕ) (history : List Answered) (i : ℕ) (r : Answered) (row 
   pub bound-other : r.column ≢ column → bound ≡ upper_bound (answers_of column (take (i + 1) history)) row
   bound-other other = before ∙ ap (λ answers. upper_bound answers row) (sym (answers_of-other column history i r l is (ne_eqb r.column column other)))
 
--- rows above a place are above an earlier one
-weaker : (low high n : ℕ) (rows : List ℕ) → low ≤ high → AscendsFrom high n rows → AscendsFrom low n rows
-weaker low high n [] l h = tt
-weaker low high n (r ∷ rows) l h = (omega arith, h.1, h.2)
-
 -- a row that passes stays in its place
 kept : (b : Bool) (low n r : ℕ) (rest : List ℕ) → low ≤ r → r < n → AscendsFrom (r + 1) n rest → AscendsFrom low n (cond b (r ∷ rest) rest)
 kept true low n r rest l m h = (l, m, h)
-kept false low n r rest l m h = weaker low (r + 1) n rest (omega arith) h
+kept false low n r rest l m h = from_lower low (r + 1) n rest (omega arith) h
 
 -- rows that pass still ascend
 ascends-filter : (p : ℕ → Bool) (low n : ℕ) (rows : List ℕ) → AscendsFrom low n rows → AscendsFrom low n (filter p rows)
 ascends-filter p low n [] h = tt
 ascends-filter p low n (r ∷ rows) h = kept (p r) low n r (filter p rows) h.0 h.1 (ascends-filter p (r + 1) n rows h.2)
 
--- a row that passes is there
-has_here : (b : Bool) (x r : ℕ) (rest : List ℕ) (p : ℕ → Bool) (later : Bool) → p x ≡ b → has_row rest r ≡ (later && p r) → (x == r) ≡ true → x ≡ r →
-    has_row (cond b (x ∷ rest) rest) r ≡ (((x == r) || later) && p r)
-has_here true x r rest p later e h test same = rw (test, ← same, e) refl
-has_here false x r rest p later e h test same = let gone : p r ≡ false = sym (ap p same) ∙ e in h ∙ rw (test, gone) (elim later as (λ l. (l && false) ≡ false) [ true ↦ refl | false ↦ refl ])
-
--- another row is as before
-has_there : (b : Bool) (x r : ℕ) (rest : List ℕ) (p : ℕ → Bool) (later : Bool) → has_row rest r ≡ (later && p r) → (x == r) ≡ false →
-    has_row (cond b (x ∷ rest) rest) r ≡ (((x == r) || later) && p r)
-has_there true x r rest p later h test = rw test h
-has_there false x r rest p later h test = rw test h
-
--- whether a row is there
-has_kept : (b : Bool) (x r : ℕ) (rest : List ℕ) (p : ℕ → Bool) (later : Bool) → p x ≡ b → has_row rest r ≡ (later && p r) →
-    has_row (cond b (x ∷ rest) rest) r ≡ (((x == r) || later) && p r)
-has_kept b x r rest p later e h = elim (cases_eq x r) [
-  | inl same ↦ has_here b x r rest p later e h (eq-eqb x r same) same
-  | inr other ↦ has_there b x r rest p later h (ne_eqb x r other)
-]
-
--- a row is there where it was and passes
-has-filter : (p : ℕ → Bool) (rows : List ℕ) (r : ℕ) → has_row (filter p rows) r ≡ (has_row rows r && p r)
-has-filter p [] r = refl
-has-filter p (x ∷ rows) r = has_kept (p x) x r (filter p rows) p (has_row rows r) refl (has-filter p rows r)
-
 -- the rows of a set that pass are a set
 pub filter-rows : (p : ℕ → Bool) (n : ℕ) (rows : List ℕ) → AreRows n rows → filter p rows ≡ rows_that (λ r. has_row rows r && p r) n
 filter-rows p n rows h = ascending_same 0 n n (filter p rows) (rows_that (λ r. has_row rows r && p r) n) (ascends-filter p 0 n rows h) (AreRows-rows_that (λ r. has_row rows r && p r) n) (λ r.
-    has-filter p rows r ∙ elim (cases_lt r n) [
+    has_filtered p rows r ∙ elim (cases_lt r n) [
       | inl l ↦ sym (has-rows_that (λ q. has_row rows q && p q) n r l)
       | inr l ↦ ap (λ b. b && p r) (none_above 0 n rows h r l) ∙ sym (has-rows_that_above (λ q. has_row rows q && p q) n r l)
     ])

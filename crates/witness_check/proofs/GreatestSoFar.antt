@@ -5,6 +5,7 @@ use Rattle.std.specs.List.{AllByRecursion, fold}
 use Rattle.audit_types.specs.Rows.{AscendsFrom, AreRows}
 use Rattle.audit_types.specs.Truth.{number_at}
 use Rattle.witness_check.specs.Pairs.{greater_of, greatest_of}
+use Rattle.audit_types.specs.FilteredRows.{rows_within}
 
 -- the greatest of what was seen and the numbers of the rows that are left
 abbrev pub greatest_with : List ℤ → Option ℤ → List ℕ → Option ℤ
@@ -18,10 +19,6 @@ from_some w g (r ∷ rows) = from_some w (int_max g (number_at w r)) rows
 from_none : (w : List ℤ) (rows : List ℕ) → greatest_with w None rows ≡ greatest_of w rows
 from_none w [] = refl
 from_none w (r ∷ rows) = from_some w (number_at w r) rows
-
-rows_within : (low n end : ℕ) (rows : List ℕ) → n ≤ end → AscendsFrom low n rows → AllByRecursion (λ q. q < end) rows
-rows_within low n end [] most are = tt
-rows_within low n end (q ∷ rows) most are = (omega (arith, are.1), rows_within (q + 1) n end rows most are.2)
 
 -- the rows that are left have numbers, and lead from the greatest so far to that of all
 pub record IsGreatestSoFar (w : List ℤ) (rows rest : List ℕ) (so_far : Option ℤ) : Type 0 where

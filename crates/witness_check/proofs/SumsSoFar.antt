@@ -7,12 +7,9 @@ use Rattle.std.proofs.lemmas.Int.{ints, to_z-of_z, fits_signed_from_abs}
 use Rattle.std.proofs.Math.IntN.{+ℤ_idl}
 use Rattle.audit_types.specs.Rows.{Rows, AscendsFrom, AreRows}
 use Rattle.audit_types.specs.RowLaws.{length-rows}
+use Rattle.audit_types.specs.FilteredRows.{rows_within}
 use Rattle.audit_types.specs.Truth.{number_at, sum_over}
 use Rattle.witness_check.specs.Directions.{IsSmall, HasZeroSums, lists_of}
-
-rows_within : (low n end : ℕ) (rows : List ℕ) → n ≤ end → AscendsFrom low n rows → AllByRecursion (λ q. q < end) rows
-rows_within low n end [] most are = tt
-rows_within low n end (q ∷ rows) most are = (omega (arith, are.1), rows_within (q + 1) n end rows most are.2)
 
 -- the sum so far leads to that of all rows, and is small enough for those that are left
 pub record IsSumSoFar (w : List ℤ) (rows rest : List ℕ) (sum : ℤ) : Type 0 where

@@ -3,8 +3,9 @@ use Rattle.std.specs.Int.{w64}
 use Rattle.std.proofs.lemmas.List.{map_more}
 use Rattle.std.proofs.lemmas.List.Filters.{dedup_is}
 use Rattle.max_bounds.specs.Maxima.{answer_of, answers_of}
-use Rattle.max_audit.proofs.CandidateLists.{pushed, widened, one_above, near-pushed, AreCandidates-sorted, near-sorted}
+use Rattle.max_audit.proofs.CandidateLists.{pushed, one_above, near-pushed, AreCandidates-sorted, near-sorted}
 use Rattle.max_audit.proofs.candidates.candidates_of.Goals as goal
+use Rattle.max_bounds.specs.AnswerLaws.{widened}
 
 pub loop-pair-preserved : goal.loop-pair-preserved
 loop-pair-preserved c =

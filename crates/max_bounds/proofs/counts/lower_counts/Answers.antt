@@ -3,8 +3,8 @@ use Rattle.audit_types.specs.Column.{Answer}
 use Rattle.max_bounds.specs.Maxima.{answer_of, answers_of}
 use Rattle.max_bounds.specs.Reaching.{bound_at, reaching}
 use Rattle.max_bounds.specs.Kept.{falls_of}
-use Rattle.max_bounds.specs.AnswerLaws.{all_at}
-use Rattle.max_bounds.proofs.FallingCounts.{set_behind, same_here, value_here, value_more, one_here, lengths_same}
+use Rattle.max_bounds.specs.AnswerLaws.{all_at, one_here}
+use Rattle.max_bounds.proofs.FallingCounts.{set_behind, same_here, value_here, value_more, lengths_same}
 use Rattle.max_bounds.proofs.counts.lower_counts.Goals as goal
 
 pub overflow_sub-counts : goal.overflow_sub-counts

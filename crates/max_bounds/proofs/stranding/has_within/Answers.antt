@@ -6,9 +6,9 @@ use Rattle.std.proofs.lemmas.Bool.{true≢false}
 use Rattle.audit_types.specs.Rows.{complement}
 use Rattle.max_bounds.specs.Maxima.{answer_of, answers_of}
 use Rattle.max_bounds.specs.Outside.{IsWithin, HasWithin}
-use Rattle.max_bounds.proofs.FallingCounts.{one_here}
 use Rattle.max_bounds.proofs.LostSets.{within-push}
 use Rattle.max_bounds.proofs.stranding.has_within.Goals as goal
+use Rattle.max_bounds.specs.AnswerLaws.{one_here}
 
 pub returns-then-is_within : goal.returns-then-is_within
 returns-then-is_within c =

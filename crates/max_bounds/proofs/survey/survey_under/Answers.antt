@@ -3,9 +3,9 @@ use Rattle.std.specs.Int.{w64}
 use Rattle.std.proofs.lemmas.List.{map_more}
 use Rattle.max_bounds.specs.Maxima.{answer_of}
 use Rattle.max_bounds.specs.Reaching.{bound_at, reaching, lone_of}
-use Rattle.max_bounds.proofs.Lowering.{widened}
 use Rattle.max_bounds.proofs.Surveys.{TellsOf-push}
 use Rattle.max_bounds.proofs.survey.survey_under.Goals as goal
+use Rattle.max_bounds.specs.AnswerLaws.{widened}
 
 pub loop-pair-preserved : goal.loop-pair-preserved
 loop-pair-preserved c =

@@ -3,8 +3,9 @@ use Rattle.std.specs.Int.{w64}
 use Rattle.std.proofs.lemmas.List.{map_more}
 use Rattle.max_bounds.specs.Maxima.{answer_of}
 use Rattle.max_bounds.specs.Reaching.{bound_at, bound_with}
-use Rattle.max_bounds.proofs.Lowering.{AreBounds-none, AreBounds-push, widened}
+use Rattle.max_bounds.proofs.Lowering.{AreBounds-none, AreBounds-push}
 use Rattle.max_bounds.proofs.upper_bounds.upper_bounds.Goals as goal
+use Rattle.max_bounds.specs.AnswerLaws.{widened}
 
 pub loop-pair-init : goal.loop-pair-init
 loop-pair-init c = AreBounds-none 1024
