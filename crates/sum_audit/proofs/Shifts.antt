@@ -8,17 +8,13 @@ use Rattle.audit_types.specs.Truth.{number_at, sum_over}
 use Rattle.sum_basis.specs.Combination.{both, times, combine}
 use Rattle.audit_types.specs.Products.{times-add, times_assoc}
 use Rattle.sum_audit.specs.Dot.{dot}
+use Rattle.audit_types.specs.PrimitiveLines.{number_at-times}
 
 number_at-both : (w d : List ℤ) (r : ℕ) → number_at (both w d) r ≡ number_at w r +ℤ number_at d r
 number_at-both [] d r = sym (+ℤ_idl (number_at d r))
 number_at-both (x ∷ w) [] r = sym (+ℤ_idr (number_at (x ∷ w) r))
 number_at-both (x ∷ w) (y ∷ d) zero = refl
 number_at-both (x ∷ w) (y ∷ d) (suc r) = number_at-both w d r
-
-number_at-times : (k : ℤ) (d : List ℤ) (r : ℕ) → number_at (times k d) r ≡ k *ℤ number_at d r
-number_at-times k [] r = sym (*ℤ-zero k)
-number_at-times k (x ∷ d) zero = refl
-number_at-times k (x ∷ d) (suc r) = number_at-times k d r
 
 length-both : (w d : List ℤ) (n : ℕ) → length w ≡ n → length d ≡ n → length (both w d) ≡ n
 length-both [] d n e h = h

@@ -3,22 +3,26 @@ use Rattle.std.proofs.Common.{◌≡◌, ◌≢◌, ℕ, zero, suc, ◌<◌, Boo
 use Rattle.std.specs.Prelude.{◌+ℤ◌, ◌*ℤ◌, neg_ℤ, ◌<ℤ◌}
 use Rattle.std.specs.List.{AllByRecursion}
 use Rattle.std.proofs.Math.IntN.{*ℤ_comm, zero-*ℤ, *ℤ-zero}
-use Rattle.std.proofs.lemmas.Bool.{cases_lt, eq-eqb}
+use Rattle.std.proofs.lemmas.Bool.{cases_lt, eq-eqb, or_parts}
 use Rattle.std.proofs.lemmas.Int.{ints}
 use Rattle.std.proofs.lemmas.List.{get_or_past, length-map}
 use Rattle.audit_types.specs.Rows.{AreRows}
 use Rattle.audit_types.specs.Truth.{number_at, sum_over}
 use Rattle.audit_types.specs.Form.{pivot, pivot_entry, IsPrimitive, Reduced}
 use Rattle.audit_types.specs.Direction.{IsDirection, IsPinned, IsCanonicalDirection, is_pivot, free_column_of}
-use Rattle.audit_types.specs.Products.{times-add}
+use Rattle.audit_types.specs.Products.{times-add, zero_product}
 use Rattle.sum_basis.specs.Laws.{FormsAreUnique}
 use Rattle.sum_audit.specs.Dot.{dot}
 use Rattle.sum_audit.specs.DotLaws.{dot_two}
 use Rattle.sum_audit.specs.Laws.{DirectionsByForm}
 use Rattle.witness_build.specs.Directions.{IsSmall, IsForm, IsSolved, IsSolvedWith, Solves, IsDivided}
-use Rattle.witness_build.proofs.FormRows.{left_false, right_false, ZeroAtOthers, zero_at_others}
+use Rattle.witness_build.proofs.FormRows.{ZeroAtOthers, zero_at_others}
 use Rattle.witness_build.proofs.FreeColumns.{Reaches, IsFreeColumn, free_column_found}
-use Rattle.witness_build.proofs.Dividing.{product_zero, number_at-multiple, small_divided}
+use Rattle.witness_build.proofs.Dividing.{small_divided}
+use Rattle.audit_types.specs.PrimitiveLines.{number_at-times}
+
+product_zero : (a b : ℤ) → a ≢ pos 0 → a *ℤ b ≡ pos 0 → b ≡ pos 0
+product_zero a b h e = zero_product a b e h
 
 pivot_below : (n : ℕ) (row : List ℤ) → IsPrimitive n row → pivot row < n
 pivot_below n row p = elim (cases_lt (pivot row) n) [
@@ -29,8 +33,8 @@ pivot_below n row p = elim (cases_lt (pivot row) n) [
 no_pivot : (rows : List (List ℤ)) (j : ℕ) → is_pivot rows j ≡ false → AllByRecursion (λ r. j ≢ pivot r) rows
 no_pivot [] j e = tt
 no_pivot (r ∷ rows) j e = (
-  (λ same. let there = eq-eqb (pivot r) j (sym same) in let not_there = left_false (pivot r == j) (is_pivot rows j) e in absurd cc),
-  no_pivot rows j (right_false (pivot r == j) (is_pivot rows j) e),
+  (λ same. let there = eq-eqb (pivot r) j (sym same) in let not_there = (or_parts (pivot r == j) (is_pivot rows j) e).0 in absurd cc),
+  no_pivot rows j (or_parts (pivot r == j) (is_pivot rows j) e).1,
 )
 
 module _ (n : ℕ) (form : List (List ℤ)) (free : ℕ) (d : List ℤ) (common : ℤ) (below : free < n) (solved : IsSolvedWith n common form free d) where
@@ -77,7 +81,7 @@ module _ (n : ℕ) (form : List (List ℤ)) (free : ℕ) (d : List ℤ) (common 
 sum_over-multiple : (k : ℤ) (d : List ℤ) (rows : List ℕ) → sum_over (map (λ x. k *ℤ x) d) rows ≡ k *ℤ sum_over d rows
 sum_over-multiple k d [] = sym (*ℤ-zero k)
 sum_over-multiple k d (r ∷ rows) =
-    let first = number_at-multiple k d r in
+    let first = number_at-times k d r in
     let rest = sum_over-multiple k d rows in
     let whole = times-add k (number_at d r) (sum_over d rows) in
     omega (arith, ints)
@@ -105,7 +109,7 @@ module _ (directions : DirectionsByForm) (unique : FormsAreUnique) (n : ℕ) (se
 
     module _ (d : List ℤ) (divided : IsDivided solved i d) where
       factor_not_zero : divided.factor ≢ pos 0
-      factor_not_zero e = moves (ap (λ l. number_at l i) divided.is_multiple ∙ number_at-multiple divided.factor d i ∙ ap (λ z. z *ℤ number_at d i) e ∙ zero-*ℤ (number_at d i))
+      factor_not_zero e = moves (ap (λ l. number_at l i) divided.is_multiple ∙ number_at-times divided.factor d i ∙ ap (λ z. z *ℤ number_at d i) e ∙ zero-*ℤ (number_at d i))
 
       pub divided_length : length d ≡ n
       divided_length = sym (length-map d (λ x. divided.factor *ℤ x)) ∙ ap length (sym divided.is_multiple) ∙ is_solved.2.one_each
@@ -120,7 +124,7 @@ module _ (directions : DirectionsByForm) (unique : FormsAreUnique) (n : ℕ) (se
           zero_sums = zero_sums_divided divided.factor d sets factor_not_zero (subst (λ l. AllByRecursion (λ s. sum_over l s ≡ pos 0) sets) divided.is_multiple solved_direction.zero_sums);
         };
         free = λ j none other. product_zero divided.factor (number_at d j) factor_not_zero
-            (sym (number_at-multiple divided.factor d j) ∙ ap (λ l. number_at l j) (sym divided.is_multiple) ∙ is_solved.2.elsewhere j none (λ e. other (e ∙ is_column)));
+            (sym (number_at-times divided.factor d j) ∙ ap (λ l. number_at l j) (sym divided.is_multiple) ∙ is_solved.2.elsewhere j none (λ e. other (e ∙ is_column)));
         content = divided.content;
         positive = divided.positive;
       }

@@ -13,6 +13,8 @@ use Rattle.audit_types.specs.Form.{IsContent, pivot_entry}
 use Rattle.int_rows.specs.Primitive.{IsMadePrimitive}
 use Rattle.audit_types.specs.Products.{neg-times}
 use Rattle.witness_build.specs.Directions.{IsSmall, IsDivided}
+use Rattle.int_rows.specs.PrimitiveLaws.{size_above}
+use Rattle.audit_types.specs.PrimitiveLines.{number_at-times}
 
 -- the numbers below i are turned, and those from i on are as they were
 pub record IsPartlyTurned (old new : List ℤ) (i : ℕ) : Type 0 where
@@ -46,29 +48,12 @@ module _ (x : ℤ) (fits : FitsSigned w128 x) (small : unsigned_abs x ≤ 2 ^ 12
   pub turn_is : to_z w128 (of_z w128 (pos 0 -ℤ to_z w128 (of_z w128 x))) ≡ neg_ℤ x
   turn_is = to_z-of_z w128 (pos 0 -ℤ to_z w128 (of_z w128 x)) turn_fits ∙ ap (λ z. pos 0 -ℤ z) (to_z-of_z w128 x fits) ∙ less_is x
 
-size_zero : (z : ℤ) → unsigned_abs z ≡ 0 → z ≡ pos 0
-size_zero (pos n) h = ap pos h
-size_zero (negsuc n) h = absurd (omega arith)
-
-size_positive : (z : ℤ) → z ≢ pos 0 → 0 < unsigned_abs z
-size_positive (pos zero) h = absurd (h refl)
-size_positive (pos (suc n)) h = omega arith
-size_positive (negsuc n) h = omega arith
-
 -- a factor that isn't 0 makes no number less in size
 pub size_of_factor : (a b : ℤ) → a ≢ pos 0 → unsigned_abs b ≤ unsigned_abs (a *ℤ b)
 size_of_factor a b h =
     let product = unsigned_abs-mul a b in
-    let more = le-mul_of_pos_right (unsigned_abs b) (size_positive a h) in
+    let more = le-mul_of_pos_right (unsigned_abs b) (size_above a h) in
     omega arith
-
-pub product_zero : (a b : ℤ) → a ≢ pos 0 → a *ℤ b ≡ pos 0 → b ≡ pos 0
-product_zero a b h e = size_zero b (let none = ap unsigned_abs e in let more = size_of_factor a b h in omega arith)
-
-pub number_at-multiple : (k : ℤ) (d : List ℤ) (j : ℕ) → number_at (map (λ x. k *ℤ x) d) j ≡ k *ℤ number_at d j
-number_at-multiple k [] j = sym (*ℤ-zero k)
-number_at-multiple k (x ∷ d) zero = refl
-number_at-multiple k (x ∷ d) (suc j) = number_at-multiple k d j
 
 pub small_divided : (k : ℤ) (d : List ℤ) → k ≢ pos 0 → IsSmall (map (λ x. k *ℤ x) d) → IsSmall d
 small_divided k [] h s = tt
@@ -118,7 +103,7 @@ module _ (old new : List ℤ) (row : ℕ) (moves : number_at old row ≢ pos 0) 
   content_one = MatchBool-at_false (new ≡ old) (IsContent new 1 × (pos 0 <ℤ pivot_entry new)) (some_left old row moves) made.primitive
 
   still_moves : number_at new row ≢ pos 0
-  still_moves e = moves (ap (λ l. number_at l row) made.is_multiple ∙ number_at-multiple made.factor new row ∙ ap (λ z. made.factor *ℤ z) e ∙ *ℤ-zero made.factor)
+  still_moves e = moves (ap (λ l. number_at l row) made.is_multiple ∙ number_at-times made.factor new row ∙ ap (λ z. made.factor *ℤ z) e ∙ *ℤ-zero made.factor)
 
   -- where the number at the row isn't negative, it is positive
   pub divided_positive : pos 0 ≤ℤ number_at new row → IsDivided old row new
@@ -135,7 +120,7 @@ module _ (old new : List ℤ) (row : ℕ) (moves : number_at old row ≢ pos 0) 
 
   -- the numbers that are to be turned are small
   pub made_small : IsSmall old → IsSmall new
-  made_small s = small_divided made.factor new (λ e. moves (ap (λ l. number_at l row) made.is_multiple ∙ number_at-multiple made.factor new row ∙ ap (λ z. z *ℤ number_at new row) e ∙ *ℤ_comm (pos 0) (number_at new row) ∙ *ℤ-zero (number_at new row))) (subst IsSmall made.is_multiple s)
+  made_small s = small_divided made.factor new (λ e. moves (ap (λ l. number_at l row) made.is_multiple ∙ number_at-times made.factor new row ∙ ap (λ z. z *ℤ number_at new row) e ∙ *ℤ_comm (pos 0) (number_at new row) ∙ *ℤ-zero (number_at new row))) (subst IsSmall made.is_multiple s)
 
 -- small numbers are within what may be divided and turned
 pub within_126 : (d : List ℤ) → IsSmall d → AllByRecursion (λ x. unsigned_abs x ≤ 2 ^ 126) d

@@ -1,22 +1,12 @@
 -- Rows of a reduced form at each other's pivots.
 use Rattle.std.proofs.Common.{◌≡◌, ◌≢◌, ℕ, zero, suc, ◌<◌, Bool, true, false, ◌||◌, ◌==◌, ℤ, pos, negsuc, List, [], ◌∷◌, ◌++◌, length, get_or, take, refl, sym, ap, ◌∙◌, arith, inl, inr}
 use Rattle.std.specs.List.{AllByRecursion}
-use Rattle.std.proofs.lemmas.Bool.{or_cases, or_left, eqb-true, eq-eqb}
+use Rattle.std.proofs.lemmas.Bool.{or_cases, or_left, eqb-true, eq-eqb, or_right}
 use Rattle.std.proofs.lemmas.List.Folds.{list_any-append}
 use Rattle.std.proofs.lemmas.Int.{ints}
 use Rattle.audit_types.specs.Truth.{number_at, is_zero}
 use Rattle.audit_types.specs.Form.{pivot, IsEchelon, StandsBefore}
 use Rattle.audit_types.specs.Direction.{is_pivot}
-
--- where neither of two tests holds, the first doesn't
-pub left_false : (a b : Bool) → (a || b) ≡ false → a ≡ false
-left_false true b e = absurd cc
-left_false false b e = refl
-
--- and the second doesn't
-pub right_false : (a b : Bool) → (a || b) ≡ false → b ≡ false
-right_false true b e = absurd cc
-right_false false b e = e
 
 -- the row is 0 at the pivots but its own
 abbrev pub ZeroAtOthers : List (List ℤ) → List ℤ → Type 0
@@ -53,11 +43,7 @@ zero_at_others (row ∷ rows) h = (
 pub is_pivot_at : (form : List (List ℤ)) (k : ℕ) → k < length form → is_pivot form (pivot (get_or form k [])) ≡ true
 is_pivot_at [] k h = absurd (omega arith)
 is_pivot_at (row ∷ rows) zero h = or_left (pivot row == pivot row) (is_pivot rows (pivot row)) (eq-eqb (pivot row) (pivot row) refl)
-is_pivot_at (row ∷ rows) (suc k) h = any_right (pivot row == pivot (get_or rows k [])) _ (is_pivot_at rows k (omega arith))
-  where
-    any_right : (a b : Bool) → b ≡ true → (a || b) ≡ true
-    any_right true b e = refl
-    any_right false b e = e
+is_pivot_at (row ∷ rows) (suc k) h = or_right (pivot row == pivot (get_or rows k [])) _ (is_pivot_at rows k (omega arith))
 
 stands_before_at : (row : List ℤ) (rows : List (List ℤ)) (k : ℕ) → k < length rows → AllByRecursion (StandsBefore row) rows → pivot row < pivot (get_or rows k [])
 stands_before_at row [] k l h = absurd (omega arith)
@@ -74,11 +60,6 @@ other_pivots (row ∷ rows) (suc k) h l = ((λ e. let before = stands_before_at 
 pub is_pivot-more : (rows : List (List ℤ)) (row : List ℤ) (j : ℕ) → is_pivot (rows ++ row ∷ []) j ≡ (is_pivot rows j || (pivot row == j || false))
 is_pivot-more rows row j = list_any-append (λ r. pivot r == j) rows (row ∷ [])
 
-pub zero_from_test : (z : ℤ) → is_zero z ≡ true → z ≡ pos 0
-zero_from_test (pos zero) e = refl
-zero_from_test (pos (suc n)) e = absurd cc
-zero_from_test (negsuc n) e = absurd cc
-
 pub not_zero_from_test : (z : ℤ) → is_zero z ≡ false → z ≢ pos 0
 not_zero_from_test (pos zero) e h = absurd cc
 not_zero_from_test (pos (suc n)) e h = omega (arith, ints)
@@ -88,8 +69,3 @@ pub test_of_zero : (z : ℤ) → z ≡ pos 0 → is_zero z ≡ true
 test_of_zero (pos zero) e = refl
 test_of_zero (pos (suc n)) e = absurd (omega (arith, ints))
 test_of_zero (negsuc n) e = absurd (omega (arith, ints))
-
-pub test_of_not_zero : (z : ℤ) → z ≢ pos 0 → is_zero z ≡ false
-test_of_not_zero (pos zero) e = absurd (e refl)
-test_of_not_zero (pos (suc n)) e = refl
-test_of_not_zero (negsuc n) e = refl

@@ -2,7 +2,7 @@
 use Rattle.std.proofs.Common.{◌≡◌, ◌≢◌, ℕ, zero, suc, ◌+◌, ◌<◌, ◌≤◌, Bool, true, false, cond, ◌||◌, ◌==◌, ℤ, pos, List, [], ◌∷◌, length, get_or, drop, refl, sym, ap, ◌∙◌, arith, inl, inr, ◌⊎◌, add-one, drop-cons}
 use Rattle.std.specs.Prelude.{◌*ℤ◌, ◌<ℤ◌}
 use Rattle.std.specs.List.{AllByRecursion}
-use Rattle.std.proofs.lemmas.Bool.{or_cases, or_left, eqb-true, eq-eqb, ne_eqb, cases_lt}
+use Rattle.std.proofs.lemmas.Bool.{or_cases, or_left, eqb-true, eq-eqb, ne_eqb, cases_lt, or_right, or_from, or_parts, false_from_ne_true}
 use Rattle.std.proofs.lemmas.Int.{ints}
 use Rattle.std.proofs.lemmas.List.Elements.{All-from_recursion}
 use Rattle.std.proofs.Math.IntN.{*ℤ_comm, zero-*ℤ}
@@ -15,7 +15,8 @@ use Rattle.sum_audit.specs.Dot.{dot}
 use Rattle.sum_audit.specs.DotLaws.{dot_one}
 use Rattle.sum_audit.specs.Laws.{DirectionsByForm}
 use Rattle.witness_build.specs.Directions.{IsForm}
-use Rattle.witness_build.proofs.FormRows.{left_false, right_false, ZeroAtOthers, zero_at_others, is_pivot_at, zero_from_test, not_zero_from_test, test_of_zero, test_of_not_zero}
+use Rattle.witness_build.proofs.FormRows.{ZeroAtOthers, zero_at_others, is_pivot_at, not_zero_from_test, test_of_zero}
+use Rattle.int_rows.specs.PrimitiveLaws.{false_if, zero_if}
 
 -- the search from column j on
 abbrev pub free_from : List (List ℤ) → List ℤ → ℕ → ℕ
@@ -27,17 +28,6 @@ passes form x row j e = ap (λ b. cond b (first_free form row (j + 1)) j) e
 stops : (form : List (List ℤ)) (x : ℤ) (row : List ℤ) (j : ℕ) → (is_pivot form j || is_zero x) ≡ false → first_free form (x ∷ row) j ≡ j
 stops form x row j e = ap (λ b. cond b (first_free form row (j + 1)) j) e
 
-right_of : (a b : Bool) → b ≡ true → (a || b) ≡ true
-right_of true b e = refl
-right_of false b e = e
-
-neither : (a b : Bool) → a ≡ false → b ≡ false → (a || b) ≡ false
-neither a b e h = ap (λ x. x || b) e ∙ h
-
-false_unless : (b : Bool) → (b ≡ true → ⊥) → b ≡ false
-false_unless true never = absurd (never refl)
-false_unless false never = refl
-
 module _ (form : List (List ℤ)) (k : ℕ) (below : k < length form) where
   -- a column that is the row's pivot or 0 is passed over
   pub one_passed : (j : ℕ) → j < length (get_or form k []) → (j ≡ pivot (get_or form k [])) ⊎ (number_at (get_or form k []) j ≡ pos 0) → free_from form (get_or form k []) j ≡ free_from form (get_or form k []) (j + 1)
@@ -45,7 +35,7 @@ module _ (form : List (List ℤ)) (k : ℕ) (below : k < length form) where
       let row = get_or form k [] in
       let test : (is_pivot form j || is_zero (number_at row j)) ≡ true = elim why [
         | inl e ↦ or_left (is_pivot form j) (is_zero (number_at row j)) (ap (is_pivot form) e ∙ is_pivot_at form k below)
-        | inr e ↦ right_of (is_pivot form j) (is_zero (number_at row j)) (test_of_zero (number_at row j) e)
+        | inr e ↦ or_right (is_pivot form j) (is_zero (number_at row j)) (test_of_zero (number_at row j) e)
       ] in
       ap (λ l. first_free form l j) (drop-cons row j (pos 0) inside) ∙ passes form (number_at row j) (drop (suc j) row) j test ∙ ap (λ i. first_free form (drop i row) (j + 1)) (sym (add-one j))
 
@@ -54,7 +44,7 @@ module _ (form : List (List ℤ)) (k : ℕ) (below : k < length form) where
   one_stops n h j inside other some =
       let row = get_or form k [] in
       let zero_elsewhere = All-from_recursion (ZeroAtOthers form) form (zero_at_others form h.echelon) k [] below in
-      let test = neither (is_pivot form j) (is_zero (number_at row j)) (false_unless (is_pivot form j) (λ there. some (zero_elsewhere j there other))) (test_of_not_zero (number_at row j) some) in
+      let test = or_from (is_pivot form j) (is_zero (number_at row j)) (false_from_ne_true (is_pivot form j) (λ there. some (zero_elsewhere j there other))) (false_if (number_at row j) some) in
       ap (λ l. first_free form l j) (drop-cons row j (pos 0) inside) ∙ stops form (number_at row j) (drop (suc j) row) j test
 
 pub none_left : (form : List (List ℤ)) (row : List ℤ) (j : ℕ) → length row ≤ j → free_from form row j ≡ j
@@ -100,7 +90,7 @@ record IsFirstFree (form : List (List ℤ)) (row : List ℤ) (s j : ℕ) : Type 
   hit : j < s + length row → (is_pivot form j ≡ false) × ((i : ℕ) → s + i ≡ j → number_at row i ≢ pos 0)
   before : (i : ℕ) → s + i < j → (is_pivot form (s + i) || is_zero (number_at row i)) ≡ true
 
--- a column that is passed over, and the search behind it
+-- a column that is passed over, and the search after it
 passed_over : (form : List (List ℤ)) (x : ℤ) (row : List ℤ) (s j : ℕ) → (is_pivot form s || is_zero x) ≡ true → IsFirstFree form row (s + 1) j → IsFirstFree form (x ∷ row) s j
 passed_over form x row s j e rest =
     let start = rest.from in
@@ -125,12 +115,12 @@ stopped_at : (form : List (List ℤ)) (x : ℤ) (row : List ℤ) (s : ℕ) → (
 stopped_at form x row s e = record {
   from = omega arith;
   within = omega arith;
-  hit = λ l. (left_false (is_pivot form s) (is_zero x) e, here);
+  hit = λ l. ((or_parts (is_pivot form s) (is_zero x) e).0, here);
   before = λ i l. absurd (omega arith);
 }
   where
     here : (i : ℕ) → s + i ≡ s → number_at (x ∷ row) i ≢ pos 0
-    here zero same = not_zero_from_test x (right_false (is_pivot form s) (is_zero x) e)
+    here zero same = not_zero_from_test x (or_parts (is_pivot form s) (is_zero x) e).1
     here (suc i) same = absurd (omega arith)
 
 by_test : (form : List (List ℤ)) (x : ℤ) (row : List ℤ) (s j : ℕ) (b : Bool) → (is_pivot form s || is_zero x) ≡ b → IsFirstFree form row (s + 1) j → IsFirstFree form (x ∷ row) s (cond b j s)
@@ -193,7 +183,7 @@ module _ (n : ℕ) (sets : List (List ℕ)) (form : List (List ℤ)) (row : List
           let same : 0 + k ≡ k = omega arith in
           elim (or_cases (is_pivot form k) (is_zero (number_at row k)) (ap (λ m. is_pivot form m || is_zero (number_at row k)) (sym same) ∙ first)) [
             | inl there ↦ h.zeros.0 k there (λ equal. other (equal ∙ e))
-            | inr none ↦ zero_from_test (number_at row k) none
+            | inr none ↦ zero_if (number_at row k) none
           ]
 
   by_pivot : (b : Bool) (j : ℕ) → (pivot row == i) ≡ b → ((pivot row == i) ≡ false → IsFreeColumn form rows n i j) → IsFreeColumn form (row ∷ rows) n i (cond b (first_free form row 0) j)

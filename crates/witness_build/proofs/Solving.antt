@@ -5,7 +5,7 @@ use Rattle.std.specs.Int.{w128, ◌∣◌}
 use Rattle.std.specs.List.{AllByRecursion}
 use Rattle.std.proofs.Math.Nat.{mul-le-mul}
 use Rattle.std.proofs.Math.IntN.{pos-*ℤ-pos}
-use Rattle.std.proofs.lemmas.Bool.{eq-eqb}
+use Rattle.std.proofs.lemmas.Bool.{eq-eqb, or_parts}
 use Rattle.std.proofs.lemmas.Int.{ints, to_z-of_z, to_z_pos, unsigned_abs-mul, fits_signed_from_abs}
 use Rattle.std.proofs.lemmas.List.{get_or-set_same, get_or-set_other, take_more, length-set}
 use Rattle.std.proofs.lemmas.Nat.{div-add-mod'}
@@ -15,7 +15,7 @@ use Rattle.audit_types.specs.Form.{pivot, pivot_entry, pivot_entries}
 use Rattle.audit_types.specs.Direction.{is_pivot}
 use Rattle.audit_types.specs.Products.{neg-times, times_assoc}
 use Rattle.witness_build.specs.Directions.{IsSmall, IsForm, Solves, IsSolvedWith}
-use Rattle.witness_build.proofs.FormRows.{left_false, right_false, is_pivot_at, other_pivots, is_pivot-more}
+use Rattle.witness_build.proofs.FormRows.{is_pivot_at, other_pivots, is_pivot-more}
 
 -- how often the pivot entry goes into the common multiple
 pub record IsQuotient (common pivot_entry : ℤ) (times : ℕ) : Type 0 where
@@ -122,9 +122,9 @@ solved_more n common rows row free p d x e below apart others so_far is = record
       (ap (λ z. z *ℤ pivot_entry row) (ap (number_at (set d p x)) (sym e) ∙ get_or-set_same d p x (pos 0) (let long = so_far.one_each in omega arith)) ∙ is.exact);
   elsewhere = λ j none other.
       let neither = sym (is_pivot-more rows row j) ∙ none in
-      let here = left_false (pivot row == j) false (right_false (is_pivot rows j) (pivot row == j || false) neither) in
+      let here = (or_parts (pivot row == j) false (or_parts (is_pivot rows j) (pivot row == j || false) neither).1).0 in
       get_or-set_other d p j x (pos 0) (λ same. absurd (different (pivot row == j) here (eq-eqb (pivot row) j (sym e ∙ sym same))))
-      ∙ so_far.elsewhere j (left_false (is_pivot rows j) (pivot row == j || false) neither) other;
+      ∙ so_far.elsewhere j (or_parts (is_pivot rows j) (pivot row == j || false) neither).0 other;
   small = small-set d p x so_far.small is.small;
 }
   where
@@ -171,6 +171,6 @@ take_past [] (suc k) h = refl
 take_past (row ∷ rows) zero h = absurd (omega arith)
 take_past (row ∷ rows) (suc k) h = ap (λ l. row ∷ l) (take_past rows k (omega arith))
 
--- behind the last row all are solved
+-- after the last row all are solved
 pub all_solved : (n : ℕ) (common : ℤ) (form : List (List ℤ)) (k free : ℕ) (d : List ℤ) → length form ≤ k → IsSolvedWith n common (take k form) free d → IsSolvedWith n common form free d
 all_solved n common form k free d h so_far = subst (λ rows. IsSolvedWith n common rows free d) (take_past form k h) so_far
