@@ -13,9 +13,9 @@ use Rattle.max_bounds.specs.declared.answered.AnsweredMax.{AnsweredMax}
 use Rattle.max_bounds.proofs.HighRows.{all_inserted}
 
 -- the answers after one are not above it
-pub behind : (seen : List Answer) (x : Answer) (rest : List Answer) → Descend (seen ++ x ∷ rest) → AllByRecursion (λ b. b.value ≤ℤ x.value) rest
-behind [] x rest h = h.0
-behind (y ∷ seen) x rest h = behind seen x rest h.1
+pub descends_after : (seen : List Answer) (x : Answer) (rest : List Answer) → Descend (seen ++ x ∷ rest) → AllByRecursion (λ b. b.value ≤ℤ x.value) rest
+descends_after [] x rest h = h.0
+descends_after (y ∷ seen) x rest h = descends_after seen x rest h.1
 
 -- nor above what is not below it
 pub all_below : (low high : ℤ) (sets : List Answer) → low ≤ℤ high → AllByRecursion (λ b. b.value ≤ℤ low) sets → AllByRecursion (λ b. b.value ≤ℤ high) sets
