@@ -1,22 +1,11 @@
 -- The answers of a column, one record at a time.
 use Rattle.std.proofs.Common.{◌≡◌, ℕ, suc, zero, ◌+◌, ◌<◌, Bool, true, false, cond, ◌==◌, List, [], ◌∷◌, ◌++◌, map, length, refl, sym, ap, ◌∙◌, arith, take, get_or, append-nil}
 use Rattle.std.specs.List.{AllByRecursion, filter}
-use Rattle.std.proofs.lemmas.List.{take_more, map-append}
-use Rattle.std.proofs.lemmas.List.Elements.{filter-append}
+use Rattle.std.proofs.lemmas.List.{take_more}
 use Rattle.audit_types.specs.declared.records.Answered.{Answered}
 use Rattle.audit_types.specs.Column.{Answer}
+use Rattle.audit_types.specs.HistoryLaws.{answers_of-append}
 use Rattle.audit_types.specs.History.{answers_of, answer_in}
-
--- what holds of each holds at a place
-pub at : {X : Type 0} (P : X → Type 0) (xs : List X) (i : ℕ) (d : X) → AllByRecursion P xs → i < length xs → P (get_or xs i d)
-at P [] i d h l = absurd (omega arith)
-at P (x ∷ xs) zero d h l = h.0
-at P (x ∷ xs) (suc i) d h l = at P xs i d h.1 (omega arith)
-
--- what holds of each of two lists holds of both
-pub all-append : {X : Type 0} (P : X → Type 0) (xs ys : List X) → AllByRecursion P xs → AllByRecursion P ys → AllByRecursion P (xs ++ ys)
-all-append P [] ys p q = q
-all-append P (x ∷ xs) ys p q = (p.0, all-append P xs ys p.1 q)
 
 -- the answer of a record, if it is one of the column
 abbrev pub answer_if : Bool → Answered → List Answer
@@ -32,8 +21,7 @@ pub answers_of-more : (column : ℕ) (history : List Answered) (i : ℕ) (r : An
     answers_of column (take (i + 1) history) ≡ answers_of column (take i history) ++ answer_if (r.column == column) r
 answers_of-more column history i r l is =
     ap (answers_of column) (take_more history i r l ∙ ap (λ x. take i history ++ x ∷ []) (sym is))
-    ∙ ap (map answer_in) (filter-append (λ x. x.column == column) (take i history) (r ∷ []))
-    ∙ map-append answer_in (filter (λ x. x.column == column) (take i history)) (cond (r.column == column) (r ∷ []) [])
+    ∙ answers_of-append column (take i history) (r ∷ [])
     ∙ ap (λ xs. answers_of column (take i history) ++ xs) (one_record (r.column == column) r)
 
 -- a record of the column
