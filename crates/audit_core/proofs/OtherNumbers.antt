@@ -15,7 +15,7 @@ use Rattle.audit_types.specs.Column.{Known, Answer, Agrees, GivesSameAnswers, Is
 use Rattle.audit_types.specs.Direction.{IsPinned}
 use Rattle.sum_audit.specs.Laws.{SpannedOrMoved, PinnedByUnitRow, DangerousByPins}
 use Rattle.max_audit.specs.Laws.{PossibleByExtremes, FixedByLoneRows, LoneOrFree}
-use Rattle.audit_core.proofs.OwnAnswers.{all_before}
+use Rattle.audit_types.specs.ElementLaws.{all-front, all-push}
 
 -- another list that gives all the answers, with another number in row i
 pub record HasOther (known : Known) (w : List ℤ) (i : ℕ) : Type 0 where
@@ -93,19 +93,11 @@ all_sets : (n : ℕ) (answers : List Answer) → AllByRecursion (λ a. AreRows n
 all_sets n [] all = tt
 all_sets n (a ∷ answers) all = (all.0, all_sets n answers all.1)
 
-last_of : (P : Answer → Type 0) (answers : List Answer) (a : Answer) → AllByRecursion P (answers ++ a ∷ []) → P a
-last_of P [] a all = all.0
-last_of P (b ∷ answers) a all = last_of P answers a all.1
-
-all_with : (P : Answer → Type 0) (answers : List Answer) (a : Answer) → AllByRecursion P answers → P a → AllByRecursion P (answers ++ a ∷ [])
-all_with P [] a all last = (last, tt)
-all_with P (b ∷ answers) a all last = (all.0, all_with P answers a all.1 last)
-
 -- a list that agrees with the answers and one more agreed before it
 agrees_before : (kind : Kind) (n : ℕ) (answers : List Answer) (a : Answer) (w : List ℤ) → Agrees (known_with kind n answers a) w → Agrees (known_before kind n answers) w
 agrees_before kind n answers a w agrees = record {
   one_each = agrees.one_each;
-  same = all_before (λ b. truth kind w b.rows ≡ b.value) answers (a ∷ []) agrees.same;
+  same = (all-front (λ b. truth kind w b.rows ≡ b.value) answers a agrees.same).0;
 }
 
 -- a list that agrees and gives the same answer to one question more agrees with this answer too
@@ -113,8 +105,8 @@ agrees_with : (kind : Kind) (n : ℕ) (answers : List Answer) (a : Answer) (w v 
     GivesSameAnswers (known_before kind n answers) a.rows w v → Agrees (known_with kind n answers a) v
 agrees_with kind n answers a w v agrees same = record {
   one_each = same.agrees.one_each;
-  same = all_with (λ b. truth kind v b.rows ≡ b.value) answers a same.agrees.same
-      (same.same ∙ last_of (λ b. truth kind w b.rows ≡ b.value) answers a agrees.same);
+  same = all-push (λ b. truth kind v b.rows ≡ b.value) answers a same.agrees.same
+      (same.same ∙ (all-front (λ b. truth kind w b.rows ≡ b.value) answers a agrees.same).1);
 }
 
 module _ (spanned_or_moved : SpannedOrMoved) (pinned_by_unit_row : PinnedByUnitRow) (dangerous_by_pins : DangerousByPins) where
