@@ -10,31 +10,20 @@ use Rattle.std.proofs.lemmas.List.{get_or_past}
 use Rattle.std.proofs.lemmas.Bool.{cases_lt, cases_eq, cases_Bool, eqb-true}
 use Rattle.std.proofs.Math.IntN.{*ℤ_comm, *ℤ-zero}
 use Rattle.audit_types.specs.Rows.{AreRows}
-use Rattle.audit_types.specs.Truth.{number_at, sum_over}
-use Rattle.audit_types.specs.Form.{set_row, pivot, pivot_entry, InSpan, IsPrimitive, Reduced}
+use Rattle.audit_types.specs.Truth.{number_at}
+use Rattle.audit_types.specs.Form.{set_row, pivot, pivot_entry, IsPrimitive, Reduced}
 use Rattle.audit_types.specs.Direction.{IsDirection, is_pivot, first_free, free_column_of, IsCanonicalDirection}
 use Rattle.audit_types.specs.Products.{times-add, times_assoc, neg-times, zero_factor, zero_product}
 use Rattle.audit_types.specs.PrimitiveLines.{one_primitive}
-use Rattle.audit_types.proofs.Totals.{total-agree, total-add, total-times, total-single, product, product-set_row, product-span}
-use Rattle.audit_types.proofs.Pivots.{IsZeroAtOthers, zero_at_others, at_pivot, first_free_entry}
+use Rattle.audit_types.specs.Totals.{total-agree, total-add, total-times, total-single, product, products_in_span, products_from_sums}
+use Rattle.audit_types.specs.FormRows.{IsZeroAtOthers, zero_at_others, at_pivot}
+use Rattle.audit_types.proofs.FirstFree.{first_free_entry}
 
--- the products of a direction with the rows of the sets are 0
-on_sets : (n : ℕ) (d : List ℤ) (sets : List (List ℕ)) → AllByRecursion (AreRows n) sets → AllByRecursion (λ s. sum_over d s ≡ pos 0) sets →
-    AllByRecursion (λ row. product row (number_at d) n ≡ pos 0) (map (set_row n) sets)
-on_sets n d [] are zeros = tt
-on_sets n d (s ∷ sets) are zeros = (product-set_row d n s are.0 ∙ zeros.0, on_sets n d sets are.1 zeros.1)
-
--- and so are those with each row of their span
-on_spanned : (n : ℕ) (x : ℕ → ℤ) (rows some : List (List ℤ)) → AllByRecursion (λ r. product r x n ≡ pos 0) rows → AllByRecursion (InSpan rows) some →
-    AllByRecursion (λ r. product r x n ≡ pos 0) some
-on_spanned n x rows [] zeros spans = tt
-on_spanned n x rows (r ∷ some) zeros spans = (product-span x n rows r zeros spans.0, on_spanned n x rows some zeros spans.1)
-
--- with those of the reduced form too
+-- the products of a direction with the rows of the reduced form are 0
 on_form : (n : ℕ) (sets : List (List ℕ)) (form : List (List ℤ)) (d : List ℤ) → AllByRecursion (AreRows n) sets → Reduced n sets form → IsDirection n sets d →
     AllByRecursion (λ row. product row (number_at d) n ≡ pos 0) form
 on_form n sets form d are reduced direction =
-    on_spanned n (number_at d) (map (set_row n) sets) form (on_sets n d sets are direction.zero_sums) reduced.within
+    products_in_span n (number_at d) (map (set_row n) sets) form (products_from_sums n d sets are direction.zero_sums) reduced.within
 
 -- numbers whose products with the rows of a form are 0, and that are 0 at a row and at every free column but the row's own
 module _ (n : ℕ) (form : List (List ℤ)) (i : ℕ) (h : ℕ → ℤ) (past : (j : ℕ) → n ≤ j → h j ≡ pos 0) (here : h i ≡ pos 0)

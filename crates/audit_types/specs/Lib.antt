@@ -18,5 +18,10 @@ pub mod Laws
 pub mod Words
 pub mod RowsLeft
 pub mod WordLaws
+pub mod Numbers
+pub mod ListLaws
+pub mod RowNumbers
 pub mod Products
 pub mod PrimitiveLines
+pub mod FormRows
+pub mod Totals

@@ -2,7 +2,6 @@
 use Rattle.std.proofs.Common.{◌≡◌, ℕ, zero, suc, ◌+◌, ◌*◌, ◌<◌, ◌%◌, ◌/◌, ℤ, pos, negsuc, List, [], ◌∷◌, length, map, refl, sym, ap, ◌∙◌, subst, arith, inl, inr}
 use Rattle.std.specs.Prelude.{◌+ℤ◌, ◌*ℤ◌, neg_ℤ, ◌<ℤ◌, unsigned_abs}
 use Rattle.std.specs.Int.{◌∣◌, IsGcd}
-use Rattle.std.specs.List.{AllByRecursion}
 use Rattle.std.proofs.lemmas.Int.{ints, unsigned_abs-mul}
 use Rattle.std.proofs.lemmas.Nat.{mod_below, div-add-mod'}
 use Rattle.std.proofs.Math.Nat.{mul-add-mod_self_left, mul-lt-mul_of_pos_left, mod-eq_of_lt}
@@ -12,6 +11,8 @@ use Rattle.std.proofs.lemmas.Bool.{cases_eq}
 use Rattle.std.proofs.Math.IntN.{*ℤ_comm, *ℤ-zero}
 use Rattle.audit_types.specs.Truth.{number_at}
 use Rattle.audit_types.specs.Form.{IsContent}
+use Rattle.audit_types.specs.ListLaws.{all-weaker}
+use Rattle.audit_types.specs.Numbers.{size_positive}
 use Rattle.audit_types.specs.Products.{add-times, neg-times, zero_factor}
 
 -- k times each number
@@ -38,15 +39,10 @@ scaled_gcd k p (suc n) a b h =
           (rest.0, IsGcd-from_mod a b rest.0 rest.1, IsGcd-from_mod (k * a) (k * b) (k * rest.0) (subst (λ m. IsGcd (k * b) m (k * rest.0)) (sym (mod_scaled k a b p (omega arith))) rest.2))
     ]
 
--- a divisor of a divisor divides too
-weaker : (g h : ℕ) (xs : List ℤ) → h ∣ g → AllByRecursion (λ y. g ∣ unsigned_abs y) xs → AllByRecursion (λ y. h ∣ unsigned_abs y) xs
-weaker g h [] d all = tt
-weaker g h (x ∷ xs) d all = (dvd_trans h d all.0, weaker g h xs d all.1)
-
 -- the content of a list with one number more
 IsContent-cons : (x : ℤ) (xs : List ℤ) (g h : ℕ) → IsContent xs g → IsGcd (unsigned_abs x) g h → IsContent (x ∷ xs) h
 IsContent-cons x xs g h content common = record {
-  divides = (common.0, weaker g h xs common.1 content.divides);
+  divides = (common.0, all-weaker (λ y. g ∣ unsigned_abs y) (λ y. h ∣ unsigned_abs y) (λ y d. dvd_trans h common.1 d) xs content.divides);
   greatest = λ d all. common.2 d all.0 (content.greatest d all.1);
 }
 
@@ -72,11 +68,6 @@ content_times k row p one =
     let any = scaled_content k p row in
     let same = content_unique row any.0 1 any.1 one in
     subst (IsContent (times k row)) (ap (λ m. unsigned_abs k * m) same ∙ omega arith) any.2
-
--- a positive number has a positive size
-pub size_positive : (x : ℤ) → pos 0 <ℤ x → 0 < unsigned_abs x
-size_positive (pos n) h = omega (arith, ints)
-size_positive (negsuc n) h = absurd (omega (arith, ints))
 
 -- positive numbers of one size are one
 same_size : (x y : ℤ) → pos 0 <ℤ x → pos 0 <ℤ y → unsigned_abs x ≡ unsigned_abs y → x ≡ y

@@ -1,10 +1,11 @@
 -- Facts on products of whole numbers, for all crates above.
-use Rattle.std.proofs.Common.{◌≡◌, ◌≢◌, zero, suc, ◌*◌, ℤ, pos, negsuc, sym, ap, ◌∙◌, arith, inl, inr}
+use Rattle.std.proofs.Common.{◌≡◌, ◌≢◌, zero, suc, ◌≤◌, ◌*◌, ℤ, pos, negsuc, sym, ap, ◌∙◌, arith, inl, inr}
 use Rattle.std.specs.Prelude.{◌+ℤ◌, ◌*ℤ◌, neg_ℤ, ◌<ℤ◌, unsigned_abs}
 use Rattle.std.proofs.lemmas.Int.{ints, unsigned_abs-mul}
 use Rattle.std.proofs.Math.IntN.{+ℤ_idl, +ℤ_invr, suc_ℤ-+ℤ, pred_ℤ-+ℤ, suc_ℤ-*ℤ, pred_ℤ-*ℤ, *ℤ_comm, zero-*ℤ}
 use Rattle.std.proofs.Math.Nat.{le-mul_of_pos_right}
 use Rattle.std.proofs.lemmas.Bool.{cases_eq}
+use Rattle.audit_types.specs.Numbers.{zero_size, size_above, size_positive}
 
 -- a sum times a number
 pub add-times : (x y r : ℤ) → (x +ℤ y) *ℤ r ≡ x *ℤ r +ℤ y *ℤ r
@@ -59,23 +60,13 @@ times_assoc (negsuc (suc n)) c r =
     let minus = neg-times c r in
     omega (arith, ints)
 
--- only 0 has the size 0
-pub zero_size : (c : ℤ) → unsigned_abs c ≡ 0 → c ≡ pos 0
-zero_size (pos n) h = ap pos h
-zero_size (negsuc n) h = absurd (omega arith)
-
--- a positive number has some size
-above_zero : (p : ℤ) → pos 0 <ℤ p → unsigned_abs p ≢ 0
-above_zero (pos n) h e = let none : n ≡ 0 = e in omega (arith, ints)
-above_zero (negsuc n) h e = omega (arith, ints)
-
 -- a product with a positive number is 0 only where the other factor is
 pub zero_factor : (c p : ℤ) → c *ℤ p ≡ pos 0 → pos 0 <ℤ p → c ≡ pos 0
 zero_factor c p e h =
     let sizes : unsigned_abs c * unsigned_abs p ≡ 0 = sym (unsigned_abs-mul c p) ∙ ap unsigned_abs e in
     zero_size c (elim (cases_eq (unsigned_abs c) 0) [
       | inl z ↦ z
-      | inr n ↦ let more = le-mul_of_pos_right {m = unsigned_abs c} (unsigned_abs p) (omega arith) in absurd (above_zero p h (omega arith))
+      | inr n ↦ let more = le-mul_of_pos_right {m = unsigned_abs c} (unsigned_abs p) (omega arith) in absurd (let some = size_positive p h in omega arith)
     ])
 
 -- a product is 0 only where a factor is
@@ -87,3 +78,11 @@ zero_product c p e h = zero_size p (elim (cases_eq (unsigned_abs p) 0) [
       let more = le-mul_of_pos_right {m = unsigned_abs p} (unsigned_abs c) (omega arith) in
       absurd (h (zero_size c (omega arith)))
 ])
+
+-- a product of factors that aren't 0 isn't
+pub product_not_zero : (c x : ℤ) → c ≢ pos 0 → x ≢ pos 0 → (c *ℤ x) ≢ pos 0
+product_not_zero c x p q e = q (zero_product c x e p)
+
+-- a factor that isn't 0 makes no number less in size
+pub size_of_factor : (c x : ℤ) → c ≢ pos 0 → unsigned_abs x ≤ unsigned_abs (c *ℤ x)
+size_of_factor c x n = rw (unsigned_abs-mul c x) (let more = le-mul_of_pos_right {m = unsigned_abs c} (unsigned_abs x) (size_above c n) in omega arith)

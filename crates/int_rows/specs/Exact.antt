@@ -1,5 +1,5 @@
 -- Facts on the exact division of signed numbers.
-use Rattle.std.proofs.Common.{◌≡◌, ◌≢◌, ℕ, zero, suc, ℤ, pos, negsuc, ◌≤◌, ◌<◌, ◌*◌, ◌^◌, List, map, get_or, set, length, ◌+◌, inl, inr, ap, sym, ◌∙◌, arith, refl}
+use Rattle.std.proofs.Common.{◌≡◌, ◌≢◌, ℕ, ℤ, pos, negsuc, ◌≤◌, ◌<◌, ◌*◌, ◌^◌, List, map, get_or, set, length, ◌+◌, inl, inr, ap, sym, ◌∙◌, arith, refl}
 use Rattle.std.specs.Prelude.{unsigned_abs, FitsSigned, int_div, int_rem, ◌*ℤ◌}
 use Rattle.std.specs.Int.{◌∣◌, w64, w128}
 use Rattle.std.proofs.lemmas.Int.{ints, quot-rem, quot_is, unsigned_abs-mul, fits_signed_from_abs}
@@ -8,6 +8,7 @@ use Rattle.std.proofs.Math.IntN.{*ℤ_comm}
 use Rattle.std.proofs.Math.Nat.{le-mul_of_pos_right}
 use Rattle.std.proofs.lemmas.List.{same_lists, get_or_default, get_or-map, length-map, get_or-set_same, get_or-set_other}
 use Rattle.std.proofs.lemmas.Bool.{cases_eq}
+use Rattle.audit_types.specs.Numbers.{size_above}
 use mir.Val.{to_z, of_z}
 use lib.Signed.{quot_z}
 
@@ -22,15 +23,10 @@ exact a d h =
     let all : int_div a d *ℤ d ≡ a = omega (arith, ints, whole, none) in
     sym all ∙ *ℤ_comm (int_div a d) d
 
-positive : (d : ℤ) → d ≢ pos 0 → 0 < unsigned_abs d
-positive (pos zero) n = absurd (n refl)
-positive (pos (suc d)) n = omega arith
-positive (negsuc d) n = omega arith
-
 quot_small : (a d : ℤ) → d ≢ pos 0 → unsigned_abs d ∣ unsigned_abs a → unsigned_abs (int_div a d) ≤ unsigned_abs a
 quot_small a d n h =
     let size : unsigned_abs a ≡ unsigned_abs d * unsigned_abs (int_div a d) = ap unsigned_abs (exact a d h) ∙ unsigned_abs-mul d (int_div a d) in
-    let more = le-mul_of_pos_right (unsigned_abs (int_div a d)) (positive d n) in
+    let more = le-mul_of_pos_right (unsigned_abs (int_div a d)) (size_above d n) in
     omega (arith, size, more)
 
 -- what the code's `/` gives

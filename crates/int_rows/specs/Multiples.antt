@@ -1,17 +1,10 @@
 -- Facts on multiples of two numbers: the product over the greatest common divisor is the least one.
-use Rattle.std.proofs.Common.{◌≡◌, ℕ, zero, suc, ◌+◌, ◌*◌, ◌/◌, ◌%◌, ◌<◌, ◌≤◌, [], ◌∷◌, sym, ap, ◌∙◌, subst, arith, inl, inr}
+use Rattle.std.proofs.Common.{◌≡◌, ℕ, zero, suc, ◌*◌, ◌/◌, ◌<◌, [], ◌∷◌, sym, ap, ◌∙◌, subst, arith}
 use Rattle.std.specs.Int.{◌∣◌, IsGcd}
-use Rattle.std.proofs.lemmas.Nat.{mod_below, div-add-mod'}
-use Rattle.std.proofs.lemmas.Nat.Gcd.{IsGcd-from_zero, IsGcd-from_mod, same_from_IsGcd, dvd-zero, dvd_refl, le_of_dvd}
-use Rattle.std.proofs.lemmas.Bool.{cases_eq}
-use Rattle.std.proofs.Math.Nat.{mul-add-mod_self_left, mul-lt-mul_of_pos_left, mod-eq_of_lt, mul-div_cancel', div-mul_cancel, dvd-mul_left, dvd-mul_right, mul-dvd-mul_right, dvd_of_mul-dvd-mul_right, eq-zero_of_zero-dvd}
+use Rattle.std.proofs.lemmas.Nat.Gcd.{same_from_IsGcd, dvd-zero, dvd_refl}
+use Rattle.std.proofs.Math.Nat.{mul-div_cancel', div-mul_cancel, dvd-mul_left, dvd-mul_right, mul-dvd-mul_right, dvd_of_mul-dvd-mul_right, pos_of_dvd_of_pos}
 use Rattle.audit_types.specs.Form.{IsLeastCommonMultiple}
 use Rattle.audit_types.specs.PrimitiveLines.{scaled_gcd}
-
--- a number that is not 0 has no divisor 0
-pub positive_divisor : (a b g : ℕ) → 0 < a → IsGcd a b g → 0 < g
-positive_divisor a b zero p common = absurd (let none = eq-zero_of_zero-dvd common.0 in omega arith)
-positive_divisor a b (suc g) p common = omega arith
 
 common_multiple_is : (a b g : ℕ) → IsGcd a b g → a / g * b ≡ a * (b / g)
 common_multiple_is a b g common =
@@ -37,7 +30,7 @@ divides_multiples a b g (suc k) p common one two =
 pub least_multiple : (a b g : ℕ) → 0 < a → IsGcd a b g → IsLeastCommonMultiple (a ∷ b ∷ []) (a / g * b)
 least_multiple a b g p common = record {
   multiple = (subst (λ m. a ∣ m) (sym (common_multiple_is a b g common)) (dvd-mul_right a (b / g)), (dvd-mul_left b (a / g), tt));
-  least = λ k all. divides_multiples a b g k (positive_divisor a b g p common) common all.0 all.1.0;
+  least = λ k all. divides_multiples a b g k (pos_of_dvd_of_pos common.0 p) common all.0 all.1.0;
 }
 
 -- of 1 and a number, and of a number and itself, the number is the least multiple
@@ -46,7 +39,3 @@ least_of_one a b h = record { multiple = (h, (dvd_refl b, tt)); least = λ k all
 
 pub least_with_one : (a b : ℕ) → b ∣ a → IsLeastCommonMultiple (a ∷ b ∷ []) a
 least_with_one a b h = record { multiple = (dvd_refl a, (h, tt)); least = λ k all. all.0 }
-
--- a divisor of a number that is not 0 is at most the number
-pub divisor_small : (a b g : ℕ) → 0 < a → IsGcd a b g → g ≤ a
-divisor_small a b g p common = le_of_dvd p common.0

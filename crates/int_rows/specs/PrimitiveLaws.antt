@@ -1,6 +1,6 @@
 -- Facts on a row over its signed content: it is primitive.
-use Rattle.std.proofs.Common.{◌≡◌, ◌≢◌, ℕ, zero, suc, ◌+◌, ◌*◌, ◌<◌, ◌≤◌, ◌^◌, Bool, true, false, not, cond, ◌&&◌, ℤ, pos, negsuc, List, [], ◌∷◌, map, refl, sym, ap, ◌∙◌, subst, arith, inl, inr, ◌⊎◌}
-use Rattle.std.specs.Prelude.{unsigned_abs, ◌*ℤ◌, ◌+ℤ◌, ◌<ℤ◌, ◌≤ℤ◌}
+use Rattle.std.proofs.Common.{◌≡◌, ◌≢◌, ℕ, zero, suc, ◌+◌, ◌*◌, ◌<◌, ◌≤◌, ◌^◌, Bool, true, false, not, cond, ◌&&◌, ℤ, pos, negsuc, List, [], ◌∷◌, map, refl, sym, ap, ◌∙◌, subst, arith, inl, inr}
+use Rattle.std.specs.Prelude.{unsigned_abs, ◌*ℤ◌, ◌<ℤ◌, ◌≤ℤ◌}
 use Rattle.std.specs.Int.{◌∣◌}
 use Rattle.std.specs.Bool.{MatchBool}
 use Rattle.std.specs.Prelude.{FitsSigned}
@@ -10,51 +10,25 @@ use Rattle.std.specs.List.{AllByRecursion, list_all}
 use Rattle.std.proofs.lemmas.Int.{ints, unsigned_abs-mul, to_z-of_z, fits_signed_from_abs}
 use Rattle.std.proofs.lemmas.Nat.Gcd.{dvd_refl, le_of_dvd}
 use Rattle.std.proofs.lemmas.Bool.{true≢false, and_parts, and_from}
-use Rattle.std.proofs.Math.Nat.{one-dvd, mul-dvd-mul_left, eq-zero_of_zero-dvd, le-mul_of_pos_right}
-use Rattle.std.proofs.Math.IntN.{*ℤ-zero, zero-*ℤ, +ℤ_idl, suc_ℤ-*ℤ, pos-*ℤ-negsuc, negsuc-*ℤ-negsuc}
+use Rattle.std.proofs.Math.Nat.{mul-dvd-mul_left, eq-zero_of_zero-dvd}
+use Rattle.std.proofs.Math.IntN.{*ℤ-zero, *ℤ_comm, *ℤ-one, pos-*ℤ-negsuc, negsuc-*ℤ-negsuc}
 use Rattle.audit_types.specs.Truth.{number_at, is_zero}
 use Rattle.audit_types.specs.Form.{IsContent, pivot, pivot_entry}
-use Rattle.audit_types.specs.Products.{zero_size}
+use Rattle.audit_types.specs.Numbers.{zero_or_not, zero_from_test, test_of_not_zero, size_above, zero_size}
+use Rattle.audit_types.specs.Products.{product_not_zero}
 use Rattle.audit_types.specs.PrimitiveLines.{number_at-times}
 use Rattle.int_rows.specs.ContentLaws.{all-ones}
 use Rattle.int_rows.specs.Primitive.{IsMadePrimitive, IsSignedContent}
 
-pub zero_or_not : (z : ℤ) → (z ≡ pos 0) ⊎ (z ≢ pos 0)
-zero_or_not (pos zero) = inl refl
-zero_or_not (pos (suc n)) = inr (λ e. omega (arith, ints))
-zero_or_not (negsuc n) = inr (λ e. omega (arith, ints))
-
-pub false_if : (z : ℤ) → z ≢ pos 0 → is_zero z ≡ false
-false_if (pos zero) n = absurd (n refl)
-false_if (pos (suc m)) n = refl
-false_if (negsuc m) n = refl
-
-pub zero_if : (z : ℤ) → is_zero z ≡ true → z ≡ pos 0
-zero_if (pos zero) h = refl
-zero_if (pos (suc m)) h = absurd (true≢false (sym h))
-zero_if (negsuc m) h = absurd (true≢false (sym h))
-
-pub size_above : (z : ℤ) → z ≢ pos 0 → 0 < unsigned_abs z
-size_above (pos zero) n = absurd (n refl)
-size_above (pos (suc m)) n = omega arith
-size_above (negsuc m) n = omega arith
-
-pub product_not_zero : (c x : ℤ) → c ≢ pos 0 → x ≢ pos 0 → (c *ℤ x) ≢ pos 0
-product_not_zero c x p q e =
-    let sizes : unsigned_abs c * unsigned_abs x ≡ 0 = sym (unsigned_abs-mul c x) ∙ ap unsigned_abs e in
-    let one = size_above c p in
-    let two = size_above x q in
-    let more = le-mul_of_pos_right {m = unsigned_abs c} (unsigned_abs x) one in
-    omega arith
-
 is_zero-times : (c x : ℤ) → c ≢ pos 0 → is_zero (c *ℤ x) ≡ is_zero x
 is_zero-times c x n = elim (zero_or_not x) [
   | inl e ↦ ap is_zero (ap (λ z. c *ℤ z) e ∙ *ℤ-zero c ∙ sym e)
-  | inr m ↦ false_if (c *ℤ x) (product_not_zero c x n m) ∙ sym (false_if x m)
+  | inr m ↦ test_of_not_zero (c *ℤ x) (product_not_zero c x n m) ∙ sym (test_of_not_zero x m)
 ]
 
 pub times_one : (x : ℤ) → x ≡ pos 1 *ℤ x
-times_one x = sym (suc_ℤ-*ℤ (pos zero) x ∙ ap (λ z. z +ℤ x) (zero-*ℤ x) ∙ +ℤ_idl x)
+unfolding lib.IntN.one
+times_one x = sym (*ℤ_comm (pos 1) x ∙ *ℤ-one x)
 
 pub one_times : (xs : List ℤ) → xs ≡ map (λ x. pos 1 *ℤ x) xs
 one_times [] = refl
@@ -72,7 +46,7 @@ pivot_times c (x ∷ xs) n =
 all_zeros : (xs : List ℤ) → list_all is_zero xs ≡ true → AllByRecursion (λ x. 0 ∣ unsigned_abs x) xs
 all_zeros [] h = tt
 all_zeros (x ∷ xs) h = let parts = and_parts (is_zero x) (list_all is_zero xs) h in
-    (subst (λ m. 0 ∣ m) (sym (ap unsigned_abs (zero_if x parts.0))) (dvd_refl 0), all_zeros xs parts.1)
+    (subst (λ m. 0 ∣ m) (sym (ap unsigned_abs (zero_from_test x parts.0))) (dvd_refl 0), all_zeros xs parts.1)
 
 -- zeros have content 0 alone
 zeros_content : (xs : List ℤ) (g : ℕ) → list_all is_zero xs ≡ true → IsContent xs g → g ≡ 0
@@ -108,7 +82,7 @@ not_zero_lead (x ∷ xs) h = elim (zero_or_not x) [
       let step : pivot (x ∷ xs) ≡ suc (pivot xs) = ap (λ b. cond (not (not b)) (1 + pivot xs) 0) z ∙ omega arith in
       λ same. not_zero_lead xs rest (sym (ap (number_at (x ∷ xs)) step) ∙ same)
   | inr m ↦
-      let z : is_zero x ≡ false = false_if x m in
+      let z : is_zero x ≡ false = test_of_not_zero x m in
       let step : pivot (x ∷ xs) ≡ 0 = ap (λ b. cond (not (not b)) (1 + pivot xs) 0) z in
       λ same. m (sym (ap (number_at (x ∷ xs)) step) ∙ same)
 ]

@@ -9,8 +9,8 @@ use Rattle.std.proofs.Math.IntN.{*ℤ-zero}
 use Rattle.audit_types.specs.Truth.{number_at}
 use Rattle.audit_types.specs.Form.{IsPrimitive, pivot, pivot_entry}
 use Rattle.audit_types.specs.PrimitiveLines.{number_at-times}
-use Rattle.audit_types.specs.Products.{neg-times}
-use Rattle.int_rows.specs.PrimitiveLaws.{product_not_zero, size_above, zero_or_not}
+use Rattle.audit_types.specs.Products.{neg-times, product_not_zero}
+use Rattle.audit_types.specs.Numbers.{size_above, zero_or_not}
 use Rattle.sum_basis.specs.declared.sparse.FreeEntry.{FreeEntry}
 use Rattle.sum_basis.specs.declared.sparse.SparseRow.{SparseRow}
 use Rattle.sum_basis.specs.Elimination.{IsSmall, IsCleared, IsLone}

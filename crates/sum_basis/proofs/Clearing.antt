@@ -12,9 +12,9 @@ use Rattle.audit_types.specs.Truth.{number_at, is_zero}
 use Rattle.audit_types.specs.Form.{InSpan, IsContent, IsPrimitive, IsEchelon, StandsBefore, pivot, pivot_entry}
 use Rattle.int_rows.specs.Primitive.{IsMadePrimitive}
 use Rattle.sum_basis.specs.Elimination.{IsCleared, AreCleared}
-use Rattle.int_rows.specs.PrimitiveLaws.{product_not_zero, zero_if, zero_or_not}
 use Rattle.audit_types.specs.PrimitiveLines.{number_at-times}
-use Rattle.audit_types.specs.Products.{neg-times}
+use Rattle.audit_types.specs.Products.{neg-times, product_not_zero}
+use Rattle.audit_types.specs.Numbers.{zero_from_test, zero_or_not}
 use Rattle.sum_basis.proofs.Spans.{spans_from, in_span_from, spans_same, spans_times, ZeroAtPivots}
 use Rattle.sum_basis.specs.Combination.{times, combine}
 use Rattle.sum_basis.proofs.FormsAreUnique.{zero_before, pivot_is}
@@ -23,7 +23,7 @@ use Rattle.sum_basis.proofs.Reduction.{number_at-combine, length-combine, span_c
 -- a row that is all zeros is 0 at each place
 pub all_zeros_at : (xs : List ℤ) (j : ℕ) → list_all is_zero xs ≡ true → number_at xs j ≡ pos 0
 all_zeros_at [] j h = refl
-all_zeros_at (x ∷ xs) zero h = zero_if x (and_parts (is_zero x) (list_all is_zero xs) h).0
+all_zeros_at (x ∷ xs) zero h = zero_from_test x (and_parts (is_zero x) (list_all is_zero xs) h).0
 all_zeros_at (x ∷ xs) (suc j) h = all_zeros_at xs j (and_parts (is_zero x) (list_all is_zero xs) h).1
 
 -- a row with an entry that is not 0 is not all zeros

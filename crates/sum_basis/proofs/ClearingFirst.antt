@@ -3,7 +3,7 @@ use Rattle.std.proofs.Common.{◌≡◌, ℕ, zero, suc, ◌+◌, ◌<◌, ◌�
 use Rattle.std.specs.List.{AllByRecursion}
 use Rattle.std.proofs.lemmas.List.{length-take-le, take_more}
 use Rattle.audit_types.specs.Form.{IsPrimitive}
-use Rattle.int_rows.specs.ContentLaws.{all-push}
+use Rattle.audit_types.specs.ListLaws.{all-push}
 use Rattle.sum_basis.specs.Elimination.{IsSmall, IsZeroAtPivots, IsCleared, AreCleared}
 use Rattle.sum_basis.specs.Growth.{ClearsFirst, ClearsWide}
 use Rattle.sum_basis.proofs.Clearing.{cleared_all}

@@ -8,8 +8,8 @@ use Rattle.std.proofs.lemmas.Int.{ints}
 use Rattle.std.proofs.lemmas.Bool.{cases_eq}
 use Rattle.std.proofs.Math.IntN.{*ℤ-zero}
 use Rattle.audit_types.specs.Truth.{is_zero}
-use Rattle.audit_types.specs.Products.{times-add}
-use Rattle.int_rows.specs.PrimitiveLaws.{zero_or_not, false_if, product_not_zero}
+use Rattle.audit_types.specs.Products.{times-add, product_not_zero}
+use Rattle.audit_types.specs.Numbers.{zero_or_not, test_of_not_zero}
 use Rattle.sum_basis.specs.declared.sparse.FreeEntry.{FreeEntry}
 use Rattle.sum_basis.specs.Sparse.{entry_at, IsListed}
 use Rattle.sum_basis.specs.Merging.{first_value}
@@ -104,7 +104,7 @@ module _ (n : ℕ) (es : List FreeEntry) (k place : ℕ) (number : ℤ) (h : IsL
     pub replaced_listed : IsListed 0 n replaced
     replaced_listed = elim (zero_or_not v) [
       | inl z ↦ rw (ap is_zero z) (listed_remove 0 n es k h)
-      | inr other ↦ rw (false_if v other) (subst (IsListed 0 n) (sym set_is) (listed_set 0 n es k v f.within h other))
+      | inr other ↦ rw (test_of_not_zero v other) (subst (IsListed 0 n) (sym set_is) (listed_set 0 n es k v f.within h other))
     ]
 
     -- what stood at the place, as a choice by the column
@@ -119,7 +119,7 @@ module _ (n : ℕ) (es : List FreeEntry) (k place : ℕ) (number : ℤ) (h : IsL
     replaced_at j = elim (zero_or_not v) [
       | inl z ↦ rw (ap is_zero z)
           (let less = entry_at-remove es k j f.within in let old = was j in let sum = both (nat_eq place j) in let gone = ap (λ x. cond (nat_eq place j) x (pos 0)) z ∙ nothing (nat_eq place j) in omega (arith, ints))
-      | inr other ↦ rw (false_if v other)
+      | inr other ↦ rw (test_of_not_zero v other)
           (let changed = ap (λ l. entry_at l j) set_is in let new = entry_at-set es k v j f.within in let old = was j in let now = ap (λ p. cond (nat_eq p j) v (pos 0)) f.at_place in let sum = both (nat_eq place j) in omega (arith, ints))
     ]
       where

@@ -1,7 +1,6 @@
 -- The new row that a set gives, and what becomes of the form with it.
 use Rattle.std.proofs.Common.{◌≡◌, ℕ, ◌<◌, ℤ, pos, List, [], ◌∷◌, ◌++◌, sym, subst}
 use Rattle.audit_types.specs.Form.{InSpan, pivot, pivot_entry}
-use Rattle.int_rows.specs.ContentLaws.{all-front}
 use Rattle.sum_basis.specs.Basis.{Echelon}
 use Rattle.sum_basis.specs.Combination.{times}
 use Rattle.sum_basis.specs.Elimination.{IsSmallForm, IsRemainder}
@@ -11,6 +10,7 @@ use Rattle.sum_basis.proofs.Clearing.{line_zero, span_times, positive_not_zero, 
 use Rattle.sum_basis.proofs.Reduction.{span_line}
 use Rattle.sum_basis.proofs.Remainders.{in_span, nothing_left, span_to_left, span_from_left, IsLine}
 use Rattle.audit_types.specs.Truth.{number_at}
+use Rattle.audit_types.specs.ListLaws.{all-front}
 use Rattle.sum_basis.proofs.Exactness.{other_row}
 
 module _ (old : Echelon) (v left : List ℤ) (f : IsSmallForm old.n old.rows) (rest : (m : ℕ) × (0 < m) × IsRemainder old.rows (times (pos m) v) left) where

@@ -11,9 +11,9 @@ use Rattle.audit_types.specs.Truth.{number_at, is_zero}
 use Rattle.audit_types.specs.Form.{combined, InSpan, pivot, pivot_entry, IsPrimitive, IsEchelon, StandsBefore}
 use Rattle.audit_types.specs.Products.{neg-times, zero_factor}
 use Rattle.audit_types.specs.PrimitiveLines.{one_primitive}
+use Rattle.audit_types.specs.Numbers.{zero_or_not}
 use Rattle.sum_basis.specs.Laws.{FormsAreUnique}
 use Rattle.sum_basis.proofs.Spans.{spans_from, spans_times, spans_add, span_zero, span_trans_all, combined_zero, ZeroAtPivots}
-use Rattle.int_rows.specs.PrimitiveLaws.{zero_or_not}
 
 -- the row is one of these
 abbrev pub IsRowOf : List ℤ → List (List ℤ) → Type 0

@@ -5,7 +5,7 @@ use Rattle.std.specs.List.{AllByRecursion}
 use Rattle.std.proofs.lemmas.Bool.{ltb-true, ltb-false}
 use Rattle.audit_types.specs.Truth.{number_at}
 use Rattle.audit_types.specs.Form.{InSpan, IsPrimitive, IsEchelon, StandsBefore, IsReducedForm, pivot, pivot_entry}
-use Rattle.int_rows.specs.ContentLaws.{all-push, all-front}
+use Rattle.audit_types.specs.ListLaws.{all-push, all-front}
 use Rattle.sum_basis.specs.Elimination.{IsZeroAtPivots, AreCleared}
 use Rattle.sum_basis.proofs.FormsAreUnique.{leads_from, own}
 use Rattle.sum_basis.proofs.Clearing.{still_echelon, still_zero, primitives, zeros_there, spans_there, spans_back, positive_not_zero}

@@ -10,8 +10,9 @@ use Rattle.std.proofs.lemmas.List.{take_more}
 use Rattle.std.proofs.lemmas.Nat.Gcd.{dvd_trans, dvd_antisymm, le_of_dvd}
 use Rattle.std.proofs.Math.Nat.{one-dvd, eq-zero_of_zero-dvd, dvd-mul_left, dvd-mul_right}
 use Rattle.audit_types.specs.Form.{IsLeastCommonMultiple, pivot_entry, pivot_entries}
-use Rattle.int_rows.specs.ContentLaws.{all-push, all-front, all-weaker}
-use Rattle.audit_types.specs.PrimitiveLines.{scaled_gcd, size_positive}
+use Rattle.audit_types.specs.PrimitiveLines.{scaled_gcd}
+use Rattle.audit_types.specs.ListLaws.{all-push, all-front, all-weaker}
+use Rattle.audit_types.specs.Numbers.{size_positive}
 use Rattle.int_rows.specs.Multiples.{least_multiple}
 use Rattle.sum_basis.proofs.Spans.{positive_product}
 

@@ -9,12 +9,12 @@ use Rattle.std.proofs.Math.Nat.{dvd-mul_right, mul-dvd-mul_left, mul-pos}
 use Rattle.std.proofs.Math.Seq.{take-length}
 use Rattle.std.proofs.lemmas.List.Elements.{All-from_recursion}
 use Rattle.audit_types.specs.Form.{InSpan, IsPrimitive, IsReducedForm, IsLeastCommonMultiple, pivot, pivot_entry, pivot_entries}
-use Rattle.int_rows.specs.ContentLaws.{all-push}
+use Rattle.audit_types.specs.ListLaws.{all-push}
+use Rattle.audit_types.specs.Numbers.{size_positive}
 use Rattle.sum_basis.specs.Basis.{Echelon, HasUnitRow}
 use Rattle.sum_basis.specs.Elimination.{IsSmall, IsSmallForm, IsZeroAtPivots, IsCleared, AreCleared, IsLone}
 use Rattle.sum_basis.specs.Growth.{ClearsFirst, GrowsTo, GrowsWide}
 use Rattle.sum_basis.proofs.FormsAreUnique.{own, leads_from}
-use Rattle.audit_types.specs.PrimitiveLines.{size_positive}
 use Rattle.sum_basis.proofs.LeastMultiples.{least-push, least_positive, least_exists, least_unique, entries_positive, pivot_entries-push, all_taken}
 use Rattle.sum_basis.proofs.Placing.{placed, all_placed, parts_placed}
 use Rattle.sum_basis.proofs.Growing.{placed_is_reduced}

@@ -6,11 +6,11 @@ use Rattle.std.proofs.lemmas.Bool.{cases_eq, cases_lt}
 use Rattle.std.proofs.lemmas.List.{drop-drop, length-append, length-map, append-nil}
 use Rattle.std.proofs.Math.IntN.{*ℤ-zero}
 use Rattle.audit_types.specs.Truth.{is_zero}
-use Rattle.int_rows.specs.PrimitiveLaws.{false_if, zero_or_not, product_not_zero}
 use Rattle.sum_basis.specs.declared.sparse.FreeEntry.{FreeEntry}
 use Rattle.sum_basis.specs.Sparse.{entry_at, IsListed, scaled}
 use Rattle.sum_basis.specs.Merging.{first_value}
-use Rattle.audit_types.specs.Products.{times-add, neg-times}
+use Rattle.audit_types.specs.Products.{times-add, neg-times, product_not_zero}
+use Rattle.audit_types.specs.Numbers.{test_of_not_zero, zero_or_not}
 use Rattle.sum_basis.proofs.SparseRows.{here, elsewhere, entry_at-append, listed_push, listed_to, listed_from, listed_length, drop_entry}
 use Rattle.sum_basis.proofs.ListContents.{entry_at-scaled, none}
 
@@ -27,7 +27,7 @@ rest es place = cond (is_zero (first_value es place)) es (drop 1 es)
 rest_listed : (next n : ℕ) (es : List FreeEntry) (place : ℕ) → IsListed next n es → place ≤ first_place n es → IsListed (place + 1) n (rest es place)
 rest_listed next n [] place h le = tt
 rest_listed next n (e ∷ es) place h le = elim (cases_eq e.place place) [
-  | inl same ↦ subst (λ b. IsListed (place + 1) n (cond b (e ∷ es) es)) (sym (ap is_zero (here e place same) ∙ false_if e.value h.2)) (subst (λ m. IsListed (m + 1) n es) same h.3)
+  | inl same ↦ subst (λ b. IsListed (place + 1) n (cond b (e ∷ es) es)) (sym (ap is_zero (here e place same) ∙ test_of_not_zero e.value h.2)) (subst (λ m. IsListed (m + 1) n es) same h.3)
   | inr other ↦ subst (λ b. IsListed (place + 1) n (cond b (e ∷ es) es)) (sym (ap is_zero (elsewhere e place other))) (omega arith, h.1, h.2, h.3)
 ]
 
@@ -40,7 +40,7 @@ rest_entry next n [] place h le j = let none = nothing (nat_eq place j) in omega
     nothing false = refl
 rest_entry next n (e ∷ es) place h le j = elim (cases_eq e.place place) [
   | inl same ↦
-      let left = ap (λ b. entry_at (cond b (e ∷ es) es) j) (ap is_zero (here e place same) ∙ false_if e.value h.2) in
+      let left = ap (λ b. entry_at (cond b (e ∷ es) es) j) (ap is_zero (here e place same) ∙ test_of_not_zero e.value h.2) in
       let value = ap (λ z. cond (nat_eq place j) z (pos 0)) (here e place same) ∙ ap (λ m. cond (nat_eq m j) e.value (pos 0)) (sym same) in
       omega (arith, ints)
   | inr other ↦
@@ -95,7 +95,7 @@ first_inside next n (e ∷ es) l h = h.1
 -- an entry at the place is not 0
 taken : (next n : ℕ) (es : List FreeEntry) (place : ℕ) → IsListed next n es → place < n → place ≡ first_place n es → is_zero (first_value es place) ≡ false
 taken next n [] place h l e = absurd (omega arith)
-taken next n (e ∷ es) place h l same = ap is_zero (here e place (sym same)) ∙ false_if e.value h.2
+taken next n (e ∷ es) place h l same = ap is_zero (here e place (sym same)) ∙ test_of_not_zero e.value h.2
 
 -- an index stays within its list
 still_within : (es : List FreeEntry) (i place : ℕ) → i ≤ length es → cond (is_zero (first_value (drop i es) place)) i (i + 1) ≤ length es
@@ -218,13 +218,13 @@ module _ (n : ℕ) (by : ℤ) (first : List FreeEntry) (times : ℤ) (second out
         listed : IsListed 0 (place + 1) (cond (is_zero v) out (out ++ entry ∷ []))
         listed = elim (zero_or_not v) [
           | inl z ↦ rw (ap is_zero z) (listed_to 0 m.next (place + 1) out (let after = place_after in omega arith) m.out_listed)
-          | inr some ↦ rw (false_if v some) (listed_push 0 m.next (place + 1) out entry (omega arith) m.out_listed place_after (omega arith) some)
+          | inr some ↦ rw (test_of_not_zero v some) (listed_push 0 m.next (place + 1) out entry (omega arith) m.out_listed place_after (omega arith) some)
         ]
 
         grown : (k : ℕ) → entry_at (cond (is_zero v) out (out ++ entry ∷ [])) k ≡ entry_at out k +ℤ cond (nat_eq place k) v (pos 0)
         grown k = elim (zero_or_not v) [
           | inl z ↦ rw (ap is_zero z) (let none = zeros (nat_eq place k) v z in omega (arith, ints))
-          | inr some ↦ rw (false_if v some) (let both = entry_at-append out (entry ∷ []) k in omega (arith, ints))
+          | inr some ↦ rw (test_of_not_zero v some) (let both = entry_at-append out (entry ∷ []) k in omega (arith, ints))
         ]
           where
             zeros : (b : Bool) (z : ℤ) → z ≡ pos 0 → cond b z (pos 0) ≡ pos 0
@@ -275,7 +275,7 @@ module _ (n : ℕ) (by : ℤ) (first : List FreeEntry) (times : ℤ) (second out
 
   -- an index goes on where there is a value, and stays where there is none
   on : (x y : ℤ) (k : ℕ) → x ≡ y → y ≢ pos 0 → cond (is_zero x) k (k + 1) ≡ k + 1
-  on x y k e some = ap (λ z. cond (is_zero z) k (k + 1)) e ∙ ap (λ b. cond b k (k + 1)) (false_if y some)
+  on x y k e some = ap (λ z. cond (is_zero z) k (k + 1)) e ∙ ap (λ b. cond b k (k + 1)) (test_of_not_zero y some)
 
   stays : (x : ℤ) (k : ℕ) → x ≡ pos 0 → cond (is_zero x) k (k + 1) ≡ k
   stays x k e = ap (λ z. cond (is_zero z) k (k + 1)) e

@@ -10,9 +10,10 @@ use Rattle.std.proofs.Math.IntN.{*ℤ_comm}
 use Rattle.std.proofs.lemmas.Nat.Gcd.{dvd-zero}
 use Rattle.audit_types.specs.Truth.{number_at}
 use Rattle.audit_types.specs.Form.{IsContent, pivot_entry}
-use Rattle.audit_types.specs.PrimitiveLines.{number_at-times, same_rows, size_positive}
-use Rattle.audit_types.specs.Products.{times_assoc, neg-times}
-use Rattle.int_rows.specs.PrimitiveLaws.{product_not_zero, times_one}
+use Rattle.audit_types.specs.PrimitiveLines.{number_at-times, same_rows}
+use Rattle.audit_types.specs.Products.{times_assoc, neg-times, product_not_zero}
+use Rattle.audit_types.specs.Numbers.{size_positive}
+use Rattle.int_rows.specs.PrimitiveLaws.{times_one}
 use Rattle.sum_basis.specs.declared.sparse.FreeEntry.{FreeEntry}
 use Rattle.sum_basis.specs.Combination.{times}
 use Rattle.sum_basis.specs.Sparse.{entry_at, row_of, IsListed, scaled, IsOverContent, IsMadeList}

@@ -8,7 +8,7 @@ use Rattle.std.proofs.lemmas.List.Elements.{All-from_recursion}
 use Rattle.std.proofs.Math.IntN.{+ℤ_idr, *ℤ-zero}
 use Rattle.audit_types.specs.Truth.{number_at}
 use Rattle.audit_types.specs.Form.{combined, IsEchelon, StandsBefore, pivot}
-use Rattle.int_rows.specs.ContentLaws.{all-push}
+use Rattle.audit_types.specs.ListLaws.{all-push}
 use Rattle.sum_basis.specs.Elimination.{IsSmall, IsZeroAtPivots, IsLessMultiple}
 use Rattle.sum_basis.proofs.Sizes.{small_at, product_small}
 

@@ -11,9 +11,10 @@ use Rattle.audit_types.specs.Truth.{number_at, is_zero}
 use Rattle.audit_types.specs.Form.{InSpan, IsContent, IsPrimitive, IsEchelon, pivot, pivot_entry}
 use Rattle.int_rows.specs.Primitive.{IsSignedContent}
 use Rattle.int_rows.specs.Exact.{exact}
-use Rattle.int_rows.specs.PrimitiveLaws.{made_primitive, zeros_from, size_above}
+use Rattle.int_rows.specs.PrimitiveLaws.{made_primitive, zeros_from}
 use Rattle.audit_types.specs.PrimitiveLines.{number_at-times, scaled_content}
 use Rattle.audit_types.specs.Products.{times_assoc, neg-times}
+use Rattle.audit_types.specs.Numbers.{size_above}
 use Rattle.sum_basis.proofs.Spans.{spans_from, in_span_from, spans_same, spans_times, spans_add, spans_down, ZeroAtPivots}
 use Rattle.sum_basis.specs.Combination.{both, times, combine}
 use Rattle.sum_basis.proofs.FormsAreUnique.{all_zero_at}

@@ -1,7 +1,7 @@
 -- A row in the span keeps the form.
 use Rattle.std.proofs.Common.{[], ◌∷◌, ◌++◌}
 use Rattle.audit_types.specs.Form.{InSpan}
-use Rattle.int_rows.specs.ContentLaws.{all-push, all-front}
+use Rattle.audit_types.specs.ListLaws.{all-push, all-front}
 use Rattle.sum_basis.specs.Laws.{SpanKeepsForm}
 use Rattle.sum_basis.proofs.Spans.{span_trans, span_trans_all}
 use Rattle.sum_basis.proofs.FormsAreUnique.{own}

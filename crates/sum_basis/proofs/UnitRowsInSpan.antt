@@ -9,10 +9,10 @@ use Rattle.std.proofs.lemmas.List.Elements.{All-from_recursion}
 use Rattle.std.proofs.Math.IntN.{*ℤ-zero, *ℤ_comm}
 use Rattle.audit_types.specs.Truth.{number_at}
 use Rattle.audit_types.specs.Form.{InSpan, IsPrimitive, IsEchelon, pivot, pivot_entry}
-use Rattle.int_rows.specs.ContentLaws.{all-push}
 use Rattle.sum_basis.specs.Basis.{Echelon, unit_row}
 use Rattle.sum_basis.specs.Elimination.{IsSmallForm, IsLone}
 use Rattle.audit_types.specs.Products.{neg-times}
+use Rattle.audit_types.specs.ListLaws.{all-push}
 use Rattle.sum_basis.proofs.Spans.{spans_from, in_span_from, spans_same, spans_times, spans_add, spans_down, span_zero}
 use Rattle.sum_basis.proofs.FormsAreUnique.{IsRowOf, stands_before, pivot_is, pivot_among, zeros_walk, zero_at_others, in_span_at, own, leads_from}
 use Rattle.sum_basis.proofs.Reduction.{above_is}

@@ -7,7 +7,8 @@ use Rattle.std.proofs.lemmas.Int.{ints, unsigned_abs-mul}
 use Rattle.std.proofs.lemmas.Nat.Gcd.{le_of_dvd}
 use Rattle.std.proofs.Math.Nat.{pos_of_dvd_of_pos, mul-le-mul_left, le_of_mul-le-mul_left}
 use Rattle.audit_types.specs.Form.{IsContent}
-use Rattle.audit_types.specs.PrimitiveLines.{scaled_content, size_positive}
+use Rattle.audit_types.specs.PrimitiveLines.{scaled_content}
+use Rattle.audit_types.specs.Numbers.{size_positive}
 use Rattle.int_rows.specs.Exact.{exact}
 use Rattle.sum_basis.specs.declared.sparse.FreeEntry.{FreeEntry}
 use Rattle.sum_basis.specs.Sparse.{scaled, IsOverContent}

@@ -11,12 +11,12 @@ use Rattle.audit_types.specs.Form.{pivot, pivot_entry, IsPrimitive, Reduced}
 use Rattle.audit_types.specs.Rows.{AreRows}
 use Rattle.audit_types.specs.Direction.{IsDirection, IsPinned, is_pivot, first_free, free_column_of}
 use Rattle.audit_types.specs.Products.{zero_factor}
+use Rattle.audit_types.specs.Numbers.{test_of_not_zero, zero_from_test}
 use Rattle.sum_audit.specs.Dot.{dot}
 use Rattle.sum_audit.specs.DotLaws.{dot_one}
 use Rattle.sum_audit.specs.Laws.{DirectionsByForm}
 use Rattle.witness_build.specs.Directions.{IsForm}
 use Rattle.witness_build.proofs.FormRows.{ZeroAtOthers, zero_at_others, is_pivot_at, not_zero_from_test, test_of_zero}
-use Rattle.int_rows.specs.PrimitiveLaws.{false_if, zero_if}
 
 -- the search from column j on
 abbrev pub free_from : List (List ℤ) → List ℤ → ℕ → ℕ
@@ -44,7 +44,7 @@ module _ (form : List (List ℤ)) (k : ℕ) (below : k < length form) where
   one_stops n h j inside other some =
       let row = get_or form k [] in
       let zero_elsewhere = All-from_recursion (ZeroAtOthers form) form (zero_at_others form h.echelon) k [] below in
-      let test = or_from (is_pivot form j) (is_zero (number_at row j)) (false_from_ne_true (is_pivot form j) (λ there. some (zero_elsewhere j there other))) (false_if (number_at row j) some) in
+      let test = or_from (is_pivot form j) (is_zero (number_at row j)) (false_from_ne_true (is_pivot form j) (λ there. some (zero_elsewhere j there other))) (test_of_not_zero (number_at row j) some) in
       ap (λ l. first_free form l j) (drop-cons row j (pos 0) inside) ∙ stops form (number_at row j) (drop (suc j) row) j test
 
 pub none_left : (form : List (List ℤ)) (row : List ℤ) (j : ℕ) → length row ≤ j → free_from form row j ≡ j
@@ -183,7 +183,7 @@ module _ (n : ℕ) (sets : List (List ℕ)) (form : List (List ℤ)) (row : List
           let same : 0 + k ≡ k = omega arith in
           elim (or_cases (is_pivot form k) (is_zero (number_at row k)) (ap (λ m. is_pivot form m || is_zero (number_at row k)) (sym same) ∙ first)) [
             | inl there ↦ h.zeros.0 k there (λ equal. other (equal ∙ e))
-            | inr none ↦ zero_if (number_at row k) none
+            | inr none ↦ zero_from_test (number_at row k) none
           ]
 
   by_pivot : (b : Bool) (j : ℕ) → (pivot row == i) ≡ b → ((pivot row == i) ≡ false → IsFreeColumn form rows n i j) → IsFreeColumn form (row ∷ rows) n i (cond b (first_free form row 0) j)

@@ -1,8 +1,8 @@
 use Rattle.std.proofs.Common.{◌≡◌, ℕ, arith}
 use Rattle.std.specs.Int.{◌∣◌}
-use Rattle.std.proofs.lemmas.Nat.Gcd.{dvd_refl}
-use Rattle.std.proofs.Math.Nat.{one-dvd}
-use Rattle.int_rows.specs.Multiples.{positive_divisor, least_multiple, least_of_one, least_with_one, divisor_small}
+use Rattle.std.proofs.lemmas.Nat.Gcd.{dvd_refl, le_of_dvd}
+use Rattle.std.proofs.Math.Nat.{one-dvd, pos_of_dvd_of_pos}
+use Rattle.int_rows.specs.Multiples.{least_multiple, least_of_one, least_with_one}
 use Rattle.int_rows.proofs.divisors.common_multiple.Goals.{then-a-eq1-via-then-a-eq1, then-a-eq1-via-else-a-eq1+then-a-b}
 use Rattle.int_rows.proofs.divisors.common_multiple.Goals as goal
 
@@ -22,10 +22,10 @@ pub returns-then-b-eq1-clause-multiple : goal.returns-then-b-eq1-clause-multiple
 returns-then-b-eq1-clause-multiple c = least_with_one c.args.a c.args.b (by_one c.args.b c.args.a c.if-b-eq1.true)
 
 pub overflow_cast-result-2 : goal.overflow_cast-result-2
-overflow_cast-result-2 c = let small = divisor_small c.args.a c.args.b c.common_divisor-divisor.result c.requires.a.0 c.common_divisor-divisor.ensures.divisor in record { fits = omega arith }
+overflow_cast-result-2 c = let small = le_of_dvd c.requires.a.0 c.common_divisor-divisor.ensures.divisor.0 in record { fits = omega arith }
 
 pub nonzero_div-result : goal.nonzero_div-result
-nonzero_div-result c = positive_divisor _ _ _ c.requires.a.0 c.common_divisor-divisor.ensures.divisor
+nonzero_div-result c = pos_of_dvd_of_pos c.common_divisor-divisor.ensures.divisor.0 c.requires.a.0
 
 pub returns-clause-multiple : goal.returns-clause-multiple
 returns-clause-multiple c = least_multiple _ _ _ c.requires.a.0 c.common_divisor-divisor.ensures.divisor

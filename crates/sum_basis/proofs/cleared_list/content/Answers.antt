@@ -4,8 +4,8 @@ use Rattle.std.specs.Int.{w128, IsGcd}
 use mir.Val.{to_z, of_z}
 use Rattle.std.proofs.lemmas.Int.{to_z-of_z}
 use Rattle.audit_types.specs.Form.{IsContent}
-use Rattle.int_rows.specs.Multiples.{positive_divisor}
-use Rattle.audit_types.specs.PrimitiveLines.{size_positive}
+use Rattle.audit_types.specs.Numbers.{size_positive}
+use Rattle.std.proofs.Math.Nat.{pos_of_dvd_of_pos}
 use Rattle.sum_basis.proofs.ListContents.{content_of_one, one_more_value, stays_one}
 use Rattle.sum_basis.proofs.cleared_list.content.Goals as goal
 
@@ -28,5 +28,5 @@ loop-e-preserved c =
     subst (λ (m : ℤ). IsGcd c.loop-e.divisor (unsigned_abs m) c.with-divisor.result) (to_z-of_z w128 (get_or c.args.entries.now c.loop-e.e-index (record { place = 0; value = pos 0 })).value value) c.with-divisor.ensures in
     record {
       content = one_more_value (to_z w128 (of_z w128 c.args.head)) c.args.entries.now c.loop-e.e-index c.loop-e.divisor c.with-divisor.result c.loop-e-test.true c.loop-e.invariant.content common;
-      positive = positive_divisor _ _ c.with-divisor.result c.loop-e.invariant.positive common;
+      positive = pos_of_dvd_of_pos common.0 c.loop-e.invariant.positive;
     }

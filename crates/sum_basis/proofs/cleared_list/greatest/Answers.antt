@@ -5,10 +5,10 @@ use Rattle.std.specs.List.{AllByRecursion}
 use Rattle.std.proofs.lemmas.Int.{to_z-of_z}
 use Rattle.std.proofs.lemmas.List.{take_more}
 use Rattle.std.proofs.Math.Seq.{take-length}
-use Rattle.int_rows.specs.ContentLaws.{all-push, all-front, all-weaker}
 use Rattle.sum_basis.specs.declared.sparse.FreeEntry.{FreeEntry}
 use Rattle.sum_basis.proofs.ListContents.{none}
 use Rattle.sum_basis.proofs.cleared_list.greatest.Goals as goal
+use Rattle.audit_types.specs.ListLaws.{all-push, all-front, all-weaker}
 
 pub loop-e-preserved : goal.loop-e-preserved
 loop-e-preserved c =

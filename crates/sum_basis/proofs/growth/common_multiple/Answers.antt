@@ -4,10 +4,10 @@ use Rattle.std.specs.Int.{w128}
 use mir.Val.{to_z}
 use Rattle.std.proofs.lemmas.Int.{ints, to_z-of_z}
 use Rattle.audit_types.specs.Form.{IsLeastCommonMultiple}
+use Rattle.audit_types.specs.Numbers.{size_positive}
 use Rattle.sum_basis.specs.declared.sparse.SparseRow.{SparseRow}
 use Rattle.sum_basis.proofs.LeastMultiples.{least-nil, least_positive, passes_list, one_more_head, heads_positive}
 use Rattle.sum_basis.proofs.KeptRows.{of_row}
-use Rattle.audit_types.specs.PrimitiveLines.{size_positive}
 use Rattle.sum_basis.proofs.growth.common_multiple.Goals as goal
 
 above : (limit m : ℕ) → pos limit <ℤ pos m → limit < m

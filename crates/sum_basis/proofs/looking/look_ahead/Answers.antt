@@ -2,13 +2,13 @@ use Rattle.std.proofs.Common.{◌≡◌, ℕ, ◌*◌, ◌≤◌, ◌^◌, ℤ, 
 use Rattle.std.specs.Prelude.{FitsSigned, unsigned_abs, ◌*ℤ◌, ◌<ℤ◌, ◌≤ℤ◌}
 use Rattle.std.specs.Int.{w128}
 use Rattle.std.proofs.lemmas.Int.{ints, to_z-of_z, unsigned_abs-mul}
-use Rattle.audit_types.specs.PrimitiveLines.{size_positive}
 use Rattle.sum_basis.specs.declared.sparse.FreeEntry.{FreeEntry}
 use Rattle.sum_basis.specs.Sparse.{IsNew}
 use Rattle.sum_basis.proofs.ListContents.{none}
 use Rattle.sum_basis.proofs.LeastMultiples.{size_is}
 use Rattle.sum_basis.proofs.ClearedLists.{is_led, positive_times}
 use Rattle.sum_basis.proofs.looking.look_ahead.Goals as goal
+use Rattle.audit_types.specs.Numbers.{size_positive}
 
 pub product-requires-clause-x : goal.product-requires-clause-x
 product-requires-clause-x c =

@@ -3,7 +3,7 @@ use Rattle.std.specs.Prelude.{FitsSigned}
 use Rattle.std.specs.Int.{w128}
 use Rattle.std.proofs.lemmas.Int.{to_z-of_z}
 use Rattle.audit_types.specs.Truth.{number_at, is_zero}
-use Rattle.int_rows.specs.PrimitiveLaws.{zero_or_not, false_if}
+use Rattle.audit_types.specs.Numbers.{zero_or_not, test_of_not_zero}
 use Rattle.sum_basis.specs.declared.sparse.FreeEntry.{FreeEntry}
 use Rattle.sum_basis.proofs.Listing.{IsPartlyListed, left_out, one_more_listed, all_listed, room_for}
 use Rattle.sum_basis.proofs.sparse.list_of.Goals as goal
@@ -19,7 +19,7 @@ put-requires c =
 next : (row : List ℤ) (list new : List FreeEntry) (k : ℕ) (v : ℤ) → IsPartlyListed row list k → v ≡ number_at row k → new ≡ cond (is_zero v) list (list ++ record { place = k; value = v } ∷ []) → IsPartlyListed row new (k + 1)
 next row list new k v part e is = elim (zero_or_not v) [
   | inl z ↦ rw (is ∙ ap (λ b. cond b list (list ++ record { place = k; value = v } ∷ [])) (ap is_zero z)) (left_out row list k part (sym e ∙ z))
-  | inr some ↦ rw (is ∙ ap (λ b. cond b list (list ++ record { place = k; value = v } ∷ [])) (false_if v some)) (one_more_listed row list k v part e some)
+  | inr some ↦ rw (is ∙ ap (λ b. cond b list (list ++ record { place = k; value = v } ∷ [])) (test_of_not_zero v some)) (one_more_listed row list k v part e some)
 ]
 
 pub loop-place-preserved : goal.loop-place-preserved

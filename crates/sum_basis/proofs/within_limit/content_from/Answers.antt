@@ -5,8 +5,8 @@ use mir.Val.{to_z, of_z}
 use Rattle.std.proofs.lemmas.Int.{to_z-of_z}
 use Rattle.std.proofs.lemmas.Bool.{cases_lt, true≢false}
 use Rattle.audit_types.specs.Form.{IsContent}
-use Rattle.audit_types.specs.PrimitiveLines.{size_positive}
-use Rattle.int_rows.specs.Multiples.{positive_divisor}
+use Rattle.audit_types.specs.Numbers.{size_positive}
+use Rattle.std.proofs.Math.Nat.{pos_of_dvd_of_pos}
 use Rattle.sum_basis.specs.declared.sparse.FreeEntry.{FreeEntry}
 use Rattle.sum_basis.proofs.ListContents.{values, content_of_one, one_more_value, stays_one}
 use Rattle.sum_basis.proofs.WithinLimit.{has_content}
@@ -25,7 +25,7 @@ loop-e-preserved c =
     subst (λ (m : ℤ). IsGcd c.loop-e.divisor (unsigned_abs m) c.with-divisor.result) (to_z-of_z w128 (get_or c.args.entries.now c.loop-e.e-index (record { place = 0; value = pos 0 })).value value) c.with-divisor.ensures in
     record {
       content = one_more_value (to_z w128 (of_z w128 c.args.head)) c.args.entries.now c.loop-e.e-index c.loop-e.divisor c.with-divisor.result c.loop-e-test.true c.loop-e.invariant.content common;
-      positive = positive_divisor _ _ c.with-divisor.result c.loop-e.invariant.positive common;
+      positive = pos_of_dvd_of_pos common.0 c.loop-e.invariant.positive;
     }
 
 -- what the values so far have in common

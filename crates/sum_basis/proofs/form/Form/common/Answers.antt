@@ -3,8 +3,8 @@ use Rattle.std.specs.Prelude.{unsigned_abs, FitsSigned}
 use Rattle.std.specs.Int.{w128}
 use Rattle.std.proofs.lemmas.Int.{to_z-of_z}
 use Rattle.audit_types.specs.Form.{IsLeastCommonMultiple, pivot_entries}
+use Rattle.audit_types.specs.Numbers.{size_positive}
 use Rattle.sum_basis.specs.Basis.{Echelon}
-use Rattle.audit_types.specs.PrimitiveLines.{size_positive}
 use Rattle.sum_basis.proofs.LeastMultiples.{size_is}
 use Rattle.sum_basis.proofs.form.Form.common.Goals as goal
 

@@ -7,6 +7,7 @@ use Rattle.std.proofs.lemmas.Int.{to_z-of_z}
 use Rattle.std.proofs.lemmas.List.{length-map}
 use Rattle.audit_types.specs.Truth.{number_at}
 use Rattle.audit_types.specs.Form.{IsNarrow, pivot, pivot_entry}
+use Rattle.audit_types.specs.Numbers.{size_positive}
 use Rattle.sum_basis.specs.declared.sparse.SparseRow.{SparseRow}
 use Rattle.sum_basis.specs.Basis.{Echelon}
 use Rattle.sum_basis.specs.Combination.{times}
@@ -14,7 +15,6 @@ use Rattle.sum_basis.specs.Elimination.{IsSmall, IsSmallForm, IsRemainder}
 use Rattle.sum_basis.specs.Sparse.{row_of, rows_of, entries_of}
 use Rattle.sum_basis.proofs.Ranks.{rank_at_most}
 use Rattle.sum_basis.proofs.SetRows.{multiple_small, entries_divide}
-use Rattle.audit_types.specs.PrimitiveLines.{size_positive}
 use Rattle.sum_basis.proofs.LeastMultiples.{size_is}
 use Rattle.sum_basis.proofs.WideForms.{is_narrow}
 use Rattle.sum_basis.proofs.form.Form.remainder.Goals as goal

@@ -1,14 +1,14 @@
--- Totals of a function's values below n, and products of rows with directions.
-use Rattle.std.proofs.Common.{◌≡◌, ◌≢◌, ℕ, zero, suc, ◌+◌, ◌<◌, Bool, true, false, cond, ◌||◌, ◌==◌, ℤ, pos, ◌+ℤ◌, ◌*ℤ◌, List, [], ◌∷◌, refl, sym, ap, ◌∙◌, arith, inl, inr}
+-- Facts on totals of the values of a function below n, and on the products of a row with numbers.
+use Rattle.std.proofs.Common.{◌≡◌, ◌≢◌, ℕ, zero, suc, ◌+◌, ◌<◌, Bool, true, false, cond, ◌||◌, ◌==◌, ℤ, pos, ◌+ℤ◌, ◌*ℤ◌, List, [], ◌∷◌, map, refl, sym, ap, ◌∙◌, arith, inl, inr}
 use Rattle.std.specs.List.{AllByRecursion}
 use Rattle.std.proofs.lemmas.Int.{ints}
 use Rattle.std.proofs.lemmas.Bool.{cases_eq, eq-eqb, ne_eqb, eqb-true}
-use Rattle.std.proofs.lemmas.List.FromFn.{get_or-map-range_with_len}
 use Rattle.std.proofs.Math.IntN.{zero-*ℤ, *ℤ-zero, *ℤ_comm}
 use Rattle.audit_types.specs.Rows.{has_row, AreRows, AscendsFrom}
 use Rattle.audit_types.specs.RowLaws.{ascends_more}
 use Rattle.audit_types.specs.Truth.{number_at, sum_over}
 use Rattle.audit_types.specs.Form.{set_row, combined, InSpan}
+use Rattle.audit_types.specs.RowNumbers.{number_at-set_row}
 use Rattle.audit_types.specs.Products.{add-times, times-add, times_assoc, zero_factor}
 
 -- the sum of the values below n
@@ -101,7 +101,7 @@ over_rows d n low (r ∷ rows) h =
 pub product-set_row : (d : List ℤ) (n : ℕ) (rows : List ℕ) → AreRows n rows → product (set_row n rows) (number_at d) n ≡ sum_over d rows
 product-set_row d n rows h =
     total-agree (λ j. number_at (set_row n rows) j *ℤ number_at d j) (λ j. cond (has_row rows j) (number_at d j) (pos 0)) n
-    (λ j l. ap (λ z. z *ℤ number_at d j) (get_or-map-range_with_len (λ r. cond (has_row rows r) (pos 1) (pos 0)) 0 n j j (pos 0) l (omega arith)) ∙ chosen (has_row rows j) (number_at d j))
+    (λ j l. ap (λ z. z *ℤ number_at d j) (number_at-set_row n rows j l) ∙ chosen (has_row rows j) (number_at d j))
     ∙ over_rows d n 0 rows h
 
 -- rows whose products are 0 combine to a row whose product is 0
@@ -124,3 +124,21 @@ product-span x n rows row h span =
     let none : pos span.multiple *ℤ product row x n ≡ pos 0 = sym (total-times (pos span.multiple) (λ j. number_at row j *ℤ x j) n) ∙ whole ∙ product-combined x n span.coefficients rows h in
     let some = span.positive in
     zero_factor (product row x n) (pos span.multiple) (*ℤ_comm (product row x n) (pos span.multiple) ∙ none) (omega (arith, ints))
+
+-- the products of all rows of the span are 0 too
+pub products_in_span : (n : ℕ) (x : ℕ → ℤ) (rows some : List (List ℤ)) → AllByRecursion (λ r. product r x n ≡ pos 0) rows → AllByRecursion (InSpan rows) some →
+    AllByRecursion (λ r. product r x n ≡ pos 0) some
+products_in_span n x rows [] zeros spans = tt
+products_in_span n x rows (r ∷ some) zeros spans = (product-span x n rows r zeros spans.0, products_in_span n x rows some zeros spans.1)
+
+-- numbers with the sum 0 over each set have the product 0 with its row
+pub products_from_sums : (n : ℕ) (d : List ℤ) (sets : List (List ℕ)) → AllByRecursion (AreRows n) sets → AllByRecursion (λ s. sum_over d s ≡ pos 0) sets →
+    AllByRecursion (λ row. product row (number_at d) n ≡ pos 0) (map (set_row n) sets)
+products_from_sums n d [] are zeros = tt
+products_from_sums n d (s ∷ sets) are zeros = (product-set_row d n s are.0 ∙ zeros.0, products_from_sums n d sets are.1 zeros.1)
+
+-- and back
+pub sums_from_products : (n : ℕ) (d : List ℤ) (sets : List (List ℕ)) → AllByRecursion (AreRows n) sets → AllByRecursion (λ row. product row (number_at d) n ≡ pos 0) (map (set_row n) sets) →
+    AllByRecursion (λ s. sum_over d s ≡ pos 0) sets
+sums_from_products n d [] are zeros = tt
+sums_from_products n d (s ∷ sets) are zeros = (sym (product-set_row d n s are.0) ∙ zeros.0, sums_from_products n d sets are.1 zeros.1)
