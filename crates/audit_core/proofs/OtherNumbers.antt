@@ -15,7 +15,7 @@ use Rattle.audit_types.specs.Column.{Known, Answer, Agrees, GivesSameAnswers, Is
 use Rattle.audit_types.specs.Direction.{IsPinned}
 use Rattle.sum_audit.specs.Laws.{SpannedOrMoved, PinnedByUnitRow, DangerousByPins}
 use Rattle.max_audit.specs.Laws.{PossibleByExtremes, FixedByLoneRows, LoneOrFree}
-use Rattle.audit_types.specs.ElementLaws.{all-front, all-push}
+use Rattle.audit_types.specs.ListLaws.{all-front, all-push}
 
 -- another list that gives all the answers, with another number in row i
 pub record HasOther (known : Known) (w : List ℤ) (i : ℕ) : Type 0 where

@@ -8,7 +8,7 @@ use Rattle.audit_types.specs.declared.records.Answered.{Answered}
 use Rattle.audit_types.specs.Shapes.{kind_at}
 use Rattle.audit_types.specs.Truth.{truth}
 use Rattle.audit_types.specs.Column.{Answer}
-use Rattle.audit_types.specs.ElementLaws.{all_by_place, all-get_or, all-append}
+use Rattle.audit_types.specs.ListLaws.{all_by_place, all-get_or, all-append}
 use Rattle.audit_types.specs.HistoryLaws.{answers_of-append}
 use Rattle.audit_types.specs.History.{Table, Setting, AreSecrets, AgreeWithHistory, IsPossibleHistory, IsLegal, list_of, answers_of, answer_in}
 

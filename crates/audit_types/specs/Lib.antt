@@ -2,7 +2,6 @@ pub mod Limits
 pub mod Shapes
 pub mod Rows
 pub mod RowLaws
-pub mod ElementLaws
 pub mod FilteredRows
 pub mod Truth
 pub mod SumLaws

@@ -12,7 +12,7 @@ use Rattle.std.proofs.lemmas.Bool.Decides.{Decides-int_eq, Decides-like, same_fr
 use Rattle.audit_types.specs.Rows.{has_row}
 use Rattle.audit_types.specs.Column.{Answer, known_max}
 use Rattle.audit_types.specs.Extremes.{least_of, upper_bound, is_bound, extremes}
-use Rattle.audit_types.specs.ElementLaws.{all-push, all-front}
+use Rattle.audit_types.specs.ListLaws.{all-push, all-front}
 use Rattle.max_audit.specs.Laws.{LeavesLoneRow}
 use Rattle.max_bounds.specs.AnswerLaws.{all_at, all_from, one_of_front, one_of_last, front_or_last}
 

@@ -8,7 +8,7 @@ use Rattle.audit_types.specs.Truth.{greatest_over}
 use Rattle.audit_types.specs.Column.{Answer, Agrees, GivesSameAnswers, IsWellFormed, IsDangerous, known_max}
 use Rattle.audit_types.specs.Extremes.{upper_bound, is_bound}
 use Rattle.audit_types.specs.RowLaws.{has_first}
-use Rattle.audit_types.specs.ElementLaws.{all-push, all-front}
+use Rattle.audit_types.specs.ListLaws.{all-push, all-front}
 use Rattle.max_audit.specs.Witnesses.{highest}
 use Rattle.max_audit.specs.Laws.{LeavesLoneRow, DangerousByCandidates}
 use Rattle.max_bounds.specs.AnswerLaws.{all_at}

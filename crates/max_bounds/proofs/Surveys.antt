@@ -11,7 +11,7 @@ use Rattle.max_bounds.specs.Reaching.{reaching, lone_of, lesser_of, IsLeast, IsA
 use Rattle.max_bounds.specs.AnswerLaws.{one_of_front, one_of_last, front_or_last}
 use Rattle.audit_types.specs.FilteredRows.{rows_within}
 use Rattle.audit_types.specs.RowLaws.{length-rows}
-use Rattle.audit_types.specs.ElementLaws.{all-push, all-front}
+use Rattle.audit_types.specs.ListLaws.{all-push, all-front}
 
 -- a walk that counts the rows of a set that reach their bound: those seen, and those among the rest, are all
 pub record IsCounting (bound : ℕ → Option ℤ) (rows : List ℕ) (answer : ℤ) (rest : List ℕ) (count : ℕ) (only : Option ℕ) : Type 0 where

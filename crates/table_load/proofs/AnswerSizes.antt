@@ -9,7 +9,7 @@ use Rattle.audit_types.specs.RowLaws.{length-rows}
 use Rattle.audit_types.specs.Shapes.{columns}
 use Rattle.audit_types.specs.Truth.{number_at, sum_over, greatest_over}
 use Rattle.audit_types.specs.History.{list_of}
-use Rattle.audit_types.specs.ElementLaws.{all-get_or}
+use Rattle.audit_types.specs.ListLaws.{all-get_or}
 use Rattle.table_load.specs.Cells.{SecretView, IsSecret, AreNumbers}
 use Rattle.table_load.proofs.SetSums.{number_small}
 

@@ -4,7 +4,7 @@ use Rattle.std.specs.Prelude.{ℤ, pos, unsigned_abs, nat_lt}
 use Rattle.std.specs.List.{AllByRecursion}
 use Rattle.std.proofs.lemmas.Bool.{ltb-false, not-true}
 use Rattle.audit_types.specs.Truth.{number_at}
-use Rattle.audit_types.specs.ElementLaws.{all-get_or}
+use Rattle.audit_types.specs.ListLaws.{all-get_or}
 use Rattle.table_load.specs.Numerals.{in_range}
 use Rattle.table_load.specs.Cells.{AreNumbers}
 

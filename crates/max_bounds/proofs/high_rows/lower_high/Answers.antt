@@ -1,7 +1,7 @@
 use Rattle.std.proofs.Common.{◌≡◌, ◌<◌, arith, ap, sym, ◌∙◌, subst, length, get_or}
 use Rattle.audit_types.specs.Rows.{complement}
 use Rattle.max_bounds.specs.Kept.{IsHigh}
-use Rattle.audit_types.specs.ElementLaws.{all-set, all-get_or}
+use Rattle.audit_types.specs.ListLaws.{all-set, all-get_or}
 use Rattle.max_bounds.proofs.high_rows.lower_high.Goals as goal
 
 pub loop-kept-preserved : goal.loop-kept-preserved

@@ -2,7 +2,7 @@ use Rattle.std.proofs.Common.{◌≡◌, ◌<◌, arith, ap, sym, ◌∙◌, to_
 use Rattle.std.specs.Int.{w64}
 use Rattle.std.proofs.lemmas.Int.{to_z-of_z}
 use Rattle.audit_types.specs.Rows.{complement}
-use Rattle.audit_types.specs.ElementLaws.{all-set, all-get_or}
+use Rattle.audit_types.specs.ListLaws.{all-set, all-get_or}
 use Rattle.max_bounds.specs.Maxima.{answer_of, answers_of}
 use Rattle.max_bounds.specs.Kept.{lowered_set}
 use Rattle.max_bounds.proofs.FallingCounts.{set_after}

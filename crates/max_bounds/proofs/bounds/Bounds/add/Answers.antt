@@ -11,7 +11,7 @@ use Rattle.audit_types.specs.Extremes.{upper_bound, extremes}
 use Rattle.max_bounds.specs.Maxima.{Maxima, answer_of, answers_of, and_answer}
 use Rattle.max_bounds.specs.Reaching.{bound_at}
 use Rattle.max_bounds.specs.Kept.{is_at_least, rows_at_least, fewest_of, AreLeast, IsHigh, TellsExtremes}
-use Rattle.audit_types.specs.ElementLaws.{all-push}
+use Rattle.audit_types.specs.ListLaws.{all-push}
 use Rattle.max_bounds.proofs.FallingCounts.{fewest_of-push}
 use Rattle.max_bounds.proofs.HighRows.{all_stay, least_low}
 use Rattle.max_bounds.specs.OneMoreLaws.{bound_in_set}
