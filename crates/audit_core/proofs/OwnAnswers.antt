@@ -6,16 +6,11 @@ use Rattle.std.proofs.lemmas.Bool.{eqb-true}
 use Rattle.audit_types.specs.declared.records.Answered.{Answered}
 use Rattle.audit_types.specs.Column.{Answer}
 use Rattle.audit_types.specs.History.{answers_of, answer_in}
-
-kept : (P : Answer → Type 0) (b : Bool) (r : Answered) (others : List Answered) → P (answer_in r) → AllByRecursion P (map answer_in others) →
-    AllByRecursion P (map answer_in (cond b (r ∷ others) others))
-kept P true r others first rest = (first, rest)
-kept P false r others first rest = rest
+use Rattle.audit_types.specs.ListLaws.{all-map, all-filter}
 
 -- what holds of the answer of each record holds of a column's answers
 pub all_answers : (P : Answer → Type 0) (column : ℕ) (history : List Answered) → AllByRecursion (λ r. P (answer_in r)) history → AllByRecursion P (answers_of column history)
-all_answers P column [] all = tt
-all_answers P column (r ∷ history) all = kept P (r.column == column) r (filter (λ x. x.column == column) history) all.0 (all_answers P column history all.1)
+all_answers P column history all = all-map answer_in P (filter (λ r. r.column == column) history) (all-filter (λ r. P (answer_in r)) (λ r. r.column == column) history all)
 
 -- the last record of a column: the column's answers are those before it and its own
 pub record HasLast (column : ℕ) (history : List Answered) : Type 0 where

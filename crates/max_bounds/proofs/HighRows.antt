@@ -135,11 +135,6 @@ pub all_stay : (n : ℕ) (before after : ℕ → Option ℤ) (x : ℤ) (rows : L
 all_stay n before after x rows [] all settled = tt
 all_stay n before after x rows (h ∷ highs) all settled = (high_stays n before after h x rows all.0 settled, all_stay n before after x rows highs all.1 settled)
 
--- the sets of all are over as many rows
-pub all_over : (n m : ℕ) (bound : ℕ → Option ℤ) (highs : List HighRows) → n ≡ m → AllByRecursion (IsHigh n bound) highs → AllByRecursion (λ h. h.rows.n ≡ m) highs
-all_over n m bound [] same all = tt
-all_over n m bound (h ∷ highs) same all = (all.0.same_n ∙ same, all_over n m bound highs same all.1)
-
 -- one more among all
 pub all_inserted : {X : Type 0} (P : X → Type 0) (xs : List X) (i : ℕ) (x : X) → AllByRecursion P xs → P x → AllByRecursion P (take i xs ++ x ∷ drop i xs)
 all_inserted P [] zero x all p = (p, tt)

@@ -34,20 +34,3 @@ pub answers_of-other : (column : ℕ) (history : List Answered) (i : ℕ) (r : A
     answers_of column (take (i + 1) history) ≡ answers_of column (take i history)
 answers_of-other column history i r l is other =
     answers_of-more column history i r l is ∙ ap (λ b. answers_of column (take i history) ++ answer_if b r) other ∙ append-nil (answers_of column (take i history))
-
--- what holds of all holds of the first
-own_front : (P : Answer → Type 0) (b : Bool) (r : Answered) (rest : List Answered) → b ≡ true → AllByRecursion P (map answer_in (cond b (r ∷ rest) rest)) → P (answer_in r)
-own_front P true r rest e h = h.0
-own_front P false r rest e h = absurd cc
-
--- and of the others
-rest_after : (P : Answer → Type 0) (b : Bool) (r : Answered) (rest : List Answered) → AllByRecursion P (map answer_in (cond b (r ∷ rest) rest)) → AllByRecursion P (map answer_in rest)
-rest_after P true r rest h = h.1
-rest_after P false r rest h = h
-
--- what holds of each answer of a column holds of the answer of each of its records
-pub own_answer : (P : Answer → Type 0) (column : ℕ) (history : List Answered) (i : ℕ) (r : Answered) → AllByRecursion P (answers_of column history) →
-    i < length history → (((get_or history i r).column) == column) ≡ true → P (answer_in (get_or history i r))
-own_answer P column [] i r h l own = absurd (omega arith)
-own_answer P column (x ∷ history) zero r h l own = own_front P (x.column == column) x (filter (λ y. y.column == column) history) own h
-own_answer P column (x ∷ history) (suc i) r h l own = own_answer P column history i r (rest_after P (x.column == column) x (filter (λ y. y.column == column) history) h) (omega arith) own

@@ -4,7 +4,7 @@ use Rattle.std.specs.Prelude.{ℤ, pos, unsigned_abs, nat_lt}
 use Rattle.std.specs.List.{AllByRecursion}
 use Rattle.std.proofs.lemmas.Bool.{ltb-false, not-true}
 use Rattle.audit_types.specs.Truth.{number_at}
-use Rattle.audit_types.specs.ListLaws.{all-get_or}
+use Rattle.audit_types.specs.ListLaws.{all-get_or, all-unmap}
 use Rattle.table_load.specs.Numerals.{in_range}
 use Rattle.table_load.specs.Cells.{AreNumbers}
 
@@ -19,7 +19,6 @@ number_small n list row are within = size_in_range (get_or list row (pos 0)) (al
 -- the list of a secret column is one of numbers in range
 pub column_are_numbers : (lists : List (Vec ℤ Global)) (column n m : ℕ) (v : Vec ℤ Global) (list : List ℤ) → AllByRecursion (AreNumbers n) (map (λ w. w.items) lists) → column < length lists
     → v ≡ get_or lists column v → list ≡ v.items → m ≡ n → AreNumbers m list
-column_are_numbers [] column n m v list all within is items same = absurd (omega (arith, within))
-column_are_numbers (w ∷ lists) zero n m v list all within is items same =
-    subst (λ k. AreNumbers k list) (sym same) (let P : List ℤ → Type 0 = AreNumbers n in subst P (sym (items ∙ ap (λ x. x.items) is)) all.0)
-column_are_numbers (w ∷ lists) (suc column) n m v list all within is items same = column_are_numbers lists column n m v list all.1 (omega (arith, within)) is items same
+column_are_numbers lists column n m v list all within is items same =
+    let here = all-get_or (λ w. AreNumbers n w.items) lists column v (all-unmap (λ w. w.items) (AreNumbers n) lists all) within in
+    subst (λ k. AreNumbers k list) (sym same) (let P : List ℤ → Type 0 = AreNumbers n in subst P (sym (items ∙ ap (λ x. x.items) is)) here)
