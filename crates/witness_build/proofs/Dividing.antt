@@ -12,9 +12,10 @@ use Rattle.audit_types.specs.Truth.{number_at, is_zero}
 use Rattle.audit_types.specs.Form.{IsContent, pivot_entry}
 use Rattle.int_rows.specs.Primitive.{IsMadePrimitive}
 use Rattle.audit_types.specs.Products.{neg-times}
-use Rattle.witness_build.specs.Directions.{IsSmall, IsDivided}
+use Rattle.witness_build.specs.Directions.{IsDivided}
 use Rattle.audit_types.specs.PrimitiveLines.{number_at-times}
 use Rattle.audit_types.specs.Numbers.{size_above}
+use Rattle.audit_types.specs.Direction.{IsSmall}
 
 -- the numbers below i are turned, and those from i on are as they were
 pub record IsPartlyTurned (old new : List ℤ) (i : ℕ) : Type 0 where
