@@ -12,15 +12,16 @@ use Rattle.std.proofs.lemmas.Nat.Gcd.{dvd-zero}
 use Rattle.std.proofs.Math.IntN.{*ℤ-zero, pos-*ℤ-pos, pos-*ℤ-negsuc}
 use Rattle.audit_types.specs.Truth.{number_at}
 use Rattle.audit_types.specs.Form.{IsContent, IsPrimitive, pivot, pivot_entry}
-use Rattle.audit_types.specs.PrimitiveLines.{number_at-times, same_rows}
+use Rattle.audit_types.specs.PrimitiveLines.{number_at-times, same_rows, times as times_of}
 use Rattle.sum_basis.specs.declared.sparse.FreeEntry.{FreeEntry}
 use Rattle.sum_basis.specs.declared.sparse.SparseRow.{SparseRow}
-use Rattle.sum_basis.specs.Combination.{combine, times as times_of}
+use Rattle.sum_basis.specs.Combination.{combine}
 use Rattle.sum_basis.specs.Elimination.{IsSmall, IsCleared}
 use Rattle.sum_basis.specs.Sparse.{entry_at, row_of, IsListed, entries_of, IsKept, IsNew, IsOverContent}
+use Rattle.sum_basis.specs.CombinedRows.{number_at-combine, length-combine}
 use Rattle.audit_types.specs.Products.{times-add, neg-times}
-use Rattle.sum_basis.proofs.Clearing.{positive_not_zero, cleared_from}
-use Rattle.sum_basis.proofs.Reduction.{number_at-combine, length-combine}
+use Rattle.audit_types.specs.Numbers.{positive_not_zero}
+use Rattle.sum_basis.proofs.Clearing.{cleared_from}
 use Rattle.sum_basis.proofs.Sizes.{small_at, product_small}
 use Rattle.sum_basis.proofs.SparseRows.{elsewhere, zero_below, number_at-row_of, length-row_of, pivot-row_of, pivot_entry-row_of, first_value, listed_to, small_values}
 use Rattle.sum_basis.proofs.ListContents.{values, none, entry_at-scaled, listed_scaled}

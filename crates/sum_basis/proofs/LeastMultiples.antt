@@ -8,13 +8,12 @@ use Rattle.std.specs.List.{AllByRecursion}
 use Rattle.std.proofs.lemmas.Int.{ints}
 use Rattle.std.proofs.lemmas.List.{take_more}
 use Rattle.std.proofs.lemmas.Nat.Gcd.{dvd_trans, dvd_antisymm, le_of_dvd}
-use Rattle.std.proofs.Math.Nat.{one-dvd, eq-zero_of_zero-dvd, dvd-mul_left, dvd-mul_right}
+use Rattle.std.proofs.Math.Nat.{one-dvd, eq-zero_of_zero-dvd, dvd-mul_left, dvd-mul_right, mul-pos}
 use Rattle.audit_types.specs.Form.{IsLeastCommonMultiple, pivot_entry, pivot_entries}
 use Rattle.audit_types.specs.PrimitiveLines.{scaled_gcd}
 use Rattle.audit_types.specs.ListLaws.{all-push, all-front, all-weaker}
 use Rattle.audit_types.specs.Numbers.{size_positive}
 use Rattle.int_rows.specs.Multiples.{least_multiple}
-use Rattle.sum_basis.proofs.Spans.{positive_product}
 
 -- of no numbers it is 1
 pub least-nil : IsLeastCommonMultiple [] 1
@@ -31,7 +30,7 @@ least-push xs x m n first both = record {
 pub least_positive : (a b m : ℕ) → 0 < a → 0 < b → IsLeastCommonMultiple (a ∷ b ∷ []) m → 0 < m
 least_positive a b (suc m) p q is = omega arith
 least_positive a b zero p q is =
-    let product = positive_product a b p q in
+    let product = mul-pos p q in
     let none : a * b ≡ 0 = eq-zero_of_zero-dvd (is.least (a * b) (dvd-mul_right a b, (dvd-mul_left b a, tt))) in
     absurd (omega arith)
 

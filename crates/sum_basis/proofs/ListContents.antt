@@ -13,10 +13,9 @@ use Rattle.audit_types.specs.Form.{IsContent}
 use Rattle.int_rows.specs.ContentLaws.{IsContent-push}
 use Rattle.sum_basis.specs.declared.sparse.FreeEntry.{FreeEntry}
 use Rattle.sum_basis.specs.Sparse.{entry_at, IsListed, scaled, IsOverContent}
-use Rattle.sum_basis.proofs.Multiples.{one-times}
-use Rattle.sum_basis.proofs.Clearing.{positive_not_zero}
 use Rattle.int_rows.specs.PrimitiveLaws.{content_one}
-use Rattle.audit_types.specs.Products.{times-add}
+use Rattle.audit_types.specs.Products.{times-add, one-times}
+use Rattle.audit_types.specs.Numbers.{positive_not_zero}
 
 -- the values of a list
 abbrev pub values : List FreeEntry → List ℤ

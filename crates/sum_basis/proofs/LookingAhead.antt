@@ -1,5 +1,5 @@
 -- What is told of a form with a new row while its rows are cleared one after the other.
-use Rattle.std.proofs.Common.{◌≡◌, ◌↔◌, ℕ, zero, suc, ◌+◌, ◌*◌, ◌<◌, ◌≤◌, ◌^◌, Bool, true, ℤ, pos, List, [], ◌∷◌, ◌++◌, length, take, get_or, refl, sym, ap, subst, arith, inl, inr, ◌⊎◌, IsTrue}
+use Rattle.std.proofs.Common.{◌≡◌, ◌↔◌, ℕ, ◌+◌, ◌*◌, ◌<◌, ◌≤◌, ◌^◌, Bool, true, ℤ, pos, List, [], ◌∷◌, ◌++◌, length, take, get_or, refl, sym, subst, arith, inl, inr, ◌⊎◌, IsTrue}
 use Rattle.std.specs.Prelude.{◌<ℤ◌, unsigned_abs}
 use Rattle.std.specs.Int.{◌∣◌}
 use Rattle.std.specs.List.{AllByRecursion}
@@ -11,6 +11,7 @@ use Rattle.std.proofs.lemmas.List.Elements.{All-from_recursion}
 use Rattle.audit_types.specs.Form.{InSpan, IsPrimitive, IsReducedForm, IsLeastCommonMultiple, pivot, pivot_entry, pivot_entries}
 use Rattle.audit_types.specs.ListLaws.{all-push}
 use Rattle.audit_types.specs.Numbers.{size_positive}
+use Rattle.audit_types.specs.FormRows.{pivot_below}
 use Rattle.sum_basis.specs.Basis.{Echelon, HasUnitRow}
 use Rattle.sum_basis.specs.Elimination.{IsSmall, IsSmallForm, IsZeroAtPivots, IsCleared, AreCleared, IsLone}
 use Rattle.sum_basis.specs.Growth.{ClearsFirst, GrowsTo, GrowsWide}
@@ -21,8 +22,8 @@ use Rattle.sum_basis.proofs.Growing.{placed_is_reduced}
 use Rattle.sum_basis.proofs.ClearingFirst.{one_more_cleared, rest_cleared, too_large, no_rows}
 use Rattle.sum_basis.proofs.Clearing.{primitives}
 use Rattle.sum_basis.proofs.WideForms.{row_too_large, is_narrow}
-use Rattle.sum_basis.proofs.Ranks.{pivot_within}
 use Rattle.sum_basis.proofs.UnitRowsInSpan.{unit_in_span, no_unit}
+use Rattle.std.proofs.lemmas.List.{take_all}
 
 -- some row has one entry that is not 0
 abbrev pub SomeLone : List (List ℤ) → Type 0
@@ -190,14 +191,8 @@ module _ (form : Echelon) (new : List ℤ) (f : IsSmallForm form.n form.rows) (p
     abbrev grown : List (List ℤ)
     grown = placed new l.made
 
-    all_of : (xs : List (List ℤ)) (m : ℕ) → length xs ≤ m → take m xs ≡ xs
-    all_of [] zero h = refl
-    all_of [] (suc m) h = refl
-    all_of (x ∷ xs) zero h = absurd (omega arith)
-    all_of (x ∷ xs) (suc m) h = ap (λ t. x ∷ t) (all_of xs m (omega arith))
-
     cleared : AreCleared form.n new form.rows l.made
-    cleared = subst (λ rows. AreCleared form.n new rows l.made) (all_of form.rows k past) l.clears.cleared
+    cleared = subst (λ rows. AreCleared form.n new rows l.made) (take_all k form.rows past) l.clears.cleared
 
     reduced : IsReducedForm form.n (form.rows ++ new ∷ []) grown
     reduced = placed_is_reduced form.n form.rows l.made new f.primitive f.echelon p z cleared
@@ -221,7 +216,7 @@ module _ (form : Echelon) (new : List ℤ) (f : IsSmallForm form.n form.rows) (p
     -- a lone row has a unit row in the span
     unit_of : (rows : List (List ℤ)) → AllByRecursion (InSpan grown) rows → AllByRecursion (IsPrimitive form.n) rows → SomeLone rows → HasUnitRow foreseen
     unit_of [] span q none = absurd none
-    unit_of (row ∷ rows) span q (inl lone) = (pivot row, pivot_within form.n row q.0, unit_in_span form.n grown row q.0 span.0 lone)
+    unit_of (row ∷ rows) span q (inl lone) = (pivot row, pivot_below form.n row q.0, unit_in_span form.n grown row q.0 span.0 lone)
     unit_of (row ∷ rows) span q (inr some) = unit_of rows span.1 q.1 some
 
     -- with one of them the new row fixes a number

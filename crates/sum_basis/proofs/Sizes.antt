@@ -7,8 +7,8 @@ use Rattle.std.proofs.Math.Nat.{mul-le-mul}
 use Rattle.audit_types.specs.Truth.{number_at}
 use Rattle.sum_basis.specs.Combination.{combine}
 use Rattle.sum_basis.specs.Elimination.{IsSmall}
+use Rattle.sum_basis.specs.CombinedRows.{number_at-combine}
 use Rattle.audit_types.specs.Products.{neg-times}
-use Rattle.sum_basis.proofs.Reduction.{number_at-combine}
 
 -- each number of a row of small entries, and 0 past its end
 pub small_at : (row : List ℤ) (j : ℕ) → IsSmall row → unsigned_abs (number_at row j) ≤ 2 ^ 56

@@ -1,7 +1,7 @@
 use Rattle.std.proofs.Common.{◌≡◌, ℕ, ℤ, pos, List, length, sym, ap, ◌∙◌, subst}
 use Rattle.std.proofs.lemmas.Bool.{eqb-true, eq-eqb}
 use Rattle.audit_types.specs.Form.{set_row}
-use Rattle.sum_basis.specs.Combination.{times}
+use Rattle.audit_types.specs.PrimitiveLines.{times}
 use Rattle.sum_basis.specs.Basis.{Echelon}
 use Rattle.sum_basis.specs.Elimination.{IsRemainder, IsSmallForm}
 use Rattle.sum_basis.proofs.FormsAreUnique.{leads_from}

@@ -8,9 +8,9 @@ use Rattle.std.proofs.lemmas.List.{length-map}
 use Rattle.audit_types.specs.Truth.{number_at}
 use Rattle.audit_types.specs.Form.{IsNarrow, pivot, pivot_entry}
 use Rattle.audit_types.specs.Numbers.{size_positive}
+use Rattle.audit_types.specs.PrimitiveLines.{times}
 use Rattle.sum_basis.specs.declared.sparse.SparseRow.{SparseRow}
 use Rattle.sum_basis.specs.Basis.{Echelon}
-use Rattle.sum_basis.specs.Combination.{times}
 use Rattle.sum_basis.specs.Elimination.{IsSmall, IsSmallForm, IsRemainder}
 use Rattle.sum_basis.specs.Sparse.{row_of, rows_of, entries_of}
 use Rattle.sum_basis.proofs.Ranks.{rank_at_most}
