@@ -14,6 +14,8 @@ use Rattle.audit_types.specs.Truth.{number_at}
 use Rattle.audit_types.specs.Form.{pivot, pivot_entry, pivot_entries}
 use Rattle.audit_types.specs.Direction.{is_pivot}
 use Rattle.audit_types.specs.Products.{neg-times, times_assoc}
+use Rattle.audit_types.specs.Numbers.{zero_less}
+use Rattle.audit_types.specs.ListLaws.{all-push}
 use Rattle.witness_build.specs.Directions.{IsSmall, IsForm, Solves, IsSolvedWith}
 use Rattle.witness_build.proofs.FormRows.{is_pivot_at, other_pivots, is_pivot-more}
 
@@ -67,12 +69,9 @@ module _ (entry : ℤ) (times : ℕ) (fits : FitsSigned w128 entry) (small : uns
   turned_is : to_z w128 (of_z w128 (pos 0 -ℤ to_z w128 (of_z w128 (to_z w128 (of_z w128 entry) *ℤ to_z w128 times)))) ≡ pos 0 -ℤ entry *ℤ pos times
   turned_is = to_z-of_z w128 (pos 0 -ℤ to_z w128 (of_z w128 (to_z w128 (of_z w128 entry) *ℤ to_z w128 times))) turned_fits ∙ ap (λ z. pos 0 -ℤ z) product_read
 
-  less_is : (z : ℤ) → pos 0 -ℤ z ≡ neg_ℤ z
-  less_is z = omega (arith, ints)
-
   solution_at : (lead common : ℤ) → IsQuotient common lead times → IsSolution entry lead common (pos 0 -ℤ entry *ℤ pos times)
   solution_at lead common q = record {
-    exact = ap (λ z. z *ℤ lead) (less_is (entry *ℤ pos times)) ∙ neg-times (entry *ℤ pos times) lead ∙ ap neg_ℤ (times_assoc entry (pos times) lead ∙ ap (λ z. entry *ℤ z) q.product);
+    exact = ap (λ z. z *ℤ lead) (zero_less (entry *ℤ pos times)) ∙ neg-times (entry *ℤ pos times) lead ∙ ap neg_ℤ (times_assoc entry (pos times) lead ∙ ap (λ z. entry *ℤ z) q.product);
     small = size_turned (entry *ℤ pos times) size;
   }
 
@@ -108,17 +107,13 @@ still_solves : (d : List ℤ) (common : ℤ) (free p : ℕ) (x : ℤ) (rows : Li
 still_solves d common free p x [] h k = tt
 still_solves d common free p x (r ∷ rows) h k = (ap (λ z. z *ℤ pivot_entry r) (get_or-set_other d p (pivot r) x (pos 0) h.0) ∙ k.0, still_solves d common free p x rows h.1 k.1)
 
-push_solved : (d : List ℤ) (common : ℤ) (free : ℕ) (rows : List (List ℤ)) (row : List ℤ) → AllByRecursion (Solves d common free) rows → Solves d common free row → AllByRecursion (Solves d common free) (rows ++ row ∷ [])
-push_solved d common free [] row h last = (last, tt)
-push_solved d common free (r ∷ rows) row h last = (h.0, push_solved d common free rows row h.1 last)
-
 -- one row more is solved
 solved_more : (n : ℕ) (common : ℤ) (rows : List (List ℤ)) (row : List ℤ) (free p : ℕ) (d : List ℤ) (x : ℤ) → p ≡ pivot row → p < n → free ≢ p → AllByRecursion (λ r. pivot r ≢ p) rows → IsSolvedWith n common rows free d → IsSolution (number_at row free) (pivot_entry row) common x →
     IsSolvedWith n common (rows ++ row ∷ []) free (set d p x)
 solved_more n common rows row free p d x e below apart others so_far is = record {
   one_each = length-set d p x ∙ so_far.one_each;
   at_free = get_or-set_other d p free x (pos 0) apart ∙ so_far.at_free;
-  solves = push_solved (set d p x) common free rows row (still_solves d common free p x rows others so_far.solves)
+  solves = all-push (Solves (set d p x) common free) rows row (still_solves d common free p x rows others so_far.solves)
       (ap (λ z. z *ℤ pivot_entry row) (ap (number_at (set d p x)) (sym e) ∙ get_or-set_same d p x (pos 0) (let long = so_far.one_each in omega arith)) ∙ is.exact);
   elsewhere = λ j none other.
       let neither = sym (is_pivot-more rows row j) ∙ none in
