@@ -10,6 +10,7 @@ use Rattle.audit_types.specs.declared.shapes.Shape.{Shape}
 use Rattle.audit_types.specs.declared.records.Answered.{Answered}
 use Rattle.audit_types.specs.Shapes.{columns, kind_at}
 use Rattle.audit_types.specs.Column.{Known, Answer, with_answer}
+use Rattle.audit_types.specs.HistoryLaws.{answers_of-append}
 use Rattle.audit_types.specs.History.{FitsShape, answers_of, answer_in, known_of, setting_of}
 use Rattle.audit_core.specs.declared.column.Column.{Column}
 use Rattle.audit_core.specs.Columns.{AreColumnsAfter, IsCore, known_in, known_at_first}
@@ -36,10 +37,9 @@ one_more shape count list column after first = record {
   ];
 }
 
-answers_of-behind : (column : ℕ) (history : List Answered) (r : Answered) → answers_of column (history ++ r ∷ []) ≡ answers_of column history ++ led_by (answer_in r) (r.column == column) []
-answers_of-behind column history r =
-    ap (map answer_in) (filter-append (λ x. x.column == column) history (r ∷ []))
-    ∙ map-append answer_in (filter (λ x. x.column == column) history) (filter (λ x. x.column == column) (r ∷ []))
+answers_of-push : (column : ℕ) (history : List Answered) (r : Answered) → answers_of column (history ++ r ∷ []) ≡ answers_of column history ++ led_by (answer_in r) (r.column == column) []
+answers_of-push column history r =
+    answers_of-append column history (r ∷ [])
     ∙ ap (λ l. answers_of column history ++ l) (answers_of-cons column r [])
 
 module _ (shape : Shape) (history : List Answered) (r : Answered) where
@@ -49,11 +49,11 @@ module _ (shape : Shape) (history : List Answered) (r : Answered) where
 
   -- a record adds its answer to what is known of its own column
   own_column : known_of (setting_of shape) (history ++ r ∷ []) r.column ≡ with_answer (known_of (setting_of shape) history r.column) r.rows.list r.answer
-  own_column = ap (knows r.column) (answers_of-behind r.column history r ∙ ap (λ b. answers_of r.column history ++ led_by (answer_in r) b []) (eq-eqb r.column r.column refl))
+  own_column = ap (knows r.column) (answers_of-push r.column history r ∙ ap (λ b. answers_of r.column history ++ led_by (answer_in r) b []) (eq-eqb r.column r.column refl))
 
   -- and nothing to any other
   other_column : (column : ℕ) → r.column ≢ column → known_of (setting_of shape) (history ++ r ∷ []) column ≡ known_of (setting_of shape) history column
-  other_column column apart = ap (knows column) (answers_of-behind column history r ∙ ap (λ b. answers_of column history ++ led_by (answer_in r) b []) (ne_eqb r.column column apart) ∙ append-nil (answers_of column history))
+  other_column column apart = ap (knows column) (answers_of-push column history r ∙ ap (λ b. answers_of column history ++ led_by (answer_in r) b []) (ne_eqb r.column column apart) ∙ append-nil (answers_of column history))
 
   -- where the record's own column takes its answer, the columns are those after it
   pub record_taken : (list : List Column) (old new : Column) → IsCore shape list history → r.column < columns shape → old ≡ get_or list r.column old →

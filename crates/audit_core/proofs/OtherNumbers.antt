@@ -15,7 +15,7 @@ use Rattle.audit_types.specs.Column.{Known, Answer, Agrees, GivesSameAnswers, Is
 use Rattle.audit_types.specs.Direction.{IsPinned}
 use Rattle.sum_audit.specs.Laws.{SpannedOrMoved, PinnedByUnitRow, DangerousByPins}
 use Rattle.max_audit.specs.Laws.{PossibleByExtremes, FixedByLoneRows, LoneOrFree}
-use Rattle.audit_core.proofs.OwnAnswers.{all_before}
+use Rattle.audit_types.specs.ListLaws.{all-front, all-push, all-map}
 
 -- another list that gives all the answers, with another number in row i
 pub record HasOther (known : Known) (w : List ℤ) (i : ℕ) : Type 0 where
@@ -89,23 +89,11 @@ moved_agrees w d (a ∷ answers) same agrees zeros = (
   moved_agrees w d answers same agrees.1 zeros.1,
 )
 
-all_sets : (n : ℕ) (answers : List Answer) → AllByRecursion (λ a. AreRows n a.rows) answers → AllByRecursion (AreRows n) (map (λ a. a.rows) answers)
-all_sets n [] all = tt
-all_sets n (a ∷ answers) all = (all.0, all_sets n answers all.1)
-
-last_of : (P : Answer → Type 0) (answers : List Answer) (a : Answer) → AllByRecursion P (answers ++ a ∷ []) → P a
-last_of P [] a all = all.0
-last_of P (b ∷ answers) a all = last_of P answers a all.1
-
-all_with : (P : Answer → Type 0) (answers : List Answer) (a : Answer) → AllByRecursion P answers → P a → AllByRecursion P (answers ++ a ∷ [])
-all_with P [] a all last = (last, tt)
-all_with P (b ∷ answers) a all last = (all.0, all_with P answers a all.1 last)
-
 -- a list that agrees with the answers and one more agreed before it
 agrees_before : (kind : Kind) (n : ℕ) (answers : List Answer) (a : Answer) (w : List ℤ) → Agrees (known_with kind n answers a) w → Agrees (known_before kind n answers) w
 agrees_before kind n answers a w agrees = record {
   one_each = agrees.one_each;
-  same = all_before (λ b. truth kind w b.rows ≡ b.value) answers (a ∷ []) agrees.same;
+  same = (all-front (λ b. truth kind w b.rows ≡ b.value) answers a agrees.same).0;
 }
 
 -- a list that agrees and gives the same answer to one question more agrees with this answer too
@@ -113,8 +101,8 @@ agrees_with : (kind : Kind) (n : ℕ) (answers : List Answer) (a : Answer) (w v 
     GivesSameAnswers (known_before kind n answers) a.rows w v → Agrees (known_with kind n answers a) v
 agrees_with kind n answers a w v agrees same = record {
   one_each = same.agrees.one_each;
-  same = all_with (λ b. truth kind v b.rows ≡ b.value) answers a same.agrees.same
-      (same.same ∙ last_of (λ b. truth kind w b.rows ≡ b.value) answers a agrees.same);
+  same = all-push (λ b. truth kind v b.rows ≡ b.value) answers a same.agrees.same
+      (same.same ∙ (all-front (λ b. truth kind w b.rows ≡ b.value) answers a agrees.same).1);
 }
 
 module _ (spanned_or_moved : SpannedOrMoved) (pinned_by_unit_row : PinnedByUnitRow) (dangerous_by_pins : DangerousByPins) where
@@ -122,7 +110,7 @@ module _ (spanned_or_moved : SpannedOrMoved) (pinned_by_unit_row : PinnedByUnitR
   pub other_sum : (n : ℕ) (answers : List Answer) (a : Answer) (w : List ℤ) (i : ℕ) → IsWellFormed (known_with Sum n answers a) → Agrees (known_with Sum n answers a) w →
       ¬ (IsDangerous (known_sum n answers) a.rows) → i < n → HasOther (known_with Sum n answers a) w i
   other_sum n answers a w i well agrees safe below =
-      let are_rows = all_sets n (answers ++ a ∷ []) well.are_rows in
+      let are_rows = all-map (λ b. b.rows) (AreRows n) (answers ++ a ∷ []) well.are_rows in
       let sets = map (λ b. b.rows) (answers ++ a ∷ []) in
       let possible : IsPossible (known_sum n answers) = (w, agrees_before Sum n answers a w agrees) in
       elim (spanned_or_moved n sets (i ∷ []) are_rows (omega arith, below, tt)) [

@@ -6,26 +6,11 @@ use Rattle.std.proofs.lemmas.Bool.{eqb-true}
 use Rattle.audit_types.specs.declared.records.Answered.{Answered}
 use Rattle.audit_types.specs.Column.{Answer}
 use Rattle.audit_types.specs.History.{answers_of, answer_in}
-
--- what holds of each place of a list holds of all its elements
-pub all_of_each : {X : Type 0} (P : X → Type 0) (xs : List X) → ((i : ℕ) (x : X) → slice_get xs i ≡ Some x → P x) → AllByRecursion P xs
-all_of_each P [] each = tt
-all_of_each P (x ∷ xs) each = (each 0 x refl, all_of_each P xs (λ i y here. each (suc i) y here))
-
--- what holds of the front and of the last holds of the front
-pub all_before : {X : Type 0} (P : X → Type 0) (xs ys : List X) → AllByRecursion P (xs ++ ys) → AllByRecursion P xs
-all_before P [] ys all = tt
-all_before P (x ∷ xs) ys all = (all.0, all_before P xs ys all.1)
-
-kept : (P : Answer → Type 0) (b : Bool) (r : Answered) (others : List Answered) → P (answer_in r) → AllByRecursion P (map answer_in others) →
-    AllByRecursion P (map answer_in (cond b (r ∷ others) others))
-kept P true r others first rest = (first, rest)
-kept P false r others first rest = rest
+use Rattle.audit_types.specs.ListLaws.{all-map, all-filter}
 
 -- what holds of the answer of each record holds of a column's answers
 pub all_answers : (P : Answer → Type 0) (column : ℕ) (history : List Answered) → AllByRecursion (λ r. P (answer_in r)) history → AllByRecursion P (answers_of column history)
-all_answers P column [] all = tt
-all_answers P column (r ∷ history) all = kept P (r.column == column) r (filter (λ x. x.column == column) history) all.0 (all_answers P column history all.1)
+all_answers P column history all = all-map answer_in P (filter (λ r. r.column == column) history) (all-filter (λ r. P (answer_in r)) (λ r. r.column == column) history all)
 
 -- the last record of a column: the column's answers are those before it and its own
 pub record HasLast (column : ℕ) (history : List Answered) : Type 0 where
@@ -50,7 +35,7 @@ led_apart : (first : Answer) (b : Bool) (front : List Answer) (a : Answer) → l
 led_apart first true front a = refl
 led_apart first false front a = refl
 
--- the last record behind the first one is the last
+-- the last record after the first one is the last
 later : (column : ℕ) (r : Answered) (history : List Answered) → HasLast column history → HasLast column (r ∷ history)
 later column r history found =
     let front = take found.place history in
@@ -66,7 +51,7 @@ later column r history found =
           ∙ ap (λ l. l ++ last ∷ []) (sym (answers_of-cons column r front));
     }
 
--- where none is behind it, the first record is the last, unless it is another column's
+-- where none is after it, the first record is the last, unless it is another column's
 only : (column : ℕ) (r : Answered) (history : List Answered) (b : Bool) → (r.column == column) ≡ b → answers_of column history ≡ [] →
     (answers_of column (r ∷ history) ≡ []) ⊎ HasLast column (r ∷ history)
 only column r history true own none = inr (record {

@@ -1,4 +1,4 @@
--- What stands at each place of a list after one element was put behind it or in another's place.
+-- What stands at each place of a list after one element was put after it or in another's place.
 use Rattle.std.proofs.Common.{◌≡◌, ◌≢◌, ℕ, zero, suc, ◌++◌, List, [], ◌∷◌, length, take, Some, refl, ap, arith, inl, inr, ◌⊎◌}
 use Rattle.std.specs.Prelude.{slice_get, slice_set}
 use Rattle.std.proofs.lemmas.Option.{none-some, same_Some}

@@ -3,7 +3,7 @@ use Rattle.std.proofs.Common.{◌≡◌, ℕ, Bool, false, ◌||◌, ◌==◌, L
 use Rattle.std.proofs.lemmas.Bool.{true≢false}
 use Rattle.std.proofs.lemmas.Bool.Decides.{nat_tests}
 use Rattle.audit_types.specs.Rows.{has_row, with_row, rows_that}
-use Rattle.audit_types.specs.RowLaws.{rows_that_agree, has-rows_that, in_front}
+use Rattle.audit_types.specs.RowLaws.{rows_that_agree, has-rows_that, has_first}
 use Rattle.audit_types.specs.Laws.{with_rows}
 
 -- one row added
@@ -24,7 +24,7 @@ with_rows-is n set r (x ∷ rows) =
 -- the same rows make the same set
 pub same_set : (n : ℕ) (set xs ys : List ℕ) → ((r : ℕ) → has_row xs r ≡ has_row ys r) → with_rows n set xs ≡ with_rows n set ys
 same_set n set [] [] h = refl
-same_set n set [] (y ∷ ys) h = absurd (true≢false (sym (in_front y ys) ∙ sym (h y)))
-same_set n set (x ∷ xs) [] h = absurd (true≢false (sym (in_front x xs) ∙ h x))
+same_set n set [] (y ∷ ys) h = absurd (true≢false (sym (has_first y ys) ∙ sym (h y)))
+same_set n set (x ∷ xs) [] h = absurd (true≢false (sym (has_first x xs) ∙ h x))
 same_set n set (x ∷ xs) (y ∷ ys) h =
     with_rows-is n set x xs ∙ rows_that_agree _ _ n (λ q l. ap (λ b. has_row set q || b) (h q)) ∙ sym (with_rows-is n set y ys)

@@ -1,26 +1,21 @@
 -- The secrets of a table agree with each history of true records.
-use Rattle.std.proofs.Common.{◌≡◌, ℕ, suc, zero, ◌<◌, Bool, true, false, cond, ◌==◌, List, [], ◌∷◌, map, ◌++◌, length, refl, sym, ap, subst, ◌∙◌, arith, ℤ}
+use Rattle.std.proofs.Common.{◌≡◌, ℕ, Bool, true, false, cond, ◌==◌, List, [], ◌∷◌, map, ◌++◌, length, refl, sym, ap, subst, ◌∙◌, arith, ℤ}
 use Rattle.std.specs.Prelude.{slice_get, Some}
 use Rattle.std.specs.List.{AllByRecursion, filter}
 use Rattle.std.proofs.lemmas.Bool.{eqb-true}
-use Rattle.std.proofs.lemmas.List.{map-append}
-use Rattle.std.proofs.lemmas.List.Elements.{filter-append}
 use Rattle.audit_types.specs.Rows.{Rows}
 use Rattle.audit_types.specs.declared.records.Answered.{Answered}
 use Rattle.audit_types.specs.Shapes.{kind_at}
 use Rattle.audit_types.specs.Truth.{truth}
 use Rattle.audit_types.specs.Column.{Answer}
-use Rattle.audit_types.specs.History.{Table, Setting, Secrets, AreSecrets, AgreeWithHistory, IsPossibleHistory, IsLegal, list_of, answers_of, answer_in}
+use Rattle.audit_types.specs.ListLaws.{all_by_place, all-get_or, all-append}
+use Rattle.audit_types.specs.HistoryLaws.{answers_of-append}
+use Rattle.audit_types.specs.History.{Table, Setting, AreSecrets, AgreeWithHistory, IsPossibleHistory, IsLegal, list_of, answers_of, answer_in}
 
 module _ (table : Table) where
   -- the answer of a record is the table's
   abbrev IsTrueAnswer : Answered → Type 0
   IsTrueAnswer r = r.answer ≡ truth (kind_at table.setting.shape r.column) (list_of table.secrets r.column) r.rows.list
-
-  -- every record of a history is true
-  all_true : (history : List Answered) → ((i : ℕ) (r : Answered) → slice_get history i ≡ Some r → IsTrueAnswer r) → AllByRecursion IsTrueAnswer history
-  all_true [] h = tt
-  all_true (r ∷ history) h = (h 0 r refl, all_true history (λ i x e. h (suc i) x e))
 
   module _ (column : ℕ) where
     abbrev Gives : Answer → Type 0
@@ -40,33 +35,16 @@ module _ (table : Table) where
     all_given [] h = tt
     all_given (r ∷ history) h = taken (r.column == column) r (filter (λ x. x.column == column) history) (λ own. own_record r own h.0) (all_given history h.1)
 
-  numbers_at : (lists : Secrets) → AllByRecursion (λ w. length w ≡ table.setting.shape.rows) lists → (column : ℕ) → column < length lists →
-      length (list_of lists column) ≡ table.setting.shape.rows
-  numbers_at [] h column l = absurd (omega arith)
-  numbers_at (w ∷ lists) h zero l = h.0
-  numbers_at (w ∷ lists) h (suc column) l = numbers_at lists h.1 column (omega arith)
-
   pub true_history : AreSecrets table.setting.shape table.secrets → (history : List Answered) →
       ((i : ℕ) (r : Answered) → slice_get history i ≡ Some r → IsTrueAnswer r) → AgreeWithHistory table.setting history table.secrets
   true_history secrets history each column below = record {
-    one_each = numbers_at table.secrets secrets.numbers column (omega (arith, secrets.one_each));
-    same = all_given column history (all_true history each);
+    one_each = all-get_or (λ w. length w ≡ table.setting.shape.rows) table.secrets column [] secrets.numbers (omega (arith, secrets.one_each));
+    same = all_given column history (all_by_place IsTrueAnswer history each);
   }
 
   -- the secrets of the table agree with a legal history
   pub legal_is_possible : (history : List Answered) → AreSecrets table.setting.shape table.secrets → IsLegal table history → IsPossibleHistory table.setting history
   legal_is_possible history secrets legal = (table.secrets, secrets, true_history secrets history (λ i r here. (legal.each i r here).true_answer))
-
--- the answers of two histories, one after the other
-answers_of-append : (column : ℕ) (history more : List Answered) → answers_of column (history ++ more) ≡ answers_of column history ++ answers_of column more
-answers_of-append column history more =
-    ap (map answer_in) (filter-append (λ r. r.column == column) history more)
-    ∙ map-append answer_in (filter (λ r. r.column == column) history) (filter (λ r. r.column == column) more)
-
--- what holds of each of two lists holds of both
-all-append : (P : Answer → Type 0) (xs ys : List Answer) → AllByRecursion P xs → AllByRecursion P ys → AllByRecursion P (xs ++ ys)
-all-append P [] ys p q = q
-all-append P (x ∷ xs) ys p q = (p.0, all-append P xs ys p.1 q)
 
 -- secrets that agree do so after a record of their own answer
 pub keeps_agreement : (table : Table) (history : List Answered) (r : Answered) → AgreeWithHistory table.setting history table.secrets → IsTrueAnswer table r →

@@ -8,7 +8,7 @@ use Rattle.audit_types.specs.Column.{Known, IsDangerous}
 use Rattle.audit_types.specs.Form.{HasNarrowForm, HasWideForm}
 use Rattle.audit_types.specs.Direction.{PinSomeRow}
 
--- the sets that were answered, and behind them the one that is asked
+-- the sets that were answered, and after them the one that is asked
 abbrev pub sets_with : Known → List ℕ → List (List ℕ)
 sets_with known rows = map (λ a. a.rows) known.answers ++ rows ∷ []
 

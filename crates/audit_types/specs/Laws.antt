@@ -35,14 +35,14 @@ GreatestIsBoundAndReached =
     ((r : ℕ) → has_row rows r ≡ true → number_at w r ≤ℤ greatest_over w rows)
     × ((r : ℕ) × (has_row rows r ≡ true) × (number_at w r ≡ greatest_over w rows))
 
--- secrets that agree with a history agree with it still behind a record of their own answer
+-- secrets that agree with a history agree with it still after a record of their own answer
 abbrev pub TrueAnswersKeepAgreement : Type 0
 TrueAnswersKeepAgreement =
     (setting : Setting) (history : List Answered) (r : Answered) (secrets : Secrets) → AgreeWithHistory setting history secrets →
     r.answer ≡ truth (kind_at setting.shape r.column) (list_of secrets r.column) r.rows.list →
     AgreeWithHistory setting (history ++ r ∷ []) secrets
 
--- a question after a possible history has an answer behind which the history is still possible
+-- a question after a possible history has an answer after which the history is still possible
 abbrev pub SomeAnswerStaysPossible : Type 0
 SomeAnswerStaysPossible =
     (setting : Setting) (history : List Answered) (column : ℕ) (rows : Rows) → IsPossibleHistory setting history →

@@ -4,12 +4,15 @@ pub mod Rows
 pub mod RowLaws
 pub mod FilteredRows
 pub mod Truth
+pub mod SumLaws
 pub mod Column
 pub mod Extremes
+pub mod BoundLaws
 pub mod Form
 pub mod Direction
 pub mod Judgement
 pub mod History
+pub mod HistoryLaws
 pub mod Laws
 pub mod Words
 pub mod RowsLeft

@@ -6,7 +6,7 @@ use Rattle.audit_types.specs.Words.{has_bit}
 use Rattle.audit_types.specs.declared.row_iter.Spot.{Spot}
 use Rattle.audit_types.specs.declared.row_iter.RowIter.TheInside.{Inside}
 
--- whether a row is still to come: by the bits that are left of the word at the spot, and by the words behind it
+-- whether a row is still to come: by the bits that are left of the word at the spot, and by the words after it
 abbrev pub is_left : List ℕ → Spot → ℕ → Bool
 is_left words spot r = cond (r / 64 == spot.place) (bit_at spot.word (r % 64) == 1) (nat_lt spot.place (r / 64) && has_bit words r)
 

@@ -18,7 +18,7 @@ columns shape = count_by (λ b. nat_lt 0 b) shape.kinds
 abbrev pub kind_at : Shape → ℕ → Kind
 kind_at shape column = kind_of_byte (slice_index shape.kinds column)
 
--- a byte 1 or 2 for each column, and bytes 0 behind them
+-- a byte 1 or 2 for each column, and bytes 0 after them
 abbrev pub AreKinds : List ℕ → Type 0
 AreKinds [] = Unit {0}
 AreKinds (b ∷ bytes) = (((b ≡ 1) ⊎ (b ≡ 2)) × AreKinds bytes) ⊎ ((b ≡ 0) × AllByRecursion (λ x. x ≡ 0) bytes)

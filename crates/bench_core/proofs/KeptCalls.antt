@@ -7,6 +7,7 @@ use Rattle.bench_core.specs.Machine.{wrote, sending}
 use Rattle.bench_core.specs.declared.log.Past.{Past}
 use Rattle.bench_core.specs.declared.log.Past.TheVariants as past
 use Rattle.bench_core.specs.LogContents.{call_of, IsKept}
+use Rattle.audit_types.specs.ListLaws.{all-push, all-weaker}
 
 piece_stays : (from count : ℕ) (bytes more : List ℕ) → from + count ≤ length bytes → take count (drop from (bytes ++ more)) ≡ take count (drop from bytes)
 piece_stays from count bytes more le = ap (take count) (drop-append-le from bytes more (omega arith)) ∙ take-append-le count (drop from bytes) more (omega (arith, length-drop from bytes))
@@ -33,8 +34,8 @@ kept_more pieces sent more rest (past.Sent from count) a b le = omega arith
 kept_more pieces sent more rest past.Other a b le = tt
 
 pub all_kept : (pieces sent more rest : ℕ) (all : List Past) (p : Past) → pieces ≤ more → sent ≤ rest → AllByRecursion (IsKept pieces sent) all → IsKept more rest p → AllByRecursion (IsKept more rest) (all ++ p ∷ [])
-all_kept pieces sent more rest [] p a b kept is = (is, tt)
-all_kept pieces sent more rest (first ∷ all) p a b kept is = (kept_more pieces sent more rest first a b kept.0, all_kept pieces sent more rest all p a b kept.1 is)
+all_kept pieces sent more rest all p a b kept is =
+    all-push (IsKept more rest) all p (all-weaker (IsKept pieces sent) (IsKept more rest) (λ q. kept_more pieces sent more rest q a b) all kept) is
 
 -- the piece that joined last
 pub piece_at_end : (bytes piece : List ℕ) → take (length piece) (drop (length bytes) (bytes ++ piece)) ≡ piece

@@ -12,8 +12,9 @@ use Rattle.std.proofs.lemmas.Bool.Decides.{Decides-int_eq, Decides-like, same_fr
 use Rattle.audit_types.specs.Rows.{has_row}
 use Rattle.audit_types.specs.Column.{Answer, known_max}
 use Rattle.audit_types.specs.Extremes.{least_of, upper_bound, is_bound, extremes}
+use Rattle.audit_types.specs.ListLaws.{all-push, all-front}
 use Rattle.max_audit.specs.Laws.{LeavesLoneRow}
-use Rattle.max_bounds.specs.AnswerLaws.{all_at, all_from, all-push, all-front, one_of_front, one_of_last, front_or_last}
+use Rattle.max_bounds.specs.AnswerLaws.{all_at, all_from, one_of_front, one_of_last, front_or_last}
 
 -- a number is below both of two numbers, equal to both, or above both
 abbrev pub LiesAlike : ℤ → ℤ → ℤ → Type 0

@@ -16,10 +16,9 @@ use Rattle.std.proofs.lemmas.Int.{ints, clamps, by_lt_z}
 use Rattle.audit_types.specs.Column.{Answer, IsOneOf}
 use Rattle.audit_types.specs.Extremes.{IsCandidate}
 use Rattle.audit_types.specs.Extremes.IsCandidate.{first, equal, above, below}
-use Rattle.max_bounds.specs.declared.answered.AnsweredMax.{AnsweredMax}
-use Rattle.max_bounds.specs.Maxima.{answer_of, answers_of}
+use Rattle.audit_types.specs.ListLaws.{all-push}
 use Rattle.max_audit.specs.Candidates.{AreCandidates, IsBelowAll, IsNearRange}
-use Rattle.max_bounds.specs.AnswerLaws.{all_at, all_from, all-push}
+use Rattle.max_bounds.specs.AnswerLaws.{all_at, all_from}
 
 -- the least of some answers: one of all, and at most each that was taken
 pub record IsLeastSoFar (all taken : List Answer) (least : ℤ) : Type 0 where

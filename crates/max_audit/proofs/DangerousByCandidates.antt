@@ -7,10 +7,12 @@ use Rattle.audit_types.specs.Rows.{has_row, AreRows}
 use Rattle.audit_types.specs.Truth.{greatest_over}
 use Rattle.audit_types.specs.Column.{Answer, Agrees, GivesSameAnswers, IsWellFormed, IsDangerous, known_max}
 use Rattle.audit_types.specs.Extremes.{upper_bound, is_bound}
+use Rattle.audit_types.specs.RowLaws.{has_first}
+use Rattle.audit_types.specs.ListLaws.{all-push, all-front}
 use Rattle.max_audit.specs.Witnesses.{highest}
 use Rattle.max_audit.specs.Laws.{LeavesLoneRow, DangerousByCandidates}
-use Rattle.max_bounds.specs.AnswerLaws.{all_at, all-push, all-front}
-use Rattle.max_bounds.specs.RowListLaws.{has_first, row_below, filter-has}
+use Rattle.max_bounds.specs.AnswerLaws.{all_at}
+use Rattle.max_bounds.specs.RowListLaws.{row_below, filter-has}
 use Rattle.max_audit.proofs.LoneRowsAreFixed.{lone_value}
 use Rattle.max_audit.proofs.OtherRowsAreFree.{highest_agrees_law, lone_or_free, possible_by_extremes}
 use Rattle.max_audit.proofs.AnswersInOneGap.{moved}

@@ -13,9 +13,11 @@ use Rattle.audit_types.specs.Rows.{has_row, AreRows}
 use Rattle.audit_types.specs.Truth.{greatest_over}
 use Rattle.audit_types.specs.Column.{Answer, IsOneOf, known_max}
 use Rattle.audit_types.specs.Extremes.{upper_bound, is_bound, extremes, IsLone, IsConsistent}
+use Rattle.audit_types.specs.RowLaws.{has_first}
+use Rattle.audit_types.specs.ListLaws.{all-push}
 use Rattle.max_bounds.specs.Outside.{outside, IsBelowBound, HasOneHighest, IsStranded, HasStranded, IsDangerousByExtremes}
-use Rattle.max_bounds.specs.AnswerLaws.{all_at, all_from, all-push, one_of_front, one_of_last, front_or_last}
-use Rattle.max_bounds.specs.RowListLaws.{has_first, has_later, first_or_later, filter-has, filter-ascends, only_or_not, other_row, some_row, not_empty, some_length, one_row}
+use Rattle.max_bounds.specs.AnswerLaws.{all_at, all_from, one_of_front, one_of_last, front_or_last}
+use Rattle.max_bounds.specs.RowListLaws.{has_later, first_or_later, filter-has, filter-ascends, only_or_not, other_row, some_row, not_empty, some_length, one_row}
 use Rattle.max_bounds.specs.BoundLaws.{exact_bound}
 use Rattle.max_audit.specs.Laws.{LeavesLoneRow, DangerousByExtremes}
 use Rattle.max_bounds.specs.OneMoreLaws.{IsAtLeast, asked, with_asked, keeps_extremes, lower_keeps, higher_loses, asked_has, has_asked}

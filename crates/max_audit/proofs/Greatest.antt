@@ -7,7 +7,8 @@ use Rattle.std.proofs.lemmas.Int.{ints, clamps, fold-int_max_bounds}
 use Rattle.std.proofs.lemmas.Bool.{cases_cond, true≢false}
 use Rattle.audit_types.specs.Rows.{has_row}
 use Rattle.audit_types.specs.Truth.{number_at, greatest_over}
-use Rattle.max_bounds.specs.RowListLaws.{has_first, has_later, first_or_later}
+use Rattle.audit_types.specs.RowLaws.{has_first}
+use Rattle.max_bounds.specs.RowListLaws.{has_later, first_or_later}
 
 -- the greatest of a number and those of some rows
 abbrev top : List ℤ → ℤ → List ℕ → ℤ

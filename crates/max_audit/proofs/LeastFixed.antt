@@ -4,7 +4,7 @@ use Rattle.audit_types.specs.Rows.{has_row}
 use Rattle.audit_types.specs.Column.{Answer, IsWellFormed, known_max}
 use Rattle.audit_types.specs.Extremes.{IsConsistent, IsLone, IsLeastLone}
 use Rattle.max_audit.specs.Laws.{IsLeastFixed}
-use Rattle.max_bounds.specs.RowListLaws.{has_first}
+use Rattle.audit_types.specs.RowLaws.{has_first}
 use Rattle.max_audit.proofs.OtherRowsAreFree.{extreme_below, fixed_by_lone_rows, possible_by_extremes}
 
 -- a lone row is a row of the table

@@ -6,10 +6,11 @@ use Rattle.std.proofs.lemmas.Bool.{cases_lt, true≢false}
 use Rattle.audit_types.specs.Rows.{has_row, AreRows}
 use Rattle.audit_types.specs.Column.{Answer, IsOneOf}
 use Rattle.audit_types.specs.Extremes.{upper_bound, is_bound, extremes, IsConsistent, IsLone}
+use Rattle.audit_types.specs.RowLaws.{has_first}
 use Rattle.max_bounds.specs.Outside.{outside, HasOneHighest, HasStranded, IsDangerousByExtremes}
 use Rattle.max_bounds.specs.Kept.{fewest_of, TellsExtremes}
 use Rattle.max_bounds.specs.AnswerLaws.{all_at, all_from}
-use Rattle.max_bounds.specs.RowListLaws.{filter-has, has-filter, filter-ascends, only_or_not, other_row, first_or_later, one_row, has_first, some_length}
+use Rattle.max_bounds.specs.RowListLaws.{filter-has, has-filter, filter-ascends, only_or_not, other_row, first_or_later, one_row, some_length}
 
 -- a list without a row is empty
 no_row : (rows : List ℕ) → ((r : ℕ) → has_row rows r ≡ true → ⊥) → rows ≡ []

@@ -1,9 +1,8 @@
 -- Sets with descending answers, as a new one goes among them.
-use Rattle.std.proofs.Common.{◌≡◌, ℕ, ◌<◌, zero, suc, ℤ, true, false, cond, List, [], ◌∷◌, ◌++◌, length, map, take, drop, get_or, refl, sym, ap, ◌∙◌, subst, arith, inl, inr, ◌⊎◌}
+use Rattle.std.proofs.Common.{◌≡◌, ℕ, ◌<◌, zero, suc, ℤ, true, false, cond, List, [], ◌∷◌, ◌++◌, length, map, take, drop, get_or, refl, sym, ap, ◌∙◌, subst, inl, inr, ◌⊎◌}
 use Rattle.std.specs.Prelude.{◌≤ℤ◌, int_lt}
 use Rattle.std.specs.List.{AllByRecursion}
 use Rattle.std.proofs.Math.Seq.{split_at}
-use Rattle.std.proofs.lemmas.Int.{ints}
 use Rattle.std.proofs.lemmas.List.{map-append}
 use Rattle.audit_types.specs.Column.{Answer, IsOneOf}
 use Rattle.max_bounds.specs.Outside.{outside}
@@ -13,14 +12,9 @@ use Rattle.max_bounds.specs.declared.answered.AnsweredMax.{AnsweredMax}
 use Rattle.max_bounds.proofs.HighRows.{all_inserted}
 
 -- the answers after one are not above it
-pub behind : (seen : List Answer) (x : Answer) (rest : List Answer) → Descend (seen ++ x ∷ rest) → AllByRecursion (λ b. b.value ≤ℤ x.value) rest
-behind [] x rest h = h.0
-behind (y ∷ seen) x rest h = behind seen x rest h.1
-
--- nor above what is not below it
-pub all_below : (low high : ℤ) (sets : List Answer) → low ≤ℤ high → AllByRecursion (λ b. b.value ≤ℤ low) sets → AllByRecursion (λ b. b.value ≤ℤ high) sets
-all_below low high [] less h = tt
-all_below low high (b ∷ sets) less h = (let first = h.0 in omega (arith, ints), all_below low high sets less h.1)
+pub descends_after : (seen : List Answer) (x : Answer) (rest : List Answer) → Descend (seen ++ x ∷ rest) → AllByRecursion (λ b. b.value ≤ℤ x.value) rest
+descends_after [] x rest h = h.0
+descends_after (y ∷ seen) x rest h = descends_after seen x rest h.1
 
 -- sets, cut around one of them
 pub answers_split : (least : List AnsweredMax) (i : ℕ) (x : AnsweredMax) → i < length least → x ≡ get_or least i x → answers_of least ≡ answers_of (take i least) ++ answer_of x ∷ answers_of (drop (suc i) least)

@@ -1,8 +1,7 @@
 -- Counts of extreme rows that fall.
-use Rattle.std.proofs.Common.{◌≡◌, ℕ, ◌+◌, ◌<◌, ◌≤◌, List, [], ◌∷◌, ◌++◌, length, map, refl, sym, ap, ◌∙◌, arith, get_or, set, take, drop, min, zero, suc, inl, inr, add-one, drop-cons, subst}
+use Rattle.std.proofs.Common.{◌≡◌, ℕ, ◌+◌, ◌<◌, ◌≤◌, List, [], ◌∷◌, ◌++◌, length, map, refl, sym, ap, ◌∙◌, arith, get_or, set, take, drop, min, suc, add-one, drop-cons, subst}
 use Rattle.std.proofs.lemmas.List.{map_more, map-append, take_more_set, drop-set-lt, get_or-map}
-use Rattle.std.specs.List.{AllByRecursion}
-use Rattle.audit_types.specs.Column.{Answer, IsOneOf}
+use Rattle.audit_types.specs.Column.{Answer}
 use Rattle.max_bounds.specs.declared.answered.AnsweredMax.{AnsweredMax}
 use Rattle.max_bounds.specs.Maxima.{answer_of, answers_of}
 use Rattle.max_bounds.specs.Kept.{fewest_of}
@@ -18,15 +17,15 @@ module _ {X : Type 0} where
   same_here xs ys i d one other same =
       let first : (get_or xs i d ∷ drop (suc i) xs) ≡ (get_or ys i d ∷ drop (suc i) ys) = sym (drop-cons xs i d one) ∙ same ∙ drop-cons ys i d other in cc
 
-  pub same_behind : (xs ys : List X) (i : ℕ) (d : X) → i < length xs → i < length ys → drop i xs ≡ drop i ys → drop (i + 1) xs ≡ drop (i + 1) ys
-  same_behind xs ys i d one other same =
+  pub same_after : (xs ys : List X) (i : ℕ) (d : X) → i < length xs → i < length ys → drop i xs ≡ drop i ys → drop (i + 1) xs ≡ drop (i + 1) ys
+  same_after xs ys i d one other same =
       let first : (get_or xs i d ∷ drop (suc i) xs) ≡ (get_or ys i d ∷ drop (suc i) ys) = sym (drop-cons xs i d one) ∙ same ∙ drop-cons ys i d other in
       let rest : drop (suc i) xs ≡ drop (suc i) ys = cc in
       ap (λ k. drop k xs) (add-one i) ∙ rest ∙ ap (λ k. drop k ys) (sym (add-one i))
 
   -- so they do where the element here is changed
-  pub set_behind : (xs ys : List X) (i : ℕ) (d y : X) → i < length xs → i < length ys → drop i xs ≡ drop i ys → drop (i + 1) (set xs i y) ≡ drop (i + 1) ys
-  set_behind xs ys i d y one other same = drop-set-lt (i + 1) xs i y (omega arith) ∙ same_behind xs ys i d one other same
+  pub set_after : (xs ys : List X) (i : ℕ) (d y : X) → i < length xs → i < length ys → drop i xs ≡ drop i ys → drop (i + 1) (set xs i y) ≡ drop (i + 1) ys
+  set_after xs ys i d y one other same = drop-set-lt (i + 1) xs i y (omega arith) ∙ same_after xs ys i d one other same
 
 -- a list of values of answers has one for each pair
 pub lengths_same : (f : Answer → ℕ) (pairs : List AnsweredMax) → length (map f (answers_of pairs)) ≡ length pairs
@@ -51,9 +50,3 @@ module _ (pairs : List AnsweredMax) (k : ℕ) (x : AnsweredMax) (within : k < le
       take_more_set counts k v room ∙ ap (λ l. l ++ v ∷ []) so_far ∙ ap (λ w. map g (answers_of (take k pairs)) ++ w ∷ []) here
       ∙ sym (map-append g (answers_of (take k pairs)) (answer_of x ∷ []))
       ∙ ap (map g) (sym (map_more answer_of pairs k x within ∙ ap (λ y. answers_of (take k pairs) ++ answer_of y ∷ []) (sym is)))
-
--- what holds of all holds of the element at a place
-pub all_here : {X : Type 0} (P : X → Type 0) (xs : List X) (i : ℕ) (x : X) → i < length xs → x ≡ get_or xs i x → AllByRecursion P xs → P x
-all_here P [] i x within is all = absurd (omega arith)
-all_here P (y ∷ xs) zero x within is all = subst P (sym is) all.0
-all_here P (y ∷ xs) (suc i) x within is all = all_here P xs i x (omega arith) is all.1

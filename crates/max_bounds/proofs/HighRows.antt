@@ -1,5 +1,5 @@
 -- The rows with high bounds stand for all where one of them counts.
-use Rattle.std.proofs.Common.{◌≡◌, ◌⊎◌, ℕ, zero, suc, ◌<◌, ℤ, Bool, true, false, cond, not, ◌&&◌, List, [], ◌∷◌, ◌++◌, take, drop, set, refl, sym, ap, ◌∙◌, arith, inl, inr, Option, Some, None}
+use Rattle.std.proofs.Common.{◌≡◌, ◌⊎◌, ℕ, zero, suc, ◌<◌, ℤ, Bool, true, false, cond, not, ◌&&◌, List, [], ◌∷◌, ◌++◌, take, drop, refl, sym, ap, ◌∙◌, arith, inl, inr, Option, Some, None}
 use Rattle.std.specs.Prelude.{◌↔◌, ◌<ℤ◌, ◌≤ℤ◌, int_lt}
 use Rattle.std.specs.Int.{int_min}
 use Rattle.std.specs.List.{filter, AllByRecursion}
@@ -135,23 +135,12 @@ pub all_stay : (n : ℕ) (before after : ℕ → Option ℤ) (x : ℤ) (rows : L
 all_stay n before after x rows [] all settled = tt
 all_stay n before after x rows (h ∷ highs) all settled = (high_stays n before after h x rows all.0 settled, all_stay n before after x rows highs all.1 settled)
 
--- the sets of all are over as many rows
-pub all_over : (n m : ℕ) (bound : ℕ → Option ℤ) (highs : List HighRows) → n ≡ m → AllByRecursion (IsHigh n bound) highs → AllByRecursion (λ h. h.rows.n ≡ m) highs
-all_over n m bound [] same all = tt
-all_over n m bound (h ∷ highs) same all = (all.0.same_n ∙ same, all_over n m bound highs same all.1)
-
 -- one more among all
 pub all_inserted : {X : Type 0} (P : X → Type 0) (xs : List X) (i : ℕ) (x : X) → AllByRecursion P xs → P x → AllByRecursion P (take i xs ++ x ∷ drop i xs)
 all_inserted P [] zero x all p = (p, tt)
 all_inserted P [] (suc i) x all p = (p, tt)
 all_inserted P (y ∷ xs) zero x all p = (p, all)
 all_inserted P (y ∷ xs) (suc i) x all p = (all.0, all_inserted P xs i x all.1 p)
-
--- one of all replaced
-pub all_replaced : {X : Type 0} (P : X → Type 0) (xs : List X) (i : ℕ) (x : X) → AllByRecursion P xs → P x → AllByRecursion P (set xs i x)
-all_replaced P [] i x all p = tt
-all_replaced P (y ∷ xs) zero x all p = (p, all.1)
-all_replaced P (y ∷ xs) (suc i) x all p = (all.0, all_replaced P xs i x all.1 p)
 
 -- the high rows of a cut stay so without rows whose bounds are below it
 pub low_leave : (n : ℕ) (bound : ℕ → Option ℤ) (before after : HighRows) (answer : ℤ) (others rows : List ℕ) → after.rows.n ≡ before.rows.n → after.cut ≡ before.cut →

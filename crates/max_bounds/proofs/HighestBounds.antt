@@ -4,8 +4,9 @@ use Rattle.std.specs.Prelude.{◌↔◌, IsTrue}
 use Rattle.std.proofs.lemmas.Int.{ints, by_lt_z}
 use Rattle.std.proofs.lemmas.Bool.{true≢false, cases_eq}
 use Rattle.audit_types.specs.Rows.{has_row}
+use Rattle.audit_types.specs.RowLaws.{has_first}
 use Rattle.max_bounds.specs.Outside.{IsBelowBound, HasOneHighest}
-use Rattle.max_bounds.specs.RowListLaws.{has_first, first_or_later}
+use Rattle.max_bounds.specs.RowListLaws.{first_or_later}
 use Rattle.max_bounds.proofs.Walks.{has-push, has-front, has-last}
 
 -- no bound is below itself

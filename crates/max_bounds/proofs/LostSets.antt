@@ -93,11 +93,11 @@ matters_above (AllButOne v) low high less matters = omega (arith, ints)
 matters_above (Whole v) low high less matters = omega (arith, ints)
 
 -- sets with answers not above one that does not matter
-pub lost_behind : (seen rest : List Answer) (rows : List ℕ) (top : ℤ) (lost : Lost) → IsLost seen rows lost → (Matters lost top → ⊥) → AllByRecursion (λ b. b.value ≤ℤ top) rest → IsLost (seen ++ rest) rows lost
-lost_behind seen [] rows top lost h not low = subst (λ l. IsLost l rows lost) (sym (append-nil seen)) h
-lost_behind seen (x ∷ rest) rows top lost h not low =
+pub lost_after : (seen rest : List Answer) (rows : List ℕ) (top : ℤ) (lost : Lost) → IsLost seen rows lost → (Matters lost top → ⊥) → AllByRecursion (λ b. b.value ≤ℤ top) rest → IsLost (seen ++ rest) rows lost
+lost_after seen [] rows top lost h not low = subst (λ l. IsLost l rows lost) (sym (append-nil seen)) h
+lost_after seen (x ∷ rest) rows top lost h not low =
     subst (λ l. IsLost l rows lost) (append_assoc seen (x ∷ []) rest)
-    (lost_behind (seen ++ x ∷ []) rest rows top lost (lost_passed seen rows x lost h (λ matters. not (matters_above lost x.value top low.0 matters))) not low.1)
+    (lost_after (seen ++ x ∷ []) rest rows top lost (lost_passed seen rows x lost h (λ matters. not (matters_above lost x.value top low.0 matters))) not low.1)
 
 -- at the end: where the greatest answer has a set with one row left, and none held whole, that is stranded
 pub stranded_from : (sets : List Answer) (rows : List ℕ) (v : ℤ) → IsLost sets rows (AllButOne v) → HasStranded (λ b. b.rows) sets rows

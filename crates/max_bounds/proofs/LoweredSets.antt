@@ -1,9 +1,8 @@
 -- Sets that lose the rows of a new answer.
-use Rattle.std.proofs.Common.{◌≡◌, ℕ, ◌<◌, ℤ, Bool, true, false, cond, not, ◌&&◌, List, [], ◌∷◌, ◌++◌, length, map, take, drop, set, get_or, zero, suc, ◌+◌, refl, sym, ap, ◌∙◌, inl, inr}
+use Rattle.std.proofs.Common.{◌≡◌, ℕ, ◌<◌, ℤ, Bool, true, false, cond, not, ◌&&◌, List, [], ◌∷◌, ◌++◌, length, map, take, drop, set, get_or, ◌+◌, refl, sym, ap, ◌∙◌, inl, inr}
 use Rattle.std.specs.Prelude.{int_lt}
-use Rattle.std.specs.List.{filter, AllByRecursion}
 use Rattle.std.proofs.lemmas.List.{map_more, map-append, take_more_set}
-use Rattle.std.proofs.lemmas.Bool.{cases_lt, true≢false}
+use Rattle.std.proofs.lemmas.Bool.{cases_lt}
 use Rattle.audit_types.specs.Rows.{has_row, AreRows, intersection, complement}
 use Rattle.audit_types.specs.RowLaws.{ascending_same, AreRows-rows_that, has-rows_that, has-rows_that_above, none_above}
 use Rattle.audit_types.specs.Column.{Answer}
@@ -12,7 +11,7 @@ use Rattle.max_bounds.specs.Kept.{lowered_set}
 use Rattle.max_bounds.specs.Maxima.{answer_of, answers_of}
 use Rattle.max_bounds.specs.declared.answered.AnsweredMax.{AnsweredMax}
 use Rattle.max_bounds.proofs.FallingCounts.{same_here}
-use Rattle.max_bounds.specs.RowListLaws.{filter-has, has-filter, filter-ascends}
+use Rattle.max_bounds.specs.RowListLaws.{filter-ascends}
 use Rattle.audit_types.specs.FilteredRows.{has_filtered}
 
 -- tests that are true together are one
@@ -61,9 +60,3 @@ module _ (answer : ℤ) (rows : List ℕ) (old least : List AnsweredMax) (i : �
       ∙ ap (λ l. l ++ answer_of y ∷ []) so_far ∙ ap (λ a. map f (answers_of (take i old)) ++ a ∷ []) lowers
       ∙ sym (map-append f (answers_of (take i old)) (answer_of x ∷ []))
       ∙ ap (map f) (sym (map_more answer_of old i x was ∙ ap (λ z. answers_of (take i old) ++ answer_of z ∷ []) one))
-
--- what holds of all, and of a new one, holds of all once one is replaced
-pub all-set : (P : AnsweredMax → Type 0) (xs : List AnsweredMax) (i : ℕ) (y : AnsweredMax) → AllByRecursion P xs → P y → AllByRecursion P (set xs i y)
-all-set P [] i y all p = tt
-all-set P (x ∷ xs) zero y all p = (p, all.1)
-all-set P (x ∷ xs) (suc i) y all p = (all.0, all-set P xs i y all.1 p)

@@ -1,10 +1,9 @@
 -- An array of bounds, lowered row by row and answer by answer.
-use Rattle.std.proofs.Common.{◌≡◌, ℕ, zero, suc, ◌+◌, ◌<◌, ◌≤◌, ℤ, Bool, true, false, cond, ◌==◌, List, [], ◌∷◌, ◌++◌, length, refl, sym, ap, ◌∙◌, arith, inl, inr, Option, Some, None, get_or, set, replicate, get_or-set_same, get_or-set_other, length-set, SFits, to_z, of_z}
-use Rattle.std.specs.Int.{w64, w128}
+use Rattle.std.proofs.Common.{◌≡◌, ℕ, zero, suc, ◌<◌, ◌≤◌, ℤ, Bool, true, false, cond, ◌==◌, List, [], ◌∷◌, ◌++◌, length, refl, sym, ap, ◌∙◌, arith, inl, inr, Option, Some, None, get_or, set, replicate, get_or-set_same, get_or-set_other, length-set}
 use Rattle.std.specs.List.{AllByRecursion}
 use Rattle.std.proofs.lemmas.Int.{ints, clamps}
 use Rattle.std.proofs.lemmas.Bool.{cases_eq, eq-eqb, ne_eqb}
-use Rattle.audit_types.specs.Rows.{has_row, AscendsFrom, AreRows}
+use Rattle.audit_types.specs.Rows.{has_row, AreRows}
 use Rattle.audit_types.specs.Column.{Answer}
 use Rattle.audit_types.specs.Extremes.{least_of, upper_bound}
 use Rattle.max_bounds.specs.Reaching.{bound_at, bound_with}

@@ -3,7 +3,7 @@ use Rattle.std.proofs.Common.{◌≡◌, ℕ, ◌-◌, ◌≤◌, ℤ, Bool, tru
 use Rattle.std.specs.Prelude.{◌<ℤ◌, ◌≤ℤ◌, int_lt}
 use Rattle.std.specs.Int.{int_min}
 use Rattle.std.specs.Ordering.{int_eq}
-use Rattle.std.specs.List.{filter, AllByRecursion}
+use Rattle.std.specs.List.{filter}
 use Rattle.std.proofs.lemmas.Int.{ints, clamps, by_lt_z}
 use Rattle.std.proofs.lemmas.Bool.{true≢false, and_parts, and_from}
 use Rattle.std.proofs.lemmas.Bool.Decides.{Decides-int_eq}
@@ -68,11 +68,6 @@ not_it (Some b) v x low above = elim (int_eq b v) as (λ t. int_eq b v ≡ t →
   | true ↦ λ e. let same = (Decides-int_eq b v).0 e in absurd (omega (arith, ints))
   | false ↦ λ e. refl
 ] refl
-
--- what holds of all, and of one more, holds of all with it
-pub all_last : {X : Type 0} (P : X → Type 0) (xs : List X) (y : X) → AllByRecursion P xs → P y → AllByRecursion P (xs ++ y ∷ [])
-all_last P [] y all p = (p, tt)
-all_last P (x ∷ xs) y all p = (all.0, all_last P xs y all.1 p)
 
 -- values of answers that agree
 pub map_agree : (f g : Answer → ℕ) (answers : List Answer) → ((a : Answer) → IsOneOf a answers → f a ≡ g a) → map f answers ≡ map g answers

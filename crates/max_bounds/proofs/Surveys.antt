@@ -3,21 +3,15 @@ use Rattle.std.proofs.Common.{◌≡◌, ◌≢◌, ℕ, ◌+◌, ◌<◌, ◌�
 use Rattle.std.specs.Prelude.{◌↔◌, IsTrue}
 use Rattle.std.proofs.lemmas.Bool.{cases_lt}
 use Rattle.std.specs.List.{AllByRecursion}
-use Rattle.std.specs.Option.{option_eq}
-use Rattle.std.specs.Ordering.{int_eq}
 use Rattle.audit_types.specs.Rows.{AreRows}
 use Rattle.audit_types.specs.Extremes.{is_bound}
 use Rattle.audit_types.specs.Column.{Answer}
 use Rattle.max_bounds.specs.declared.survey.Trial.{Trial}
 use Rattle.max_bounds.specs.Reaching.{reaching, lone_of, lesser_of, IsLeast, IsAlone, TellsOf}
-use Rattle.max_bounds.specs.AnswerLaws.{all-push, all-front, one_of_front, one_of_last, front_or_last}
+use Rattle.max_bounds.specs.AnswerLaws.{one_of_front, one_of_last, front_or_last}
 use Rattle.audit_types.specs.FilteredRows.{rows_within}
 use Rattle.audit_types.specs.RowLaws.{length-rows}
-
--- the code's test of a bound
-pub tested : (bound : Option ℤ) (answer : ℤ) → option_eq int_eq bound (Some answer) ≡ is_bound bound answer
-tested None answer = refl
-tested (Some b) answer = refl
+use Rattle.audit_types.specs.ListLaws.{all-push, all-front}
 
 -- a walk that counts the rows of a set that reach their bound: those seen, and those among the rest, are all
 pub record IsCounting (bound : ℕ → Option ℤ) (rows : List ℕ) (answer : ℤ) (rest : List ℕ) (count : ℕ) (only : Option ℕ) : Type 0 where

@@ -19,16 +19,6 @@ module _ (P : Answer → Type 0) where
   all_from [] h = tt
   all_from (x ∷ answers) h = (h x (inl refl), all_from answers (λ a one. h a (inr one)))
 
-  -- one answer more
-  pub all-push : (answers : List Answer) (x : Answer) → AllByRecursion P answers → P x → AllByRecursion P (answers ++ x ∷ [])
-  all-push [] x h p = (p, tt)
-  all-push (y ∷ answers) x h p = (h.0, all-push answers x h.1 p)
-
-  -- the answers before the last, and the last
-  pub all-front : (answers : List Answer) (x : Answer) → AllByRecursion P (answers ++ x ∷ []) → AllByRecursion P answers × P x
-  all-front [] x h = (tt, h.0)
-  all-front (y ∷ answers) x h = let rest = all-front answers x h.1 in ((h.0, rest.0), rest.1)
-
   -- some answer passes, or none does
   pub one_or_none : (Q : Answer → Type 0) → ((a : Answer) → P a ⊎ Q a) → (answers : List Answer) →
       ((a : Answer) × IsOneOf a answers × P a) ⊎ ((a : Answer) → IsOneOf a answers → Q a)

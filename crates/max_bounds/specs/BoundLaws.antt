@@ -20,7 +20,7 @@ either_first true false a b o = refl
 either_first false true a b o = refl
 either_first false false a b o = refl
 
--- the upper bound with one answer more behind the others
+-- the upper bound with one answer more after the others
 pub upper_bound-push : (answers : List Answer) (x : Answer) (r : ℕ) → upper_bound (answers ++ x ∷ []) r ≡ bound_with x.rows x.value r (upper_bound answers r)
 upper_bound-push [] x r = refl
 upper_bound-push (a ∷ answers) x r =

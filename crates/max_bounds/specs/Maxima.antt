@@ -16,6 +16,6 @@ answer_of a = record { rows = a.rows.list; value = a.answer }
 abbrev pub answers_of : List AnsweredMax → List Answer
 answers_of pairs = map answer_of pairs
 
--- the answers with one more behind them
+-- the answers with one more after them
 abbrev pub and_answer : List Answer → List ℕ → ℤ → List Answer
 and_answer answers rows value = answers ++ record { rows = rows; value = value } ∷ []

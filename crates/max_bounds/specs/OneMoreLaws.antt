@@ -12,8 +12,9 @@ use Rattle.std.proofs.lemmas.Bool.Decides.{Decides-int_eq}
 use Rattle.audit_types.specs.Rows.{has_row}
 use Rattle.audit_types.specs.Column.{Answer, IsOneOf}
 use Rattle.audit_types.specs.Extremes.{least_of, upper_bound, is_bound, extremes}
+use Rattle.audit_types.specs.RowLaws.{has_first}
 use Rattle.max_bounds.specs.Outside.{outside}
-use Rattle.max_bounds.specs.RowListLaws.{has_first, has_later, filter-has, has-filter}
+use Rattle.max_bounds.specs.RowListLaws.{has_later, filter-has, has-filter}
 use Rattle.max_bounds.specs.BoundLaws.{upper_bound-push, bound_below}
 
 -- filters by tests that agree on the rows

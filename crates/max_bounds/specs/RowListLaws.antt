@@ -1,13 +1,10 @@
 -- Laws of ascending lists of rows, filtered.
-use Rattle.std.proofs.Common.{◌≡◌, ◌≢◌, ℕ, ◌+◌, ◌<◌, ◌≤◌, Bool, true, false, cond, ◌==◌, List, [], ◌∷◌, length, refl, sym, ap, ◌∙◌, arith, inl, inr, ◌⊎◌}
+use Rattle.std.proofs.Common.{◌≡◌, ◌≢◌, ℕ, ◌+◌, ◌<◌, Bool, true, false, cond, ◌==◌, List, [], ◌∷◌, length, refl, sym, ap, ◌∙◌, arith, inl, inr, ◌⊎◌}
 use Rattle.std.specs.List.{filter}
 use Rattle.std.proofs.lemmas.Bool.{eqb-true, or_cases, eq-eqb, or_left, or_right, cases_eq, true≢false}
 use Rattle.audit_types.specs.Rows.{has_row, AscendsFrom, AreRows}
 use Rattle.audit_types.specs.FilteredRows.{from_lower}
-
--- a list has its first row
-pub has_first : (x : ℕ) (rows : List ℕ) → has_row (x ∷ rows) x ≡ true
-has_first x rows = or_left (x == x) (has_row rows x) (eq-eqb x x refl)
+use Rattle.audit_types.specs.RowLaws.{has_first}
 
 -- and the rows after it
 pub has_later : (x r : ℕ) (rows : List ℕ) → has_row rows r ≡ true → has_row (x ∷ rows) r ≡ true

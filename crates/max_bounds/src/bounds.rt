@@ -73,7 +73,7 @@ impl Bounds {
         self.n
     }
 
-    /// Puts an answer behind the others. On `NoMemory` nothing changes.
+    /// Puts an answer after the others. On `NoMemory` nothing changes.
     pub fn add(&mut self, rows: &RowSet, answer: i64) -> Result<(), NoMemory>
         requires same_n { rows.now.n ≡ self.old.n }
         requires some { rows.now.list ≢ [] }
@@ -154,7 +154,7 @@ impl Bounds {
         survey(&self.pairs).lone
     }
 
-    /// What `consistent` and `lone_extreme` would answer with this answer behind the others. It takes no memory.
+    /// What `consistent` and `lone_extreme` would answer with this answer after the others. It takes no memory.
     pub fn trial(&self, rows: &RowSet, answer: i128) -> Trial
         requires same_n { rows.now.n ≡ self.now.n }
         requires some { rows.now.list ≢ [] }

@@ -176,7 +176,7 @@ fn insert_high(high: &mut Vec<HighRows>, upper: &[Option<i64>], n: u16, cut: i64
     }
 }
 
-/// Makes the high rows fit the bounds behind a new answer, and keeps those of the answer as a cut.
+/// Makes the high rows fit the bounds after a new answer, and keeps those of the answer as a cut.
 pub(crate) fn renew_high(
     high: &mut Vec<HighRows>,
     upper: &[Option<i64>],

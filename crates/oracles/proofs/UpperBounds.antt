@@ -3,7 +3,7 @@ use Rattle.std.proofs.Common.{◌≡◌, ◌≢◌, ℕ, ◌+◌, ◌<◌, ◌�
 use Rattle.std.specs.List.{filter}
 use Rattle.std.specs.Int.{int_min}
 use Rattle.std.proofs.lemmas.Int.{ints, int_min_is}
-use Rattle.std.proofs.lemmas.Bool.{cases_lt, cases_eq, eq-eqb, ne_eqb}
+use Rattle.std.proofs.lemmas.Bool.{cases_lt, eq-eqb, ne_eqb}
 use Rattle.std.proofs.lemmas.Bool.Decides.{nat_tests}
 use Rattle.std.proofs.lemmas.List.Folds.{list_any-append}
 use Rattle.audit_types.specs.Rows.{has_row, rows_that, AreRows, AscendsFrom}
@@ -13,10 +13,8 @@ use Rattle.audit_types.specs.Column.{Answer}
 use Rattle.audit_types.specs.declared.records.Answered.{Answered}
 use Rattle.audit_types.specs.History.{answers_of, answer_in}
 use Rattle.oracles.proofs.Histories.{answers_of-own, answers_of-other}
-use Rattle.audit_types.specs.Extremes.{least_of, upper_bound, is_bound}
+use Rattle.audit_types.specs.Extremes.{least_of, upper_bound}
 use Rattle.oracles.specs.Ranges.{AreOver, HaveRow}
-use Rattle.std.specs.Option.{option_eq}
-use Rattle.std.proofs.Common.{int_eq}
 
 -- the less of two in either order
 min_swap : (a b : ℤ) → int_min a b ≡ int_min b a
@@ -110,11 +108,6 @@ pub rows-passed : (p : ℕ → Bool) (n : ℕ) (yielded : List ℕ) (row : ℕ) 
 rows-passed p n yielded row h = rows_that_agree _ _ n (λ r l.
     passes (has_row yielded r) (p r) r row (λ e. ap p e ∙ h)
     ∙ sym (ap (λ b. b && p r) (list_any-append (λ x. x == r) yielded (row ∷ []))))
-
--- the code's test of a bound
-pub bound_test : (bound : Option ℤ) (a : ℤ) → option_eq int_eq bound (Some a) ≡ is_bound bound a
-bound_test None a = refl
-bound_test (Some b) a = refl
 
 -- a row below n is a row of each record's table
 pub rows_of_all : (n row : ℕ) (history : List Answered) → AreOver n history → row < n → HaveRow row history

@@ -9,8 +9,9 @@ use Rattle.audit_types.specs.RowLaws.{length-rows}
 use Rattle.audit_types.specs.Shapes.{columns}
 use Rattle.audit_types.specs.Truth.{number_at, sum_over, greatest_over}
 use Rattle.audit_types.specs.History.{list_of}
+use Rattle.audit_types.specs.ListLaws.{all-get_or}
 use Rattle.table_load.specs.Cells.{SecretView, IsSecret, AreNumbers}
-use Rattle.table_load.proofs.SetSums.{number_small, at_place}
+use Rattle.table_load.proofs.SetSums.{number_small}
 
 -- a sum over so many rows
 pub sum_small : (n low : ℕ) (list : List ℤ) (rows : List ℕ) → AreNumbers n list → AscendsFrom low n rows → unsigned_abs (sum_over list rows) ≤ 10 ^ 12 * length rows
@@ -33,7 +34,7 @@ greatest_small n low list z (r ∷ rows) are ascends small =
 
 -- the list of a secret column
 numbers_of : (s : SecretView) (column : ℕ) → IsSecret s → column < columns s.shape → AreNumbers s.shape.rows (list_of s.lists column)
-numbers_of s column is below = at_place (AreNumbers s.shape.rows) s.lists column [] is.numbers (omega (arith, below, is.one_each))
+numbers_of s column is below = all-get_or (AreNumbers s.shape.rows) s.lists column [] is.numbers (omega (arith, below, is.one_each))
 
 pub sums_small : (s : SecretView) (column : ℕ) (rows : List ℕ) → IsSecret s → column < columns s.shape → AreRows s.shape.rows rows → unsigned_abs (sum_over (list_of s.lists column) rows) ≤ 1024 * 10 ^ 12
 sums_small s column rows is below are =

@@ -13,6 +13,7 @@ use Rattle.table_load.specs.Tables.{HasCell, is_number}
 use Rattle.table_load.specs.declared.faults.TableFault.TheVariants as fault
 use Rattle.table_load.specs.declared.numerals.Numeral.TheVariants as numeral
 use Rattle.table_load.proofs.FirstFaults.{none_first}
+use Rattle.audit_types.specs.ListLaws.{all-get_or, all-unmap}
 
 -- a number in range is not too large
 pub not_too_large : (meant : Option ℤ) → IsNumeralOf numeral.TooLarge meant → is_number meant ≡ true → ⊥
@@ -82,6 +83,4 @@ records_hold roles line (r ∷ rows) k role rest good at_k =
 
 -- what all records have, the one at a place has
 pub record_has : (P : Fields → Type 0) (rows : List Row) (i : ℕ) (row : Row) → AllByRecursion P (map fields_of rows) → i < length rows → row ≡ get_or rows i row → P (fields_of row)
-record_has P [] i row all within is = absurd (omega (arith, within))
-record_has P (r ∷ rows) zero row all within is = subst (λ x. P (fields_of x)) (sym is) all.0
-record_has P (r ∷ rows) (suc i) row all within is = record_has P rows i row all.1 (omega (arith, within)) is
+record_has P rows i row all within is = subst (λ r. P (fields_of r)) (sym is) (all-get_or (λ r. P (fields_of r)) rows i row (all-unmap fields_of P rows all) within)

@@ -11,6 +11,7 @@ use Rattle.audit_types.specs.Rows.{has_row, rows_that, with_row, AreRows}
 use Rattle.audit_types.specs.RowLaws.{rows_that_agree, rows_that_none, rows-again, has-rows_that, AreRows-rows_that, none_above, length-rows}
 use Rattle.audit_types.specs.Truth.{number_at, sum_over, greatest_over}
 use Rattle.audit_types.specs.declared.shapes.Kind.TheVariants.{Sum}
+use Rattle.audit_types.specs.SumLaws.{sum_over-append}
 use Rattle.table_load.specs.Cells.{AreNumbers}
 use Rattle.table_load.specs.Kept.{block_rows, AreBlocks}
 use Rattle.table_load.proofs.AnswerSizes.{sum_small}
@@ -18,11 +19,6 @@ use Rattle.table_load.proofs.AnswerSizes.{sum_small}
 -- the rows of a list that are not in a block
 abbrev pub rows_left : ℕ → List ℕ → ℕ → List ℕ
 rows_left n rows block = rows_that (λ r. has_row rows r && not (r / 64 == block)) n
-
--- a sum over two lists
-sum_over-append : (w : List ℤ) (xs ys : List ℕ) → sum_over w (xs ++ ys) ≡ sum_over w xs +ℤ sum_over w ys
-sum_over-append w [] ys = omega (arith, ints)
-sum_over-append w (x ∷ xs) ys = let rest = sum_over-append w xs ys in omega (arith, ints)
 
 -- what passes is what passes a second test too, and what doesn't
 sum_split : (w : List ℤ) (p q : ℕ → Bool) (n : ℕ) → sum_over w (rows_that p n) ≡ sum_over w (rows_that (λ r. p r && q r) n) +ℤ sum_over w (rows_that (λ r. p r && not (q r)) n)

@@ -1,3 +1,2 @@
 pub mod GreatestSoFar
-pub mod AnswersOfColumn
 pub mod SumsSoFar

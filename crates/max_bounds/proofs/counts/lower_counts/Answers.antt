@@ -4,7 +4,7 @@ use Rattle.max_bounds.specs.Maxima.{answer_of, answers_of}
 use Rattle.max_bounds.specs.Reaching.{bound_at, reaching}
 use Rattle.max_bounds.specs.Kept.{falls_of}
 use Rattle.max_bounds.specs.AnswerLaws.{all_at, one_here}
-use Rattle.max_bounds.proofs.FallingCounts.{set_behind, same_here, value_here, value_more, lengths_same}
+use Rattle.max_bounds.proofs.FallingCounts.{set_after, same_here, value_here, value_more, lengths_same}
 use Rattle.max_bounds.proofs.counts.lower_counts.Goals as goal
 
 pub overflow_sub-counts : goal.overflow_sub-counts
@@ -33,7 +33,7 @@ loop-k-preserved c =
     record {
       done = value_more c.args.pairs.now k c.index-pairs-k.result c.loop-k-test.true c.index-pairs-k.is after c.loop-k.counts (get_or c.loop-k.counts k 0 - c.falls.result) within
           c.loop-k.invariant.done (ap (λ x. x - c.falls.result) here ∙ ap (λ x. count (answer_of c.index-pairs-k.result) - x) c.falls.ensures);
-      left = set_behind c.loop-k.counts c.args.counts.now k 0 _ within (omega arith) c.loop-k.invariant.left;
+      left = set_after c.loop-k.counts c.args.counts.now k 0 _ within (omega arith) c.loop-k.invariant.left;
     }
 
 pub returns : goal.returns

@@ -2,9 +2,10 @@ use Rattle.std.proofs.Common.{◌≡◌, sym, ◌∙◌, inl, inr, to_z, of_z}
 use Rattle.std.specs.Int.{w128}
 use Rattle.std.proofs.lemmas.Int.{to_z-of_z}
 use Rattle.max_bounds.specs.Reaching.{bound_at}
-use Rattle.max_bounds.proofs.Surveys.{counting_begins, counting_found, counting_passed, counting_ends, tested}
+use Rattle.max_bounds.proofs.Surveys.{counting_begins, counting_found, counting_passed, counting_ends}
 use Rattle.max_bounds.proofs.extreme_rows.extreme_rows.Goals as goal
 use Rattle.max_bounds.proofs.extreme_rows.extreme_rows.Goals.{then-count-eq0, else-count-eq0}
+use Rattle.audit_types.specs.BoundLaws.{is_bound-option_eq}
 
 pub loop-row-init : goal.loop-row-init
 loop-row-init c =
@@ -15,7 +16,7 @@ pub loop-row-preserved-then-eq : goal.loop-row-preserved-then-eq
 loop-row-preserved-then-eq c =
     counting_found (bound_at c.args.bounds.now) c.args.rows.now.list (to_z w128 (of_z w128 c.args.answer)) c.in-Some.row c.next.new.self c.loop-row.count c.loop-row.lone c.if-count-eq0.lone
     (rw c.in-Some.ensures.steps at c.loop-row.invariant)
-    (sym (tested _ (to_z w128 (of_z w128 c.args.answer))) ∙ sym c.eq.ensures ∙ c.if-eq.true)
+    (sym (is_bound-option_eq _ (to_z w128 (of_z w128 c.args.answer))) ∙ sym c.eq.ensures ∙ c.if-eq.true)
     (elim c.if-count-eq0.branch [
       | then-count-eq0 w ↦ inl (w.if-count-eq0.true, w.lone-is)
       | else-count-eq0 w ↦ inr (w.if-count-eq0.false, w.lone-is)
@@ -25,7 +26,7 @@ pub loop-row-preserved : goal.loop-row-preserved
 loop-row-preserved c =
     counting_passed (bound_at c.args.bounds.now) c.args.rows.now.list (to_z w128 (of_z w128 c.args.answer)) c.in-Some.row c.next.new.self c.loop-row.count c.loop-row.lone
     (rw c.in-Some.ensures.steps at c.loop-row.invariant)
-    (sym (tested _ (to_z w128 (of_z w128 c.args.answer))) ∙ sym c.eq.ensures ∙ c.if-eq.false)
+    (sym (is_bound-option_eq _ (to_z w128 (of_z w128 c.args.answer))) ∙ sym c.eq.ensures ∙ c.if-eq.false)
 
 pub returns : goal.returns
 returns c =

@@ -1,9 +1,7 @@
 use Rattle.std.proofs.Common.{◌≡◌, ◌<◌, arith, ap, sym, ◌∙◌, subst, length, get_or}
 use Rattle.audit_types.specs.Rows.{complement}
 use Rattle.max_bounds.specs.Kept.{IsHigh}
-use Rattle.max_bounds.specs.declared.high_rows.HighRows.{HighRows}
-use Rattle.max_bounds.proofs.FallingCounts.{all_here}
-use Rattle.max_bounds.proofs.HighRows.{all_replaced}
+use Rattle.audit_types.specs.ListLaws.{all-set, all-get_or}
 use Rattle.max_bounds.proofs.high_rows.lower_high.Goals as goal
 
 pub loop-kept-preserved : goal.loop-kept-preserved
@@ -11,14 +9,14 @@ loop-kept-preserved c =
     let i = c.loop-kept.kept-index in
     let n = c.args.rows.now.n in
     let within : c.loop-kept.kept-index < length c.loop-kept.high = omega (arith, c.loop-kept.auto.high) in
-    let same = all_here (λ h. h.rows.n ≡ c.args.rows.now.n) c.loop-kept.high i c.kept-item.result within c.kept-item.is c.loop-kept.invariant.same_n in
+    let same = all-get_or (λ h. h.rows.n ≡ c.args.rows.now.n) c.loop-kept.high i c.kept-item.result c.loop-kept.invariant.same_n within in
     let others : c.flip.new.self.list ≡ complement c.flip.new.self.n c.args.rows.now.list = c.flip.ensures.others ∙ ap (λ m. complement m c.args.rows.now.list) (sym c.flip.ensures.n) in
     record {
-      same_n = all_replaced (λ h. h.rows.n ≡ c.args.rows.now.n) c.loop-kept.high i c.lower_one.new.high c.loop-kept.invariant.same_n (c.lower_one.ensures.n ∙ ap (λ (z : HighRows). z.rows.n) (sym c.kept-item.is) ∙ same);
+      same_n = all-set (λ h. h.rows.n ≡ c.args.rows.now.n) c.loop-kept.high i c.lower_one.new.high c.loop-kept.invariant.same_n (c.lower_one.ensures.n ∙ same);
       stay = λ bound low all.
           let before = c.loop-kept.invariant.stay bound low all in
-          let here = subst (IsHigh n bound) c.kept-item.is (all_here (IsHigh n bound) c.loop-kept.high i c.kept-item.result within c.kept-item.is before) in
-          all_replaced (IsHigh n bound) c.loop-kept.high i c.lower_one.new.high before
+          let here = all-get_or (IsHigh n bound) c.loop-kept.high i c.kept-item.result before within in
+          all-set (IsHigh n bound) c.loop-kept.high i c.lower_one.new.high before
           (subst (λ m. IsHigh m bound c.lower_one.new.high) c.flip.ensures.n
           (c.lower_one.ensures.high bound c.args.rows.now.list others low (subst (λ m. IsHigh m bound (get_or c.loop-kept.high i c.kept-item.result)) (sym c.flip.ensures.n) here)));
     }

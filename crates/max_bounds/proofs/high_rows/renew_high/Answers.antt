@@ -1,18 +1,19 @@
-use Rattle.std.proofs.Common.{◌≡◌, refl, sym, ap, ◌∙◌, subst, Vec, Global}
+use Rattle.std.proofs.Common.{◌≡◌, sym, ap, ◌∙◌, subst, Vec, Global}
 use Rattle.std.specs.Int.{w64}
 use Rattle.std.proofs.lemmas.Int.{to_z-of_z}
 use Rattle.std.specs.List.{AllByRecursion}
 use Rattle.std.proofs.lemmas.List.{with_items_is}
 use Rattle.max_bounds.specs.Reaching.{bound_at}
 use Rattle.max_bounds.specs.Kept.{AreLow, IsHigh}
-use Rattle.max_bounds.proofs.HighRows.{all_over}
+use Rattle.audit_types.specs.ListLaws.{all-weaker}
 use Rattle.max_bounds.specs.declared.high_rows.HighRows.{HighRows}
 use Rattle.max_bounds.proofs.high_rows.renew_high.Goals as goal
 use Rattle.max_bounds.proofs.high_rows.renew_high.Goals.{then-not-affected, else-not-affected}
 
 pub lower_high-requires : goal.lower_high-requires
 lower_high-requires c =
-    subst (AllByRecursion (λ h. h.rows.n ≡ c.args.rows.now.n)) (sym c.deref_mut.ensures.value) (all_over c.args.rows.now.n c.args.rows.now.n (bound_at c.args.upper.now) c.args.high.now.items refl c.requires.high)
+    subst (AllByRecursion (λ h. h.rows.n ≡ c.args.rows.now.n)) (sym c.deref_mut.ensures.value)
+    (all-weaker (IsHigh c.args.rows.now.n (bound_at c.args.upper.now)) (λ h. h.rows.n ≡ c.args.rows.now.n) (λ h high. high.same_n) c.args.high.now.items c.requires.high)
 
 pub insert_high-requires-clause-high : goal.insert_high-requires-clause-high
 insert_high-requires-clause-high c =

@@ -7,8 +7,9 @@ use Rattle.std.proofs.lemmas.Int.{ints, to_z-of_z}
 use Rattle.std.proofs.lemmas.List.{drop_all}
 use Rattle.max_bounds.specs.Maxima.{answer_of, answers_of}
 use Rattle.max_bounds.specs.Kept.{Descend, IsPlaceOf}
-use Rattle.max_bounds.proofs.Descending.{all_below, behind, answers_split}
+use Rattle.max_bounds.proofs.Descending.{descends_after, answers_split}
 use Rattle.max_bounds.proofs.kept.place_of.Goals as goal
+use Rattle.audit_types.specs.ListLaws.{all-weaker}
 
 pub returns-then-set-answer-clause-place : goal.returns-then-set-answer-clause-place
 returns-then-set-answer-clause-place c =
@@ -26,7 +27,7 @@ returns-then-set-answer-clause-place c =
     record {
       front = subst (λ a. AllByRecursion (λ b. a ≤ℤ b.value) seen) same c.loop-place.invariant;
       rest = subst (AllByRecursion (λ b. b.value ≤ℤ c.args.answer)) (sym left)
-          (low, all_below x.answer c.args.answer rest low (behind seen (answer_of x) rest (subst Descend split c.requires.descend)));
+          (low, all-weaker (λ b. b.value ≤ℤ x.answer) (λ b. b.value ≤ℤ c.args.answer) (λ b less. omega (arith, ints, low)) rest (descends_after seen (answer_of x) rest (subst Descend split c.requires.descend)));
     }
 
 pub returns-clause-place : goal.returns-clause-place

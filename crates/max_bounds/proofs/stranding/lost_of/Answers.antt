@@ -6,8 +6,8 @@ use Rattle.std.proofs.lemmas.Bool.{true≢false}
 use Rattle.max_bounds.specs.Maxima.{answer_of, answers_of}
 use Rattle.max_bounds.specs.Kept.{Matters, IsLost, Descend}
 use Rattle.max_bounds.specs.declared.stranding.Lost.TheVariants.{AllButOne, Whole}
-use Rattle.max_bounds.proofs.LostSets.{lost_behind, lost_more, lost_one, lost_whole}
-use Rattle.max_bounds.proofs.Descending.{behind, answers_split}
+use Rattle.max_bounds.proofs.LostSets.{lost_after, lost_more, lost_one, lost_whole}
+use Rattle.max_bounds.proofs.Descending.{descends_after, answers_split}
 use Rattle.max_bounds.proofs.stranding.lost_of.Goals as goal
 use Rattle.max_bounds.proofs.stranding.lost_of.Goals.{in-Nothing, in-One, in-More}
 
@@ -22,7 +22,7 @@ returns-then-not-matters c = λ rows flipped.
     let split : answers_of c.args.least.now ≡ seen ++ x ∷ rest = answers_split c.args.least.now i c.set-item.result c.loop-set-test.true c.set-item.is in
     let not : Matters c.loop-set.lost x.value → ⊥ = λ yes. true≢false (sym (c.matters.ensures.1 (subst (Matters c.loop-set.lost) (sym same) yes)) ∙ c.if-not-matters.true) in
     subst (λ l. IsLost l rows c.loop-set.lost) (sym split)
-    (lost_behind seen (x ∷ rest) rows x.value c.loop-set.lost (c.loop-set.invariant rows flipped) not (omega (arith, ints), behind seen x rest (subst Descend split c.requires.descend)))
+    (lost_after seen (x ∷ rest) rows x.value c.loop-set.lost (c.loop-set.invariant rows flipped) not (omega (arith, ints), descends_after seen x rest (subst Descend split c.requires.descend)))
 
 pub loop-set-preserved : goal.loop-set-preserved
 loop-set-preserved c = λ rows flipped.

@@ -5,7 +5,8 @@ use Rattle.audit_types.specs.Rows.{rows_that, has_row, with_row}
 use Rattle.audit_types.specs.RowLaws.{walk_row, walk_more, rows_that_none}
 use Rattle.audit_types.specs.Extremes.{upper_bound, is_bound}
 use Rattle.audit_types.specs.History.{answers_of}
-use Rattle.oracles.proofs.UpperBounds.{filter-rows, rows-taken, rows-passed, bound_test, rows_of_all}
+use Rattle.audit_types.specs.BoundLaws.{is_bound-option_eq}
+use Rattle.oracles.proofs.UpperBounds.{filter-rows, rows-taken, rows-passed, rows_of_all}
 use Rattle.oracles.proofs.bounds.extremes.Goals as goal
 
 pub loop-row-init : goal.loop-row-init
@@ -33,7 +34,7 @@ loop-row-preserved-then-eq c =
     let p : ℕ → Bool = λ r. is_bound (upper_bound (answers_of c.args.answered.now.column c.args.history.now) r) c.args.answered.now.answer in
     let answer : to_z w64 (of_z w64 c.args.answered.now.answer) ≡ c.args.answered.now.answer = omega (arith, ints) in
     let passes : p c.in-Some.row ≡ true =
-    sym (bound_test (upper_bound (answers_of c.args.answered.now.column c.args.history.now) c.in-Some.row) c.args.answered.now.answer)
+    sym (is_bound-option_eq (upper_bound (answers_of c.args.answered.now.column c.args.history.now) c.in-Some.row) c.args.answered.now.answer)
     ∙ ap (λ b. option_eq int_eq b (Some c.args.answered.now.answer)) (sym c.upper_bound.ensures)
     ∙ ap (λ a. option_eq int_eq c.upper_bound.result (Some a)) (sym answer) ∙ sym c.eq.ensures ∙ c.if-eq.true in
     record {
@@ -49,7 +50,7 @@ loop-row-preserved c =
     let p : ℕ → Bool = λ r. is_bound (upper_bound (answers_of c.args.answered.now.column c.args.history.now) r) c.args.answered.now.answer in
     let answer : to_z w64 (of_z w64 c.args.answered.now.answer) ≡ c.args.answered.now.answer = omega (arith, ints) in
     let fails : p c.in-Some.row ≡ false =
-    sym (bound_test (upper_bound (answers_of c.args.answered.now.column c.args.history.now) c.in-Some.row) c.args.answered.now.answer)
+    sym (is_bound-option_eq (upper_bound (answers_of c.args.answered.now.column c.args.history.now) c.in-Some.row) c.args.answered.now.answer)
     ∙ ap (λ b. option_eq int_eq b (Some c.args.answered.now.answer)) (sym c.upper_bound.ensures)
     ∙ ap (λ a. option_eq int_eq c.upper_bound.result (Some a)) (sym answer) ∙ sym c.eq.ensures ∙ c.if-eq.false in
     record {

@@ -11,11 +11,11 @@ use Rattle.audit_types.specs.Extremes.{upper_bound, extremes}
 use Rattle.max_bounds.specs.Maxima.{Maxima, answer_of, answers_of, and_answer}
 use Rattle.max_bounds.specs.Reaching.{bound_at}
 use Rattle.max_bounds.specs.Kept.{is_at_least, rows_at_least, fewest_of, AreLeast, IsHigh, TellsExtremes}
-use Rattle.max_bounds.specs.AnswerLaws.{all-push}
+use Rattle.audit_types.specs.ListLaws.{all-push}
 use Rattle.max_bounds.proofs.FallingCounts.{fewest_of-push}
 use Rattle.max_bounds.proofs.HighRows.{all_stay, least_low}
 use Rattle.max_bounds.specs.OneMoreLaws.{bound_in_set}
-use Rattle.max_bounds.proofs.NextExtremes.{next_extremes, next_bounds, all_last}
+use Rattle.max_bounds.proofs.NextExtremes.{next_extremes, next_bounds}
 use Rattle.max_bounds.proofs.bounds.Bounds.add.Goals as goal
 
 pub insert-requires-clause-own : goal.insert-requires-clause-own
@@ -78,7 +78,7 @@ invariant_of-self-2 c =
     let small : c.len-count.result ≤ 65535 = omega (arith, c.len-count.type_inv) in
     record {
       at_most = c.self.invariant.at_most;
-      same_n = subst (AllByRecursion (λ p. p.rows.n ≡ c.self.inside.n)) (sym pairs_are) (all_last (λ p. p.rows.n ≡ c.self.inside.n) c.self.inside.pairs.items (record { rows = c.args.rows.now; answer = x }) c.self.invariant.same_n same_n);
+      same_n = subst (AllByRecursion (λ p. p.rows.n ≡ c.self.inside.n)) (sym pairs_are) (all-push (λ p. p.rows.n ≡ c.self.inside.n) c.self.inside.pairs.items (record { rows = c.args.rows.now; answer = x }) c.self.invariant.same_n same_n);
       are_rows = subst (AllByRecursion (λ a. AreRows c.self.inside.n a.rows)) (sym answers_are)
           (all-push (λ a. AreRows c.self.inside.n a.rows) answers last c.self.invariant.are_rows (subst (λ n. AreRows n rows) same_n c.n.ensures.are_rows));
       one_each = ap length upper_is ∙ c.settle.auto.upper ∙ ap length c.deref_mut-3.ensures.value ∙ c.self.invariant.one_each;
