@@ -11,7 +11,7 @@ use Rattle.audit_types.specs.Form.{IsPrimitive, pivot, pivot_entry}
 use Rattle.audit_types.specs.PrimitiveLines.{number_at-times}
 use Rattle.audit_types.specs.Products.{neg-times, product_not_zero, size_of_factor}
 use Rattle.audit_types.specs.Numbers.{zero_or_not, positive_not_zero}
-use Rattle.audit_types.specs.RowNumbers.{some_entry}
+use Rattle.audit_types.specs.RowNumbers.{some_entry, all_by_number}
 use Rattle.sum_basis.specs.declared.sparse.FreeEntry.{FreeEntry}
 use Rattle.sum_basis.specs.declared.sparse.SparseRow.{SparseRow}
 use Rattle.sum_basis.specs.Elimination.{IsSmall, IsCleared, IsLone}
@@ -19,7 +19,6 @@ use Rattle.sum_basis.specs.Sparse.{entry_at, row_of, IsListed, entries_of, IsKep
 use Rattle.sum_basis.specs.CombinedRows.{length-combine}
 use Rattle.sum_basis.proofs.Reduction.{primitive_exists}
 use Rattle.sum_basis.proofs.Clearing.{cleared_from, leads_combination}
-use Rattle.sum_basis.proofs.Sizes.{all_by_place}
 use Rattle.sum_basis.proofs.SparseRows.{here, elsewhere, no_entry, zero_below, number_at-row_of, length-row_of, listed_from}
 use Rattle.sum_basis.proofs.SparseMultiples.{kept_pivot}
 use Rattle.sum_basis.proofs.ListContents.{none, entry_at-scaled}
@@ -91,7 +90,7 @@ module _ (n : ℕ) (r : SparseRow) (new : List FreeEntry) (kept : IsKept n r) (p
 
     -- its entries are within what the bounds allow
     pub within_bounds : (most limit : ℕ) → AllByRecursion (λ (e : FreeEntry). unsigned_abs e.value ≤ most) new → unsigned_abs by * r.most + unsigned_abs times * most ≤ limit → AllByRecursion (λ x. unsigned_abs x ≤ limit) made
-    within_bounds most limit all enough = all_by_place (λ x. unsigned_abs x ≤ limit) made at
+    within_bounds most limit all enough = all_by_number (λ x. unsigned_abs x ≤ limit) made at
       where
         at : (j : ℕ) → unsigned_abs (number_at made j) ≤ limit
         at j =

@@ -61,10 +61,6 @@ lone_by_length n len e es b h l is =
     let lone = lone_list n e es h in
     (λ yes. lone.0 (sym l ∙ eqb-true len 0 (subst IsTrue is yes)), λ all. subst IsTrue (sym is) (eq-eqb len 0 (l ∙ lone.1 all)))
 
--- a row is small exactly where its pivot entry and its list are
-pub small_list : (n : ℕ) (e : FreeEntry) (es : List FreeEntry) → IsListed 0 n (e ∷ es) → unsigned_abs e.value ≤ 2 ^ 56 → AllByRecursion (λ (f : FreeEntry). unsigned_abs f.value ≤ 2 ^ 56) es → IsSmall (row_of n (e ∷ es))
-small_list n e es h p q = small_row n (e ∷ es) h (p, q)
-
 -- a list that is not empty, by its first entry and the rest
 pub record IsSplit (n : ℕ) (new : List FreeEntry) : Type 0 where
   pub first : FreeEntry

@@ -11,11 +11,12 @@ use Rattle.audit_types.specs.Truth.{number_at}
 use Rattle.audit_types.specs.Form.{IsPrimitive}
 use Rattle.audit_types.specs.Numbers.{zero_or_not}
 use Rattle.audit_types.specs.Products.{size_of_factor, one-times}
+use Rattle.audit_types.specs.RowNumbers.{all_by_number}
 use Rattle.sum_basis.specs.declared.sparse.FreeEntry.{FreeEntry}
 use Rattle.sum_basis.specs.declared.sparse.SparseRow.{SparseRow}
 use Rattle.sum_basis.specs.Elimination.{IsSmall, IsZeroAtPivots, IsCleared, AreCleared}
 use Rattle.sum_basis.specs.Sparse.{entry_at, row_of, rows_of, entries_of, IsKept, IsNew}
-use Rattle.sum_basis.proofs.Sizes.{small_at, all_by_place}
+use Rattle.sum_basis.proofs.Sizes.{small_at}
 use Rattle.sum_basis.proofs.SparseRows.{elsewhere, number_at-row_of}
 use Rattle.sum_basis.proofs.ListContents.{none}
 use Rattle.sum_basis.proofs.ClearedLists.{IsLed, is_led}
@@ -38,7 +39,7 @@ module _ (n : ℕ) (new : List FreeEntry) (is_new : IsNew n new) (one : length n
 
   -- its entry is 1
   value_is : (get_or new 0 none).value ≡ pos 1
-  value_is = size_one v (subst (λ z. pos 0 <ℤ z) led.pivot_entry_is is_new.primitive.leading) (le_of_dvd (omega arith) (is_new.primitive.content.greatest (unsigned_abs v) (all_by_place (λ x. unsigned_abs v ∣ unsigned_abs x) (row_of n new) at)))
+  value_is = size_one v (subst (λ z. pos 0 <ℤ z) led.pivot_entry_is is_new.primitive.leading) (le_of_dvd (omega arith) (is_new.primitive.content.greatest (unsigned_abs v) (all_by_number (λ x. unsigned_abs v ∣ unsigned_abs x) (row_of n new) at)))
     where
       v : ℤ
       v = (get_or new 0 none).value
@@ -67,7 +68,7 @@ module _ (n : ℕ) (new : List FreeEntry) (is_new : IsNew n new) (one : length n
               let was = subst (λ z. unsigned_abs z ≤ 2 ^ 56) (number_at-row_of 0 n (entries_of r) kept.listed j) (small_at (row_of n (entries_of r)) j small) in
               omega (arith, ints)
         ] in
-        (line.0, line.1.cleared, all_by_place (λ x. unsigned_abs x ≤ 2 ^ 56) line.0 at)
+        (line.0, line.1.cleared, all_by_number (λ x. unsigned_abs x ≤ 2 ^ 56) line.0 at)
   ]
 
   -- and so are all rows

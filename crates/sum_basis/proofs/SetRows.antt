@@ -14,8 +14,7 @@ use Rattle.audit_types.specs.Truth.{number_at}
 use Rattle.audit_types.specs.Form.{set_row, pivot, pivot_entry, pivot_entries}
 use Rattle.sum_basis.specs.Elimination.{IsSmall}
 use Rattle.audit_types.specs.PrimitiveLines.{same_rows, number_at-times, times}
-use Rattle.audit_types.specs.RowNumbers.{number_at-set_row, length-set_row}
-use Rattle.sum_basis.proofs.Sizes.{all_by_place}
+use Rattle.audit_types.specs.RowNumbers.{number_at-set_row, length-set_row, all_by_number}
 
 -- the entries below j are written
 pub record IsPartlyWritten (n : ℕ) (rows : List ℕ) (row : List ℤ) (j : ℕ) : Type 0 where
@@ -73,7 +72,7 @@ product_at_most m (suc (suc b)) limit p q = absurd (omega arith)
 
 -- a small multiple of a row of zeros and ones has small entries
 pub multiple_small : (row : List ℤ) (multiple : ℤ) → ((j : ℕ) → unsigned_abs (number_at row j) ≤ 1) → unsigned_abs multiple ≤ 2 ^ 56 → IsSmall (times multiple row)
-multiple_small row multiple bits h = all_by_place (λ x. unsigned_abs x ≤ 2 ^ 56) (times multiple row)
+multiple_small row multiple bits h = all_by_number (λ x. unsigned_abs x ≤ 2 ^ 56) (times multiple row)
     (λ j. rw (number_at-times multiple row j, unsigned_abs-mul multiple (number_at row j)) (product_at_most (unsigned_abs multiple) (unsigned_abs (number_at row j)) (2 ^ 56) h (bits j)))
 
 -- its entries are at most 1

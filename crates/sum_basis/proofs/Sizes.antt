@@ -16,11 +16,6 @@ small_at [] j h = omega arith
 small_at (x ∷ row) zero h = h.0
 small_at (x ∷ row) (suc j) h = small_at row j h.1
 
--- what holds of the number at each place holds of each entry
-pub all_by_place : (P : ℤ → Type 0) (row : List ℤ) → ((j : ℕ) → P (number_at row j)) → AllByRecursion P row
-all_by_place P [] h = tt
-all_by_place P (x ∷ row) h = (h 0, all_by_place P row (λ j. h (suc j)))
-
 -- products of small numbers
 pub product_small : (x y : ℤ) → unsigned_abs x ≤ 2 ^ 56 → unsigned_abs y ≤ 2 ^ 56 → unsigned_abs (x *ℤ y) ≤ 2 ^ 112
 product_small x y p q = rw (unsigned_abs-mul x y) (mul-le-mul {n₂ = 2 ^ 56} {m₂ = 2 ^ 56} p q)

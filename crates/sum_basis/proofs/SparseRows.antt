@@ -18,8 +18,9 @@ use Rattle.sum_basis.specs.CombinedRows.{number_at-combine, length-combine}
 use Rattle.std.specs.List.Sorted.{IsNonDecreasingBy}
 use Rattle.audit_types.specs.Products.{times-add, neg-times, one-times}
 use Rattle.sum_basis.proofs.FormsAreUnique.{pivot_is}
-use Rattle.sum_basis.proofs.Sizes.{all_by_place, small_at}
+use Rattle.sum_basis.proofs.Sizes.{small_at}
 use Rattle.audit_types.specs.PrimitiveLines.{same_rows}
+use Rattle.audit_types.specs.RowNumbers.{all_by_number}
 
 -- what an entry has at its own place
 pub here : (e : FreeEntry) (j : ℕ) → e.place ≡ j → cond (nat_eq e.place j) e.value (pos 0) ≡ e.value
@@ -194,7 +195,7 @@ all_entries_taken old row times es k same h past part = same_rows row (combine (
 
 -- small values make a small row
 pub small_row : (n : ℕ) (es : List FreeEntry) → IsListed 0 n es → AllByRecursion (λ e. unsigned_abs e.value ≤ 2 ^ 56) es → IsSmall (row_of n es)
-small_row n es h small = all_by_place (λ x. unsigned_abs x ≤ 2 ^ 56) (row_of n es) (λ j. rw (number_at-row_of 0 n es h j) (at 0 es j h small))
+small_row n es h small = all_by_number (λ x. unsigned_abs x ≤ 2 ^ 56) (row_of n es) (λ j. rw (number_at-row_of 0 n es h j) (at 0 es j h small))
   where
     at : (from : ℕ) (xs : List FreeEntry) (j : ℕ) → IsListed from n xs → AllByRecursion (λ e. unsigned_abs e.value ≤ 2 ^ 56) xs → unsigned_abs (entry_at xs j) ≤ 2 ^ 56
     at from [] j l all = omega arith

@@ -15,6 +15,7 @@ use Rattle.witness_build.specs.Directions.{IsSmall, IsDivided}
 use Rattle.audit_types.specs.PrimitiveLines.{number_at-times}
 use Rattle.audit_types.specs.Numbers.{size_negated, zero_less}
 use Rattle.audit_types.specs.RowNumbers.{number_at-negated, some_entry}
+use Rattle.audit_types.specs.ListLaws.{all-weaker}
 
 -- the numbers below i are turned, and those from i on are as they were
 pub record IsPartlyTurned (old new : List ℤ) (i : ℕ) : Type 0 where
@@ -97,5 +98,4 @@ module _ (old new : List ℤ) (row : ℕ) (moves : number_at old row ≢ pos 0) 
 
 -- small numbers are within what may be divided and turned
 pub within_126 : (d : List ℤ) → IsSmall d → AllByRecursion (λ x. unsigned_abs x ≤ 2 ^ 126) d
-within_126 [] h = tt
-within_126 (x ∷ d) h = (let small = h.0 in omega arith, within_126 d h.1)
+within_126 = all-weaker (λ x. unsigned_abs x ≤ 2 ^ 112) (λ x. unsigned_abs x ≤ 2 ^ 126) (λ x small. omega arith)

@@ -15,7 +15,8 @@ use Rattle.audit_types.specs.Form.{pivot, pivot_entry, pivot_entries}
 use Rattle.audit_types.specs.Direction.{is_pivot}
 use Rattle.audit_types.specs.Products.{neg-times, times_assoc}
 use Rattle.audit_types.specs.Numbers.{zero_less}
-use Rattle.audit_types.specs.ListLaws.{all-push}
+use Rattle.audit_types.specs.ListLaws.{all-push, all-set}
+use Rattle.audit_types.specs.RowNumbers.{all_by_number}
 use Rattle.witness_build.specs.Directions.{IsSmall, IsForm, Solves, IsSolvedWith}
 use Rattle.witness_build.proofs.FormRows.{is_pivot_at, other_pivots, is_pivot-more}
 
@@ -84,15 +85,6 @@ divides_at [] m k h l = absurd (omega arith)
 divides_at (row ∷ rows) m zero h l = h.0
 divides_at (row ∷ rows) m (suc k) h l = divides_at rows m k h.1 (omega arith)
 
-small-set : (d : List ℤ) (i : ℕ) (x : ℤ) → IsSmall d → unsigned_abs x ≤ 2 ^ 112 → IsSmall (set d i x)
-small-set [] i x h s = tt
-small-set (y ∷ d) zero x h s = (s, h.1)
-small-set (y ∷ d) (suc i) x h s = (h.0, small-set d i x h.1 s)
-
-small_zeros : (d : List ℤ) → ((j : ℕ) → number_at d j ≡ pos 0) → IsSmall d
-small_zeros [] h = tt
-small_zeros (x ∷ d) h = (let none = ap unsigned_abs (h 0) in omega arith, small_zeros d (λ j. h (suc j)))
-
 -- with the common multiple at the free column alone, no row is solved yet
 pub solving_begins : (n : ℕ) (common : ℤ) (free : ℕ) (d : List ℤ) → length d ≡ n → ((j : ℕ) → number_at d j ≡ pos 0) → free < n → unsigned_abs common ≤ 2 ^ 56 → IsSolvedWith n common [] free (set d free common)
 solving_begins n common free d e zeros below small = record {
@@ -100,7 +92,7 @@ solving_begins n common free d e zeros below small = record {
   at_free = get_or-set_same d free common (pos 0) (omega arith);
   solves = tt;
   elsewhere = λ j none other. get_or-set_other d free j common (pos 0) other ∙ zeros j;
-  small = small-set d free common (small_zeros d zeros) (omega arith);
+  small = all-set (λ y. unsigned_abs y ≤ 2 ^ 112) d free common (all_by_number (λ y. unsigned_abs y ≤ 2 ^ 112) d (λ j. let none = ap unsigned_abs (zeros j) in omega arith)) (omega arith);
 }
 
 still_solves : (d : List ℤ) (common : ℤ) (free p : ℕ) (x : ℤ) (rows : List (List ℤ)) → AllByRecursion (λ r. pivot r ≢ p) rows → AllByRecursion (Solves d common free) rows → AllByRecursion (Solves (set d p x) common free) rows
@@ -120,7 +112,7 @@ solved_more n common rows row free p d x e below apart others so_far is = record
       let here = (or_parts (pivot row == j) false (or_parts (is_pivot rows j) (pivot row == j || false) neither).1).0 in
       get_or-set_other d p j x (pos 0) (λ same. absurd (different (pivot row == j) here (eq-eqb (pivot row) j (sym e ∙ sym same))))
       ∙ so_far.elsewhere j (or_parts (is_pivot rows j) (pivot row == j || false) neither).0 other;
-  small = small-set d p x so_far.small is.small;
+  small = all-set (λ y. unsigned_abs y ≤ 2 ^ 112) d p x so_far.small is.small;
 }
   where
     different : (b : Bool) → b ≡ false → b ≡ true → ⊥

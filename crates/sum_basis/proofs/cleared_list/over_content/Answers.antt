@@ -1,11 +1,12 @@
 use Rattle.std.proofs.Common.{◌≡◌, ℕ, ℤ, ◌∷◌, pos, List, sym, ap, ◌∙◌, subst, arith, rules}
-use Rattle.std.specs.Prelude.{FitsSigned, ◌*ℤ◌}
-use Rattle.std.specs.Int.{w128}
+use Rattle.std.specs.Prelude.{FitsSigned, ◌*ℤ◌, unsigned_abs}
+use Rattle.std.specs.Int.{◌∣◌, w128}
 use mir.Val.{to_z, of_z}
 use Rattle.std.proofs.lemmas.Int.{ints, to_z-of_z}
 use Rattle.audit_types.specs.Form.{IsContent}
+use Rattle.audit_types.specs.ListLaws.{all-unmap}
 use Rattle.sum_basis.specs.declared.sparse.FreeEntry.{FreeEntry}
-use Rattle.sum_basis.proofs.ListContents.{values, over_one, over_content, all_divided_by}
+use Rattle.sum_basis.proofs.ListContents.{values, over_one, over_content}
 use Rattle.sum_basis.proofs.cleared_list.over_content.Goals as goal
 
 -- the content of the list as it was passed
@@ -20,7 +21,7 @@ returns-then-is_one-clause-over c =
 pub divide-requires-clause-divides : goal.divide-requires-clause-divides
 divide-requires-clause-divides c =
     let content = content_of c.args.head c.content-divisor.result c.deref.result.now c.args.entries.now.items c.ranges.head c.deref.ensures.value c.content-divisor.ensures.content in
-    all_divided_by c.content-divisor.result c.args.entries.now.items content.divides.1
+    all-unmap (λ (e : FreeEntry). e.value) (λ x. c.content-divisor.result ∣ unsigned_abs x) c.args.entries.now.items content.divides.1
 
 pub quotient-requires-clause-divides : goal.quotient-requires-clause-divides
 quotient-requires-clause-divides c =

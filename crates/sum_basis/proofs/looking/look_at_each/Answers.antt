@@ -13,12 +13,12 @@ use Rattle.sum_basis.specs.Basis.{Echelon}
 use Rattle.sum_basis.specs.Elimination.{IsSmall}
 use Rattle.sum_basis.specs.Sparse.{row_of, rows_of, entries_of, IsKept, IsNew}
 use Rattle.sum_basis.proofs.Sizes.{small_at}
-use Rattle.sum_basis.proofs.LeastMultiples.{size_is}
 use Rattle.sum_basis.proofs.ListContents.{none}
 use Rattle.sum_basis.proofs.ClearedLists.{is_led}
 use Rattle.sum_basis.proofs.KeptRows.{of_row, of_whole_row, nothing_at, lone_new, cleared_at, row_within}
 use Rattle.sum_basis.proofs.LookingAhead.{IsLooked, nothing_looked, one_more_looked, looked_large, looked_multiple, foreseen, looked_grows, looked_fixing, looked_open}
 use Rattle.sum_basis.proofs.looking.look_at_each.Goals as goal
+use Rattle.sum_basis.proofs.LeastMultiples.{positive_size}
 
 -- at the start
 start : (n : ℕ) (rows : List SparseRow) (new : List FreeEntry) (common : ℤ) → IsNew n new → common ≡ (get_or new 0 none).value → IsLooked n (rows_of n rows) (row_of n new) 0 common (nat_eq (length new) 1)
@@ -59,7 +59,7 @@ head_within : (n : ℕ) (head : ℤ) (made : List ℤ) → IsPrimitive n made �
 head_within n head made p small e =
     let positive : pos 0 <ℤ head = subst (λ z. pos 0 <ℤ z) (sym e) p.leading in
     let size : unsigned_abs head ≤ 2 ^ 56 = rw e (small_at made (pivot made) small) in
-    let is = size_is head positive in
+    let is = positive_size head positive in
     (positive, omega (arith, ints))
 
 pub lcm_within-requires-clause-b : goal.lcm_within-requires-clause-b
