@@ -78,7 +78,7 @@ fn number_between(line: &[u8], front: &[u8], end: &[u8]) -> Option<i64>
     }
 }
 
-// The same of a number without a sign.
+// The number without a sign between a front and an end. It may be written in other ways than replies write it.
 fn size_between(line: &[u8], front: &[u8], end: &[u8]) -> Option<u16>
     ensures { (size : ℕ) → size < 2 ^ 16 → line.now ≡ front.now ++ (decimal size ++ end.now) → result ≡ Some size }
 {

@@ -31,7 +31,7 @@ pub struct Bounds {
     // Extreme rows of pairs, with their answer, in descending order of answers. Each pair has such a set of its own answer and
     // with no other rows.
     least: Vec<AnsweredMax>,
-    // The rows with high bounds, for cuts in descending order, which mostly tell of all.
+    // The rows with high bounds, for cuts in descending order. Most questions are told by them alone.
     high: Vec<HighRows>,
 }
 
@@ -73,7 +73,7 @@ impl Bounds {
         self.n
     }
 
-    /// Puts an answer behind the others. On `NoMemory` nothing changes.
+    /// Puts an answer after the others. On `NoMemory` nothing changes.
     pub fn add(&mut self, rows: &RowSet, answer: i64) -> Result<(), NoMemory>
         requires same_n { rows.now.n ≡ self.old.n }
         requires some { rows.now.list ≢ [] }
@@ -154,7 +154,7 @@ impl Bounds {
         survey(&self.pairs).lone
     }
 
-    /// What `consistent` and `lone_extreme` would answer with this answer behind the others. It takes no memory.
+    /// What `consistent` and `lone_extreme` would answer with this answer after the others. It takes no memory.
     pub fn trial(&self, rows: &RowSet, answer: i128) -> Trial
         requires same_n { rows.now.n ≡ self.now.n }
         requires some { rows.now.list ≢ [] }

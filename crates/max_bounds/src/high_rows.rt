@@ -121,7 +121,7 @@ pub(crate) fn one_highest_of(high: &[HighRows], upper: &[Option<i64>], rows: &Ro
     one_highest(upper, rows)
 }
 
-// Leaves the high rows of a cut above an answer none but these, the others than those of the answer's set.
+// Takes the rows of an answer from the high rows of a cut above it. The others are the rows that the answer's set lacks.
 fn lower_one(high: &mut HighRows, others: &RowSet, answer: i64)
     requires same_n { high.old.rows.n ≡ others.now.n }
     ensures n { high.new.rows.n ≡ high.old.rows.n }
@@ -176,7 +176,7 @@ fn insert_high(high: &mut Vec<HighRows>, upper: &[Option<i64>], n: u16, cut: i64
     }
 }
 
-/// Makes the high rows fit the bounds behind a new answer, and keeps those of the answer as a cut.
+/// Makes the high rows fit the bounds after a new answer, and keeps those of the answer as a cut.
 pub(crate) fn renew_high(
     high: &mut Vec<HighRows>,
     upper: &[Option<i64>],

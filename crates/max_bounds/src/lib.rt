@@ -1,7 +1,7 @@
 //! Upper bounds and extreme rows of answered maxima.
 //!
 //! Start with `Bounds`: it keeps the answers of a column of maxima. `Bounds::is_dangerous` says whether a question is
-//! dangerous behind them, and `Bounds::trial` what one answer more would do.
+//! dangerous after them, and `Bounds::trial` what one answer more would do.
 #![tactic(auto)]
 
 mod answered;
