@@ -7,7 +7,7 @@ ghost use Rattle.line_wire.specs.Reply.{IsReply};
 use crate::range::is_in_range;
 use crate::reply::{Reply, write_reply};
 
-/// The replies that are one word.
+// The replies that are one word.
 const WORDS: [Reply; 8] = [
     Reply::Unsafe,
     Reply::Wide,
