@@ -145,7 +145,7 @@ pub fn run<P: Source, I: Source, B: Bench>(
     ensures unmade { NamesCommand words.now.items Init → result ≡ Status.NoMemory → bench.new ≡ bench.old }
 
     // `drill` sends the summary of the replies that are due to the drill's lines, or a front of it. That is one call of the
-    // bench, and where memory runs out there is none.
+    // bench, and where memory is wanting there is none.
     ensures drilled { B.told → (number : ℕ) → NamesCommand words.now.items (Drill number) → DrillEnds result number (B.sent bench.old) (B.sent bench.new) }
     ensures drill_calls { B.told → (number : ℕ) → NamesCommand words.now.items (Drill number) → result ≡ Status.Done → B.moment bench.new ≡ B.moment bench.old + 1 }
     ensures undrilled { (number : ℕ) → NamesCommand words.now.items (Drill number) → result ≡ Status.NoMemory → bench.new ≡ bench.old }
