@@ -2,8 +2,7 @@
 --
 -- Lists that give the same answers differ by a direction, and a list that is moved along a direction gives the same
 -- answers. So an answer discloses a row exactly where each direction is 0 there, whatever the numbers are.
-use Rattle.std.proofs.Common.{◌≡◌, ℕ, ℤ, pos, List, [], ◌∷◌, map, arith}
-use Rattle.std.specs.List.{AllByRecursion}
+use Rattle.std.proofs.Common.{◌≡◌, ℕ, pos, List, map, arith}
 use Rattle.std.proofs.lemmas.Int.{ints}
 use Rattle.audit_types.specs.Truth.{sum_over}
 use Rattle.audit_types.specs.Column.{Answer, Agrees, known_sum, IsPossible, IsDangerous}
