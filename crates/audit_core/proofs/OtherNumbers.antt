@@ -16,6 +16,7 @@ use Rattle.audit_types.specs.Direction.{IsPinned}
 use Rattle.sum_audit.specs.Laws.{SpannedOrMoved, PinnedByUnitRow, DangerousByPins}
 use Rattle.max_audit.specs.Laws.{PossibleByExtremes, FixedByLoneRows, LoneOrFree}
 use Rattle.audit_types.specs.ListLaws.{all-front, all-push, all-map}
+use Rattle.audit_types.specs.Numbers.{zero_or_not}
 
 -- another list that gives all the answers, with another number in row i
 pub record HasOther (known : Known) (w : List ℤ) (i : ℕ) : Type 0 where
@@ -30,11 +31,6 @@ known_with kind n answers a = record { kind = kind; n = n; answers = answers ++ 
 -- what is known before it
 abbrev pub known_before : Kind → ℕ → List Answer → Known
 known_before kind n answers = record { kind = kind; n = n; answers = answers }
-
-zero_or_not : (z : ℤ) → (z ≡ pos 0) ⊎ (z ≢ pos 0)
-zero_or_not (pos zero) = inl refl
-zero_or_not (pos (suc n)) = inr (λ e. omega (arith, ints))
-zero_or_not (negsuc n) = inr (λ e. omega (arith, ints))
 
 same_or_not : (x y : ℤ) → (x ≡ y) ⊎ (x ≢ y)
 same_or_not x y = elim (zero_or_not (x -ℤ y)) [ inl none ↦ inl (omega (arith, ints)) | inr some ↦ inr (λ e. some (omega (arith, ints))) ]

@@ -3,6 +3,7 @@ use Rattle.std.proofs.Common.{◌≡◌, ◌≢◌, ℕ, zero, suc, ◌+◌, ◌
 use Rattle.std.specs.Fmt.{signed_decimal}
 use Rattle.std.proofs.lemmas.List.{append-nil, take_more, length-take-le, map-append}
 use Rattle.audit_types.specs.Truth.{is_zero}
+use Rattle.audit_types.specs.Numbers.{test_of_not_zero}
 use Rattle.journal_audit.specs.Texts.{with_commas, comma_unless, at_row, moved_rows}
 
 -- whether there is no text
@@ -42,14 +43,9 @@ moved_more d i below =
     let place : 0 + length (take i d) ≡ i = omega (arith, length-take-le i d (omega arith)) in
     ap (moved_rows 0) (take_more d i (pos 0) below) ∙ moved_rows-snoc 0 (take i d) x ∙ ap (λ r. moved_rows 0 (take i d) ++ cond (is_zero x) [] (at_row r x ∷ [])) place
 
-not_zero : (x : ℤ) → x ≢ pos 0 → is_zero x ≡ false
-not_zero (pos zero) other = absurd (other refl)
-not_zero (pos (suc n)) other = refl
-not_zero (negsuc n) other = refl
-
 -- a number that isn't 0 adds its text
 pub moved_by : (d : List ℤ) (i : ℕ) → i < length d → get_or d i (pos 0) ≢ pos 0 → moved_rows 0 (take (i + 1) d) ≡ moved_rows 0 (take i d) ++ at_row i (get_or d i (pos 0)) ∷ []
-moved_by d i below other = moved_more d i below ∙ ap (λ b. moved_rows 0 (take i d) ++ cond b [] (at_row i (get_or d i (pos 0)) ∷ [])) (not_zero (get_or d i (pos 0)) other)
+moved_by d i below other = moved_more d i below ∙ ap (λ b. moved_rows 0 (take i d) ++ cond b [] (at_row i (get_or d i (pos 0)) ∷ [])) (test_of_not_zero (get_or d i (pos 0)) other)
 
 -- and 0 adds none
 pub not_moved_by : (d : List ℤ) (i : ℕ) → i < length d → get_or d i (pos 0) ≡ pos 0 → moved_rows 0 (take (i + 1) d) ≡ moved_rows 0 (take i d)

@@ -7,6 +7,7 @@ use Rattle.audit_types.specs.Rows.{AreRows}
 use Rattle.audit_types.specs.Column.{Known, Answer, known_sum, IsPossible}
 use Rattle.audit_types.specs.Form.{set_row, IsReducedForm, IsNarrow, Reduced}
 use Rattle.audit_types.specs.Judgement.{sets_with, IsJudgement, IsDecision}
+use Rattle.audit_types.specs.ListLaws.{all-push}
 use Rattle.sum_basis.specs.Basis.{Echelon, IsLeastUnit}
 use Rattle.sum_basis.specs.Growth.{GrowsTo, Foresees}
 use Rattle.sum_basis.specs.Laws.{OneMoreSet}
@@ -17,10 +18,6 @@ use Rattle.sum_audit.specs.Sets.{sets_of, IsSpanVerdict, verdict_of}
 use Rattle.sum_audit.proofs.PinnedRows.{pinned_by_form}
 use Rattle.sum_audit.proofs.DangerousByPins.{dangerous_by_pins}
 
-all_rows : (n : ℕ) (sets : List (List ℕ)) (rows : List ℕ) → AllByRecursion (AreRows n) sets → AreRows n rows → AllByRecursion (AreRows n) (sets ++ rows ∷ [])
-all_rows n [] rows h last = (last, tt)
-all_rows n (s ∷ sets) rows h last = (h.0, all_rows n sets rows h.1 last)
-
 module _ (n : ℕ) (answers : List Answer) (rows : List ℕ) (are : AllByRecursion (AreRows n) (sets_of answers)) (last : AreRows n rows) where
   -- the verdict on the form with the asked set is the judgement
   judged_at : (form : List (List ℤ)) (verdict : Verdict) → Reduced n (sets_with (known_sum n answers) rows) form → IsNarrow form →
@@ -28,11 +25,11 @@ module _ (n : ℕ) (answers : List Answer) (rows : List ℕ) (are : AllByRecursi
   judged_at form DeniedWide reduced narrow is = absurd is
   judged_at form DeniedUnsafe reduced narrow is = (
     record { form = form; reduced = reduced; narrow = narrow },
-    (is.0, (pinned_by_form n (sets_with (known_sum n answers) rows) form is.0 (all_rows n (sets_of answers) rows are last) reduced is.1).1 is.2),
+    (is.0, (pinned_by_form n (sets_with (known_sum n answers) rows) form is.0 (all-push (AreRows n) (sets_of answers) rows are last) reduced is.1).1 is.2),
   )
   judged_at form Released reduced narrow is = (
     record { form = form; reduced = reduced; narrow = narrow },
-    λ pin. is pin.0 pin.1.below ((pinned_by_form n (sets_with (known_sum n answers) rows) form pin.0 (all_rows n (sets_of answers) rows are last) reduced pin.1.below).0 pin.1),
+    λ pin. is pin.0 pin.1.below ((pinned_by_form n (sets_with (known_sum n answers) rows) form pin.0 (all-push (AreRows n) (sets_of answers) rows are last) reduced pin.1.below).0 pin.1),
   )
 
 -- after possible answers the judgement is the decision

@@ -4,20 +4,21 @@ use Rattle.std.specs.Prelude.{◌+ℤ◌, ◌-ℤ◌, ◌*ℤ◌, neg_ℤ, unsig
 use Rattle.std.specs.List.{AllByRecursion}
 use Rattle.std.proofs.lemmas.Int.{ints, unsigned_abs-mul}
 use Rattle.std.proofs.lemmas.Bool.{cases_eq}
-use Rattle.std.proofs.Math.Nat.{mul-le-mul_left, mul-le-mul_right, le-mul_of_pos_right}
+use Rattle.std.proofs.Math.Nat.{mul-le-mul_left, mul-le-mul_right}
 use Rattle.std.proofs.Math.IntN.{*ℤ-zero}
 use Rattle.audit_types.specs.Truth.{number_at}
 use Rattle.audit_types.specs.Form.{IsPrimitive, pivot, pivot_entry}
 use Rattle.audit_types.specs.PrimitiveLines.{number_at-times}
-use Rattle.audit_types.specs.Products.{neg-times, product_not_zero}
-use Rattle.audit_types.specs.Numbers.{size_above, zero_or_not}
+use Rattle.audit_types.specs.Products.{neg-times, product_not_zero, size_of_factor}
+use Rattle.audit_types.specs.Numbers.{zero_or_not, positive_not_zero}
+use Rattle.audit_types.specs.RowNumbers.{some_entry, all_by_number}
 use Rattle.sum_basis.specs.declared.sparse.FreeEntry.{FreeEntry}
 use Rattle.sum_basis.specs.declared.sparse.SparseRow.{SparseRow}
 use Rattle.sum_basis.specs.Elimination.{IsSmall, IsCleared, IsLone}
 use Rattle.sum_basis.specs.Sparse.{entry_at, row_of, IsListed, entries_of, IsKept, IsNew, scaled}
-use Rattle.sum_basis.proofs.Reduction.{length-combine, primitive_exists}
-use Rattle.sum_basis.proofs.Clearing.{cleared_from, some_entry, leads_combination, positive_not_zero}
-use Rattle.sum_basis.proofs.Sizes.{all_by_place}
+use Rattle.sum_basis.specs.CombinedRows.{length-combine}
+use Rattle.sum_basis.proofs.Reduction.{primitive_exists}
+use Rattle.sum_basis.proofs.Clearing.{cleared_from, leads_combination}
 use Rattle.sum_basis.proofs.SparseRows.{here, elsewhere, no_entry, zero_below, number_at-row_of, length-row_of, listed_from}
 use Rattle.sum_basis.proofs.SparseMultiples.{kept_pivot}
 use Rattle.sum_basis.proofs.ListContents.{none, entry_at-scaled}
@@ -44,10 +45,6 @@ bounded_at from n most (e ∷ es) h all j = elim (cases_eq e.place j) [
 -- the first entry of a new row is small, also as the code has it
 pub first_small : (n : ℕ) (new : List FreeEntry) (by : ℤ) → IsNew n new → by ≡ (get_or new 0 none).value → unsigned_abs by ≤ 2 ^ 56
 first_small n new by is e = rw e ((is_led n new is.some is.listed).small is.small)
-
--- a multiple by a number that is not 0 is no smaller
-pub no_smaller : (c x : ℤ) → c ≢ pos 0 → unsigned_abs x ≤ unsigned_abs (c *ℤ x)
-no_smaller c x n = rw (unsigned_abs-mul c x) (let more = le-mul_of_pos_right {m = unsigned_abs c} (unsigned_abs x) (size_above c n) in omega arith)
 
 module _ (n : ℕ) (r : SparseRow) (new : List FreeEntry) (kept : IsKept n r) (primitive : IsPrimitive n (row_of n (entries_of r))) (is_new : IsNew n new) (nothing : entry_at new r.pivot ≡ pos 0) (before : r.pivot < (get_or new 0 none).place)
     (by times : ℤ) (by_is : by ≡ (get_or new 0 none).value) (times_is : times ≡ entry_at r.free.items (get_or new 0 none).place) where
@@ -93,12 +90,12 @@ module _ (n : ℕ) (r : SparseRow) (new : List FreeEntry) (kept : IsKept n r) (p
 
     -- its entries are within what the bounds allow
     pub within_bounds : (most limit : ℕ) → AllByRecursion (λ (e : FreeEntry). unsigned_abs e.value ≤ most) new → unsigned_abs by * r.most + unsigned_abs times * most ≤ limit → AllByRecursion (λ x. unsigned_abs x ≤ limit) made
-    within_bounds most limit all enough = all_by_place (λ x. unsigned_abs x ≤ limit) made at
+    within_bounds most limit all enough = all_by_number (λ x. unsigned_abs x ≤ limit) made at
       where
         at : (j : ℕ) → unsigned_abs (number_at made j) ≤ limit
         at j =
             let here = l.line j in
-            let least = no_smaller l.over (number_at made j) l.not_zero in
+            let least = size_of_factor l.over (number_at made j) l.not_zero in
             let one = unsigned_abs-mul by (entry_at (entries_of r) j) in
             let two = unsigned_abs-mul times (entry_at new j) in
             let first = mul-le-mul_left (unsigned_abs by) (bounded_at 0 n r.most (entries_of r) kept.listed kept.bounded j) in

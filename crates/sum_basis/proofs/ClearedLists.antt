@@ -12,18 +12,21 @@ use Rattle.std.proofs.lemmas.Nat.Gcd.{dvd-zero}
 use Rattle.std.proofs.Math.IntN.{*ℤ-zero, pos-*ℤ-pos, pos-*ℤ-negsuc}
 use Rattle.audit_types.specs.Truth.{number_at}
 use Rattle.audit_types.specs.Form.{IsContent, IsPrimitive, pivot, pivot_entry}
-use Rattle.audit_types.specs.PrimitiveLines.{number_at-times, same_rows}
+use Rattle.audit_types.specs.PrimitiveLines.{number_at-times, same_rows, times as times_of}
 use Rattle.sum_basis.specs.declared.sparse.FreeEntry.{FreeEntry}
 use Rattle.sum_basis.specs.declared.sparse.SparseRow.{SparseRow}
-use Rattle.sum_basis.specs.Combination.{combine, times as times_of}
+use Rattle.sum_basis.specs.Combination.{combine}
 use Rattle.sum_basis.specs.Elimination.{IsSmall, IsCleared}
 use Rattle.sum_basis.specs.Sparse.{entry_at, row_of, IsListed, entries_of, IsKept, IsNew, IsOverContent}
+use Rattle.sum_basis.specs.CombinedRows.{number_at-combine, length-combine}
 use Rattle.audit_types.specs.Products.{times-add, neg-times}
-use Rattle.sum_basis.proofs.Clearing.{positive_not_zero, cleared_from}
-use Rattle.sum_basis.proofs.Reduction.{number_at-combine, length-combine}
+use Rattle.audit_types.specs.Numbers.{positive_not_zero}
+use Rattle.audit_types.specs.ListLaws.{all-unmap}
+use Rattle.sum_basis.proofs.Clearing.{cleared_from}
 use Rattle.sum_basis.proofs.Sizes.{small_at, product_small}
 use Rattle.sum_basis.proofs.SparseRows.{elsewhere, zero_below, number_at-row_of, length-row_of, pivot-row_of, pivot_entry-row_of, first_value, listed_to, small_values}
 use Rattle.sum_basis.proofs.ListContents.{values, none, entry_at-scaled, listed_scaled}
+use Rattle.int_rows.specs.ContentLaws.{all-ones}
 
 -- the first entry of a list that is not empty
 pub record IsLed (n : ℕ) (es : List FreeEntry) (place : ℕ) (value : ℤ) : Type 0 where
@@ -60,14 +63,10 @@ values_from P from n (e ∷ es) h all zero_too = (
 -- a list whose values have content 1 is a row of content 1
 pub content_of_row : (n : ℕ) (es : List FreeEntry) → IsListed 0 n es → IsContent (values es) 1 → IsContent (row_of n es) 1
 content_of_row n es h content = record {
-  divides = ones (row_of n es);
+  divides = all-ones (row_of n es);
   greatest = λ d all. content.greatest d (values_from (λ x. d ∣ unsigned_abs x) 0 n es h (λ j. subst (λ x. d ∣ unsigned_abs x) (number_at-row_of 0 n es h j) (at d (row_of n es) j all)) (dvd-zero d));
 }
   where
-    ones : (xs : List ℤ) → AllByRecursion (λ x. 1 ∣ unsigned_abs x) xs
-    ones [] = tt
-    ones (x ∷ xs) = (one-dvd (unsigned_abs x), ones xs)
-
     at : (d : ℕ) (xs : List ℤ) (j : ℕ) → AllByRecursion (λ x. d ∣ unsigned_abs x) xs → d ∣ unsigned_abs (number_at xs j)
     at d [] j all = dvd-zero d
     at d (x ∷ xs) zero all = all.0
@@ -82,11 +81,6 @@ listed_within from n start m (e ∷ es) h zeros l k =
       | inl before ↦ absurd (h.2 (sym (first_value start m e es h) ∙ zeros e.place before))
       | inr after ↦ (after, omega arith, h.2, listed_to (e.place + 1) m n es k h.3)
     ]
-
--- what holds of all values holds of the entries' values
-pub of_values : (P : ℤ → Type 0) (es : List FreeEntry) → AllByRecursion P (values es) → AllByRecursion (λ (e : FreeEntry). P e.value) es
-of_values P [] h = tt
-of_values P (e ∷ es) h = (h.0, of_values P es h.1)
 
 -- a small row has small entries after its pivot
 pub entry_small : (n : ℕ) (r : SparseRow) (j : ℕ) → IsKept n r → IsSmall (row_of n (entries_of r)) → unsigned_abs (entry_at r.free.items j) ≤ 2 ^ 56
@@ -105,7 +99,7 @@ head_small n r kept small = (small_values n (entries_of r) kept.listed small).0
 -- the values of a combination of small rows
 pub combined_small : (n : ℕ) (r : SparseRow) (new out : List FreeEntry) (by times : ℤ) → IsKept n r → IsSmall (row_of n (entries_of r)) → IsNew n new → unsigned_abs by ≤ 2 ^ 56 → unsigned_abs times ≤ 2 ^ 56 → IsListed 0 n out
     → ((j : ℕ) → entry_at out j ≡ by *ℤ entry_at r.free.items j -ℤ times *ℤ entry_at new j) → AllByRecursion (λ (e : FreeEntry). unsigned_abs e.value ≤ 2 ^ 126) out
-combined_small n r new out by times kept small is_new p q h combined = of_values (λ x. unsigned_abs x ≤ 2 ^ 126) out (values_from (λ x. unsigned_abs x ≤ 2 ^ 126) 0 n out h at (omega arith))
+combined_small n r new out by times kept small is_new p q h combined = all-unmap (λ (e : FreeEntry). e.value) (λ x. unsigned_abs x ≤ 2 ^ 126) out (values_from (λ x. unsigned_abs x ≤ 2 ^ 126) 0 n out h at (omega arith))
   where
     at : (j : ℕ) → unsigned_abs (entry_at out j) ≤ 2 ^ 126
     at j =

@@ -1,34 +1,26 @@
 -- Rows cleared at the pivot of a new row.
-use Rattle.std.proofs.Common.{◌≡◌, ◌≢◌, ℕ, zero, suc, ◌<◌, true, false, ℤ, pos, List, [], ◌∷◌, length, refl, sym, ap, ◌∙◌, subst, arith, inl, inr}
+use Rattle.std.proofs.Common.{◌≡◌, ◌≢◌, ℕ, ◌<◌, ℤ, pos, List, [], ◌∷◌, length, refl, sym, ap, ◌∙◌, subst, arith, inl, inr}
 use Rattle.std.specs.Int.{◌∣◌}
 use Rattle.std.specs.Prelude.{◌+ℤ◌, ◌*ℤ◌, neg_ℤ, ◌<ℤ◌, unsigned_abs}
-use Rattle.std.specs.List.{AllByRecursion, list_all}
+use Rattle.std.specs.List.{AllByRecursion}
 use Rattle.std.proofs.lemmas.Int.{ints, unsigned_abs-mul}
 use Rattle.std.proofs.Math.Nat.{dvd-mul_left}
 use Rattle.std.proofs.lemmas.List.{length-map}
-use Rattle.std.proofs.lemmas.Bool.{MatchBool-at_false, cases_order, false_from_ne_true, and_parts}
+use Rattle.std.proofs.lemmas.Bool.{MatchBool-at_false, cases_order}
 use Rattle.std.proofs.Math.IntN.{+ℤ_idr, *ℤ_comm, zero-*ℤ, *ℤ-zero}
-use Rattle.audit_types.specs.Truth.{number_at, is_zero}
+use Rattle.audit_types.specs.Truth.{number_at}
 use Rattle.audit_types.specs.Form.{InSpan, IsContent, IsPrimitive, IsEchelon, StandsBefore, pivot, pivot_entry}
 use Rattle.int_rows.specs.Primitive.{IsMadePrimitive}
 use Rattle.sum_basis.specs.Elimination.{IsCleared, AreCleared}
-use Rattle.audit_types.specs.PrimitiveLines.{number_at-times}
+use Rattle.audit_types.specs.PrimitiveLines.{number_at-times, times}
 use Rattle.audit_types.specs.Products.{neg-times, product_not_zero}
-use Rattle.audit_types.specs.Numbers.{zero_from_test, zero_or_not}
-use Rattle.sum_basis.proofs.Spans.{spans_from, in_span_from, spans_same, spans_times, ZeroAtPivots}
-use Rattle.sum_basis.specs.Combination.{times, combine}
+use Rattle.audit_types.specs.Numbers.{zero_or_not, positive_not_zero}
+use Rattle.audit_types.specs.RowNumbers.{some_entry}
+use Rattle.sum_basis.specs.Spans.{spans_from, in_span_from, spans_same, spans_times, ZeroAtPivots}
+use Rattle.sum_basis.specs.Combination.{combine}
+use Rattle.sum_basis.specs.CombinedRows.{number_at-combine, length-combine}
 use Rattle.sum_basis.proofs.FormsAreUnique.{zero_before, pivot_is}
-use Rattle.sum_basis.proofs.Reduction.{number_at-combine, length-combine, span_combine, span_uncombine, span_line, primitive_exists}
-
--- a row that is all zeros is 0 at each place
-pub all_zeros_at : (xs : List ℤ) (j : ℕ) → list_all is_zero xs ≡ true → number_at xs j ≡ pos 0
-all_zeros_at [] j h = refl
-all_zeros_at (x ∷ xs) zero h = zero_from_test x (and_parts (is_zero x) (list_all is_zero xs) h).0
-all_zeros_at (x ∷ xs) (suc j) h = all_zeros_at xs j (and_parts (is_zero x) (list_all is_zero xs) h).1
-
--- a row with an entry that is not 0 is not all zeros
-pub some_entry : (xs : List ℤ) (j : ℕ) → number_at xs j ≢ pos 0 → list_all is_zero xs ≡ false
-some_entry xs j h = false_from_ne_true (list_all is_zero xs) (λ e. h (all_zeros_at xs j e))
+use Rattle.sum_basis.proofs.Reduction.{span_combine, span_uncombine, span_line, primitive_exists}
 
 -- a row on the line of another is 0 where the other is
 pub line_zero : (row : List ℤ) (by : ℤ) (new : List ℤ) (j : ℕ) → by ≢ pos 0 → row ≡ times by new → number_at row j ≡ pos 0 → number_at new j ≡ pos 0
@@ -49,10 +41,6 @@ still_zero_at (row ∷ form) old made by n is z = (line_zero old by made (pivot 
 -- multiples of a row in the span lie in the span
 pub span_times : (rows : List (List ℤ)) (by : ℤ) (new : List ℤ) → InSpan rows new → InSpan rows (times by new)
 span_times rows by new p = in_span_from rows (times by new) (spans_same rows (λ j. by *ℤ number_at new j) (number_at (times by new)) (λ j. sym (number_at-times by new j)) (spans_times rows by (number_at new) (spans_from rows new p)))
-
--- a positive number is not 0
-pub positive_not_zero : (z : ℤ) → pos 0 <ℤ z → z ≢ pos 0
-positive_not_zero z h e = absurd (omega (arith, ints))
 
 -- a combination of zeros is 0
 at_both_zero : (x y f g : ℤ) → f ≡ pos 0 → g ≡ pos 0 → x *ℤ f +ℤ y *ℤ g ≡ pos 0

@@ -4,11 +4,11 @@ use Rattle.std.specs.Prelude.{◌-ℤ◌, ◌*ℤ◌, ◌<ℤ◌, unsigned_abs}
 use Rattle.std.specs.List.{AllByRecursion}
 use Rattle.std.specs.Vec.{vec_capacity}
 use Rattle.audit_types.specs.Form.{IsContent, IsPrimitive}
+use Rattle.audit_types.specs.Products.{one-times}
 use Rattle.sum_basis.specs.declared.sparse.FreeEntry.{FreeEntry}
 use Rattle.sum_basis.specs.declared.sparse.SparseRow.{SparseRow}
 use Rattle.sum_basis.specs.Elimination.{IsCleared}
 use Rattle.sum_basis.specs.Sparse.{entry_at, row_of, IsListed, entries_of, IsKept, IsNew, IsOverContent}
-use Rattle.sum_basis.proofs.Multiples.{one-times}
 use Rattle.sum_basis.proofs.ListContents.{none, values, over_one, content_of_one, stays_one}
 use Rattle.sum_basis.proofs.ClearedLists.{cleared_listed, is_cleared}
 

@@ -9,16 +9,17 @@ use Rattle.std.proofs.lemmas.Bool.{cases_eq}
 use Rattle.std.proofs.Math.IntN.{*ℤ-zero}
 use Rattle.audit_types.specs.Truth.{is_zero}
 use Rattle.audit_types.specs.Products.{times-add, product_not_zero}
-use Rattle.audit_types.specs.Numbers.{zero_or_not, test_of_not_zero}
+use Rattle.audit_types.specs.Numbers.{zero_or_not, test_of_not_zero, size_negated}
+use Rattle.audit_types.specs.ListLaws.{all-unmap}
 use Rattle.sum_basis.specs.declared.sparse.FreeEntry.{FreeEntry}
 use Rattle.sum_basis.specs.Sparse.{entry_at, IsListed}
 use Rattle.sum_basis.specs.Merging.{first_value}
 use Rattle.sum_basis.proofs.ListContents.{none}
-use Rattle.sum_basis.proofs.ClearedLists.{values_from, of_values}
+use Rattle.sum_basis.proofs.ClearedLists.{values_from}
 use Rattle.sum_basis.proofs.SparseRows.{here, elsewhere, listed_from, listed_length, take_entry, front_zero}
 use Rattle.sum_basis.proofs.Sizes.{product_small}
 use Rattle.sum_basis.proofs.Merges.{neg_not_zero}
-use Rattle.sum_basis.proofs.PrimitiveLists.{size_negated}
+use Rattle.std.proofs.lemmas.List.{take_all}
 
 -- one entry put in
 entry_at-insert : (es : List FreeEntry) (k : ℕ) (e : FreeEntry) (j : ℕ) → entry_at (insert es k e) j ≡ entry_at es j +ℤ cond (nat_eq e.place j) e.value (pos 0)
@@ -180,17 +181,11 @@ bounded_with new next place number after bound more all added is p q j = elim (c
 
 -- what bounds a list at each column bounds its values
 pub all_bounded : (n most : ℕ) (es : List FreeEntry) → IsListed 0 n es → ((j : ℕ) → unsigned_abs (entry_at es j) ≤ most) → AllByRecursion (λ (e : FreeEntry). unsigned_abs e.value ≤ most) es
-all_bounded n most es h all = of_values (λ x. unsigned_abs x ≤ most) es (values_from (λ x. unsigned_abs x ≤ most) 0 n es h all (omega arith))
-
-all_of : (xs : List FreeEntry) (k : ℕ) → length xs ≤ k → take k xs ≡ xs
-all_of [] zero h = refl
-all_of [] (suc k) h = refl
-all_of (x ∷ xs) zero h = absurd (omega arith)
-all_of (x ∷ xs) (suc k) h = ap (λ l. x ∷ l) (all_of xs k (omega arith))
+all_bounded n most es h all = all-unmap (λ (e : FreeEntry). e.value) (λ x. unsigned_abs x ≤ most) es (values_from (λ x. unsigned_abs x ≤ most) 0 n es h all (omega arith))
 
 -- in the end the multiple of all entries is taken
 pub all_taken : (old new : List FreeEntry) (times : ℤ) (es : List FreeEntry) (k : ℕ) → length es ≤ k → IsTaken old new times es k → (j : ℕ) → entry_at new j ≡ entry_at old j -ℤ times *ℤ entry_at es j
-all_taken old new times es k past part j = part.is j ∙ ap (λ l. entry_at old j -ℤ times *ℤ entry_at l j) (all_of es k past)
+all_taken old new times es k past part j = part.is j ∙ ap (λ l. entry_at old j -ℤ times *ℤ entry_at l j) (take_all k es past)
 
 -- a list parted at a column
 pub parted_of : (list es : List FreeEntry) (k place : ℕ) → list ≡ es → IsPartitionPoint (λ (e : FreeEntry). e.place < place) (λ (e : FreeEntry). place ≤ e.place) list k

@@ -4,17 +4,14 @@ use Rattle.std.specs.Prelude.{◌<ℤ◌}
 use Rattle.std.specs.List.{AllByRecursion, list_all}
 use Rattle.audit_types.specs.Truth.{number_at, is_zero}
 use Rattle.audit_types.specs.Form.{InSpan, IsPrimitive, IsEchelon, pivot_entry}
-use Rattle.sum_basis.proofs.Spans.{in_span_from, spans_same, spans_zero, span_trans_all}
+use Rattle.audit_types.specs.RowNumbers.{all_zeros_at}
+use Rattle.audit_types.specs.FormRows.{lengths_of_form}
+use Rattle.sum_basis.specs.Spans.{in_span_from, spans_same, spans_zero, span_trans_all}
 use Rattle.sum_basis.proofs.FormsAreUnique.{own, one_more_all, first_own, leads_from}
 use Rattle.sum_basis.proofs.Reduction.{span_line, reduced_by, length-reduced, reduced_zeros, span_reduced, span_unreduced, primitive_exists}
 use Rattle.sum_basis.specs.Laws.{EveryRowSpaceHasAForm}
-use Rattle.sum_basis.proofs.Clearing.{cleared_all, still_echelon, still_zero, primitives, zeros_there, spans_there, spans_back, span_times, all_zeros_at, still_zero_at}
+use Rattle.sum_basis.proofs.Clearing.{cleared_all, still_echelon, still_zero, primitives, zeros_there, spans_there, spans_back, span_times, still_zero_at}
 use Rattle.sum_basis.proofs.Placing.{placed, all_placed, parts_placed, placed_echelon}
-
--- primitive rows have one length
-lengths : (n : ℕ) (rows : List (List ℤ)) → AllByRecursion (IsPrimitive n) rows → AllByRecursion (λ r. length r ≡ n) rows
-lengths n [] h = tt
-lengths n (r ∷ rows) h = (h.0.one_each, lengths n rows h.1)
 
 -- a form with one row more
 record HasOneMore (n : ℕ) (form : List (List ℤ)) (v : List ℤ) : Type 0 where
@@ -45,7 +42,7 @@ grow n form v p h e = go (list_all is_zero u) refl
       has_form = own form;
     }
     go false some =
-        let made = primitive_exists n u (length-reduced n form v (lengths n form p) e) some in
+        let made = primitive_exists n u (length-reduced n form v (lengths_of_form n form p) e) some in
         let new = made.0 in
         let zeros = still_zero_at form u new made.1 made.2 made.3 (reduced_zeros form v h) in
         let rest = cleared_all n new form made.4 p zeros in

@@ -1,19 +1,20 @@
 -- Two reduced forms of one row space are one.
-use Rattle.std.proofs.Common.{◌≡◌, ◌≢◌, ℕ, zero, suc, ◌<◌, true, false, not, ℤ, pos, negsuc, List, [], ◌∷◌, length, refl, sym, ap, ◌∙◌, subst, arith, inl, inr, ◌⊎◌}
+use Rattle.std.proofs.Common.{◌≡◌, ◌≢◌, ℕ, ◌<◌, not, ℤ, pos, List, [], ◌∷◌, length, refl, sym, ap, ◌∙◌, subst, arith, inl, inr, ◌⊎◌}
 use Rattle.std.specs.Prelude.{◌+ℤ◌, ◌*ℤ◌, neg_ℤ, ◌<ℤ◌}
 use Rattle.std.specs.List.{AllByRecursion}
 use Rattle.std.proofs.lemmas.Int.{ints}
 use Rattle.std.proofs.lemmas.List.Sums.{fails_before_first, position_or_len_is}
 use Rattle.std.proofs.lemmas.List.{get_or_past}
-use Rattle.std.proofs.lemmas.Bool.{cases_eq, cases_lt}
+use Rattle.std.proofs.lemmas.Bool.{cases_eq, cases_lt, not-false}
 use Rattle.std.proofs.Math.IntN.{+ℤ_idl, +ℤ_idr, *ℤ_comm, zero-*ℤ, *ℤ-zero}
 use Rattle.audit_types.specs.Truth.{number_at, is_zero}
 use Rattle.audit_types.specs.Form.{combined, InSpan, pivot, pivot_entry, IsPrimitive, IsEchelon, StandsBefore}
 use Rattle.audit_types.specs.Products.{neg-times, zero_factor}
 use Rattle.audit_types.specs.PrimitiveLines.{one_primitive}
-use Rattle.audit_types.specs.Numbers.{zero_or_not}
+use Rattle.audit_types.specs.Numbers.{zero_or_not, zero_from_test, test_of_not_zero}
+use Rattle.audit_types.specs.FormRows.{later_zero}
 use Rattle.sum_basis.specs.Laws.{FormsAreUnique}
-use Rattle.sum_basis.proofs.Spans.{spans_from, spans_times, spans_add, span_zero, span_trans_all, combined_zero, ZeroAtPivots}
+use Rattle.sum_basis.specs.Spans.{spans_from, spans_times, spans_add, span_zero, span_trans_all, combined_zero, ZeroAtPivots}
 
 -- the row is one of these
 abbrev pub IsRowOf : List ℤ → List (List ℤ) → Type 0
@@ -24,28 +25,16 @@ IsRowOf row (r ∷ rows) = (r ≡ row) ⊎ IsRowOf row rows
 abbrev Leads : List (List ℤ) → Type 0
 Leads rows = AllByRecursion (λ r. pos 0 <ℤ pivot_entry r) rows
 
--- a number that passes the test for 0 is 0
-from_is_zero : (z : ℤ) → not (is_zero z) ≡ false → z ≡ pos 0
-from_is_zero (pos zero) h = refl
-from_is_zero (pos (suc n)) h = absurd cc
-from_is_zero (negsuc n) h = absurd cc
-
--- and one that is not 0 fails it
-to_is_zero : (z : ℤ) → z ≢ pos 0 → not (is_zero z) ≡ true
-to_is_zero (pos zero) h = absurd (h refl)
-to_is_zero (pos (suc n)) h = refl
-to_is_zero (negsuc n) h = refl
-
 -- a row is 0 before its pivot
 pub zero_before : (row : List ℤ) (j : ℕ) → j < pivot row → number_at row j ≡ pos 0
-zero_before row j h = from_is_zero (number_at row j) (fails_before_first (λ x. not (is_zero x)) row j (pos 0) h)
+zero_before row j h = zero_from_test (number_at row j) (not-false (is_zero (number_at row j)) (fails_before_first (λ x. not (is_zero x)) row j (pos 0) h))
 
 -- the pivot is the first place that is not 0
 pub pivot_is : (row : List ℤ) (p : ℕ) → ((j : ℕ) → j < p → number_at row j ≡ pos 0) → number_at row p ≢ pos 0 → pivot row ≡ p
 pivot_is row p before here =
     elim (cases_lt p (length row)) [
       | inl l ↦ position_or_len_is (λ x. not (is_zero x)) row p (pos 0) (omega arith)
-          (λ k h. ap (λ z. not (is_zero z)) (before k h)) (λ _. to_is_zero (number_at row p) here)
+          (λ k h. ap (λ z. not (is_zero z)) (before k h)) (λ _. ap not (test_of_not_zero (number_at row p) here))
       | inr l ↦ absurd (here (get_or_past row p (pos 0) l))
     ]
 
@@ -53,11 +42,6 @@ pivot_is row p before here =
 all_zero_before : (row : List ℤ) (rows : List (List ℤ)) (j : ℕ) → j < pivot row → AllByRecursion (StandsBefore row) rows → AllByRecursion (λ r. number_at r j ≡ pos 0) rows
 all_zero_before row [] j h later = tt
 all_zero_before row (next ∷ rows) j h later = let order = later.0.0 in (zero_before next j (omega arith), all_zero_before row rows j h later.1)
-
--- and at it
-pub all_zero_at : (row : List ℤ) (rows : List (List ℤ)) → AllByRecursion (StandsBefore row) rows → AllByRecursion (λ r. number_at r (pivot row) ≡ pos 0) rows
-all_zero_at row [] later = tt
-all_zero_at row (next ∷ rows) later = (later.0.2, all_zero_at row rows later.1)
 
 -- a row that leads a combination
 record Led (rows : List (List ℤ)) (f : ℕ → ℤ) : Type 0 where
@@ -89,7 +73,7 @@ led (c ∷ cs) (row ∷ rows) echelon leads =
         before = λ j h. ap (λ z. c *ℤ z +ℤ combined cs rows j) (zero_before row j h) ∙ ap (λ z. z +ℤ combined cs rows j) (*ℤ-zero c) ∙ +ℤ_idl (combined cs rows j)
             ∙ combined_zero cs rows j (all_zero_before row rows j h echelon.0);
         here = λ z. some (zero_factor c (pivot_entry row)
-            (sym (ap (λ y. c *ℤ pivot_entry row +ℤ y) (combined_zero cs rows (pivot row) (all_zero_at row rows echelon.0)) ∙ +ℤ_idr (c *ℤ pivot_entry row)) ∙ z) leads.0);
+            (sym (ap (λ y. c *ℤ pivot_entry row +ℤ y) (combined_zero cs rows (pivot row) (later_zero row rows echelon.0)) ∙ +ℤ_idr (c *ℤ pivot_entry row)) ∙ z) leads.0);
       })
     ]
 

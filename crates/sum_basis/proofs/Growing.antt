@@ -6,9 +6,10 @@ use Rattle.std.proofs.lemmas.Bool.{ltb-true, ltb-false}
 use Rattle.audit_types.specs.Truth.{number_at}
 use Rattle.audit_types.specs.Form.{InSpan, IsPrimitive, IsEchelon, StandsBefore, IsReducedForm, pivot, pivot_entry}
 use Rattle.audit_types.specs.ListLaws.{all-push, all-front}
+use Rattle.audit_types.specs.Numbers.{positive_not_zero}
 use Rattle.sum_basis.specs.Elimination.{IsZeroAtPivots, AreCleared}
 use Rattle.sum_basis.proofs.FormsAreUnique.{leads_from, own}
-use Rattle.sum_basis.proofs.Clearing.{still_echelon, still_zero, primitives, zeros_there, spans_there, spans_back, positive_not_zero}
+use Rattle.sum_basis.proofs.Clearing.{still_echelon, still_zero, primitives, zeros_there, spans_there, spans_back}
 use Rattle.sum_basis.proofs.Placing.{placed, all_placed, parts_placed, placed_echelon}
 
 -- with all rows cleared and the new one in its place, the rows are the reduced form

@@ -10,13 +10,12 @@ use Rattle.std.proofs.lemmas.List.{same_lists, get_or_default, get_or-map, lengt
 use Rattle.std.proofs.Math.Nat.{one-dvd}
 use Rattle.std.proofs.lemmas.Nat.Gcd.{dvd_refl}
 use Rattle.audit_types.specs.Form.{IsContent}
-use Rattle.int_rows.specs.ContentLaws.{IsContent-push}
+use Rattle.int_rows.specs.ContentLaws.{IsContent-push, all-ones}
 use Rattle.sum_basis.specs.declared.sparse.FreeEntry.{FreeEntry}
 use Rattle.sum_basis.specs.Sparse.{entry_at, IsListed, scaled, IsOverContent}
-use Rattle.sum_basis.proofs.Multiples.{one-times}
-use Rattle.sum_basis.proofs.Clearing.{positive_not_zero}
 use Rattle.int_rows.specs.PrimitiveLaws.{content_one}
-use Rattle.audit_types.specs.Products.{times-add}
+use Rattle.audit_types.specs.Products.{times-add, one-times}
+use Rattle.audit_types.specs.Numbers.{positive_not_zero}
 
 -- the values of a list
 abbrev pub values : List FreeEntry → List ℤ
@@ -44,13 +43,9 @@ divides_first d (e ∷ es) (suc k) all = (all.0, divides_first d es k all.1)
 -- once the content is 1 it stays
 pub stays_one : (head : ℤ) (es : List FreeEntry) (k : ℕ) → IsContent (head ∷ values (take k es)) 1 → IsContent (head ∷ values es) 1
 stays_one head es k content = record {
-  divides = (one-dvd (unsigned_abs head), ones es);
+  divides = (one-dvd (unsigned_abs head), all-ones (values es));
   greatest = λ d all. content.greatest d (all.0, divides_first d es k all.1);
 }
-  where
-    ones : (xs : List FreeEntry) → AllByRecursion (λ x. 1 ∣ unsigned_abs x) (values xs)
-    ones [] = tt
-    ones (x ∷ xs) = (one-dvd (unsigned_abs x.value), ones xs)
 
 -- the first k entries are divided, and the others as they were
 pub record IsPartlyScaled (old new : List FreeEntry) (by : ℤ) (k : ℕ) : Type 0 where
@@ -94,11 +89,6 @@ listed_scaled by from n (e ∷ es) h = (h.0, h.1, λ z. h.2 (ap (λ x. by *ℤ x
 -- entry k, whatever stands for none
 pub entry_is : (es : List FreeEntry) (k : ℕ) (e : FreeEntry) → k < length es → e ≡ get_or es k e → get_or es k none ≡ e
 entry_is es k e h is = get_or_default es k none e h ∙ sym is
-
--- a divisor of all values divides each entry's
-pub all_divided_by : (g : ℕ) (es : List FreeEntry) → AllByRecursion (λ x. g ∣ unsigned_abs x) (values es) → AllByRecursion (λ (e : FreeEntry). g ∣ unsigned_abs e.value) es
-all_divided_by g [] h = tt
-all_divided_by g (e ∷ es) h = (h.0, all_divided_by g es h.1)
 
 -- the values of a multiple
 pub values-scaled : (by : ℤ) (es : List FreeEntry) → values (map (scaled by) es) ≡ map (λ x. by *ℤ x) (values es)

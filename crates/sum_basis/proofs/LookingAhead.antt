@@ -1,5 +1,5 @@
 -- What is told of a form with a new row while its rows are cleared one after the other.
-use Rattle.std.proofs.Common.{◌≡◌, ◌↔◌, ℕ, zero, suc, ◌+◌, ◌*◌, ◌<◌, ◌≤◌, ◌^◌, Bool, true, ℤ, pos, List, [], ◌∷◌, ◌++◌, length, take, get_or, refl, sym, ap, subst, arith, inl, inr, ◌⊎◌, IsTrue}
+use Rattle.std.proofs.Common.{◌≡◌, ◌↔◌, ℕ, ◌+◌, ◌*◌, ◌<◌, ◌≤◌, ◌^◌, Bool, true, ℤ, pos, List, [], ◌∷◌, ◌++◌, length, take, get_or, refl, sym, subst, arith, inl, inr, ◌⊎◌, IsTrue}
 use Rattle.std.specs.Prelude.{◌<ℤ◌, unsigned_abs}
 use Rattle.std.specs.Int.{◌∣◌}
 use Rattle.std.specs.List.{AllByRecursion}
@@ -9,20 +9,21 @@ use Rattle.std.proofs.Math.Nat.{dvd-mul_right, mul-dvd-mul_left, mul-pos}
 use Rattle.std.proofs.Math.Seq.{take-length}
 use Rattle.std.proofs.lemmas.List.Elements.{All-from_recursion}
 use Rattle.audit_types.specs.Form.{InSpan, IsPrimitive, IsReducedForm, IsLeastCommonMultiple, pivot, pivot_entry, pivot_entries}
-use Rattle.audit_types.specs.ListLaws.{all-push}
+use Rattle.audit_types.specs.ListLaws.{all-push, all-take, all-map, all-unmap}
 use Rattle.audit_types.specs.Numbers.{size_positive}
+use Rattle.audit_types.specs.FormRows.{pivot_below}
 use Rattle.sum_basis.specs.Basis.{Echelon, HasUnitRow}
 use Rattle.sum_basis.specs.Elimination.{IsSmall, IsSmallForm, IsZeroAtPivots, IsCleared, AreCleared, IsLone}
 use Rattle.sum_basis.specs.Growth.{ClearsFirst, GrowsTo, GrowsWide}
 use Rattle.sum_basis.proofs.FormsAreUnique.{own, leads_from}
-use Rattle.sum_basis.proofs.LeastMultiples.{least-push, least_positive, least_exists, least_unique, entries_positive, pivot_entries-push, all_taken}
+use Rattle.sum_basis.proofs.LeastMultiples.{least-push, least_positive, least_exists, least_unique, entries_positive, pivot_entries-push}
 use Rattle.sum_basis.proofs.Placing.{placed, all_placed, parts_placed}
 use Rattle.sum_basis.proofs.Growing.{placed_is_reduced}
 use Rattle.sum_basis.proofs.ClearingFirst.{one_more_cleared, rest_cleared, too_large, no_rows}
 use Rattle.sum_basis.proofs.Clearing.{primitives}
 use Rattle.sum_basis.proofs.WideForms.{row_too_large, is_narrow}
-use Rattle.sum_basis.proofs.Ranks.{pivot_within}
 use Rattle.sum_basis.proofs.UnitRowsInSpan.{unit_in_span, no_unit}
+use Rattle.std.proofs.lemmas.List.{take_all}
 
 -- some row has one entry that is not 0
 abbrev pub SomeLone : List (List ℤ) → Type 0
@@ -73,15 +74,6 @@ one_more_looked n form new k common fixing row m multiple lone also h l p is sma
   none = λ no. all-push (λ r. ¬ (IsLone r)) (new ∷ l.made) row (l.none (λ before. no (both.1 (inl before)))) (λ here. no (both.1 (inr (one.1 here))));
 }
 
--- what divides for each row
-all_rows : (m : ℕ) (rows : List (List ℤ)) → AllByRecursion (λ x. x ∣ m) (pivot_entries rows) → AllByRecursion (λ r. unsigned_abs (pivot_entry r) ∣ m) rows
-all_rows m [] h = tt
-all_rows m (r ∷ rows) h = (h.0, all_rows m rows h.1)
-
-all_entries : (m : ℕ) (rows : List (List ℤ)) → AllByRecursion (λ r. unsigned_abs (pivot_entry r) ∣ m) rows → AllByRecursion (λ x. x ∣ m) (pivot_entries rows)
-all_entries m [] h = tt
-all_entries m (r ∷ rows) h = (h.0, all_entries m rows h.1)
-
 -- the rows in front of others
 all_before : (P : List ℤ → Type 0) (made rest : List (List ℤ)) (row : List ℤ) → AllByRecursion P (made ++ row ∷ rest) → AllByRecursion P made × P row
 all_before P [] rest row h = (tt, h.0)
@@ -112,7 +104,7 @@ one_more_glanced n form new k fixing row lone also h g is small one both = recor
   made = g.made ++ row ∷ [];
   clears = one_more_cleared n new form g.made k row h g.clears is small;
   divides = λ m all. all-push (λ r. unsigned_abs (pivot_entry r) ∣ (unsigned_abs (pivot_entry new) * m)) (new ∷ g.made) row (g.divides m all)
-      (dvd_trans (unsigned_abs (pivot_entry row)) is.head (mul-dvd-mul_left (unsigned_abs (pivot_entry (get_or form k []))) (unsigned_abs (pivot_entry new)) (All-from_recursion (λ r. unsigned_abs (pivot_entry r) ∣ m) form (all_rows m form all) k [] h)));
+      (dvd_trans (unsigned_abs (pivot_entry row)) is.head (mul-dvd-mul_left (unsigned_abs (pivot_entry (get_or form k []))) (unsigned_abs (pivot_entry new)) (All-from_recursion (λ r. unsigned_abs (pivot_entry r) ∣ m) form (all-unmap (λ r. unsigned_abs (pivot_entry r)) (λ x. x ∣ m) form all) k [] h)));
   lone = λ yes. elim (both.0 yes) [ inl before ↦ some_push (new ∷ g.made) row (inl (g.lone before)) | inr here ↦ some_push (new ∷ g.made) row (inr (one.0 here)) ];
   none = λ no. all-push (λ r. ¬ (IsLone r)) (new ∷ g.made) row (g.none (λ before. no (both.1 (inl before)))) (λ here. no (both.1 (inr (one.1 here))));
 }
@@ -132,7 +124,7 @@ pub glanced_at_once : (n : ℕ) (form : List (List ℤ)) (new : List ℤ) (made 
 glanced_at_once n form new made cleared small lone = record {
   made = made;
   clears = record { cleared = rw (take-length form) cleared; small = small };
-  divides = λ m all. (dvd-mul_right (unsigned_abs (pivot_entry new)) m, heads_divide n new form made m cleared (all_rows m form all));
+  divides = λ m all. (dvd-mul_right (unsigned_abs (pivot_entry new)) m, heads_divide n new form made m cleared (all-unmap (λ r. unsigned_abs (pivot_entry r)) (λ x. x ∣ m) form all));
   lone = λ yes. inl lone;
   none = λ no. absurd (no refl);
 }
@@ -143,7 +135,7 @@ pub glanced_is_looked : (n : ℕ) (form : List (List ℤ)) (new : List ℤ) (k m
 glanced_is_looked n form new k m fixing p some all within g =
     let rows = primitives n new (take k form) g.made g.clears.cleared in
     let least = least_exists (pivot_entries (new ∷ g.made)) (entries_positive (new ∷ g.made) (leads_from n (new ∷ g.made) (p, rows))) in
-    let divides = least.2.least (unsigned_abs (pivot_entry new) * m) (all_entries (unsigned_abs (pivot_entry new) * m) (new ∷ g.made) (g.divides m all)) in
+    let divides = least.2.least (unsigned_abs (pivot_entry new) * m) (all-map (λ r. unsigned_abs (pivot_entry r)) (λ x. x ∣ (unsigned_abs) (pivot_entry new) * m) (new ∷ g.made) (g.divides m all)) in
     let above : 0 < unsigned_abs (pivot_entry new) * m = mul-pos (size_positive (pivot_entry new) p.leading) some in
     let most = le_of_dvd above divides in
     let positive = least.1 in (
@@ -177,9 +169,9 @@ module _ (form : Echelon) (new : List ℤ) (f : IsSmallForm form.n form.rows) (p
         λ narrow.
             let least_of = least_exists (pivot_entries grown) (entries_positive grown (leads_from form.n grown reduced.primitive)) in
             let same = least_unique (pivot_entries grown) narrow.common least_of.0 narrow.common_is least_of.2 in
-            let each = parts_placed (λ r. unsigned_abs (pivot_entry r) ∣ least_of.0) new all (all_rows least_of.0 grown least_of.2.multiple) in
+            let each = parts_placed (λ r. unsigned_abs (pivot_entry r) ∣ least_of.0) new all (all-unmap (λ r. unsigned_abs (pivot_entry r)) (λ x. x ∣ least_of.0) grown least_of.2.multiple) in
             let parts = all_before (λ r. unsigned_abs (pivot_entry r) ∣ least_of.0) l.made rest.0 row each.1 in
-            let first = l.multiple.least least_of.0 (each.0, all_entries least_of.0 l.made parts.0) in
+            let first = l.multiple.least least_of.0 (each.0, all-map (λ r. unsigned_abs (pivot_entry r)) (λ x. x ∣ least_of.0) l.made parts.0) in
             let most = le_of_dvd least_of.1 (least.least least_of.0 (first, (parts.1, tt))) in
             let small = narrow.common_small in
             omega arith,
@@ -190,14 +182,8 @@ module _ (form : Echelon) (new : List ℤ) (f : IsSmallForm form.n form.rows) (p
     abbrev grown : List (List ℤ)
     grown = placed new l.made
 
-    all_of : (xs : List (List ℤ)) (m : ℕ) → length xs ≤ m → take m xs ≡ xs
-    all_of [] zero h = refl
-    all_of [] (suc m) h = refl
-    all_of (x ∷ xs) zero h = absurd (omega arith)
-    all_of (x ∷ xs) (suc m) h = ap (λ t. x ∷ t) (all_of xs m (omega arith))
-
     cleared : AreCleared form.n new form.rows l.made
-    cleared = subst (λ rows. AreCleared form.n new rows l.made) (all_of form.rows k past) l.clears.cleared
+    cleared = subst (λ rows. AreCleared form.n new rows l.made) (take_all k form.rows past) l.clears.cleared
 
     reduced : IsReducedForm form.n (form.rows ++ new ∷ []) grown
     reduced = placed_is_reduced form.n form.rows l.made new f.primitive f.echelon p z cleared
@@ -207,8 +193,8 @@ module _ (form : Echelon) (new : List ℤ) (f : IsSmallForm form.n form.rows) (p
 
     least : IsLeastCommonMultiple (pivot_entries grown) (unsigned_abs common)
     least = record {
-      multiple = all_entries (unsigned_abs common) grown (all_placed (λ r. unsigned_abs (pivot_entry r) ∣ unsigned_abs common) new l.made l.multiple.multiple.0 (all_rows (unsigned_abs common) l.made l.multiple.multiple.1));
-      least = λ m all. let parts = parts_placed (λ r. unsigned_abs (pivot_entry r) ∣ m) new l.made (all_rows m grown all) in l.multiple.least m (parts.0, all_entries m l.made parts.1);
+      multiple = all-map (λ r. unsigned_abs (pivot_entry r)) (λ x. x ∣ (unsigned_abs) common) grown (all_placed (λ r. unsigned_abs (pivot_entry r) ∣ unsigned_abs common) new l.made l.multiple.multiple.0 (all-unmap (λ r. unsigned_abs (pivot_entry r)) (λ x. x ∣ (unsigned_abs) common) l.made l.multiple.multiple.1));
+      least = λ m all. let parts = parts_placed (λ r. unsigned_abs (pivot_entry r) ∣ m) new l.made (all-unmap (λ r. unsigned_abs (pivot_entry r)) (λ x. x ∣ m) grown all) in l.multiple.least m (parts.0, all-map (λ r. unsigned_abs (pivot_entry r)) (λ x. x ∣ m) l.made parts.1);
     }
 
     abbrev pub foreseen : Echelon
@@ -221,7 +207,7 @@ module _ (form : Echelon) (new : List ℤ) (f : IsSmallForm form.n form.rows) (p
     -- a lone row has a unit row in the span
     unit_of : (rows : List (List ℤ)) → AllByRecursion (InSpan grown) rows → AllByRecursion (IsPrimitive form.n) rows → SomeLone rows → HasUnitRow foreseen
     unit_of [] span q none = absurd none
-    unit_of (row ∷ rows) span q (inl lone) = (pivot row, pivot_within form.n row q.0, unit_in_span form.n grown row q.0 span.0 lone)
+    unit_of (row ∷ rows) span q (inl lone) = (pivot row, pivot_below form.n row q.0, unit_in_span form.n grown row q.0 span.0 lone)
     unit_of (row ∷ rows) span q (inr some) = unit_of rows span.1 q.1 some
 
     -- with one of them the new row fixes a number
@@ -235,4 +221,4 @@ module _ (form : Echelon) (new : List ℤ) (f : IsSmallForm form.n form.rows) (p
     looked_open denied unit =
         let none = l.none denied in
         let all = all_placed (λ r. ¬ (IsLone r)) new l.made none.0 none.1 in
-        no_unit foreseen (length grown) small_form (omega arith) (record { none = all_taken (λ r. ¬ (IsLone r)) grown (length grown) all }) unit.0 unit.1 unit.2
+        no_unit foreseen (length grown) small_form (omega arith) (record { none = all-take (λ r. ¬ (IsLone r)) (length grown) grown all }) unit.0 unit.1 unit.2

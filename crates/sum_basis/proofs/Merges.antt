@@ -3,7 +3,7 @@ use Rattle.std.proofs.Common.{◌≡◌, ◌≢◌, ℕ, zero, suc, ◌+◌, ◌
 use Rattle.std.specs.Prelude.{◌+ℤ◌, ◌-ℤ◌, ◌*ℤ◌, neg_ℤ}
 use Rattle.std.proofs.lemmas.Int.{ints}
 use Rattle.std.proofs.lemmas.Bool.{cases_eq, cases_lt}
-use Rattle.std.proofs.lemmas.List.{drop-drop, length-append, length-map, append-nil}
+use Rattle.std.proofs.lemmas.List.{drop-drop, length-append, length-map, append-nil, take_all}
 use Rattle.std.proofs.Math.IntN.{*ℤ-zero}
 use Rattle.audit_types.specs.Truth.{is_zero}
 use Rattle.sum_basis.specs.declared.sparse.FreeEntry.{FreeEntry}
@@ -320,15 +320,9 @@ module _ (n : ℕ) (by : ℤ) (first : List FreeEntry) (times : ℤ) (second out
       subst (λ (k : ℕ). IsMerging n by first times second (with_entry place v) k (j + 1)) (on _ _ i x first_listed.2)
       (subst (λ (k : ℕ). IsMerging n by first times second (with_entry place v) (cond (is_zero (first_value (drop i first) place)) i (i + 1)) k) (on _ _ j y second_listed.2) step)
 
-taken_all : (xs : List FreeEntry) (m : ℕ) → length xs ≤ m → take m xs ≡ xs
-taken_all [] zero h = refl
-taken_all [] (suc m) h = refl
-taken_all (x ∷ xs) zero h = absurd (omega arith)
-taken_all (x ∷ xs) (suc m) h = ap (λ t. x ∷ t) (taken_all xs m (omega arith))
-
 -- the end of a list, as the code takes it
 pub end_is : (xs : List FreeEntry) (k : ℕ) → take (length xs - k) (drop k xs) ≡ drop k xs
-end_is xs k = taken_all (drop k xs) (length xs - k) (let len = length-drop k xs in omega arith)
+end_is xs k = take_all (length xs - k) (drop k xs) (let len = length-drop k xs in omega arith)
 
 -- the combination, as the code appends the ends of the lists
 pub appended : (out one two first second : List FreeEntry) (by times minus : ℤ) (i j : ℕ) → one ≡ out ++ map (scaled by) (take (length first - i) (drop i first)) → two ≡ one ++ map (scaled minus) (take (length second - j) (drop j second)) → minus ≡ neg_ℤ times

@@ -6,10 +6,10 @@ use Rattle.std.proofs.lemmas.Bool.{ltb-true, ltb-false}
 use Rattle.audit_types.specs.Truth.{number_at}
 use Rattle.audit_types.specs.Form.{IsEchelon, StandsBefore, pivot, pivot_entry}
 use Rattle.audit_types.specs.ListLaws.{all-push}
-use Rattle.sum_basis.proofs.Spans.{ZeroAtPivots}
+use Rattle.audit_types.specs.Numbers.{positive_not_zero}
+use Rattle.sum_basis.specs.Spans.{ZeroAtPivots}
 use Rattle.std.proofs.Common.{◌+◌, take, get_or}
 use Rattle.std.proofs.lemmas.List.{take_more}
-use Rattle.sum_basis.proofs.Clearing.{positive_not_zero}
 
 -- the new row in its place by pivots
 abbrev pub placed : List ℤ → List (List ℤ) → List (List ℤ)

@@ -5,7 +5,6 @@ use Rattle.std.specs.Int.{◌∣◌}
 use Rattle.std.specs.List.{AllByRecursion}
 use Rattle.std.proofs.Common.{map, get_or, length-set}
 use Rattle.std.proofs.lemmas.List.{get_or-map, get_or-set_same, get_or-set_other, length-map, get_or_past}
-use Rattle.std.proofs.lemmas.List.FromFn.{get_or-map-range_with_len, length-map-range_with_len}
 use Rattle.std.proofs.lemmas.Bool.{cases_eq, cases_lt}
 use Rattle.std.proofs.lemmas.Int.{unsigned_abs-mul}
 use Rattle.std.proofs.Math.Nat.{dvd-mul_right_of_dvd}
@@ -13,18 +12,9 @@ use Rattle.std.proofs.Math.IntN.{*ℤ-zero}
 use Rattle.audit_types.specs.Rows.{has_row}
 use Rattle.audit_types.specs.Truth.{number_at}
 use Rattle.audit_types.specs.Form.{set_row, pivot, pivot_entry, pivot_entries}
-use Rattle.sum_basis.specs.Combination.{times}
 use Rattle.sum_basis.specs.Elimination.{IsSmall}
-use Rattle.audit_types.specs.PrimitiveLines.{same_rows, number_at-times}
-use Rattle.sum_basis.proofs.Sizes.{all_by_place}
-
--- the row of a set has 1 at its rows and 0 elsewhere
-pub number_at-set_row : (n : ℕ) (rows : List ℕ) (j : ℕ) → j < n → number_at (set_row n rows) j ≡ cond (has_row rows j) (pos 1) (pos 0)
-number_at-set_row n rows j h = get_or-map-range_with_len (λ r. cond (has_row rows r) (pos 1) (pos 0)) 0 n j j (pos 0) h (omega arith)
-
--- it has n entries
-pub length-set_row : (n : ℕ) (rows : List ℕ) → length (set_row n rows) ≡ n
-length-set_row n rows = length-map-range_with_len (λ r. cond (has_row rows r) (pos 1) (pos 0)) 0 n
+use Rattle.audit_types.specs.PrimitiveLines.{same_rows, number_at-times, times}
+use Rattle.audit_types.specs.RowNumbers.{number_at-set_row, length-set_row, all_by_number}
 
 -- the entries below j are written
 pub record IsPartlyWritten (n : ℕ) (rows : List ℕ) (row : List ℤ) (j : ℕ) : Type 0 where
@@ -82,7 +72,7 @@ product_at_most m (suc (suc b)) limit p q = absurd (omega arith)
 
 -- a small multiple of a row of zeros and ones has small entries
 pub multiple_small : (row : List ℤ) (multiple : ℤ) → ((j : ℕ) → unsigned_abs (number_at row j) ≤ 1) → unsigned_abs multiple ≤ 2 ^ 56 → IsSmall (times multiple row)
-multiple_small row multiple bits h = all_by_place (λ x. unsigned_abs x ≤ 2 ^ 56) (times multiple row)
+multiple_small row multiple bits h = all_by_number (λ x. unsigned_abs x ≤ 2 ^ 56) (times multiple row)
     (λ j. rw (number_at-times multiple row j, unsigned_abs-mul multiple (number_at row j)) (product_at_most (unsigned_abs multiple) (unsigned_abs (number_at row j)) (2 ^ 56) h (bits j)))
 
 -- its entries are at most 1

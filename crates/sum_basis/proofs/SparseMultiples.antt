@@ -11,9 +11,9 @@ use Rattle.sum_basis.specs.declared.sparse.SparseRow.{SparseRow}
 use Rattle.sum_basis.specs.Combination.{combine}
 use Rattle.sum_basis.specs.Elimination.{IsLessMultiple}
 use Rattle.sum_basis.specs.Sparse.{entry_at, row_of, IsListed, entries_of, IsKept}
-use Rattle.audit_types.specs.Products.{times-add, neg-times}
-use Rattle.sum_basis.proofs.Multiples.{one-times, factor_small, no_multiple}
-use Rattle.sum_basis.proofs.Reduction.{number_at-combine}
+use Rattle.sum_basis.specs.CombinedRows.{number_at-combine}
+use Rattle.audit_types.specs.Products.{times-add, neg-times, one-times}
+use Rattle.sum_basis.proofs.Multiples.{factor_small, no_multiple}
 use Rattle.sum_basis.proofs.SparseRows.{here, elsewhere, zero_below, number_at-row_of, pivot-row_of}
 
 -- the entries after the pivot are listed

@@ -4,7 +4,7 @@ use Rattle.std.specs.Prelude.{◌+ℤ◌, ◌-ℤ◌, ◌*ℤ◌, unsigned_abs}
 use Rattle.std.specs.List.{AllByRecursion}
 use Rattle.std.proofs.lemmas.Int.{ints}
 use Rattle.std.proofs.lemmas.Bool.{cases_eq, cases_lt, eq-eqb, ne_eqb}
-use Rattle.std.proofs.lemmas.List.{get_or_past, get_or-set_same, get_or-set_other, take_more}
+use Rattle.std.proofs.lemmas.List.{get_or_past, get_or-set_same, get_or-set_other, take_more, take_all}
 use Rattle.std.proofs.lemmas.List.FromFn.{get_or-map-range_with_len, length-map-range_with_len}
 use Rattle.std.proofs.Math.IntN.{+ℤ_idl, *ℤ-zero}
 use Rattle.audit_types.specs.Truth.{number_at}
@@ -14,13 +14,13 @@ use Rattle.sum_basis.specs.Combination.{combine}
 use Rattle.sum_basis.specs.Elimination.{IsSmall}
 use Rattle.sum_basis.specs.Sparse.{entry_at, row_of, IsListed}
 use Rattle.sum_basis.specs.Merging.{first_value as first_value_at}
+use Rattle.sum_basis.specs.CombinedRows.{number_at-combine, length-combine}
 use Rattle.std.specs.List.Sorted.{IsNonDecreasingBy}
-use Rattle.audit_types.specs.Products.{times-add, neg-times}
-use Rattle.sum_basis.proofs.Multiples.{one-times}
+use Rattle.audit_types.specs.Products.{times-add, neg-times, one-times}
 use Rattle.sum_basis.proofs.FormsAreUnique.{pivot_is}
-use Rattle.sum_basis.proofs.Sizes.{all_by_place, small_at}
-use Rattle.sum_basis.proofs.Reduction.{number_at-combine, length-combine}
+use Rattle.sum_basis.proofs.Sizes.{small_at}
 use Rattle.audit_types.specs.PrimitiveLines.{same_rows}
+use Rattle.audit_types.specs.RowNumbers.{all_by_number}
 
 -- what an entry has at its own place
 pub here : (e : FreeEntry) (j : ℕ) → e.place ≡ j → cond (nat_eq e.place j) e.value (pos 0) ≡ e.value
@@ -183,16 +183,10 @@ all_entries_taken old row times es k same h past part = same_rows row (combine (
     whole : List ℤ
     whole = row_of (length old) es
 
-    all_of : (xs : List FreeEntry) (m : ℕ) → length xs ≤ m → take m xs ≡ xs
-    all_of [] zero l = refl
-    all_of [] (suc m) l = refl
-    all_of (x ∷ xs) zero l = absurd (omega arith)
-    all_of (x ∷ xs) (suc m) l = ap (λ t. x ∷ t) (all_of xs m (omega arith))
-
     at : (j : ℕ) → number_at row j ≡ number_at (combine (pos 1) old times whole) j
     at j =
         let taken = part.taken j in
-        let list = ap (λ l. times *ℤ entry_at l j) (all_of es k past) in
+        let list = ap (λ l. times *ℤ entry_at l j) (take_all k es past) in
         let is = number_at-combine (pos 1) old times whole j in
         let other = ap (λ z. times *ℤ z) (number_at-row_of 0 (length old) es h j) in
         let once = one-times (number_at old j) in
@@ -201,7 +195,7 @@ all_entries_taken old row times es k same h past part = same_rows row (combine (
 
 -- small values make a small row
 pub small_row : (n : ℕ) (es : List FreeEntry) → IsListed 0 n es → AllByRecursion (λ e. unsigned_abs e.value ≤ 2 ^ 56) es → IsSmall (row_of n es)
-small_row n es h small = all_by_place (λ x. unsigned_abs x ≤ 2 ^ 56) (row_of n es) (λ j. rw (number_at-row_of 0 n es h j) (at 0 es j h small))
+small_row n es h small = all_by_number (λ x. unsigned_abs x ≤ 2 ^ 56) (row_of n es) (λ j. rw (number_at-row_of 0 n es h j) (at 0 es j h small))
   where
     at : (from : ℕ) (xs : List FreeEntry) (j : ℕ) → IsListed from n xs → AllByRecursion (λ e. unsigned_abs e.value ≤ 2 ^ 56) xs → unsigned_abs (entry_at xs j) ≤ 2 ^ 56
     at from [] j l all = omega arith

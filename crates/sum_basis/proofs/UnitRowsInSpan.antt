@@ -11,14 +11,13 @@ use Rattle.audit_types.specs.Truth.{number_at}
 use Rattle.audit_types.specs.Form.{InSpan, IsPrimitive, IsEchelon, pivot, pivot_entry}
 use Rattle.sum_basis.specs.Basis.{Echelon, unit_row}
 use Rattle.sum_basis.specs.Elimination.{IsSmallForm, IsLone}
-use Rattle.audit_types.specs.Products.{neg-times}
+use Rattle.audit_types.specs.Products.{neg-times, one-times}
 use Rattle.audit_types.specs.ListLaws.{all-push}
-use Rattle.sum_basis.proofs.Spans.{spans_from, in_span_from, spans_same, spans_times, spans_add, spans_down, span_zero}
+use Rattle.audit_types.specs.Numbers.{positive_is}
+use Rattle.audit_types.specs.RowNumbers.{number_at-set_row, length-set_row}
+use Rattle.audit_types.specs.FormRows.{pivot_below}
+use Rattle.sum_basis.specs.Spans.{spans_from, in_span_from, spans_same, spans_times, spans_add, spans_down, span_zero}
 use Rattle.sum_basis.proofs.FormsAreUnique.{IsRowOf, stands_before, pivot_is, pivot_among, zeros_walk, zero_at_others, in_span_at, own, leads_from}
-use Rattle.sum_basis.proofs.Reduction.{above_is}
-use Rattle.sum_basis.proofs.Multiples.{one-times}
-use Rattle.sum_basis.proofs.SetRows.{number_at-set_row, length-set_row}
-use Rattle.sum_basis.proofs.Ranks.{pivot_within}
 
 -- a unit row has 1 at its place
 unit_here : (n i : ℕ) → i < n → number_at (unit_row n i) i ≡ pos 1
@@ -122,12 +121,12 @@ pub unit_in_span : (n : ℕ) (form : List (List ℤ)) (row : List ℤ) → IsPri
 unit_in_span n form row p h lone = in_span_from form (unit_row n (pivot row)) (spans_down form m.0 (number_at (unit_row n (pivot row))) m.2 (spans_same form (number_at row) (λ j. pos m.0 *ℤ number_at (unit_row n (pivot row)) j) same (spans_from form row h)))
   where
     m : (m : ℕ) × (pivot_entry row ≡ pos m) × (0 < m)
-    m = above_is (pivot_entry row) p.leading
+    m = positive_is (pivot_entry row) p.leading
 
     same : (j : ℕ) → number_at row j ≡ pos m.0 *ℤ number_at (unit_row n (pivot row)) j
     same j = elim (cases_eq j (pivot row)) [
       | inl e ↦
-          let one = ap (number_at (unit_row n (pivot row))) e ∙ unit_here n (pivot row) (pivot_within n row p) in
+          let one = ap (number_at (unit_row n (pivot row))) e ∙ unit_here n (pivot row) (pivot_below n row p) in
           ap (number_at row) e ∙ m.1 ∙ sym (ap (λ z. pos m.0 *ℤ z) one ∙ *ℤ_comm (pos m.0) (pos 1) ∙ one-times (pos m.0))
       | inr other ↦ lone j other ∙ sym (ap (λ z. pos m.0 *ℤ z) (unit_elsewhere n (pivot row) j other) ∙ *ℤ-zero (pos m.0))
     ]
@@ -144,7 +143,7 @@ first_unit form k f h none lone =
     let row = get_or form.rows k [] in
     let primitive = All-from_recursion (IsPrimitive form.n) form.rows f.primitive k [] h in
     let in_own = All-from_recursion (InSpan form.rows) form.rows (own form.rows) k [] h in
-    let inside = pivot_within form.n row primitive in
+    let inside = pivot_below form.n row primitive in
     record {
       within = inside;
       in_span = unit_in_span form.n form.rows row primitive in_own lone;

@@ -3,7 +3,7 @@ ghost use Rattle.std.specs.Prelude.{◌≡◌, ◌↔◌, ℕ, ◌≤◌, ◌^�
 ghost use Rattle.std.specs.List.{AllByRecursion};
 ghost use Rattle.audit_types.specs.Truth.{number_at};
 ghost use Rattle.audit_types.specs.Form.{set_row, pivot};
-ghost use Rattle.sum_basis.specs.Combination.{times};
+ghost use Rattle.audit_types.specs.PrimitiveLines.{times};
 ghost use Rattle.sum_basis.specs.Elimination.{IsSmall};
 
 use crate::cleared_list::product;

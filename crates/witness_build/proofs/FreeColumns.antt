@@ -11,12 +11,13 @@ use Rattle.audit_types.specs.Form.{pivot, pivot_entry, IsPrimitive, Reduced}
 use Rattle.audit_types.specs.Rows.{AreRows}
 use Rattle.audit_types.specs.Direction.{IsDirection, IsPinned, is_pivot, first_free, free_column_of}
 use Rattle.audit_types.specs.Products.{zero_factor}
-use Rattle.audit_types.specs.Numbers.{test_of_not_zero, zero_from_test}
+use Rattle.audit_types.specs.Numbers.{test_of_not_zero, zero_from_test, not_zero_from_test}
+use Rattle.audit_types.specs.FormRows.{IsZeroAtOthers, zero_at_others}
+use Rattle.audit_types.specs.Totals.{total-single}
 use Rattle.sum_audit.specs.Dot.{dot}
-use Rattle.sum_audit.specs.DotLaws.{dot_one}
 use Rattle.sum_audit.specs.Laws.{DirectionsByForm}
 use Rattle.witness_build.specs.Directions.{IsForm}
-use Rattle.witness_build.proofs.FormRows.{ZeroAtOthers, zero_at_others, is_pivot_at, not_zero_from_test, test_of_zero}
+use Rattle.witness_build.proofs.FormRows.{is_pivot_at}
 
 -- the search from column j on
 abbrev pub free_from : List (List ℤ) → List ℤ → ℕ → ℕ
@@ -35,7 +36,7 @@ module _ (form : List (List ℤ)) (k : ℕ) (below : k < length form) where
       let row = get_or form k [] in
       let test : (is_pivot form j || is_zero (number_at row j)) ≡ true = elim why [
         | inl e ↦ or_left (is_pivot form j) (is_zero (number_at row j)) (ap (is_pivot form) e ∙ is_pivot_at form k below)
-        | inr e ↦ or_right (is_pivot form j) (is_zero (number_at row j)) (test_of_zero (number_at row j) e)
+        | inr e ↦ or_right (is_pivot form j) (is_zero (number_at row j)) (ap is_zero e)
       ] in
       ap (λ l. first_free form l j) (drop-cons row j (pos 0) inside) ∙ passes form (number_at row j) (drop (suc j) row) j test ∙ ap (λ i. first_free form (drop i row) (j + 1)) (sym (add-one j))
 
@@ -43,7 +44,7 @@ module _ (form : List (List ℤ)) (k : ℕ) (below : k < length form) where
   pub one_stops : (n : ℕ) → IsForm n form → (j : ℕ) → j < length (get_or form k []) → j ≢ pivot (get_or form k []) → number_at (get_or form k []) j ≢ pos 0 → free_from form (get_or form k []) j ≡ j
   one_stops n h j inside other some =
       let row = get_or form k [] in
-      let zero_elsewhere = All-from_recursion (ZeroAtOthers form) form (zero_at_others form h.echelon) k [] below in
+      let zero_elsewhere = All-from_recursion (IsZeroAtOthers form) form (zero_at_others form h.echelon) k [] below in
       let test = or_from (is_pivot form j) (is_zero (number_at row j)) (false_from_ne_true (is_pivot form j) (λ there. some (zero_elsewhere j there other))) (test_of_not_zero (number_at row j) some) in
       ap (λ l. first_free form l j) (drop-cons row j (pos 0) inside) ∙ stops form (number_at row j) (drop (suc j) row) j test
 
@@ -145,7 +146,7 @@ pub record IsFreeColumn (form rows : List (List ℤ)) (n i j : ℕ) : Type 0 whe
 -- what a row that isn't pinned may suppose of the rows of the form
 record IsOpen (n : ℕ) (sets : List (List ℕ)) (form rows : List (List ℤ)) (i : ℕ) : Type 0 where
   primitive : AllByRecursion (IsPrimitive n) rows
-  zeros : AllByRecursion (ZeroAtOthers form) rows
+  zeros : AllByRecursion (IsZeroAtOthers form) rows
   orthogonal : (d : List ℤ) → IsDirection n sets d → AllByRecursion (λ f. dot n (number_at f) d ≡ pos 0) rows
   same : is_pivot form i ≡ is_pivot rows i
   below : i < n
@@ -157,7 +158,7 @@ lone_pins : (n : ℕ) (sets : List (List ℕ)) (row : List ℤ) (i : ℕ) → po
 lone_pins n sets row i leading e below zeros orthogonal = record {
   below = below;
   still = λ d direction.
-      let one = dot_one n (number_at row) d i below (λ k l other. ap (λ z. z *ℤ number_at d k) (zeros k l other) ∙ zero-*ℤ (number_at d k)) in
+      let one = total-single (λ k. number_at row k *ℤ number_at d k) n i below (λ k l other. ap (λ z. z *ℤ number_at d k) (zeros k l other) ∙ zero-*ℤ (number_at d k)) in
       let positive : pos 0 <ℤ number_at row i = let entry = ap (number_at row) e in omega (arith, ints) in
       zero_factor (number_at d i) (number_at row i) (*ℤ_comm (number_at d i) (number_at row i) ∙ sym one ∙ orthogonal d direction) positive;
 }

@@ -14,6 +14,9 @@ use Rattle.audit_types.specs.Truth.{number_at}
 use Rattle.audit_types.specs.Form.{pivot, pivot_entry, pivot_entries}
 use Rattle.audit_types.specs.Direction.{is_pivot}
 use Rattle.audit_types.specs.Products.{neg-times, times_assoc}
+use Rattle.audit_types.specs.Numbers.{zero_less}
+use Rattle.audit_types.specs.ListLaws.{all-push, all-set}
+use Rattle.audit_types.specs.RowNumbers.{all_by_number}
 use Rattle.witness_build.specs.Directions.{IsSmall, IsForm, Solves, IsSolvedWith}
 use Rattle.witness_build.proofs.FormRows.{is_pivot_at, other_pivots, is_pivot-more}
 
@@ -67,12 +70,9 @@ module _ (entry : ℤ) (times : ℕ) (fits : FitsSigned w128 entry) (small : uns
   turned_is : to_z w128 (of_z w128 (pos 0 -ℤ to_z w128 (of_z w128 (to_z w128 (of_z w128 entry) *ℤ to_z w128 times)))) ≡ pos 0 -ℤ entry *ℤ pos times
   turned_is = to_z-of_z w128 (pos 0 -ℤ to_z w128 (of_z w128 (to_z w128 (of_z w128 entry) *ℤ to_z w128 times))) turned_fits ∙ ap (λ z. pos 0 -ℤ z) product_read
 
-  less_is : (z : ℤ) → pos 0 -ℤ z ≡ neg_ℤ z
-  less_is z = omega (arith, ints)
-
   solution_at : (lead common : ℤ) → IsQuotient common lead times → IsSolution entry lead common (pos 0 -ℤ entry *ℤ pos times)
   solution_at lead common q = record {
-    exact = ap (λ z. z *ℤ lead) (less_is (entry *ℤ pos times)) ∙ neg-times (entry *ℤ pos times) lead ∙ ap neg_ℤ (times_assoc entry (pos times) lead ∙ ap (λ z. entry *ℤ z) q.product);
+    exact = ap (λ z. z *ℤ lead) (zero_less (entry *ℤ pos times)) ∙ neg-times (entry *ℤ pos times) lead ∙ ap neg_ℤ (times_assoc entry (pos times) lead ∙ ap (λ z. entry *ℤ z) q.product);
     small = size_turned (entry *ℤ pos times) size;
   }
 
@@ -85,15 +85,6 @@ divides_at [] m k h l = absurd (omega arith)
 divides_at (row ∷ rows) m zero h l = h.0
 divides_at (row ∷ rows) m (suc k) h l = divides_at rows m k h.1 (omega arith)
 
-small-set : (d : List ℤ) (i : ℕ) (x : ℤ) → IsSmall d → unsigned_abs x ≤ 2 ^ 112 → IsSmall (set d i x)
-small-set [] i x h s = tt
-small-set (y ∷ d) zero x h s = (s, h.1)
-small-set (y ∷ d) (suc i) x h s = (h.0, small-set d i x h.1 s)
-
-small_zeros : (d : List ℤ) → ((j : ℕ) → number_at d j ≡ pos 0) → IsSmall d
-small_zeros [] h = tt
-small_zeros (x ∷ d) h = (let none = ap unsigned_abs (h 0) in omega arith, small_zeros d (λ j. h (suc j)))
-
 -- with the common multiple at the free column alone, no row is solved yet
 pub solving_begins : (n : ℕ) (common : ℤ) (free : ℕ) (d : List ℤ) → length d ≡ n → ((j : ℕ) → number_at d j ≡ pos 0) → free < n → unsigned_abs common ≤ 2 ^ 56 → IsSolvedWith n common [] free (set d free common)
 solving_begins n common free d e zeros below small = record {
@@ -101,16 +92,12 @@ solving_begins n common free d e zeros below small = record {
   at_free = get_or-set_same d free common (pos 0) (omega arith);
   solves = tt;
   elsewhere = λ j none other. get_or-set_other d free j common (pos 0) other ∙ zeros j;
-  small = small-set d free common (small_zeros d zeros) (omega arith);
+  small = all-set (λ y. unsigned_abs y ≤ 2 ^ 112) d free common (all_by_number (λ y. unsigned_abs y ≤ 2 ^ 112) d (λ j. let none = ap unsigned_abs (zeros j) in omega arith)) (omega arith);
 }
 
 still_solves : (d : List ℤ) (common : ℤ) (free p : ℕ) (x : ℤ) (rows : List (List ℤ)) → AllByRecursion (λ r. pivot r ≢ p) rows → AllByRecursion (Solves d common free) rows → AllByRecursion (Solves (set d p x) common free) rows
 still_solves d common free p x [] h k = tt
 still_solves d common free p x (r ∷ rows) h k = (ap (λ z. z *ℤ pivot_entry r) (get_or-set_other d p (pivot r) x (pos 0) h.0) ∙ k.0, still_solves d common free p x rows h.1 k.1)
-
-push_solved : (d : List ℤ) (common : ℤ) (free : ℕ) (rows : List (List ℤ)) (row : List ℤ) → AllByRecursion (Solves d common free) rows → Solves d common free row → AllByRecursion (Solves d common free) (rows ++ row ∷ [])
-push_solved d common free [] row h last = (last, tt)
-push_solved d common free (r ∷ rows) row h last = (h.0, push_solved d common free rows row h.1 last)
 
 -- one row more is solved
 solved_more : (n : ℕ) (common : ℤ) (rows : List (List ℤ)) (row : List ℤ) (free p : ℕ) (d : List ℤ) (x : ℤ) → p ≡ pivot row → p < n → free ≢ p → AllByRecursion (λ r. pivot r ≢ p) rows → IsSolvedWith n common rows free d → IsSolution (number_at row free) (pivot_entry row) common x →
@@ -118,14 +105,14 @@ solved_more : (n : ℕ) (common : ℤ) (rows : List (List ℤ)) (row : List ℤ)
 solved_more n common rows row free p d x e below apart others so_far is = record {
   one_each = length-set d p x ∙ so_far.one_each;
   at_free = get_or-set_other d p free x (pos 0) apart ∙ so_far.at_free;
-  solves = push_solved (set d p x) common free rows row (still_solves d common free p x rows others so_far.solves)
+  solves = all-push (Solves (set d p x) common free) rows row (still_solves d common free p x rows others so_far.solves)
       (ap (λ z. z *ℤ pivot_entry row) (ap (number_at (set d p x)) (sym e) ∙ get_or-set_same d p x (pos 0) (let long = so_far.one_each in omega arith)) ∙ is.exact);
   elsewhere = λ j none other.
       let neither = sym (is_pivot-more rows row j) ∙ none in
       let here = (or_parts (pivot row == j) false (or_parts (is_pivot rows j) (pivot row == j || false) neither).1).0 in
       get_or-set_other d p j x (pos 0) (λ same. absurd (different (pivot row == j) here (eq-eqb (pivot row) j (sym e ∙ sym same))))
       ∙ so_far.elsewhere j (or_parts (is_pivot rows j) (pivot row == j || false) neither).0 other;
-  small = small-set d p x so_far.small is.small;
+  small = all-set (λ y. unsigned_abs y ≤ 2 ^ 112) d p x so_far.small is.small;
 }
   where
     different : (b : Bool) → b ≡ false → b ≡ true → ⊥

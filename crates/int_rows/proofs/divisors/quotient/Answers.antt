@@ -5,15 +5,16 @@ use mir.Val.{to_z, of_z}
 use Rattle.std.proofs.lemmas.Int.{to_z-of_z}
 use Rattle.std.proofs.Math.IntN.{*ℤ-zero}
 use Rattle.int_rows.specs.Exact.{divided}
-use Rattle.int_rows.specs.PrimitiveLaws.{zero_from_bits, times_one, short_is}
+use Rattle.int_rows.specs.PrimitiveLaws.{zero_from_bits, short_is}
 use Rattle.int_rows.proofs.divisors.quotient.Goals.{then-of-eq1-via-then-of-eq1, then-of-eq1-via-else-of-eq1+then-multiple-eq0}
 use Rattle.int_rows.proofs.divisors.quotient.Goals as goal
+use Rattle.audit_types.specs.Products.{one-times}
 
 of_zero : (multiple of : ℤ) → multiple ≡ pos 0 → multiple ≡ of *ℤ multiple
 of_zero multiple of e = e ∙ sym (ap (λ z. of *ℤ z) e ∙ *ℤ-zero of)
 
 by_one : (multiple of : ℤ) → of ≡ pos 1 → multiple ≡ of *ℤ multiple
-by_one multiple of e = times_one multiple ∙ sym (ap (λ z. z *ℤ multiple) e)
+by_one multiple of e = sym (one-times multiple) ∙ sym (ap (λ z. z *ℤ multiple) e)
 
 pub returns-then-of-eq1 : goal.returns-then-of-eq1
 returns-then-of-eq1 c = rw (to_z-of_z w128 c.args.multiple c.ranges.multiple) (elim c.then-of-eq1.branch [

@@ -1,12 +1,10 @@
-use Rattle.std.proofs.Common.{◌≡◌, ◌≤◌, ◌+◌, ◌^◌, ℕ, ℤ, List, refl, ap, ◌∙◌, arith}
-use Rattle.std.specs.Prelude.{FitsSigned, ◌-ℤ◌, ◌*ℤ◌, unsigned_abs}
+use Rattle.std.proofs.Common.{◌≡◌, ◌+◌, ℕ, ℤ, List, refl, ap, ◌∙◌, arith}
+use Rattle.std.specs.Prelude.{FitsSigned, ◌-ℤ◌, ◌*ℤ◌}
 use Rattle.std.specs.Int.{w128}
 use mir.Val.{to_z, of_z}
 use Rattle.std.proofs.lemmas.Int.{to_z-of_z}
 use Rattle.sum_basis.specs.declared.sparse.FreeEntry.{FreeEntry}
-use Rattle.sum_basis.specs.declared.sparse.SparseRow.{SparseRow}
-use Rattle.sum_basis.specs.Elimination.{IsSmall}
-use Rattle.sum_basis.specs.Sparse.{entry_at, row_of, entries_of, IsKept}
+use Rattle.sum_basis.specs.Sparse.{entry_at, entries_of}
 use Rattle.sum_basis.proofs.SparseRows.{listed_from, small_values}
 use Rattle.sum_basis.proofs.ClearedLists.{entry_small}
 use Rattle.sum_basis.proofs.EditedRows.{edited_listed, edited_cleared, kept_row}
@@ -18,12 +16,8 @@ take_entries-row-requires-clause-listed c = listed_from (c.args.row.now.pivot + 
 pub take_entries-row-requires-clause-small : goal.take_entries-row-requires-clause-small
 take_entries-row-requires-clause-small c = (small_values c.args.columns (entries_of c.args.row.now) c.requires.kept.listed c.requires.small).1
 
--- the entry at the new pivot is small
-times_small : (n : ℕ) (r : SparseRow) (times : ℤ) (place : ℕ) → IsKept n r → IsSmall (row_of n (entries_of r)) → times ≡ entry_at r.free.items place → unsigned_abs times ≤ 2 ^ 56
-times_small n r times place kept small e = rw e (entry_small n r place kept small)
-
 pub take_entries-row-requires-clause-times : goal.take_entries-row-requires-clause-times
-take_entries-row-requires-clause-times c = rw (to_z-of_z w128 c.args.times c.ranges.times) (times_small c.args.columns c.args.row.now c.args.times _ c.requires.kept c.requires.small c.requires.times)
+take_entries-row-requires-clause-times c = rw (to_z-of_z w128 c.args.times c.ranges.times) (rw c.requires.times (entry_small c.args.columns c.args.row.now _ c.requires.kept c.requires.small))
 
 pub take_entries-row-requires-clause-taken_small : goal.take_entries-row-requires-clause-taken_small
 take_entries-row-requires-clause-taken_small c = small_values c.args.columns c.args.new.now c.requires.new.listed c.requires.new.small

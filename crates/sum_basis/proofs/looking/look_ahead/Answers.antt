@@ -5,10 +5,10 @@ use Rattle.std.proofs.lemmas.Int.{ints, to_z-of_z, unsigned_abs-mul}
 use Rattle.sum_basis.specs.declared.sparse.FreeEntry.{FreeEntry}
 use Rattle.sum_basis.specs.Sparse.{IsNew}
 use Rattle.sum_basis.proofs.ListContents.{none}
-use Rattle.sum_basis.proofs.LeastMultiples.{size_is}
 use Rattle.sum_basis.proofs.ClearedLists.{is_led, positive_times}
 use Rattle.sum_basis.proofs.looking.look_ahead.Goals as goal
 use Rattle.audit_types.specs.Numbers.{size_positive}
+use Rattle.sum_basis.proofs.LeastMultiples.{positive_size}
 
 pub product-requires-clause-x : goal.product-requires-clause-x
 product-requires-clause-x c =
@@ -25,7 +25,7 @@ within_limit n new by common x y p is_new e f g positive is most =
     let leads : pos 0 <ℤ (get_or new 0 none).value = subst (λ z. pos 0 <ℤ z) led.pivot_entry_is is_new.primitive.leading in
     let above = positive_times (get_or new 0 none).value common leads positive in
     let same : p ≡ (get_or new 0 none).value *ℤ common = is ∙ ap (λ z. z *ℤ y) (f ∙ e) ∙ ap (λ z. (get_or new 0 none).value *ℤ z) g in
-    let size = size_is ((get_or new 0 none).value *ℤ common) above in
+    let size = positive_size ((get_or new 0 none).value *ℤ common) above in
     rw (sym (unsigned_abs-mul (get_or new 0 none).value common)) (omega (arith, ints))
 
 pub look_by_bounds-requires-clause-multiple : goal.look_by_bounds-requires-clause-multiple

@@ -3,9 +3,9 @@ use Rattle.std.specs.Prelude.{FitsSigned, unsigned_abs, ◌<ℤ◌, ◌≤ℤ◌
 use Rattle.std.specs.Int.{w128}
 use Rattle.std.proofs.lemmas.Int.{ints, to_z-of_z}
 use Rattle.sum_basis.proofs.ListContents.{none, entry_is}
-use Rattle.sum_basis.proofs.Clearing.{positive_not_zero}
 use Rattle.sum_basis.proofs.PrimitiveLists.{no_greater, made_as_it_is, made_turned}
 use Rattle.sum_basis.proofs.primitive_list.make_primitive.Goals as goal
+use Rattle.audit_types.specs.Numbers.{positive_not_zero}
 
 pub turn-requires : goal.turn-requires
 turn-requires c =

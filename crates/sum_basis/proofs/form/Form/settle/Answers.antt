@@ -3,10 +3,11 @@ use Rattle.std.specs.Prelude.{unsigned_abs}
 use Rattle.std.specs.List.{AllByRecursion}
 use Rattle.std.proofs.lemmas.Bool.{true≢false, eqb-true, eq-eqb}
 use Rattle.audit_types.specs.Truth.{number_at}
+use Rattle.audit_types.specs.ListLaws.{all-unmap}
 use Rattle.sum_basis.specs.declared.sparse.FreeEntry.{FreeEntry}
 use Rattle.sum_basis.specs.Sparse.{entry_at, IsListed}
 use Rattle.sum_basis.proofs.ListContents.{none}
-use Rattle.sum_basis.proofs.ClearedLists.{of_values, values_from}
+use Rattle.sum_basis.proofs.ClearedLists.{values_from}
 use Rattle.sum_basis.proofs.SparseRows.{small_row, small_values}
 use Rattle.sum_basis.proofs.WideForms.{new_too_large}
 use Rattle.sum_basis.proofs.Extending.{nothing_new, new_row, grows_wide}
@@ -45,7 +46,7 @@ make_primitive-requires-clause-first c = first_some (length c.remainder.new.row)
 
 pub make_primitive-requires-clause-size : goal.make_primitive-requires-clause-size
 make_primitive-requires-clause-size c =
-    of_values (λ x. unsigned_abs x ≤ 2 ^ 126) c.in_ok-list.list.items
+    all-unmap (λ (e : FreeEntry). e.value) (λ x. unsigned_abs x ≤ 2 ^ 126) c.in_ok-list.list.items
     (values_from (λ x. unsigned_abs x ≤ 2 ^ 126) 0 (length c.remainder.new.row) c.in_ok-list.list.items c.in_ok-list.ensures.listed (λ j. rw (c.in_ok-list.ensures.is j) (let small = c.remainder.ensures.small j in omega arith)) (omega arith))
 
 pub returns-then-not-are_small-clause-left : goal.returns-then-not-are_small-clause-left
