@@ -1,6 +1,6 @@
 #!/bin/sh
 # Brings the built program to ends that files, terminals and pipes give it, and prints for each what it ended with and what it
-# said. Ends with 0 where each is the one that docs/OPERATIONS.md tells. Build the program first: demo/run.sh does.
+# said. Ends with 0 where each is the one that OPERATIONS.md tells. Build the program first: demo/run.sh does.
 #
 #   demo/edges.sh [PROGRAM]
 #

@@ -19,7 +19,7 @@ use table_load::{MOST_TABLE, Public, Table, TableFault, load, load_public};
 pub enum FileFault<F: Drop> {
     /// A read failed.
     Failed,
-    /// There was no memory.
+    /// Memory ran out.
     NoMemory,
     /// The bytes have this fault. It is never want of memory.
     Bad(F),

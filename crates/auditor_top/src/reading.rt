@@ -13,7 +13,7 @@ const PIECE: usize = 4096;
 pub enum ReadFault {
     /// The source failed.
     Failed,
-    /// There was no memory.
+    /// Memory ran out.
     NoMemory,
 }
 

@@ -44,7 +44,8 @@ use std::alloc::Global;
 use table_load::TableFault;
 
 /// Does all that the program does: reads the words after the program's name, and takes the steps of their command over the
-/// schema, the table, the lines of the input, and the bench, which keeps the journal and takes what is sent.
+/// schema, the table, the lines of the input, and the bench, which keeps the journal and takes what is sent. `spare` is never
+/// called: it is the place of a second journal, which no command keeps.
 pub fn run<P: Source, I: Source, B: Bench>(
     alloc: Global,
     words: &Vec<String>,

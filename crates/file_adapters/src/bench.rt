@@ -35,6 +35,7 @@ pub struct FileBench<'a, R: Files + Print> {
 }
 
 impl<'a, R: Files + Print> FileBench<'a, R> {
+    /// The journal's file at a path of the program's folder, and standard output. Nothing is opened yet.
     pub fn new(rt: &'a R, path: &'static str) -> Self
         ensures fresh { result.faults ≡ 0 }
     {

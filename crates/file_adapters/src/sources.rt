@@ -18,6 +18,7 @@ pub struct FileSource<'a, R: Files> {
 }
 
 impl<'a, R: Files> FileSource<'a, R> {
+    /// The file at a path. Nothing is opened yet.
     pub fn new(rt: &'a R, path: &'static str) -> Self
         ensures fresh { result.faults ≡ 0 }
     {
@@ -72,6 +73,7 @@ pub struct InputSource<I: Read + Drop> {
 }
 
 impl<I: Read + Drop> InputSource<I> {
+    /// What the reader gives. Nothing is read yet.
     pub fn new(reader: I) -> Self
         ensures fresh { result.faults ≡ 0 }
     {

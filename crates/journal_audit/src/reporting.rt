@@ -150,8 +150,8 @@ fn send_totals<B: Bench>(
     send_line(bench, &line)
 }
 
-/// Sends the report of a store's history over the secret columns of a schema: a line a send, each list checked before its
-/// line leaves. Nothing is written.
+/// Sends the report of a store's history over the secret columns of a schema: a line a send. Each list is checked before its
+/// line leaves; its clauses say that it would pass. Nothing is written.
 pub fn audit<B: Bench>(
     alloc: Global,
     schema: &Schema,

@@ -11,7 +11,7 @@ use schema_json::{Role, Schema};
 use std::alloc::Global;
 use std::mem;
 
-/// How many `not` and brackets may be open.
+// How many `not` and brackets may be open.
 const MOST_OPEN: usize = 64;
 
 /// A `not` that waits for its operand, or an open bracket with what stands before it.
@@ -65,7 +65,7 @@ fn or_of(alloc: Global, ors: Option<Pred>, p: Pred) -> Result<Pred, WhereFault>
     }
 }
 
-/// Whether a `not` stands right before the operand.
+// Whether a `not` stands right before the operand.
 #[tactic(auto, using(crate::proofs::Frames::frames_of_last))]
 fn is_under_not(opened: &[Opened]) -> bool
     ensures { result ≡ is_under_not (frames_of opened.now) }
@@ -77,7 +77,7 @@ fn is_under_not(opened: &[Opened]) -> bool
     }
 }
 
-/// The operand under each `not` right before it. These end there.
+// The operand under each `not` right before it. These end there.
 fn negate(alloc: Global, opened: &mut Vec<Opened>, operand: Pred) -> Result<Pred, WhereFault>
     ensures tree { MakesTree (negated (frames_of opened.old.items) (tree_of operand)) result }
     ensures rest { OnOk result (frames_of opened.new.items ≡ without_nots (frames_of opened.old.items)) }
@@ -153,7 +153,7 @@ impl State {
         }
     }
 
-    /// Puts a whole operand after what stands before it.
+    // Puts a whole operand after what stands before it.
     fn end_operand(&mut self, alloc: Global, operand: Pred) -> Result<(), WhereFault>
         ensures { Makes (whole (frames_of self.old.opened.items) (part_of self.old.ors) (part_of self.old.ands) (tree_of operand)) result (λ _. build_of self.new) }
     {
@@ -163,7 +163,7 @@ impl State {
         Ok(())
     }
 
-    /// Opens one `not` or bracket more.
+    // Opens one `not` or bracket more.
     fn open(&mut self, opening: Opened, at: u32) -> Result<(), WhereFault>
         ensures { Goes (has_room (frames_of self.old.opened.items)) (build (frame_of opening ∷ frames_of self.old.opened.items) (part_of self.old.ors) (part_of self.old.ands) at_operand) at result (λ _. build_of self.new) }
     {
@@ -175,7 +175,7 @@ impl State {
         Ok(())
     }
 
-    /// Closes the innermost bracket.
+    // Closes the innermost bracket.
     #[tactic(auto, using(crate::proofs::Frames::frames_of_push))]
     fn close(&mut self, alloc: Global, inner: Pred, at: u32) -> Result<(), WhereFault>
         ensures { Goes (is_in_bracket (frames_of self.old.opened.items)) (closed (frames_of self.old.opened.items) (part_of self.old.ors) (tree_of inner)) at result (λ _. build_of self.new) }

@@ -50,7 +50,7 @@ fn op_text(op: Op) -> &'static str
     }
 }
 
-/// Writes a text in quotes, each quote in it twice.
+// Writes a text in quotes, each quote in it twice.
 fn write_text(out: &mut String, text: &str) -> Result<(), AllocError>
     ensures { OnOk result (string_bytes out.new ≡ string_bytes out.old ++ literal_text (Text text.now)) }
 {
@@ -78,7 +78,7 @@ fn write_literal(out: &mut String, literal: &Literal) -> Result<(), AllocError>
     }
 }
 
-/// Writes the literals of an `in`, and the bracket that closes them.
+// Writes the literals of an `in`, and the bracket that closes them.
 fn write_literals(out: &mut String, literals: &[Literal]) -> Result<(), AllocError>
     requires some { has_literals literals.now ≡ true }
     requires texts { AllByRecursion IsTextLiteral literals.now }
@@ -97,7 +97,7 @@ fn write_literals(out: &mut String, literals: &[Literal]) -> Result<(), AllocErr
     }
 }
 
-/// Writes the comparison of a column with a literal.
+// Writes the comparison of a column with a literal.
 fn write_compare(
     out: &mut String,
     schema: &Schema,
@@ -128,7 +128,7 @@ fn close(out: &mut String, wanted: bool) -> Result<(), AllocError>
     if wanted { out.push(')') } else { Ok(()) }
 }
 
-/// Writes a predicate. Calls go as deep as its tree, which for one that was read is at most 512.
+// Writes a predicate. Calls go as deep as its tree, which for one that was read is at most 512.
 fn write_pred(out: &mut String, schema: &Schema, pred: &Pred) -> Result<(), AllocError>
     requires fitting { fits schema.now.columns (tree_of pred.now) ≡ true }
     requires texts { AreTexts (tree_of pred.now) }

@@ -13,17 +13,17 @@ use crate::trees::{Pred, WhereFault};
 use schema_json::Schema;
 use std::alloc::Global;
 
-/// How many tokens a predicate may have.
+// How many tokens a predicate may have.
 const MOST_TOKENS: usize = 512;
 
-/// What one token more leads to: the offset after it, or the predicate at the end.
+// What one token more leads to: the offset after it, or the predicate at the end.
 #[derive(Drop)]
 enum Step {
     More(usize),
     Whole(Pred),
 }
 
-/// Takes the next token, or ends where there is none.
+// Takes the next token, or ends where there is none.
 fn take_token(
     alloc: Global,
     schema: &Schema,

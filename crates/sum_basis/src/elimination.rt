@@ -9,7 +9,7 @@ ghost use Rattle.sum_basis.specs.Elimination.{IsSmall};
 use crate::cleared_list::product;
 use audit_types::RowSet;
 
-// The greatest size of an entry of a narrow form, and of the common multiple of its pivot entries.
+/// The greatest size of an entry of a narrow form, and of the common multiple of its pivot entries.
 pub const LIMIT: u128 = 1 << 56;
 
 /// The place of the first entry that is not 0, and the length where all are 0.

@@ -84,7 +84,7 @@ fn send_verdict<B: Bench>(bench: &mut B, due: Due) -> Result<(), Failed>
     bench.send(verdict_line(due))
 }
 
-// Judges the exchanges that are still to come. A reply's line is read after its question's verdict alone.
+// Judges the exchanges that are still to come. A reply is looked at once the verdict on its question was sent.
 fn judge<P: Source, B: Bench>(
     alloc: Global,
     lines: &mut Lines,
@@ -127,8 +127,9 @@ fn judge<P: Source, B: Bench>(
     Ok(())
 }
 
-/// Sends the verdict on each question of a transcript before its reply is read, and takes an answer only from a reply that
-/// agrees. The index is that of the public columns of the schema; no secret is read, and nothing is written.
+/// Sends the verdict on each question of a transcript, by one call before its reply is looked at, and takes an answer only from
+/// a reply that agrees. No verdict depends on its own reply. The index is that of the public columns of the schema; no secret is
+/// read, and nothing is written.
 pub fn simulate<P: Source, B: Bench>(
     alloc: Global,
     schema: &Schema,
