@@ -9,7 +9,8 @@ use Rattle.bench_core.specs.Moments.{started, goes_on, joins, weakens}
 use Rattle.journal_audit.specs.Reports.{Audit, Subject, IsLineOn, SendsFront, SendsMeanwhile, SendsLine, SendsLinesOn}
 use Rattle.journal_audit.specs.declared.faults.AuditFault.{AuditFault}
 use Rattle.journal_audit.specs.declared.faults.AuditFault.TheVariants as fault
-use Rattle.journal_audit.proofs.Sending.{none_sent, none_front, one_sent, one_front, sent_then, front_of_more, then_front}
+use Rattle.journal_audit.proofs.Sending.{none_sent, one_sent, one_front, sent_then, front_of_more, then_front}
+use Rattle.journal_audit.specs.SendLaws.{none_front}
 
 -- what an answer that is a refusal says
 pub refusal_is : {T E : Type 0} (r : Result T E) (P : E → Type 0) → IsErr r × IsErrAnd r P → (e : E) × ((r ≡ Err e) × P e)

@@ -4,7 +4,7 @@ use Rattle.std.specs.Prelude.{is_some, option_map, option_and_then, unwrap_or, s
 use Rattle.std.proofs.lemmas.Bool.{false≢true}
 use Rattle.std.proofs.lemmas.List.{append-nil, map-append, length-map}
 use Rattle.std.proofs.lemmas.List.Elements.{filter-append}
-use Rattle.std.proofs.lemmas.Option.{slice_get_within, slice_get_cases}
+use Rattle.std.proofs.lemmas.Option.{slice_get_within, slice_get_cases, same_Some}
 use Rattle.std.proofs.Math.Seq.{get_or-append_seam}
 use Rattle.schema_json.specs.Columns.{Column, is_secret, name_at, secret_count, secret_place}
 use Rattle.journal_audit.specs.Reports.{secret_names, secret_name}
@@ -16,12 +16,9 @@ pub record StandsAt (cs : List Column) (place : ℕ) (c : Column) : Type 0 where
   pub all : cs ≡ take place cs ++ c ∷ others
   pub one_more : take (place + 1) cs ≡ take place cs ++ c ∷ []
 
-some_is : {X : Type 0} (x y : X) → Some x ≡ Some y → x ≡ y
-some_is x y same = ap (λ o. unwrap_or o x) same
-
 stands_at : (cs : List Column) (place : ℕ) (c : Column) → slice_get cs place ≡ Some c → StandsAt cs place c
 stands_at [] place c here = absurd (false≢true (ap is_some here))
-stands_at (d ∷ cs) zero c here = let same = some_is d c here in record { here = here; others = cs; all = ap (λ x. x ∷ cs) same; one_more = ap (λ x. x ∷ []) same }
+stands_at (d ∷ cs) zero c here = let same = same_Some d c here in record { here = here; others = cs; all = ap (λ x. x ∷ cs) same; one_more = ap (λ x. x ∷ []) same }
 stands_at (d ∷ cs) (suc place) c here =
     let rest = stands_at cs place c here in
     record { here = here; others = rest.others; all = ap (λ l. d ∷ l) rest.all; one_more = ap (λ n. take n (d ∷ cs)) (add-one (suc place)) ∙ ap (λ l. d ∷ l) (ap (λ n. take n cs) (sym (add-one place)) ∙ rest.one_more) }
@@ -34,7 +31,7 @@ pub record IsSecretAt (cs : List Column) (place column : ℕ) : Type 0 where
   pub counted : column ≡ secret_count (take place cs)
 
 by_role : (cs : List Column) (place column : ℕ) (c : Column) → slice_get cs place ≡ Some c → (b : Bool) → is_secret c.role ≡ b → cond b (Some (secret_count (take place cs))) None ≡ Some column → IsSecretAt cs place column
-by_role cs place column c here true secret is = record { c = c; at = stands_at cs place c here; secret = secret; counted = sym (some_is (secret_count (take place cs)) column is) }
+by_role cs place column c here true secret is = record { c = c; at = stands_at cs place c here; secret = secret; counted = sym (same_Some (secret_count (take place cs)) column is) }
 by_role cs place column c here false secret is = absurd (false≢true (ap is_some is))
 
 found : (cs : List Column) (place column : ℕ) (o : Option Column) → slice_get cs place ≡ o → option_and_then (λ c. cond (is_secret c.role) (Some (secret_count (take place cs))) None) o ≡ Some column → IsSecretAt cs place column
@@ -85,7 +82,7 @@ name_is cs place column name is named =
     let front = filter (λ d. is_secret d.role) (take place cs) in
     let rest = filter (λ d. is_secret d.role) at.at.others in
     let names : List Column → List (List ℕ) = λ l. map (λ c. c.name) l in
-    let own : name ≡ at.c.name = some_is name at.c.name (named ∙ ap (option_map (λ c. c.name)) at.at.here) in
+    let own : name ≡ at.c.name = same_Some name at.c.name (named ∙ ap (option_map (λ c. c.name)) at.at.here) in
     let all : secret_names cs ≡ names front ++ at.c.name ∷ names rest =
     ap names (ap (filter (λ d. is_secret d.role)) at.at.all ∙ filter-append (λ d. is_secret d.role) (take place cs) (at.c ∷ at.at.others) ∙ ap (λ l. front ++ l) (kept_one at.c at.at.others at.secret))
     ∙ map-append (λ c. c.name) front (at.c ∷ rest) in

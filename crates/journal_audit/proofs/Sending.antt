@@ -5,11 +5,7 @@ use Rattle.std.proofs.Math.Seq.{take-length, take-append-add}
 use Rattle.std.specs.List.{concat}
 use Rattle.bench_core.specs.Bench.{AppendsFront}
 use Rattle.journal_audit.specs.Reports.{Audit, Subject, IsLineOn, AreLinesOn, Sends, SendsFront}
-
--- the bytes of lines after others
-pub concat-append : (xs ys : List (List ℕ)) → concat (xs ++ ys) ≡ concat xs ++ concat ys
-concat-append [] ys = refl
-concat-append (x ∷ xs) ys = ap (λ l. x ++ l) (concat-append xs ys) ∙ sym (append_assoc x (concat xs) (concat ys))
+use Rattle.std.proofs.lemmas.List.Folds.{concat-append}
 
 -- lines on these, after lines on others
 pub lines-append : (audit : Audit) (xs ys : List Subject) (ls ms : List (List ℕ)) → AreLinesOn audit xs ls → AreLinesOn audit ys ms → AreLinesOn audit (xs ++ ys) (ls ++ ms)
@@ -81,7 +77,3 @@ then_front audit xs ys a b c sends front = record {
         ∙ ap (λ l. a ++ l) (sym (take-append-add (concat sends.lines) (concat front.lines) front.sent.0) ∙ ap (λ l. take (length (concat sends.lines) + front.sent.0) l) (sym (concat-append sends.lines front.lines))),
   );
 }
-
--- no byte is a front of any lines
-pub none_front : (audit : Audit) (about : List Subject) (bytes : List ℕ) → SendsFront audit about bytes bytes
-none_front audit about bytes = record { first = []; others = about; all = refl; lines = []; are = tt; sent = (0, sym (append-nil bytes)) }
