@@ -202,12 +202,12 @@ impl State {
     {
         match self.opened.pop() {
             Some(Opened::Bracket { ors, ands }) => {
-                let p = or_of(alloc, self.ors.take(), inner)?;
+                let inner_ors = self.ors.take();
                 self.wait_after(ors, ands);
+                let p = or_of(alloc, inner_ors, inner)?;
                 self.end_operand(alloc, p)
             }
-            Some(Opened::Not) => Err(WhereFault::Bad { at }),
-            None => Err(WhereFault::Bad { at }),
+            _ => Err(WhereFault::Bad { at }),
         }
     }
 
