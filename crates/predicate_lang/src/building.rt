@@ -3,7 +3,8 @@ ghost use Rattle.std.specs.Prelude.{◌≡◌, ◌∷◌, List, OnOk};
 ghost use Rattle.schema_json.specs.Columns.{Column, role_at};
 ghost use Rattle.predicate_lang.specs.Trees.{tree_of, is_of_role, has_operator};
 ghost use Rattle.predicate_lang.specs.Machine.{build, start, built, whole, closed, add_and, add_or, is_under_not, is_in_bracket, negated, without_nots, at_operand, at_name, at_operator, at_in, at_comma, at_literal, behind, has_room, public_role};
-ghost use Rattle.predicate_lang.specs.Building.{Puts, Goes, Makes, MakesTree, Finishes, build_of, build_at, part_of, frame_of, frames_of};
+ghost use Rattle.predicate_lang.specs.Building.{Puts, Goes, Makes, MakesTree, Finishes, build_of, build_at, stand_of, part_of, frame_of, frames_of};
+ghost use Rattle.predicate_lang.specs.declared.building.Spot.TheVariants.{Operand};
 
 use crate::tokens::Token;
 use crate::trees::{Literal, Literals, Op, Pred, WhereFault};
@@ -153,13 +154,32 @@ impl State {
         }
     }
 
+    // Sets where the next token stands.
+    fn go_to(&mut self, spot: Spot)
+        ensures { build_of self.new ≡ build_at self.old (stand_of spot self.old.literals.items) }
+    {
+        self.spot = spot;
+    }
+
+    // Waits for an operand after these parts.
+    fn wait_after(&mut self, ors: Option<Pred>, ands: Option<Pred>)
+        ensures opened { self.new.opened ≡ self.old.opened }
+        ensures ors { self.new.ors ≡ ors }
+        ensures ands { self.new.ands ≡ ands }
+        ensures spot { self.new.spot ≡ Operand }
+    {
+        self.ors = ors;
+        self.ands = ands;
+        self.spot = Spot::Operand;
+    }
+
     // Puts a whole operand after what stands before it.
     fn end_operand(&mut self, alloc: Global, operand: Pred) -> Result<(), WhereFault>
         ensures { Makes (whole (frames_of self.old.opened.items) (part_of self.old.ors) (part_of self.old.ands) (tree_of operand)) result (λ _. build_of self.new) }
     {
         let p = negate(alloc, &mut self.opened, operand)?;
         let p = and_of(alloc, self.ands.take(), p)?;
-        self.spot = Spot::Whole(p);
+        self.go_to(Spot::Whole(p));
         Ok(())
     }
 
@@ -171,7 +191,7 @@ impl State {
             return Err(WhereFault::Bad { at });
         }
         self.opened.push(opening)?;
-        self.spot = Spot::Operand;
+        self.go_to(Spot::Operand);
         Ok(())
     }
 
@@ -182,13 +202,12 @@ impl State {
     {
         match self.opened.pop() {
             Some(Opened::Bracket { ors, ands }) => {
-                let p = or_of(alloc, self.ors.take(), inner)?;
-                self.ors = ors;
-                self.ands = ands;
+                let inner_ors = self.ors.take();
+                self.wait_after(ors, ands);
+                let p = or_of(alloc, inner_ors, inner)?;
                 self.end_operand(alloc, p)
             }
-            Some(Opened::Not) => Err(WhereFault::Bad { at }),
-            None => Err(WhereFault::Bad { at }),
+            _ => Err(WhereFault::Bad { at }),
         }
     }
 
@@ -211,7 +230,7 @@ impl State {
             Token::All => self.end_operand(alloc, Pred::All),
             Token::Column(Some(column)) => {
                 if is_public(role_of(schema, column)) {
-                    self.spot = Spot::Name(column);
+                    self.go_to(Spot::Name(column));
                     Ok(())
                 } else {
                     Err(WhereFault::Bad { at })
@@ -232,12 +251,12 @@ impl State {
     {
         match token {
             Token::In => {
-                self.spot = Spot::In(column);
+                self.go_to(Spot::In(column));
                 Ok(())
             }
             Token::Operator(op) => {
                 if takes_operator(role_of(schema, column), op) {
-                    self.spot = Spot::Operator(column, op);
+                    self.go_to(Spot::Operator(column, op));
                     Ok(())
                 } else {
                     Err(WhereFault::Bad { at })
@@ -281,7 +300,7 @@ impl State {
         match token {
             Token::OpenBracket => {
                 self.literals = Vec::new(alloc);
-                self.spot = Spot::Comma(column);
+                self.go_to(Spot::Comma(column));
                 Ok(())
             }
             _ => Err(WhereFault::Bad { at }),
@@ -301,7 +320,7 @@ impl State {
             Token::Value(literal) => {
                 if takes_literal(role_of(schema, column), &literal) {
                     self.literals.push(literal)?;
-                    self.spot = Spot::Literal(column);
+                    self.go_to(Spot::Literal(column));
                     Ok(())
                 } else {
                     Err(WhereFault::Bad { at })
@@ -322,7 +341,7 @@ impl State {
     {
         match token {
             Token::Comma => {
-                self.spot = Spot::Comma(column);
+                self.go_to(Spot::Comma(column));
                 Ok(())
             }
             Token::CloseBracket => {
@@ -339,15 +358,13 @@ impl State {
     {
         match token {
             Token::And => {
-                self.ands = Some(p);
-                self.spot = Spot::Operand;
+                let ors = self.ors.take();
+                self.wait_after(ors, Some(p));
                 Ok(())
             }
             Token::Or => {
                 let ors = or_of(alloc, self.ors.take(), p)?;
-                self.ors = Some(ors);
-                self.ands = None;
-                self.spot = Spot::Operand;
+                self.wait_after(Some(ors), None);
                 Ok(())
             }
             Token::CloseBracket => self.close(alloc, p, at),
