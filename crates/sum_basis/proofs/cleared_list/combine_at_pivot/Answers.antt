@@ -72,13 +72,13 @@ returns-clause-head c =
     let x : FitsSigned w128 (get_or c.args.new.now 0 (record { place = 0; value = pos 0 })).value = search rules in
     let y : FitsSigned w128 c.args.row.now.head = search rules in
     let p : FitsSigned w128 c.product.result = search rules in
-    product_of c.product.result (get_or c.args.new.now 0 none).value c.args.row.now.head p x y c.product.ensures
+    product_of c.product.result (get_or c.args.new.now 0 none).value c.args.row.now.head p x y c.product.ensures.exact
 
 pub returns-clause-leading : goal.returns-clause-leading
 returns-clause-leading c =
     let x : FitsSigned w128 (get_or c.args.new.now 0 (record { place = 0; value = pos 0 })).value = search rules in
     let y : FitsSigned w128 c.args.row.now.head = search rules in
     let p : FitsSigned w128 c.product.result = search rules in
-    rw (product_of c.product.result (get_or c.args.new.now 0 none).value c.args.row.now.head p x y c.product.ensures)
+    rw (product_of c.product.result (get_or c.args.new.now 0 none).value c.args.row.now.head p x y c.product.ensures.exact)
     (let size = product_small (get_or c.args.new.now 0 none).value c.args.row.now.head (first_small c.args.columns c.args.new.now _ c.requires.new refl) (head_small c.args.columns c.args.row.now c.requires.kept c.requires.small) in
     (positive_times (get_or c.args.new.now 0 none).value c.args.row.now.head (by_positive c.args.columns c.args.new.now c.requires.new) c.requires.kept.leading, omega arith))

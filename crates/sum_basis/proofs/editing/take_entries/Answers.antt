@@ -32,7 +32,7 @@ negative-number-requires c =
     let p : FitsSigned w128 c.product.result = search rules in
     let value : FitsSigned w128 (get_or c.args.taken.now c.loop-e.e-index (record { place = 0; value = pos 0 })).value = search rules in
     let size = product_small c.args.times (get_or c.args.taken.now c.loop-e.e-index none).value c.requires.times (value_small c.args.taken.now c.loop-e.e-index c.loop-e-test.true c.requires.taken_small) in
-    rw (product_of c.product.result c.args.times (get_or c.args.taken.now c.loop-e.e-index none).value p c.ranges.times value c.product.ensures) (omega arith)
+    rw (product_of c.product.result c.args.times (get_or c.args.taken.now c.loop-e.e-index none).value p c.ranges.times value c.product.ensures.exact) (omega arith)
 
 -- the number that is added
 number_of : (n : ℕ) (es : List FreeEntry) (k : ℕ) (times product number x : ℤ) → k < length es → IsListed 0 n es → AllByRecursion (λ (e : FreeEntry). unsigned_abs e.value ≤ 2 ^ 56) es → unsigned_abs times ≤ 2 ^ 56 → times ≢ pos 0 → x ≡ number → number ≡ neg_ℤ product → product ≡ times *ℤ (get_or es k none).value
@@ -54,7 +54,7 @@ add_at-after-requires-clause-number c =
     let q : FitsSigned w128 c.negative-number.result = search rules in
     let value : FitsSigned w128 (get_or c.args.taken.now c.loop-e.e-index (record { place = 0; value = pos 0 })).value = search rules in
     let is = number_of c.args.columns c.args.taken.now c.loop-e.e-index c.args.times _ c.negative-number.result _ c.loop-e-test.true c.requires.taken c.requires.taken_small c.requires.times c.requires.some (to_z-of_z w128 c.negative-number.result q) c.negative-number.ensures
-    (product_of c.product.result c.args.times (get_or c.args.taken.now c.loop-e.e-index none).value p c.ranges.times value c.product.ensures) in
+    (product_of c.product.result c.args.times (get_or c.args.taken.now c.loop-e.e-index none).value p c.ranges.times value c.product.ensures.exact) in
     let small = is.small in
     omega arith
 
@@ -64,7 +64,7 @@ add_at-after-requires-clause-some c =
     let q : FitsSigned w128 c.negative-number.result = search rules in
     let value : FitsSigned w128 (get_or c.args.taken.now c.loop-e.e-index (record { place = 0; value = pos 0 })).value = search rules in
     (number_of c.args.columns c.args.taken.now c.loop-e.e-index c.args.times _ c.negative-number.result _ c.loop-e-test.true c.requires.taken c.requires.taken_small c.requires.times c.requires.some (to_z-of_z w128 c.negative-number.result q) c.negative-number.ensures
-    (product_of c.product.result c.args.times (get_or c.args.taken.now c.loop-e.e-index none).value p c.ranges.times value c.product.ensures)).some
+    (product_of c.product.result c.args.times (get_or c.args.taken.now c.loop-e.e-index none).value p c.ranges.times value c.product.ensures.exact)).some
 
 pub loop-e-preserved : goal.loop-e-preserved
 loop-e-preserved c =
@@ -73,7 +73,7 @@ loop-e-preserved c =
     let after : FitsSigned w128 c.add_at-after.result = search rules in
     let value : FitsSigned w128 (get_or c.args.taken.now c.loop-e.e-index (record { place = 0; value = pos 0 })).value = search rules in
     let is = number_of c.args.columns c.args.taken.now c.loop-e.e-index c.args.times _ c.negative-number.result _ c.loop-e-test.true c.requires.taken c.requires.taken_small c.requires.times c.requires.some (to_z-of_z w128 c.negative-number.result q) c.negative-number.ensures
-    (product_of c.product.result c.args.times (get_or c.args.taken.now c.loop-e.e-index none).value p c.ranges.times value c.product.ensures) in
+    (product_of c.product.result c.args.times (get_or c.args.taken.now c.loop-e.e-index none).value p c.ranges.times value c.product.ensures.exact) in
     let times = to_z-of_z w128 c.args.times c.ranges.times in
     let size = c.unsigned_abs.ensures.value ∙ ap unsigned_abs (to_z-of_z w128 c.add_at-after.result after) in
     let one = c.greater-bound.ensures.first in

@@ -60,7 +60,7 @@ loop-i-preserved-then-one-other c =
     let x : FitsSigned w128 (get_or c.args.first.now c.loop-i.i (record { place = 0; value = pos 0 })).value = search rules in
     let v : FitsSigned w128 c.product.result = search rules in
     record {
-      merging = rw c.put.ensures.items (first_merged c.args.columns _ c.args.first.now _ c.args.second.now c.loop-i.out.items c.loop-i.i c.loop-i.j c.loop-i.invariant.merging c.loop-i-test.true c.if-j-second.true _ c.if-one-other.true (passed _ _ v (c.product.ensures ∙ of_value _ _ x)));
+      merging = rw c.put.ensures.items (first_merged c.args.columns _ c.args.first.now _ c.args.second.now c.loop-i.out.items c.loop-i.i c.loop-i.j c.loop-i.invariant.merging c.loop-i-test.true c.if-j-second.true _ c.if-one-other.true (passed _ _ v (c.product.ensures.exact ∙ of_value _ _ x)));
       capacity = c.put.ensures.capacity ∙ c.loop-i.invariant.capacity;
     }
 
@@ -70,7 +70,7 @@ loop-i-preserved-then-other-one c =
     let v : FitsSigned w128 c.product-then-other-one.result = search rules in
     record {
       merging = rw c.put-then-other-one.ensures.items (second_merged c.args.columns _ c.args.first.now _ c.args.second.now c.loop-i.out.items c.loop-i.i c.loop-i.j c.loop-i.invariant.merging c.loop-i-test.true c.if-j-second.true _ c.if-other-one.true
-          (passed _ _ v (c.product-then-other-one.ensures ∙ ap (λ z. z *ℤ to_z w128 (of_z w128 (get_or c.args.second.now c.loop-i.j (record { place = 0; value = pos 0 })).value)) (minus_is c.args.times c.ranges.times c.requires.times) ∙ of_value _ _ y)));
+          (passed _ _ v (c.product-then-other-one.ensures.exact ∙ ap (λ z. z *ℤ to_z w128 (of_z w128 (get_or c.args.second.now c.loop-i.j (record { place = 0; value = pos 0 })).value)) (minus_is c.args.times c.ranges.times c.requires.times) ∙ of_value _ _ y)));
       capacity = c.put-then-other-one.ensures.capacity ∙ c.loop-i.invariant.capacity;
     }
 
