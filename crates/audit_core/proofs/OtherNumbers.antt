@@ -2,7 +2,7 @@
 --
 -- Sums: the sets pin no row, so some direction of them changes the number; the list moved by it gives the same answers.
 -- Maxima: the row isn't lone after the last answer, so two lists that agree differ there, and one of them differs from the column's own.
-use Rattle.std.proofs.Common.{◌≡◌, ◌≢◌, ℕ, zero, suc, ◌<◌, ℤ, pos, negsuc, List, [], ◌∷◌, ◌++◌, map, length, refl, sym, ap, ◌∙◌, subst, arith, inl, inr, ◌⊎◌}
+use Rattle.std.proofs.Common.{◌≡◌, ◌≢◌, ℕ, ◌<◌, ℤ, pos, List, [], ◌∷◌, ◌++◌, map, length, sym, ◌∙◌, subst, arith, inl, inr, ◌⊎◌}
 use Rattle.std.specs.Prelude.{◌+ℤ◌, ◌-ℤ◌, slice_set}
 use Rattle.std.specs.List.{AllByRecursion}
 use Rattle.std.proofs.lemmas.Int.{ints}
@@ -10,7 +10,7 @@ use Rattle.std.proofs.lemmas.List.{get_or-set_same, length-set, map-append}
 use Rattle.audit_types.specs.declared.shapes.Kind.{Kind}
 use Rattle.audit_types.specs.declared.shapes.Kind.TheVariants.{Sum, Max}
 use Rattle.audit_types.specs.Rows.{AreRows}
-use Rattle.audit_types.specs.Truth.{number_at, sum_over, truth}
+use Rattle.audit_types.specs.Truth.{number_at, truth}
 use Rattle.audit_types.specs.Column.{Known, Answer, Agrees, GivesSameAnswers, IsDangerous, IsPossible, IsWellFormed, known_sum, known_max}
 use Rattle.audit_types.specs.Direction.{IsPinned}
 use Rattle.sum_audit.specs.Laws.{SpannedOrMoved, PinnedByUnitRow, DangerousByPins}
