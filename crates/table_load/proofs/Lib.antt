@@ -1,3 +1,4 @@
+pub mod AddedRows
 pub mod NumeralLaw
 pub mod Digits
 pub mod FieldPlaces

@@ -1,8 +1,8 @@
 //! The data records of a file, read until one has a fault.
-ghost use Rattle.std.specs.Prelude.{◌≡◌, [], length, ◌≤◌};
+ghost use Rattle.std.specs.Prelude.{◌≡◌, [], length, ◌≤◌, IfErr};
 ghost use Rattle.table_load.specs.Reading.{file_columns, roles_of};
 ghost use Rattle.csv.specs.Reading.{error_kind};
-ghost use Rattle.table_load.specs.Steps.{HasRead, IsOfMemory, Opens, ReadsData};
+ghost use Rattle.table_load.specs.Steps.{AddsRow, HasRead, IsOfMemory, Opens, ReadsData};
 ghost use Rattle.table_load.specs.declared.faults.TableFault.TheVariants.{NoMemory};
 
 use crate::faults::TableFault;
@@ -67,6 +67,33 @@ fn open_file<'b>(
     }
 }
 
+// Adds a record to those before it, unless it has a fault.
+fn add_row(
+    roles: &[Role],
+    rows: &mut Vec<ByteRecord>,
+    read: Result<ByteRecord, Error>,
+) -> Result<(), TableFault>
+    requires few { length roles.now ≤ 32 }
+    requires at_most { length rows.old.items ≤ 1024 }
+    requires of_memory { IfErr read (λ error. IsOfMemory (error_kind error)) }
+    ensures { AddsRow result roles.now rows.old.items read rows.new.items }
+{
+    let row = match read {
+        Ok(row) => row,
+        Err(error) => return Err(read_fault(&error)),
+    };
+    if rows.len() == MOST_ROWS as usize {
+        return Err(TableFault::TooManyRows);
+    }
+    if let Some(fault) = record_fault(roles, rows.len() as u32 + 2, &row) {
+        return Err(fault);
+    }
+    if rows.push(row).is_err() {
+        return Err(TableFault::NoMemory);
+    }
+    Ok(())
+}
+
 /// The data records of a file, where none of them has a fault. Records of another length are read too, and only want of
 /// memory is left as an error of a read.
 pub(crate) fn read_rows(
@@ -86,18 +113,8 @@ pub(crate) fn read_rows(
     };
     let mut rows = Vec::new(alloc);
     for row in records {
-        let row = match row {
-            Ok(row) => row,
-            Err(error) => return Err(read_fault(&error)),
-        };
-        if rows.len() == MOST_ROWS as usize {
-            return Err(TableFault::TooManyRows);
-        }
-        if let Some(fault) = record_fault(roles, rows.len() as u32 + 2, &row) {
+        if let Err(fault) = add_row(roles, &mut rows, row) {
             return Err(fault);
-        }
-        if rows.push(row).is_err() {
-            return Err(TableFault::NoMemory);
         }
     }
     if rows.is_empty() {
