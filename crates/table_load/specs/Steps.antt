@@ -1,5 +1,5 @@
 -- What the reader of records has read of a file, and what it answers.
-use Rattle.std.specs.Prelude.{◌≡◌, ◌<◌, ◌≤◌, ◌+◌, ◌==◌, if◌then◌else◌, ℕ, true, List, [], ◌∷◌, ◌++◌, length, map, Option, Some, None, Vec, Result, Ok, Err}
+use Rattle.std.specs.Prelude.{◌≡◌, ◌<◌, ◌≤◌, ◌+◌, ◌==◌, if◌then◌else◌, ℕ, true, false, List, [], ◌∷◌, ◌++◌, length, map, Option, Some, None, Vec, Result, Ok, Err}
 use Rattle.std.specs.declared.alloc.Global.{Global}
 use Rattle.std.specs.Borrow.{Bor}
 use Rattle.audit_types.specs.Limits.{most_rows}
@@ -17,7 +17,7 @@ use Rattle.table_load.specs.Faults.{UnlessMemory}
 use Rattle.table_load.specs.Reading.{Fields, names_are, record_fault, records_fault, roles_of, file_fault, most_table}
 use Rattle.table_load.specs.Tables.{data_of}
 use Rattle.table_load.specs.declared.faults.TableFault.{TableFault}
-use Rattle.table_load.specs.declared.faults.TableFault.TheVariants.{TooManyRows, NoMemory}
+use Rattle.table_load.specs.declared.faults.TableFault.TheVariants.{Header, TooManyRows, NoMemory}
 
 -- these are the first records of the bytes, and the reader stands after them
 pub record HasRead (bytes : List ℕ) (rows : List Fields) (reader : ByteRecordsIntoIter (Bor (List ℕ))) : Type 0 where
@@ -47,6 +47,15 @@ pub record HasOpened (columns : List Column) (bytes : List ℕ) (rows : List Fie
   pub header : Fields
   pub named : names_are header columns ≡ true
   pub read : HasRead bytes (header ∷ rows) reader
+
+-- the first record has these columns' names, or the fault of the file's front is answered
+abbrev pub ChecksHeader : Result Unit TableFault → List Column → Option (Result Row Error) → Type 0
+ChecksHeader (Ok u) columns (Some (Ok row)) = names_are (fields_of row) columns ≡ true
+ChecksHeader (Ok u) columns (Some (Err error)) = ⊥
+ChecksHeader (Ok u) columns None = ⊥
+ChecksHeader (Err fault) columns (Some (Ok row)) = (names_are (fields_of row) columns ≡ false) × (fault ≡ Header)
+ChecksHeader (Err fault) columns (Some (Err error)) = fault ≡ NoMemory
+ChecksHeader (Err fault) columns None = fault ≡ Header
 
 -- the fault that a record has after so many
 abbrev pub next_fault : List Role → ℕ → Fields → Option TableFault

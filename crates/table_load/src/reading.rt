@@ -1,8 +1,8 @@
 //! The data records of a file, read until one has a fault.
-ghost use Rattle.std.specs.Prelude.{◌≡◌, [], length, ◌≤◌, IfErr};
+ghost use Rattle.std.specs.Prelude.{◌≡◌, [], length, ◌≤◌, IfErr, IfSome};
 ghost use Rattle.table_load.specs.Reading.{file_columns, roles_of};
 ghost use Rattle.csv.specs.Reading.{error_kind};
-ghost use Rattle.table_load.specs.Steps.{AddsRow, HasRead, IsOfMemory, Opens, ReadsData};
+ghost use Rattle.table_load.specs.Steps.{AddsRow, ChecksHeader, HasRead, IsOfMemory, Opens, ReadsData};
 ghost use Rattle.table_load.specs.declared.faults.TableFault.TheVariants.{NoMemory};
 
 use crate::faults::TableFault;
@@ -41,6 +41,28 @@ fn read_fault(error: &Error) -> TableFault
     }
 }
 
+// Tells whether the first record is the header of a file.
+fn check_header(
+    schema: &Schema,
+    which: FileColumns,
+    first: Option<Result<ByteRecord, Error>>,
+) -> Result<(), TableFault>
+    requires { IfSome first (λ read. IfErr read (λ error. IsOfMemory (error_kind error))) }
+    ensures { ChecksHeader result (file_columns which schema.now.columns) first }
+{
+    match first {
+        None => Err(TableFault::Header),
+        Some(Err(error)) => Err(read_fault(&error)),
+        Some(Ok(header)) => {
+            if is_header(schema, which, &header) {
+                Ok(())
+            } else {
+                Err(TableFault::Header)
+            }
+        }
+    }
+}
+
 // A reader after the header of a file.
 fn open_file<'b>(
     alloc: Global,
@@ -54,16 +76,9 @@ fn open_file<'b>(
         return Err(TableFault::TooLong);
     }
     let mut records = records_of(alloc, bytes);
-    match records.next() {
-        None => Err(TableFault::Header),
-        Some(Err(error)) => Err(read_fault(&error)),
-        Some(Ok(header)) => {
-            if is_header(schema, which, &header) {
-                Ok(records)
-            } else {
-                Err(TableFault::Header)
-            }
-        }
+    match check_header(schema, which, records.next()) {
+        Ok(()) => Ok(records),
+        Err(fault) => Err(fault),
     }
 }
 
