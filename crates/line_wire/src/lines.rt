@@ -55,7 +55,7 @@ impl Model for Lines {
 }
 
 // How far the bytes at hand were given: up to a line feed, all of them, or all below the limit.
-#[derive(Clone, Copy, Debug, PartialEq, Eq)]
+#[derive(Drop)]
 enum Step {
     Fed,
     Dry,

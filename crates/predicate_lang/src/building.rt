@@ -1,8 +1,8 @@
 //! The tree as it grows, token by token. What is open is kept in a list: no call goes deeper where brackets do.
-ghost use Rattle.std.specs.Prelude.{◌≡◌, ◌∷◌, List, OnOk};
+ghost use Rattle.std.specs.Prelude.{◌≡◌, ◌∷◌, ◌<◌, length, List, OnOk, true};
 ghost use Rattle.schema_json.specs.Columns.{Column, role_at};
 ghost use Rattle.predicate_lang.specs.Trees.{tree_of, is_of_role, has_operator};
-ghost use Rattle.predicate_lang.specs.Machine.{build, start, built, whole, closed, add_and, add_or, is_under_not, is_in_bracket, negated, without_nots, at_operand, at_name, at_operator, at_in, at_comma, at_literal, behind, has_room, public_role};
+ghost use Rattle.predicate_lang.specs.Machine.{a_not, build, start, built, whole, closed, add_and, add_or, is_under_not, is_in_bracket, negated, without_nots, at_operand, at_name, at_operator, at_in, at_comma, at_literal, behind, has_room, public_role};
 ghost use Rattle.predicate_lang.specs.Building.{Puts, Goes, Makes, MakesTree, Finishes, build_of, build_at, stand_of, part_of, frame_of, frames_of};
 ghost use Rattle.predicate_lang.specs.declared.building.Spot.TheVariants.{Operand};
 
@@ -78,6 +78,17 @@ fn is_under_not(opened: &[Opened]) -> bool
     }
 }
 
+// Ends the `not` that stands right before the operand.
+#[tactic(auto, using(crate::proofs::Frames::frames_under_not))]
+fn end_not(opened: &mut Vec<Opened>)
+    requires { is_under_not (frames_of opened.old.items) ≡ true }
+    ensures frames { frames_of opened.old.items ≡ a_not ∷ frames_of opened.new.items }
+    ensures fewer { length opened.new.items < length opened.old.items }
+{
+    let rest = opened.len().saturating_sub(1);
+    opened.truncate(rest);
+}
+
 // The operand under each `not` right before it. These end there.
 fn negate(alloc: Global, opened: &mut Vec<Opened>, operand: Pred) -> Result<Pred, WhereFault>
     ensures tree { MakesTree (negated (frames_of opened.old.items) (tree_of operand)) result }
@@ -85,7 +96,7 @@ fn negate(alloc: Global, opened: &mut Vec<Opened>, operand: Pred) -> Result<Pred
 {
     let mut p = operand;
     'nots: while is_under_not(opened) {
-        let _ = opened.pop();
+        end_not(opened);
         p = Pred::Not(Box::new(alloc, p)?);
     }
     Ok(p)
