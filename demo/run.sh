@@ -32,7 +32,7 @@ if command -v python3 >/dev/null; then
 fi
 
 # Blank lines have no reply.
-grep . questions.jsonl | paste -d '\n' - replies.jsonl >transcript.jsonl
+LC_ALL=C grep -av "^$(printf '\r')\{0,1\}$" questions.jsonl | paste -d '\n' - replies.jsonl >transcript.jsonl
 mkdir outside && cp schema.json outside && cp "$demo/public.csv" outside/table.csv && cd outside || exit 1
 "$program" simulate <../transcript.jsonl >verdicts.jsonl || { echo "demo: auditor simulate ended with status $?" >&2; exit 1; }
 echo "the transcript agrees: $(wc -l <verdicts.jsonl) decisions" >&2
