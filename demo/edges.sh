@@ -10,7 +10,7 @@ set -u
 demo=$(cd "$(dirname "$0")" && pwd)
 built=${1:-$demo/../crates/auditor/out/auditor}
 if [ ! -f "$built" ] || [ ! -x "$built" ]; then
-    echo "edges: there is no program $built: give one (in a package it is bin/auditor), or build it by run.sh in the source" >&2
+    echo "edges: ${1:+there is no program $1; }give the program: edges.sh PROGRAM; in a package it is bin/auditor, in the source run.sh builds it" >&2
     exit 1
 fi
 
