@@ -1,5 +1,5 @@
 -- Directions of sets of rows: what may be added to every number without changing a sum.
-use Rattle.std.specs.Prelude.{◌≡◌, ◌≢◌, ℕ, ◌+◌, ℤ, pos, ◌<◌, ◌<ℤ◌, Bool, false, cond, ◌||◌, List, [], ◌∷◌, length, ◌==◌}
+use Rattle.std.specs.Prelude.{◌≡◌, ◌≢◌, ℕ, ◌+◌, ◌^◌, ℤ, pos, ◌<◌, ◌≤◌, ◌<ℤ◌, unsigned_abs, Bool, false, cond, ◌||◌, List, [], ◌∷◌, length, ◌==◌}
 use Rattle.std.specs.List.{AllByRecursion, list_any}
 use Rattle.audit_types.specs.Truth.{is_zero, number_at, sum_over}
 use Rattle.audit_types.specs.Form.{pivot, IsContent}
@@ -8,6 +8,10 @@ use Rattle.audit_types.specs.Form.{pivot, IsContent}
 pub record IsDirection (n : ℕ) (sets : List (List ℕ)) (d : List ℤ) : Type 0 where
   pub one_each : length d ≡ n
   pub zero_sums : AllByRecursion (λ s. sum_over d s ≡ pos 0) sets
+
+-- no number has a size above 2 ^ 112
+abbrev pub IsSmall : List ℤ → Type 0
+IsSmall d = AllByRecursion (λ x. unsigned_abs x ≤ 2 ^ 112) d
 
 -- the sets pin row i: it is a row of the table, and every direction is 0 there
 pub record IsPinned (n : ℕ) (sets : List (List ℕ)) (i : ℕ) : Type 0 where

@@ -1,9 +1,9 @@
 -- Upper bounds and extreme rows of answered maxima.
-use Rattle.std.specs.Prelude.{◌≡◌, ℕ, ℤ, ◌<◌, Bool, false, cond, List, [], ◌∷◌, length, Option, Some, None, MatchOption, pos, ◌+ℤ◌, ◌-ℤ◌, ◌≤ℤ◌}
+use Rattle.std.specs.Prelude.{◌≡◌, ℕ, ℤ, ◌<◌, Bool, false, cond, List, [], ◌∷◌, length, Option, Some, None, pos, ◌+ℤ◌, ◌-ℤ◌, ◌≤ℤ◌}
 use Rattle.std.specs.List.{filter, AllByRecursion}
 use Rattle.std.specs.Int.{int_min}
 use Rattle.std.specs.Ordering.{int_eq}
-use Rattle.audit_types.specs.Rows.{has_row}
+use Rattle.audit_types.specs.Rows.{has_row, IsLeast}
 use Rattle.audit_types.specs.Column.{Answer, IsOneOf}
 
 -- the least of a number and a bound
@@ -35,7 +35,7 @@ IsLone answers r = (a : Answer) × IsOneOf a answers × (extremes answers a ≡ 
 
 -- the least lone row, if there is one
 abbrev pub IsLeastLone : List Answer → Option ℕ → Type 0
-IsLeastLone answers least = MatchOption least ((r : ℕ) → ¬ (IsLone answers r)) (λ r. IsLone answers r × ((q : ℕ) → q < r → ¬ (IsLone answers q)))
+IsLeastLone answers least = IsLeast (IsLone answers) least
 
 -- an answer worth trying: an earlier one, the number above it, or the number below all
 pub data IsCandidate : List Answer → ℤ → Type 0 where

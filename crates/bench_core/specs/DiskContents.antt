@@ -1,5 +1,5 @@
 -- A file in memory as contracts see it.
-use Rattle.std.specs.Prelude.{◌≡◌, ℕ, ◌<◌, Bool, false, List, length}
+use Rattle.std.specs.Prelude.{ℕ, Bool, false, List}
 use Rattle.std.specs.List.{slice_index_or}
 
 -- the file as it reads, the bytes of the last sync, which places were touched since, and how many bytes there is room for
@@ -12,7 +12,3 @@ pub record DiskContents : Type 0 where
 -- whether a place was touched
 abbrev pub is_dirty : List Bool → ℕ → Bool
 is_dirty dirty place = slice_index_or dirty place false
-
--- the flags are those of a test
-abbrev pub AreFlags : List Bool → (ℕ → Bool) → Type 0
-AreFlags dirty test = (place : ℕ) → place < length dirty → is_dirty dirty place ≡ test place

@@ -1,6 +1,6 @@
 -- The laws of answered maxima: when they are possible, which rows they fix, and when a question is dangerous.
-use Rattle.std.specs.Prelude.{◌≡◌, ◌≢◌, ◌↔◌, ◌⊎◌, ℕ, ◌<◌, ℤ, List, [], Option, MatchOption}
-use Rattle.audit_types.specs.Rows.{AreRows}
+use Rattle.std.specs.Prelude.{◌≡◌, ◌≢◌, ◌↔◌, ◌⊎◌, ℕ, ◌<◌, ℤ, List, [], Option}
+use Rattle.audit_types.specs.Rows.{AreRows, IsLeast}
 use Rattle.audit_types.specs.Truth.{number_at}
 use Rattle.audit_types.specs.Column.{Known, Answer, Agrees, IsWellFormed, IsPossible, IsDangerous, known_max, with_answer}
 use Rattle.audit_types.specs.Extremes.{IsConsistent, IsLone, IsCandidate}
@@ -18,8 +18,7 @@ IsFixed known i = (w v : List ℤ) → Agrees known w → Agrees known v → num
 
 -- the least row of the table that is fixed, if there is one
 abbrev pub IsLeastFixed : Known → Option ℕ → Type 0
-IsLeastFixed known least = MatchOption least ((i : ℕ) → i < known.n → ¬ (IsFixed known i))
-    (λ i. (i < known.n) × IsFixed known i × ((j : ℕ) → j < i → ¬ (IsFixed known j)))
+IsLeastFixed known least = IsLeast (λ i. (i < known.n) × IsFixed known i) least
 
 -- where they are possible, exactly the lone rows are fixed
 abbrev pub FixedByLoneRows : Type 0

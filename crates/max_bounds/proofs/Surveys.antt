@@ -3,11 +3,11 @@ use Rattle.std.proofs.Common.{◌≡◌, ◌≢◌, ℕ, ◌+◌, ◌<◌, ◌�
 use Rattle.std.specs.Prelude.{◌↔◌, IsTrue}
 use Rattle.std.proofs.lemmas.Bool.{cases_lt}
 use Rattle.std.specs.List.{AllByRecursion}
-use Rattle.audit_types.specs.Rows.{AreRows}
+use Rattle.audit_types.specs.Rows.{AreRows, IsLeast}
 use Rattle.audit_types.specs.Extremes.{is_bound}
 use Rattle.audit_types.specs.Column.{Answer}
 use Rattle.max_bounds.specs.declared.survey.Trial.{Trial}
-use Rattle.max_bounds.specs.Reaching.{reaching, lone_of, lesser_of, IsLeast, IsAlone, TellsOf}
+use Rattle.max_bounds.specs.Reaching.{reaching, lone_of, lesser_of, IsAlone, TellsOf}
 use Rattle.max_bounds.specs.AnswerLaws.{one_of_front, one_of_last, front_or_last}
 use Rattle.audit_types.specs.FilteredRows.{rows_within}
 use Rattle.audit_types.specs.RowLaws.{length-rows}

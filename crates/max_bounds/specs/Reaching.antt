@@ -1,7 +1,7 @@
 -- The rows of answers that reach their bound, whatever gives the bounds.
-use Rattle.std.specs.Prelude.{◌≡◌, ◌↔◌, ℕ, ℤ, ◌<◌, cond, List, [], ◌∷◌, length, Option, Some, None, MatchOption, IsTrue, min}
+use Rattle.std.specs.Prelude.{◌≡◌, ◌↔◌, ℕ, ℤ, ◌<◌, cond, List, [], ◌∷◌, length, Option, Some, None, IsTrue, min}
 use Rattle.std.specs.List.{filter, slice_index_or, AllByRecursion}
-use Rattle.audit_types.specs.Rows.{has_row}
+use Rattle.audit_types.specs.Rows.{has_row, IsLeast}
 use Rattle.audit_types.specs.Column.{Answer, IsOneOf}
 use Rattle.audit_types.specs.Extremes.{least_of, is_bound}
 use Rattle.max_bounds.specs.declared.survey.Trial.{Trial}
@@ -29,10 +29,6 @@ abbrev pub lesser_of : Option ℕ → Option ℕ → Option ℕ
 lesser_of None b = b
 lesser_of (Some a) None = Some a
 lesser_of (Some a) (Some b) = Some (min a b)
-
--- the least row with a property, if there is one
-abbrev pub IsLeast : (ℕ → Type 0) → Option ℕ → Type 0
-IsLeast P least = MatchOption least ((r : ℕ) → ¬ (P r)) (λ r. P r × ((q : ℕ) → q < r → ¬ (P q)))
 
 -- the row alone reaches the bound for some answer
 abbrev pub IsAlone : (ℕ → Option ℤ) → List Answer → ℕ → Type 0

@@ -52,12 +52,7 @@ fn place_of(least: &[AnsweredMax], answer: i64) -> usize
     ensures at_most { result ≤ length least.now }
     ensures place { IsPlaceOf answer least.now result }
 {
-    for (place, set) in least.iter().enumerate() {
-        if set.answer <= answer {
-            return place;
-        }
-    }
-    least.len()
+    least.partition_point(|set| answer < set.answer)
 }
 
 /// Puts a new answer's own extreme rows among the least sets, unless one of this answer lies in its set.
@@ -85,6 +80,6 @@ pub(crate) fn insert(
             answer: asked.answer,
         };
         // There is room for it.
-        let _ = least.insert(place, set);
+        least.insert(place, set).unwrap();
     }
 }

@@ -5,4 +5,3 @@ pub mod Compared
 pub mod Meets
 pub mod Columns
 pub mod Fitting
-pub mod Loaded

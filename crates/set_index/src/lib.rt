@@ -1,7 +1,7 @@
 //! Which rows of a table satisfy a condition.
 //!
 //! Start with `Index::rows_of`: its clause says that it answers the rows that the condition means, by the public columns
-//! alone. `reads_what_fits` and `loads_what_fits` say that what fits a table's schema can be asked of the table.
+//! alone. `reads_what_fits` says that a condition which fits a table's schema can be asked of the table.
 #![tactic(auto)]
 
 mod asking;
@@ -11,4 +11,4 @@ mod sorted;
 mod values;
 
 pub use index::Index;
-pub use laws::{loads_what_fits, reads_what_fits};
+pub use laws::reads_what_fits;

@@ -25,11 +25,11 @@ module _ (n : ℕ) (answers : List Answer) (rows : List ℕ) (are : AllByRecursi
   judged_at form DeniedWide reduced narrow is = absurd is
   judged_at form DeniedUnsafe reduced narrow is = (
     record { form = form; reduced = reduced; narrow = narrow },
-    (is.0, (pinned_by_form n (sets_with (known_sum n answers) rows) form is.0 (all-push (AreRows n) (sets_of answers) rows are last) reduced is.1).1 is.2),
+    (is.0, (pinned_by_form n (sets_with (known_sum n answers) rows) form is.0 (all-push (AreRows n) (sets_of answers) rows are last) reduced is.1.0).1 is.1.1),
   )
   judged_at form Released reduced narrow is = (
     record { form = form; reduced = reduced; narrow = narrow },
-    λ pin. is pin.0 pin.1.below ((pinned_by_form n (sets_with (known_sum n answers) rows) form pin.0 (all-push (AreRows n) (sets_of answers) rows are last) reduced pin.1.below).0 pin.1),
+    λ pin. is (pin.0, (pin.1.below, (pinned_by_form n (sets_with (known_sum n answers) rows) form pin.0 (all-push (AreRows n) (sets_of answers) rows are last) reduced pin.1.below).0 pin.1)),
   )
 
 -- after possible answers the judgement is the decision
@@ -70,14 +70,14 @@ module _ (one_more : OneMoreSet) (n : ℕ) (answers : List Answer) (known : Know
   right_by_prospect form Wide e reduced h =
       subst (λ k. IsRightVerdict k rows DeniedWide) view (right n answers rows DeniedWide (record { form = h.0; reduced = reduced_with form h.0 e reduced h.1; wide = h.2 }))
   right_by_prospect form Fixing e reduced h = right_by_growth form h.0 DeniedUnsafe e reduced h.1 h.2
-  right_by_prospect form Open e reduced h = right_by_growth form h.0 Released e reduced h.1 (λ i l s. h.2 (i, l, s))
+  right_by_prospect form Open e reduced h = right_by_growth form h.0 Released e reduced h.1 h.2
 
 -- the least unit row in the span of the form is the least pinned row
 least_at : (n : ℕ) (sets : List (List ℕ)) (form : List (List ℤ)) (least : Option ℕ) → AllByRecursion (AreRows n) sets → Reduced n sets form → IsLeastUnit (record { n = n; rows = form }) least → IsLeastPinned n sets least
-least_at n sets form None are reduced none = λ i pin. none i pin.below ((pinned_by_form n sets form i are reduced pin.below).0 pin)
+least_at n sets form None are reduced none = λ i pin. none i (pin.below, (pinned_by_form n sets form i are reduced pin.below).0 pin)
 least_at n sets form (Some i) are reduced hit = (
-  (pinned_by_form n sets form i are reduced hit.0).1 hit.1,
-  λ j before pin. hit.2 j before ((pinned_by_form n sets form j are reduced pin.below).0 pin),
+  (pinned_by_form n sets form i are reduced hit.0.0).1 hit.0.1,
+  λ j before pin. hit.1 j before (pin.below, (pinned_by_form n sets form j are reduced pin.below).0 pin),
 )
 
 pub least_pinned : (n : ℕ) (answers : List Answer) (known : Known) (view : known_sum n answers ≡ known) (form : Echelon) (least : Option ℕ) → form.n ≡ n → AllByRecursion (AreRows n) (sets_of answers) → Reduced n (sets_of answers) form.rows → IsLeastUnit form least →

@@ -24,4 +24,3 @@ pub record IsSumColumn (n : ℕ) (basis : Echelon) (pairs : List AnsweredSum) : 
   pub same_n : basis.n ≡ n
   pub are_rows : AllByRecursion (AreRows n) (sets_of (answers_of pairs))
   pub form : Reduced n (sets_of (answers_of pairs)) basis.rows
-  pub same_sets : AllByRecursion (λ pair. pair.rows.n ≡ n) pairs

@@ -1,7 +1,7 @@
 -- The laws of directions, pinned rows and dangerous sums.
-use Rattle.std.specs.Prelude.{◌≢◌, ◌↔◌, ◌⊎◌, ℕ, ◌<◌, ℤ, pos, List, map, Option, MatchOption}
+use Rattle.std.specs.Prelude.{◌≢◌, ◌↔◌, ◌⊎◌, ℕ, ◌<◌, ℤ, pos, List, map, Option}
 use Rattle.std.specs.List.{AllByRecursion}
-use Rattle.audit_types.specs.Rows.{AreRows}
+use Rattle.audit_types.specs.Rows.{AreRows, IsLeast}
 use Rattle.audit_types.specs.Truth.{sum_over}
 use Rattle.audit_types.specs.Column.{Answer, known_sum, IsPossible, IsDangerous}
 use Rattle.audit_types.specs.Form.{set_row, InSpan, Reduced}
@@ -42,5 +42,4 @@ DangerousByPins =
 
 -- the least row that the sets pin, if there is one
 abbrev pub IsLeastPinned : ℕ → List (List ℕ) → Option ℕ → Type 0
-IsLeastPinned n sets least =
-    MatchOption least ((i : ℕ) → ¬ (IsPinned n sets i)) (λ i. IsPinned n sets i × ((j : ℕ) → j < i → ¬ (IsPinned n sets j)))
+IsLeastPinned n sets least = IsLeast (IsPinned n sets) least

@@ -9,7 +9,6 @@ ghost use Rattle.audit_types.specs.Form.{Reduced};
 ghost use Rattle.audit_types.specs.declared.shapes.Kind.TheVariants.{Sum};
 ghost use Rattle.sum_audit.specs.Laws.{IsLeastPinned};
 ghost use Rattle.sum_audit.specs.Sets.{sets_of, verdict_of};
-ghost use Rattle.sum_audit.specs.Columns.{answers_of};
 
 use crate::answered::AnsweredSum;
 use audit_types::{ColumnAudit, NoMemory, RowSet, Verdict};
@@ -61,14 +60,6 @@ impl SumColumn {
         ensures are_rows { AllByRecursion (AreRows self.now.n) (sets_of self.now.answers) }
     {
         self.n
-    }
-
-    /// The answers, in order.
-    pub fn pairs(&self) -> &[AnsweredSum]
-        ensures answers { answers_of result.now ≡ self.now.answers }
-        ensures same_n { AllByRecursion (λ pair. pair.rows.n ≡ self.now.n) result.now }
-    {
-        &self.pairs
     }
 
     /// The least row whose number the sets disclose. It takes no memory.

@@ -207,7 +207,7 @@ module _ (form : Echelon) (new : List ℤ) (f : IsSmallForm form.n form.rows) (p
     -- a lone row has a unit row in the span
     unit_of : (rows : List (List ℤ)) → AllByRecursion (InSpan grown) rows → AllByRecursion (IsPrimitive form.n) rows → SomeLone rows → HasUnitRow foreseen
     unit_of [] span q none = absurd none
-    unit_of (row ∷ rows) span q (inl lone) = (pivot row, pivot_below form.n row q.0, unit_in_span form.n grown row q.0 span.0 lone)
+    unit_of (row ∷ rows) span q (inl lone) = (pivot row, (pivot_below form.n row q.0, unit_in_span form.n grown row q.0 span.0 lone))
     unit_of (row ∷ rows) span q (inr some) = unit_of rows span.1 q.1 some
 
     -- with one of them the new row fixes a number
@@ -221,4 +221,4 @@ module _ (form : Echelon) (new : List ℤ) (f : IsSmallForm form.n form.rows) (p
     looked_open denied unit =
         let none = l.none denied in
         let all = all_placed (λ r. ¬ (IsLone r)) new l.made none.0 none.1 in
-        no_unit foreseen (length grown) small_form (omega arith) (record { none = all-take (λ r. ¬ (IsLone r)) (length grown) grown all }) unit.0 unit.1 unit.2
+        no_unit foreseen (length grown) small_form (omega arith) (record { none = all-take (λ r. ¬ (IsLone r)) (length grown) grown all }) unit.0 unit.1.0 unit.1.1

@@ -1,5 +1,6 @@
 -- A reduced form, as contracts see it.
-use Rattle.std.specs.Prelude.{◌≡◌, ◌≢◌, ℕ, ◌<◌, ◌≤◌, ◌^◌, ℤ, pos, ◌<ℤ◌, List, [], ◌∷◌, Option, MatchOption, unsigned_abs}
+use Rattle.std.specs.Prelude.{◌≡◌, ◌≢◌, ℕ, ◌<◌, ◌≤◌, ◌^◌, ℤ, pos, ◌<ℤ◌, List, [], ◌∷◌, Option, unsigned_abs}
+use Rattle.audit_types.specs.Rows.{IsLeast}
 use Rattle.audit_types.specs.Form.{set_row, InSpan, IsLeastCommonMultiple, pivot, pivot_entries}
 use Rattle.std.specs.List.{AllByRecursion}
 use Rattle.sum_basis.specs.declared.sparse.SparseRow.{SparseRow}
@@ -17,16 +18,17 @@ pub record Echelon : Type 0 where
 abbrev pub unit_row : ℕ → ℕ → List ℤ
 unit_row n i = set_row n (i ∷ [])
 
--- the least row number whose unit row lies in the span, if there is one
+-- the unit row of this row number lies in the span
+abbrev pub SpansUnit : Echelon → ℕ → Type 0
+SpansUnit form i = (i < form.n) × InSpan form.rows (unit_row form.n i)
+
+-- the least row number whose unit row does, if there is one
 abbrev pub IsLeastUnit : Echelon → Option ℕ → Type 0
-IsLeastUnit form least =
-    MatchOption least
-    ((i : ℕ) → i < form.n → ¬ (InSpan form.rows (unit_row form.n i)))
-    (λ i. (i < form.n) × InSpan form.rows (unit_row form.n i) × ((j : ℕ) → j < i → ¬ (InSpan form.rows (unit_row form.n j))))
+IsLeastUnit form least = IsLeast (SpansUnit form) least
 
 -- some unit row lies in the span
 abbrev pub HasUnitRow : Echelon → Type 0
-HasUnitRow form = (i : ℕ) × (i < form.n) × InSpan form.rows (unit_row form.n i)
+HasUnitRow form = (i : ℕ) × SpansUnit form i
 
 -- what is true of the fields of every form: the kept rows are a reduced form, and `common` is the multiple that makes it narrow
 pub record IsForm (n : ℕ) (common : ℤ) (rows : List SparseRow) : Type 0 where

@@ -9,13 +9,13 @@ use Rattle.std.proofs.lemmas.List.{length-map}
 use Rattle.audit_types.specs.Rows.{AreRows}
 use Rattle.audit_types.specs.Truth.{number_at, sum_over}
 use Rattle.audit_types.specs.Form.{pivot, pivot_entry, IsPrimitive, Reduced}
-use Rattle.audit_types.specs.Direction.{IsDirection, IsPinned, IsCanonicalDirection, is_pivot, free_column_of}
+use Rattle.audit_types.specs.Direction.{IsDirection, IsPinned, IsCanonicalDirection, is_pivot, free_column_of, IsSmall}
 use Rattle.audit_types.specs.Products.{times-add, zero_product}
 use Rattle.sum_basis.specs.Laws.{FormsAreUnique}
 use Rattle.sum_audit.specs.Dot.{dot}
 use Rattle.sum_audit.specs.DotLaws.{dot_two}
 use Rattle.sum_audit.specs.Laws.{DirectionsByForm}
-use Rattle.witness_build.specs.Directions.{IsSmall, IsForm, IsSolved, IsSolvedWith, Solves, IsDivided}
+use Rattle.witness_build.specs.Directions.{IsForm, IsSolved, IsSolvedWith, Solves, IsDivided}
 use Rattle.witness_build.proofs.FreeColumns.{Reaches, IsFreeColumn, free_column_found}
 use Rattle.witness_build.proofs.Dividing.{small_divided}
 use Rattle.audit_types.specs.PrimitiveLines.{number_at-times}

@@ -11,11 +11,12 @@ use Rattle.audit_types.specs.Truth.{number_at}
 use Rattle.audit_types.specs.Form.{IsContent, pivot_entry}
 use Rattle.int_rows.specs.Primitive.{IsMadePrimitive}
 use Rattle.audit_types.specs.Products.{neg-times, size_of_factor}
-use Rattle.witness_build.specs.Directions.{IsSmall, IsDivided}
+use Rattle.witness_build.specs.Directions.{IsDivided}
 use Rattle.audit_types.specs.PrimitiveLines.{number_at-times}
 use Rattle.audit_types.specs.Numbers.{size_negated, zero_less}
 use Rattle.audit_types.specs.RowNumbers.{number_at-negated, some_entry}
 use Rattle.audit_types.specs.ListLaws.{all-weaker}
+use Rattle.audit_types.specs.Direction.{IsSmall}
 
 -- the numbers below i are turned, and those from i on are as they were
 pub record IsPartlyTurned (old new : List ℤ) (i : ℕ) : Type 0 where

@@ -12,12 +12,12 @@ use Rattle.std.proofs.lemmas.Nat.{div-add-mod'}
 use Rattle.std.proofs.lemmas.Nat.Gcd.{mod-eq-zero_of_dvd}
 use Rattle.audit_types.specs.Truth.{number_at}
 use Rattle.audit_types.specs.Form.{pivot, pivot_entry, pivot_entries}
-use Rattle.audit_types.specs.Direction.{is_pivot}
+use Rattle.audit_types.specs.Direction.{is_pivot, IsSmall}
 use Rattle.audit_types.specs.Products.{neg-times, times_assoc}
 use Rattle.audit_types.specs.Numbers.{zero_less}
 use Rattle.audit_types.specs.ListLaws.{all-push, all-set}
 use Rattle.audit_types.specs.RowNumbers.{all_by_number}
-use Rattle.witness_build.specs.Directions.{IsSmall, IsForm, Solves, IsSolvedWith}
+use Rattle.witness_build.specs.Directions.{IsForm, Solves, IsSolvedWith}
 use Rattle.witness_build.proofs.FormRows.{is_pivot_at, other_pivots, is_pivot-more}
 
 -- how often the pivot entry goes into the common multiple

@@ -1,13 +1,9 @@
 -- The steps to the canonical direction of a row.
-use Rattle.std.specs.Prelude.{◌≡◌, ◌≢◌, ℕ, ◌≤◌, ◌^◌, ℤ, pos, neg_ℤ, ◌*ℤ◌, ◌<ℤ◌, false, List, map, length, unsigned_abs}
+use Rattle.std.specs.Prelude.{◌≡◌, ◌≢◌, ℕ, ℤ, pos, neg_ℤ, ◌*ℤ◌, ◌<ℤ◌, false, List, map, length}
 use Rattle.std.specs.List.{AllByRecursion}
 use Rattle.audit_types.specs.Truth.{number_at}
 use Rattle.audit_types.specs.Form.{pivot, pivot_entry, IsPrimitive, IsEchelon, IsContent}
-use Rattle.audit_types.specs.Direction.{is_pivot}
-
--- no number has a size above 2 ^ 112
-abbrev pub IsSmall : List ℤ → Type 0
-IsSmall d = AllByRecursion (λ x. unsigned_abs x ≤ 2 ^ 112) d
+use Rattle.audit_types.specs.Direction.{is_pivot, IsSmall}
 
 -- reduced rows over n columns in the order of their pivots
 pub record IsForm (n : ℕ) (form : List (List ℤ)) : Type 0 where

@@ -4,9 +4,9 @@ ghost use Rattle.std.specs.Int.{◌∣◌};
 ghost use Rattle.std.specs.List.{AllByRecursion};
 ghost use Rattle.audit_types.specs.Truth.{number_at};
 ghost use Rattle.audit_types.specs.Form.{Reduced};
-ghost use Rattle.audit_types.specs.Direction.{IsPinned, IsCanonicalDirection, is_pivot, first_free, free_column_of};
+ghost use Rattle.audit_types.specs.Direction.{IsPinned, IsCanonicalDirection, is_pivot, first_free, free_column_of, IsSmall};
 ghost use Rattle.sum_audit.specs.Sets.{sets_of};
-ghost use Rattle.witness_build.specs.Directions.{IsSmall, IsForm, IsSolved, IsDivided};
+ghost use Rattle.witness_build.specs.Directions.{IsForm, IsSolved, IsDivided};
 
 use audit_types::NoMemory;
 use int_rows::make_primitive;

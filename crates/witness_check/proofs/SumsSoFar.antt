@@ -9,7 +9,8 @@ use Rattle.audit_types.specs.Rows.{Rows, AreRows}
 use Rattle.audit_types.specs.RowLaws.{length-rows}
 use Rattle.audit_types.specs.FilteredRows.{rows_within}
 use Rattle.audit_types.specs.Truth.{number_at, sum_over}
-use Rattle.witness_check.specs.Directions.{IsSmall, HasZeroSums, lists_of}
+use Rattle.audit_types.specs.Direction.{IsSmall}
+use Rattle.witness_check.specs.Directions.{HasZeroSums, lists_of}
 
 -- the sum so far leads to that of all rows, and is small enough for those that are left
 pub record IsSumSoFar (w : List ℤ) (rows rest : List ℕ) (sum : ℤ) : Type 0 where

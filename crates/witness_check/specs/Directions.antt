@@ -1,17 +1,13 @@
 -- Directions that show a row of a column of sums to be free.
-use Rattle.std.specs.Prelude.{◌≡◌, ◌≢◌, ℕ, ◌≤◌, ◌^◌, ℤ, pos, List, map, unsigned_abs}
+use Rattle.std.specs.Prelude.{◌≡◌, ◌≢◌, ℕ, ℤ, pos, List, map}
 use Rattle.std.specs.List.{AllByRecursion}
 use Rattle.audit_types.specs.Rows.{Rows}
 use Rattle.audit_types.specs.Truth.{number_at, sum_over}
-use Rattle.audit_types.specs.Direction.{IsDirection}
+use Rattle.audit_types.specs.Direction.{IsDirection, IsSmall}
 
 -- the lists of rows of sets
 abbrev pub lists_of : List Rows → List (List ℕ)
 lists_of sets = map (λ s. s.list) sets
-
--- no number has a size above 2 ^ 112
-abbrev pub IsSmall : List ℤ → Type 0
-IsSmall v = AllByRecursion (λ x. unsigned_abs x ≤ 2 ^ 112) v
 
 -- the numbers sum to 0 over each set
 abbrev pub HasZeroSums : List ℤ → List (List ℕ) → Type 0

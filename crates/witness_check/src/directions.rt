@@ -2,7 +2,8 @@
 ghost use Rattle.std.specs.Prelude.{◌≡◌, ◌↔◌, ◌<◌, ◌≤◌, ◌^◌, pos, map, IsTrue, length, unsigned_abs};
 ghost use Rattle.std.specs.List.{AllByRecursion};
 ghost use Rattle.audit_types.specs.Truth.{sum_over};
-ghost use Rattle.witness_check.specs.Directions.{IsSmall, HasZeroSums, MovesRow, lists_of};
+ghost use Rattle.audit_types.specs.Direction.{IsSmall};
+ghost use Rattle.witness_check.specs.Directions.{HasZeroSums, MovesRow, lists_of};
 
 use audit_types::RowSet;
 

@@ -11,6 +11,9 @@ use Rattle.max_bounds.proofs.NextExtremes.{least_inserted, least_within}
 use Rattle.max_bounds.proofs.Descending.{answers_inserted, inserted_descend}
 use Rattle.max_bounds.proofs.kept.insert.Goals as goal
 
+pub unwrap-requires : goal.unwrap-requires
+unwrap-requires c = c.insert.ensures.succeeds c.requires.room
+
 pub returns-then-not-has_within-clause-descend : goal.returns-then-not-has_within-clause-descend
 returns-then-not-has_within-clause-descend c =
     let least = c.args.least.now.items in

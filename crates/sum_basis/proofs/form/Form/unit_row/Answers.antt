@@ -30,7 +30,7 @@ returns-then-is_empty c =
     let f = subst (λ (e : Echelon). IsSmallForm e.n e.rows) c.self.view_is c.self.invariant.form in
     let lone = lone_seen n items seen c.self.view_is c.self.invariant.kept k r h is r.free.len c.is_empty.result r.free.ok.0 c.is_empty.ensures in
     let first = subst (IsFirstUnit seen) (sym (pivot_seen n items seen c.self.view_is c.self.invariant.kept k r h is)) (first_unit seen k f h c.loop-row.invariant (lone.0 c.if-is_empty.true)) in
-    (first.within, first.in_span, first.least)
+    ((first.within, first.in_span), λ j before spans. first.least j before spans.1)
 
 pub loop-row-preserved : goal.loop-row-preserved
 loop-row-preserved c =
@@ -50,4 +50,4 @@ returns c =
     let seen = c.args.self.now in
     let many = as_many c.self.inside.columns c.deref-row-items.result.now c.self.inside.rows.items seen c.self.view_is c.deref-row-items.ensures.value in
     let f = subst (λ (e : Echelon). IsSmallForm e.n e.rows) c.self.view_is c.self.invariant.form in
-    no_unit seen c.loop-row.row-index f (let past = c.loop-row-test.false in omega arith) c.loop-row.invariant
+    λ i spans. no_unit seen c.loop-row.row-index f (let past = c.loop-row-test.false in omega arith) c.loop-row.invariant i spans.0 spans.1
