@@ -4,6 +4,7 @@ use Rattle.std.proofs.lemmas.Bool.{false≢true}
 use Rattle.std.specs.Result.{IsErr, IsErrAnd}
 use Rattle.bench_core.specs.declared.bench.Bench.{Ghosts}
 use Rattle.bench_core.specs.Bench.{Sending}
+use Rattle.bench_core.specs.Causes.{Rose}
 use Rattle.bench_core.specs.Calls.{IsQuiet, LeavesOnly}
 use Rattle.bench_core.specs.Moments.{started, goes_on, joins, weakens}
 use Rattle.journal_audit.specs.Reports.{Audit, Subject, IsLineOn, SendsFront, SendsMeanwhile, SendsLine, SendsLinesOn}
@@ -39,6 +40,7 @@ module _ {D : Type 0} (bench : Ghosts D) (only_now : NowOnly bench) (audit : Aud
     crash = λ image left. left;
     later = omega arith;
     failed = λ is. cc;
+    last_call = λ is. cc;
     steady = λ other. refl;
   }
 
@@ -53,6 +55,7 @@ module _ {D : Type 0} (bench : Ghosts D) (only_now : NowOnly bench) (audit : Aud
     crash = λ image left. left;
     later = omega arith;
     failed = λ is. cc;
+    last_call = λ is. cc;
     steady = λ other. refl;
   }
 
@@ -74,6 +77,7 @@ module _ {D : Type 0} (bench : Ghosts D) (only_now : NowOnly bench) (audit : Aud
       crash = sends.crash;
       later = sends.later;
       failed = sends.failed;
+      last_call = sends.last_call;
       steady = sends.steady;
     }
     line_on (Err e) sends = record {
@@ -85,6 +89,7 @@ module _ {D : Type 0} (bench : Ghosts D) (only_now : NowOnly bench) (audit : Aud
       crash = sends.crash;
       later = sends.later;
       failed = sends.failed;
+      last_call = sends.last_call;
       steady = sends.steady;
     }
 
@@ -110,6 +115,7 @@ module _ {D : Type 0} (bench : Ghosts D) (only_now : NowOnly bench) (audit : Aud
       crash = λ image left. first.crash image (second.crash image left);
       later = omega (arith, first.later, second.later);
       failed = λ is. cc;
+      last_call = λ is. cc;
       steady = λ other. second.steady (λ is. cc) ∙ first.steady (λ is. cc);
     }
     and_then (Err e) second = record {
@@ -120,7 +126,8 @@ module _ {D : Type 0} (bench : Ghosts D) (only_now : NowOnly bench) (audit : Aud
       file = second.file ∙ first.file;
       crash = λ image left. first.crash image (second.crash image left);
       later = omega (arith, first.later, second.later);
-      failed = λ is. let rose = second.failed is in omega (arith, rose, first.later);
+      failed = λ is. subst (λ (n : ℕ). Rose n (bench.faults c)) (first.steady (λ is. cc)) (second.failed is);
+      last_call = second.last_call;
       steady = λ other. second.steady other ∙ first.steady (λ is. cc);
     }
 
@@ -136,6 +143,7 @@ module _ {D : Type 0} (bench : Ghosts D) (only_now : NowOnly bench) (audit : Aud
     crash = first.crash;
     later = first.later;
     failed = first.failed;
+    last_call = first.last_call;
     steady = first.steady;
   }
 

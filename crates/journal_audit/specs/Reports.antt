@@ -1,5 +1,5 @@
 -- The report of an audit: for each secret number a line, or a line for a column of them, that shows it to be free.
-use Rattle.std.specs.Prelude.{◌≡◌, ◌≤◌, ◌+◌, ℕ, ℤ, List, [], ◌∷◌, ◌++◌, length, map, filter, slice_index_or, Result, Err, OnOk, OnErr}
+use Rattle.std.specs.Prelude.{◌≡◌, ◌≤◌, ◌+◌, ℕ, ℤ, true, List, [], ◌∷◌, ◌++◌, length, map, filter, slice_index_or, Result, Err, OnOk, OnErr}
 use Rattle.std.specs.List.{flat_map, concat, range_with_len}
 use Rattle.audit_types.specs.declared.shapes.Kind.{Kind}
 use Rattle.audit_types.specs.declared.shapes.Kind.TheVariants.{Sum, Max}
@@ -131,6 +131,7 @@ pub record SendsLine {D : Type 0} (bench : Ghosts D) (line : List ℕ) (old new 
   pub crash : (image : List ℕ) → bench.leaves new image → bench.leaves old image
   pub later : bench.faults old ≤ bench.faults new
   pub failed : result ≡ Err fault.Failed → Rose (bench.faults old) (bench.faults new)
+  pub last_call : result ≡ Err fault.Failed → bench.last_failed new ≡ true
   pub steady : ¬ (result ≡ Err fault.Failed) → bench.faults new ≡ bench.faults old
 
 -- what sending the lines on these leaves of a bench: they were sent, a line a call, or a front of them where it was refused,
@@ -144,4 +145,5 @@ pub record SendsLinesOn {D : Type 0} (bench : Ghosts D) (audit : Audit) (about :
   pub crash : (image : List ℕ) → bench.leaves new image → bench.leaves old image
   pub later : bench.faults old ≤ bench.faults new
   pub failed : result ≡ Err fault.Failed → Rose (bench.faults old) (bench.faults new)
+  pub last_call : result ≡ Err fault.Failed → bench.last_failed new ≡ true
   pub steady : ¬ (result ≡ Err fault.Failed) → bench.faults new ≡ bench.faults old

@@ -1,4 +1,5 @@
 use Rattle.std.proofs.Common.{◌≡◌, ◌+◌, ℕ, List, [], ◌++◌, Option, Some, refl, sym, ◌∙◌, ap, subst}
+use Rattle.std.proofs.lemmas.Bool.{false≢true}
 use Rattle.std.proofs.lemmas.List.{append_cancel_left, append-nil}
 use Rattle.bench_core.specs.Calls.{LeavesOnly}
 use Rattle.bench_core.specs.Moments.{started}
@@ -10,6 +11,7 @@ use Rattle.journal_audit.specs.Reports.{subjects}
 use Rattle.journal_audit.specs.SendLaws.{none_front}
 use Rattle.auditor_top.specs.declared.words.Command.{Command}
 use Rattle.auditor_top.specs.declared.words.Command.TheVariants.{Init, Serve, Audit, Simulate, Drill}
+use Rattle.auditor_top.specs.declared.status.Status.{Status}
 use Rattle.auditor_top.specs.Commands.{opens_journal, reads_files, reads_secrets, reads_lines}
 use Rattle.auditor_top.specs.Causes.{WordCause, FileCause}
 use Rattle.auditor_top.specs.Drills.{DrillEnds}
@@ -84,6 +86,9 @@ returns-in-Ok-Init-clause-makes g c = λ ptold told asked base files absent none
 pub returns-in-Ok-Init-clause-later : goal.returns-in-Ok-Init-clause-later
 returns-in-Ok-Init-clause-later g c = c.init.ensures.later (g.I.Source.faults c.args.input.now) (g.B.Bench.faults c.args.spare.now)
 
+pub returns-in-Ok-Init-clause-input_last : goal.returns-in-Ok-Init-clause-input_last
+returns-in-Ok-Init-clause-input_last g c = λ is. absurd (false≢true (subst (λ (status : Status). WordCause status (Some Init)) is c.init.ensures.word_cause))
+
 -- ---- `serve`
 
 pub returns-in-Ok-Serve-clause-later : goal.returns-in-Ok-Serve-clause-later
@@ -154,6 +159,9 @@ returns-in-Ok-Audit-clause-audits g c = λ ptold told asked base history over no
 
 pub returns-in-Ok-Audit-clause-later : goal.returns-in-Ok-Audit-clause-later
 returns-in-Ok-Audit-clause-later g c = c.audit.ensures.later (g.I.Source.faults c.args.input.now) (g.B.Bench.faults c.args.spare.now)
+
+pub returns-in-Ok-Audit-clause-input_last : goal.returns-in-Ok-Audit-clause-input_last
+returns-in-Ok-Audit-clause-input_last g c = λ is. absurd (false≢true (subst (λ (status : Status). WordCause status (Some Audit)) is c.audit.ensures.word_cause))
 
 -- ---- `simulate`
 
