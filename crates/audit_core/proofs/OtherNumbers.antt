@@ -48,7 +48,8 @@ other_without_answers known w i none one_each below = record {
 }
 
 -- a list that agrees with the answers and one more agreed before it
-agrees_before : (kind : Kind) (n : ℕ) (answers : List Answer) (a : Answer) (w : List ℤ) → Agrees (known_with kind n answers a) w → Agrees (known_before kind n answers) w
+agrees_before : (kind : Kind) (n : ℕ) (answers : List Answer) (a : Answer) (w : List ℤ) → Agrees (known_with kind n answers a) w →
+    Agrees (known_before kind n answers) w
 agrees_before kind n answers a w agrees = record {
   one_each = agrees.one_each;
   same = (all-front (λ b. truth kind w b.rows ≡ b.value) answers a agrees.same).0;
@@ -65,7 +66,8 @@ agrees_with kind n answers a w v agrees same = record {
 
 module _ (spanned_or_moved : SpannedOrMoved) (pinned_by_unit_row : PinnedByUnitRow) (dangerous_by_pins : DangerousByPins) where
   -- a safe sum leaves each number open
-  pub other_sum : (n : ℕ) (answers : List Answer) (a : Answer) (w : List ℤ) (i : ℕ) → IsWellFormed (known_with Sum n answers a) → Agrees (known_with Sum n answers a) w →
+  pub other_sum : (n : ℕ) (answers : List Answer) (a : Answer) (w : List ℤ) (i : ℕ) → IsWellFormed (known_with Sum n answers a) →
+      Agrees (known_with Sum n answers a) w →
       ¬ (IsDangerous (known_sum n answers) a.rows) → i < n → HasOther (known_with Sum n answers a) w i
   other_sum n answers a w i well agrees safe below =
       let are_rows = all-map (λ b. b.rows) (AreRows n) (answers ++ a ∷ []) well.are_rows in
@@ -88,7 +90,8 @@ module _ (spanned_or_moved : SpannedOrMoved) (pinned_by_unit_row : PinnedByUnitR
 
 module _ (possible_by_extremes : PossibleByExtremes) (fixed_by_lone_rows : FixedByLoneRows) (lone_or_free : LoneOrFree) where
   -- and so does a safe maximum
-  pub other_max : (n : ℕ) (answers : List Answer) (a : Answer) (w : List ℤ) (i : ℕ) → IsWellFormed (known_with Max n answers a) → Agrees (known_with Max n answers a) w →
+  pub other_max : (n : ℕ) (answers : List Answer) (a : Answer) (w : List ℤ) (i : ℕ) → IsWellFormed (known_with Max n answers a) →
+      Agrees (known_with Max n answers a) w →
       ¬ (IsDangerous (known_max n answers) a.rows) → i < n → HasOther (known_with Max n answers a) w i
   other_max n answers a w i well agrees safe below =
       let whole = answers ++ a ∷ [] in

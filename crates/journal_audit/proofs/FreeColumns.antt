@@ -10,7 +10,8 @@ use Rattle.audit_types.specs.ListLaws.{all_by_place, all-map, all-filter}
 use Rattle.witness_check.specs.Directions.{lists_of}
 
 -- the sets of a column's records, as lists of rows
-pub lists_of_records : (records : List Answered) → lists_of (map (λ r. r.rows) records) ≡ map (λ (a : Answer). a.rows) (map (λ (r : Answered). record { rows = r.rows.list; value = r.answer }) records)
+pub lists_of_records : (records : List Answered) →
+    lists_of (map (λ r. r.rows) records) ≡ map (λ (a : Answer). a.rows) (map (λ (r : Answered). record { rows = r.rows.list; value = r.answer }) records)
 lists_of_records [] = refl
 lists_of_records (r ∷ records) = ap (λ l. r.rows.list ∷ l) (lists_of_records records)
 

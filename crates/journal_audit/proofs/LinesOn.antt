@@ -61,8 +61,10 @@ module _ {D : Type 0} (bench : Ghosts D) (only_now : NowOnly bench) (audit : Aud
 
   -- a line's send
   module _ (subject : Subject) (line : List ℕ) (is : IsLineOn audit subject line) (old new : D) where
-    while_sending : {r : Result (Unit {0}) AuditFault} → SendsLine bench line old new r → IsQuiet bench old → LeavesOnly bench old new (SendsMeanwhile audit (subject ∷ []) (bench.file old) (bench.sent old))
-    while_sending sends quiet = goes_on bench old old new (SendsMeanwhile audit (subject ∷ []) (bench.file old) (bench.sent old)) (Sending (bench.leaves new) (bench.sent old) line)
+    while_sending : {r : Result (Unit {0}) AuditFault} → SendsLine bench line old new r → IsQuiet bench old →
+        LeavesOnly bench old new (SendsMeanwhile audit (subject ∷ []) (bench.file old) (bench.sent old))
+    while_sending sends quiet =
+        goes_on bench old old new (SendsMeanwhile audit (subject ∷ []) (bench.file old) (bench.sent old)) (Sending (bench.leaves new) (bench.sent old) line)
         (found_now (subject ∷ []) old quiet) sends.time
         (λ image sent within. record { same = quiet image (sends.crash image within.0); front = one_front audit subject line (bench.sent old) sent is within.1 })
 
@@ -97,12 +99,14 @@ module _ {D : Type 0} (bench : Ghosts D) (only_now : NowOnly bench) (audit : Aud
     still_quiet : IsQuiet bench a → IsQuiet bench b
     still_quiet quiet image left = quiet image (first.crash image left) ∙ sym first.file
 
-    while_both : (r : Result (Unit {0}) AuditFault) → SendsLinesOn bench audit ys b c r → bench.told → IsQuiet bench a → LeavesOnly bench a c (SendsMeanwhile audit (xs ++ ys) (bench.file a) (bench.sent a))
+    while_both : (r : Result (Unit {0}) AuditFault) → SendsLinesOn bench audit ys b c r → bench.told → IsQuiet bench a →
+        LeavesOnly bench a c (SendsMeanwhile audit (xs ++ ys) (bench.file a) (bench.sent a))
     while_both r second told quiet = joins bench a b c (SendsMeanwhile audit (xs ++ ys) (bench.file a) (bench.sent a))
         (weakens bench a b (SendsMeanwhile audit xs (bench.file a) (bench.sent a)) (SendsMeanwhile audit (xs ++ ys) (bench.file a) (bench.sent a))
         (λ image sent here. record { same = here.same; front = front_of_more audit xs ys (bench.sent a) sent here.front }) (first.moments told quiet))
         (weakens bench b c (SendsMeanwhile audit ys (bench.file b) (bench.sent b)) (SendsMeanwhile audit (xs ++ ys) (bench.file a) (bench.sent a))
-        (λ image sent here. record { same = here.same ∙ first.file; front = then_front audit xs ys (bench.sent a) (bench.sent b) sent (first.sends told) here.front }) (second.moments told (still_quiet quiet)))
+        (λ image sent here. record { same = here.same ∙ first.file; front = then_front audit xs ys (bench.sent a) (bench.sent b) sent (first.sends told) here.front })
+        (second.moments told (still_quiet quiet)))
 
     -- the first lines and then more
     pub and_then : (r : Result (Unit {0}) AuditFault) → SendsLinesOn bench audit ys b c r → SendsLinesOn bench audit (xs ++ ys) a c r
@@ -136,7 +140,8 @@ module _ {D : Type 0} (bench : Ghosts D) (only_now : NowOnly bench) (audit : Aud
   refused xs ys a b e first = record {
     sends = λ told. tt;
     part = λ told. front_of_more audit xs ys (bench.sent a) (bench.sent b) (first.part told);
-    moments = λ told quiet. weakens bench a b (SendsMeanwhile audit xs (bench.file a) (bench.sent a)) (SendsMeanwhile audit (xs ++ ys) (bench.file a) (bench.sent a))
+    moments =
+        λ told quiet. weakens bench a b (SendsMeanwhile audit xs (bench.file a) (bench.sent a)) (SendsMeanwhile audit (xs ++ ys) (bench.file a) (bench.sent a))
         (λ image sent here. record { same = here.same; front = front_of_more audit xs ys (bench.sent a) sent here.front }) (first.moments told quiet);
     ticks = λ told. tt;
     file = first.file;
@@ -148,7 +153,8 @@ module _ {D : Type 0} (bench : Ghosts D) (only_now : NowOnly bench) (audit : Aud
   }
 
   -- a refusal on this, after the first lines and before others
-  pub refused_among : (first this others all : List Subject) (a b c : D) (r : Result (Unit {0}) AuditFault) (e : AuditFault) → all ≡ first ++ this ++ others → r ≡ Err e
+  pub refused_among : (first this others all : List Subject) (a b c : D) (r : Result (Unit {0}) AuditFault) (e : AuditFault) → all ≡ first ++ this ++ others
+      → r ≡ Err e
       → SendsLinesOn bench audit first a b (Ok tt) → SendsLinesOn bench audit this b c (Err e) → SendsLinesOn bench audit all a c r
   refused_among first this others all a b c r e split is before now =
       subst (λ l. SendsLinesOn bench audit l a c r) (sym split)

@@ -136,7 +136,8 @@ pub record SendsLine {D : Type 0} (bench : Ghosts D) (line : List ℕ) (old new 
 
 -- what sending the lines on these leaves of a bench: they were sent, a line a call, or a front of them where it was refused,
 -- and nothing else changed
-pub record SendsLinesOn {D : Type 0} (bench : Ghosts D) (audit : Audit) (about : List Subject) (old new : D) (result : Result (Unit {0}) AuditFault) : Type 0 where
+pub record SendsLinesOn {D : Type 0} (bench : Ghosts D) (audit : Audit) (about : List Subject) (old new : D)
+    (result : Result (Unit {0}) AuditFault) : Type 0 where
   pub sends : bench.told → OnOk result (Sends audit about (bench.sent old) (bench.sent new))
   pub part : bench.told → OnErr result (SendsFront audit about (bench.sent old) (bench.sent new))
   pub moments : bench.told → IsQuiet bench old → LeavesOnly bench old new (SendsMeanwhile audit about (bench.file old) (bench.sent old))

@@ -32,7 +32,8 @@ dot-unit_row : (n i : ℕ) (d : List ℤ) → i < n → dot n (number_at (unit_r
 dot-unit_row n i d below = let are : AreRows n (i ∷ []) = (omega arith, below, tt) in product-set_row d n (i ∷ []) are ∙ +ℤ_idr (number_at d i)
 
 -- rows to which just the directions are orthogonal tell the pinned rows
-module _ (n : ℕ) (sets : List (List ℕ)) (rows : List (List ℤ)) (tell : (d : List ℤ) → IsDirection n sets d ↔ IsOrthogonal n rows d) (i : ℕ) (below : i < n) where
+module _ (n : ℕ) (sets : List (List ℕ)) (rows : List (List ℤ)) (tell : (d : List ℤ) → IsDirection n sets d ↔ IsOrthogonal n rows d) (i : ℕ)
+    (below : i < n) where
   pinned_in_span : AllByRecursion (λ r. length r ≡ n) rows → IsPinned n sets i → InSpan rows (unit_row n i)
   pinned_in_span lengths pinned = elim (in_span_or_moved n rows (unit_row n i) lengths (length-set_row n (i ∷ []))) [
     | inl span ↦ span

@@ -65,7 +65,9 @@ spike_elsewhere n a x j other = elim (cases_lt j n) [
 ]
 
 dot-spike : (n : ℕ) (u : ℕ → ℤ) (a : ℕ) (x : ℤ) → a < n → dot n u (spike n a x) ≡ u a *ℤ x
-dot-spike n u a x l = total-single (λ j. u j *ℤ number_at (spike n a x) j) n a l (λ j below other. ap (λ z. u j *ℤ z) (spike_elsewhere n a x j other) ∙ *ℤ-zero (u j)) ∙ ap (λ z. u a *ℤ z) (spike_here n a x l)
+dot-spike n u a x l =
+    total-single (λ j. u j *ℤ number_at (spike n a x) j) n a l (λ j below other. ap (λ z. u j *ℤ z) (spike_elsewhere n a x j other) ∙ *ℤ-zero (u j))
+    ∙ ap (λ z. u a *ℤ z) (spike_here n a x l)
 
 -- what is left of u when the first row is taken out
 abbrev rest_of : ℤ → (ℕ → ℤ) → ℤ → List ℤ → ℕ → ℤ
@@ -102,7 +104,8 @@ with_first c u k r rows h s = record {
   is = λ j. ap (λ z. z *ℤ u j) (sym (pos-*ℤ-pos s.multiple c)) ∙ back s.multiple (pos c) (u j) k (number_at r j) (combined s.coefficients rows j) (s.is j);
 }
 
-still_zeros : (n : ℕ) (x : ℤ) (a : List ℤ) (y : ℤ) (b : List ℤ) (rows : List (List ℤ)) → AllByRecursion (λ r. dot n (number_at r) a ≡ pos 0) rows → AllByRecursion (λ r. dot n (number_at r) b ≡ pos 0) rows → AllByRecursion (λ r. dot n (number_at r) (combine x a y b) ≡ pos 0) rows
+still_zeros : (n : ℕ) (x : ℤ) (a : List ℤ) (y : ℤ) (b : List ℤ) (rows : List (List ℤ)) → AllByRecursion (λ r. dot n (number_at r) a ≡ pos 0) rows →
+    AllByRecursion (λ r. dot n (number_at r) b ≡ pos 0) rows → AllByRecursion (λ r. dot n (number_at r) (combine x a y b) ≡ pos 0) rows
 still_zeros n x a y b [] p q = tt
 still_zeros n x a y b (r ∷ rows) p q = (
   dot-combine n (number_at r) x a y b ∙ ap (λ z. x *ℤ z +ℤ neg_ℤ y *ℤ dot n (number_at r) b) p.0 ∙ ap (λ z. x *ℤ pos 0 +ℤ neg_ℤ y *ℤ z) q.0
@@ -111,7 +114,8 @@ still_zeros n x a y b (r ∷ rows) p q = (
 )
 
 -- a list that shows it of the rest, with d taken out by the first row
-move_first : (n : ℕ) (u : ℕ → ℤ) (r : List ℤ) (rows : List (List ℤ)) (d : Moves n rows (number_at r)) → Moves n rows (rest_of (dot n (number_at r) d.list) u (dot n u d.list) r) → Moves n (r ∷ rows) u
+move_first : (n : ℕ) (u : ℕ → ℤ) (r : List ℤ) (rows : List (List ℤ)) (d : Moves n rows (number_at r)) →
+    Moves n rows (rest_of (dot n (number_at r) d.list) u (dot n u d.list) r) → Moves n (r ∷ rows) u
 move_first n u r rows d e =
     let c = dot n (number_at r) d.list in
     let k = dot n u d.list in
@@ -142,7 +146,8 @@ past_rest c k u r j e l =
     ∙ ap (λ z. z +ℤ neg_ℤ k *ℤ pos 0) (*ℤ-zero c) ∙ ap (λ z. pos 0 +ℤ z) (*ℤ-zero (neg_ℤ k))
 
 -- the rows span u, or a list is orthogonal to them and not to u
-spans_or_moves : (n : ℕ) (rows : List (List ℤ)) (u : ℕ → ℤ) → AllByRecursion (λ r. length r ≡ n) rows → ((j : ℕ) → n ≤ j → u j ≡ pos 0) → Spans rows u ⊎ Moves n rows u
+spans_or_moves : (n : ℕ) (rows : List (List ℤ)) (u : ℕ → ℤ) → AllByRecursion (λ r. length r ≡ n) rows → ((j : ℕ) → n ≤ j → u j ≡ pos 0) →
+    Spans rows u ⊎ Moves n rows u
 spans_or_moves n [] u lengths past = elim (columns n u) [
   | inl none ↦ inl (spans_same [] (λ j. pos 0) u (λ j. sym (elim (cases_lt j n) [ inl l ↦ none j l | inr l ↦ past j l ])) (spans_zero []))
   | inr hit ↦ inr (record {

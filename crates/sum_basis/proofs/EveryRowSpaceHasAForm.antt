@@ -38,7 +38,8 @@ grow n form v p h e = go (list_all is_zero u) refl
       primitive = p;
       echelon = h;
       within = one_more_all v form form (own form);
-      has_row = span_unreduced form form v (own form) leads (in_span_from form u (spans_same form (λ j. pos 0) (number_at u) (λ j. sym (all_zeros_at u j zero_row)) (spans_zero form)));
+      has_row =
+          span_unreduced form form v (own form) leads (in_span_from form u (spans_same form (λ j. pos 0) (number_at u) (λ j. sym (all_zeros_at u j zero_row)) (spans_zero form)));
       has_form = own form;
     }
     go false some =
@@ -54,8 +55,10 @@ grow n form v p h e = go (list_all is_zero u) refl
         record {
           grown = result;
           primitive = all_placed (IsPrimitive n) new rows made.4 (primitives n new form rows rest.1);
-          echelon = placed_echelon new rows (still_echelon n new form rows rest.1 zeros h) (leads_from n rows (primitives n new form rows rest.1)) (still_zero n new form rows rest.1 zeros) (zeros_there n new form rows rest.1);
-          within = all_placed (InSpan (v ∷ form)) new rows new_within (spans_there (v ∷ form) n new form rows rest.1 new_within (one_more_all v form form (own form)));
+          echelon =
+              placed_echelon new rows (still_echelon n new form rows rest.1 zeros h) (leads_from n rows (primitives n new form rows rest.1)) (still_zero n new form rows rest.1 zeros) (zeros_there n new form rows rest.1);
+          within =
+              all_placed (InSpan (v ∷ form)) new rows new_within (spans_there (v ∷ form) n new form rows rest.1 new_within (one_more_all v form form (own form)));
           has_row = span_unreduced result form v has_form leads (subst (InSpan result) (sym made.3) (span_times result made.1 new inside.0));
           has_form = has_form;
         }

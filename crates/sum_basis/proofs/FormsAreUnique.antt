@@ -39,7 +39,8 @@ pivot_is row p before here =
     ]
 
 -- the rows behind a row are 0 before its pivot
-all_zero_before : (row : List ℤ) (rows : List (List ℤ)) (j : ℕ) → j < pivot row → AllByRecursion (StandsBefore row) rows → AllByRecursion (λ r. number_at r j ≡ pos 0) rows
+all_zero_before : (row : List ℤ) (rows : List (List ℤ)) (j : ℕ) → j < pivot row → AllByRecursion (StandsBefore row) rows →
+    AllByRecursion (λ r. number_at r j ≡ pos 0) rows
 all_zero_before row [] j h later = tt
 all_zero_before row (next ∷ rows) j h later = let order = later.0.0 in (zero_before next j (omega arith), all_zero_before row rows j h later.1)
 
@@ -70,7 +71,8 @@ led (c ∷ cs) (row ∷ rows) echelon leads =
       | inr some ↦ inr (record {
         row = row;
         among = inl refl;
-        before = λ j h. ap (λ z. c *ℤ z +ℤ combined cs rows j) (zero_before row j h) ∙ ap (λ z. z +ℤ combined cs rows j) (*ℤ-zero c) ∙ +ℤ_idl (combined cs rows j)
+        before =
+            λ j h. ap (λ z. c *ℤ z +ℤ combined cs rows j) (zero_before row j h) ∙ ap (λ z. z +ℤ combined cs rows j) (*ℤ-zero c) ∙ +ℤ_idl (combined cs rows j)
             ∙ combined_zero cs rows j (all_zero_before row rows j h echelon.0);
         here = λ z. some (zero_factor c (pivot_entry row)
             (sym (ap (λ y. c *ℤ pivot_entry row +ℤ y) (combined_zero cs rows (pivot row) (later_zero row rows echelon.0)) ∙ +ℤ_idr (c *ℤ pivot_entry row)) ∙ z) leads.0);
@@ -84,13 +86,15 @@ leads_above (r ∷ rows) row leads (inl e) = subst (λ x. pos 0 <ℤ pivot_entry
 leads_above (r ∷ rows) row leads (inr among) = leads_above rows row leads.1 among
 
 -- a row stands before each row behind it
-pub stands_before : (row : List ℤ) (rows : List (List ℤ)) (other : List ℤ) → AllByRecursion (StandsBefore row) rows → IsRowOf other rows → StandsBefore row other
+pub stands_before : (row : List ℤ) (rows : List (List ℤ)) (other : List ℤ) → AllByRecursion (StandsBefore row) rows → IsRowOf other rows →
+    StandsBefore row other
 stands_before row [] other h among = absurd among
 stands_before row (r ∷ rows) other h (inl e) = subst (StandsBefore row) e h.0
 stands_before row (r ∷ rows) other h (inr among) = stands_before row rows other h.1 among
 
 -- a row is 0 at the pivots of the others
-pub zero_at_others : (rows : List (List ℤ)) (f g : List ℤ) → IsEchelon rows → IsRowOf f rows → IsRowOf g rows → pivot f ≢ pivot g → number_at f (pivot g) ≡ pos 0
+pub zero_at_others : (rows : List (List ℤ)) (f g : List ℤ) → IsEchelon rows → IsRowOf f rows → IsRowOf g rows → pivot f ≢ pivot g →
+    number_at f (pivot g) ≡ pos 0
 zero_at_others [] f g echelon p q apart = absurd p
 zero_at_others (r ∷ rows) f g echelon (inl e) (inl h) apart = absurd (apart (ap pivot (sym e ∙ h)))
 zero_at_others (r ∷ rows) f g echelon (inl e) (inr q) apart = subst (λ x. number_at x (pivot g) ≡ pos 0) e (stands_before r rows g echelon.0 q).1
@@ -98,7 +102,8 @@ zero_at_others (r ∷ rows) f g echelon (inr p) (inl h) apart = subst (λ x. num
 zero_at_others (r ∷ rows) f g echelon (inr p) (inr q) apart = zero_at_others rows f g echelon.1 p q apart
 
 -- a row of the span whose pivot entry is positive has the pivot of a row of the form
-pub pivot_among : (rows : List (List ℤ)) (f : List ℤ) → IsEchelon rows → Leads rows → InSpan rows f → pos 0 <ℤ pivot_entry f → (g : List ℤ) × IsRowOf g rows × (pivot f ≡ pivot g)
+pub pivot_among : (rows : List (List ℤ)) (f : List ℤ) → IsEchelon rows → Leads rows → InSpan rows f → pos 0 <ℤ pivot_entry f →
+    (g : List ℤ) × IsRowOf g rows × (pivot f ≡ pivot g)
 pivot_among rows f echelon leads span positive =
     elim (led span.coefficients rows echelon leads) [
       | inl z ↦
@@ -118,7 +123,8 @@ pivot_among rows f echelon leads span positive =
     ]
 
 -- what is 0 at the pivot of each row is 0 at all pivots
-pub zeros_walk : (f : ℕ → ℤ) (rows rest : List (List ℤ)) → ((g : List ℤ) → IsRowOf g rest → IsRowOf g rows) → ((g : List ℤ) → IsRowOf g rows → f (pivot g) ≡ pos 0) → ZeroAtPivots f rest
+pub zeros_walk : (f : ℕ → ℤ) (rows rest : List (List ℤ)) → ((g : List ℤ) → IsRowOf g rest → IsRowOf g rows) →
+    ((g : List ℤ) → IsRowOf g rows → f (pivot g) ≡ pos 0) → ZeroAtPivots f rest
 zeros_walk f rows [] into none = tt
 zeros_walk f rows (r ∷ rest) into none = (none r (into r (inl refl)), zeros_walk f rows rest (λ g q. into g (inr q)) none)
 
@@ -182,12 +188,14 @@ on_one_line rows others alike f g p q same j =
               let second = ap (number_at g) e in
               let minus = neg-times (pivot_entry f) (pivot_entry g) in
               let turned = *ℤ_comm (pivot_entry f) (pivot_entry g) in
-              ap (λ z. pivot_entry g *ℤ z +ℤ neg_ℤ (pivot_entry f) *ℤ number_at g (pivot h)) first ∙ ap (λ z. pivot_entry g *ℤ pivot_entry f +ℤ neg_ℤ (pivot_entry f) *ℤ z) second ∙ omega (arith, ints)
+              ap (λ z. pivot_entry g *ℤ z +ℤ neg_ℤ (pivot_entry f) *ℤ number_at g (pivot h)) first
+              ∙ ap (λ z. pivot_entry g *ℤ pivot_entry f +ℤ neg_ℤ (pivot_entry f) *ℤ z) second ∙ omega (arith, ints)
           | inr n ↦
               let hit = pivot_among rows h alike.echelon alike.leads (in_span_at rows others h alike.others_within r) (leads_above others h alike.others_leads r) in
               let first : number_at f (pivot h) ≡ pos 0 = ap (number_at f) hit.2 ∙ zero_at_others rows f hit.0 alike.echelon p hit.1 (λ e. n (hit.2 ∙ sym e ∙ same)) in
               let second : number_at g (pivot h) ≡ pos 0 = zero_at_others others g h alike.others_echelon q r (λ e. n (sym e)) in
-              ap (λ z. pivot_entry g *ℤ z +ℤ neg_ℤ (pivot_entry f) *ℤ number_at g (pivot h)) first ∙ ap (λ z. pivot_entry g *ℤ pos 0 +ℤ neg_ℤ (pivot_entry f) *ℤ z) second
+              ap (λ z. pivot_entry g *ℤ z +ℤ neg_ℤ (pivot_entry f) *ℤ number_at g (pivot h)) first
+              ∙ ap (λ z. pivot_entry g *ℤ pos 0 +ℤ neg_ℤ (pivot_entry f) *ℤ z) second
               ∙ ap (λ z. z +ℤ neg_ℤ (pivot_entry f) *ℤ pos 0) (*ℤ-zero (pivot_entry g)) ∙ ap (λ z. pos 0 +ℤ z) (*ℤ-zero (neg_ℤ (pivot_entry f)))
         ]
 
@@ -203,7 +211,8 @@ leads_from n [] h = tt
 leads_from n (r ∷ rows) h = (h.0.leading, leads_from n rows h.1)
 
 -- a row of one form is a row of the other
-row_of_other : (n : ℕ) (rows others : List (List ℤ)) → AreAlike rows others → AllByRecursion (IsPrimitive n) rows → AllByRecursion (IsPrimitive n) others → (f : List ℤ) → IsRowOf f rows → IsRowOf f others
+row_of_other : (n : ℕ) (rows others : List (List ℤ)) → AreAlike rows others → AllByRecursion (IsPrimitive n) rows → AllByRecursion (IsPrimitive n) others →
+    (f : List ℤ) → IsRowOf f rows → IsRowOf f others
 row_of_other n rows others alike p q f among =
     let own_f = primitive_at n rows f p among in
     let hit = pivot_among others f alike.others_echelon alike.others_leads (in_span_at others rows f alike.within among) own_f.leading in
@@ -217,7 +226,8 @@ after_first : (row : List ℤ) (rows : List (List ℤ)) (f : List ℤ) → IsEch
 after_first row rows f echelon among = (stands_before row rows f echelon.0 among).0
 
 -- two echelon forms with the same rows are one list
-same_list : (rows others : List (List ℤ)) → IsEchelon rows → IsEchelon others → ((f : List ℤ) → IsRowOf f rows → IsRowOf f others) → ((f : List ℤ) → IsRowOf f others → IsRowOf f rows) → rows ≡ others
+same_list : (rows others : List (List ℤ)) → IsEchelon rows → IsEchelon others → ((f : List ℤ) → IsRowOf f rows → IsRowOf f others) →
+    ((f : List ℤ) → IsRowOf f others → IsRowOf f rows) → rows ≡ others
 same_list [] [] e h into back = refl
 same_list [] (g ∷ others) e h into back = absurd (back g (inl refl))
 same_list (f ∷ rows) [] e h into back = absurd (into f (inl refl))
@@ -242,7 +252,8 @@ same_list (f ∷ rows) (g ∷ others) e h into back =
 
 -- two forms that are alike, the other way round
 turned_round : (rows others : List (List ℤ)) → AreAlike rows others → AreAlike others rows
-turned_round rows others a = record { echelon = a.others_echelon; leads = a.others_leads; others_echelon = a.echelon; others_leads = a.leads; within = a.others_within; others_within = a.within }
+turned_round rows others a =
+    record { echelon = a.others_echelon; leads = a.others_leads; others_echelon = a.echelon; others_leads = a.leads; within = a.others_within; others_within = a.within }
 
 -- a row space has at most one reduced form
 pub forms_are_unique : FormsAreUnique
@@ -255,4 +266,5 @@ forms_are_unique n rows form other p q =
       within = span_trans_all other rows form q.spans p.within;
       others_within = span_trans_all form rows other p.spans q.within;
     } in
-    same_list form other p.echelon q.echelon (row_of_other n form other alike p.primitive q.primitive) (row_of_other n other form (turned_round form other alike) q.primitive p.primitive)
+    same_list form other p.echelon q.echelon (row_of_other n form other alike p.primitive q.primitive)
+    (row_of_other n other form (turned_round form other alike) q.primitive p.primitive)

@@ -27,7 +27,8 @@ module _ (n : ℕ) (r : SparseRow) (new : List FreeEntry) (kept : IsKept n r) (i
   ]
 
   -- a row with none, at whose pivot the new row is 0, is cleared as it is
-  pub cleared_as_it_is : entry_at new r.pivot ≡ pos 0 → IsPrimitive n (row_of n (entries_of r)) → entry_at r.free.items (get_or new 0 none).place ≡ pos 0 → IsCleared n (row_of n new) (row_of n (entries_of r)) (row_of n (entries_of r))
+  pub cleared_as_it_is : entry_at new r.pivot ≡ pos 0 → IsPrimitive n (row_of n (entries_of r)) → entry_at r.free.items (get_or new 0 none).place ≡ pos 0 →
+      IsCleared n (row_of n new) (row_of n (entries_of r)) (row_of n (entries_of r))
   cleared_as_it_is nothing primitive none_there =
       let led = is_led n new is_new.some is_new.listed in
       let place = (get_or new 0 none).place in
@@ -35,7 +36,8 @@ module _ (n : ℕ) (r : SparseRow) (new : List FreeEntry) (kept : IsKept n r) (i
       (ap (number_at (row_of n new)) (led.at_pivot ∙ sym same) ∙ number_at-row_of 0 n new is_new.listed r.pivot ∙ nothing) in
       let first = elsewhere (record { place = r.pivot; value = r.head }) place apart in
       let sum : entry_at (entries_of r) place ≡ pos 0 = omega (arith, ints) in
-      cleared_already n (row_of n new) (row_of n (entries_of r)) primitive (ap (number_at (row_of n (entries_of r))) led.at_pivot ∙ number_at-row_of 0 n (entries_of r) kept.listed place ∙ sum)
+      cleared_already n (row_of n new) (row_of n (entries_of r)) primitive
+      (ap (number_at (row_of n (entries_of r))) led.at_pivot ∙ number_at-row_of 0 n (entries_of r) kept.listed place ∙ sum)
 
 -- a row is lone exactly where it has no entry after its pivot
 pub lone_list : (n : ℕ) (e : FreeEntry) (es : List FreeEntry) → IsListed 0 n (e ∷ es) → (length es ≡ 0) ↔ IsLone (row_of n (e ∷ es))
@@ -56,7 +58,8 @@ lone_list n e (f ∷ es) h = (
 )
 
 -- the same, by the length that is kept with the list
-pub lone_by_length : (n len : ℕ) (e : FreeEntry) (es : List FreeEntry) (b : Bool) → IsListed 0 n (e ∷ es) → len ≡ length es → b ≡ nat_eq len 0 → IsTrue b ↔ IsLone (row_of n (e ∷ es))
+pub lone_by_length : (n len : ℕ) (e : FreeEntry) (es : List FreeEntry) (b : Bool) → IsListed 0 n (e ∷ es) → len ≡ length es → b ≡ nat_eq len 0 →
+    IsTrue b ↔ IsLone (row_of n (e ∷ es))
 lone_by_length n len e es b h l is =
     let lone = lone_list n e es h in
     (λ yes. lone.0 (sym l ∙ eqb-true len 0 (subst IsTrue is yes)), λ all. subst IsTrue (sym is) (eq-eqb len 0 (l ∙ lone.1 all)))
@@ -72,7 +75,8 @@ split n [] h = absurd (omega arith)
 split n (e ∷ es) h = record { first = e; rest = es; is = refl }
 
 -- row k as a whole row
-pub row_is : (n : ℕ) (rows : List SparseRow) (k : ℕ) (r : SparseRow) → k < length rows → r ≡ get_or rows k r → get_or (rows_of n rows) k [] ≡ row_of n (entries_of r)
+pub row_is : (n : ℕ) (rows : List SparseRow) (k : ℕ) (r : SparseRow) → k < length rows → r ≡ get_or rows k r →
+    get_or (rows_of n rows) k [] ≡ row_of n (entries_of r)
 row_is n rows k r h is = get_or-map (λ (x : SparseRow). row_of n (entries_of x)) rows k r [] h ∙ ap (λ (x : SparseRow). row_of n (entries_of x)) (sym is)
 
 -- it is there
@@ -80,7 +84,8 @@ pub row_within : (n : ℕ) (rows : List SparseRow) (k : ℕ) → k < length rows
 row_within n rows k h = let l = length-map rows (λ (x : SparseRow). row_of n (entries_of x)) in omega arith
 
 -- a row that was cleared, as one of the form
-pub cleared_at : (n : ℕ) (new : List ℤ) (rows : List SparseRow) (k : ℕ) (r : SparseRow) (made : List ℤ) → k < length rows → r ≡ get_or rows k r → IsCleared n new (row_of n (entries_of r)) made
+pub cleared_at : (n : ℕ) (new : List ℤ) (rows : List SparseRow) (k : ℕ) (r : SparseRow) (made : List ℤ) → k < length rows → r ≡ get_or rows k r
+    → IsCleared n new (row_of n (entries_of r)) made
     → IsCleared n new (get_or (rows_of n rows) k []) made
 cleared_at n new rows k r made h is cleared = subst (λ row. IsCleared n new row made) (sym (row_is n rows k r h is)) cleared
 
@@ -89,13 +94,16 @@ pub of_row : (P : SparseRow → Type 0) (rows : List SparseRow) (k : ℕ) (r : S
 of_row P rows k r h is all = subst P (sym is) (All-from_recursion P rows all k r h)
 
 -- the same of whole rows
-pub of_whole_row : (P : List ℤ → Type 0) (n : ℕ) (rows : List SparseRow) (k : ℕ) (r : SparseRow) → k < length rows → r ≡ get_or rows k r → AllByRecursion P (rows_of n rows) → P (row_of n (entries_of r))
+pub of_whole_row : (P : List ℤ → Type 0) (n : ℕ) (rows : List SparseRow) (k : ℕ) (r : SparseRow) → k < length rows → r ≡ get_or rows k r →
+    AllByRecursion P (rows_of n rows) → P (row_of n (entries_of r))
 of_whole_row P n rows k r h is all = subst P (row_is n rows k r h is) (All-from_recursion P (rows_of n rows) all k [] (row_within n rows k h))
 
 -- a new row that is 0 at a kept row's pivot has nothing there
-pub nothing_at : (n : ℕ) (r : SparseRow) (new : List FreeEntry) → IsKept n r → IsNew n new → number_at (row_of n new) (pivot (row_of n (entries_of r))) ≡ pos 0 → entry_at new r.pivot ≡ pos 0
+pub nothing_at : (n : ℕ) (r : SparseRow) (new : List FreeEntry) → IsKept n r → IsNew n new →
+    number_at (row_of n new) (pivot (row_of n (entries_of r))) ≡ pos 0 → entry_at new r.pivot ≡ pos 0
 nothing_at n r new kept is_new z =
-    sym (number_at-row_of 0 n new is_new.listed r.pivot) ∙ ap (number_at (row_of n new)) (sym (pivot-row_of 0 n (record { place = r.pivot; value = r.head }) r.free.items kept.listed)) ∙ z
+    sym (number_at-row_of 0 n new is_new.listed r.pivot)
+    ∙ ap (number_at (row_of n new)) (sym (pivot-row_of 0 n (record { place = r.pivot; value = r.head }) r.free.items kept.listed)) ∙ z
 
 -- the new row is lone exactly where it has one entry
 pub lone_new : (n : ℕ) (new : List FreeEntry) → IsNew n new → (length new ≡ 1) ↔ IsLone (row_of n new)

@@ -83,12 +83,15 @@ pivot_entries-push [] row = refl
 pivot_entries-push (r ∷ rows) row = ap (λ l. unsigned_abs (pivot_entry r) ∷ l) (pivot_entries-push rows row)
 
 -- the least common multiple of the first k + 1 pivot entries
-pub one_more_entry : (rows : List (List ℤ)) (k m n : ℕ) → k < length rows → IsLeastCommonMultiple (pivot_entries (take k rows)) m → IsLeastCommonMultiple (m ∷ unsigned_abs (pivot_entry (get_or rows k [])) ∷ []) n → IsLeastCommonMultiple (pivot_entries (take (k + 1) rows)) n
+pub one_more_entry : (rows : List (List ℤ)) (k m n : ℕ) → k < length rows → IsLeastCommonMultiple (pivot_entries (take k rows)) m →
+    IsLeastCommonMultiple (m ∷ unsigned_abs (pivot_entry (get_or rows k [])) ∷ []) n → IsLeastCommonMultiple (pivot_entries (take (k + 1) rows)) n
 one_more_entry rows k m n h first both =
-    rw (take_more rows k [] h, pivot_entries-push (take k rows) (get_or rows k [])) (least-push (pivot_entries (take k rows)) (unsigned_abs (pivot_entry (get_or rows k []))) m n first both)
+    rw (take_more rows k [] h, pivot_entries-push (take k rows) (get_or rows k []))
+    (least-push (pivot_entries (take k rows)) (unsigned_abs (pivot_entry (get_or rows k []))) m n first both)
 
 -- the multiple of all is no smaller than that of the first ones
-pub passes : (rows : List (List ℤ)) (k m limit : ℕ) → AllByRecursion (λ r. pos 0 <ℤ pivot_entry r) rows → IsLeastCommonMultiple (pivot_entries (take k rows)) m → limit < m → (all : ℕ) × IsLeastCommonMultiple (pivot_entries rows) all × (limit < all)
+pub passes : (rows : List (List ℤ)) (k m limit : ℕ) → AllByRecursion (λ r. pos 0 <ℤ pivot_entry r) rows →
+    IsLeastCommonMultiple (pivot_entries (take k rows)) m → limit < m → (all : ℕ) × IsLeastCommonMultiple (pivot_entries rows) all × (limit < all)
 passes rows k m limit leading first more =
     let all = least_exists (pivot_entries rows) (entries_positive rows leading) in
     let divides : m ∣ all.0 = first.least all.0 (subst (AllByRecursion (λ x. x ∣ all.0)) (sym (pivot_entries-take rows k)) (all-take (λ x. x ∣ all.0) k (pivot_entries rows) all.2.multiple)) in
@@ -100,18 +103,21 @@ abbrev pub heads : List SparseRow → List ℕ
 heads rows = map (λ r. unsigned_abs r.head) rows
 
 -- the first k + 1 of them
-pub one_more_head : (rows : List SparseRow) (k : ℕ) (r : SparseRow) (m n : ℕ) → k < length rows → r ≡ get_or rows k r → IsLeastCommonMultiple (heads (take k rows)) m → IsLeastCommonMultiple (m ∷ unsigned_abs r.head ∷ []) n → IsLeastCommonMultiple (heads (take (k + 1) rows)) n
+pub one_more_head : (rows : List SparseRow) (k : ℕ) (r : SparseRow) (m n : ℕ) → k < length rows → r ≡ get_or rows k r →
+    IsLeastCommonMultiple (heads (take k rows)) m → IsLeastCommonMultiple (m ∷ unsigned_abs r.head ∷ []) n → IsLeastCommonMultiple (heads (take (k + 1) rows)) n
 one_more_head rows k r m n h is first both =
     rw (take_more rows k r h, map-append (λ (x : SparseRow). unsigned_abs x.head) (take k rows) (get_or rows k r ∷ []))
     (least-push (heads (take k rows)) (unsigned_abs (get_or rows k r).head) m n first (subst (λ (x : SparseRow). IsLeastCommonMultiple (m ∷ unsigned_abs x.head ∷ []) n) is both))
 
 -- they are above 0
-pub heads_positive : (rows : List SparseRow) → AllByRecursion (λ r. (pos 0 <ℤ r.head) × (unsigned_abs r.head ≤ 2 ^ 56)) rows → AllByRecursion (λ x. 0 < x) (heads rows)
+pub heads_positive : (rows : List SparseRow) → AllByRecursion (λ r. (pos 0 <ℤ r.head) × (unsigned_abs r.head ≤ 2 ^ 56)) rows →
+    AllByRecursion (λ x. 0 < x) (heads rows)
 heads_positive [] h = tt
 heads_positive (r ∷ rows) h = (size_positive r.head h.0.0, heads_positive rows h.1)
 
 -- the multiple of all of them is no smaller than that of the first ones
-pub passes_list : (rows : List SparseRow) (k m limit : ℕ) → AllByRecursion (λ x. 0 < x) (heads rows) → IsLeastCommonMultiple (heads (take k rows)) m → limit < m → (all : ℕ) × IsLeastCommonMultiple (heads rows) all × (limit < all)
+pub passes_list : (rows : List SparseRow) (k m limit : ℕ) → AllByRecursion (λ x. 0 < x) (heads rows) → IsLeastCommonMultiple (heads (take k rows)) m →
+    limit < m → (all : ℕ) × IsLeastCommonMultiple (heads rows) all × (limit < all)
 passes_list rows k m limit positive first more =
     let all = least_exists (heads rows) positive in
     let divides : m ∣ all.0 = first.least all.0 (taken all.0 rows k all.2.multiple) in

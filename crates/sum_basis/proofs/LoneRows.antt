@@ -39,7 +39,9 @@ module _ (n : ℕ) (new : List FreeEntry) (is_new : IsNew n new) (one : length n
 
   -- its entry is 1
   value_is : (get_or new 0 none).value ≡ pos 1
-  value_is = size_one v (subst (λ z. pos 0 <ℤ z) led.pivot_entry_is is_new.primitive.leading) (le_of_dvd (omega arith) (is_new.primitive.content.greatest (unsigned_abs v) (all_by_number (λ x. unsigned_abs v ∣ unsigned_abs x) (row_of n new) at)))
+  value_is =
+      size_one v (subst (λ z. pos 0 <ℤ z) led.pivot_entry_is is_new.primitive.leading)
+      (le_of_dvd (omega arith) (is_new.primitive.content.greatest (unsigned_abs v) (all_by_number (λ x. unsigned_abs v ∣ unsigned_abs x) (row_of n new) at)))
     where
       v : ℤ
       v = (get_or new 0 none).value
@@ -51,7 +53,8 @@ module _ (n : ℕ) (new : List FreeEntry) (is_new : IsNew n new) (one : length n
       ]
 
   -- a row that it clears is small
-  pub cleared_small : (r : SparseRow) → IsKept n r → IsPrimitive n (row_of n (entries_of r)) → entry_at new r.pivot ≡ pos 0 → IsSmall (row_of n (entries_of r)) → (made : List ℤ) × IsCleared n (row_of n new) (row_of n (entries_of r)) made × IsSmall made
+  pub cleared_small : (r : SparseRow) → IsKept n r → IsPrimitive n (row_of n (entries_of r)) → entry_at new r.pivot ≡ pos 0 →
+      IsSmall (row_of n (entries_of r)) → (made : List ℤ) × IsCleared n (row_of n new) (row_of n (entries_of r)) made × IsSmall made
   cleared_small r kept primitive nothing small = elim (zero_or_not (entry_at r.free.items (get_or new 0 none).place)) [
     | inl z ↦ (row_of n (entries_of r), cleared_as_it_is n r new kept is_new nothing primitive z, small)
     | inr some ↦
@@ -72,7 +75,8 @@ module _ (n : ℕ) (new : List FreeEntry) (is_new : IsNew n new) (one : length n
   ]
 
   -- and so are all rows
-  pub all_cleared_small : (rows : List SparseRow) → AllByRecursion (IsKept n) rows → AllByRecursion (IsPrimitive n) (rows_of n rows) → AllByRecursion IsSmall (rows_of n rows) → IsZeroAtPivots (rows_of n rows) (row_of n new)
+  pub all_cleared_small : (rows : List SparseRow) → AllByRecursion (IsKept n) rows → AllByRecursion (IsPrimitive n) (rows_of n rows)
+      → AllByRecursion IsSmall (rows_of n rows) → IsZeroAtPivots (rows_of n rows) (row_of n new)
       → (made : List (List ℤ)) × AreCleared n (row_of n new) (rows_of n rows) made × AllByRecursion IsSmall made
   all_cleared_small [] kept primitive small zero = ([], tt, tt)
   all_cleared_small (r ∷ rows) kept primitive small zero =

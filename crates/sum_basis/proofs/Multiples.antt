@@ -20,7 +20,8 @@ factor_small x (pos n) times e p h =
 factor_small x (negsuc n) times e p h = absurd (omega (arith, ints))
 
 -- the exact quotient is the multiple to take
-pub less_multiple : (other old new : List ℤ) (times : ℤ) → number_at old (pivot other) ≡ pivot_entry other *ℤ times → pos 0 <ℤ pivot_entry other → unsigned_abs (number_at old (pivot other)) ≤ 2 ^ 56
+pub less_multiple : (other old new : List ℤ) (times : ℤ) → number_at old (pivot other) ≡ pivot_entry other *ℤ times → pos 0 <ℤ pivot_entry other
+    → unsigned_abs (number_at old (pivot other)) ≤ 2 ^ 56
     → new ≡ combine (pos 1) old times other → IsLessMultiple other old new
 less_multiple other old new times e p h is = record {
   times = times;

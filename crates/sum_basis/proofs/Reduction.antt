@@ -28,7 +28,8 @@ span_combine rows x f y g p q = in_span_from rows (combine x f y g)
     (spans_add rows (λ j. x *ℤ number_at f j) (λ j. neg_ℤ y *ℤ number_at g j) (spans_times rows x (number_at f) (spans_from rows f p)) (spans_times rows (neg_ℤ y) (number_at g) (spans_from rows g q))))
 
 -- back from the combination to its first row
-pub span_uncombine : (rows : List (List ℤ)) (x : ℤ) (f : List ℤ) (y : ℤ) (g : List ℤ) → pos 0 <ℤ x → InSpan rows (combine x f y g) → InSpan rows g → InSpan rows f
+pub span_uncombine : (rows : List (List ℤ)) (x : ℤ) (f : List ℤ) (y : ℤ) (g : List ℤ) → pos 0 <ℤ x → InSpan rows (combine x f y g) → InSpan rows g →
+    InSpan rows f
 span_uncombine rows x f y g h p q =
     let m = positive_is x h in
     in_span_from rows f (spans_down rows m.0 (number_at f) m.2
@@ -58,14 +59,17 @@ reduced_by (r ∷ rows) v = reduced_by rows (combine (pivot_entry r) v (number_a
 -- reducing keeps the length
 pub length-reduced : (n : ℕ) (rows : List (List ℤ)) (v : List ℤ) → AllByRecursion (λ r. length r ≡ n) rows → length v ≡ n → length (reduced_by rows v) ≡ n
 length-reduced n [] v h e = e
-length-reduced n (r ∷ rows) v h e = length-reduced n rows (combine (pivot_entry r) v (number_at v (pivot r)) r) h.1 (length-combine n (pivot_entry r) v (number_at v (pivot r)) r e h.0)
+length-reduced n (r ∷ rows) v h e =
+    length-reduced n rows (combine (pivot_entry r) v (number_at v (pivot r)) r) h.1 (length-combine n (pivot_entry r) v (number_at v (pivot r)) r e h.0)
 
 -- reducing keeps zeros where the form has zeros
-stays_zero : (rows : List (List ℤ)) (v : List ℤ) (j : ℕ) → AllByRecursion (λ r. number_at r j ≡ pos 0) rows → number_at v j ≡ pos 0 → number_at (reduced_by rows v) j ≡ pos 0
+stays_zero : (rows : List (List ℤ)) (v : List ℤ) (j : ℕ) → AllByRecursion (λ r. number_at r j ≡ pos 0) rows → number_at v j ≡ pos 0 →
+    number_at (reduced_by rows v) j ≡ pos 0
 stays_zero [] v j h e = e
 stays_zero (r ∷ rows) v j h e = stays_zero rows (combine (pivot_entry r) v (number_at v (pivot r)) r) j h.1
     (number_at-combine (pivot_entry r) v (number_at v (pivot r)) r j ∙ ap (λ z. pivot_entry r *ℤ z +ℤ neg_ℤ (number_at v (pivot r)) *ℤ number_at r j) e
-    ∙ ap (λ z. pivot_entry r *ℤ pos 0 +ℤ neg_ℤ (number_at v (pivot r)) *ℤ z) h.0 ∙ ap (λ z. z +ℤ neg_ℤ (number_at v (pivot r)) *ℤ pos 0) (*ℤ-zero (pivot_entry r)) ∙ ap (λ z. pos 0 +ℤ z) (*ℤ-zero (neg_ℤ (number_at v (pivot r)))))
+    ∙ ap (λ z. pivot_entry r *ℤ pos 0 +ℤ neg_ℤ (number_at v (pivot r)) *ℤ z) h.0
+    ∙ ap (λ z. z +ℤ neg_ℤ (number_at v (pivot r)) *ℤ pos 0) (*ℤ-zero (pivot_entry r)) ∙ ap (λ z. pos 0 +ℤ z) (*ℤ-zero (neg_ℤ (number_at v (pivot r)))))
 
 -- the reduced row is 0 at all pivots
 pub reduced_zeros : (rows : List (List ℤ)) (v : List ℤ) → IsEchelon rows → ZeroAtPivots (number_at (reduced_by rows v)) rows
@@ -82,19 +86,23 @@ reduced_zeros (r ∷ rows) v h =
 -- what is reduced lies in a space with the form and the row
 pub span_reduced : (span rows : List (List ℤ)) (v : List ℤ) → AllByRecursion (InSpan span) rows → InSpan span v → InSpan span (reduced_by rows v)
 span_reduced span [] v h p = p
-span_reduced span (r ∷ rows) v h p = span_reduced span rows (combine (pivot_entry r) v (number_at v (pivot r)) r) h.1 (span_combine span (pivot_entry r) v (number_at v (pivot r)) r p h.0)
+span_reduced span (r ∷ rows) v h p =
+    span_reduced span rows (combine (pivot_entry r) v (number_at v (pivot r)) r) h.1 (span_combine span (pivot_entry r) v (number_at v (pivot r)) r p h.0)
 
 -- and the row in a space with the form and what is reduced
-pub span_unreduced : (span rows : List (List ℤ)) (v : List ℤ) → AllByRecursion (InSpan span) rows → AllByRecursion (λ r. pos 0 <ℤ pivot_entry r) rows → InSpan span (reduced_by rows v) → InSpan span v
+pub span_unreduced : (span rows : List (List ℤ)) (v : List ℤ) → AllByRecursion (InSpan span) rows → AllByRecursion (λ r. pos 0 <ℤ pivot_entry r) rows →
+    InSpan span (reduced_by rows v) → InSpan span v
 span_unreduced span [] v h l p = p
 span_unreduced span (r ∷ rows) v h l p =
-    span_uncombine span (pivot_entry r) v (number_at v (pivot r)) r l.0 (span_unreduced span rows (combine (pivot_entry r) v (number_at v (pivot r)) r) h.1 l.1 p) h.0
+    span_uncombine span (pivot_entry r) v (number_at v (pivot r)) r l.0
+    (span_unreduced span rows (combine (pivot_entry r) v (number_at v (pivot r)) r) h.1 l.1 p) h.0
 
 -- a content with the sign of the pivot entry
 signed : (row : List ℤ) (g : ℕ) → IsContent row g → (z : ℤ) → pivot_entry row ≡ z → (by : ℤ) × IsSignedContent row by × (unsigned_abs by ≡ g)
 signed row g content (pos m) e = (pos g, record { content = content; negative = λ h. absurd (omega (arith, ints)); positive = λ h. omega (arith, ints) }, refl)
 signed row zero content (negsuc m) e = (pos zero, record { content = content; negative = λ h. omega (arith, ints); positive = λ h. omega (arith, ints) }, refl)
-signed row (suc g) content (negsuc m) e = (negsuc g, record { content = content; negative = λ h. omega (arith, ints); positive = λ h. absurd (omega (arith, ints)) }, refl)
+signed row (suc g) content (negsuc m) e =
+    (negsuc g, record { content = content; negative = λ h. omega (arith, ints); positive = λ h. absurd (omega (arith, ints)) }, refl)
 
 -- a row over a common divisor of its entries
 divided : (by : ℤ) (row : List ℤ) → AllByRecursion (λ x. unsigned_abs by ∣ unsigned_abs x) row → row ≡ times by (map (λ x. int_div x by) row)
@@ -102,7 +110,8 @@ divided by [] h = refl
 divided by (x ∷ row) h = ap (λ y. y ∷ row) (exact x by h.0) ∙ ap (λ l. (by *ℤ int_div x by) ∷ l) (divided by row h.1)
 
 -- a row that is not all zeros is a multiple of a primitive one
-pub primitive_exists : (n : ℕ) (row : List ℤ) → length row ≡ n → list_all is_zero row ≡ false → (new : List ℤ) × (by : ℤ) × (by ≢ pos 0) × (row ≡ times by new) × IsPrimitive n new
+pub primitive_exists : (n : ℕ) (row : List ℤ) → length row ≡ n → list_all is_zero row ≡ false →
+    (new : List ℤ) × (by : ℤ) × (by ≢ pos 0) × (row ≡ times by new) × IsPrimitive n new
 primitive_exists n row e some =
     let any = scaled_content (pos 1) (omega arith) row in
     let sign = signed row any.0 any.1 (pivot_entry row) refl in

@@ -21,7 +21,8 @@ pub product_small : (x y : ℤ) → unsigned_abs x ≤ 2 ^ 56 → unsigned_abs y
 product_small x y p q = rw (unsigned_abs-mul x y) (mul-le-mul {n₂ = 2 ^ 56} {m₂ = 2 ^ 56} p q)
 
 -- the numbers of a combination
-pub combined_at : (x : ℤ) (f : List ℤ) (y : ℤ) (g : List ℤ) (j bound : ℕ) → unsigned_abs (x *ℤ number_at f j) ≤ bound → unsigned_abs y ≤ 2 ^ 56 → IsSmall g → unsigned_abs (number_at (combine x f y g) j) ≤ bound + 2 ^ 112
+pub combined_at : (x : ℤ) (f : List ℤ) (y : ℤ) (g : List ℤ) (j bound : ℕ) → unsigned_abs (x *ℤ number_at f j) ≤ bound → unsigned_abs y ≤ 2 ^ 56 → IsSmall g →
+    unsigned_abs (number_at (combine x f y g) j) ≤ bound + 2 ^ 112
 combined_at x f y g j bound p q s =
     let is = number_at-combine x f y g j in
     let turned = neg-times y (number_at g j) in

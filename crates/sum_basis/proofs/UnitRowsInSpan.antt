@@ -71,11 +71,13 @@ lone_row n form i f h p = record { row = hit.0; among = hit.1; at = at; lone = l
           let product = *ℤ_comm (pivot_entry hit.0) (pos 1) ∙ one-times (pivot_entry hit.0) in
           let minus = neg-times (pos 1) (pivot_entry hit.0) in
           let once = one-times (pivot_entry hit.0) in
-          ap (λ z. pivot_entry hit.0 *ℤ z +ℤ neg_ℤ (pos 1) *ℤ number_at hit.0 (pivot other)) one ∙ ap (λ z. pivot_entry hit.0 *ℤ pos 1 +ℤ neg_ℤ (pos 1) *ℤ z) entry ∙ omega (arith, ints)
+          ap (λ z. pivot_entry hit.0 *ℤ z +ℤ neg_ℤ (pos 1) *ℤ number_at hit.0 (pivot other)) one
+          ∙ ap (λ z. pivot_entry hit.0 *ℤ pos 1 +ℤ neg_ℤ (pos 1) *ℤ z) entry ∙ omega (arith, ints)
       | inr apart ↦
           let none = unit_elsewhere n i (pivot other) apart in
           let gone = zero_at_others form hit.0 other f.echelon hit.1 among (λ e. apart (sym e ∙ at)) in
-          ap (λ z. pivot_entry hit.0 *ℤ z +ℤ neg_ℤ (pos 1) *ℤ number_at hit.0 (pivot other)) none ∙ ap (λ z. pivot_entry hit.0 *ℤ pos 0 +ℤ neg_ℤ (pos 1) *ℤ z) gone
+          ap (λ z. pivot_entry hit.0 *ℤ z +ℤ neg_ℤ (pos 1) *ℤ number_at hit.0 (pivot other)) none
+          ∙ ap (λ z. pivot_entry hit.0 *ℤ pos 0 +ℤ neg_ℤ (pos 1) *ℤ z) gone
           ∙ ap (λ z. z +ℤ neg_ℤ (pos 1) *ℤ pos 0) (*ℤ-zero (pivot_entry hit.0)) ∙ ap (λ z. pos 0 +ℤ z) (*ℤ-zero (neg_ℤ (pos 1)))
     ]
 
@@ -99,10 +101,12 @@ none_yet form = record { none = tt }
 
 -- one row more has another entry too
 pub one_more_not : (form : List (List ℤ)) (k : ℕ) → k < length form → NoneLone form k → ¬ (IsLone (get_or form k [])) → NoneLone form (k + 1)
-one_more_not form k h so_far other = record { none = rw (take_more form k [] h) (all-push (λ row. ¬ (IsLone row)) (take k form) (get_or form k []) so_far.none other) }
+one_more_not form k h so_far other =
+    record { none = rw (take_more form k [] h) (all-push (λ row. ¬ (IsLone row)) (take k form) (get_or form k []) so_far.none other) }
 
 -- a row with a lone entry doesn't come before the first that was found
-not_before : (form : List (List ℤ)) (k : ℕ) (row : List ℤ) → k < length form → IsEchelon form → AllByRecursion (λ r. ¬ (IsLone r)) (take k form) → IsRowOf row form → IsLone row → pivot (get_or form k []) ≤ pivot row
+not_before : (form : List (List ℤ)) (k : ℕ) (row : List ℤ) → k < length form → IsEchelon form → AllByRecursion (λ r. ¬ (IsLone r)) (take k form) →
+    IsRowOf row form → IsLone row → pivot (get_or form k []) ≤ pivot row
 not_before [] k row h e none among lone = absurd among
 not_before (r ∷ form) zero row h e none (inl same) lone = let here = ap pivot same in omega arith
 not_before (r ∷ form) zero row h e none (inr among) lone = let later = (stands_before r form row e.0 among).0 in omega arith
@@ -110,7 +114,8 @@ not_before (r ∷ form) (suc k) row h e none (inl same) lone = absurd (none.0 (s
 not_before (r ∷ form) (suc k) row h e none (inr among) lone = not_before form k row (omega arith) e.1 none.1 among lone
 
 -- where no row has a lone entry none is found
-not_among : (form : List (List ℤ)) (k : ℕ) (row : List ℤ) → length form ≤ k → AllByRecursion (λ r. ¬ (IsLone r)) (take k form) → IsRowOf row form → IsLone row → ⊥
+not_among : (form : List (List ℤ)) (k : ℕ) (row : List ℤ) → length form ≤ k → AllByRecursion (λ r. ¬ (IsLone r)) (take k form) → IsRowOf row form → IsLone row →
+    ⊥
 not_among [] k row h none among lone = among
 not_among (r ∷ form) zero row h none among lone = omega arith
 not_among (r ∷ form) (suc k) row h none (inl same) lone = none.0 (subst IsLone (sym same) lone)
@@ -118,7 +123,9 @@ not_among (r ∷ form) (suc k) row h none (inr among) lone = not_among form k ro
 
 -- the row with a lone entry is a multiple of a unit row
 pub unit_in_span : (n : ℕ) (form : List (List ℤ)) (row : List ℤ) → IsPrimitive n row → InSpan form row → IsLone row → InSpan form (unit_row n (pivot row))
-unit_in_span n form row p h lone = in_span_from form (unit_row n (pivot row)) (spans_down form m.0 (number_at (unit_row n (pivot row))) m.2 (spans_same form (number_at row) (λ j. pos m.0 *ℤ number_at (unit_row n (pivot row)) j) same (spans_from form row h)))
+unit_in_span n form row p h lone =
+    in_span_from form (unit_row n (pivot row))
+    (spans_down form m.0 (number_at (unit_row n (pivot row))) m.2 (spans_same form (number_at row) (λ j. pos m.0 *ℤ number_at (unit_row n (pivot row)) j) same (spans_from form row h)))
   where
     m : (m : ℕ) × (pivot_entry row ≡ pos m) × (0 < m)
     m = positive_is (pivot_entry row) p.leading
@@ -138,7 +145,8 @@ pub record IsFirstUnit (form : Echelon) (i : ℕ) : Type 0 where
   pub least : (j : ℕ) → j < i → ¬ (InSpan form.rows (unit_row form.n j))
 
 -- the first row with a lone entry has the least unit row of the span
-pub first_unit : (form : Echelon) (k : ℕ) → IsSmallForm form.n form.rows → k < length form.rows → NoneLone form.rows k → IsLone (get_or form.rows k []) → IsFirstUnit form (pivot (get_or form.rows k []))
+pub first_unit : (form : Echelon) (k : ℕ) → IsSmallForm form.n form.rows → k < length form.rows → NoneLone form.rows k → IsLone (get_or form.rows k []) →
+    IsFirstUnit form (pivot (get_or form.rows k []))
 first_unit form k f h none lone =
     let row = get_or form.rows k [] in
     let primitive = All-from_recursion (IsPrimitive form.n) form.rows f.primitive k [] h in
@@ -155,5 +163,6 @@ first_unit form k f h none lone =
     }
 
 -- with no lone entry there is no unit row in the span
-pub no_unit : (form : Echelon) (k : ℕ) → IsSmallForm form.n form.rows → length form.rows ≤ k → NoneLone form.rows k → (i : ℕ) → i < form.n → ¬ (InSpan form.rows (unit_row form.n i))
+pub no_unit : (form : Echelon) (k : ℕ) → IsSmallForm form.n form.rows → length form.rows ≤ k → NoneLone form.rows k → (i : ℕ) → i < form.n →
+    ¬ (InSpan form.rows (unit_row form.n i))
 no_unit form k f h none i inside p = let other = lone_row form.n form.rows i f inside p in not_among form.rows k other.row h none.none other.among other.lone

@@ -30,7 +30,8 @@ no_pivot (r ∷ rows) j e = (
 )
 
 module _ (n : ℕ) (form : List (List ℤ)) (free : ℕ) (d : List ℤ) (common : ℤ) (below : free < n) (solved : IsSolvedWith n common form free d) where
-  by_pivot : (row : List ℤ) → IsZeroAtOthers form row → (j : ℕ) → j ≢ free → j ≢ pivot row → (b : Bool) → is_pivot form j ≡ b → number_at row j *ℤ number_at d j ≡ pos 0
+  by_pivot : (row : List ℤ) → IsZeroAtOthers form row → (j : ℕ) → j ≢ free → j ≢ pivot row → (b : Bool) → is_pivot form j ≡ b →
+      number_at row j *ℤ number_at d j ≡ pos 0
   by_pivot row zeros j other apart true there = ap (λ z. z *ℤ number_at d j) (zeros j there apart) ∙ zero-*ℤ (number_at d j)
   by_pivot row zeros j other apart false none = ap (λ z. number_at row j *ℤ z) (solved.elsewhere j none other) ∙ *ℤ-zero (number_at row j)
 
@@ -39,10 +40,12 @@ module _ (n : ℕ) (form : List (List ℤ)) (free : ℕ) (d : List ℤ) (common 
       let two = dot_two n (number_at row) d free (pivot row) below (pivot_below n row primitive) apart (λ j other own. by_pivot row zeros j other own (is_pivot form j) refl) in
       let first = ap (λ z. number_at row free *ℤ z) solved.at_free in
       let second = *ℤ_comm (pivot_entry row) (number_at d (pivot row)) ∙ solves in
-      two ∙ ap (λ z. z +ℤ pivot_entry row *ℤ number_at d (pivot row)) first ∙ ap (λ z. number_at row free *ℤ common +ℤ z) second ∙ +ℤ_invr (number_at row free *ℤ common)
+      two ∙ ap (λ z. z +ℤ pivot_entry row *ℤ number_at d (pivot row)) first ∙ ap (λ z. number_at row free *ℤ common +ℤ z) second
+      ∙ +ℤ_invr (number_at row free *ℤ common)
 
   -- the solved numbers are orthogonal to each row of the form
-  all_orthogonal : (rows : List (List ℤ)) → AllByRecursion (IsPrimitive n) rows → AllByRecursion (IsZeroAtOthers form) rows → AllByRecursion (Solves d common free) rows → AllByRecursion (λ r. free ≢ pivot r) rows → AllByRecursion (λ row. dot n (number_at row) d ≡ pos 0) rows
+  all_orthogonal : (rows : List (List ℤ)) → AllByRecursion (IsPrimitive n) rows → AllByRecursion (IsZeroAtOthers form) rows →
+      AllByRecursion (Solves d common free) rows → AllByRecursion (λ r. free ≢ pivot r) rows → AllByRecursion (λ row. dot n (number_at row) d ≡ pos 0) rows
   all_orthogonal [] p z s a = tt
   all_orthogonal (r ∷ rows) p z s a = (one_orthogonal r p.0 z.0 s.0 a.0, all_orthogonal rows p.1 z.1 s.1 a.1)
 
@@ -72,11 +75,14 @@ sum_over-multiple k d (r ∷ rows) =
     let whole = times-add k (number_at d r) (sum_over d rows) in
     omega (arith, ints)
 
-zero_sums_divided : (k : ℤ) (d : List ℤ) (sets : List (List ℕ)) → k ≢ pos 0 → AllByRecursion (λ s. sum_over (map (λ x. k *ℤ x) d) s ≡ pos 0) sets → AllByRecursion (λ s. sum_over d s ≡ pos 0) sets
+zero_sums_divided : (k : ℤ) (d : List ℤ) (sets : List (List ℕ)) → k ≢ pos 0 → AllByRecursion (λ s. sum_over (map (λ x. k *ℤ x) d) s ≡ pos 0) sets →
+    AllByRecursion (λ s. sum_over d s ≡ pos 0) sets
 zero_sums_divided k d [] h z = tt
 zero_sums_divided k d (s ∷ sets) h z = (zero_product k (sum_over d s) (sym (sum_over-multiple k d s) ∙ z.0) h, zero_sums_divided k d sets h z.1)
 
-module _ (directions : DirectionsByForm) (unique : FormsAreUnique) (n : ℕ) (sets : List (List ℕ)) (form : List (List ℤ)) (i free : ℕ) (are : AllByRecursion (AreRows n) sets) (reduced : Reduced n sets form) (below : i < n) (open_row : ¬ (IsPinned n sets i)) (is_column : free ≡ free_column_of form form i) where
+module _ (directions : DirectionsByForm) (unique : FormsAreUnique) (n : ℕ) (sets : List (List ℕ)) (form : List (List ℤ)) (i free : ℕ)
+    (are : AllByRecursion (AreRows n) sets) (reduced : Reduced n sets form) (below : i < n) (open_row : ¬ (IsPinned n sets i))
+    (is_column : free ≡ free_column_of form form i) where
   pub column : IsFreeColumn form form n i free
   column = subst (IsFreeColumn form form n i) (sym is_column) (free_column_found directions n sets form i are reduced below open_row)
 
@@ -90,12 +96,14 @@ module _ (directions : DirectionsByForm) (unique : FormsAreUnique) (n : ℕ) (se
     solved_direction : IsDirection n sets solved
     solved_direction = (directions n sets form solved are reduced).1 (record {
       one_each = is_solved.2.one_each;
-      zeros = all_orthogonal n form free solved is_solved.0 column.below is_solved.2 form reduced.primitive (zero_at_others form reduced.echelon) is_solved.2.solves (no_pivot form free column.free);
+      zeros =
+          all_orthogonal n form free solved is_solved.0 column.below is_solved.2 form reduced.primitive (zero_at_others form reduced.echelon) is_solved.2.solves (no_pivot form free column.free);
     })
 
     module _ (d : List ℤ) (divided : IsDivided solved i d) where
       factor_not_zero : divided.factor ≢ pos 0
-      factor_not_zero e = moves (ap (λ l. number_at l i) divided.is_multiple ∙ number_at-times divided.factor d i ∙ ap (λ z. z *ℤ number_at d i) e ∙ zero-*ℤ (number_at d i))
+      factor_not_zero e =
+          moves (ap (λ l. number_at l i) divided.is_multiple ∙ number_at-times divided.factor d i ∙ ap (λ z. z *ℤ number_at d i) e ∙ zero-*ℤ (number_at d i))
 
       pub divided_length : length d ≡ n
       divided_length = sym (length-map d (λ x. divided.factor *ℤ x)) ∙ ap length (sym divided.is_multiple) ∙ is_solved.2.one_each
@@ -107,7 +115,8 @@ module _ (directions : DirectionsByForm) (unique : FormsAreUnique) (n : ℕ) (se
       canonical_here = record {
         direction = record {
           one_each = divided_length;
-          zero_sums = zero_sums_divided divided.factor d sets factor_not_zero (subst (λ l. AllByRecursion (λ s. sum_over l s ≡ pos 0) sets) divided.is_multiple solved_direction.zero_sums);
+          zero_sums =
+              zero_sums_divided divided.factor d sets factor_not_zero (subst (λ l. AllByRecursion (λ s. sum_over l s ≡ pos 0) sets) divided.is_multiple solved_direction.zero_sums);
         };
         free = λ j none other. zero_product divided.factor (number_at d j)
             (sym (number_at-times divided.factor d j) ∙ ap (λ l. number_at l j) (sym divided.is_multiple) ∙ is_solved.2.elsewhere j none (λ e. other (e ∙ is_column))) factor_not_zero;

@@ -23,7 +23,8 @@ pub record IsPartlyTurned (old new : List ℤ) (i : ℕ) : Type 0 where
   pub done : (k : ℕ) → k < i → number_at new k ≡ neg_ℤ (number_at old k)
   pub left : (k : ℕ) → i ≤ k → number_at new k ≡ number_at old k
 
-pub one_turned : (old new : List ℤ) (v : ℤ) (i : ℕ) → i < length new → IsPartlyTurned old new i → v ≡ neg_ℤ (number_at new i) → IsPartlyTurned old (set new i v) (i + 1)
+pub one_turned : (old new : List ℤ) (v : ℤ) (i : ℕ) → i < length new → IsPartlyTurned old new i → v ≡ neg_ℤ (number_at new i) →
+    IsPartlyTurned old (set new i v) (i + 1)
 one_turned old new v i inside so_far is = record {
   done = λ k h. elim (cases_eq k i) [
     | inl e ↦ rw e (get_or-set_same new i v (pos 0) inside ∙ is ∙ ap neg_ℤ (so_far.left i (omega arith)))
@@ -82,7 +83,8 @@ module _ (old new : List ℤ) (row : ℕ) (moves : number_at old row ≢ pos 0) 
 
   -- where the number at the row isn't negative, it is positive
   pub divided_positive : pos 0 ≤ℤ number_at new row → IsDivided old row new
-  divided_positive h = record { factor = made.factor; is_multiple = made.is_multiple; content = content_one.0; positive = let some = still_moves in omega (arith, ints) }
+  divided_positive h =
+      record { factor = made.factor; is_multiple = made.is_multiple; content = content_one.0; positive = let some = still_moves in omega (arith, ints) }
 
   -- and where it is, the turned one is
   pub divided_turned : (turned : List ℤ) → number_at new row <ℤ pos 0 → turned ≡ map neg_ℤ new → IsDivided old row turned
@@ -95,7 +97,10 @@ module _ (old new : List ℤ) (row : ℕ) (moves : number_at old row ≢ pos 0) 
 
   -- the numbers that are to be turned are small
   pub made_small : IsSmall old → IsSmall new
-  made_small s = small_divided made.factor new (λ e. moves (ap (λ l. number_at l row) made.is_multiple ∙ number_at-times made.factor new row ∙ ap (λ z. z *ℤ number_at new row) e ∙ *ℤ_comm (pos 0) (number_at new row) ∙ *ℤ-zero (number_at new row))) (subst IsSmall made.is_multiple s)
+  made_small s =
+      small_divided made.factor new
+      (λ e. moves (ap (λ l. number_at l row) made.is_multiple ∙ number_at-times made.factor new row ∙ ap (λ z. z *ℤ number_at new row) e ∙ *ℤ_comm (pos 0) (number_at new row) ∙ *ℤ-zero (number_at new row)))
+      (subst IsSmall made.is_multiple s)
 
 -- small numbers are within what may be divided and turned
 pub within_126 : (d : List ℤ) → IsSmall d → AllByRecursion (λ x. unsigned_abs x ≤ 2 ^ 126) d

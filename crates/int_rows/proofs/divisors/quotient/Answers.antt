@@ -38,7 +38,8 @@ returns-then-is_short-2 c =
     let two = short_is c.args.of c.ranges.of (tested c.args.of c.is_short-then-is_short.result c.ranges.of c.if-is_short-2.true c.is_short-then-is_short.ensures.0) in
     let q : FitsSigned w64 c.short_quotient.result = search rules in
     let wide : FitsSigned w128 c.short_quotient.result = search rules in
-    sym one ∙ c.short_quotient.ensures ∙ ap (λ z. z *ℤ c.short_quotient.result) two ∙ ap (λ z. c.args.of *ℤ z) (sym (ap (λ z. to_z w128 (of_z w128 z)) (to_z-of_z w64 c.short_quotient.result q) ∙ to_z-of_z w128 c.short_quotient.result wide))
+    sym one ∙ c.short_quotient.ensures ∙ ap (λ z. z *ℤ c.short_quotient.result) two
+    ∙ ap (λ z. c.args.of *ℤ z) (sym (ap (λ z. to_z w128 (of_z w128 z)) (to_z-of_z w64 c.short_quotient.result q) ∙ to_z-of_z w128 c.short_quotient.result wide))
 
 pub returns-else-is_short : goal.returns-else-is_short
 returns-else-is_short c = divided c.args.multiple c.args.of c.requires.not_zero c.ranges.multiple c.ranges.of c.requires.size c.requires.divides

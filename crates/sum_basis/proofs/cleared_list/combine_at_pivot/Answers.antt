@@ -23,14 +23,17 @@ combine_into-requires-clause-by c =
     rw (to_z-of_z w128 (get_or c.args.new.now 0 none).value fits) (first_small c.args.columns c.args.new.now _ c.requires.new refl)
 
 pub combine_into-requires-clause-first : goal.combine_into-requires-clause-first
-combine_into-requires-clause-first c = rw c.deref.ensures.value (listed_from (c.args.row.now.pivot + 1) 0 c.args.columns c.args.row.now.free.items (omega arith) c.requires.kept.listed.3)
+combine_into-requires-clause-first c =
+    rw c.deref.ensures.value (listed_from (c.args.row.now.pivot + 1) 0 c.args.columns c.args.row.now.free.items (omega arith) c.requires.kept.listed.3)
 
 pub combine_into-requires-clause-first_small : goal.combine_into-requires-clause-first_small
 combine_into-requires-clause-first_small c =
-    subst (AllByRecursion (λ (e : FreeEntry). unsigned_abs e.value ≤ 2 ^ 56)) (sym c.deref.ensures.value) (small_values c.args.columns (entries_of c.args.row.now) c.requires.kept.listed c.requires.small).1
+    subst (AllByRecursion (λ (e : FreeEntry). unsigned_abs e.value ≤ 2 ^ 56)) (sym c.deref.ensures.value)
+    (small_values c.args.columns (entries_of c.args.row.now) c.requires.kept.listed c.requires.small).1
 
 pub combine_into-requires-clause-times : goal.combine_into-requires-clause-times
-combine_into-requires-clause-times c = rw (to_z-of_z w128 c.args.times c.ranges.times) (rw c.requires.times (entry_small c.args.columns c.args.row.now _ c.requires.kept c.requires.small))
+combine_into-requires-clause-times c =
+    rw (to_z-of_z w128 c.args.times c.ranges.times) (rw c.requires.times (entry_small c.args.columns c.args.row.now _ c.requires.kept c.requires.small))
 
 pub combine_into-requires-clause-second_small : goal.combine_into-requires-clause-second_small
 combine_into-requires-clause-second_small c = small_values c.args.columns c.args.new.now c.requires.new.listed c.requires.new.small
@@ -46,10 +49,12 @@ product-requires-clause-y c =
     rw (to_z-of_z w128 c.args.row.now.head fits) (head_small c.args.columns c.args.row.now c.requires.kept c.requires.small)
 
 -- the combination, of the numbers as they are
-combined_is : (row new out list : List FreeEntry) (by times : ℤ) → FitsSigned w128 by → FitsSigned w128 times → list ≡ row → ((j : ℕ) → entry_at out j ≡ to_z w128 (of_z w128 by) *ℤ entry_at list j -ℤ to_z w128 (of_z w128 times) *ℤ entry_at new j)
+combined_is : (row new out list : List FreeEntry) (by times : ℤ) → FitsSigned w128 by → FitsSigned w128 times → list ≡ row
+    → ((j : ℕ) → entry_at out j ≡ to_z w128 (of_z w128 by) *ℤ entry_at list j -ℤ to_z w128 (of_z w128 times) *ℤ entry_at new j)
     → (j : ℕ) → entry_at out j ≡ by *ℤ entry_at row j -ℤ times *ℤ entry_at new j
 combined_is row new out list by times p q e is j =
-    is j ∙ ap (λ z. z *ℤ entry_at list j -ℤ to_z w128 (of_z w128 times) *ℤ entry_at new j) (to_z-of_z w128 by p) ∙ ap (λ z. by *ℤ entry_at list j -ℤ z *ℤ entry_at new j) (to_z-of_z w128 times q)
+    is j ∙ ap (λ z. z *ℤ entry_at list j -ℤ to_z w128 (of_z w128 times) *ℤ entry_at new j) (to_z-of_z w128 by p)
+    ∙ ap (λ z. by *ℤ entry_at list j -ℤ z *ℤ entry_at new j) (to_z-of_z w128 times q)
     ∙ ap (λ l. by *ℤ entry_at l j -ℤ times *ℤ entry_at new j) e
 
 pub combine_into-requires-clause-times_some : goal.combine_into-requires-clause-times_some
@@ -58,13 +63,16 @@ combine_into-requires-clause-times_some c = rw (to_z-of_z w128 c.args.times c.ra
 pub returns-clause-combined : goal.returns-clause-combined
 returns-clause-combined c =
     let x : FitsSigned w128 (get_or c.args.new.now 0 (record { place = 0; value = pos 0 })).value = search rules in
-    combined_is c.args.row.now.free.items c.args.new.now c.combine_into.new.out.items c.deref.result.now (get_or c.args.new.now 0 none).value c.args.times x c.ranges.times c.deref.ensures.value c.combine_into.ensures.combined
+    combined_is c.args.row.now.free.items c.args.new.now c.combine_into.new.out.items c.deref.result.now
+    (get_or c.args.new.now 0 none).value c.args.times x c.ranges.times c.deref.ensures.value c.combine_into.ensures.combined
 
 pub returns-clause-sizes : goal.returns-clause-sizes
 returns-clause-sizes c =
     let x : FitsSigned w128 (get_or c.args.new.now 0 (record { place = 0; value = pos 0 })).value = search rules in
-    combined_small c.args.columns c.args.row.now c.args.new.now c.combine_into.new.out.items (get_or c.args.new.now 0 none).value c.args.times c.requires.kept c.requires.small c.requires.new
-    (first_small c.args.columns c.args.new.now _ c.requires.new refl) (rw c.requires.times (entry_small c.args.columns c.args.row.now _ c.requires.kept c.requires.small)) c.combine_into.ensures.listed
+    combined_small c.args.columns c.args.row.now c.args.new.now c.combine_into.new.out.items
+    (get_or c.args.new.now 0 none).value c.args.times c.requires.kept c.requires.small c.requires.new
+    (first_small c.args.columns c.args.new.now _ c.requires.new refl)
+    (rw c.requires.times (entry_small c.args.columns c.args.row.now _ c.requires.kept c.requires.small)) c.combine_into.ensures.listed
     (combined_is c.args.row.now.free.items c.args.new.now c.combine_into.new.out.items c.deref.result.now (get_or c.args.new.now 0 none).value c.args.times x c.ranges.times c.deref.ensures.value c.combine_into.ensures.combined)
 
 pub returns-clause-head : goal.returns-clause-head

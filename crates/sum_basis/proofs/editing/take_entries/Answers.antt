@@ -24,7 +24,8 @@ loop-e-init c = record {
 }
 
 -- the value of entry k
-value_small : (es : List FreeEntry) (k : ℕ) → k < length es → AllByRecursion (λ (e : FreeEntry). unsigned_abs e.value ≤ 2 ^ 56) es → unsigned_abs (get_or es k none).value ≤ 2 ^ 56
+value_small : (es : List FreeEntry) (k : ℕ) → k < length es → AllByRecursion (λ (e : FreeEntry). unsigned_abs e.value ≤ 2 ^ 56) es →
+    unsigned_abs (get_or es k none).value ≤ 2 ^ 56
 value_small es k l all = All-from_recursion (λ (e : FreeEntry). unsigned_abs e.value ≤ 2 ^ 56) es all k none l
 
 pub negative-number-requires : goal.negative-number-requires
@@ -35,9 +36,12 @@ negative-number-requires c =
     rw (product_of c.product.result c.args.times (get_or c.args.taken.now c.loop-e.e-index none).value p c.ranges.times value c.product.ensures.exact) (omega arith)
 
 -- the number that is added
-number_of : (n : ℕ) (es : List FreeEntry) (k : ℕ) (times product number x : ℤ) → k < length es → IsListed 0 n es → AllByRecursion (λ (e : FreeEntry). unsigned_abs e.value ≤ 2 ^ 56) es → unsigned_abs times ≤ 2 ^ 56 → times ≢ pos 0 → x ≡ number → number ≡ neg_ℤ product → product ≡ times *ℤ (get_or es k none).value
+number_of : (n : ℕ) (es : List FreeEntry) (k : ℕ) (times product number x : ℤ) → k < length es → IsListed 0 n es
+    → AllByRecursion (λ (e : FreeEntry). unsigned_abs e.value ≤ 2 ^ 56) es → unsigned_abs times ≤ 2 ^ 56 → times ≢ pos 0 → x ≡ number → number ≡ neg_ℤ product
+    → product ≡ times *ℤ (get_or es k none).value
     → IsTakenNumber times (get_or es k none).value x
-number_of n es k times product number x l h small t some e is product_is = taken_number times (get_or es k none).value x t (value_small es k l small) some (stands_within 0 n es k none h l).some (e ∙ is ∙ ap neg_ℤ product_is)
+number_of n es k times product number x l h small t some e is product_is =
+    taken_number times (get_or es k none).value x t (value_small es k l small) some (stands_within 0 n es k none h l).some (e ∙ is ∙ ap neg_ℤ product_is)
 
 pub add_at-after-requires-clause-inside : goal.add_at-after-requires-clause-inside
 add_at-after-requires-clause-inside c = (stands_within 0 c.args.columns c.args.taken.now c.loop-e.e-index none c.requires.taken c.loop-e-test.true).inside
@@ -81,8 +85,10 @@ loop-e-preserved c =
     let most = c.loop-e.invariant.most in
     record {
       listed = c.add_at-after.ensures.listed;
-      taken = one_more_entry_taken c.args.entries.now.items c.loop-e.entries.items c.add_at-after.new.entries.items _ c.args.taken.now c.loop-e.e-index none _ c.loop-e-test.true c.loop-e.invariant.taken (is.is ∙ ap (λ z. neg_ℤ (z *ℤ (get_or c.args.taken.now c.loop-e.e-index none).value)) (sym times)) c.add_at-after.ensures.added;
-      bounded = bounded_with c.loop-e.entries.items c.add_at-after.new.entries.items _ _ c.add_at-after.result c.loop-e.bound c.greater-bound.result c.loop-e.invariant.bounded c.add_at-after.ensures.added c.add_at-after.ensures.is one (omega arith);
+      taken =
+          one_more_entry_taken c.args.entries.now.items c.loop-e.entries.items c.add_at-after.new.entries.items _ c.args.taken.now c.loop-e.e-index none _ c.loop-e-test.true c.loop-e.invariant.taken (is.is ∙ ap (λ z. neg_ℤ (z *ℤ (get_or c.args.taken.now c.loop-e.e-index none).value)) (sym times)) c.add_at-after.ensures.added;
+      bounded =
+          bounded_with c.loop-e.entries.items c.add_at-after.new.entries.items _ _ c.add_at-after.result c.loop-e.bound c.greater-bound.result c.loop-e.invariant.bounded c.add_at-after.ensures.added c.add_at-after.ensures.is one (omega arith);
       most = omega arith;
       room = c.add_at-after.ensures.room;
     }

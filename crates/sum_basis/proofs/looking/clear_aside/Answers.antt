@@ -16,7 +16,8 @@ use Rattle.sum_basis.proofs.looking.clear_aside.Goals as goal
 pub value_at-times-requires : goal.value_at-times-requires
 value_at-times-requires c =
     let fits = c.ranges.columns.fits in
-    rw c.deref.ensures.value (listed_to 0 c.args.columns 65536 c.args.row.now.free.items (omega arith) (listed_from (c.args.row.now.pivot + 1) 0 c.args.columns c.args.row.now.free.items (omega arith) c.requires.kept.listed.3))
+    rw c.deref.ensures.value
+    (listed_to 0 c.args.columns 65536 c.args.row.now.free.items (omega arith) (listed_from (c.args.row.now.pivot + 1) 0 c.args.columns c.args.row.now.free.items (omega arith) c.requires.kept.listed.3))
 
 pub returns-then-times-eq0-clause-cleared : goal.returns-then-times-eq0-clause-cleared
 returns-then-times-eq0-clause-cleared c =

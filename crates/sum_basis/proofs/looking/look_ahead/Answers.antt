@@ -13,13 +13,15 @@ use Rattle.sum_basis.proofs.LeastMultiples.{positive_size}
 pub product-requires-clause-x : goal.product-requires-clause-x
 product-requires-clause-x c =
     let fits : FitsSigned w128 (get_or c.args.new.now 0 (record { place = 0; value = pos 0 })).value = search rules in
-    rw (to_z-of_z w128 (get_or c.args.new.now 0 none).value fits) ((is_led c.args.columns c.args.new.now c.requires.new.some c.requires.new.listed).small c.requires.new.small)
+    rw (to_z-of_z w128 (get_or c.args.new.now 0 none).value fits)
+    ((is_led c.args.columns c.args.new.now c.requires.new.some c.requires.new.listed).small c.requires.new.small)
 
 pub product-requires-clause-y : goal.product-requires-clause-y
 product-requires-clause-y c = rw (to_z-of_z w128 c.args.common c.ranges.common) c.requires.within
 
 -- a product of positive numbers within the limit
-within_limit : (n : ℕ) (new : List FreeEntry) (by common x y p : ℤ) → IsNew n new → by ≡ (get_or new 0 none).value → x ≡ by → y ≡ common → pos 0 <ℤ common → p ≡ x *ℤ y → p ≤ℤ pos (2 ^ 56) → unsigned_abs (get_or new 0 none).value * unsigned_abs common ≤ 2 ^ 56
+within_limit : (n : ℕ) (new : List FreeEntry) (by common x y p : ℤ) → IsNew n new → by ≡ (get_or new 0 none).value → x ≡ by → y ≡ common → pos 0 <ℤ common →
+    p ≡ x *ℤ y → p ≤ℤ pos (2 ^ 56) → unsigned_abs (get_or new 0 none).value * unsigned_abs common ≤ 2 ^ 56
 within_limit n new by common x y p is_new e f g positive is most =
     let led = is_led n new is_new.some is_new.listed in
     let leads : pos 0 <ℤ (get_or new 0 none).value = subst (λ z. pos 0 <ℤ z) led.pivot_entry_is is_new.primitive.leading in

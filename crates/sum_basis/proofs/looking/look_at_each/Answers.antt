@@ -21,11 +21,13 @@ use Rattle.sum_basis.proofs.looking.look_at_each.Goals as goal
 use Rattle.sum_basis.proofs.LeastMultiples.{positive_size}
 
 -- at the start
-start : (n : ℕ) (rows : List SparseRow) (new : List FreeEntry) (common : ℤ) → IsNew n new → common ≡ (get_or new 0 none).value → IsLooked n (rows_of n rows) (row_of n new) 0 common (nat_eq (length new) 1)
+start : (n : ℕ) (rows : List SparseRow) (new : List FreeEntry) (common : ℤ) → IsNew n new → common ≡ (get_or new 0 none).value →
+    IsLooked n (rows_of n rows) (row_of n new) 0 common (nat_eq (length new) 1)
 start n rows new common is_new e =
     let led = is_led n new is_new.some is_new.listed in
     let lone = lone_new n new is_new in
-    nothing_looked n (rows_of n rows) (row_of n new) common (nat_eq (length new) 1) is_new.primitive (rw e (led.small is_new.small)) (e ∙ sym led.pivot_entry_is)
+    nothing_looked n (rows_of n rows) (row_of n new) common (nat_eq (length new) 1) is_new.primitive (rw e (led.small is_new.small))
+    (e ∙ sym led.pivot_entry_is)
     (λ t. lone.0 (eqb-true (length new) 1 t), λ is. eq-eqb (length new) 1 (lone.1 is))
 
 pub loop-row-init : goal.loop-row-init
@@ -34,10 +36,13 @@ loop-row-init c =
     record { looked = start c.args.columns c.args.rows.now c.args.new.now _ c.requires.new (to_z-of_z w128 (get_or c.args.new.now 0 none).value fits); room = c.requires.room }
 
 pub clear_aside-requires-clause-primitive : goal.clear_aside-requires-clause-primitive
-clear_aside-requires-clause-primitive c = of_whole_row (IsPrimitive c.args.columns) c.args.columns c.args.rows.now c.loop-row.row-index c.row-item.result c.loop-row-test.true c.row-item.is c.requires.form.primitive
+clear_aside-requires-clause-primitive c =
+    of_whole_row
+    (IsPrimitive c.args.columns) c.args.columns c.args.rows.now c.loop-row.row-index c.row-item.result c.loop-row-test.true c.row-item.is c.requires.form.primitive
 
 pub clear_aside-requires-clause-small : goal.clear_aside-requires-clause-small
-clear_aside-requires-clause-small c = of_whole_row IsSmall c.args.columns c.args.rows.now c.loop-row.row-index c.row-item.result c.loop-row-test.true c.row-item.is c.requires.form.entries
+clear_aside-requires-clause-small c =
+    of_whole_row IsSmall c.args.columns c.args.rows.now c.loop-row.row-index c.row-item.result c.loop-row-test.true c.row-item.is c.requires.form.entries
 
 pub clear_aside-requires-clause-zero : goal.clear_aside-requires-clause-zero
 clear_aside-requires-clause-zero c =
@@ -51,7 +56,8 @@ returns-in_default-clause-foresees c =
     let rows = c.args.rows.now in
     let form : Echelon = record { n = n; rows = rows_of n rows } in
     let all = rw c.in_default.is at c.clear_aside.ensures.cleared in
-    looked_large form (row_of n c.args.new.now) c.requires.form c.requires.new.primitive c.requires.zero c.loop-row.row-index (to_z w128 c.loop-row.common-bits) c.loop-row.fixing all.0 (row_within n rows c.loop-row.row-index c.loop-row-test.true) c.loop-row.invariant.looked
+    looked_large form (row_of n c.args.new.now) c.requires.form c.requires.new.primitive c.requires.zero c.loop-row.row-index
+    (to_z w128 c.loop-row.common-bits) c.loop-row.fixing all.0 (row_within n rows c.loop-row.row-index c.loop-row-test.true) c.loop-row.invariant.looked
     (cleared_at n (row_of n c.args.new.now) rows c.loop-row.row-index c.row-item.result all.0 c.loop-row-test.true c.row-item.is all.1) all.2
 
 -- a positive pivot entry of a small row
@@ -69,8 +75,11 @@ lcm_within-requires-clause-b c =
     rw (to_z-of_z w128 c.in-Some.cleared.head head) (head_within c.args.columns c.in-Some.cleared.head all.0 all.1.primitive all.2.0 all.2.1)
 
 -- the multiple of the two numbers as they are
-multiple_of : (common head : ℤ) (made : List ℤ) (m : ℕ) → FitsSigned w128 head → head ≡ pivot_entry made → IsLeastCommonMultiple (unsigned_abs common ∷ unsigned_abs (to_z w128 (of_z w128 head)) ∷ []) m → IsLeastCommonMultiple (unsigned_abs common ∷ unsigned_abs (pivot_entry made) ∷ []) m
-multiple_of common head made m fits e least = subst (λ (z : ℤ). IsLeastCommonMultiple (unsigned_abs common ∷ unsigned_abs z ∷ []) m) (to_z-of_z w128 head fits ∙ e) least
+multiple_of : (common head : ℤ) (made : List ℤ) (m : ℕ) → FitsSigned w128 head → head ≡ pivot_entry made →
+    IsLeastCommonMultiple (unsigned_abs common ∷ unsigned_abs (to_z w128 (of_z w128 head)) ∷ []) m →
+    IsLeastCommonMultiple (unsigned_abs common ∷ unsigned_abs (pivot_entry made) ∷ []) m
+multiple_of common head made m fits e least =
+    subst (λ (z : ℤ). IsLeastCommonMultiple (unsigned_abs common ∷ unsigned_abs z ∷ []) m) (to_z-of_z w128 head fits ∙ e) least
 
 pub returns-in_default-lcm_within-clause-foresees : goal.returns-in_default-lcm_within-clause-foresees
 returns-in_default-lcm_within-clause-foresees c =
@@ -80,7 +89,8 @@ returns-in_default-lcm_within-clause-foresees c =
     let head : FitsSigned w128 c.in-Some.cleared.head = search rules in
     let all = rw c.in-Some.is at c.clear_aside.ensures.cleared in
     let least = rw c.in_default-lcm_within.is at c.lcm_within.ensures in
-    looked_multiple form (row_of n c.args.new.now) c.requires.form c.requires.new.primitive c.requires.zero c.loop-row.row-index (to_z w128 c.loop-row.common-bits) c.loop-row.fixing all.0 least.0 (row_within n rows c.loop-row.row-index c.loop-row-test.true) c.loop-row.invariant.looked
+    looked_multiple form (row_of n c.args.new.now) c.requires.form c.requires.new.primitive c.requires.zero c.loop-row.row-index
+    (to_z w128 c.loop-row.common-bits) c.loop-row.fixing all.0 least.0 (row_within n rows c.loop-row.row-index c.loop-row-test.true) c.loop-row.invariant.looked
     (cleared_at n (row_of n c.args.new.now) rows c.loop-row.row-index c.row-item.result all.0 c.loop-row-test.true c.row-item.is all.1)
     (multiple_of (to_z w128 c.loop-row.common-bits) c.in-Some.cleared.head all.0 least.0 head all.2.1 least.1) (let more = least.2 in omega (arith, ints))
 
@@ -93,9 +103,14 @@ loop-row-preserved c =
     let all = rw c.in-Some.is at c.clear_aside.ensures.cleared in
     let least = rw c.in-Some-lcm_within.is at c.lcm_within.ensures in
     record {
-      looked = one_more_looked n (rows_of n rows) (row_of n c.args.new.now) c.loop-row.row-index (to_z w128 c.loop-row.common-bits) c.loop-row.fixing all.0 least.0 _ c.in-Some.cleared.lone c.either-fixing.result (row_within n rows c.loop-row.row-index c.loop-row-test.true) c.loop-row.invariant.looked
-          all.1.primitive (cleared_at n (row_of n c.args.new.now) rows c.loop-row.row-index c.row-item.result all.0 c.loop-row-test.true c.row-item.is all.1) all.2.0
-          (multiple_of (to_z w128 c.loop-row.common-bits) c.in-Some.cleared.head all.0 least.0 head all.2.1 least.1) (to_z-of_z w128 c.in-Some-lcm_within.multiple multiple ∙ least.2.0) (let small = least.2.1 in omega (arith, ints))
+      looked =
+          one_more_looked n (rows_of n rows) (row_of n c.args.new.now) c.loop-row.row-index
+          (to_z w128 c.loop-row.common-bits) c.loop-row.fixing all.0 least.0 _ c.in-Some.cleared.lone c.either-fixing.result
+          (row_within n rows c.loop-row.row-index c.loop-row-test.true) c.loop-row.invariant.looked
+          all.1.primitive
+          (cleared_at n (row_of n c.args.new.now) rows c.loop-row.row-index c.row-item.result all.0 c.loop-row-test.true c.row-item.is all.1) all.2.0
+          (multiple_of (to_z w128 c.loop-row.common-bits) c.in-Some.cleared.head all.0 least.0 head all.2.1 least.1)
+          (to_z-of_z w128 c.in-Some-lcm_within.multiple multiple ∙ least.2.0) (let small = least.2.1 in omega (arith, ints))
           all.2.2 c.either-fixing.ensures;
       room = c.clear_aside.ensures.room;
     }

@@ -38,14 +38,16 @@ reduce-requires-clause-few c =
 pub reduce-requires-clause-small : goal.reduce-requires-clause-small
 reduce-requires-clause-small c =
     let fits : FitsSigned w128 c.self.inside.common = search rules in
-    subst IsSmall (sym (is_multiple c.scale.new.row c.args.row.now c.self.inside.common fits c.scale.ensures)) (multiple_small c.args.row.now c.self.inside.common c.requires.bits c.self.invariant.small)
+    subst IsSmall (sym (is_multiple c.scale.new.row c.args.row.now c.self.inside.common fits c.scale.ensures))
+    (multiple_small c.args.row.now c.self.inside.common c.requires.bits c.self.invariant.small)
 
 pub reduce-requires-clause-divides : goal.reduce-requires-clause-divides
 reduce-requires-clause-divides c =
     let fits : FitsSigned w128 c.self.inside.common = search rules in
     let is = is_multiple c.scale.new.row c.args.row.now c.self.inside.common fits c.scale.ensures in
     let n = long c.scale.new.row c.args.row.now c.self.inside.common c.self.inside.columns is (c.requires.length ∙ sym (ap (λ (e : Echelon). e.n) c.self.view_is)) in
-    rw (n, c.deref.ensures.value) (subst (λ (row : List ℤ). AllByRecursion (λ r. unsigned_abs (pivot_entry r) ∣ unsigned_abs (number_at row (pivot r))) (rows_of c.self.inside.columns c.self.inside.rows.items)) (sym is)
+    rw (n, c.deref.ensures.value)
+    (subst (λ (row : List ℤ). AllByRecursion (λ r. unsigned_abs (pivot_entry r) ∣ unsigned_abs (number_at row (pivot r))) (rows_of c.self.inside.columns c.self.inside.rows.items)) (sym is)
     (entries_divide (rows_of c.self.inside.columns c.self.inside.rows.items) c.args.row.now c.self.inside.common c.self.invariant.multiple.multiple))
 
 pub returns-clause-remainder : goal.returns-clause-remainder
@@ -66,4 +68,5 @@ returns-clause-form c = subst (λ (e : Echelon). IsSmallForm e.n e.rows) c.self.
 
 pub returns-clause-narrow : goal.returns-clause-narrow
 returns-clause-narrow c =
-    subst (λ (e : Echelon). IsNarrow e.rows) c.self.view_is (is_narrow c.self.inside.columns (unsigned_abs c.self.inside.common) (rows_of c.self.inside.columns c.self.inside.rows.items) c.self.invariant.form c.self.invariant.multiple c.self.invariant.small)
+    subst (λ (e : Echelon). IsNarrow e.rows) c.self.view_is
+    (is_narrow c.self.inside.columns (unsigned_abs c.self.inside.common) (rows_of c.self.inside.columns c.self.inside.rows.items) c.self.invariant.form c.self.invariant.multiple c.self.invariant.small)

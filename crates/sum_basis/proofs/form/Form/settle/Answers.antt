@@ -29,7 +29,8 @@ none_listed (x ∷ list) row e is j = absurd (omega arith)
 
 pub returns-then-is_empty-clause-left : goal.returns-then-is_empty-clause-left
 returns-then-is_empty-clause-left c =
-    nothing_new c.args.self.now c.args.row.now c.remainder.new.row c.remainder.ensures.form c.remainder.ensures.remainder (none_listed c.in_ok-list.list.items c.remainder.new.row (empty c.in_ok-list.list.len c.in_ok-list.list.items c.is_empty.result c.in_ok-list.list.ok.0 c.is_empty.ensures c.if-is_empty.true) c.in_ok-list.ensures.is)
+    nothing_new c.args.self.now c.args.row.now c.remainder.new.row c.remainder.ensures.form c.remainder.ensures.remainder
+    (none_listed c.in_ok-list.list.items c.remainder.new.row (empty c.in_ok-list.list.len c.in_ok-list.list.items c.is_empty.result c.in_ok-list.list.ok.0 c.is_empty.ensures c.if-is_empty.true) c.in_ok-list.ensures.is)
 
 first_some : (n : ℕ) (list : List FreeEntry) → IsListed 0 n list → 0 < length list → (get_or list 0 none).value ≢ pos 0
 first_some n [] h some = absurd (omega arith)
@@ -42,7 +43,9 @@ make_primitive-requires-clause-some c =
     omega arith
 
 pub make_primitive-requires-clause-first : goal.make_primitive-requires-clause-first
-make_primitive-requires-clause-first c = first_some (length c.remainder.new.row) c.in_ok-list.list.items c.in_ok-list.ensures.listed (not_empty c.in_ok-list.list.len c.in_ok-list.list.items c.is_empty.result c.in_ok-list.list.ok.0 c.is_empty.ensures c.if-is_empty.false)
+make_primitive-requires-clause-first c =
+    first_some (length c.remainder.new.row) c.in_ok-list.list.items c.in_ok-list.ensures.listed
+    (not_empty c.in_ok-list.list.len c.in_ok-list.list.items c.is_empty.result c.in_ok-list.list.ok.0 c.is_empty.ensures c.if-is_empty.false)
 
 pub make_primitive-requires-clause-size : goal.make_primitive-requires-clause-size
 make_primitive-requires-clause-size c =
