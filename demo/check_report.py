@@ -2,88 +2,145 @@
 """Checks the report of `auditor audit` with whole numbers alone, knowing nothing of the program.
 
 Run it in the folder of schema.json, table.csv and answers.journal:  auditor audit | python3 check_report.py
-It reads the journal by docs/FORMATS.md. For each row of a column of sums it adds up the printed change over the set of each
+It reads the journal by FORMATS.md. For each row of a column of sums it adds up the printed change over the set of each
 record: every total has to be 0, and the change has to move the row. For a column of maxima the printed list, and the
 list with any one row less by 1, have to give each record's answer. It says how many records and lines were checked, or which
-line is wrong, and ends with 0 or 1.
+file or line is wrong and why, and ends with 0 or 1.
 """
 
 import csv
 import json
 import sys
 
+KINDS = {"sum": 1, "max": 2}
+
+
+class Wrong(Exception):
+    """Why a file or a line isn't as it has to be."""
+
+
+def need(holds, why):
+    if not holds:
+        raise Wrong(why)
+
 
 def secret_columns():
     """The names and kinds of the secret columns, in order."""
-    with open("schema.json", encoding="utf-8") as file:
-        columns = json.load(file)["columns"]
-    return [(column["name"], column["is"]) for column in columns if column["is"] in ("sum", "max")]
+    try:
+        with open("schema.json", encoding="utf-8") as file:
+            columns = json.load(file)["columns"]
+        return [(column["name"], column["is"]) for column in columns if column["is"] in KINDS]
+    except (LookupError, TypeError, ValueError):
+        raise Wrong("no schema") from None
 
 
 def number_of_rows():
-    with open("table.csv", encoding="utf-8-sig", newline="") as file:
-        return sum(1 for record in csv.reader(file) if record) - 1
+    try:
+        with open("table.csv", encoding="utf-8-sig", newline="") as file:
+            rows = sum(1 for record in csv.reader(file) if record) - 1
+    except (csv.Error, ValueError):
+        raise Wrong("no table") from None
+    need(1 <= rows <= 1024, "no table of 1 to 1,024 rows")
+    return rows
 
 
-def records(rows):
+def records(columns, rows):
     """The records of the journal, in order: column, answer, and the rows of the set."""
     with open("answers.journal", "rb") as file:
         data = file.read()
-    assert data[:8] == b"\x01SQAJRNL" and data[8] == 1, "no journal"
-    assert int.from_bytes(data[9:11], "big") == rows, "the journal is of another table"
+    kinds = bytes(KINDS[kind] for _, kind in columns)
+    need(data[:9] == b"\x01SQAJRNL\x01", "no journal")
+    shape = rows.to_bytes(2, "big") + bytes([len(kinds)]) + kinds.ljust(8, b"\0")
+    need(data[9:20] == shape, "the journal is of another table")
     at, size = 20, 9 + (rows + 7) // 8
-    while data[at] == 1:
+    while data[at : at + 1] == b"\x01":
+        need(1 <= int.from_bytes(data[at + 1 : at + 2], "big") <= 64, f"no group of records at byte {at}")
         count, at = data[at + 1], at + 2
         for _ in range(count):
             record = data[at : at + size]
+            need(len(record) == size, f"the file ends within the record at byte {at}")
             bits = int.from_bytes(record[9:], "little")
             chosen = [row for row in range(rows) if bits >> row & 1]
+            need(record[0] < len(columns) and chosen and not bits >> rows, f"no record at byte {at}")
             yield record[0], int.from_bytes(record[1:9], "big", signed=True), chosen
             at += size
+    need(at < len(data), f"the file ends at byte {at}, where a gate has to be")
+
+
+def report():
+    """The lines of the report, each an object."""
+    for text in sys.stdin.buffer:
+        try:
+            line = json.loads(text)
+        except (ValueError, RecursionError):
+            raise Wrong("no JSON") from None
+        need(isinstance(line, dict), "no object of JSON")
+        yield line
+
+
+def are_whole(numbers):
+    """A fraction could be rounded until a total is 0, so none is taken."""
+    return isinstance(numbers, list) and all(type(number) is int for number in numbers)
 
 
 def check_direction(line, row, rows, sets):
+    need(line.get("row") == row, f"not the line of row {row}")
+    entries = line.get("direction")
+    need(isinstance(entries, list), "no direction")
     change = [0] * rows
-    for place, number in line["direction"]:
+    for entry in entries:
+        need(are_whole(entry) and len(entry) == 2 and 0 <= entry[0] < rows, f"{entry} is no row and its number")
+        place, number = entry
         change[place] = number
-    assert line["row"] == row, "the line is of another row"
-    assert change[row] > 0, "the change doesn't move its row"
+    need(change[row] > 0, "the change doesn't move its row")
     for chosen in sets:
-        assert sum(change[place] for place in chosen) == 0, "the change alters an answer"
+        need(sum(change[place] for place in chosen) == 0, "the change alters an answer")
 
 
 def check_highest(line, rows, answers):
-    high = line["high"]
-    assert len(high) == rows, "the list has another number of rows"
+    high = line.get("high")
+    need(are_whole(high) and len(high) == rows, "no list with a whole number for each row")
     for chosen, answer in answers:
         greatest = max(high[place] for place in chosen)
-        assert greatest == answer, "the list gives another answer"
+        need(greatest == answer, "the list gives another answer")
         # One row less by 1 keeps the answer as long as another row of the set has it too.
-        assert sum(high[place] == answer for place in chosen) > 1, "an answer rests on one row"
+        need(sum(high[place] == answer for place in chosen) > 1, "an answer rests on one row")
+
+
+def check_line(line, column, row, rows, answers):
+    need(line is not None, "the report ends too early")
+    name, kind = column
+    need(line.get("column") == name, f"not a line of column {name}")
+    if kind == "sum":
+        check_direction(line, row, rows, [chosen for chosen, _ in answers])
+    else:
+        check_highest(line, rows, answers)
 
 
 def main():
-    columns, rows = secret_columns(), number_of_rows()
-    history = list(records(rows))
-    lines = (json.loads(line) for line in sys.stdin)
+    where = "schema.json"
     number = 0
     try:
-        for place, (name, kind) in enumerate(columns):
-            answers = [(chosen, answer) for column, answer, chosen in history if column == place]
-            for row in range(rows if kind == "sum" else 1):
+        columns = secret_columns()
+        where = "table.csv"
+        rows = number_of_rows()
+        where = "answers.journal"
+        history = list(records(columns, rows))
+        lines = report()
+        for place, column in enumerate(columns):
+            answers = [(chosen, answer) for of, answer, chosen in history if of == place]
+            for row in range(rows if column[1] == "sum" else 1):
                 number += 1
-                line = next(lines)
-                assert line["column"] == name, "the line is of another column"
-                if kind == "sum":
-                    check_direction(line, row, rows, [chosen for chosen, _ in answers])
-                else:
-                    check_highest(line, rows, answers)
+                where = f"line {number}"
+                check_line(next(lines, None), column, row, rows, answers)
         number += 1
+        where = f"line {number}"
         totals = {"audited": len(history), "columns": len(columns), "rows": rows}
-        assert next(lines) == totals, "the totals are wrong"
-        assert next(lines, None) is None, "there are more lines"
-    except (AssertionError, StopIteration, KeyError) as wrong:
-        print(f"line {number}: {str(wrong) or 'the report ends too early'}")
+        need(next(lines, None) == totals, f"the last line has to be {json.dumps(totals)}")
+        where = f"line {number + 1}"
+        need(next(lines, None) is None, "there are more lines than the totals")
+    except (Wrong, OSError) as wrong:
+        print(f"{where}: {wrong.strerror if isinstance(wrong, OSError) else wrong}")
         return 1
     print(f"checked {len(history)} records, {number} lines: each secret is free")
     return 0

@@ -1,5 +1,5 @@
 #!/usr/bin/env python3
-"""Works out the summary of a drill by docs/FORMATS.md and the decision of docs/DEFINITIONS.md, without the auditor.
+"""Works out the summary of a drill by FORMATS.md and the rule that denies, without the auditor.
 
     drill.py [NUMBER ..]
 

@@ -1,6 +1,7 @@
 #!/bin/sh
-# Brings the built program to ends that files, terminals and pipes give it, and prints for each what it ended with and what it
-# said. Ends with 0 where each is the one that docs/OPERATIONS.md tells. Build the program first: demo/run.sh does.
+# Brings the program to ends that files, terminals and pipes give it, and prints for each what it ended with and what it
+# said. Ends with 0 where each is the one that OPERATIONS.md tells. Where none is given it is the one that run.sh built in the
+# source.
 #
 #   demo/edges.sh [PROGRAM]
 #
@@ -8,8 +9,8 @@
 set -u
 demo=$(cd "$(dirname "$0")" && pwd)
 built=${1:-$demo/../crates/auditor/out/auditor}
-if [ ! -x "$built" ]; then
-    echo "edges: build the program first, as demo/run.sh does" >&2
+if [ ! -f "$built" ] || [ ! -x "$built" ]; then
+    echo "edges: ${1:+there is no program $1; }give the program: edges.sh PROGRAM; in a package it is bin/auditor, in the source run.sh builds it" >&2
     exit 1
 fi
 
@@ -54,6 +55,17 @@ tell_unwritten 'standard input is closed' 0 $?
 fresh
 "$program" serve <&- >&- 2>&-
 tell_unwritten 'all three are closed' 0 $?
+
+# No text may go into the journal, which may then be opened under the number of a closed stream.
+fresh
+"$program" init <&- >&- 2>&-
+tell_unwritten 'all three are closed, at init over a journal' 8 $?
+
+fresh
+printf X | dd of=answers.journal bs=1 seek=3 conv=notrunc 2>/dev/null
+cp answers.journal made.journal
+"$program" serve <&- >&- 2>&-
+tell_unwritten 'all three are closed, the journal is damaged' 9 $?
 
 fresh
 "$program" serve <questions.jsonl >/dev/full 2>said

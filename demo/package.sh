@@ -13,6 +13,11 @@ if [ ! -x "$program" ]; then
     exit 1
 fi
 
+if ! command -v readelf >/dev/null; then
+    echo "package: readelf is missing, which binutils has" >&2
+    exit 1
+fi
+
 # Whoever gets it has a C library, and nothing else that it could stand on.
 needed=$(readelf -d "$program" | sed -n 's/.*(NEEDED).*\[\(.*\)\]/\1/p')
 if [ "$needed" != libc.so.6 ]; then
@@ -27,9 +32,11 @@ mkdir -p "$name/bin" "$name/share/man/man1" "$name/share/doc/auditor/demo" || ex
 cp "$program" "$name/bin/auditor" || exit 1
 cp "$top/docs/auditor.1" "$name/share/man/man1/" || exit 1
 cp "$top/docs/FORMATS.md" "$top/docs/OPERATIONS.md" "$name/share/doc/auditor/" || exit 1
-for file in run.sh edges.sh check_report.py schema.json table.csv public.csv questions.jsonl replies.jsonl; do
+for file in run.sh edges.sh check_report.py drill.py schema.json table.csv public.csv questions.jsonl replies.jsonl; do
     cp "$demo/$file" "$name/share/doc/auditor/demo/" || exit 1
 done
+# The modes are those that an install needs, whatever the umask is, here and where the source was fetched.
+chmod -R u=rwX,go=rX "$name" || exit 1
 tar --owner=0 --group=0 -czf "$name.tar.gz" "$name" || exit 1
 
 fresh=$(mktemp -d) || exit 1

@@ -1,20 +1,24 @@
 #!/bin/sh
 # Makes a journal beside copies of the demo's files in a fresh folder, asks the demo's questions, compares the replies with
 # those due, and has the report checked where there is a python3. Then, in a folder with the public columns alone, computes the decisions
-# of the transcript again: it agrees, and with one reply changed it doesn't. The exit status tells. The program is built first where
-# none is given.
+# of the transcript again: it agrees, and with one reply changed it doesn't. The exit status tells. Where none is given the program is
+# built first, which takes the source and the kit; in a package it is bin/auditor.
 #
 #   demo/run.sh [PROGRAM]
 set -u
 demo=$(cd "$(dirname "$0")" && pwd)
 if [ $# -gt 0 ]; then
+    if [ ! -f "$1" ] || [ ! -x "$1" ]; then
+        echo "demo: there is no program $1" >&2
+        exit 1
+    fi
     program=$(cd "$(dirname "$1")" && pwd)/$(basename "$1")
 elif [ -f "$demo/build.sh" ]; then
     top=$(dirname "$demo")
     . "$demo/build.sh"
     build || exit 1
 else
-    echo "demo: give the program" >&2
+    echo "demo: give the program: run.sh PROGRAM; in a package it is bin/auditor" >&2
     exit 1
 fi
 
@@ -32,7 +36,7 @@ if command -v python3 >/dev/null; then
 fi
 
 # Blank lines have no reply.
-grep . questions.jsonl | paste -d '\n' - replies.jsonl >transcript.jsonl
+LC_ALL=C grep -av "^$(printf '\r')\{0,1\}$" questions.jsonl | paste -d '\n' - replies.jsonl >transcript.jsonl
 mkdir outside && cp schema.json outside && cp "$demo/public.csv" outside/table.csv && cd outside || exit 1
 "$program" simulate <../transcript.jsonl >verdicts.jsonl || { echo "demo: auditor simulate ended with status $?" >&2; exit 1; }
 echo "the transcript agrees: $(wc -l <verdicts.jsonl) decisions" >&2

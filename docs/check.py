@@ -14,6 +14,7 @@ import promise_size
 TOP = Path(__file__).resolve().parent.parent
 PAGES = [TOP / "README.md", *sorted(TOP.glob("docs/*.md")), *sorted(TOP.glob("crates/*/README.md")), TOP / "bench/README.md"]
 HISTORY = {"DECISIONS.md", "CHANGELOG.md"}  # they tell of what was, too
+BUILT = {"crates/auditor/out/auditor"}  # by demo/run.sh
 
 
 def read(pattern):
@@ -37,7 +38,7 @@ def missing_links(page, text):
 
 def missing_paths(page, text):
     for path in re.findall(r"(?<![\w./])((?:crates|docs|demo|bench)/[\w./-]*\w)", text):
-        if not (TOP / path).exists():
+        if path not in BUILT and not (TOP / path).exists():
             yield f"path {path}"
 
 

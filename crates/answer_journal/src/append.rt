@@ -1,5 +1,5 @@
 //! The four calls of an append, over bytes alone.
-ghost use Rattle.std.specs.Prelude.{◌≡◌, ◌<◌, ◌+◌, ◌^◌, length, OnOk};
+ghost use Rattle.std.specs.Prelude.{◌≡◌, ◌<◌, ◌+◌, ◌^◌, length, OnOk, true, OnErr};
 ghost use Rattle.bench_core.specs.Causes.{HasCause};
 ghost use Rattle.bench_core.specs.Calls.{IsQuiet, LeavesOnly};
 ghost use Rattle.answer_journal.specs.Append.{Appending, appended};
@@ -18,6 +18,7 @@ pub fn append_bytes<B: Bench>(bench: &mut B, gate: u64, group: &[u8]) -> Result<
     ensures sent { B.sent bench.new ≡ B.sent bench.old }
     ensures ticks { B.told → OnOk result (B.moment bench.new ≡ B.moment bench.old + 4) }
     ensures cause { HasCause (B.faults bench.old) (B.faults bench.new) result }
+    ensures last_call { OnErr result (B.last_failed bench.new ≡ true) }
 {
     bench.write_at(gate + 1, group)?;
     // Before the gate opens the whole group has to be stable: behind an open gate, what is torn would count.

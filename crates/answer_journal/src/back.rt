@@ -32,6 +32,7 @@ fn front_of<B: Bench>(alloc: Global, bench: &mut B) -> Result<Vec<u8>, BackFault
     ensures untouched { B.told → IsQuiet B.Bench bench.old → LeavesOnly B.Bench bench.old bench.new (IsUntouched (B.file bench.old) (B.sent bench.old)) }
     ensures ticks { B.told → OnOk result (B.moment bench.new ≡ B.moment bench.old + 2) }
     ensures failed { IsErrOf result BackFault.Failed → Rose (B.faults bench.old) (B.faults bench.new) }
+    ensures last_call { IsErrOf result BackFault.Failed → B.last_failed bench.new ≡ true }
     ensures steady { (IsErrOf result BackFault.Failed → ⊥) → B.faults bench.new ≡ B.faults bench.old }
     ensures later { B.faults bench.old ≤ B.faults bench.new }
     ensures err { IfErr result (λ fault. GaveUp fault) }
@@ -54,6 +55,7 @@ fn contents_of<B: Bench>(alloc: Global, bench: &mut B) -> Result<Contents, BackF
     ensures untouched { B.told → IsQuiet B.Bench bench.old → LeavesOnly B.Bench bench.old bench.new (IsUntouched (B.file bench.old) (B.sent bench.old)) }
     ensures ticks { B.told → OnOk result (B.moment bench.new ≡ B.moment bench.old + 2) }
     ensures failed { IsErrOf result BackFault.Failed → Rose (B.faults bench.old) (B.faults bench.new) }
+    ensures last_call { IsErrOf result BackFault.Failed → B.last_failed bench.new ≡ true }
     ensures steady { (IsErrOf result BackFault.Failed → ⊥) → B.faults bench.new ≡ B.faults bench.old }
     ensures later { B.faults bench.old ≤ B.faults bench.new }
 {
@@ -91,6 +93,7 @@ impl Journal {
         ensures untouched { B.told → IsQuiet B.Bench bench.old → LeavesOnly B.Bench bench.old bench.new (IsUntouched (B.file bench.old) (B.sent bench.old)) }
         ensures ticks { B.told → OnOk result (B.moment bench.new ≡ B.moment bench.old + 2) }
         ensures failed { IsErrOf result BackFault.Failed → Rose (B.faults bench.old) (B.faults bench.new) }
+        ensures last_call { IsErrOf result BackFault.Failed → B.last_failed bench.new ≡ true }
         ensures steady { (IsErrOf result BackFault.Failed → ⊥) → B.faults bench.new ≡ B.faults bench.old }
         ensures later { B.faults bench.old ≤ B.faults bench.new }
     {

@@ -165,6 +165,7 @@ impl Journal {
         ensures sent { B.sent bench.new ≡ B.sent bench.old }
         ensures ticks { B.told → OnOk result (B.moment bench.new ≡ B.moment bench.old + 4) }
         ensures cause { HasCause (B.faults bench.old) (B.faults bench.new) result }
+        ensures last_call { OnErr result (B.last_failed bench.new ≡ true) }
 
         ensures shape { self.new.shape ≡ self.old.shape }
         ensures counted { OnOk result (self.new.count ≡ self.old.count + length ready.now.list) }
@@ -205,6 +206,7 @@ impl Journal {
         // Where memory is wanted nothing was called and nothing changed. It doesn't fail by itself.
         ensures no_memory { IsErrOf result AppendFault.NoMemory → (bench.new ≡ bench.old) × (self.new ≡ self.old) }
         ensures failed { IsErrOf result AppendFault.Failed → Rose (B.faults bench.old) (B.faults bench.new) × (self.new.usable ≡ false) }
+        ensures last_call { IsErrOf result AppendFault.Failed → B.last_failed bench.new ≡ true }
         ensures steady { (IsErrOf result AppendFault.Failed → ⊥) → B.faults bench.new ≡ B.faults bench.old }
         ensures later { B.faults bench.old ≤ B.faults bench.new }
 

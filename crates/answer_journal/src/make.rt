@@ -1,5 +1,5 @@
 //! Making the journal of a table beside it.
-ghost use Rattle.std.specs.Prelude.{◌≡◌, ◌≢◌, ◌<◌, ◌≤◌, ℕ, List, [], ◌∷◌, ◌++◌, length, slice_index, ◌+◌, IfOk, Ok, OnOk, OnErr, IsErr, IsErrOf};
+ghost use Rattle.std.specs.Prelude.{◌≡◌, ◌≢◌, ◌<◌, ◌≤◌, ℕ, List, [], ◌∷◌, ◌++◌, length, slice_index, ◌+◌, IfOk, Ok, OnOk, OnErr, IsErr, IsErrOf, true};
 ghost use Rattle.audit_types.specs.Shapes.{IsShape};
 ghost use Rattle.bench_core.specs.Causes.{HasCause, Rose};
 ghost use Rattle.bench_core.specs.Calls.{IsQuiet, LeavesOnly};
@@ -50,6 +50,7 @@ fn look<B: Bench>(bench: &mut B) -> Result<Found, Failed>
     ensures sent { B.sent bench.new ≡ B.sent bench.old }
     ensures crash { (image : List ℕ) → B.leaves bench.new image → B.leaves bench.old image }
     ensures cause { HasCause (B.faults bench.old) (B.faults bench.new) result }
+    ensures last_call { OnErr result (B.last_failed bench.new ≡ true) }
 {
     let length = bench.length()?;
     if length < 21 {
@@ -76,6 +77,7 @@ fn shut<B: Bench>(bench: &mut B) -> Result<(), Failed>
     ensures quiet { B.told → OnOk result (IsQuiet B.Bench bench.new) }
     ensures sent { B.sent bench.new ≡ B.sent bench.old }
     ensures cause { HasCause (B.faults bench.old) (B.faults bench.new) result }
+    ensures last_call { OnErr result (B.last_failed bench.new ≡ true) }
 {
     bench.write_at(0, &[0])?;
     bench.sync()?;
@@ -94,6 +96,7 @@ fn open<B: Bench>(bench: &mut B, shape: &Shape) -> Result<(), Failed>
     ensures quiet { B.told → OnOk result (IsQuiet B.Bench bench.new) }
     ensures sent { B.sent bench.new ≡ B.sent bench.old }
     ensures cause { HasCause (B.faults bench.old) (B.faults bench.new) result }
+    ensures last_call { OnErr result (B.last_failed bench.new ≡ true) }
 {
     let mut header = [0; 21];
     write_header(shape, &mut header);
@@ -111,6 +114,7 @@ fn make_short<B: Bench>(bench: &mut B, shape: &Shape) -> Result<(), Failed>
     ensures quiet { B.told → OnOk result (IsQuiet B.Bench bench.new) }
     ensures sent { B.sent bench.new ≡ B.sent bench.old }
     ensures cause { HasCause (B.faults bench.old) (B.faults bench.new) result }
+    ensures last_call { OnErr result (B.last_failed bench.new ≡ true) }
 {
     shut(bench)?;
     open(bench, shape)
@@ -135,6 +139,7 @@ impl Journal {
         ensures quiet { B.told → OnOk result (IsQuiet B.Bench bench.new) }
         ensures sent { B.sent bench.new ≡ B.sent bench.old }
         ensures failed { IsErrOf result MakeFault.Failed → Rose (B.faults bench.old) (B.faults bench.new) }
+        ensures last_call { IsErrOf result MakeFault.Failed → B.last_failed bench.new ≡ true }
         ensures steady { (IsErrOf result MakeFault.Failed → ⊥) → B.faults bench.new ≡ B.faults bench.old }
         ensures later { B.faults bench.old ≤ B.faults bench.new }
     {

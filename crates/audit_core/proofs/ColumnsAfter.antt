@@ -1,10 +1,9 @@
 -- Each column keeps its part of the history: before any record, at a record more, and where it is read.
-use Rattle.std.proofs.Common.{◌≡◌, ◌≢◌, ℕ, ◌+◌, ◌<◌, ◌==◌, map, List, [], ◌∷◌, ◌++◌, refl, sym, ap, ◌∙◌, arith, length-append, inl, inr, get_or}
+use Rattle.std.proofs.Common.{◌≡◌, ◌≢◌, ℕ, ◌+◌, ◌<◌, ◌==◌, List, [], ◌∷◌, ◌++◌, refl, sym, ap, ◌∙◌, arith, length-append, inl, inr, get_or}
 use Rattle.std.specs.Prelude.{slice_set}
-use Rattle.std.specs.List.{filter}
 use Rattle.std.proofs.lemmas.Bool.{eq-eqb, ne_eqb}
-use Rattle.std.proofs.lemmas.List.{append-nil, length-set, map-append}
-use Rattle.std.proofs.lemmas.List.Elements.{All-push, filter-append}
+use Rattle.std.proofs.lemmas.List.{append-nil, length-set}
+use Rattle.std.proofs.lemmas.List.Elements.{All-push}
 use Rattle.std.proofs.lemmas.Option.{none-some, slice_get_read}
 use Rattle.audit_types.specs.declared.shapes.Shape.{Shape}
 use Rattle.audit_types.specs.declared.records.Answered.{Answered}
@@ -18,16 +17,19 @@ use Rattle.audit_core.proofs.OwnAnswers.{led_by, answers_of-cons}
 use Rattle.audit_core.proofs.Places.{old_or_new, new_or_other}
 
 -- the column at a place knows its part of the history
-pub column_at : (shape : Shape) (history : List Answered) (count : ℕ) (list : List Column) (place : ℕ) (column : Column) → AreColumnsAfter shape history count list →
+pub column_at : (shape : Shape) (history : List Answered) (count : ℕ) (list : List Column) (place : ℕ) (column : Column) →
+    AreColumnsAfter shape history count list →
     place < count → column ≡ get_or list place column → known_in column ≡ known_of (setting_of shape) history place
-column_at shape history count list place column after below reads = after.each place column (slice_get_read list count place column (sym after.one_each) below reads)
+column_at shape history count list place column after below reads =
+    after.each place column (slice_get_read list count place column (sym after.one_each) below reads)
 
 -- no columns yet
 pub none_yet : (shape : Shape) → AreColumnsAfter shape [] 0 []
 none_yet shape = record { one_each = refl; each = λ place column here. absurd (none-some column here) }
 
 -- a column more, with no answers
-pub one_more : (shape : Shape) (count : ℕ) (list : List Column) (column : Column) → AreColumnsAfter shape [] count list → known_in column ≡ known_at_first (kind_at shape count) shape.rows →
+pub one_more : (shape : Shape) (count : ℕ) (list : List Column) (column : Column) → AreColumnsAfter shape [] count list →
+    known_in column ≡ known_at_first (kind_at shape count) shape.rows →
     AreColumnsAfter shape [] (count + 1) (list ++ column ∷ [])
 one_more shape count list column after first = record {
   one_each = omega (arith, length-append list (column ∷ []), after.one_each);
@@ -37,7 +39,8 @@ one_more shape count list column after first = record {
   ];
 }
 
-answers_of-push : (column : ℕ) (history : List Answered) (r : Answered) → answers_of column (history ++ r ∷ []) ≡ answers_of column history ++ led_by (answer_in r) (r.column == column) []
+answers_of-push : (column : ℕ) (history : List Answered) (r : Answered) →
+    answers_of column (history ++ r ∷ []) ≡ answers_of column history ++ led_by (answer_in r) (r.column == column) []
 answers_of-push column history r =
     answers_of-append column history (r ∷ [])
     ∙ ap (λ l. answers_of column history ++ l) (answers_of-cons column r [])
@@ -49,11 +52,15 @@ module _ (shape : Shape) (history : List Answered) (r : Answered) where
 
   -- a record adds its answer to what is known of its own column
   own_column : known_of (setting_of shape) (history ++ r ∷ []) r.column ≡ with_answer (known_of (setting_of shape) history r.column) r.rows.list r.answer
-  own_column = ap (knows r.column) (answers_of-push r.column history r ∙ ap (λ b. answers_of r.column history ++ led_by (answer_in r) b []) (eq-eqb r.column r.column refl))
+  own_column =
+      ap (knows r.column)
+      (answers_of-push r.column history r ∙ ap (λ b. answers_of r.column history ++ led_by (answer_in r) b []) (eq-eqb r.column r.column refl))
 
   -- and nothing to any other
   other_column : (column : ℕ) → r.column ≢ column → known_of (setting_of shape) (history ++ r ∷ []) column ≡ known_of (setting_of shape) history column
-  other_column column apart = ap (knows column) (answers_of-push column history r ∙ ap (λ b. answers_of column history ++ led_by (answer_in r) b []) (ne_eqb r.column column apart) ∙ append-nil (answers_of column history))
+  other_column column apart =
+      ap (knows column)
+      (answers_of-push column history r ∙ ap (λ b. answers_of column history ++ led_by (answer_in r) b []) (ne_eqb r.column column apart) ∙ append-nil (answers_of column history))
 
   -- where the record's own column takes its answer, the columns are those after it
   pub record_taken : (list : List Column) (old new : Column) → IsCore shape list history → r.column < columns shape → old ≡ get_or list r.column old →
@@ -75,7 +82,8 @@ module _ (shape : Shape) (history : List Answered) (r : Answered) where
       }
 
 -- where a column is replaced by one that knows the same, the core is as before
-pub same_known : (shape : Shape) (history : List Answered) (list : List Column) (place : ℕ) (old new : Column) → IsCore shape list history → place < columns shape → old ≡ get_or list place old → known_in new ≡ known_in old →
+pub same_known : (shape : Shape) (history : List Answered) (list : List Column) (place : ℕ) (old new : Column) → IsCore shape list history →
+    place < columns shape → old ≡ get_or list place old → known_in new ≡ known_in old →
     IsCore shape (slice_set list place new) history
 same_known shape history list place old new core below reads same =
     let known = column_at shape history (columns shape) list place old core.columns_after below reads in

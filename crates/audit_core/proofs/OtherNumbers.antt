@@ -2,7 +2,7 @@
 --
 -- Sums: the sets pin no row, so some direction of them changes the number; the list moved by it gives the same answers.
 -- Maxima: the row isn't lone after the last answer, so two lists that agree differ there, and one of them differs from the column's own.
-use Rattle.std.proofs.Common.{◌≡◌, ◌≢◌, ℕ, zero, suc, ◌<◌, ℤ, pos, negsuc, List, [], ◌∷◌, ◌++◌, map, length, refl, sym, ap, ◌∙◌, subst, arith, inl, inr, ◌⊎◌}
+use Rattle.std.proofs.Common.{◌≡◌, ◌≢◌, ℕ, ◌<◌, ℤ, pos, List, [], ◌∷◌, ◌++◌, map, length, sym, ◌∙◌, subst, arith, inl, inr, ◌⊎◌}
 use Rattle.std.specs.Prelude.{◌+ℤ◌, ◌-ℤ◌, slice_set}
 use Rattle.std.specs.List.{AllByRecursion}
 use Rattle.std.proofs.lemmas.Int.{ints}
@@ -10,12 +10,14 @@ use Rattle.std.proofs.lemmas.List.{get_or-set_same, length-set, map-append}
 use Rattle.audit_types.specs.declared.shapes.Kind.{Kind}
 use Rattle.audit_types.specs.declared.shapes.Kind.TheVariants.{Sum, Max}
 use Rattle.audit_types.specs.Rows.{AreRows}
-use Rattle.audit_types.specs.Truth.{number_at, sum_over, truth}
+use Rattle.audit_types.specs.Truth.{number_at, truth}
 use Rattle.audit_types.specs.Column.{Known, Answer, Agrees, GivesSameAnswers, IsDangerous, IsPossible, IsWellFormed, known_sum, known_max}
 use Rattle.audit_types.specs.Direction.{IsPinned}
 use Rattle.sum_audit.specs.Laws.{SpannedOrMoved, PinnedByUnitRow, DangerousByPins}
+use Rattle.sum_audit.specs.Shifts.{moved_by, number_at-moved_by, length-moved_by, moved_gives}
 use Rattle.max_audit.specs.Laws.{PossibleByExtremes, FixedByLoneRows, LoneOrFree}
 use Rattle.audit_types.specs.ListLaws.{all-front, all-push, all-map}
+use Rattle.audit_types.specs.Numbers.{zero_or_not}
 
 -- another list that gives all the answers, with another number in row i
 pub record HasOther (known : Known) (w : List ℤ) (i : ℕ) : Type 0 where
@@ -31,11 +33,6 @@ known_with kind n answers a = record { kind = kind; n = n; answers = answers ++ 
 abbrev pub known_before : Kind → ℕ → List Answer → Known
 known_before kind n answers = record { kind = kind; n = n; answers = answers }
 
-zero_or_not : (z : ℤ) → (z ≡ pos 0) ⊎ (z ≢ pos 0)
-zero_or_not (pos zero) = inl refl
-zero_or_not (pos (suc n)) = inr (λ e. omega (arith, ints))
-zero_or_not (negsuc n) = inr (λ e. omega (arith, ints))
-
 same_or_not : (x y : ℤ) → (x ≡ y) ⊎ (x ≢ y)
 same_or_not x y = elim (zero_or_not (x -ℤ y)) [ inl none ↦ inl (omega (arith, ints)) | inr some ↦ inr (λ e. some (omega (arith, ints))) ]
 
@@ -50,47 +47,9 @@ other_without_answers known w i none one_each below = record {
   differs = λ e. let here = get_or-set_same w i (number_at w i +ℤ pos 1) (pos 0) (omega (arith, one_each)) in omega (arith, ints);
 }
 
--- a list moved by another of the same length
-moved : List ℤ → List ℤ → List ℤ
-moved [] d = []
-moved (x ∷ w) [] = x ∷ w
-moved (x ∷ w) (y ∷ d) = (x +ℤ y) ∷ moved w d
-
-length-moved : (w d : List ℤ) → length (moved w d) ≡ length w
-unfolding moved
-length-moved [] d = refl
-length-moved (x ∷ w) [] = refl
-length-moved (x ∷ w) (y ∷ d) = ap suc (length-moved w d)
-
-number_at-moved : (w d : List ℤ) (r : ℕ) → length d ≡ length w → number_at (moved w d) r ≡ number_at w r +ℤ number_at d r
-unfolding moved
-number_at-moved [] [] r same = refl
-number_at-moved [] (y ∷ d) r same = absurd (omega (arith, same))
-number_at-moved (x ∷ w) [] r same = absurd (omega (arith, same))
-number_at-moved (x ∷ w) (y ∷ d) zero same = refl
-number_at-moved (x ∷ w) (y ∷ d) (suc r) same = number_at-moved w d r (omega (arith, same))
-
-sum_over-moved : (w d : List ℤ) (rows : List ℕ) → length d ≡ length w → sum_over (moved w d) rows ≡ sum_over w rows +ℤ sum_over d rows
-sum_over-moved w d [] same = refl
-sum_over-moved w d (r ∷ rows) same =
-    let first = number_at-moved w d r same in
-    let rest = sum_over-moved w d rows same in
-    omega (arith, ints)
-
--- a list moved by a direction gives the same sums
-moved_agrees : (w d : List ℤ) (answers : List Answer) → length d ≡ length w → AllByRecursion (λ a. sum_over w a.rows ≡ a.value) answers →
-    AllByRecursion (λ s. sum_over d s ≡ pos 0) (map (λ a. a.rows) answers) → AllByRecursion (λ a. sum_over (moved w d) a.rows ≡ a.value) answers
-moved_agrees w d [] same agrees zeros = tt
-moved_agrees w d (a ∷ answers) same agrees zeros = (
-  let total = sum_over-moved w d a.rows same in
-      let before = agrees.0 in
-      let none = zeros.0 in
-      omega (arith, ints),
-  moved_agrees w d answers same agrees.1 zeros.1,
-)
-
 -- a list that agrees with the answers and one more agreed before it
-agrees_before : (kind : Kind) (n : ℕ) (answers : List Answer) (a : Answer) (w : List ℤ) → Agrees (known_with kind n answers a) w → Agrees (known_before kind n answers) w
+agrees_before : (kind : Kind) (n : ℕ) (answers : List Answer) (a : Answer) (w : List ℤ) → Agrees (known_with kind n answers a) w →
+    Agrees (known_before kind n answers) w
 agrees_before kind n answers a w agrees = record {
   one_each = agrees.one_each;
   same = (all-front (λ b. truth kind w b.rows ≡ b.value) answers a agrees.same).0;
@@ -107,7 +66,8 @@ agrees_with kind n answers a w v agrees same = record {
 
 module _ (spanned_or_moved : SpannedOrMoved) (pinned_by_unit_row : PinnedByUnitRow) (dangerous_by_pins : DangerousByPins) where
   -- a safe sum leaves each number open
-  pub other_sum : (n : ℕ) (answers : List Answer) (a : Answer) (w : List ℤ) (i : ℕ) → IsWellFormed (known_with Sum n answers a) → Agrees (known_with Sum n answers a) w →
+  pub other_sum : (n : ℕ) (answers : List Answer) (a : Answer) (w : List ℤ) (i : ℕ) → IsWellFormed (known_with Sum n answers a) →
+      Agrees (known_with Sum n answers a) w →
       ¬ (IsDangerous (known_sum n answers) a.rows) → i < n → HasOther (known_with Sum n answers a) w i
   other_sum n answers a w i well agrees safe below =
       let are_rows = all-map (λ b. b.rows) (AreRows n) (answers ++ a ∷ []) well.are_rows in
@@ -118,20 +78,20 @@ module _ (spanned_or_moved : SpannedOrMoved) (pinned_by_unit_row : PinnedByUnitR
             let pinned = (pinned_by_unit_row n sets i are_rows below).1 span in
             absurd (safe ((dangerous_by_pins n answers a.rows possible).1 (i, subst (λ l. IsPinned n l i) (map-append (λ b. b.rows) answers (a ∷ [])) pinned)))
         | inr (d, direction, changes) ↦
-            let same = direction.one_each ∙ sym agrees.one_each in
             record {
-              other = moved w d;
+              other = moved_by d w;
               agrees = record {
-                one_each = length-moved w d ∙ agrees.one_each;
-                same = moved_agrees w d (answers ++ a ∷ []) same agrees.same direction.zero_sums;
+                one_each = length-moved_by n d w direction.one_each agrees.one_each;
+                same = moved_gives d w (answers ++ a ∷ []) agrees.same direction.zero_sums;
               };
-              differs = λ e. let number = number_at-moved w d i same in changes (omega (arith, ints));
+              differs = λ e. let number = number_at-moved_by d w i in changes (omega (arith, ints));
             }
       ]
 
 module _ (possible_by_extremes : PossibleByExtremes) (fixed_by_lone_rows : FixedByLoneRows) (lone_or_free : LoneOrFree) where
   -- and so does a safe maximum
-  pub other_max : (n : ℕ) (answers : List Answer) (a : Answer) (w : List ℤ) (i : ℕ) → IsWellFormed (known_with Max n answers a) → Agrees (known_with Max n answers a) w →
+  pub other_max : (n : ℕ) (answers : List Answer) (a : Answer) (w : List ℤ) (i : ℕ) → IsWellFormed (known_with Max n answers a) →
+      Agrees (known_with Max n answers a) w →
       ¬ (IsDangerous (known_max n answers) a.rows) → i < n → HasOther (known_with Max n answers a) w i
   other_max n answers a w i well agrees safe below =
       let whole = answers ++ a ∷ [] in

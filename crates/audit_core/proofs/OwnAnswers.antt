@@ -9,8 +9,10 @@ use Rattle.audit_types.specs.History.{answers_of, answer_in}
 use Rattle.audit_types.specs.ListLaws.{all-map, all-filter}
 
 -- what holds of the answer of each record holds of a column's answers
-pub all_answers : (P : Answer → Type 0) (column : ℕ) (history : List Answered) → AllByRecursion (λ r. P (answer_in r)) history → AllByRecursion P (answers_of column history)
-all_answers P column history all = all-map answer_in P (filter (λ r. r.column == column) history) (all-filter (λ r. P (answer_in r)) (λ r. r.column == column) history all)
+pub all_answers : (P : Answer → Type 0) (column : ℕ) (history : List Answered) → AllByRecursion (λ r. P (answer_in r)) history →
+    AllByRecursion P (answers_of column history)
+all_answers P column history all =
+    all-map answer_in P (filter (λ r. r.column == column) history) (all-filter (λ r. P (answer_in r)) (λ r. r.column == column) history all)
 
 -- the last record of a column: the column's answers are those before it and its own
 pub record HasLast (column : ℕ) (history : List Answered) : Type 0 where
@@ -28,7 +30,8 @@ led : (r : Answered) (others : List Answered) (b : Bool) → map answer_in (cond
 led r others true = refl
 led r others false = refl
 
-pub answers_of-cons : (column : ℕ) (r : Answered) (history : List Answered) → answers_of column (r ∷ history) ≡ led_by (answer_in r) (r.column == column) (answers_of column history)
+pub answers_of-cons : (column : ℕ) (r : Answered) (history : List Answered) →
+    answers_of column (r ∷ history) ≡ led_by (answer_in r) (r.column == column) (answers_of column history)
 answers_of-cons column r history = led r (filter (λ x. x.column == column) history) (r.column == column)
 
 led_apart : (first : Answer) (b : Bool) (front : List Answer) (a : Answer) → led_by first b (front ++ a ∷ []) ≡ led_by first b front ++ a ∷ []

@@ -15,7 +15,8 @@ use Rattle.audit_core.specs.Columns.{HasItsPart, IsCore, known_in}
 use Rattle.audit_core.proofs.ColumnsAfter.{column_at}
 
 -- the column that is read at a place knows the history's part
-pub known_at : (audited : Audited) (shape : Shape) (history : List Answered) (list : List Column) → record { setting = setting_of shape; history = history } ≡ audited →
+pub known_at : (audited : Audited) (shape : Shape) (history : List Answered) (list : List Column) →
+    record { setting = setting_of shape; history = history } ≡ audited →
     IsCore shape list history → (place : ℕ) (column : Column) → place < columns audited.setting.shape → column ≡ get_or list place column →
     known_in column ≡ known_of audited.setting audited.history place
 known_at audited shape history list view core place column below reads =
@@ -23,7 +24,8 @@ known_at audited shape history list view core place column below reads =
     (λ inside. column_at shape history (columns shape) list place column core.columns_after inside reads) below
 
 -- so a decision of the column is that of the history, where this is possible
-pub decided_after : {E : Type 0} (audited : Audited) (place : ℕ) (rows : List ℕ) (known : Known) (result : Result Verdict E) → place < columns audited.setting.shape →
+pub decided_after : {E : Type 0} (audited : Audited) (place : ℕ) (rows : List ℕ) (known : Known) (result : Result Verdict E) →
+    place < columns audited.setting.shape →
     known ≡ known_of audited.setting audited.history place → IfOk result (λ verdict. IsPossible known → IsDecision known rows verdict) →
     IfOk result (λ verdict. IsPossibleHistory audited.setting audited.history → IsDecisionAfter audited.setting audited.history place rows verdict)
 decided_after audited place rows known (Ok verdict) below is decided =

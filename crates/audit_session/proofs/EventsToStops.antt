@@ -4,27 +4,17 @@ use Rattle.std.specs.Prelude.{if◌then◌else◌}
 use Rattle.std.specs.Option.{option_to_list}
 use Rattle.std.proofs.Math.Nat.{suc-mul}
 use Rattle.std.proofs.Math.Seq.{take-append_seam}
-use Rattle.std.proofs.lemmas.Bool.{cases_Bool, cases_lt, eq-eqb, eqb-true, or_cases, false≢true}
+use Rattle.std.proofs.lemmas.Bool.{cases_Bool, cases_lt, eq-eqb, eqb-true, or_cases, false≢true, eqb-false, or_parts}
 use Rattle.std.proofs.lemmas.List.{append-nil, map-append, length-map, take_all, take-append-drop, length-take}
 use Rattle.question_plan.specs.Session.{Replied, records_of, bytes_of, AreReplies, groups}
 use Rattle.audit_session.specs.Stops.{IsFront, Stop}
 use Rattle.audit_session.specs.Events.{asking, committing, leaving, SessionState, Event, ask, commit, leave, begin, has_none, after_ask, after_commit, after_leave, IsStep, AreSteps, Crashes, EndsByCrash}
 use Rattle.question_plan.specs.InTurn.{records_of-append, bytes_of-append, length-replies, replies-append}
 use Rattle.audit_session.proofs.StopsOfGroups.{stop_between, stop_sending}
+use Rattle.audit_session.specs.EventLaws.{none_is_nil}
 
 abbrev bytes_in : {R : Type 0} → Replied R → List ℕ
 bytes_in reply = reply.bytes
-
-none_is_nil : {X : Type 0} (xs : List X) → has_none xs ≡ true → xs ≡ []
-none_is_nil [] e = refl
-none_is_nil (x ∷ xs) e = absurd (false≢true e)
-
-left_false : (a b : Bool) → (a || b) ≡ false → a ≡ false
-left_false true b e = e
-left_false false b e = refl
-
-not_same : (a b : ℕ) → (a == b) ≡ false → a ≢ b
-not_same a b apart same = false≢true (sym apart ∙ eq-eqb a b same)
 
 -- one group more
 pub next_groups : {L : Type 0} (batch count : ℕ) (lines front mid rest : List L) → lines ≡ front ++ (mid ++ rest) → length front ≡ count * batch → length mid ≤ batch → ((length mid ≡ batch) ⊎ (rest ≡ [])) → groups batch (count + 1) lines ≡ front ++ mid
@@ -155,7 +145,7 @@ module _ {R L : Type 0} (rule : List R → L → Replied R → Type 0) (batch : 
       let none : Bool = has_none t.pending in
       elim (cases_Bool full) [
         | inr not_full ↦
-            let apart : length t.waiting ≢ batch = not_same (length t.waiting) batch (left_false (length t.waiting == batch) (has_none more) not_full) in
+            let apart : length t.waiting ≢ batch = eqb-false (length t.waiting) batch (or_parts (length t.waiting == batch) (has_none more) not_full).0 in
             inl (ap (λ (b : Bool). if b then (if none then leaving else committing) else asking) not_full, record { group = g; few = less (length t.waiting) (length at.group.mid) (length (at.group.mid ++ line ∷ [])) count waits at.few apart; room = inl long })
         | inl closed ↦
             let end : (length (at.group.mid ++ line ∷ []) ≡ batch) ⊎ (more ≡ []) = ⊎_elim (λ same. inl (waits ∙ sym count ∙ eqb-true (length t.waiting) batch same)) (λ last. inr (none_is_nil more last)) (or_cases (length t.waiting == batch) (has_none more) closed) in
@@ -221,9 +211,9 @@ module _ {R L : Type 0} (rule : List R → L → Replied R → Type 0) (batch : 
       }
 
   -- a group that has left is a whole one
-  room_behind : (front mid rest : List L) (count : ℕ) → lines ≡ front ++ (mid ++ rest) → groups batch (count + 1) lines ≡ front ++ mid → (length (front ++ mid) ≡ (count + 1) * batch) ⊎ (rest ≡ [])
-  room_behind front mid [] count split next = inr refl
-  room_behind front mid (line ∷ rest) count split next =
+  room_after : (front mid rest : List L) (count : ℕ) → lines ≡ front ++ (mid ++ rest) → groups batch (count + 1) lines ≡ front ++ mid → (length (front ++ mid) ≡ (count + 1) * batch) ⊎ (rest ≡ [])
+  room_after front mid [] count split next = inr refl
+  room_after front mid (line ∷ rest) count split next =
       inl (omega (arith, ap (λ (l : List L). length l) next, length-take ((count + 1) * batch) lines, ap (λ (l : List L). length l) (split ∙ sym (append_assoc front mid (line ∷ rest))), length-append (front ++ mid) (line ∷ rest)))
 
   all_left : 0 < batch → (s : SessionState R L) (at : Leaving s) (bytes : List ℕ) (waiting : List (List ℕ)) (r : Replied R) → at.rest ≡ r ∷ [] → bytes ≡ r.bytes → waiting ≡ [] → Asking (after_leave s bytes waiting)
@@ -249,7 +239,7 @@ module _ {R L : Type 0} (rule : List R → L → Replied R → Type 0) (batch : 
               ∙ sym (bytes_of-append at.done (at.gone ++ r ∷ []));
         };
         few = some;
-        room = room_behind at.front at.mid s.lines at.count at.split at.next;
+        room = room_after at.front at.mid s.lines at.count at.split at.next;
       }
 
   left_reaches : 0 < batch → (s : SessionState R L) (at : Leaving s) (bytes : List ℕ) (waiting : List (List ℕ)) (rest : List (Replied R)) → at.rest ≡ rest → s.waiting ≡ bytes ∷ waiting → Reached (after_leave s bytes waiting)

@@ -5,18 +5,15 @@ use Rattle.std.specs.Option.{option_to_list}
 use Rattle.std.proofs.Math.Nat.{suc-mul}
 use Rattle.std.proofs.Math.Seq.{take-append_seam, drop-append_seam, take-add}
 use Rattle.std.proofs.lemmas.Bool.{cases_Bool, cases_lt, eq-eqb, ne_eqb}
-use Rattle.std.proofs.lemmas.List.{append-nil, take-append-drop, take-append-le, length-take, take_all}
+use Rattle.std.proofs.lemmas.List.{append-nil, take-append-drop, take-append-le, length-take, take_all, append_cancel_left}
 use Rattle.question_plan.specs.Session.{Replied, records_of, bytes_of, AreReplies}
 use Rattle.audit_session.specs.Stops.{IsFront}
 use Rattle.audit_session.specs.Events.{asking, committing, leaving, SessionState, Event, ask, commit, leave, begin, has_none, after_ask, after_commit, after_leave, IsStep, AreSteps, Crashes, EndsByCrash}
+use Rattle.audit_session.specs.EventLaws.{none_is_nil}
 use Rattle.question_plan.specs.InTurn.{records_of-append, bytes_of-append, length-replies}
 
 abbrev bytes_in : {R : Type 0} → Replied R → List ℕ
 bytes_in reply = reply.bytes
-
--- the same bytes behind the same bytes
-same_behind : (front xs ys : List ℕ) → front ++ xs ≡ front ++ ys → xs ≡ ys
-same_behind front xs ys same = sym (drop-append_seam front xs) ∙ ap (λ (l : List ℕ). drop (length front) l) same ∙ drop-append_seam front ys
 
 pub nil_front : (front rest : List ℕ) → [] ≡ front ++ rest → front ≡ []
 nil_front [] rest e = refl
@@ -135,10 +132,6 @@ module _ {R L : Type 0} (rule : List R → L → Replied R → Type 0) (batch : 
         };
       }
 
-  none_is_nil : {X : Type 0} (xs : List X) → has_none xs ≡ true → xs ≡ []
-  none_is_nil [] e = refl
-  none_is_nil (x ∷ xs) e = cc
-
   commit_group : (released pending : List R) (waiting : List (List ℕ)) (lines : List L) (sent : List ℕ) (s : SessionState R L) → Waits released pending waiting lines sent s → Leads s (MayLeave (released ++ pending) waiting lines sent)
   commit_group released pending waiting lines sent s w = elim (cases_Bool (has_none s.pending)) [
     | inl nothing ↦
@@ -201,9 +194,9 @@ module _ {R L : Type 0} (rule : List R → L → Replied R → Type 0) (batch : 
         };
       }
 
-  -- a reply that is a part of what was sent, and what was sent behind it
-  behind_reply : (bytes rest part end : List ℕ) → bytes ++ rest ≡ part ++ end → length bytes ≤ length part → part ≡ bytes ++ drop (length bytes) part
-  behind_reply bytes rest part end same long =
+  -- a reply that is a part of what was sent, and what was sent after it
+  after_reply : (bytes rest part end : List ℕ) → bytes ++ rest ≡ part ++ end → length bytes ≤ length part → part ≡ bytes ++ drop (length bytes) part
+  after_reply bytes rest part end same long =
       sym (take-append-drop (length bytes) part) ∙ ap (λ (l : List ℕ). l ++ drop (length bytes) part)
       (sym (take-append-le (length bytes) part end long) ∙ ap (λ (l : List ℕ). take (length bytes) l) (sym same) ∙ take-append_seam bytes rest)
 
@@ -219,28 +212,28 @@ module _ {R L : Type 0} (rule : List R → L → Replied R → Type 0) (batch : 
         has = (sym m.released_is, inr (record { phase = m.phase_is; bytes = r.bytes; waiting = map bytes_in rs; first = m.waiting_is; count = length part; proper = shorter; sent_is = ap (λ (b : List ℕ). b ++ part) (sym m.sent_is) ∙ ap (λ (b : List ℕ). s.sent ++ b) is }));
       }
 
-  -- what was sent behind it
-  rest_behind : (r : Replied R) (rs : List (Replied R)) (part : List ℕ) → IsFront part (bytes_of (r ∷ rs)) → length r.bytes ≤ length part → IsFront (drop (length r.bytes) part) (bytes_of rs)
-  rest_behind r rs part front longer =
-      let is : part ≡ r.bytes ++ drop (length r.bytes) part = behind_reply r.bytes (bytes_of rs) part front.rest front.is longer in
+  -- what was sent after it
+  rest_after : (r : Replied R) (rs : List (Replied R)) (part : List ℕ) → IsFront part (bytes_of (r ∷ rs)) → length r.bytes ≤ length part → IsFront (drop (length r.bytes) part) (bytes_of rs)
+  rest_after r rs part front longer =
+      let is : part ≡ r.bytes ++ drop (length r.bytes) part = after_reply r.bytes (bytes_of rs) part front.rest front.is longer in
       record {
         rest = front.rest;
-        is = same_behind r.bytes (bytes_of rs) (drop (length r.bytes) part ++ front.rest) (front.is ∙ ap (λ (l : List ℕ). l ++ front.rest) is ∙ append_assoc r.bytes (drop (length r.bytes) part) front.rest);
+        is = append_cancel_left r.bytes (bytes_of rs) (drop (length r.bytes) part ++ front.rest) (front.is ∙ ap (λ (l : List ℕ). l ++ front.rest) is ∙ append_assoc r.bytes (drop (length r.bytes) part) front.rest);
       }
 
   leave_part : (history : List R) (r : Replied R) (rs : List (Replied R)) (lines : List L) (sent part : List ℕ) (s : SessionState R L) → MayLeave history (map bytes_in (r ∷ rs)) lines sent s → IsFront part (bytes_of (r ∷ rs)) → Leads s (λ last. Crashes last history (sent ++ part))
   leave_part history r [] lines sent part s m front = elim (cases_lt (length part) (length r.bytes)) [
     | inl shorter ↦ cut_now history r [] lines sent part s m front shorter
     | inr longer ↦
-        let is : part ≡ r.bytes ++ drop (length r.bytes) part = behind_reply r.bytes [] part front.rest front.is longer in
-        let none : drop (length r.bytes) part ≡ [] = let f = rest_behind r [] part front longer in nil_front (drop (length r.bytes) part) f.rest f.is in
+        let is : part ≡ r.bytes ++ drop (length r.bytes) part = after_reply r.bytes [] part front.rest front.is longer in
+        let none : drop (length r.bytes) part ≡ [] = let f = rest_after r [] part front longer in nil_front (drop (length r.bytes) part) f.rest f.is in
         by_one leave s (after_leave s r.bytes []) _ (m.phase_is, r.bytes, [], m.waiting_is, refl)
         (sym m.released_is, inl (ap (λ (b : List ℕ). sent ++ b) (is ∙ ap (λ (l : List ℕ). r.bytes ++ l) none ∙ append-nil r.bytes) ∙ ap (λ (b : List ℕ). b ++ r.bytes) (sym m.sent_is)))
   ]
   leave_part history r (q ∷ rs) lines sent part s m front = elim (cases_lt (length part) (length r.bytes)) [
     | inl shorter ↦ cut_now history r (q ∷ rs) lines sent part s m front shorter
     | inr longer ↦
-        let is : part ≡ r.bytes ++ drop (length r.bytes) part = behind_reply r.bytes (bytes_of (q ∷ rs)) part front.rest front.is longer in
+        let is : part ≡ r.bytes ++ drop (length r.bytes) part = after_reply r.bytes (bytes_of (q ∷ rs)) part front.rest front.is longer in
         let t : SessionState R L = after_leave s r.bytes (map bytes_in (q ∷ rs)) in
         let more = leave_part history q rs lines (sent ++ r.bytes) (drop (length r.bytes) part) t (record {
           released_is = m.released_is;
@@ -249,7 +242,7 @@ module _ {R L : Type 0} (rule : List R → L → Replied R → Type 0) (batch : 
           lines_are = m.lines_are;
           sent_is = ap (λ (b : List ℕ). b ++ r.bytes) m.sent_is;
           phase_is = refl;
-        }) (rest_behind r (q ∷ rs) part front longer) in
+        }) (rest_after r (q ∷ rs) part front longer) in
         record {
           events = leave ∷ more.events;
           last = more.last;
@@ -311,12 +304,12 @@ module _ {R L : Type 0} (rule : List R → L → Replied R → Type 0) (batch : 
       by [] are = refl
       by (r ∷ rs) are = absurd are
 
-  -- what stands behind a group, for the groups that are left
-  abbrev GoesOnBehind : ℕ → Type 0
-  GoesOnBehind count = (history : List R) (lines : List L) (sent part : List ℕ) (replies : List (Replied R)) (s : SessionState R L) → Rests history lines sent s → AreReplies rule history (take (count * batch) lines) replies
+  -- what stands after a group, for the groups that are left
+  abbrev GoesOn : ℕ → Type 0
+  GoesOn count = (history : List R) (lines : List L) (sent part : List ℕ) (replies : List (Replied R)) (s : SessionState R L) → Rests history lines sent s → AreReplies rule history (take (count * batch) lines) replies
       → IsFront (bytes_of (take ((count - 1) * batch) replies)) part → IsFront part (bytes_of replies) → Leads s (λ last. Crashes last (history ++ records_of replies) (sent ++ part))
 
-  group_then : (count : ℕ) → GoesOnBehind count → (history : List R) (line : L) (mid more : List L) (sent part : List ℕ) (r : Replied R) (rs second : List (Replied R)) (s : SessionState R L) → Rests history (line ∷ (mid ++ more)) sent s
+  group_then : (count : ℕ) → GoesOn count → (history : List R) (line : L) (mid more : List L) (sent part : List ℕ) (r : Replied R) (rs second : List (Replied R)) (s : SessionState R L) → Rests history (line ∷ (mid ++ more)) sent s
       → AreReplies rule history (line ∷ mid) (r ∷ rs) → AreReplies rule (history ++ records_of (r ∷ rs)) (take (count * batch) more) second → length mid + 1 ≤ batch → ((length mid + 1 ≡ batch) ⊎ (more ≡ []))
       → IsFront (bytes_of (take (count * batch) ((r ∷ rs) ++ second))) part → IsFront part (bytes_of ((r ∷ rs) ++ second)) → Leads s (λ last. Crashes last (history ++ records_of ((r ∷ rs) ++ second)) (sent ++ part))
   group_then zero go history line mid more sent part r rs second s at first_due second_due few end begun so_far =
@@ -334,7 +327,7 @@ module _ {R L : Type 0} (rule : List R → L → Replied R → Type 0) (batch : 
       let taken : take (suc count * batch) (first ++ second) ≡ first ++ take ((suc count - 1) * batch) second = first_of_two (suc count) first second ends (omega (arith, long, few)) (omega arith) in
       let later : List ℕ = bytes_of (take ((suc count - 1) * batch) second) in
       let is : part ≡ bytes_of first ++ (later ++ begun.rest) = begun.is ∙ ap (λ (l : List (Replied R)). bytes_of l ++ begun.rest) taken ∙ ap (λ (b : List ℕ). b ++ begun.rest) (bytes_of-append first (take ((suc count - 1) * batch) second)) ∙ append_assoc (bytes_of first) later begun.rest in
-      let rest : bytes_of second ≡ (later ++ begun.rest) ++ so_far.rest = same_behind (bytes_of first) (bytes_of second) ((later ++ begun.rest) ++ so_far.rest)
+      let rest : bytes_of second ≡ (later ++ begun.rest) ++ so_far.rest = append_cancel_left (bytes_of first) (bytes_of second) ((later ++ begun.rest) ++ so_far.rest)
       (sym (bytes_of-append first second) ∙ so_far.is ∙ ap (λ (b : List ℕ). b ++ so_far.rest) is ∙ append_assoc (bytes_of first) (later ++ begun.rest) so_far.rest) in
       let ready = group_waits history line mid more sent r rs s at first_due few end in
       let gone = then_leads s _ _ ready (leave_all (history ++ records_of first) r rs more sent ready.last ready.has) in
@@ -354,30 +347,30 @@ module _ {R L : Type 0} (rule : List R → L → Replied R → Type 0) (batch : 
   nothing_dropped (suc n) [] le = refl
   nothing_dropped (suc n) (l ∷ ls) le = nothing_dropped n ls (omega arith)
 
-  go_on_behind : 0 < batch → (count : ℕ) → GoesOnBehind count
-  go_on_behind some zero history lines sent part replies s at are begun so_far =
+  go_on : 0 < batch → (count : ℕ) → GoesOn count
+  go_on some zero history lines sent part replies s at are begun so_far =
       at_rest history lines sent part replies s at (none_due history (take (0 * batch) lines) replies (let zero_is : 0 * batch ≡ 0 = omega arith in ap (λ (n : ℕ). take n lines) zero_is) are) so_far
-  go_on_behind some (suc count) history [] sent part replies s at are begun so_far =
+  go_on some (suc count) history [] sent part replies s at are begun so_far =
       at_rest history [] sent part replies s at (none_due history (take (suc count * batch) []) replies (take_all (suc count * batch) [] (omega arith)) are) so_far
-  go_on_behind some (suc count) history (line ∷ rest) sent part replies s at are begun so_far =
+  go_on some (suc count) history (line ∷ rest) sent part replies s at are begun so_far =
       let mid : List L = take (batch - 1) rest in
       let more : List L = drop (batch - 1) rest in
       let one : batch ≡ suc (batch - 1) = omega (arith, some) in
       let size : suc count * batch ≡ batch + count * batch = suc-mul count batch ∙ omega arith in
       let front : take batch (line ∷ rest) ≡ line ∷ mid = ap (λ (n : ℕ). take n (line ∷ rest)) one in
-      let behind : drop batch (line ∷ rest) ≡ more = ap (λ (n : ℕ). drop n (line ∷ rest)) one in
+      let left : drop batch (line ∷ rest) ≡ more = ap (λ (n : ℕ). drop n (line ∷ rest)) one in
       let groups_are : take (suc count * batch) (line ∷ rest) ≡ (line ∷ mid) ++ take (count * batch) more =
-      ap (λ (n : ℕ). take n (line ∷ rest)) size ∙ take-add batch (count * batch) (line ∷ rest) ∙ ap (λ (l : List L). l ++ take (count * batch) (drop batch (line ∷ rest))) front ∙ ap (λ (l : List L). (line ∷ mid) ++ take (count * batch) l) behind in
+      ap (λ (n : ℕ). take n (line ∷ rest)) size ∙ take-add batch (count * batch) (line ∷ rest) ∙ ap (λ (l : List L). l ++ take (count * batch) (drop batch (line ∷ rest))) front ∙ ap (λ (l : List L). (line ∷ mid) ++ take (count * batch) l) left in
       let parts = two_parts rule history (line ∷ mid) (take (count * batch) more) replies (subst (λ (ls : List L). AreReplies rule history ls replies) groups_are are) in
       let few : length mid + 1 ≤ batch = omega (arith, some, length-take (batch - 1) rest) in
       let end : (length mid + 1 ≡ batch) ⊎ (more ≡ []) = elim (cases_lt (length rest) (batch - 1)) [ inl short ↦ inr (nothing_dropped (batch - 1) rest (omega (arith, short))) | inr long ↦ inl (omega (arith, some, long, length-take (batch - 1) rest)) ] in
       let same_count : suc count - 1 ≡ count = omega arith in
-      by_first count (go_on_behind some count) history line mid more sent part parts.first parts.second s
+      by_first count (go_on some count) history line mid more sent part parts.first parts.second s
       (record { released_is = at.released_is; pending_is = at.pending_is; waiting_is = at.waiting_is; lines_are = at.lines_are ∙ ap (λ (ls : List L). line ∷ ls) (sym (take-append-drop (batch - 1) rest)); sent_is = at.sent_is; phase_is = at.phase_is })
       parts.first_due parts.second_due few end replies parts.is
       (record { rest = begun.rest; is = begun.is ∙ ap (λ (n : ℕ). bytes_of (take (n * batch) replies) ++ begun.rest) same_count }) so_far
     where
-      by_first : (count : ℕ) → GoesOnBehind count → (history : List R) (line : L) (mid more : List L) (sent part : List ℕ) (first second : List (Replied R)) (s : SessionState R L) → Rests history (line ∷ (mid ++ more)) sent s
+      by_first : (count : ℕ) → GoesOn count → (history : List R) (line : L) (mid more : List L) (sent part : List ℕ) (first second : List (Replied R)) (s : SessionState R L) → Rests history (line ∷ (mid ++ more)) sent s
           → AreReplies rule history (line ∷ mid) first → AreReplies rule (history ++ records_of first) (take (count * batch) more) second → length mid + 1 ≤ batch → ((length mid + 1 ≡ batch) ⊎ (more ≡ []))
           → (replies : List (Replied R)) → replies ≡ first ++ second → IsFront (bytes_of (take (count * batch) replies)) part → IsFront part (bytes_of replies) → Leads s (λ last. Crashes last (history ++ records_of replies) (sent ++ part))
       by_first count go history line mid more sent part [] second s at first_due second_due few end replies is begun so_far = absurd first_due
@@ -390,5 +383,5 @@ module _ {R L : Type 0} (rule : List R → L → Replied R → Type 0) (batch : 
   pub stops_crash : 0 < batch → (history : List R) (lines : List L) (count : ℕ) (replies : List (Replied R)) (sent : List ℕ) → AreReplies rule history (take (count * batch) lines) replies → IsFront (bytes_of (take ((count - 1) * batch) replies)) sent → IsFront sent (bytes_of replies)
       → EndsByCrash rule batch history lines (history ++ records_of replies) sent
   stops_crash some history lines count replies sent are begun so_far =
-      let led = go_on_behind some count history lines [] sent replies (begin history lines) (record { released_is = refl; pending_is = refl; waiting_is = refl; lines_are = refl; sent_is = refl; phase_is = refl }) are begun so_far in
+      let led = go_on some count history lines [] sent replies (begin history lines) (record { released_is = refl; pending_is = refl; waiting_is = refl; lines_are = refl; sent_is = refl; phase_is = refl }) are begun so_far in
       record { events = led.events; last = led.last; steps = led.steps; crash = led.has }

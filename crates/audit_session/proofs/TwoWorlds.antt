@@ -8,11 +8,7 @@ use Rattle.question_plan.specs.Session.{Replied, records_of, AreReplies}
 use Rattle.question_plan.specs.Replies.{IsDue}
 use Rattle.audit_session.specs.Lives.{Run, Lead, AreAlike}
 use Rattle.question_plan.specs.Laws.{DecidedAlike, EqualAnswersEqualReplies, AreAnswersAlike}
-
--- what stands behind the same front is the same
-behind_same : {R : Type 0} (added : Option R) (xs ys : List R) → option_to_list added ++ xs ≡ option_to_list added ++ ys → xs ≡ ys
-behind_same None xs ys same = same
-behind_same (Some r) xs ys same = cc
+use Rattle.std.proofs.lemmas.List.{append_cancel_left}
 
 -- two records that come first are the same
 first_same : {R : Type 0} (a b : Option R) (x y : R) (xs ys : List R) → a ≡ Some x → b ≡ Some y → option_to_list b ++ ys ≡ option_to_list a ++ xs → y ≡ x
@@ -40,7 +36,7 @@ module _ (alike : DecidedAlike) (equal : EqualAnswersEqualReplies) (base twin : 
       let e : a ≡ b = ⊎_elim (λ e. e) (same_answers a b replies others same) (alike base twin history line a b twins are.0 those.0) in
       let rest : others ≡ replies = same_replies (history ++ option_to_list a.added) lines replies others are.1
       (subst (λ (r : Replied Answered). AreReplies (IsDue twin) (history ++ option_to_list r.added) lines others) (sym e) those.1)
-      (behind_same a.added (records_of others) (records_of replies) (ap (λ (r : Replied Answered). option_to_list r.added ++ records_of others) e ∙ same)) in
+      (append_cancel_left (option_to_list a.added) (records_of others) (records_of replies) (ap (λ (r : Replied Answered). option_to_list r.added ++ records_of others) e ∙ same)) in
       ap (λ (r : Replied Answered). r ∷ others) (sym e) ∙ ap (λ (rs : List (Replied Answered)). a ∷ rs) rest
 
   -- lives that left the same histories have the same last one

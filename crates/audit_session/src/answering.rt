@@ -48,6 +48,7 @@ fn outcomes_of<B: Bench>(
     ensures secret { store.new.secret ≡ store.old.secret }
     ensures is { IsStore store.new }
     ensures failed { IsErrOf result StoreFault.Failed → Rose (B.faults bench.old) (B.faults bench.new) }
+    ensures last_call { IsErrOf result StoreFault.Failed → B.last_failed bench.new ≡ true }
     ensures steady { (IsErrOf result StoreFault.Failed → ⊥) → B.faults bench.new ≡ B.faults bench.old }
     ensures later { B.faults bench.old ≤ B.faults bench.new }
 {
@@ -105,6 +106,7 @@ fn decide<B: Bench>(
     ensures secret { store.new.secret ≡ store.old.secret }
     ensures is { IsStore store.new }
     ensures failed { IsErrOf result StoreFault.Failed → Rose (B.faults bench.old) (B.faults bench.new) }
+    ensures last_call { IsErrOf result StoreFault.Failed → B.last_failed bench.new ≡ true }
     ensures steady { (IsErrOf result StoreFault.Failed → ⊥) → B.faults bench.new ≡ B.faults bench.old }
     ensures later { B.faults bench.old ≤ B.faults bench.new }
 {
@@ -123,6 +125,7 @@ fn send_reply<B: Bench>(bench: &mut B, reply: &Reply) -> Result<(), Failed>
     ensures time { Elapses (B.moment bench.old) (B.moment bench.new) (B.since bench.old) (B.since bench.new) (Sending (B.leaves bench.new) (B.sent bench.old) (reply_bytes reply.now)) }
     ensures ticks { B.told → OnOk result (B.moment bench.new ≡ B.moment bench.old + 1) }
     ensures cause { HasCause (B.faults bench.old) (B.faults bench.new) result }
+    ensures last_call { OnErr result (B.last_failed bench.new ≡ true) }
 {
     let mut out = [0u8; 64];
     let count = write_reply(reply, &mut out);
@@ -139,6 +142,7 @@ fn send_all<B: Bench>(bench: &mut B, replies: &[Reply]) -> Result<(), Failed>
         → LeavesOnly B.Bench bench.old bench.new (λ image sent. (image ≡ B.file bench.old) × AppendsFront (B.sent bench.old) (flat_map reply_bytes replies.now) sent) }
     ensures ticks { B.told → OnOk result (B.moment bench.new ≡ B.moment bench.old + length replies.now) }
     ensures cause { HasCause (B.faults bench.old) (B.faults bench.new) result }
+    ensures last_call { OnErr result (B.last_failed bench.new ≡ true) }
 {
     for reply in replies {
         send_reply(bench, reply)?;
@@ -170,6 +174,7 @@ pub(crate) fn answer<B: Bench>(
     ensures secret { store.new.secret ≡ store.old.secret }
     ensures is { IsStore store.new }
     ensures failed { result ≡ Err EndFault.Bench → Rose (B.faults bench.old) (B.faults bench.new) }
+    ensures last_call { result ≡ Err EndFault.Bench → B.last_failed bench.new ≡ true }
     ensures steady { result ≢ Err EndFault.Bench → B.faults bench.new ≡ B.faults bench.old }
     ensures later { B.faults bench.old ≤ B.faults bench.new }
     ensures others { (result ≢ Err EndFault.Input) × (result ≢ Err EndFault.Limit) }

@@ -100,6 +100,7 @@ fn next_plan<P: Source>(
     ensures later { P.faults source.old ≤ P.faults source.new }
     ensures steady { result ≢ Err EndFault.Input → P.faults source.new ≡ P.faults source.old }
     ensures failed { result ≡ Err EndFault.Input → Rose (P.faults source.old) (P.faults source.new) }
+    ensures last_call { result ≡ Err EndFault.Input → P.last_failed source.new ≡ true }
     ensures others { result ≢ Err EndFault.Bench }
 {
     match lines.next(source)? {
@@ -148,6 +149,7 @@ pub(crate) fn gather<P: Source>(
     ensures later { P.faults source.old ≤ P.faults source.new }
     ensures steady { result ≢ Err EndFault.Input → P.faults source.new ≡ P.faults source.old }
     ensures failed { result ≡ Err EndFault.Input → Rose (P.faults source.old) (P.faults source.new) }
+    ensures last_call { result ≡ Err EndFault.Input → P.last_failed source.new ≡ true }
     ensures others { result ≢ Err EndFault.Bench }
 {
     group.clear();

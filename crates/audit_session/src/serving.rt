@@ -111,6 +111,7 @@ fn answer_groups<P: Source, B: Bench>(
     ensures later { (P.faults source.old ≤ P.faults source.new) × (B.faults bench.old ≤ B.faults bench.new) }
     ensures input { result ≡ Err EndFault.Input → Rose (P.faults source.old) (P.faults source.new) }
     ensures bench { result ≡ Err EndFault.Bench → Rose (B.faults bench.old) (B.faults bench.new) }
+    ensures last_call { (result ≡ Err EndFault.Input → P.last_failed source.new ≡ true) × (result ≡ Err EndFault.Bench → B.last_failed bench.new ≡ true) }
     ensures steady { (result ≢ Err EndFault.Input → P.faults source.new ≡ P.faults source.old) × (result ≢ Err EndFault.Bench → B.faults bench.new ≡ B.faults bench.old) }
 {
     loop {
@@ -177,6 +178,7 @@ pub fn serve<P: Source, B: Bench>(
     ensures later { (P.faults source.old ≤ P.faults source.new) × (B.faults bench.old ≤ B.faults bench.new) }
     ensures input { result ≡ Err EndFault.Input → Rose (P.faults source.old) (P.faults source.new) }
     ensures bench { result ≡ Err EndFault.Bench → Rose (B.faults bench.old) (B.faults bench.new) }
+    ensures last_call { (result ≡ Err EndFault.Input → P.last_failed source.new ≡ true) × (result ≡ Err EndFault.Bench → B.last_failed bench.new ≡ true) }
     ensures steady { (result ≢ Err EndFault.Input → P.faults source.new ≡ P.faults source.old) × (result ≢ Err EndFault.Bench → B.faults bench.new ≡ B.faults bench.old) }
 {
     // What the schema and the store say of themselves: valid columns, and a legal history.

@@ -122,6 +122,7 @@ pub fn keep<B: Bench>(
     ensures unasked { group.now ≡ [] → OnOk result (bench.new ≡ bench.old) }
     ensures no_memory { IsErrOf result StoreFault.NoMemory → bench.new ≡ bench.old }
     ensures failed { IsErrOf result StoreFault.Failed → Rose (B.faults bench.old) (B.faults bench.new) }
+    ensures last_call { IsErrOf result StoreFault.Failed → B.last_failed bench.new ≡ true }
     ensures steady { (IsErrOf result StoreFault.Failed → ⊥) → B.faults bench.new ≡ B.faults bench.old }
     ensures later { B.faults bench.old ≤ B.faults bench.new }
 

@@ -105,6 +105,7 @@ impl Store {
         ensures untouched { B.told → IsQuiet B.Bench bench.old → LeavesOnly B.Bench bench.old bench.new (IsUntouched (B.file bench.old) (B.sent bench.old)) }
         ensures ticks { B.told → OnOk result (B.moment bench.new ≡ B.moment bench.old + 2) }
         ensures failed { IsErrOf result StartFault.Failed → Rose (B.faults bench.old) (B.faults bench.new) }
+        ensures last_call { IsErrOf result StartFault.Failed → B.last_failed bench.new ≡ true }
         ensures steady { (IsErrOf result StartFault.Failed → ⊥) → B.faults bench.new ≡ B.faults bench.old }
         ensures later { B.faults bench.old ≤ B.faults bench.new }
     {
@@ -138,6 +139,7 @@ impl Store {
         ensures kept { OnErr result ((self.new.history ≡ self.old.history) × (self.new.usable ≡ false)) }
         ensures no_memory { IsErrOf result StoreFault.NoMemory → bench.new ≡ bench.old }
         ensures failed { IsErrOf result StoreFault.Failed → Rose (B.faults bench.old) (B.faults bench.new) }
+        ensures last_call { IsErrOf result StoreFault.Failed → B.last_failed bench.new ≡ true }
         ensures steady { (IsErrOf result StoreFault.Failed → ⊥) → B.faults bench.new ≡ B.faults bench.old }
         ensures later { B.faults bench.old ≤ B.faults bench.new }
         ensures secret { self.new.secret ≡ self.old.secret }

@@ -19,7 +19,8 @@ with_rows-is : (n : ℕ) (set : List ℕ) (r : ℕ) (rows : List ℕ) → with_r
 with_rows-is n set r [] = rows_that_agree _ _ n (λ q l. one_more (has_row set q) r q)
 with_rows-is n set r (x ∷ rows) =
     with_rows-is n (with_row n set r) x rows
-    ∙ rows_that_agree _ _ n (λ q l. ap (λ b. b || has_row (x ∷ rows) q) (has-rows_that (λ p. has_row set p || (p == r)) n q l) ∙ more (has_row set q) (has_row (x ∷ rows) q) r q)
+    ∙ rows_that_agree _ _ n
+    (λ q l. ap (λ b. b || has_row (x ∷ rows) q) (has-rows_that (λ p. has_row set p || (p == r)) n q l) ∙ more (has_row set q) (has_row (x ∷ rows) q) r q)
 
 -- the same rows make the same set
 pub same_set : (n : ℕ) (set xs ys : List ℕ) → ((r : ℕ) → has_row xs r ≡ has_row ys r) → with_rows n set xs ≡ with_rows n set ys

@@ -67,7 +67,8 @@ has_bit-byte words at byte r l small = elim (cases_eq (r / 64) (at / 8)) [
 ]
 
 -- a byte without bits of rows past the last leaves a set of rows
-pub AreWords-byte : (n : ℕ) (words : List ℕ) (at byte : ℕ) → 8 * at < n → byte < 256 → byte < 2 ^ (n - 8 * at) → AreWords n words → AreWords n (with_byte words at byte)
+pub AreWords-byte : (n : ℕ) (words : List ℕ) (at byte : ℕ) → 8 * at < n → byte < 256 → byte < 2 ^ (n - 8 * at) → AreWords n words →
+    AreWords n (with_byte words at byte)
 AreWords-byte n words at byte l small below h =
     let within : at / 8 < length words = omega (arith, h.sixteen, h.at_most) in
     record {
@@ -92,10 +93,12 @@ shown a rows is view r = sym (ap (λ (s : Rows). has_row s.list r) view) ∙ has
 
 -- a full word has each of its rows
 pub full_has : (words : List ℕ) (block r : ℕ) → get_or words block 0 ≡ 2 ^ 64 - 1 → r / 64 ≡ block → has_bit words r ≡ true
-full_has words block r full word = ap (λ k. bit_at (get_or words k 0) (r % 64) == 1) word ∙ ap (λ x. bit_at x (r % 64) == 1) full ∙ ap (λ x. x == 1) (bit_at_ones 64 (r % 64) (omega arith))
+full_has words block r full word =
+    ap (λ k. bit_at (get_or words k 0) (r % 64) == 1) word ∙ ap (λ x. bit_at x (r % 64) == 1) full ∙ ap (λ x. x == 1) (bit_at_ones 64 (r % 64) (omega arith))
 
 -- a word with each of its rows is full
-pub has_full : (words : List ℕ) (block : ℕ) → get_or words block 0 < 2 ^ 64 → ((r : ℕ) → r / 64 ≡ block → has_bit words r ≡ true) → get_or words block 0 ≡ 2 ^ 64 - 1
+pub has_full : (words : List ℕ) (block : ℕ) → get_or words block 0 < 2 ^ 64 → ((r : ℕ) → r / 64 ≡ block → has_bit words r ≡ true) →
+    get_or words block 0 ≡ 2 ^ 64 - 1
 has_full words block range all = same_from_bits_below 64 (get_or words block 0) (2 ^ 64 - 1) range (omega arith) (λ i l.
     eqb-true (bit_at (get_or words block 0) i) 1 (sym (same_place words block i l) ∙ all (64 * block + i) (omega arith)) ∙ sym (bit_at_ones 64 i l))
 

@@ -61,7 +61,8 @@ module _ (n : ℕ) (form : List (List ℤ)) (i : ℕ) (h : ℕ → ℤ) (past : 
   ]
 
   -- the numbers are 0 at the free column that belongs to the row
-  own_column : (some : List (List ℤ)) → AllByRecursion IsFormRow some → free_column_of form form i ≡ free_column_of form some i → h (free_column_of form form i) ≡ pos 0
+  own_column : (some : List (List ℤ)) → AllByRecursion IsFormRow some → free_column_of form form i ≡ free_column_of form some i →
+      h (free_column_of form form i) ≡ pos 0
   own_column [] facts is = ap h is ∙ here
   own_column (row ∷ some) facts is = elim (cases_Bool (pivot row == i)) [
     | inl begins ↦ own_free row facts.0 (eqb-true (pivot row) i begins) (is ∙ ap (λ b. cond b (first_free form row 0) (free_column_of form some i)) begins)
@@ -112,7 +113,8 @@ spread r a x b y =
     omega (arith, ints)
 
 -- a row whose products with two lists are 0 has it with their difference
-product-difference : (n : ℕ) (a : ℤ) (d : List ℤ) (b : ℤ) (e : List ℤ) (row : List ℤ) → product row (number_at d) n ≡ pos 0 → product row (number_at e) n ≡ pos 0 →
+product-difference : (n : ℕ) (a : ℤ) (d : List ℤ) (b : ℤ) (e : List ℤ) (row : List ℤ) → product row (number_at d) n ≡ pos 0 →
+    product row (number_at e) n ≡ pos 0 →
     product row (difference a d b e) n ≡ pos 0
 product-difference n a d b e row p q =
     let apart = total-agree (λ j. number_at row j *ℤ difference a d b e j) (λ j. a *ℤ (number_at row j *ℤ number_at d j) +ℤ neg_ℤ b *ℤ (number_at row j *ℤ number_at e j)) n
@@ -129,7 +131,8 @@ products n a d b e [] p q = tt
 products n a d b e (row ∷ rows) p q = (product-difference n a d b e row p.0 q.0, products n a d b e rows p.1 q.1)
 
 -- two canonical directions of a row are one
-pub one_canonical_direction : (n : ℕ) (sets : List (List ℕ)) (form : List (List ℤ)) (i : ℕ) (d e : List ℤ) → AllByRecursion (AreRows n) sets → Reduced n sets form →
+pub one_canonical_direction : (n : ℕ) (sets : List (List ℕ)) (form : List (List ℤ)) (i : ℕ) (d e : List ℤ) → AllByRecursion (AreRows n) sets →
+    Reduced n sets form →
     IsCanonicalDirection n sets form i d → IsCanonicalDirection n sets form i e → d ≡ e
 one_canonical_direction n sets form i d e are reduced first second =
     let a = number_at e i in

@@ -47,9 +47,11 @@ count-bits words k (suc i) h =
     let below : i < 64 = omega arith in
     let front = count-bits words k i (omega arith) in
     let last : length (cond (has_bit words (64 * k + i)) ((64 * k + i) ∷ []) []) ≡ bit_at (get_or words k 0) i =
-    ap (λ b. length (cond b ((64 * k + i) ∷ []) [])) (same_place words k i below) ∙ one_row (bit_at (get_or words k 0) i) (64 * k + i) (bit_at-lt (get_or words k 0) i) in
+    ap (λ b. length (cond b ((64 * k + i) ∷ []) [])) (same_place words k i below)
+    ∙ one_row (bit_at (get_or words k 0) i) (64 * k + i) (bit_at-lt (get_or words k 0) i) in
     let more : length (rows_that (has_bit words) (64 * k + i + 1)) ≡ length (rows_that (has_bit words) (64 * k + i)) + bit_at (get_or words k 0) i =
-    ap length (rows_that_more (has_bit words) (64 * k + i)) ∙ length-append (rows_that (has_bit words) (64 * k + i)) _ ∙ ap (λ m. length (rows_that (has_bit words) (64 * k + i)) + m) last in
+    ap length (rows_that_more (has_bit words) (64 * k + i)) ∙ length-append (rows_that (has_bit words) (64 * k + i)) _
+    ∙ ap (λ m. length (rows_that (has_bit words) (64 * k + i)) + m) last in
     let bits : ones (get_or words k 0 % 2 ^ suc i) ≡ ones (get_or words k 0 % 2 ^ i) + bit_at (get_or words k 0) i = ap (λ m. ones (get_or words k 0 % 2 ^ m)) (sym (add-one i)) ∙ ones_more (get_or words k 0) i in
     omega (arith, ap (λ n. length (rows_that (has_bit words) n)) place)
 
@@ -59,7 +61,8 @@ pub count-word : (words : List ℕ) (k : ℕ) → get_or words k 0 < 2 ^ 64 →
 count-word words k h =
     let next : 64 * (k + 1) ≡ 64 * k + 64 = omega arith in
     let whole : get_or words k 0 % 2 ^ 64 ≡ get_or words k 0 = omega arith in
-    ap (λ n. length (rows_that (has_bit words) n)) next ∙ count-bits words k 64 (omega arith) ∙ ap (λ x. length (rows_that (has_bit words) (64 * k)) + ones x) whole
+    ap (λ n. length (rows_that (has_bit words) n)) next ∙ count-bits words k 64 (omega arith)
+    ∙ ap (λ x. length (rows_that (has_bit words) (64 * k)) + ones x) whole
 
 -- no word, no row
 pub count-none : (words : List ℕ) → length (rows_that (has_bit words) (64 * 0)) ≡ 0

@@ -43,7 +43,8 @@ module _ (table : Table) where
   }
 
   -- the secrets of the table agree with a legal history
-  pub legal_is_possible : (history : List Answered) → AreSecrets table.setting.shape table.secrets → IsLegal table history → IsPossibleHistory table.setting history
+  pub legal_is_possible : (history : List Answered) → AreSecrets table.setting.shape table.secrets → IsLegal table history →
+      IsPossibleHistory table.setting history
   legal_is_possible history secrets legal = (table.secrets, secrets, true_history secrets history (λ i r here. (legal.each i r here).true_answer))
 
 -- secrets that agree do so after a record of their own answer

@@ -58,7 +58,8 @@ module _ (words : List ℕ) (spot : Spot) (place : ℕ) (done : spot.word ≡ 0)
   same_left next is behind word = rows_that_agree (is_left words next) (is_left words spot) 1024 (λ r l. elim (cases_lt (r / 64) place) [
     | inl before ↦ before_spot words next r (omega arith) ∙ sym (none_before r before)
     | inr from ↦ elim (cases_eq (r / 64) place) [
-      | inl here ↦ at_spot words next r (here ∙ sym is) ∙ ap (λ x. bit_at x (r % 64) == 1) (word ∙ ap (λ k. get_or words k 0) (sym here)) ∙ sym (behind_spot words spot r (omega arith))
+      | inl here ↦ at_spot words next r (here ∙ sym is) ∙ ap (λ x. bit_at x (r % 64) == 1) (word ∙ ap (λ k. get_or words k 0) (sym here))
+          ∙ sym (behind_spot words spot r (omega arith))
       | inr later ↦ behind_spot words next r (omega arith) ∙ sym (behind_spot words spot r (omega arith))
     ]
   ])
@@ -101,7 +102,8 @@ module _ (words : List ℕ) (spot next : Spot) (within : spot.place < 16) (fits 
     | inr from ↦
         let low = lowest.0 in
         at_spot words next r (omega arith) ∙ elim (cases_eq (r % 64) bit) [
-          | inl same_bit ↦ ap (λ i. bit_at next.word i == 1) same_bit ∙ ap (λ x. bit_at x bit == 1) cleared ∙ ap (λ x. x == 1) (bit_at_clear_same w64 spot.word bit low)
+          | inl same_bit ↦ ap (λ i. bit_at next.word i == 1) same_bit ∙ ap (λ x. bit_at x bit == 1) cleared
+              ∙ ap (λ x. x == 1) (bit_at_clear_same w64 spot.word bit low)
           | inr apart ↦ ap (λ x. x == 1) (other_bit r apart ∙ lowest.2 (r % 64) (omega arith))
         ]
   ]
@@ -121,7 +123,8 @@ module _ (words : List ℕ) (spot next : Spot) (within : spot.place < 16) (fits 
       rows_that_first (is_left words spot) (is_left words next) 1024 (64 * spot.place + bit) (omega arith) here none_below gone kept
 
 -- a row that was taken leaves one less
-pub fewer_left : {r : ℕ} {before after : List ℕ} → before ≡ r ∷ after → MakesProgress {S = List ℕ} {A = ℕ} (λ _. Unit {0}) (item_count {S = List ℕ} {A = ℕ} (λ s. s)) before (Some r) after
+pub fewer_left : {r : ℕ} {before after : List ℕ} → before ≡ r ∷ after →
+    MakesProgress {S = List ℕ} {A = ℕ} (λ _. Unit {0}) (item_count {S = List ℕ} {A = ℕ} (λ s. s)) before (Some r) after
 fewer_left e = record {
   on = λ f. (tt, tt, omega (arith, ap length e));
   keeps = tt;

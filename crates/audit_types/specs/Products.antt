@@ -38,6 +38,10 @@ neg-times c r =
     let none = ap (λ z. z *ℤ r) (+ℤ_invr c) ∙ zero-*ℤ r in
     omega (arith, ints)
 
+-- once a number is the number
+pub one-times : (x : ℤ) → pos 1 *ℤ x ≡ x
+one-times x = suc_ℤ-*ℤ (pos zero) x ∙ ap (λ z. z +ℤ x) (zero-*ℤ x) ∙ +ℤ_idl x
+
 -- a product of three
 pub times_assoc : (k c r : ℤ) → (k *ℤ c) *ℤ r ≡ k *ℤ (c *ℤ r)
 times_assoc (pos zero) c r = ap (λ z. z *ℤ r) (zero-*ℤ c) ∙ zero-*ℤ r ∙ sym (zero-*ℤ (c *ℤ r))

@@ -9,6 +9,11 @@ use Rattle.audit_types.specs.Truth.{number_at, is_zero}
 use Rattle.audit_types.specs.Form.{set_row}
 use Rattle.audit_types.specs.Numbers.{zero_from_test}
 
+-- what holds of the number at each place holds of each entry
+pub all_by_number : (P : ℤ → Type 0) (xs : List ℤ) → ((j : ℕ) → P (number_at xs j)) → AllByRecursion P xs
+all_by_number P [] h = tt
+all_by_number P (x ∷ xs) h = (h 0, all_by_number P xs (λ j. h (suc j)))
+
 -- a row that is all zeros is 0 at each place
 pub all_zeros_at : (xs : List ℤ) (j : ℕ) → list_all is_zero xs ≡ true → number_at xs j ≡ pos 0
 all_zeros_at [] j h = refl

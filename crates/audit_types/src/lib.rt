@@ -28,7 +28,7 @@ pub const MOST_RECORDS: usize = 65_536;
 /// The greatest size of a number of a table.
 pub const MOST_NUMBER: i64 = 1_000_000_000_000;
 
-/// There was no memory. Nothing else gives this answer, and what it leaves is said by each call.
+/// Memory ran out. Nothing else gives this answer, and what it leaves is said by each call.
 #[derive(Clone, Copy, Debug, PartialEq, Eq)]
 pub struct NoMemory;
 

@@ -34,6 +34,7 @@ fn run_on_files(rt: &HostRuntime, words: &Vec<String>) -> Status {
     let mut table = FileSource::new(rt, "table.csv");
     let mut input = InputSource::new(rt.stdin());
     let mut bench = FileBench::new(rt, "answers.journal");
+    // No call of it is made, so there is no such file.
     let mut spare = FileBench::new(rt, "answers.spare");
     run(
         rt.alloc(),

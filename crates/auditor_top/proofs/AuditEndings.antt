@@ -13,6 +13,7 @@ use Rattle.audit_store.specs.declared.starting.StartFault.TheVariants as start
 use Rattle.journal_audit.specs.Reports.{Audit, Subject, subjects, SendsFront, SendsMeanwhile, Reports, ReportsFront}
 use Rattle.journal_audit.specs.declared.faults.AuditFault.{AuditFault}
 use Rattle.journal_audit.specs.declared.faults.AuditFault.TheVariants as report
+use Rattle.journal_audit.specs.SendLaws.{none_front}
 use Rattle.auditor_top.specs.declared.files.FileFault.TheVariants as file
 use Rattle.auditor_top.specs.declared.opening.OpenFault.{OpenFault}
 use Rattle.auditor_top.specs.declared.opening.OpenFault.TheVariants as opening
@@ -29,13 +30,9 @@ same_audit schema other secret hidden history past first second third =
     let made : List Column → SecretView → List Answered → Audit = λ c s h. record { schema = c; shape = s.shape; history = h } in
     ap (λ (c : List Column). made c secret history) first ∙ ap (λ (s : SecretView). made other s history) second ∙ ap (λ (h : List Answered). made other hidden h) third
 
--- no byte of a report was sent
-pub none_sent : (audit : Audit) (about : List Subject) (bytes : List ℕ) → SendsFront audit about bytes bytes
-none_sent audit about bytes = record { first = []; others = about; all = refl; lines = []; are = tt; sent = (0, sym (append-nil bytes)) }
-
 -- a file that is left as it was is what a crash may find before the first line
 pub untouched_report : (audit : Audit) (about : List Subject) (file before image sent : List ℕ) → IsUntouched file before image sent → SendsMeanwhile audit about file before image sent
-untouched_report audit about file before image sent same = record { same = same.1; front = subst (λ (bytes : List ℕ). SendsFront audit about before bytes) (sym same.0) (none_sent audit about before) }
+untouched_report audit about file before image sent same = record { same = same.1; front = subst (λ (bytes : List ℕ). SendsFront audit about before bytes) (sym same.0) (none_front audit about before) }
 
 -- ---- opening the files
 
@@ -43,10 +40,10 @@ untouched_report audit about file before image sent same = record { same = same.
 pub unopened_report : (fault : OpenFault) (columns : List Column) (meant : TableView) (base : Database) (history : List Answered) (sent : List ℕ) → SchemaCause (open_status fault) (Ok columns) → TableCause (open_status fault) (Ok meant)
     → AuditEnds (open_status fault) base history sent sent
 unopened_report (opening.Schema file.Failed) columns meant base history sent schema table = refl
-unopened_report (opening.Schema file.NoMemory) columns meant base history sent schema table = none_sent (audit_over base history) (subjects base.secret.shape) sent
+unopened_report (opening.Schema file.NoMemory) columns meant base history sent schema table = none_front (audit_over base history) (subjects base.secret.shape) sent
 unopened_report (opening.Schema (file.Bad f)) columns meant base history sent schema table = absurd (not_both columns f schema)
 unopened_report (opening.Table file.Failed) columns meant base history sent schema table = refl
-unopened_report (opening.Table file.NoMemory) columns meant base history sent schema table = none_sent (audit_over base history) (subjects base.secret.shape) sent
+unopened_report (opening.Table file.NoMemory) columns meant base history sent schema table = none_front (audit_over base history) (subjects base.secret.shape) sent
 unopened_report (opening.Table (file.Bad f)) columns meant base history sent schema table = absurd (not_both meant f table)
 
 -- ---- starting the store
@@ -58,8 +55,8 @@ unstarted_report (start.Damaged at) base history before after opens same = absur
 unstarted_report (start.OtherShape kept now) base history before after opens same = absurd opens
 unstarted_report (start.Untrue place kept now) base history before after opens same = absurd opens
 unstarted_report (start.Illegal place) base history before after opens same = absurd opens
-unstarted_report start.Failed base history before after opens same = subst (λ (bytes : List ℕ). ReportsFront (audit_over base history) before bytes) (sym same) (none_sent (audit_over base history) (subjects base.secret.shape) before)
-unstarted_report start.NoMemory base history before after opens same = subst (λ (bytes : List ℕ). ReportsFront (audit_over base history) before bytes) (sym same) (none_sent (audit_over base history) (subjects base.secret.shape) before)
+unstarted_report start.Failed base history before after opens same = subst (λ (bytes : List ℕ). ReportsFront (audit_over base history) before bytes) (sym same) (none_front (audit_over base history) (subjects base.secret.shape) before)
+unstarted_report start.NoMemory base history before after opens same = subst (λ (bytes : List ℕ). ReportsFront (audit_over base history) before bytes) (sym same) (none_front (audit_over base history) (subjects base.secret.shape) before)
 
 -- each refusal has its cause
 pub unstarted_report_cause : (f : StartFault) (file : List ℕ) (secret : SecretView) → StartCause f file secret → FileCause (start_status f) command.Audit file secret

@@ -25,7 +25,7 @@ use Rattle.auditor_top.specs.Ends.{LeavesFile, SimulateEnds, SimulateSends}
 use Rattle.auditor_top.specs.Commands.{ArePublicFilesOf}
 use Rattle.auditor_top.specs.Causes.{FaultCounts, FaultCause, SchemaCause, TableCause, InputCause, NothingFailed, IsDoneOrWants}
 use Rattle.auditor_top.proofs.OneTable.{same_ok}
-use Rattle.auditor_top.proofs.StepFaults.{not_both, same_bench, same_input, same_both}
+use Rattle.auditor_top.proofs.StepFaults.{not_both, same_counts}
 
 -- the files mean one schema
 pub same_columns : (schema table : List ℕ) (opened columns : List Column) (public : PublicView) → schema_of schema ≡ Ok opened → ArePublicFilesOf schema table columns public → opened ≡ columns
@@ -74,16 +74,6 @@ unopened_sends (opening.Table file.Failed) sent = sym (append-nil sent)
 unopened_sends (opening.Table file.NoMemory) sent = sym (append-nil sent)
 unopened_sends (opening.Table (file.Bad f)) sent = sym (append-nil sent)
 
--- where no source failed either, it was want of memory
-pub unopened_simulation : (fault : OpenFault) (columns : List Column) (public : PublicView) (before after : FaultCounts) → SchemaCause (open_status fault) (Ok columns) → TableCause (open_status fault) (Ok public)
-    → FaultCause (open_status fault) before after → NothingFailed before after → IsDoneOrWants (open_status fault)
-unopened_simulation (opening.Schema file.Failed) columns public before after schema table rose none = absurd (none.schema rose.0)
-unopened_simulation (opening.Schema file.NoMemory) columns public before after schema table rose none = inr refl
-unopened_simulation (opening.Schema (file.Bad f)) columns public before after schema table rose none = absurd (not_both columns f schema)
-unopened_simulation (opening.Table file.Failed) columns public before after schema table rose none = absurd (none.table rose.0)
-unopened_simulation (opening.Table file.NoMemory) columns public before after schema table rose none = inr refl
-unopened_simulation (opening.Table (file.Bad f)) columns public before after schema table rose none = absurd (not_both public f table)
-
 -- ---- reading the transcript
 
 -- the ends of a simulation are those of the run
@@ -115,12 +105,12 @@ simulation_reads (Err verdict.NoMemory) before after reads = tt
 -- the count of what failed rose, and no other changed
 pub simulation_faults : (ended : Result (Unit {0}) SimulationFault) (before : FaultCounts) (input bench : ℕ) → (ended ≡ Err verdict.Input → Rose before.input input) → (ended ≢ Err verdict.Input → input ≡ before.input)
     → (ended ≡ Err verdict.Bench → Rose before.bench bench) → (ended ≢ Err verdict.Bench → bench ≡ before.bench) → FaultCause (simulation_status ended) before (record before { input = input; bench = bench })
-simulation_faults (Ok done) before input bench input_rose input_same bench_rose bench_same = same_both before input bench (input_same (not_both done verdict.Input)) (bench_same (not_both done verdict.Bench))
-simulation_faults (Err verdict.Input) before input bench input_rose input_same bench_rose bench_same = (input_rose refl, same_bench (record before { input = input }) bench (bench_same (search rules)))
-simulation_faults (Err verdict.Bench) before input bench input_rose input_same bench_rose bench_same = (bench_rose refl, same_input (record before { bench = bench }) input (input_same (search rules)))
-simulation_faults (Err verdict.Limit) before input bench input_rose input_same bench_rose bench_same = same_both before input bench (input_same (search rules)) (bench_same (search rules))
-simulation_faults (Err (verdict.Disagrees line due)) before input bench input_rose input_same bench_rose bench_same = same_both before input bench (input_same (search rules)) (bench_same (search rules))
-simulation_faults (Err verdict.NoMemory) before input bench input_rose input_same bench_rose bench_same = same_both before input bench (input_same (search rules)) (bench_same (search rules))
+simulation_faults (Ok done) before input bench input_rose input_same bench_rose bench_same = same_counts before input bench (input_same (not_both done verdict.Input)) (bench_same (not_both done verdict.Bench))
+simulation_faults (Err verdict.Input) before input bench input_rose input_same bench_rose bench_same = (input_rose refl, same_counts (record before { input = input }) input bench refl (bench_same (search rules)))
+simulation_faults (Err verdict.Bench) before input bench input_rose input_same bench_rose bench_same = (bench_rose refl, same_counts (record before { bench = bench }) input bench (input_same (search rules)) refl)
+simulation_faults (Err verdict.Limit) before input bench input_rose input_same bench_rose bench_same = same_counts before input bench (input_same (search rules)) (bench_same (search rules))
+simulation_faults (Err (verdict.Disagrees line due)) before input bench input_rose input_same bench_rose bench_same = same_counts before input bench (input_same (search rules)) (bench_same (search rules))
+simulation_faults (Err verdict.NoMemory) before input bench input_rose input_same bench_rose bench_same = same_counts before input bench (input_same (search rules)) (bench_same (search rules))
 
 -- where every reply agrees, the input is within its limit and nothing failed, it is done, or there was no memory
 pub simulation_wants : FirstLinesHaveVerdicts → (ended : Result (Unit {0}) SimulationFault) (columns : List Column) (public : PublicView) (input left : List ℕ) (verdicts others : List (Replied Answered)) (before after : FaultCounts) → EndVerdicts ended columns public input left verdicts → EndReads ended input left

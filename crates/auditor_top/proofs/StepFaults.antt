@@ -31,14 +31,8 @@ pub not_both : {X E : Type 0} (x : X) (e : E) → Ok x ≡ Err e → ⊥
 not_both x e is = search rules
 
 -- counts of which one, or two, are as they were
-pub same_bench : (before : FaultCounts) (bench : ℕ) → bench ≡ before.bench → record before { bench = bench } ≡ before
-same_bench before bench is = ap (λ (n : ℕ). record before { bench = n }) is
-
-pub same_input : (before : FaultCounts) (input : ℕ) → input ≡ before.input → record before { input = input } ≡ before
-same_input before input is = ap (λ (n : ℕ). record before { input = n }) is
-
-pub same_both : (before : FaultCounts) (input bench : ℕ) → input ≡ before.input → bench ≡ before.bench → record before { input = input; bench = bench } ≡ before
-same_both before input bench is also = same_bench (record before { input = input }) bench also ∙ same_input before input is
+pub same_counts : (before : FaultCounts) (input bench : ℕ) → input ≡ before.input → bench ≡ before.bench → record before { input = input; bench = bench } ≡ before
+same_counts before input bench is also = ap (λ (n : ℕ). record before { input = input; bench = n }) also ∙ ap (λ (n : ℕ). record before { input = n }) is
 
 -- what is said after counts that are the same
 pub moved : (status : Status) (before : FaultCounts) (schema later_schema table later_table input bench spare : ℕ) → later_schema ≡ schema → later_table ≡ table
@@ -59,7 +53,7 @@ unopened_ends (opening.Table file.NoMemory) columns meant base batch history at 
 unopened_ends (opening.Table (file.Bad f)) columns meant base batch history at schema table stands = absurd (not_both meant f table)
 
 -- where no source failed either, it was want of memory
-pub unopened_wants : (fault : OpenFault) (columns : List Column) (meant : TableView) (before after : FaultCounts) → SchemaCause (open_status fault) (Ok columns) → TableCause (open_status fault) (Ok meant)
+pub unopened_wants : {T : Type 0} (fault : OpenFault) (columns : List Column) (meant : T) (before after : FaultCounts) → SchemaCause (open_status fault) (Ok columns) → TableCause (open_status fault) (Ok meant)
     → FaultCause (open_status fault) before after → NothingFailed before after → IsDoneOrWants (open_status fault)
 unopened_wants (opening.Schema file.Failed) columns meant before after schema table rose none = absurd (none.schema rose.0)
 unopened_wants (opening.Schema file.NoMemory) columns meant before after schema table rose none = inr refl
@@ -105,13 +99,13 @@ unstarted_cause start.NoMemory batch file secret cause = tt
 -- the count of the bench rose where a call of it failed, and no other count changed
 pub unstarted_faults : {X : Type 0} (f : StartFault) (before : FaultCounts) (bench : ℕ) → (IsErrOf {T = X} (Err f) start.Failed → Rose before.bench bench) → ((IsErrOf {T = X} (Err f) start.Failed → ⊥) → bench ≡ before.bench)
     → FaultCause (start_status f) before (record before { bench = bench })
-unstarted_faults start.NotMade before bench rose same = same_bench before bench (same (search rules))
-unstarted_faults (start.Damaged at) before bench rose same = same_bench before bench (same (search rules))
-unstarted_faults (start.OtherShape kept now) before bench rose same = same_bench before bench (same (search rules))
-unstarted_faults (start.Untrue place kept now) before bench rose same = same_bench before bench (same (search rules))
-unstarted_faults (start.Illegal place) before bench rose same = same_bench before bench (same (search rules))
+unstarted_faults start.NotMade before bench rose same = same_counts before before.input bench refl (same (search rules))
+unstarted_faults (start.Damaged at) before bench rose same = same_counts before before.input bench refl (same (search rules))
+unstarted_faults (start.OtherShape kept now) before bench rose same = same_counts before before.input bench refl (same (search rules))
+unstarted_faults (start.Untrue place kept now) before bench rose same = same_counts before before.input bench refl (same (search rules))
+unstarted_faults (start.Illegal place) before bench rose same = same_counts before before.input bench refl (same (search rules))
 unstarted_faults start.Failed before bench rose same = (rose refl, refl)
-unstarted_faults start.NoMemory before bench rose same = same_bench before bench (same (search rules))
+unstarted_faults start.NoMemory before bench rose same = same_counts before before.input bench refl (same (search rules))
 
 -- ---- making a journal
 
@@ -123,7 +117,7 @@ refused_is make.Failed status is fine = absurd (fine is)
 -- the count of the bench rose where a call of it failed, and no other count changed
 pub unmade_faults : (f : MakeFault) (before : FaultCounts) (bench : ℕ) → (IsErrOf {T = Unit {0}} (Err f) make.Failed → Rose before.bench bench) → ((IsErrOf {T = Unit {0}} (Err f) make.Failed → ⊥) → bench ≡ before.bench)
     → FaultCause (make_status f) before (record before { bench = bench })
-unmade_faults make.AlreadyThere before bench rose same = same_bench before bench (same (search rules))
+unmade_faults make.AlreadyThere before bench rose same = same_counts before before.input bench refl (same (search rules))
 unmade_faults make.Failed before bench rose same = (rose refl, refl)
 
 -- ---- answering lines
@@ -149,11 +143,11 @@ session_ends (Err end.NoMemory) base batch history now before after all whole li
 -- the count of what failed rose, and no other changed
 pub session_faults : {X : Type 0} (ended : Result X EndFault) (before : FaultCounts) (input bench : ℕ) → (ended ≡ Err end.Input → Rose before.input input) → (ended ≢ Err end.Input → input ≡ before.input)
     → (ended ≡ Err end.Bench → Rose before.bench bench) → (ended ≢ Err end.Bench → bench ≡ before.bench) → FaultCause (session_status ended) before (record before { input = input; bench = bench })
-session_faults (Ok done) before input bench input_rose input_same bench_rose bench_same = same_both before input bench (input_same (not_both done end.Input)) (bench_same (not_both done end.Bench))
-session_faults (Err end.Input) before input bench input_rose input_same bench_rose bench_same = (input_rose refl, same_bench (record before { input = input }) bench (bench_same (search rules)))
-session_faults (Err end.Bench) before input bench input_rose input_same bench_rose bench_same = (bench_rose refl, same_input (record before { bench = bench }) input (input_same (search rules)))
-session_faults (Err end.Limit) before input bench input_rose input_same bench_rose bench_same = same_both before input bench (input_same (search rules)) (bench_same (search rules))
-session_faults (Err end.NoMemory) before input bench input_rose input_same bench_rose bench_same = same_both before input bench (input_same (search rules)) (bench_same (search rules))
+session_faults (Ok done) before input bench input_rose input_same bench_rose bench_same = same_counts before input bench (input_same (not_both done end.Input)) (bench_same (not_both done end.Bench))
+session_faults (Err end.Input) before input bench input_rose input_same bench_rose bench_same = (input_rose refl, same_counts (record before { input = input }) input bench refl (bench_same (search rules)))
+session_faults (Err end.Bench) before input bench input_rose input_same bench_rose bench_same = (bench_rose refl, same_counts (record before { bench = bench }) input bench (input_same (search rules)) refl)
+session_faults (Err end.Limit) before input bench input_rose input_same bench_rose bench_same = same_counts before input bench (input_same (search rules)) (bench_same (search rules))
+session_faults (Err end.NoMemory) before input bench input_rose input_same bench_rose bench_same = same_counts before input bench (input_same (search rules)) (bench_same (search rules))
 
 -- how much of the input there was, by the end
 pub session_reads : {X : Type 0} (ended : Result X EndFault) (before after : List ℕ) → OnOk ended (after ≡ []) → OnOk ended (length before ≤ most_input) → (ended ≡ Err end.Input → length before ≤ most_input + length after)

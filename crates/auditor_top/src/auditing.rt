@@ -1,5 +1,5 @@
 //! The command that shows each secret number to be free.
-ghost use Rattle.std.specs.Prelude.{◌≡◌, ◌≢◌, ◌≤◌, ◌+◌, List, ℕ, Some, Ok, length};
+ghost use Rattle.std.specs.Prelude.{◌≡◌, ◌≢◌, ◌≤◌, ◌+◌, List, ℕ, Some, Ok, length, true};
 ghost use Rattle.audit_types.specs.declared.records.Answered.{Answered};
 ghost use Rattle.bench_core.specs.Calls.{IsQuiet, LeavesOnly};
 ghost use Rattle.schema_json.specs.Columns.{Column};
@@ -55,6 +55,9 @@ pub fn audit<P: Source, B: Bench>(
         → FileCause result Audit (B.file bench.old) base.secret }
     ensures faults { (input spare : ℕ) → FaultCause result
         (counts (P.faults schema.old) (P.faults table.old) input (B.faults bench.old) spare) (counts (P.faults schema.new) (P.faults table.new) input (B.faults bench.new) spare) }
+    ensures schema_last { result ≡ Status.SourceFault Which.Schema → P.last_failed schema.new ≡ true }
+    ensures table_last { result ≡ Status.SourceFault Which.Table → P.last_failed table.new ≡ true }
+    ensures bench_last { result ≡ Status.BenchFault → B.last_failed bench.new ≡ true }
     ensures later { (input spare : ℕ) → NeverFall
         (counts (P.faults schema.old) (P.faults table.old) input (B.faults bench.old) spare) (counts (P.faults schema.new) (P.faults table.new) input (B.faults bench.new) spare) }
 

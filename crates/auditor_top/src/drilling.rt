@@ -137,13 +137,15 @@ pub fn drill<B: Bench>(alloc: Global, number: u32, bench: &mut B) -> Status
     ensures own_table_fault { result ≢ Status.BadTable TableFault.NoMemory }
     ensures no_source { (which : Which) → result ≢ Status.SourceFault which }
     ensures faults { (schema table input spare : ℕ) → FaultCause result (counts schema table input (B.faults bench.old) spare) (counts schema table input (B.faults bench.new) spare) }
+    ensures bench_last { result ≡ Status.BenchFault → B.last_failed bench.new ≡ true }
     ensures later { (schema table input spare : ℕ) → NeverFall (counts schema table input (B.faults bench.old) spare) (counts schema table input (B.faults bench.new) spare) }
     ensures complete { (schema table input spare : ℕ) → NothingFailed (counts schema table input (B.faults bench.old) spare) (counts schema table input (B.faults bench.new) spare)
         → IsDoneOrWants result }
 
-    // One send of the bench, or none where memory is wanting.
+    // One send of the bench, at most one call where it failed, and none where memory is wanting.
     ensures ends { B.told → DrillEnds result number (B.sent bench.old) (B.sent bench.new) }
     ensures calls { B.told → result ≡ Status.Done → B.moment bench.new ≡ B.moment bench.old + 1 }
+    ensures one_call { B.moment bench.new ≤ B.moment bench.old + 1 }
     ensures no_memory { result ≡ Status.NoMemory → bench.new ≡ bench.old }
     ensures file { B.file bench.new ≡ B.file bench.old }
     ensures quiet { IsQuiet B.Bench bench.old → IsQuiet B.Bench bench.new }

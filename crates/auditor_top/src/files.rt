@@ -1,5 +1,5 @@
 //! The two files that a run stands on: each is read whole, and then told what its bytes mean.
-ghost use Rattle.std.specs.Prelude.{◌≡◌, ◌≢◌, ◌≤◌, ◌+◌, length, IfOk, Err};
+ghost use Rattle.std.specs.Prelude.{◌≡◌, ◌≢◌, ◌≤◌, ◌+◌, true, length, IfOk, Err};
 ghost use Rattle.bench_core.specs.Causes.{Rose};
 ghost use Rattle.schema_json.specs.Reading.{schema_of, most_schema};
 ghost use Rattle.table_load.specs.Reading.{most_table};
@@ -19,7 +19,7 @@ use table_load::{MOST_TABLE, Public, Table, TableFault, load, load_public};
 pub enum FileFault<F: Drop> {
     /// A read failed.
     Failed,
-    /// There was no memory.
+    /// Memory ran out.
     NoMemory,
     /// The bytes have this fault. It is never want of memory.
     Bad(F),
@@ -35,6 +35,7 @@ pub fn schema_from<P: Source>(
     ensures within { P.told → result ≡ Err FileFault.Failed → length (P.left source.old) ≤ most_schema + length (P.left source.new) }
     ensures later { P.faults source.old ≤ P.faults source.new }
     ensures failed { result ≡ Err FileFault.Failed → Rose (P.faults source.old) (P.faults source.new) }
+    ensures last_call { result ≡ Err FileFault.Failed → P.last_failed source.new ≡ true }
     ensures steady { (result ≡ Err FileFault.Failed → ⊥) → P.faults source.new ≡ P.faults source.old }
 {
     let bytes = match read_all(alloc, source, MOST_SCHEMA) {
@@ -62,6 +63,7 @@ pub fn table_from<P: Source>(
     ensures within { P.told → result ≡ Err FileFault.Failed → length (P.left source.old) ≤ most_table + length (P.left source.new) }
     ensures later { P.faults source.old ≤ P.faults source.new }
     ensures failed { result ≡ Err FileFault.Failed → Rose (P.faults source.old) (P.faults source.new) }
+    ensures last_call { result ≡ Err FileFault.Failed → P.last_failed source.new ≡ true }
     ensures steady { (result ≡ Err FileFault.Failed → ⊥) → P.faults source.new ≡ P.faults source.old }
 {
     let bytes = match read_all(alloc, source, MOST_TABLE) {
@@ -89,6 +91,7 @@ pub fn public_from<P: Source>(
     ensures within { P.told → result ≡ Err FileFault.Failed → length (P.left source.old) ≤ most_table + length (P.left source.new) }
     ensures later { P.faults source.old ≤ P.faults source.new }
     ensures failed { result ≡ Err FileFault.Failed → Rose (P.faults source.old) (P.faults source.new) }
+    ensures last_call { result ≡ Err FileFault.Failed → P.last_failed source.new ≡ true }
     ensures steady { (result ≡ Err FileFault.Failed → ⊥) → P.faults source.new ≡ P.faults source.old }
 {
     let bytes = match read_all(alloc, source, MOST_TABLE) {

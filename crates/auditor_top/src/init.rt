@@ -1,5 +1,5 @@
 //! The command that makes the journal of a table.
-ghost use Rattle.std.specs.Prelude.{◌≡◌, ◌≢◌, ◌≤◌, ◌+◌, [], List, ℕ, Some, Ok, length};
+ghost use Rattle.std.specs.Prelude.{◌≡◌, ◌≢◌, ◌≤◌, ◌+◌, [], List, ℕ, Some, Ok, length, true};
 ghost use Rattle.bench_core.specs.Calls.{IsQuiet, LeavesOnly};
 ghost use Rattle.schema_json.specs.Columns.{Column};
 ghost use Rattle.schema_json.specs.Reading.{schema_of, most_schema};
@@ -42,6 +42,9 @@ pub fn init<P: Source, B: Bench>(
         → FileCause result Init (B.file bench.old) base.secret }
     ensures faults { (input spare : ℕ) → FaultCause result
         (counts (P.faults schema.old) (P.faults table.old) input (B.faults bench.old) spare) (counts (P.faults schema.new) (P.faults table.new) input (B.faults bench.new) spare) }
+    ensures schema_last { result ≡ Status.SourceFault Which.Schema → P.last_failed schema.new ≡ true }
+    ensures table_last { result ≡ Status.SourceFault Which.Table → P.last_failed table.new ≡ true }
+    ensures bench_last { result ≡ Status.BenchFault → B.last_failed bench.new ≡ true }
     ensures later { (input spare : ℕ) → NeverFall
         (counts (P.faults schema.old) (P.faults table.old) input (B.faults bench.old) spare) (counts (P.faults schema.new) (P.faults table.new) input (B.faults bench.new) spare) }
 

@@ -1,5 +1,5 @@
 //! The files that every command over a table stands on: the schema, and the table over it.
-ghost use Rattle.std.specs.Prelude.{◌≡◌, ◌≢◌, ◌≤◌, ◌+◌, ℕ, List, length, IfOk, IfErr, OnOk, Ok, Err};
+ghost use Rattle.std.specs.Prelude.{◌≡◌, ◌≢◌, ◌≤◌, ◌+◌, ℕ, true, List, length, IfOk, IfErr, OnOk, Ok, Err};
 ghost use Rattle.schema_json.specs.Columns.{Column};
 ghost use Rattle.schema_json.specs.Reading.{schema_of, most_schema};
 ghost use Rattle.table_load.specs.Reading.{most_table};
@@ -59,6 +59,8 @@ pub fn open_table<P: Source>(
     ensures table_within { P.told → result ≡ Err (OpenFault.Table FileFault.Failed) → length (P.left table.old) ≤ most_table + length (P.left table.new) }
     ensures faults { (input bench spare : ℕ) → IfErr result (λ fault. FaultCause (open_status fault)
         (counts (P.faults schema.old) (P.faults table.old) input bench spare) (counts (P.faults schema.new) (P.faults table.new) input bench spare)) }
+    ensures schema_last { result ≡ Err (OpenFault.Schema FileFault.Failed) → P.last_failed schema.new ≡ true }
+    ensures table_last { result ≡ Err (OpenFault.Table FileFault.Failed) → P.last_failed table.new ≡ true }
     ensures steady { OnOk result ((P.faults schema.new ≡ P.faults schema.old) × (P.faults table.new ≡ P.faults table.old)) }
     ensures later { (P.faults schema.old ≤ P.faults schema.new) × (P.faults table.old ≤ P.faults table.new) }
     ensures untouched { IfErr result (λ fault. Before reading_table (open_status fault) (table.new ≡ table.old)) }
@@ -93,6 +95,8 @@ pub fn open_public<P: Source>(
     ensures table_within { P.told → result ≡ Err (OpenFault.Table FileFault.Failed) → length (P.left table.old) ≤ most_table + length (P.left table.new) }
     ensures faults { (input bench spare : ℕ) → IfErr result (λ fault. FaultCause (open_status fault)
         (counts (P.faults schema.old) (P.faults table.old) input bench spare) (counts (P.faults schema.new) (P.faults table.new) input bench spare)) }
+    ensures schema_last { result ≡ Err (OpenFault.Schema FileFault.Failed) → P.last_failed schema.new ≡ true }
+    ensures table_last { result ≡ Err (OpenFault.Table FileFault.Failed) → P.last_failed table.new ≡ true }
     ensures steady { OnOk result ((P.faults schema.new ≡ P.faults schema.old) × (P.faults table.new ≡ P.faults table.old)) }
     ensures later { (P.faults schema.old ≤ P.faults schema.new) × (P.faults table.old ≤ P.faults table.new) }
     ensures untouched { IfErr result (λ fault. Before reading_table (open_status fault) (table.new ≡ table.old)) }

@@ -1,5 +1,5 @@
 //! Reads a source to its end, or past a limit.
-ghost use Rattle.std.specs.Prelude.{◌≡◌, ◌≤◌, ◌+◌, length, IfOk, Err};
+ghost use Rattle.std.specs.Prelude.{◌≡◌, ◌≤◌, ◌+◌, true, length, IfOk, Err};
 ghost use Rattle.bench_core.specs.Causes.{Rose};
 ghost use Rattle.auditor_top.specs.Reading.{ReadsAll};
 
@@ -13,7 +13,7 @@ const PIECE: usize = 4096;
 pub enum ReadFault {
     /// The source failed.
     Failed,
-    /// There was no memory.
+    /// Memory ran out.
     NoMemory,
 }
 
@@ -23,6 +23,7 @@ pub fn read_all<P: Source>(alloc: Global, source: &mut P, most: usize) -> Result
     ensures within { P.told → result ≡ Err ReadFault.Failed → length (P.left source.old) ≤ most + length (P.left source.new) }
     ensures later { P.faults source.old ≤ P.faults source.new }
     ensures failed { result ≡ Err ReadFault.Failed → Rose (P.faults source.old) (P.faults source.new) }
+    ensures last_call { result ≡ Err ReadFault.Failed → P.last_failed source.new ≡ true }
     ensures steady { (result ≡ Err ReadFault.Failed → ⊥) → P.faults source.new ≡ P.faults source.old }
 {
     let mut bytes = Vec::new(alloc);

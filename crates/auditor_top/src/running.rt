@@ -44,7 +44,8 @@ use std::alloc::Global;
 use table_load::TableFault;
 
 /// Does all that the program does: reads the words after the program's name, and takes the steps of their command over the
-/// schema, the table, the lines of the input, and the bench, which keeps the journal and takes what is sent.
+/// schema, the table, the lines of the input, and the bench, which keeps the journal and takes what is sent. `spare` is never
+/// called: it is the place of a second journal, which no command keeps.
 pub fn run<P: Source, I: Source, B: Bench>(
     alloc: Global,
     words: &Vec<String>,
@@ -67,11 +68,16 @@ pub fn run<P: Source, I: Source, B: Bench>(
         → (base : Database) → AreFilesOf (P.left schema.old) (P.left table.old) base → FileCause result command (B.file bench.old) base.secret }
     ensures input { I.told → (command : Command) → NamesCommand words.now.items command → reads_lines command ≡ true → InputCause result (I.left input.old) (I.left input.new) }
 
-    // A failed call is told when it happens: the count of faults rose of the object that the status says has failed, and of
-    // no other. A file whose read failed had not been read past what it may have.
+    // A failed call is told when it happens: it is the only call that failed, and the last one that was made, of the object
+    // that the status says has failed, and of no other did one fail. A file whose read failed had not been read past what it
+    // may have.
     ensures faults { FaultCause result
         (counts (P.faults schema.old) (P.faults table.old) (I.faults input.old) (B.faults bench.old) (B.faults spare.old))
         (counts (P.faults schema.new) (P.faults table.new) (I.faults input.new) (B.faults bench.new) (B.faults spare.new)) }
+    ensures schema_last { result ≡ Status.SourceFault Which.Schema → P.last_failed schema.new ≡ true }
+    ensures table_last { result ≡ Status.SourceFault Which.Table → P.last_failed table.new ≡ true }
+    ensures input_last { result ≡ Status.SourceFault Which.Input → I.last_failed input.new ≡ true }
+    ensures bench_last { result ≡ Status.BenchFault → B.last_failed bench.new ≡ true }
     ensures later { NeverFall
         (counts (P.faults schema.old) (P.faults table.old) (I.faults input.old) (B.faults bench.old) (B.faults spare.old))
         (counts (P.faults schema.new) (P.faults table.new) (I.faults input.new) (B.faults bench.new) (B.faults spare.new)) }
@@ -144,9 +150,10 @@ pub fn run<P: Source, I: Source, B: Bench>(
     ensures unmade { NamesCommand words.now.items Init → result ≡ Status.NoMemory → bench.new ≡ bench.old }
 
     // `drill` sends the summary of the replies that are due to the drill's lines, or a front of it. That is one call of the
-    // bench, and where memory is wanting there is none.
+    // bench, at most one where it failed, and where memory is wanting there is none.
     ensures drilled { B.told → (number : ℕ) → NamesCommand words.now.items (Drill number) → DrillEnds result number (B.sent bench.old) (B.sent bench.new) }
     ensures drill_calls { B.told → (number : ℕ) → NamesCommand words.now.items (Drill number) → result ≡ Status.Done → B.moment bench.new ≡ B.moment bench.old + 1 }
+    ensures drill_call { (number : ℕ) → NamesCommand words.now.items (Drill number) → B.moment bench.new ≤ B.moment bench.old + 1 }
     ensures undrilled { (number : ℕ) → NamesCommand words.now.items (Drill number) → result ≡ Status.NoMemory → bench.new ≡ bench.old }
 
     // Where it ends without a failed call, a crash leaves the file that reads.

@@ -1,5 +1,5 @@
 //! The command that computes the verdicts on a transcript again.
-ghost use Rattle.std.specs.Prelude.{◌≡◌, ◌≢◌, ◌≤◌, ◌+◌, List, ℕ, Some, Ok, length};
+ghost use Rattle.std.specs.Prelude.{◌≡◌, ◌≢◌, ◌≤◌, ◌+◌, List, ℕ, Some, Ok, length, true};
 ghost use Rattle.audit_types.specs.declared.records.Answered.{Answered};
 ghost use Rattle.bench_core.specs.Calls.{IsQuiet, LeavesOnly};
 ghost use Rattle.schema_json.specs.Columns.{Column};
@@ -60,6 +60,10 @@ pub fn simulate<P: Source, I: Source, B: Bench>(
     ensures faults { (spare : ℕ) → FaultCause result
         (counts (P.faults schema.old) (P.faults table.old) (I.faults input.old) (B.faults bench.old) spare)
         (counts (P.faults schema.new) (P.faults table.new) (I.faults input.new) (B.faults bench.new) spare) }
+    ensures schema_last { result ≡ Status.SourceFault Which.Schema → P.last_failed schema.new ≡ true }
+    ensures table_last { result ≡ Status.SourceFault Which.Table → P.last_failed table.new ≡ true }
+    ensures input_last { result ≡ Status.SourceFault Which.Input → I.last_failed input.new ≡ true }
+    ensures bench_last { result ≡ Status.BenchFault → B.last_failed bench.new ≡ true }
     ensures later { (spare : ℕ) → NeverFall
         (counts (P.faults schema.old) (P.faults table.old) (I.faults input.old) (B.faults bench.old) spare)
         (counts (P.faults schema.new) (P.faults table.new) (I.faults input.new) (B.faults bench.new) spare) }

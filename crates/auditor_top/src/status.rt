@@ -26,7 +26,7 @@ pub enum Which {
 /// How a run ended. docs/OPERATIONS.md says what to do at each.
 #[derive(Clone, Copy, Debug, PartialEq, Eq)]
 pub enum Status {
-    /// The input was read to its end, and each line has its reply.
+    /// Each step of the command was taken to its end. Of `serve` that is: the input was read, and each line has its reply.
     Done,
     /// The words are no command.
     BadWords,
@@ -54,7 +54,7 @@ pub enum Status {
     InputLimit,
     /// The line of the transcript, from 1, that is the first reply which doesn't agree, and the verdict on its question.
     Disagrees { line: u64, due: Due },
-    /// There was no memory.
+    /// Memory ran out.
     NoMemory,
 }
 

@@ -30,7 +30,7 @@ pub enum Command {
 pub enum WordFault {
     /// They are none.
     Bad,
-    /// There was no memory to read them.
+    /// Memory ran out while they were read.
     NoMemory,
 }
 

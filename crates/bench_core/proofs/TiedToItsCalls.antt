@@ -1,5 +1,5 @@
 -- Each call keeps a bench in memory tied to the record of its calls.
-use Rattle.std.proofs.Common.{◌≡◌, ℕ, ◌+◌, ◌<◌, ◌≤◌, min, max, List, [], ◌∷◌, ◌++◌, length, take, drop, sym, ap, ◌∙◌, arith, length-append, length-take, length-drop}
+use Rattle.std.proofs.Common.{◌≡◌, ℕ, ◌+◌, ◌<◌, ◌≤◌, Bool, min, max, List, [], ◌∷◌, ◌++◌, length, take, drop, sym, ap, ◌∙◌, arith, length-append, length-take, length-drop}
 use Rattle.bench_core.specs.Machine.{Call, State, start, after, after_all, written}
 use Rattle.bench_core.specs.DiskContents.{DiskContents, is_dirty}
 use Rattle.bench_core.specs.LogContents.{LogContents}
@@ -23,12 +23,12 @@ pub record Steps (b : Inside) (call : Call) (disk : DiskContents) (log : LogCont
   pub most_sent : log.most_sent ≡ b.log.most_sent
   pub counted : length b.log.calls + 1 ≤ min calls b.room.calls + length log.sent
 
--- a bench with another disk and log, and other counts
-abbrev pub moved : Inside → DiskContents → LogContents → ℕ → ℕ → Inside
-moved b disk log calls faults = record { alloc = b.alloc; first = b.first; disk = disk; log = log; failing = b.failing; stop = b.stop; room = b.room; calls = calls; faults = faults }
+-- a bench with another disk and log, other counts, and another answer of its last call
+abbrev pub moved : Inside → DiskContents → LogContents → ℕ → ℕ → Bool → Inside
+moved b disk log calls faults last_failed = record { alloc = b.alloc; first = b.first; disk = disk; log = log; failing = b.failing; stop = b.stop; room = b.room; calls = calls; faults = faults; last_failed = last_failed }
 
-pub tied_step : (b : Inside) (call : Call) (disk : DiskContents) (log : LogContents) (calls faults : ℕ) → IsTied b → Steps b call disk log calls → IsTied (moved b disk log calls faults)
-tied_step b call disk log calls faults tied step =
+pub tied_step : (b : Inside) (call : Call) (disk : DiskContents) (log : LogContents) (calls faults : ℕ) (last_failed : Bool) → IsTied b → Steps b call disk log calls → IsTied (moved b disk log calls faults last_failed)
+tied_step b call disk log calls faults last_failed tied step =
     let now : after_all (start b.first.items) log.calls ≡ after (state_in b) call = ap (after_all (start b.first.items)) step.calls_are ∙ after_all-push (start b.first.items) b.log.calls call in
     record {
       file = step.file ∙ ap (λ (s : State). s.file) (sym now);

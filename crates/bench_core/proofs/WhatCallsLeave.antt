@@ -91,7 +91,7 @@ front_or_none b (x ∷ front) Q some none = some
 
 -- the count of faults of a call that fails
 pub failed_cause : {T E : Type 0} (e : E) (faults : ℕ) → faults < 2 ^ 64 → HasCause {T = T} faults (next_count faults) (Err e)
-failed_cause e faults within = record { later = omega arith; failed = omega arith; steady = tt }
+failed_cause e faults within = record { later = omega arith; failed = refl; steady = tt }
 
 -- a front of a front
 pub shorter_front : (before piece : List ℕ) (count : ℕ) (sent : List ℕ) → AppendsFront before (take count piece) sent → AppendsFront before piece sent

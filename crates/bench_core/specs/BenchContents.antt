@@ -1,18 +1,20 @@
 -- A bench in memory as contracts see it, and at which calls it fails.
-use Rattle.std.specs.Prelude.{◌≡◌, ◌<◌, ◌&&◌, not, slice_index, ℕ, ◌+◌, [], ◌∷◌, ◌++◌, if◌then◌else◌, Bool, ◌||◌, false, Option, Some, None, List, length, nat_lt, nat_le, ◌==◌}
+use Rattle.std.specs.Prelude.{◌≡◌, ◌<◌, ◌&&◌, not, slice_index, ℕ, ◌+◌, [], ◌∷◌, ◌++◌, if◌then◌else◌, Bool, ◌||◌, true, false, Option, Some, None, List, length, nat_lt, nat_le, ◌==◌}
 use Rattle.std.specs.List.{list_any}
 use Rattle.bench_core.specs.declared.room.Room.{Room}
 use Rattle.bench_core.specs.Causes.{next_count}
 use Rattle.bench_core.specs.Machine.{Call, unwritten, sending, State, start, after_all, Leaves, Since}
 
 -- the file at its start, the calls that changed it or passed, the bytes of the pieces written, the number of the next
--- call, the count of faults, the numbers of the calls that fail, the number from which on all fail, and its room
+-- call, the count of faults, whether the last call failed, the numbers of the calls that fail, the number from which on
+-- all fail, and its room
 pub record BenchContents : Type 0 where
   pub first : List ℕ
   pub past : List Call
   pub written : ℕ
   pub calls : ℕ
   pub faults : ℕ
+  pub last_failed : Bool
   pub failing : List ℕ
   pub stop : Option ℕ
   pub room : Room
@@ -59,11 +61,11 @@ write_fails bench at count = call_fails bench || nat_lt bench.room.file (at + co
 
 -- a call succeeds: it joins the record, and the clock goes on
 abbrev pub passed : BenchContents → Call → BenchContents
-passed bench call = record bench { past = bench.past ++ call ∷ []; calls = bench.calls + 1 }
+passed bench call = record bench { past = bench.past ++ call ∷ []; calls = bench.calls + 1; last_failed = false }
 
 -- a call fails and changes nothing
 abbrev pub failed : BenchContents → BenchContents
-failed bench = record bench { calls = next_count bench.calls; faults = next_count bench.faults }
+failed bench = record bench { calls = next_count bench.calls; faults = next_count bench.faults; last_failed = true }
 
 -- a write fails: where there was room for a call, its range was touched
 abbrev pub failed_write : BenchContents → ℕ → ℕ → BenchContents

@@ -1,5 +1,5 @@
 //! The journal's file, and where replies go.
-ghost use Rattle.std.specs.Prelude.{◌≡◌, ◌≤◌, ◌+◌, ◌-◌, ◌++◌, List, ℕ, length, take, drop, min, IfOk, OnOk, OnErr};
+ghost use Rattle.std.specs.Prelude.{◌≡◌, ◌≤◌, ◌+◌, ◌-◌, ◌++◌, Bool, List, ℕ, length, take, drop, min, IfOk, OnOk, OnErr, is_err};
 ghost use Rattle.bench_core.specs.Causes.{HasCause};
 ghost use Rattle.bench_core.specs.Bench.{AppendsFront, Holds, Torn, Follows, Unsent, Sending, Elapses};
 
@@ -20,7 +20,7 @@ pub trait Bench {
     /// The images of the file that a crash at this moment may leave.
     ghost leaves: { Self → List ℕ → Type 0 };
 
-    /// The moment on its clock, where it tells it. A call that succeeds takes one; one that fails may take none.
+    /// The moment on its clock, where it tells it. A call that succeeds takes one; one that fails takes one or none.
     ghost moment: { Self → ℕ };
 
     /// The pairs of image and bytes sent that a crash at some moment from that one on might have found, within a call or
@@ -30,6 +30,9 @@ pub trait Bench {
     /// How often it has failed. The count never falls, and stands still at its type's end.
     ghost faults: { Self → ℕ };
 
+    /// Whether the last call of it failed.
+    ghost last_failed: { Self → Bool };
+
     /// The file's length.
     fn length(&mut self) -> Result<u64, Failed>
         ensures length { told → IfOk result (λ count. count ≡ length (file self.old)) }
@@ -38,7 +41,9 @@ pub trait Bench {
         ensures crash { (image : List ℕ) → leaves self.new image → leaves self.old image }
         ensures time { Elapses (moment self.old) (moment self.new) (since self.old) (since self.new) (Unsent (leaves self.new) (sent self.old)) }
         ensures ticks { told → OnOk result (moment self.new ≡ moment self.old + 1) }
-        ensures cause { HasCause (faults self.old) (faults self.new) result };
+        ensures one_tick { moment self.new ≤ moment self.old + 1 }
+        ensures cause { HasCause (faults self.old) (faults self.new) result }
+        ensures last_call { last_failed self.new ≡ is_err result };
 
     /// Reads the bytes from a place on into the front of the buffer, as many as it takes.
     fn read_at(&mut self, at: u64, buf: &mut [u8]) -> Result<usize, Failed>
@@ -50,7 +55,9 @@ pub trait Bench {
         ensures crash { (image : List ℕ) → leaves self.new image → leaves self.old image }
         ensures time { Elapses (moment self.old) (moment self.new) (since self.old) (since self.new) (Unsent (leaves self.new) (sent self.old)) }
         ensures ticks { told → OnOk result (moment self.new ≡ moment self.old + 1) }
-        ensures cause { HasCause (faults self.old) (faults self.new) result };
+        ensures one_tick { moment self.new ≤ moment self.old + 1 }
+        ensures cause { HasCause (faults self.old) (faults self.new) result }
+        ensures last_call { last_failed self.new ≡ is_err result };
 
     /// Writes over what stands there, and past the end. Until a sync, a crash may leave any bytes in the range.
     fn write_at(&mut self, at: u64, piece: &[u8]) -> Result<(), Failed>
@@ -61,7 +68,9 @@ pub trait Bench {
         ensures crash { Follows (Torn at (length piece.now)) (leaves self.old) (leaves self.new) }
         ensures time { Elapses (moment self.old) (moment self.new) (since self.old) (since self.new) (Unsent (leaves self.new) (sent self.old)) }
         ensures ticks { told → OnOk result (moment self.new ≡ moment self.old + 1) }
-        ensures cause { HasCause (faults self.old) (faults self.new) result };
+        ensures one_tick { moment self.new ≤ moment self.old + 1 }
+        ensures cause { HasCause (faults self.old) (faults self.new) result }
+        ensures last_call { last_failed self.new ≡ is_err result };
 
     /// After it, a crash leaves what a read gives.
     fn sync(&mut self) -> Result<(), Failed>
@@ -71,7 +80,9 @@ pub trait Bench {
         ensures crash { (image : List ℕ) → leaves self.new image → leaves self.old image }
         ensures time { Elapses (moment self.old) (moment self.new) (since self.old) (since self.new) (Unsent (leaves self.new) (sent self.old)) }
         ensures ticks { told → OnOk result (moment self.new ≡ moment self.old + 1) }
-        ensures cause { HasCause (faults self.old) (faults self.new) result };
+        ensures one_tick { moment self.new ≤ moment self.old + 1 }
+        ensures cause { HasCause (faults self.old) (faults self.new) result }
+        ensures last_call { last_failed self.new ≡ is_err result };
 
     /// Sends a piece. After `Failed` a front of it was sent, which may be empty.
     fn send(&mut self, piece: &[u8]) -> Result<(), Failed>
@@ -81,10 +92,12 @@ pub trait Bench {
         ensures crash { (image : List ℕ) → leaves self.new image → leaves self.old image }
         ensures time { Elapses (moment self.old) (moment self.new) (since self.old) (since self.new) (Sending (leaves self.new) (sent self.old) piece.now) }
 
-        // A call that succeeds takes one moment, so the clock counts them. One that fails may take none.
+        // A call that succeeds takes one moment, so the clock counts them. One that fails takes one or none.
         ensures ticks { told → OnOk result (moment self.new ≡ moment self.old + 1) }
+        ensures one_tick { moment self.new ≤ moment self.old + 1 }
         ensures later { moment self.old ≤ moment self.new }
-        ensures cause { HasCause (faults self.old) (faults self.new) result };
+        ensures cause { HasCause (faults self.old) (faults self.new) result }
+        ensures last_call { last_failed self.new ≡ is_err result };
 
     /// The file as it reads is one of the images.
     ghost reads: { (bench : Self) → told → leaves bench (file bench) };

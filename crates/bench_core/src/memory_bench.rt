@@ -1,5 +1,5 @@
 //! A bench in memory that fails at stated calls, and where its room is full.
-ghost use Rattle.std.specs.Prelude.{◌≡◌, ◌≢◌, ◌↔◌, ◌⊎◌, ◌<◌, ◌≤◌, ◌+◌, ◌-◌, ◌/◌, ◌^◌, ◌++◌, ◌∷◌, [], List, ℕ, length, IfOk, IsErr, OnErr, OnOk, IsTrue, min, take, drop, None, Some, false};
+ghost use Rattle.std.specs.Prelude.{◌≡◌, ◌≢◌, ◌↔◌, ◌⊎◌, ◌<◌, ◌≤◌, ◌+◌, ◌-◌, ◌/◌, ◌^◌, ◌++◌, ◌∷◌, [], List, ℕ, length, IfOk, IsErr, OnErr, OnOk, IsTrue, is_err, min, take, drop, None, Some, false};
 ghost use Rattle.bench_core.specs.Causes.{HasCause, next_count};
 ghost use Rattle.bench_core.specs.Bench.{AppendsFront, Holds, Torn, Follows, Unsent, Sending, Elapses};
 ghost use Rattle.bench_core.specs.Machine.{wrote, unwritten, synced, sending, other, written};
@@ -27,6 +27,7 @@ pub struct MemoryBench {
     room: Room,
     calls: u64,
     faults: u64,
+    last_failed: bool,
 }
 
 impl Model for MemoryBench {
@@ -35,7 +36,7 @@ impl Model for MemoryBench {
 
     ghost Value = { BenchContents };
 
-    ghost view = { λ b. record { first = b.first.items; past = b.log.calls; written = b.log.written; calls = b.calls; faults = b.faults; failing = b.failing.items; stop = b.stop; room = b.room } };
+    ghost view = { λ b. record { first = b.first.items; past = b.log.calls; written = b.log.written; calls = b.calls; faults = b.faults; last_failed = b.last_failed; failing = b.failing.items; stop = b.stop; room = b.room } };
 
     ghost invariant = { IsTied };
 }
@@ -61,7 +62,7 @@ impl MemoryBench {
     ) -> Result<Self, NoMemory>
         requires { length file.now ≤ room.file }
         ensures file { IfOk result (λ bench. (bench.first ≡ file.now) × (bench.past ≡ [])) }
-        ensures fresh { IfOk result (λ bench. (bench.written ≡ 0) × (bench.calls ≡ 0) × (bench.faults ≡ 0)) }
+        ensures fresh { IfOk result (λ bench. (bench.written ≡ 0) × (bench.calls ≡ 0) × (bench.faults ≡ 0) × (bench.last_failed ≡ false)) }
         ensures given { IfOk result (λ bench. (bench.failing ≡ failing.items) × (bench.stop ≡ stop) × (bench.room ≡ room)) }
     {
         let Some(slots) = room.calls.checked_add(room.sent) else {
@@ -87,6 +88,7 @@ impl MemoryBench {
             room,
             calls: 0,
             faults: 0,
+            last_failed: false,
         })
     }
 
@@ -129,6 +131,7 @@ impl MemoryBench {
     {
         self.calls = self.calls.saturating_add(1);
         self.faults = self.faults.saturating_add(1);
+        self.last_failed = true;
     }
 
     // A call that changes nothing.
@@ -138,6 +141,7 @@ impl MemoryBench {
     {
         self.log.pass();
         self.calls += 1;
+        self.last_failed = false;
     }
 
     fn pass_sync(&mut self)
@@ -147,6 +151,7 @@ impl MemoryBench {
         self.log.sync();
         self.disk.sync();
         self.calls += 1;
+        self.last_failed = false;
     }
 
     fn pass_write(&mut self, at: usize, piece: &[u8])
@@ -159,6 +164,7 @@ impl MemoryBench {
         self.log.write(at, piece);
         self.disk.write(at, piece);
         self.calls += 1;
+        self.last_failed = false;
     }
 
     fn fail_write(&mut self, at: usize, count: usize)
@@ -174,6 +180,7 @@ impl MemoryBench {
         self.disk.touch(at, count);
         self.calls += 1;
         self.faults = self.faults.saturating_add(1);
+        self.last_failed = true;
     }
 
     fn pass_send(&mut self, piece: &[u8])
@@ -183,6 +190,7 @@ impl MemoryBench {
     {
         self.log.send(piece);
         self.calls += 1;
+        self.last_failed = false;
     }
 
     fn fail_send(&mut self, front: &[u8])
@@ -197,6 +205,7 @@ impl MemoryBench {
         self.log.send(front);
         self.calls = self.calls.saturating_add(1);
         self.faults = self.faults.saturating_add(1);
+        self.last_failed = true;
     }
 }
 
@@ -240,7 +249,7 @@ impl MemoryBench {
         ensures stable { pick ≡ 1 → IfOk result (λ bench. bench.first ≡ (state_of self.now).stable) }
         ensures torn { pick ≡ 2 → IfOk result (λ bench. IsTornFile (state_of self.now) bench.first) }
         ensures read { pick ≢ 1 → pick ≢ 2 → IfOk result (λ bench. bench.first ≡ file_of self.now) }
-        ensures fresh { IfOk result (λ bench. (bench.past ≡ []) × (bench.written ≡ 0) × (bench.calls ≡ 0) × (bench.faults ≡ 0)) }
+        ensures fresh { IfOk result (λ bench. (bench.past ≡ []) × (bench.written ≡ 0) × (bench.calls ≡ 0) × (bench.faults ≡ 0) × (bench.last_failed ≡ false)) }
         ensures given { IfOk result (λ bench. (bench.failing ≡ []) × (bench.stop ≡ None) × (bench.room ≡ self.now.room)) }
     {
         let file = self.file();
@@ -258,7 +267,7 @@ impl MemoryBench {
     fn with_file(&self, file: &[u8]) -> Result<MemoryBench, NoMemory>
         requires { length file.now ≤ self.now.room.file }
         ensures file { IfOk result (λ bench. (bench.first ≡ file.now) × (bench.past ≡ [])) }
-        ensures fresh { IfOk result (λ bench. (bench.written ≡ 0) × (bench.calls ≡ 0) × (bench.faults ≡ 0)) }
+        ensures fresh { IfOk result (λ bench. (bench.written ≡ 0) × (bench.calls ≡ 0) × (bench.faults ≡ 0) × (bench.last_failed ≡ false)) }
         ensures given { IfOk result (λ bench. (bench.failing ≡ []) × (bench.stop ≡ None) × (bench.room ≡ self.now.room)) }
     {
         MemoryBench::new(self.alloc, file, self.room, Vec::new(self.alloc), None)
@@ -314,6 +323,8 @@ impl Bench for MemoryBench {
 
     ghost faults = { λ b. b.faults };
 
+    ghost last_failed = { λ b. b.last_failed };
+
     fn length(&mut self) -> Result<u64, Failed>
         ensures length { Unit {0} → IfOk result (λ count. count ≡ length (file_of self.old)) }
         ensures file { file_of self.new ≡ file_of self.old }
@@ -321,7 +332,9 @@ impl Bench for MemoryBench {
         ensures crash { (image : List ℕ) → may_leave self.new image → may_leave self.old image }
         ensures time { Elapses (length self.old.past) (length self.new.past) (found_since self.old) (found_since self.new) (Unsent (may_leave self.new) (sent_of self.old)) }
         ensures ticks { Unit {0} → OnOk result (length self.new.past ≡ length self.old.past + 1) }
+        ensures one_tick { length self.new.past ≤ length self.old.past + 1 }
         ensures cause { HasCause self.old.faults self.new.faults result }
+        ensures last_call { self.new.last_failed ≡ is_err result }
 
         // It fails exactly at the calls that it was given, and where no call is left.
         ensures fails { IsErr result ↔ IsTrue (call_fails self.old) }
@@ -345,7 +358,9 @@ impl Bench for MemoryBench {
         ensures crash { (image : List ℕ) → may_leave self.new image → may_leave self.old image }
         ensures time { Elapses (length self.old.past) (length self.new.past) (found_since self.old) (found_since self.new) (Unsent (may_leave self.new) (sent_of self.old)) }
         ensures ticks { Unit {0} → OnOk result (length self.new.past ≡ length self.old.past + 1) }
+        ensures one_tick { length self.new.past ≤ length self.old.past + 1 }
         ensures cause { HasCause self.old.faults self.new.faults result }
+        ensures last_call { self.new.last_failed ≡ is_err result }
 
         // It fails exactly at the calls that it was given, and where no call is left.
         ensures fails { IsErr result ↔ IsTrue (call_fails self.old) }
@@ -368,7 +383,9 @@ impl Bench for MemoryBench {
         ensures crash { Follows (Torn at (length piece.now)) (may_leave self.old) (may_leave self.new) }
         ensures time { Elapses (length self.old.past) (length self.new.past) (found_since self.old) (found_since self.new) (Unsent (may_leave self.new) (sent_of self.old)) }
         ensures ticks { Unit {0} → OnOk result (length self.new.past ≡ length self.old.past + 1) }
+        ensures one_tick { length self.new.past ≤ length self.old.past + 1 }
         ensures cause { HasCause self.old.faults self.new.faults result }
+        ensures last_call { self.new.last_failed ≡ is_err result }
 
         // It fails exactly at the calls that it was given, and where its room is full. Then it touches its range alone.
         ensures fails { IsErr result ↔ IsTrue (write_fails self.old at (length piece.now)) }
@@ -390,7 +407,9 @@ impl Bench for MemoryBench {
         ensures crash { (image : List ℕ) → may_leave self.new image → may_leave self.old image }
         ensures time { Elapses (length self.old.past) (length self.new.past) (found_since self.old) (found_since self.new) (Unsent (may_leave self.new) (sent_of self.old)) }
         ensures ticks { Unit {0} → OnOk result (length self.new.past ≡ length self.old.past + 1) }
+        ensures one_tick { length self.new.past ≤ length self.old.past + 1 }
         ensures cause { HasCause self.old.faults self.new.faults result }
+        ensures last_call { self.new.last_failed ≡ is_err result }
 
         // It fails exactly at the calls that it was given, and where no call is left.
         ensures fails { IsErr result ↔ IsTrue (call_fails self.old) }
@@ -412,8 +431,10 @@ impl Bench for MemoryBench {
         ensures crash { (image : List ℕ) → may_leave self.new image → may_leave self.old image }
         ensures time { Elapses (length self.old.past) (length self.new.past) (found_since self.old) (found_since self.new) (Sending (may_leave self.new) (sent_of self.old) piece.now) }
         ensures ticks { Unit {0} → OnOk result (length self.new.past ≡ length self.old.past + 1) }
+        ensures one_tick { length self.new.past ≤ length self.old.past + 1 }
         ensures later { length self.old.past ≤ length self.new.past }
         ensures cause { HasCause self.old.faults self.new.faults result }
+        ensures last_call { self.new.last_failed ≡ is_err result }
 
         // It fails exactly at the calls that it was given, and where its room is full. Then it sends half of the piece.
         ensures fails { IsErr result ↔ IsTrue (send_fails self.old (length piece.now)) }

@@ -1,5 +1,5 @@
 //! A source in memory that gives its bytes in small pieces and fails at stated calls.
-ghost use Rattle.std.specs.Prelude.{◌≡◌, ◌↔◌, ◌<◌, ◌≤◌, ◌+◌, ◌-◌, ◌^◌, List, ℕ, length, IfOk, IsErr, OnErr, OnOk, min, take, drop};
+ghost use Rattle.std.specs.Prelude.{◌≡◌, ◌↔◌, ◌<◌, ◌≤◌, ◌+◌, ◌-◌, ◌^◌, List, ℕ, length, false, IfOk, IsErr, OnErr, OnOk, is_err, min, take, drop};
 ghost use Rattle.std.specs.List.{Contains};
 ghost use Rattle.bench_core.specs.Causes.{HasCause, next_count};
 ghost use Rattle.bench_core.specs.Source.{Reads};
@@ -17,6 +17,7 @@ pub struct MemorySource {
     failing: Vec<u64>,
     calls: u64,
     faults: u64,
+    last_failed: bool,
 }
 
 impl Model for MemorySource {
@@ -25,7 +26,7 @@ impl Model for MemorySource {
 
     ghost Value = { SourceContents };
 
-    ghost view = { λ s. record { left = drop s.from s.bytes.items; most = s.most; failing = s.failing.items; calls = s.calls; faults = s.faults } };
+    ghost view = { λ s. record { left = drop s.from s.bytes.items; most = s.most; failing = s.failing.items; calls = s.calls; faults = s.faults; last_failed = s.last_failed } };
 
     ghost invariant = { λ s. (s.from ≤ length s.bytes.items) × (0 < s.most) };
 }
@@ -35,7 +36,7 @@ impl MemorySource {
     pub fn new(bytes: Vec<u8>, most: usize, failing: Vec<u64>) -> Self
         requires { 0 < most }
         ensures given { (result.left ≡ bytes.items) × (result.most ≡ most) × (result.failing ≡ failing.items) }
-        ensures fresh { (result.calls ≡ 0) × (result.faults ≡ 0) }
+        ensures fresh { (result.calls ≡ 0) × (result.faults ≡ 0) × (result.last_failed ≡ false) }
     {
         MemorySource {
             bytes,
@@ -44,6 +45,7 @@ impl MemorySource {
             failing,
             calls: 0,
             faults: 0,
+            last_failed: false,
         }
     }
 }
@@ -55,11 +57,14 @@ impl Source for MemorySource {
 
     ghost faults = { λ s. s.faults };
 
+    ghost last_failed = { λ s. s.last_failed };
+
     fn read(&mut self, buf: &mut [u8]) -> Result<usize, Failed>
         requires { 0 < length buf.old }
         ensures bound { IfOk result (λ count. count ≤ length buf.new) }
         ensures bytes { Unit {0} → Reads self.old.left self.new.left result buf.new }
         ensures cause { HasCause self.old.faults self.new.faults result }
+        ensures last_call { self.new.last_failed ≡ is_err result }
 
         // It fails exactly at the calls that it was given, and counts each of these.
         ensures fails { IsErr result ↔ Contains self.old.failing self.old.calls }
@@ -71,7 +76,8 @@ impl Source for MemorySource {
     {
         let call = self.calls;
         self.calls = call.saturating_add(1);
-        if self.failing.contains(&call) {
+        self.last_failed = self.failing.contains(&call);
+        if self.last_failed {
             self.faults = self.faults.saturating_add(1);
             return Err(Failed);
         }

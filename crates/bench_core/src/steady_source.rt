@@ -1,5 +1,5 @@
 //! A source in memory that never fails.
-ghost use Rattle.std.specs.Prelude.{◌≡◌, ◌<◌, ◌≤◌, ◌+◌, ◌-◌, List, ℕ, length, IfOk, IsOk, OnOk, min, take, drop};
+ghost use Rattle.std.specs.Prelude.{◌≡◌, ◌<◌, ◌≤◌, ◌+◌, ◌-◌, List, ℕ, length, false, IfOk, IsOk, OnOk, is_err, min, take, drop};
 ghost use Rattle.bench_core.specs.Causes.{HasCause};
 ghost use Rattle.bench_core.specs.Source.{Reads};
 
@@ -47,11 +47,14 @@ impl Source for SteadySource {
 
     ghost faults = { λ _. 0 };
 
+    ghost last_failed = { λ _. false };
+
     fn read(&mut self, buf: &mut [u8]) -> Result<usize, Failed>
         requires { 0 < length buf.old }
         ensures bound { IfOk result (λ count. count ≤ length buf.new) }
         ensures bytes { Unit {0} → Reads self.old self.new result buf.new }
         ensures cause { HasCause 0 0 result }
+        ensures last_call { false ≡ is_err result }
 
         ensures steady { IsOk result }
         ensures all { IfOk result (λ count. count ≡ min (length buf.old) (length self.old)) }

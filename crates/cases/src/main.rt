@@ -1,6 +1,6 @@
 //! Runs scripts of cases through the program's top call, over files in memory, and prints each difference.
 //!
-//! Standard input names the scripts, a line each. docs/FORMATS.md has their format.
+//! Standard input names the scripts, a line each. README.md has their format.
 #![tactic(auto)]
 
 mod content;

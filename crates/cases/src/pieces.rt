@@ -35,6 +35,7 @@ pub struct Pieces {
     failing: Option<u64>,
     calls: u64,
     faults: u64,
+    last_failed: bool,
 }
 
 impl Pieces {
@@ -49,13 +50,14 @@ impl Pieces {
             failing,
             calls: 0,
             faults: 0,
+            last_failed: false,
         }
     }
 
     // Gives bytes of one piece, and none only at the end.
     fn give_some(&mut self, buf: &mut [u8]) -> usize
         ensures within { result ≤ length buf.new }
-        ensures faults { self.new.faults ≡ self.old.faults }
+        ensures faults { (self.new.faults ≡ self.old.faults) × (self.new.last_failed ≡ self.old.last_failed) }
     {
         let Some(piece) = self.pieces.get(self.place) else {
             return 0;
@@ -81,7 +83,7 @@ impl Pieces {
     // Gives bytes until the buffer is full or the pieces end.
     fn give(&mut self, buf: &mut [u8]) -> usize
         ensures within { result ≤ length buf.new }
-        ensures faults { self.new.faults ≡ self.old.faults }
+        ensures faults { (self.new.faults ≡ self.old.faults) × (self.new.last_failed ≡ self.old.last_failed) }
     {
         let mut count = 0;
         while count < buf.len() {
@@ -101,13 +103,17 @@ impl Source for Pieces {
 
     ghost faults = { λ s. s.faults };
 
+    ghost last_failed = { λ s. s.last_failed };
+
     fn read(&mut self, buf: &mut [u8]) -> Result<usize, Failed> {
         let call = self.calls;
         self.calls = call.saturating_add(1);
         if self.failing == Some(call) {
             self.faults = self.faults.saturating_add(1);
+            self.last_failed = true;
             return Err(Failed);
         }
+        self.last_failed = false;
         let most = self.most.min(buf.len());
         Ok(self.give(&mut buf[..most]))
     }

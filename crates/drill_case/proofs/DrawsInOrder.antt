@@ -1,24 +1,24 @@
 -- The draws, one after another.
 use Rattle.std.proofs.Common.{◌≡◌, ℕ, suc, ◌+◌, ◌/◌, ◌^◌, List, [], ◌∷◌, refl, sym, ap, ◌∙◌, arith}
-use Rattle.drill_case.specs.Draws.{state_behind, state_after, draw}
+use Rattle.drill_case.specs.Draws.{next_state, state_after, draw}
 
 -- the generator begins with the number
 pub begins : (number : ℕ) → number ≡ state_after number 0
 unfolding state_after
 begins number = refl
 
-one_more : (number place : ℕ) → state_after number (suc place) ≡ state_behind (state_after number place)
+one_more : (number place : ℕ) → state_after number (suc place) ≡ next_state (state_after number place)
 unfolding state_after
 one_more number place = refl
 
 -- a step makes the next state
-pub steps : (number place next state : ℕ) → place + 1 ≡ next → state ≡ state_after number place → state_behind state ≡ state_after number next
+pub steps : (number place next state : ℕ) → place + 1 ≡ next → state ≡ state_after number place → next_state state ≡ state_after number next
 steps number place next state is at =
     let one : suc place ≡ next = omega (arith, is) in
-    ap state_behind at ∙ sym (one_more number place) ∙ ap (state_after number) one
+    ap next_state at ∙ sym (one_more number place) ∙ ap (state_after number) one
 
 -- four steps make the next four draws
-pub four_steps : (number place first second third fourth state : ℕ) → first ≡ state_behind state → second ≡ state_behind first → third ≡ state_behind second → fourth ≡ state_behind third → state ≡ state_after number place
+pub four_steps : (number place first second third fourth state : ℕ) → first ≡ next_state state → second ≡ next_state first → third ≡ next_state second → fourth ≡ next_state third → state ≡ state_after number place
     → (fourth ≡ state_after number (place + 4)) × (◌≡◌ {A = List ℕ} (first / 2 ^ 33 ∷ second / 2 ^ 33 ∷ third / 2 ^ 33 ∷ fourth / 2 ^ 33 ∷ []) (draw number place ∷ draw number (place + 1) ∷ draw number (place + 2) ∷ draw number (place + 3) ∷ []))
 four_steps number place first second third fourth state one two three four at =
     let a : first ≡ state_after number (place + 1) = one ∙ steps number place (place + 1) state refl at in

@@ -85,14 +85,14 @@ reply_line (Condition at) = number_line (codes "{\"refused\":\"where\",\"at\":")
 reply_line Empty = word_line (codes "{\"refused\":\"empty\"}") refl (omega arith)
 reply_line Full = word_line (codes "{\"refused\":\"full\"}") refl (omega arith)
 
--- ---- replies one behind another
+-- ---- replies one after another
 
-split_behind : (text rest : List ℕ) → feedless text ≡ true → slice_split is_feed (text ++ 10 ∷ rest) ≡ text ∷ slice_split is_feed rest
-split_behind [] rest is = refl
-split_behind (b ∷ text) rest is =
+split_after : (text rest : List ℕ) → feedless text ≡ true → slice_split is_feed (text ++ 10 ∷ rest) ≡ text ∷ slice_split is_feed rest
+split_after [] rest is = refl
+split_after (b ∷ text) rest is =
     let parts = and_parts (not (is_feed b)) (feedless text) is in
     let same : is_feed b ≡ false = flipped (is_feed b) parts.0 in
-    ap (λ (feed : Bool). cond feed ([] ∷ slice_split is_feed (text ++ 10 ∷ rest)) (onto_first b (slice_split is_feed (text ++ 10 ∷ rest)))) same ∙ ap (onto_first b) (split_behind text rest parts.1)
+    ap (λ (feed : Bool). cond feed ([] ∷ slice_split is_feed (text ++ 10 ∷ rest)) (onto_first b (slice_split is_feed (text ++ 10 ∷ rest)))) same ∙ ap (onto_first b) (split_after text rest parts.1)
   where
     flipped : (x : Bool) → not x ≡ true → x ≡ false
     flipped true is = cc
@@ -101,9 +101,9 @@ split_behind (b ∷ text) rest is =
 one_more : (bytes rest : List ℕ) → IsLine bytes → length (lines_in (bytes ++ rest)) ≡ length (lines_in rest) + 1
 one_more bytes rest line =
     let text = line.text in
-    let behind : bytes ++ rest ≡ text ++ 10 ∷ rest = ap (λ (l : List ℕ). l ++ rest) line.ends ∙ append_assoc text (10 ∷ []) rest in
+    let joined : bytes ++ rest ≡ text ++ 10 ∷ rest = ap (λ (l : List ℕ). l ++ rest) line.ends ∙ append_assoc text (10 ∷ []) rest in
     let some : (length text == 0) ≡ false = ne_eqb (length text) 0 (λ is. omega (arith, is, line.some)) in
-    let parts = ap (slice_split is_feed) behind ∙ split_behind text rest line.feedless in
+    let parts = ap (slice_split is_feed) joined ∙ split_after text rest line.feedless in
     ap (λ (ps : List (List ℕ)). length (filter (λ part. not (length part == 0)) ps)) parts ∙ ap (λ (empty : Bool). length (cond (not empty) (text ∷ lines_in rest) (lines_in rest))) some ∙ omega arith
 
 pub lines_of_replies : (replies : List (List ℕ)) → AllByRecursion IsReplyText replies → length (lines_in (flat_map (λ reply. reply) replies)) ≡ length replies

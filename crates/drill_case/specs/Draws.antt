@@ -1,14 +1,14 @@
 -- The draws of a drill: a generator whose state has 64 bits.
 use Rattle.std.specs.Prelude.{ℕ, zero, suc, ◌+◌, ◌*◌, ◌/◌, ◌%◌, ◌^◌}
 
--- the state behind another
-abbrev pub state_behind : ℕ → ℕ
-state_behind state = (state * 6364136223846793005 + 1442695040888963407) % 2 ^ 64
+-- the state after another
+abbrev pub next_state : ℕ → ℕ
+next_state state = (state * 6364136223846793005 + 1442695040888963407) % 2 ^ 64
 
 -- the state after so many draws: it begins with the drill's number
 unfoldable pub state_after : ℕ → ℕ → ℕ
 state_after number zero = number
-state_after number (suc count) = state_behind (state_after number count)
+state_after number (suc count) = next_state (state_after number count)
 
 -- a draw, from 0: the upper 31 bits of the state that it makes
 abbrev pub draw : ℕ → ℕ → ℕ

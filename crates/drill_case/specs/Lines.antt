@@ -1,4 +1,4 @@
--- The lines of a drill: four draws for each, behind those of the table.
+-- The lines of a drill: four draws for each, after those of the table.
 use Rattle.std.specs.Prelude.{ℕ, zero, suc, ◌+◌, ◌*◌, ◌/◌, ◌%◌, if◌then◌else◌, List, [], ◌++◌, codes, decimal, ◌==◌}
 use Rattle.std.specs.List.{flat_map, range_with_len}
 use Rattle.drill_case.specs.Draws.{draw}

@@ -1,6 +1,6 @@
 //! The generator of a drill.
 ghost use Rattle.std.specs.Prelude.{◌≡◌, ◌+◌, ◌*◌, ◌/◌, ◌^◌, [], ◌∷◌, ℕ};
-ghost use Rattle.drill_case.specs.Draws.{state_behind, state_after, draw};
+ghost use Rattle.drill_case.specs.Draws.{next_state, state_after, draw};
 
 // These numbers make every drill what it is: never change them.
 const MULTIPLIER: u64 = 6_364_136_223_846_793_005;
@@ -24,7 +24,7 @@ impl Draws {
     }
 
     fn next(&mut self) -> u32
-        ensures state { self.new.state ≡ state_behind self.old.state }
+        ensures state { self.new.state ≡ next_state self.old.state }
         ensures drawn { result ≡ self.new.state / 2 ^ 33 }
     {
         self.state = self.state.wrapping_mul(MULTIPLIER).wrapping_add(INCREMENT);

@@ -86,7 +86,7 @@ fn put_line(
     lines.extend_from_slice(b"\"}\n")
 }
 
-// The lines that the draws behind the table's make.
+// The lines that the draws after the table's make.
 fn write_lines(alloc: Global, number: u32, count: u16) -> Result<Vec<u8>, AllocError>
     ensures exact { IfOk result (λ lines. lines.items ≡ first_lines number count) }
     ensures short { IfOk result (λ lines. length lines.items ≤ 100 * count) }

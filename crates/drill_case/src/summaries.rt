@@ -5,7 +5,7 @@ ghost use Rattle.drill_case.specs.Tallies.{summary_line};
 use crate::tallies::Tally;
 use itoa::{Buffer, Integer};
 
-// Writes a piece behind what stands before `at`, and answers the place behind it.
+// Writes a piece at `at`, and answers the place after it.
 fn append(out: &mut [u8; 160], at: usize, piece: &[u8]) -> usize
     requires { at + length piece.now ≤ 160 }
     ensures at { result ≡ at + length piece.now }
@@ -15,7 +15,7 @@ fn append(out: &mut [u8; 160], at: usize, piece: &[u8]) -> usize
     at + piece.len()
 }
 
-// Writes a number behind what names it.
+// Writes what names a number, and the number after it.
 fn append_number<I: Integer>(out: &mut [u8; 160], at: usize, name: &[u8], number: I) -> usize
     requires { at + length name.now + I.MAX_STR_LEN ≤ 160 }
     ensures at { result ≤ at + length name.now + I.MAX_STR_LEN }

@@ -15,7 +15,7 @@ pub struct Tally {
     pub refused: u32,
 }
 
-/// Of no line.
+/// The tally of no line.
 pub(crate) const NOTHING: Tally = Tally {
     asked: 0,
     released: 0,

@@ -1,8 +1,8 @@
 //! The journal's file and standard output.
-ghost use Rattle.std.specs.Prelude.{◌≡◌, []};
+ghost use Rattle.std.specs.Prelude.{◌≡◌, [], false};
 ghost use Rattle.std.specs.Io.{ReadsAtMost};
 
-use crate::counting::{count_error, read_on};
+use crate::counting::{Faults, count_error, read_on};
 use bench_core::{Bench, Failed};
 use std::fs::{File, Files, OpenFile, OpenOptions};
 use std::io::{ErrorKind, Read, Seek, SeekFrom, Write};
@@ -31,18 +31,19 @@ pub struct FileBench<'a, R: Files + Print> {
     rt: &'a R,
     path: &'static str,
     file: Option<R::File>,
-    faults: u64,
+    faults: Faults,
 }
 
 impl<'a, R: Files + Print> FileBench<'a, R> {
+    /// The journal's file at a path of the program's folder, and standard output. Nothing is opened yet.
     pub fn new(rt: &'a R, path: &'static str) -> Self
-        ensures fresh { result.faults ≡ 0 }
+        ensures fresh { (result.faults.count ≡ 0) × (result.faults.last ≡ false) }
     {
         FileBench {
             rt,
             path,
             file: None,
-            faults: 0,
+            faults: Faults::none(),
         }
     }
 }
@@ -123,7 +124,9 @@ where
 
     ghost since = { λ _ _ _ _. ⊥ };
 
-    ghost faults = { λ s. s.faults };
+    ghost faults = { λ s. s.faults.count };
+
+    ghost last_failed = { λ s. s.faults.last };
 
     fn length(&mut self) -> Result<u64, Failed> {
         let length = match opened(self.rt, self.path, &mut self.file) {

@@ -1,5 +1,5 @@
-//! The edge: files, standard input and standard output as sources and benches. Each tells no content and counts the
-//! errors of std.
+//! The edge: files, standard input and standard output as sources and benches. Each tells no content, counts the
+//! errors of std, and keeps whether its last call had one.
 //!
 //! `FileSource` and `InputSource` are read, and `FileBench` keeps the journal and sends. Their clauses are those of
 //! `Source` and `Bench`; the tests say which calls of the system they make.

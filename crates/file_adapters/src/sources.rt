@@ -1,8 +1,8 @@
 //! Files that are read from their start, and standard input.
-ghost use Rattle.std.specs.Prelude.{◌≡◌, []};
+ghost use Rattle.std.specs.Prelude.{◌≡◌, [], false};
 ghost use Rattle.std.specs.Io.{ReadsAtMost};
 
-use crate::counting::{count_error, read_on};
+use crate::counting::{Faults, count_error, read_on};
 use bench_core::{Failed, Source};
 use std::fs::Files;
 use std::io::Read;
@@ -14,18 +14,19 @@ pub struct FileSource<'a, R: Files> {
     rt: &'a R,
     path: &'static str,
     file: Option<R::File>,
-    faults: u64,
+    faults: Faults,
 }
 
 impl<'a, R: Files> FileSource<'a, R> {
+    /// The file at a path. Nothing is opened yet.
     pub fn new(rt: &'a R, path: &'static str) -> Self
-        ensures fresh { result.faults ≡ 0 }
+        ensures fresh { (result.faults.count ≡ 0) × (result.faults.last ≡ false) }
     {
         FileSource {
             rt,
             path,
             file: None,
-            faults: 0,
+            faults: Faults::none(),
         }
     }
 }
@@ -54,7 +55,9 @@ impl<R: Files> Source for FileSource<'_, R> {
 
     ghost left = { λ _. [] };
 
-    ghost faults = { λ s. s.faults };
+    ghost faults = { λ s. s.faults.count };
+
+    ghost last_failed = { λ s. s.faults.last };
 
     fn read(&mut self, buf: &mut [u8]) -> Result<usize, Failed> {
         count_error(
@@ -68,14 +71,18 @@ impl<R: Files> Source for FileSource<'_, R> {
 #[derive(Drop)]
 pub struct InputSource<I: Read + Drop> {
     reader: I,
-    faults: u64,
+    faults: Faults,
 }
 
 impl<I: Read + Drop> InputSource<I> {
+    /// What the reader gives. Nothing is read yet.
     pub fn new(reader: I) -> Self
-        ensures fresh { result.faults ≡ 0 }
+        ensures fresh { (result.faults.count ≡ 0) × (result.faults.last ≡ false) }
     {
-        InputSource { reader, faults: 0 }
+        InputSource {
+            reader,
+            faults: Faults::none(),
+        }
     }
 }
 
@@ -84,7 +91,9 @@ impl<I: Read + Drop> Source for InputSource<I> {
 
     ghost left = { λ _. [] };
 
-    ghost faults = { λ s. s.faults };
+    ghost faults = { λ s. s.faults.count };
+
+    ghost last_failed = { λ s. s.faults.last };
 
     fn read(&mut self, buf: &mut [u8]) -> Result<usize, Failed> {
         count_error(read_on(&mut self.reader, buf), &mut self.faults)

@@ -11,11 +11,11 @@ use Rattle.std.proofs.lemmas.Int.{ints, unsigned_abs-mul, to_z-of_z, fits_signed
 use Rattle.std.proofs.lemmas.Nat.Gcd.{dvd_refl, le_of_dvd}
 use Rattle.std.proofs.lemmas.Bool.{true≢false, and_parts, and_from}
 use Rattle.std.proofs.Math.Nat.{mul-dvd-mul_left, eq-zero_of_zero-dvd}
-use Rattle.std.proofs.Math.IntN.{*ℤ-zero, *ℤ_comm, *ℤ-one, pos-*ℤ-negsuc, negsuc-*ℤ-negsuc}
+use Rattle.std.proofs.Math.IntN.{*ℤ-zero, pos-*ℤ-negsuc, negsuc-*ℤ-negsuc}
 use Rattle.audit_types.specs.Truth.{number_at, is_zero}
 use Rattle.audit_types.specs.Form.{IsContent, pivot, pivot_entry}
 use Rattle.audit_types.specs.Numbers.{zero_or_not, zero_from_test, test_of_not_zero, size_above, zero_size}
-use Rattle.audit_types.specs.Products.{product_not_zero}
+use Rattle.audit_types.specs.Products.{product_not_zero, one-times}
 use Rattle.audit_types.specs.PrimitiveLines.{number_at-times}
 use Rattle.int_rows.specs.ContentLaws.{all-ones}
 use Rattle.int_rows.specs.Primitive.{IsMadePrimitive, IsSignedContent}
@@ -26,13 +26,9 @@ is_zero-times c x n = elim (zero_or_not x) [
   | inr m ↦ test_of_not_zero (c *ℤ x) (product_not_zero c x n m) ∙ sym (test_of_not_zero x m)
 ]
 
-pub times_one : (x : ℤ) → x ≡ pos 1 *ℤ x
-unfolding lib.IntN.one
-times_one x = sym (*ℤ_comm (pos 1) x ∙ *ℤ-one x)
-
 pub one_times : (xs : List ℤ) → xs ≡ map (λ x. pos 1 *ℤ x) xs
 one_times [] = refl
-one_times (x ∷ xs) = ap (λ y. y ∷ xs) (times_one x) ∙ ap (λ l. (pos 1 *ℤ x) ∷ l) (one_times xs)
+one_times (x ∷ xs) = ap (λ y. y ∷ xs) (sym (one-times x)) ∙ ap (λ l. (pos 1 *ℤ x) ∷ l) (one_times xs)
 
 all_zero_times : (c : ℤ) (xs : List ℤ) → c ≢ pos 0 → list_all is_zero (map (λ x. c *ℤ x) xs) ≡ list_all is_zero xs
 all_zero_times c [] n = refl
@@ -41,7 +37,8 @@ all_zero_times c (x ∷ xs) n = ap (λ b. b && list_all is_zero (map (λ y. c *�
 pivot_times : (c : ℤ) (xs : List ℤ) → c ≢ pos 0 → pivot (map (λ x. c *ℤ x) xs) ≡ pivot xs
 pivot_times c [] n = refl
 pivot_times c (x ∷ xs) n =
-    ap (λ b. cond (not (not b)) (1 + pivot (map (λ y. c *ℤ y) xs)) 0) (is_zero-times c x n) ∙ ap (λ m. cond (not (not (is_zero x))) (1 + m) 0) (pivot_times c xs n)
+    ap (λ b. cond (not (not b)) (1 + pivot (map (λ y. c *ℤ y) xs)) 0) (is_zero-times c x n)
+    ∙ ap (λ m. cond (not (not (is_zero x))) (1 + m) 0) (pivot_times c xs n)
 
 all_zeros : (xs : List ℤ) → list_all is_zero xs ≡ true → AllByRecursion (λ x. 0 ∣ unsigned_abs x) xs
 all_zeros [] h = tt
@@ -63,9 +60,11 @@ at_most_one zero k p h = absurd (let none : (k * 0) ≡ 0 = omega arith in let e
 at_most_one (suc zero) k p h = dvd_refl 1
 at_most_one (suc (suc d)) k p h = let most = le_of_dvd p h in let wide : k + k ≤ k * suc (suc d) = omega arith in absurd (omega arith)
 
-scaled_divisor : (c : ℤ) (d : ℕ) (xs : List ℤ) → AllByRecursion (λ x. d ∣ unsigned_abs x) xs → AllByRecursion (λ x. (unsigned_abs c * d) ∣ unsigned_abs x) (map (λ x. c *ℤ x) xs)
+scaled_divisor : (c : ℤ) (d : ℕ) (xs : List ℤ) → AllByRecursion (λ x. d ∣ unsigned_abs x) xs →
+    AllByRecursion (λ x. (unsigned_abs c * d) ∣ unsigned_abs x) (map (λ x. c *ℤ x) xs)
 scaled_divisor c d [] h = tt
-scaled_divisor c d (x ∷ xs) h = (subst (λ m. (unsigned_abs c * d) ∣ m) (sym (unsigned_abs-mul c x)) (mul-dvd-mul_left d (unsigned_abs c) h.0), scaled_divisor c d xs h.1)
+scaled_divisor c d (x ∷ xs) h =
+    (subst (λ m. (unsigned_abs c * d) ∣ m) (sym (unsigned_abs-mul c x)) (mul-dvd-mul_left d (unsigned_abs c) h.0), scaled_divisor c d xs h.1)
 
 pub content_one : (c : ℤ) (xs : List ℤ) → c ≢ pos 0 → IsContent (map (λ x. c *ℤ x) xs) (unsigned_abs c) → IsContent xs 1
 content_one c xs n content = record {

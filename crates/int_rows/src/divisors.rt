@@ -4,7 +4,7 @@ ghost use Rattle.std.specs.Int.{IsGcd, ◌∣◌};
 ghost use Rattle.std.specs.List.{AllByRecursion};
 ghost use Rattle.audit_types.specs.Form.{IsContent, IsLeastCommonMultiple};
 
-// The greatest number of 64 bits: numbers up to it are divided as such, which costs a fraction of the time.
+/// The greatest number of 64 bits: numbers up to it are divided as such, which costs a fraction of the time.
 pub const WORD: u128 = u64::MAX as u128;
 
 fn remainder(x: u128, y: u128) -> u128
@@ -18,7 +18,7 @@ fn remainder(x: u128, y: u128) -> u128
     }
 }
 
-// Euclid's algorithm, on sizes.
+/// The greatest common divisor of two sizes, by Euclid's algorithm.
 pub fn common_divisor(a: u128, b: u128) -> u128
     requires a { a ≤ 2 ^ 126 }
     requires b { b ≤ 2 ^ 126 }

@@ -4,12 +4,14 @@ use Rattle.std.proofs.lemmas.Bool.{false≢true}
 use Rattle.std.specs.Result.{IsErr, IsErrAnd}
 use Rattle.bench_core.specs.declared.bench.Bench.{Ghosts}
 use Rattle.bench_core.specs.Bench.{Sending}
+use Rattle.bench_core.specs.Causes.{Rose}
 use Rattle.bench_core.specs.Calls.{IsQuiet, LeavesOnly}
 use Rattle.bench_core.specs.Moments.{started, goes_on, joins, weakens}
 use Rattle.journal_audit.specs.Reports.{Audit, Subject, IsLineOn, SendsFront, SendsMeanwhile, SendsLine, SendsLinesOn}
 use Rattle.journal_audit.specs.declared.faults.AuditFault.{AuditFault}
 use Rattle.journal_audit.specs.declared.faults.AuditFault.TheVariants as fault
-use Rattle.journal_audit.proofs.Sending.{none_sent, none_front, one_sent, one_front, sent_then, front_of_more, then_front}
+use Rattle.journal_audit.proofs.Sending.{none_sent, one_sent, one_front, sent_then, front_of_more, then_front}
+use Rattle.journal_audit.specs.SendLaws.{none_front}
 
 -- what an answer that is a refusal says
 pub refusal_is : {T E : Type 0} (r : Result T E) (P : E → Type 0) → IsErr r × IsErrAnd r P → (e : E) × ((r ≡ Err e) × P e)
@@ -38,6 +40,7 @@ module _ {D : Type 0} (bench : Ghosts D) (only_now : NowOnly bench) (audit : Aud
     crash = λ image left. left;
     later = omega arith;
     failed = λ is. cc;
+    last_call = λ is. cc;
     steady = λ other. refl;
   }
 
@@ -52,13 +55,16 @@ module _ {D : Type 0} (bench : Ghosts D) (only_now : NowOnly bench) (audit : Aud
     crash = λ image left. left;
     later = omega arith;
     failed = λ is. cc;
+    last_call = λ is. cc;
     steady = λ other. refl;
   }
 
   -- a line's send
   module _ (subject : Subject) (line : List ℕ) (is : IsLineOn audit subject line) (old new : D) where
-    while_sending : {r : Result (Unit {0}) AuditFault} → SendsLine bench line old new r → IsQuiet bench old → LeavesOnly bench old new (SendsMeanwhile audit (subject ∷ []) (bench.file old) (bench.sent old))
-    while_sending sends quiet = goes_on bench old old new (SendsMeanwhile audit (subject ∷ []) (bench.file old) (bench.sent old)) (Sending (bench.leaves new) (bench.sent old) line)
+    while_sending : {r : Result (Unit {0}) AuditFault} → SendsLine bench line old new r → IsQuiet bench old →
+        LeavesOnly bench old new (SendsMeanwhile audit (subject ∷ []) (bench.file old) (bench.sent old))
+    while_sending sends quiet =
+        goes_on bench old old new (SendsMeanwhile audit (subject ∷ []) (bench.file old) (bench.sent old)) (Sending (bench.leaves new) (bench.sent old) line)
         (found_now (subject ∷ []) old quiet) sends.time
         (λ image sent within. record { same = quiet image (sends.crash image within.0); front = one_front audit subject line (bench.sent old) sent is within.1 })
 
@@ -73,6 +79,7 @@ module _ {D : Type 0} (bench : Ghosts D) (only_now : NowOnly bench) (audit : Aud
       crash = sends.crash;
       later = sends.later;
       failed = sends.failed;
+      last_call = sends.last_call;
       steady = sends.steady;
     }
     line_on (Err e) sends = record {
@@ -84,6 +91,7 @@ module _ {D : Type 0} (bench : Ghosts D) (only_now : NowOnly bench) (audit : Aud
       crash = sends.crash;
       later = sends.later;
       failed = sends.failed;
+      last_call = sends.last_call;
       steady = sends.steady;
     }
 
@@ -91,12 +99,14 @@ module _ {D : Type 0} (bench : Ghosts D) (only_now : NowOnly bench) (audit : Aud
     still_quiet : IsQuiet bench a → IsQuiet bench b
     still_quiet quiet image left = quiet image (first.crash image left) ∙ sym first.file
 
-    while_both : (r : Result (Unit {0}) AuditFault) → SendsLinesOn bench audit ys b c r → bench.told → IsQuiet bench a → LeavesOnly bench a c (SendsMeanwhile audit (xs ++ ys) (bench.file a) (bench.sent a))
+    while_both : (r : Result (Unit {0}) AuditFault) → SendsLinesOn bench audit ys b c r → bench.told → IsQuiet bench a →
+        LeavesOnly bench a c (SendsMeanwhile audit (xs ++ ys) (bench.file a) (bench.sent a))
     while_both r second told quiet = joins bench a b c (SendsMeanwhile audit (xs ++ ys) (bench.file a) (bench.sent a))
         (weakens bench a b (SendsMeanwhile audit xs (bench.file a) (bench.sent a)) (SendsMeanwhile audit (xs ++ ys) (bench.file a) (bench.sent a))
         (λ image sent here. record { same = here.same; front = front_of_more audit xs ys (bench.sent a) sent here.front }) (first.moments told quiet))
         (weakens bench b c (SendsMeanwhile audit ys (bench.file b) (bench.sent b)) (SendsMeanwhile audit (xs ++ ys) (bench.file a) (bench.sent a))
-        (λ image sent here. record { same = here.same ∙ first.file; front = then_front audit xs ys (bench.sent a) (bench.sent b) sent (first.sends told) here.front }) (second.moments told (still_quiet quiet)))
+        (λ image sent here. record { same = here.same ∙ first.file; front = then_front audit xs ys (bench.sent a) (bench.sent b) sent (first.sends told) here.front })
+        (second.moments told (still_quiet quiet)))
 
     -- the first lines and then more
     pub and_then : (r : Result (Unit {0}) AuditFault) → SendsLinesOn bench audit ys b c r → SendsLinesOn bench audit (xs ++ ys) a c r
@@ -109,6 +119,7 @@ module _ {D : Type 0} (bench : Ghosts D) (only_now : NowOnly bench) (audit : Aud
       crash = λ image left. first.crash image (second.crash image left);
       later = omega (arith, first.later, second.later);
       failed = λ is. cc;
+      last_call = λ is. cc;
       steady = λ other. second.steady (λ is. cc) ∙ first.steady (λ is. cc);
     }
     and_then (Err e) second = record {
@@ -119,7 +130,8 @@ module _ {D : Type 0} (bench : Ghosts D) (only_now : NowOnly bench) (audit : Aud
       file = second.file ∙ first.file;
       crash = λ image left. first.crash image (second.crash image left);
       later = omega (arith, first.later, second.later);
-      failed = λ is. let rose = second.failed is in omega (arith, rose, first.later);
+      failed = λ is. subst (λ (n : ℕ). Rose n (bench.faults c)) (first.steady (λ is. cc)) (second.failed is);
+      last_call = second.last_call;
       steady = λ other. second.steady other ∙ first.steady (λ is. cc);
     }
 
@@ -128,18 +140,21 @@ module _ {D : Type 0} (bench : Ghosts D) (only_now : NowOnly bench) (audit : Aud
   refused xs ys a b e first = record {
     sends = λ told. tt;
     part = λ told. front_of_more audit xs ys (bench.sent a) (bench.sent b) (first.part told);
-    moments = λ told quiet. weakens bench a b (SendsMeanwhile audit xs (bench.file a) (bench.sent a)) (SendsMeanwhile audit (xs ++ ys) (bench.file a) (bench.sent a))
+    moments =
+        λ told quiet. weakens bench a b (SendsMeanwhile audit xs (bench.file a) (bench.sent a)) (SendsMeanwhile audit (xs ++ ys) (bench.file a) (bench.sent a))
         (λ image sent here. record { same = here.same; front = front_of_more audit xs ys (bench.sent a) sent here.front }) (first.moments told quiet);
     ticks = λ told. tt;
     file = first.file;
     crash = first.crash;
     later = first.later;
     failed = first.failed;
+    last_call = first.last_call;
     steady = first.steady;
   }
 
   -- a refusal on this, after the first lines and before others
-  pub refused_among : (first this others all : List Subject) (a b c : D) (r : Result (Unit {0}) AuditFault) (e : AuditFault) → all ≡ first ++ this ++ others → r ≡ Err e
+  pub refused_among : (first this others all : List Subject) (a b c : D) (r : Result (Unit {0}) AuditFault) (e : AuditFault) → all ≡ first ++ this ++ others
+      → r ≡ Err e
       → SendsLinesOn bench audit first a b (Ok tt) → SendsLinesOn bench audit this b c (Err e) → SendsLinesOn bench audit all a c r
   refused_among first this others all a b c r e split is before now =
       subst (λ l. SendsLinesOn bench audit l a c r) (sym split)

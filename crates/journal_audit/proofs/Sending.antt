@@ -5,14 +5,11 @@ use Rattle.std.proofs.Math.Seq.{take-length, take-append-add}
 use Rattle.std.specs.List.{concat}
 use Rattle.bench_core.specs.Bench.{AppendsFront}
 use Rattle.journal_audit.specs.Reports.{Audit, Subject, IsLineOn, AreLinesOn, Sends, SendsFront}
-
--- the bytes of lines after others
-pub concat-append : (xs ys : List (List ℕ)) → concat (xs ++ ys) ≡ concat xs ++ concat ys
-concat-append [] ys = refl
-concat-append (x ∷ xs) ys = ap (λ l. x ++ l) (concat-append xs ys) ∙ sym (append_assoc x (concat xs) (concat ys))
+use Rattle.std.proofs.lemmas.List.Folds.{concat-append}
 
 -- lines on these, after lines on others
-pub lines-append : (audit : Audit) (xs ys : List Subject) (ls ms : List (List ℕ)) → AreLinesOn audit xs ls → AreLinesOn audit ys ms → AreLinesOn audit (xs ++ ys) (ls ++ ms)
+pub lines-append : (audit : Audit) (xs ys : List Subject) (ls ms : List (List ℕ)) → AreLinesOn audit xs ls → AreLinesOn audit ys ms →
+    AreLinesOn audit (xs ++ ys) (ls ++ ms)
 lines-append audit [] ys [] ms first second = second
 lines-append audit [] ys (l ∷ ls) ms first second = absurd first
 lines-append audit (x ∷ xs) ys [] ms first second = absurd first
@@ -23,11 +20,13 @@ pub none_sent : (audit : Audit) (bytes : List ℕ) → Sends audit [] bytes byte
 none_sent audit bytes = record { lines = []; are = tt; sent_is = sym (append-nil bytes) }
 
 -- the line on this was sent
-pub one_sent : (audit : Audit) (subject : Subject) (line before after : List ℕ) → IsLineOn audit subject line → after ≡ before ++ line → Sends audit (subject ∷ []) before after
+pub one_sent : (audit : Audit) (subject : Subject) (line before after : List ℕ) → IsLineOn audit subject line → after ≡ before ++ line →
+    Sends audit (subject ∷ []) before after
 one_sent audit subject line before after is sent = record { lines = line ∷ []; are = (is, tt); sent_is = sent ∙ ap (λ l. before ++ l) (sym (append-nil line)) }
 
 -- a front of it was
-pub one_front : (audit : Audit) (subject : Subject) (line before after : List ℕ) → IsLineOn audit subject line → AppendsFront before line after → SendsFront audit (subject ∷ []) before after
+pub one_front : (audit : Audit) (subject : Subject) (line before after : List ℕ) → IsLineOn audit subject line → AppendsFront before line after →
+    SendsFront audit (subject ∷ []) before after
 one_front audit subject line before after is sent = record {
   first = subject ∷ [];
   others = [];
@@ -42,7 +41,9 @@ pub sent_then : (audit : Audit) (xs ys : List Subject) (a b c : List ℕ) → Se
 sent_then audit xs ys a b c first second = record {
   lines = first.lines ++ second.lines;
   are = lines-append audit xs ys first.lines second.lines first.are second.are;
-  sent_is = second.sent_is ∙ ap (λ l. l ++ concat second.lines) first.sent_is ∙ append_assoc a (concat first.lines) (concat second.lines) ∙ ap (λ l. a ++ l) (sym (concat-append first.lines second.lines));
+  sent_is =
+      second.sent_is ∙ ap (λ l. l ++ concat second.lines) first.sent_is ∙ append_assoc a (concat first.lines) (concat second.lines)
+      ∙ ap (λ l. a ++ l) (sym (concat-append first.lines second.lines));
 }
 
 -- whole lines are a front of them
@@ -77,11 +78,8 @@ then_front audit xs ys a b c sends front = record {
   are = lines-append audit xs front.first sends.lines front.lines sends.are front.are;
   sent = (
     length (concat sends.lines) + front.sent.0,
-    front.sent.1 ∙ ap (λ l. l ++ take front.sent.0 (concat front.lines)) sends.sent_is ∙ append_assoc a (concat sends.lines) (take front.sent.0 (concat front.lines))
+    front.sent.1 ∙ ap (λ l. l ++ take front.sent.0 (concat front.lines)) sends.sent_is
+        ∙ append_assoc a (concat sends.lines) (take front.sent.0 (concat front.lines))
         ∙ ap (λ l. a ++ l) (sym (take-append-add (concat sends.lines) (concat front.lines) front.sent.0) ∙ ap (λ l. take (length (concat sends.lines) + front.sent.0) l) (sym (concat-append sends.lines front.lines))),
   );
 }
-
--- no byte is a front of any lines
-pub none_front : (audit : Audit) (about : List Subject) (bytes : List ℕ) → SendsFront audit about bytes bytes
-none_front audit about bytes = record { first = []; others = about; all = refl; lines = []; are = tt; sent = (0, sym (append-nil bytes)) }

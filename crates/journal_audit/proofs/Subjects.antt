@@ -19,16 +19,22 @@ rows_before-more column count = map-range_with_len_more (λ row. row_of column r
 -- numbers in order, one more
 range_more : (a n : ℕ) → range_with_len a (n + 1) ≡ range_with_len a n ++ (a + n) ∷ []
 range_more a zero = ap (λ k. k ∷ []) (sym (add-zero a))
-range_more a (suc n) = ap (range_with_len a) (add-one (suc n)) ∙ ap (λ l. a ∷ l) (ap (range_with_len (a + 1)) (sym (add-one n)) ∙ range_more (a + 1) n ∙ ap (λ k. range_with_len (a + 1) n ++ k ∷ []) (omega arith))
+range_more a (suc n) =
+    ap (range_with_len a) (add-one (suc n))
+    ∙ ap (λ l. a ∷ l) (ap (range_with_len (a + 1)) (sym (add-one n)) ∙ range_more (a + 1) n ∙ ap (λ k. range_with_len (a + 1) n ++ k ∷ []) (omega arith))
 
 -- one column more
-pub subjects_before-more : (shape : Shape) (count : ℕ) → subjects_before shape (count + 1) ≡ subjects_before shape count ++ subjects_of shape count (kind_at shape count)
+pub subjects_before-more : (shape : Shape) (count : ℕ) →
+    subjects_before shape (count + 1) ≡ subjects_before shape count ++ subjects_of shape count (kind_at shape count)
 subjects_before-more shape count =
     let f : ℕ → List Subject = λ column. subjects_of shape column (kind_at shape column) in
-    ap (flat_map f) (range_more 0 count) ∙ flat_map-append f (range_with_len 0 count) ((0 + count) ∷ []) ∙ ap (λ k. flat_map f (range_with_len 0 count) ++ flat_map f (k ∷ [])) (zero-add count) ∙ ap (λ l. flat_map f (range_with_len 0 count) ++ l) (append-nil (f count))
+    ap (flat_map f) (range_more 0 count) ∙ flat_map-append f (range_with_len 0 count) ((0 + count) ∷ [])
+    ∙ ap (λ k. flat_map f (range_with_len 0 count) ++ flat_map f (k ∷ [])) (zero-add count)
+    ∙ ap (λ l. flat_map f (range_with_len 0 count) ++ l) (append-nil (f count))
 
 -- what stands after the first of something that grows
-after_first : (f : ℕ → List Subject) → ((n : ℕ) → (more : List Subject) × (f (n + 1) ≡ f n ++ more)) → (n m : ℕ) → (others : List Subject) × (f (n + m) ≡ f n ++ others)
+after_first : (f : ℕ → List Subject) → ((n : ℕ) → (more : List Subject) × (f (n + 1) ≡ f n ++ more)) → (n m : ℕ) →
+    (others : List Subject) × (f (n + m) ≡ f n ++ others)
 after_first f grows n zero = ([], ap f (add-zero n) ∙ sym (append-nil (f n)))
 after_first f grows n (suc m) =
     let so_far = after_first f grows n m in
@@ -51,7 +57,8 @@ columns_after shape n m le =
     (all.0, ap (subjects_before shape) (sym count) ∙ all.1)
 
 -- a column among all columns
-pub column_among : (shape : Shape) (column count : ℕ) → column < count → (others : List Subject) × (subjects_before shape count ≡ subjects_before shape column ++ subjects_of shape column (kind_at shape column) ++ others)
+pub column_among : (shape : Shape) (column count : ℕ) → column < count →
+    (others : List Subject) × (subjects_before shape count ≡ subjects_before shape column ++ subjects_of shape column (kind_at shape column) ++ others)
 column_among shape column count below =
     let rest = columns_after shape (column + 1) count (omega (arith, below)) in
     (rest.0, rest.1 ∙ ap (λ l. l ++ rest.0) (subjects_before-more shape column))

@@ -1,5 +1,5 @@
 -- The report of an audit: for each secret number a line, or a line for a column of them, that shows it to be free.
-use Rattle.std.specs.Prelude.{◌≡◌, ◌≤◌, ◌+◌, ℕ, ℤ, List, [], ◌∷◌, ◌++◌, length, map, filter, slice_index_or, Result, Err, OnOk, OnErr}
+use Rattle.std.specs.Prelude.{◌≡◌, ◌≤◌, ◌+◌, ℕ, ℤ, true, List, [], ◌∷◌, ◌++◌, length, map, filter, slice_index_or, Result, Err, OnOk, OnErr}
 use Rattle.std.specs.List.{AllZip, flat_map, concat, range_with_len}
 use Rattle.audit_types.specs.declared.shapes.Kind.{Kind}
 use Rattle.audit_types.specs.declared.shapes.Kind.TheVariants.{Sum, Max}
@@ -128,11 +128,13 @@ pub record SendsLine {D : Type 0} (bench : Ghosts D) (line : List ℕ) (old new 
   pub crash : (image : List ℕ) → bench.leaves new image → bench.leaves old image
   pub later : bench.faults old ≤ bench.faults new
   pub failed : result ≡ Err fault.Failed → Rose (bench.faults old) (bench.faults new)
+  pub last_call : result ≡ Err fault.Failed → bench.last_failed new ≡ true
   pub steady : ¬ (result ≡ Err fault.Failed) → bench.faults new ≡ bench.faults old
 
 -- what sending the lines on these leaves of a bench: they were sent, a line a call, or a front of them where it was refused,
 -- and nothing else changed
-pub record SendsLinesOn {D : Type 0} (bench : Ghosts D) (audit : Audit) (about : List Subject) (old new : D) (result : Result (Unit {0}) AuditFault) : Type 0 where
+pub record SendsLinesOn {D : Type 0} (bench : Ghosts D) (audit : Audit) (about : List Subject) (old new : D)
+    (result : Result (Unit {0}) AuditFault) : Type 0 where
   pub sends : bench.told → OnOk result (Sends audit about (bench.sent old) (bench.sent new))
   pub part : bench.told → OnErr result (SendsFront audit about (bench.sent old) (bench.sent new))
   pub moments : bench.told → IsQuiet bench old → LeavesOnly bench old new (SendsMeanwhile audit about (bench.file old) (bench.sent old))
@@ -141,4 +143,5 @@ pub record SendsLinesOn {D : Type 0} (bench : Ghosts D) (audit : Audit) (about :
   pub crash : (image : List ℕ) → bench.leaves new image → bench.leaves old image
   pub later : bench.faults old ≤ bench.faults new
   pub failed : result ≡ Err fault.Failed → Rose (bench.faults old) (bench.faults new)
+  pub last_call : result ≡ Err fault.Failed → bench.last_failed new ≡ true
   pub steady : ¬ (result ≡ Err fault.Failed) → bench.faults new ≡ bench.faults old

@@ -1,4 +1,4 @@
-//! The report of an audit: each secret number is shown to be free by a list that was checked before it is sent.
+//! The report of an audit: each secret number is shown to be free by a list that passes a plain check.
 //!
 //! `audit` is the one call. What its lines say is `Reports` of the specs; docs/FORMATS.md has their form.
 #![tactic(auto)]

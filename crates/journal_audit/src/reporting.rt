@@ -1,5 +1,5 @@
 //! Sending a report, a line a send.
-ghost use Rattle.std.specs.Prelude.{◌≡◌, ◌<◌, ◌≤◌, ◌+◌, [], ◌∷◌, ◌++◌, List, ℕ, true, Some, length, OnOk, OnErr};
+ghost use Rattle.std.specs.Prelude.{◌≡◌, ◌<◌, ◌≤◌, ◌+◌, [], ◌∷◌, ◌++◌, List, ℕ, true, Some, length, OnOk, OnErr, Err};
 ghost use Rattle.audit_types.specs.Shapes.{columns, kind_at};
 ghost use Rattle.audit_types.specs.declared.shapes.Kind.TheVariants as kind;
 ghost use Rattle.schema_json.specs.Columns.{secret_place};
@@ -150,8 +150,8 @@ fn send_totals<B: Bench>(
     send_line(bench, &line)
 }
 
-/// Sends the report of a store's history over the secret columns of a schema: a line a send, each list checked before its
-/// line leaves. Nothing is written.
+/// Sends the report of a store's history over the secret columns of a schema: a line a send. Each list is checked before its
+/// line leaves; its clauses say that it would pass. Nothing is written.
 pub fn audit<B: Bench>(
     alloc: Global,
     schema: &Schema,
@@ -174,6 +174,7 @@ pub fn audit<B: Bench>(
     ensures file { B.file bench.new ≡ B.file bench.old }
     ensures crash { (image : List ℕ) → B.leaves bench.new image → B.leaves bench.old image }
     ensures failed { result ≡ Err AuditFault.Failed → Rose (B.faults bench.old) (B.faults bench.new) }
+    ensures last_call { result ≡ Err AuditFault.Failed → B.last_failed bench.new ≡ true }
     ensures later { B.faults bench.old ≤ B.faults bench.new }
     ensures steady { ¬ (result ≡ Err AuditFault.Failed) → B.faults bench.new ≡ B.faults bench.old }
 {

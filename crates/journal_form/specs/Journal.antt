@@ -17,7 +17,7 @@ pub record Written : Type 0 where
 abbrev pub AreGroups : Shape → List Written → Type 0
 AreGroups shape groups = AllByRecursion (λ group. IsGroup shape group.text group.list) groups
 
--- each behind an open gate, one behind the other
+-- each behind an open gate, one after the other
 abbrev pub texts : List Written → List ℕ
 texts groups = flat_map (λ group. 1 ∷ group.text) groups
 

@@ -1,5 +1,5 @@
 -- The comma of an average parts its numerator from its denominator.
-use Rattle.std.proofs.Common.{◌≡◌, ◌≢◌, ◌+◌, ◌-◌, ◌<◌, ◌^◌, ℕ, ℤ, suc, pos, negsuc, Bool, true, false, not, cond, nat_lt, ◌==◌, List, [], ◌∷◌, ◌++◌, length, take, drop, get_or, Some, None, codes, decimal, unsigned_abs, refl, sym, ap, ◌∙◌, arith, append_assoc, length-append}
+use Rattle.std.proofs.Common.{◌≡◌, ◌≢◌, ◌+◌, ◌<◌, ◌^◌, ℕ, ℤ, suc, pos, negsuc, Bool, true, false, not, cond, nat_lt, ◌==◌, List, [], ◌∷◌, ◌++◌, length, take, drop, get_or, Some, None, codes, decimal, unsigned_abs, refl, sym, ap, ◌∙◌, arith, append_assoc, length-append}
 use Rattle.std.specs.List.{AllByRecursion, position, position_or_len}
 use Rattle.std.specs.Fmt.{signed_decimal}
 use Rattle.std.specs.Str.Parse.{AllDigits, digits_value}

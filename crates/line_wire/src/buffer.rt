@@ -1,5 +1,5 @@
 //! The bytes that were taken from a source: those of the line that is being read, and those not yet given.
-ghost use Rattle.std.specs.Prelude.{◌≡◌, ◌<◌, ◌≤◌, ◌+◌, ◌-◌, ◌++◌, [], List, ℕ, length, take, drop, IfOk, OnErr, min, slice_range};
+ghost use Rattle.std.specs.Prelude.{◌≡◌, ◌<◌, ◌≤◌, ◌+◌, ◌-◌, ◌++◌, [], List, ℕ, length, take, drop, IfOk, OnErr, min, slice_range, true};
 ghost use Rattle.bench_core.specs.Causes.{HasCause};
 ghost use Rattle.bench_core.specs.Source.{Reads};
 ghost use Rattle.line_wire.specs.Lines.{without_return, kept};
@@ -124,6 +124,7 @@ impl Buffer {
         ensures none { OnErr result (self.new.pending ≡ []) }
         ensures bytes { P.told → Reads (P.left source.old) (P.left source.new) result self.new.pending }
         ensures cause { HasCause (P.faults source.old) (P.faults source.new) result }
+        ensures last_call { OnErr result (P.last_failed source.new ≡ true) }
     {
         let len = self.stop - self.start;
         move_bytes(&mut self.bytes, self.start, self.stop, 0);

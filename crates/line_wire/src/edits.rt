@@ -1,5 +1,5 @@
 //! Edits of a buffer of fixed size.
-ghost use Rattle.std.specs.Prelude.{◌≡◌, ◌+◌, ◌-◌, ◌<◌, ◌≤◌, ◌++◌, length, take, drop, slice_range, IfOk};
+ghost use Rattle.std.specs.Prelude.{◌≡◌, ◌+◌, ◌-◌, ◌<◌, ◌≤◌, ◌++◌, length, take, drop, slice_range, IfOk, true, OnErr};
 ghost use Rattle.bench_core.specs.Causes.{HasCause};
 ghost use Rattle.bench_core.specs.Source.{Reads};
 
@@ -34,6 +34,7 @@ pub fn read_to<P: Source>(source: &mut P, bytes: &mut [u8], at: usize) -> Result
     ensures bound { IfOk result (λ count. at + count ≤ length bytes.new) }
     ensures bytes { P.told → Reads (P.left source.old) (P.left source.new) result (drop at bytes.new) }
     ensures cause { HasCause (P.faults source.old) (P.faults source.new) result }
+    ensures last_call { OnErr result (P.last_failed source.new ≡ true) }
     ensures len { length bytes.new ≡ length bytes.old }
 {
     source.read(&mut bytes[at..])

@@ -55,7 +55,7 @@ impl Model for Lines {
 }
 
 // How far the bytes at hand were given: up to a line feed, all of them, or all below the limit.
-#[derive(Clone, Copy, Debug, PartialEq, Eq)]
+#[derive(Drop)]
 enum Step {
     Fed,
     Dry,
@@ -106,6 +106,7 @@ impl Lines {
         ensures later { P.faults source.old ≤ P.faults source.new }
         ensures steady { result ≢ Err LineStop.Input → P.faults source.new ≡ P.faults source.old }
         ensures input { result ≡ Err LineStop.Input → Rose (P.faults source.old) (P.faults source.new) }
+        ensures last_call { result ≡ Err LineStop.Input → P.last_failed source.new ≡ true }
 
         // Nothing is read while a whole line is at hand.
         ensures at_hand { whole_lines self.old.pending ≢ [] → source.new ≡ source.old }
@@ -199,6 +200,7 @@ impl Lines {
         ensures failed { P.told → OnErr result (P.left source.new ≡ P.left source.old) }
         ensures kept { OnErr result ((self.new.taken ≡ self.old.taken) × (self.new.ended ≡ self.old.ended) × (self.new.pending ≡ [])) }
         ensures cause { HasCause (P.faults source.old) (P.faults source.new) result }
+        ensures last_call { OnErr result (P.last_failed source.new ≡ true) }
         ensures within { IsWithin self.new }
         ensures taken { OnOk result (self.new.taken ≡ self.old.taken + length self.new.pending) }
         ensures grows { OnOk result (self.new.ended ≡ false → self.old.taken < self.new.taken) }

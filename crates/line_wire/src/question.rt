@@ -19,7 +19,7 @@ pub enum Take {
     Max,
 }
 
-#[derive(Clone, Copy, Debug, PartialEq, Eq, Drop)]
+#[derive(Clone, Copy, Drop)]
 pub(crate) enum Ask {
     Count,
     Of(Take),

@@ -6,13 +6,13 @@ ghost use Rattle.line_wire.specs.Reply.{IsAverage, IsInRange};
 use crate::reply::Reply;
 use audit_types::{MOST_NUMBER, MOST_ROWS};
 
-/// The greatest size of a secret.
+// The greatest size of a secret.
 const MOST_SIZE: u64 = MOST_NUMBER as u64;
 
-/// The greatest size of a sum over a table.
+// The greatest size of a sum over a table.
 const MOST_SUM: u64 = MOST_ROWS as u64 * MOST_SIZE;
 
-/// How long a condition may be.
+// How long a condition may be.
 const MOST_BYTES: u32 = 8192;
 
 // Euclid's algorithm.

@@ -19,7 +19,7 @@ use schema_json::Schema;
 use serde_json::Value;
 use std::alloc::Global;
 
-/// The place of a column among the secret ones, where the question takes it.
+// The place of a column among the secret ones, where the question takes it.
 #[tactic(auto, using(crate::proofs::FoundColumns::place_below))]
 fn column_of(schema: &Schema, take: Take, name: &str) -> Result<u8, LineFault>
     ensures finds { FindsColumn schema.now.columns take name.now result }
@@ -37,7 +37,7 @@ fn column_of(schema: &Schema, take: Take, name: &str) -> Result<u8, LineFault>
     }
 }
 
-/// The condition that a text means.
+// The condition that a text means.
 fn condition(alloc: Global, schema: &Schema, text: &str) -> Result<Pred, LineFault>
     requires { length text.now ≤ 8192 }
     ensures exact { ReadsCondition schema.now.columns text.now result }
@@ -51,7 +51,7 @@ fn condition(alloc: Global, schema: &Schema, text: &str) -> Result<Pred, LineFau
     }
 }
 
-/// The request that a question is. Its column is looked at before its condition.
+// The request that a question is. Its column is looked at before its condition.
 #[tactic(auto, using(crate::proofs::AnsweredLines::taken_is))]
 fn request_of(alloc: Global, schema: &Schema, question: Question) -> Result<Request, LineFault>
     requires { length (text_of (written_of question)) ≤ 8192 }
@@ -84,7 +84,7 @@ fn taking(take: Take, column: u8, pred: Pred) -> Request
     }
 }
 
-/// The value of a line. No text in it is longer than the line.
+// The value of a line. No text in it is longer than the line.
 fn value_of(alloc: Global, line: &[u8]) -> Result<Value, LineFault>
     ensures found { IfOk result (λ value. value_of line.now ≡ Some (view value)) }
     ensures texts { IfOk result (λ value. longest (view value) ≤ length line.now) }

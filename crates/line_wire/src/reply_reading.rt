@@ -7,7 +7,7 @@ ghost use Rattle.line_wire.specs.Reply.{IsReply};
 use crate::range::is_in_range;
 use crate::reply::{Reply, write_reply};
 
-/// The replies that are one word.
+// The replies that are one word.
 const WORDS: [Reply; 8] = [
     Reply::Unsafe,
     Reply::Wide,
@@ -78,7 +78,7 @@ fn number_between(line: &[u8], front: &[u8], end: &[u8]) -> Option<i64>
     }
 }
 
-// The same of a number without a sign.
+// The number without a sign between a front and an end. It may be written in other ways than replies write it.
 fn size_between(line: &[u8], front: &[u8], end: &[u8]) -> Option<u16>
     ensures { (size : ℕ) → size < 2 ^ 16 → line.now ≡ front.now ++ (decimal size ++ end.now) → result ≡ Some size }
 {

@@ -60,7 +60,7 @@ at_least_up x (Some b) (Some c) high below = omega (arith, ints)
 module _ (answers : List Answer) (rows : List ℕ) where
   -- to: an answer that is possible and leaves a lone row
   module _ (n : ℕ) (x : ℤ) (leaves : LeavesLoneRow (known_max n answers) rows x) where
-    -- each answer has an extreme row behind it
+    -- each answer has an extreme row after it
     still : (a : Answer) → IsOneOf a (with_asked answers rows x) → 0 < length (extremes (with_asked answers rows x) a)
     still a one = all_at (λ b. 0 < length (extremes (with_asked answers rows x) b)) (with_asked answers rows x) a leaves.possible one
 

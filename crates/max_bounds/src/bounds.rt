@@ -31,7 +31,7 @@ pub struct Bounds {
     // Extreme rows of pairs, with their answer, in descending order of answers. Each pair has such a set of its own answer and
     // with no other rows.
     least: Vec<AnsweredMax>,
-    // The rows with high bounds, for cuts in descending order, which mostly tell of all.
+    // The rows with high bounds, for cuts in descending order. Most questions are told by them alone.
     high: Vec<HighRows>,
 }
 

@@ -53,7 +53,7 @@ fn span_of(upper: &[Option<i64>], falling: &RowSet) -> Span
     span
 }
 
-// How many of the falling rows are extreme for an answer. None is for an answer that is not among their bounds.
+// How many of the falling rows are extreme for an answer: none, where the answer is outside of what their bounds span.
 fn falls(upper: &[Option<i64>], falling: &RowSet, span: Span, pair: &AnsweredMax) -> u16
     requires spans { IsSpan (bound_at upper.now) falling.now.list span }
     requires same_n { pair.now.rows.n ≡ falling.now.n }

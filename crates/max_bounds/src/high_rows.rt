@@ -121,7 +121,7 @@ pub(crate) fn one_highest_of(high: &[HighRows], upper: &[Option<i64>], rows: &Ro
     one_highest(upper, rows)
 }
 
-// Leaves the high rows of a cut above an answer none but these, the others than those of the answer's set.
+// Takes the rows of an answer from the high rows of a cut above it. The others are the rows that the answer's set lacks.
 fn lower_one(high: &mut HighRows, others: &RowSet, answer: i64)
     requires same_n { high.old.rows.n ≡ others.now.n }
     ensures n { high.new.rows.n ≡ high.old.rows.n }

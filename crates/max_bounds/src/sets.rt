@@ -8,7 +8,7 @@ ghost use Rattle.max_bounds.specs.Kept.{lowered_set};
 use crate::answered::AnsweredMax;
 use audit_types::RowSet;
 
-// Leaves a set with a higher answer none but these rows, the others than those of a new answer.
+// Takes the rows of a new answer from a set with a higher one. The others are the rows that the new answer's set lacks.
 fn lower_set(set: &mut AnsweredMax, others: &RowSet, answer: i64)
     requires same_n { set.old.rows.n ≡ others.now.n }
     ensures n { set.new.rows.n ≡ set.old.rows.n }

@@ -1,11 +1,12 @@
 -- What is open, kept with the innermost last.
-use Rattle.std.proofs.Common.{◌≡◌, List, [], ◌∷◌, ◌++◌, length, map, take, get_or, ◌<◌, ◌-◌, ◌+◌, false, arith, refl, sym, ap, ◌∙◌}
+use Rattle.std.proofs.Common.{◌≡◌, List, [], ◌∷◌, ◌++◌, length, map, take, get_or, ◌<◌, ◌-◌, ◌+◌, true, false, arith, refl, sym, ap, ◌∙◌}
 use Rattle.std.specs.Prelude.{reverse}
 use Rattle.predicate_lang.specs.Trees.{Tree}
 use Rattle.std.proofs.lemmas.List.{map-append, reverse-append, length-map, length-reverse, take_all, take_more}
 use Rattle.predicate_lang.specs.Machine.{Frame, a_not, a_bracket, is_under_not, without_nots, negated}
 use Rattle.predicate_lang.specs.Building.{frame_of, frames_of}
 use Rattle.predicate_lang.specs.declared.building.Opened.{Opened}
+use Rattle.predicate_lang.specs.declared.building.Opened.TheVariants as opened
 
 -- what was opened last comes first
 pub frames_of_push : (os : List Opened) (o : Opened) → frames_of (os ++ o ∷ []) ≡ frame_of o ∷ frames_of os
@@ -20,6 +21,22 @@ frames_of_last os o some =
     let all : take (length os - 1 + 1) os ≡ os = take_all (length os - 1 + 1) os (omega arith) in
     let front : take (length os - 1 + 1) os ≡ take (length os - 1) os ++ get_or os (length os - 1) o ∷ [] = take_more os (length os - 1) o (omega arith) in
     ap frames_of (sym all ∙ front) ∙ frames_of_push (take (length os - 1) os) (get_or os (length os - 1) o)
+
+-- a first frame that is a `not`
+first_not : (f : Frame) (fs : List Frame) → is_under_not (f ∷ fs) ≡ true → f ≡ a_not
+first_not a_not fs h = refl
+first_not (a_bracket o a) fs h = absurd cc
+
+some_opened : (os : List Opened) → is_under_not (frames_of os) ≡ true → 0 < length os
+some_opened [] h = absurd cc
+some_opened (o ∷ os) h = omega arith
+
+-- a `not` right before the operand, and what is open around it
+pub frames_under_not : (os : List Opened) → is_under_not (frames_of os) ≡ true → (0 < length os) × (frames_of os ≡ a_not ∷ frames_of (take (length os - 1) os))
+frames_under_not os h =
+    let some = some_opened os h in
+    let last = frames_of_last os opened.Not some in
+    (some, last ∙ ap (λ f. f ∷ frames_of (take (length os - 1) os)) (first_not (frame_of (get_or os (length os - 1) opened.Not)) (frames_of (take (length os - 1) os)) (ap is_under_not (sym last) ∙ h)))
 
 -- where no `not` stands before the operand, none ends with it
 pub without_nots_bracket : (fs : List Frame) → is_under_not fs ≡ false → without_nots fs ≡ fs

@@ -5,6 +5,7 @@ use Rattle.predicate_lang.specs.Trees.{tree_of}
 use Rattle.predicate_lang.specs.Places.{Means, IsWhereFault}
 use Rattle.predicate_lang.specs.Machine.{Build}
 use Rattle.predicate_lang.specs.Reads.{HasRead}
+use Rattle.predicate_lang.specs.declared.trees.Pred.{Pred}
 use Rattle.predicate_lang.specs.declared.trees.WhereFault.{WhereFault}
 use Rattle.predicate_lang.specs.declared.reading.Step.{Step}
 use Rattle.predicate_lang.specs.declared.reading.Step.TheVariants.{More, Whole}
@@ -20,3 +21,8 @@ abbrev pub Steps : List Column → List ℕ → ℕ → ℕ → Build → Result
 Steps columns text from count b (Ok (More end)) = Advances columns text from count b end
 Steps columns text from count b (Ok (Whole p)) = Means columns text (tree_of p)
 Steps columns text from count b (Err fault) = IsWhereFault columns text fault
+
+-- the predicate that the text means, or the offset at which it is refused
+abbrev pub Ends : List Column → List ℕ → Result Pred WhereFault → Type 0
+Ends columns text (Ok p) = Means columns text (tree_of p)
+Ends columns text (Err fault) = IsWhereFault columns text fault

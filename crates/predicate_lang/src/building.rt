@@ -1,9 +1,10 @@
 //! The tree as it grows, token by token. What is open is kept in a list: no call goes deeper where brackets do.
-ghost use Rattle.std.specs.Prelude.{◌≡◌, ◌∷◌, List, OnOk};
+ghost use Rattle.std.specs.Prelude.{◌≡◌, ◌∷◌, ◌<◌, length, List, OnOk, true};
 ghost use Rattle.schema_json.specs.Columns.{Column, role_at};
 ghost use Rattle.predicate_lang.specs.Trees.{tree_of, is_of_role, has_operator};
-ghost use Rattle.predicate_lang.specs.Machine.{build, start, built, whole, closed, add_and, add_or, is_under_not, is_in_bracket, negated, without_nots, at_operand, at_name, at_operator, at_in, at_comma, at_literal, behind, has_room, public_role};
-ghost use Rattle.predicate_lang.specs.Building.{Puts, Goes, Makes, MakesTree, Finishes, build_of, build_at, part_of, frame_of, frames_of};
+ghost use Rattle.predicate_lang.specs.Machine.{a_not, build, start, built, whole, closed, add_and, add_or, is_under_not, is_in_bracket, negated, without_nots, at_operand, at_name, at_operator, at_in, at_comma, at_literal, behind, has_room, public_role};
+ghost use Rattle.predicate_lang.specs.Building.{Puts, Goes, Makes, MakesTree, Finishes, build_of, build_at, stand_of, part_of, frame_of, frames_of};
+ghost use Rattle.predicate_lang.specs.declared.building.Spot.TheVariants.{Operand};
 
 use crate::tokens::Token;
 use crate::trees::{Literal, Literals, Op, Pred, WhereFault};
@@ -11,7 +12,7 @@ use schema_json::{Role, Schema};
 use std::alloc::Global;
 use std::mem;
 
-/// How many `not` and brackets may be open.
+// How many `not` and brackets may be open.
 const MOST_OPEN: usize = 64;
 
 /// A `not` that waits for its operand, or an open bracket with what stands before it.
@@ -65,7 +66,7 @@ fn or_of(alloc: Global, ors: Option<Pred>, p: Pred) -> Result<Pred, WhereFault>
     }
 }
 
-/// Whether a `not` stands right before the operand.
+// Whether a `not` stands right before the operand.
 #[tactic(auto, using(crate::proofs::Frames::frames_of_last))]
 fn is_under_not(opened: &[Opened]) -> bool
     ensures { result ≡ is_under_not (frames_of opened.now) }
@@ -77,14 +78,25 @@ fn is_under_not(opened: &[Opened]) -> bool
     }
 }
 
-/// The operand under each `not` right before it. These end there.
+// Ends the `not` that stands right before the operand.
+#[tactic(auto, using(crate::proofs::Frames::frames_under_not))]
+fn end_not(opened: &mut Vec<Opened>)
+    requires { is_under_not (frames_of opened.old.items) ≡ true }
+    ensures frames { frames_of opened.old.items ≡ a_not ∷ frames_of opened.new.items }
+    ensures fewer { length opened.new.items < length opened.old.items }
+{
+    let rest = opened.len().saturating_sub(1);
+    opened.truncate(rest);
+}
+
+// The operand under each `not` right before it. These end there.
 fn negate(alloc: Global, opened: &mut Vec<Opened>, operand: Pred) -> Result<Pred, WhereFault>
     ensures tree { MakesTree (negated (frames_of opened.old.items) (tree_of operand)) result }
     ensures rest { OnOk result (frames_of opened.new.items ≡ without_nots (frames_of opened.old.items)) }
 {
     let mut p = operand;
     'nots: while is_under_not(opened) {
-        let _ = opened.pop();
+        end_not(opened);
         p = Pred::Not(Box::new(alloc, p)?);
     }
     Ok(p)
@@ -153,17 +165,36 @@ impl State {
         }
     }
 
-    /// Puts a whole operand after what stands before it.
+    // Sets where the next token stands.
+    fn go_to(&mut self, spot: Spot)
+        ensures { build_of self.new ≡ build_at self.old (stand_of spot self.old.literals.items) }
+    {
+        self.spot = spot;
+    }
+
+    // Waits for an operand after these parts.
+    fn wait_after(&mut self, ors: Option<Pred>, ands: Option<Pred>)
+        ensures opened { self.new.opened ≡ self.old.opened }
+        ensures ors { self.new.ors ≡ ors }
+        ensures ands { self.new.ands ≡ ands }
+        ensures spot { self.new.spot ≡ Operand }
+    {
+        self.ors = ors;
+        self.ands = ands;
+        self.spot = Spot::Operand;
+    }
+
+    // Puts a whole operand after what stands before it.
     fn end_operand(&mut self, alloc: Global, operand: Pred) -> Result<(), WhereFault>
         ensures { Makes (whole (frames_of self.old.opened.items) (part_of self.old.ors) (part_of self.old.ands) (tree_of operand)) result (λ _. build_of self.new) }
     {
         let p = negate(alloc, &mut self.opened, operand)?;
         let p = and_of(alloc, self.ands.take(), p)?;
-        self.spot = Spot::Whole(p);
+        self.go_to(Spot::Whole(p));
         Ok(())
     }
 
-    /// Opens one `not` or bracket more.
+    // Opens one `not` or bracket more.
     fn open(&mut self, opening: Opened, at: u32) -> Result<(), WhereFault>
         ensures { Goes (has_room (frames_of self.old.opened.items)) (build (frame_of opening ∷ frames_of self.old.opened.items) (part_of self.old.ors) (part_of self.old.ands) at_operand) at result (λ _. build_of self.new) }
     {
@@ -171,24 +202,23 @@ impl State {
             return Err(WhereFault::Bad { at });
         }
         self.opened.push(opening)?;
-        self.spot = Spot::Operand;
+        self.go_to(Spot::Operand);
         Ok(())
     }
 
-    /// Closes the innermost bracket.
+    // Closes the innermost bracket.
     #[tactic(auto, using(crate::proofs::Frames::frames_of_push))]
     fn close(&mut self, alloc: Global, inner: Pred, at: u32) -> Result<(), WhereFault>
         ensures { Goes (is_in_bracket (frames_of self.old.opened.items)) (closed (frames_of self.old.opened.items) (part_of self.old.ors) (tree_of inner)) at result (λ _. build_of self.new) }
     {
         match self.opened.pop() {
             Some(Opened::Bracket { ors, ands }) => {
-                let p = or_of(alloc, self.ors.take(), inner)?;
-                self.ors = ors;
-                self.ands = ands;
+                let inner_ors = self.ors.take();
+                self.wait_after(ors, ands);
+                let p = or_of(alloc, inner_ors, inner)?;
                 self.end_operand(alloc, p)
             }
-            Some(Opened::Not) => Err(WhereFault::Bad { at }),
-            None => Err(WhereFault::Bad { at }),
+            _ => Err(WhereFault::Bad { at }),
         }
     }
 
@@ -211,7 +241,7 @@ impl State {
             Token::All => self.end_operand(alloc, Pred::All),
             Token::Column(Some(column)) => {
                 if is_public(role_of(schema, column)) {
-                    self.spot = Spot::Name(column);
+                    self.go_to(Spot::Name(column));
                     Ok(())
                 } else {
                     Err(WhereFault::Bad { at })
@@ -232,12 +262,12 @@ impl State {
     {
         match token {
             Token::In => {
-                self.spot = Spot::In(column);
+                self.go_to(Spot::In(column));
                 Ok(())
             }
             Token::Operator(op) => {
                 if takes_operator(role_of(schema, column), op) {
-                    self.spot = Spot::Operator(column, op);
+                    self.go_to(Spot::Operator(column, op));
                     Ok(())
                 } else {
                     Err(WhereFault::Bad { at })
@@ -281,7 +311,7 @@ impl State {
         match token {
             Token::OpenBracket => {
                 self.literals = Vec::new(alloc);
-                self.spot = Spot::Comma(column);
+                self.go_to(Spot::Comma(column));
                 Ok(())
             }
             _ => Err(WhereFault::Bad { at }),
@@ -301,7 +331,7 @@ impl State {
             Token::Value(literal) => {
                 if takes_literal(role_of(schema, column), &literal) {
                     self.literals.push(literal)?;
-                    self.spot = Spot::Literal(column);
+                    self.go_to(Spot::Literal(column));
                     Ok(())
                 } else {
                     Err(WhereFault::Bad { at })
@@ -322,7 +352,7 @@ impl State {
     {
         match token {
             Token::Comma => {
-                self.spot = Spot::Comma(column);
+                self.go_to(Spot::Comma(column));
                 Ok(())
             }
             Token::CloseBracket => {
@@ -339,15 +369,13 @@ impl State {
     {
         match token {
             Token::And => {
-                self.ands = Some(p);
-                self.spot = Spot::Operand;
+                let ors = self.ors.take();
+                self.wait_after(ors, Some(p));
                 Ok(())
             }
             Token::Or => {
                 let ors = or_of(alloc, self.ors.take(), p)?;
-                self.ors = Some(ors);
-                self.ands = None;
-                self.spot = Spot::Operand;
+                self.wait_after(Some(ors), None);
                 Ok(())
             }
             Token::CloseBracket => self.close(alloc, p, at),

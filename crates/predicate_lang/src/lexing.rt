@@ -28,7 +28,7 @@ fn is_name_byte(byte: u8) -> bool
     byte.is_ascii_alphanumeric() || byte == b'_'
 }
 
-/// The offset of the first byte from an offset on that is no blank.
+// The offset of the first byte from an offset on that is no blank.
 #[tactic(auto, using(crate::proofs::Lexed::lexed_from_blank))]
 fn skip_blanks(bytes: &[u8], from: usize) -> usize
     requires { from ≤ length bytes.now }
@@ -44,7 +44,7 @@ fn skip_blanks(bytes: &[u8], from: usize) -> usize
     at
 }
 
-/// How many bytes of a name there are at the front.
+// How many bytes of a name there are at the front.
 fn name_length(bytes: &[u8]) -> usize
     ensures exact { result ≡ length (take_while is_name_byte bytes.now) }
     ensures within { result ≤ length bytes.now }
@@ -52,7 +52,7 @@ fn name_length(bytes: &[u8]) -> usize
     bytes.iter().take_while(|byte| is_name_byte(**byte)).count()
 }
 
-/// How many digits there are at the front.
+// How many digits there are at the front.
 fn digits_length(bytes: &[u8]) -> usize
     ensures exact { result ≡ length (take_while is_ascii_digit bytes.now) }
     ensures within { result ≤ length bytes.now }
@@ -64,7 +64,7 @@ fn digits_length(bytes: &[u8]) -> usize
 }
 
 #[tactic(auto, using(crate::proofs::Numbers::decimal_after_grows))]
-/// The number that digits mean, where it is not too large.
+// The number that digits mean, where it is not too large.
 fn magnitude(digits: &[u8]) -> Option<u64>
     ensures { result ≡ within_most (decimal_after 0 digits.now) }
 {
@@ -78,7 +78,7 @@ fn magnitude(digits: &[u8]) -> Option<u64>
     Some(value)
 }
 
-/// The number of digits after a minus sign or none.
+// The number of digits after a minus sign or none.
 fn number_of(minus: bool, digits: &[u8]) -> Option<i64>
     ensures { result ≡ number_of minus digits.now }
 {
@@ -93,7 +93,7 @@ fn number_of(minus: bool, digits: &[u8]) -> Option<i64>
     }
 }
 
-/// What stands after an opening quote, if it is closed. A doubled quote is one.
+// What stands after an opening quote, if it is closed. A doubled quote is one.
 fn quoted(alloc: Global, rest: &[u8]) -> Result<Option<Quote>, WhereFault>
     requires { length rest.now ≤ 16384 }
     ensures exact { Quotes (quoted false rest.now) result }
@@ -137,7 +137,7 @@ fn word_token(schema: &Schema, word: &str) -> Token
     }
 }
 
-/// A keyword or a name, whose first letter stands at an offset.
+// A keyword or a name, whose first letter stands at an offset.
 fn word(schema: &Schema, text: &str, at: usize) -> Lexeme
     requires short { length text.now ≤ 16384 }
     requires inside { at < length text.now }
@@ -154,7 +154,7 @@ fn word(schema: &Schema, text: &str, at: usize) -> Lexeme
     }
 }
 
-/// The number whose minus sign or first digit stands at an offset, and after whose digits another one is.
+// The number whose minus sign or first digit stands at an offset, and after whose digits another one is.
 #[tactic(auto, using(crate::proofs::Fronts::take_front, crate::proofs::Fronts::take_behind))]
 fn number_between(bytes: &[u8], at: usize, end: usize) -> Option<i64>
     requires inside { at < length bytes.now }
@@ -169,7 +169,7 @@ fn number_between(bytes: &[u8], at: usize, end: usize) -> Option<i64>
     }
 }
 
-/// A number, whose minus sign or first digit stands at an offset.
+// A number, whose minus sign or first digit stands at an offset.
 fn number(bytes: &[u8], at: usize) -> Result<Lexeme, WhereFault>
     requires short { length bytes.now ≤ 16384 }
     requires inside { at < length bytes.now }
@@ -187,7 +187,7 @@ fn number(bytes: &[u8], at: usize) -> Result<Lexeme, WhereFault>
     }
 }
 
-/// A text, whose opening quote stands at an offset.
+// A text, whose opening quote stands at an offset.
 fn text_literal(alloc: Global, bytes: &[u8], at: usize) -> Result<Lexeme, WhereFault>
     requires short { length bytes.now ≤ 16384 }
     requires inside { at < length bytes.now }
@@ -214,7 +214,7 @@ fn is_equals_next(bytes: &[u8]) -> bool
     }
 }
 
-/// The token of a mark, with how many bytes follow its first one.
+// The token of a mark, with how many bytes follow its first one.
 fn mark(byte: u8, rest: &[u8]) -> Option<(Token, usize)>
     ensures exact { (columns : List Column) → seen_front columns (mark_front byte rest.now) ≡ result }
     ensures within { IfSome result (λ m. m.1 ≤ length rest.now) }
@@ -234,7 +234,7 @@ fn mark(byte: u8, rest: &[u8]) -> Option<(Token, usize)>
     }
 }
 
-/// The token whose first byte stands at an offset.
+// The token whose first byte stands at an offset.
 fn token_at(alloc: Global, schema: &Schema, text: &str, at: usize) -> Result<Lexeme, WhereFault>
     requires short { length text.now ≤ 16384 }
     requires inside { at < length text.now }

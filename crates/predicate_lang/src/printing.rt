@@ -1,7 +1,7 @@
 //! Predicates to texts, with brackets only where a part needs them.
 ghost use Rattle.std.specs.Prelude.{◌≡◌, ◌<◌, ◌≤◌, ◌+◌, ◌++◌, ℕ, List, [], true, cond, codes, length, IfOk, OnOk, string_bytes};
 ghost use Rattle.std.specs.List.{AllByRecursion};
-ghost use Rattle.predicate_lang.specs.Trees.{AreTexts, IsTextLiteral, compared, fits, has_literals, tree_of};
+ghost use Rattle.predicate_lang.specs.Trees.{AreTexts, IsTextLiteral, among, compared, fits, has_literals, tree_of};
 ghost use Rattle.predicate_lang.specs.Places.{Means};
 ghost use Rattle.predicate_lang.specs.Printing.{is_or, is_or_and, list_tokens, literal_text, op_text, printed, spaced};
 ghost use Rattle.predicate_lang.specs.declared.trees.Literal.TheVariants.{Text};
@@ -50,7 +50,7 @@ fn op_text(op: Op) -> &'static str
     }
 }
 
-/// Writes a text in quotes, each quote in it twice.
+// Writes a text in quotes, each quote in it twice.
 fn write_text(out: &mut String, text: &str) -> Result<(), AllocError>
     ensures { OnOk result (string_bytes out.new ≡ string_bytes out.old ++ literal_text (Text text.now)) }
 {
@@ -78,7 +78,7 @@ fn write_literal(out: &mut String, literal: &Literal) -> Result<(), AllocError>
     }
 }
 
-/// Writes the literals of an `in`, and the bracket that closes them.
+// Writes the literals of an `in`, and the bracket that closes them.
 fn write_literals(out: &mut String, literals: &[Literal]) -> Result<(), AllocError>
     requires some { has_literals literals.now ≡ true }
     requires texts { AllByRecursion IsTextLiteral literals.now }
@@ -97,7 +97,7 @@ fn write_literals(out: &mut String, literals: &[Literal]) -> Result<(), AllocErr
     }
 }
 
-/// Writes the comparison of a column with a literal.
+// Writes the comparison of a column with a literal.
 fn write_compare(
     out: &mut String,
     schema: &Schema,
@@ -116,6 +116,23 @@ fn write_compare(
     write_literal(out, literal)
 }
 
+/// Writes that a column is in a list of literals.
+fn write_within(
+    out: &mut String,
+    schema: &Schema,
+    column: u8,
+    literals: &[Literal],
+) -> Result<(), AllocError>
+    requires inside { column < length schema.now.columns }
+    requires some { has_literals literals.now ≡ true }
+    requires texts { AllByRecursion IsTextLiteral literals.now }
+    ensures { OnOk result (string_bytes out.new ≡ string_bytes out.old ++ printed schema.now.columns (among column literals.now)) }
+{
+    out.push_str(schema.name(column))?;
+    out.push_str(" in (")?;
+    write_literals(out, literals)
+}
+
 fn open(out: &mut String, wanted: bool) -> Result<(), AllocError>
     ensures { OnOk result (string_bytes out.new ≡ string_bytes out.old ++ cond wanted (codes "(") []) }
 {
@@ -128,7 +145,15 @@ fn close(out: &mut String, wanted: bool) -> Result<(), AllocError>
     if wanted { out.push(')') } else { Ok(()) }
 }
 
-/// Writes a predicate. Calls go as deep as its tree, which for one that was read is at most 512.
+// Writes a word, and the bracket of the part after it where one is wanted.
+fn lead(out: &mut String, word: &str, wanted: bool) -> Result<(), AllocError>
+    ensures { OnOk result (string_bytes out.new ≡ (string_bytes out.old ++ word.now) ++ cond wanted (codes "(") []) }
+{
+    out.push_str(word)?;
+    open(out, wanted)
+}
+
+// Writes a predicate. Calls go as deep as its tree, which for one that was read is at most 512.
 fn write_pred(out: &mut String, schema: &Schema, pred: &Pred) -> Result<(), AllocError>
     requires fitting { fits schema.now.columns (tree_of pred.now) ≡ true }
     requires texts { AreTexts (tree_of pred.now) }
@@ -138,8 +163,7 @@ fn write_pred(out: &mut String, schema: &Schema, pred: &Pred) -> Result<(), Allo
         Pred::All => out.push_str("all"),
         Pred::Not(p) => {
             let inside = is_or_and(p);
-            out.push_str("not ")?;
-            open(out, inside)?;
+            lead(out, "not ", inside)?;
             write_pred(out, schema, p)?;
             close(out, inside)
         }
@@ -148,16 +172,14 @@ fn write_pred(out: &mut String, schema: &Schema, pred: &Pred) -> Result<(), Allo
             open(out, left)?;
             write_pred(out, schema, p)?;
             close(out, left)?;
-            out.push_str(" and ")?;
-            open(out, right)?;
+            lead(out, " and ", right)?;
             write_pred(out, schema, q)?;
             close(out, right)
         }
         Pred::Or(p, q) => {
             let right = is_or(q);
             write_pred(out, schema, p)?;
-            out.push_str(" or ")?;
-            open(out, right)?;
+            lead(out, " or ", right)?;
             write_pred(out, schema, q)?;
             close(out, right)
         }
@@ -167,9 +189,7 @@ fn write_pred(out: &mut String, schema: &Schema, pred: &Pred) -> Result<(), Allo
             literal,
         } => write_compare(out, schema, *column, *op, literal),
         Pred::Within { column, literals } => {
-            out.push_str(schema.name(*column))?;
-            out.push_str(" in (")?;
-            write_literals(out, literals.list.as_slice())
+            write_within(out, schema, *column, literals.list.as_slice())
         }
     }
 }

@@ -4,7 +4,8 @@ ghost use Rattle.predicate_lang.specs.Trees.{Tree, tree_of, height, fits, AreTex
 ghost use Rattle.predicate_lang.specs.Places.{Means, ReadsTree, IsWhereFault, IsWithin};
 ghost use Rattle.predicate_lang.specs.Building.{build_of};
 ghost use Rattle.predicate_lang.specs.Reads.{HasRead};
-ghost use Rattle.predicate_lang.specs.Steps.{Steps};
+ghost use Rattle.predicate_lang.specs.Steps.{Steps, Ends};
+ghost use Rattle.predicate_lang.specs.Machine.{start};
 
 use crate::building::State;
 use crate::lexing::next_token;
@@ -13,17 +14,17 @@ use crate::trees::{Pred, WhereFault};
 use schema_json::Schema;
 use std::alloc::Global;
 
-/// How many tokens a predicate may have.
+// How many tokens a predicate may have.
 const MOST_TOKENS: usize = 512;
 
-/// What one token more leads to: the offset after it, or the predicate at the end.
+// What one token more leads to: the offset after it, or the predicate at the end.
 #[derive(Drop)]
 enum Step {
     More(usize),
     Whole(Pred),
 }
 
-/// Takes the next token, or ends where there is none.
+// Takes the next token, or ends where there is none.
 fn take_token(
     alloc: Global,
     schema: &Schema,
@@ -56,6 +57,31 @@ fn take_token(
     }
 }
 
+/// Takes each token of a text from the first on.
+fn take_tokens(
+    alloc: Global,
+    schema: &Schema,
+    text: &str,
+    state: &mut State,
+) -> Result<Pred, WhereFault>
+    requires short { length text.now ≤ 16384 }
+    requires first { build_of state.old ≡ start }
+    ensures { Ends schema.now.columns text.now result }
+{
+    let mut from = 0usize;
+    let mut count = 0usize;
+    'tokens: loop {
+        match take_token(alloc, schema, text, from, count, state) {
+            Ok(Step::More(end)) => {
+                from = end;
+                count += 1;
+            }
+            Ok(Step::Whole(p)) => return Ok(p),
+            Err(fault) => return Err(fault),
+        }
+    }
+}
+
 /// The predicate that a text means, after the grammar of docs/FORMATS.md. A refusal names the byte at which the text
 /// goes wrong: a name that is no public column, a token that doesn't fit there, the `not` or bracket that is one too
 /// deep, token 513, a byte at which no token begins, or the end of the text.
@@ -77,16 +103,5 @@ pub fn read_where(alloc: Global, schema: &Schema, text: &str) -> Result<Pred, Wh
     ensures texts { IfOk result (λ p. AreTexts (tree_of p)) }
 {
     let mut state = State::new(alloc);
-    let mut from = 0usize;
-    let mut count = 0usize;
-    'tokens: loop {
-        match take_token(alloc, schema, text, from, count, &mut state) {
-            Ok(Step::More(end)) => {
-                from = end;
-                count += 1;
-            }
-            Ok(Step::Whole(p)) => return Ok(p),
-            Err(fault) => return Err(fault),
-        }
-    }
+    take_tokens(alloc, schema, text, &mut state)
 }

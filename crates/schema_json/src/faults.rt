@@ -17,7 +17,7 @@ pub enum SchemaFault {
     Repeated,
     /// More than 32 columns, or more than 8 secret ones.
     TooMany,
-    /// There was no memory to read it.
+    /// Memory ran out while it was read.
     NoMemory,
 }
 

@@ -72,7 +72,7 @@ fn sorted(alloc: Global, rows: u16, column: &Column) -> Result<Option<Sorted>, N
 }
 
 impl Index {
-    /// Makes a public part ready. Where memory is wanting, it is dropped.
+    /// Makes a public part ready. Where memory runs out, it is dropped.
     pub fn new(alloc: Global, public: Public) -> Result<Index, NoMemory>
         ensures { IfOk result (λ index. index ≡ public) }
     {

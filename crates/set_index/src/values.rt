@@ -10,14 +10,14 @@ use audit_types::NoMemory;
 use std::alloc::Global;
 use std::cmp::Ordering;
 
-/// The number of a row, 0 where there is none.
+// The number of a row, 0 where there is none.
 fn number_at(list: &[i64], row: u16) -> i64
     ensures { result ≡ slice_index_or list.now row (pos 0) }
 {
     list.get(row as usize).copied().unwrap_or(0)
 }
 
-/// The text of a row, empty where there is none.
+// The text of a row, empty where there is none.
 fn text_at(list: &[Vec<u8>], row: u16) -> &[u8]
     ensures { result.now ≡ slice_index_or (map (λ t. t.items) list.now) row [] }
 {

@@ -2,47 +2,15 @@
 --
 -- Lists that give the same answers differ by a direction, and a list that is moved along a direction gives the same
 -- answers. So an answer discloses a row exactly where each direction is 0 there, whatever the numbers are.
-use Rattle.std.proofs.Common.{◌≡◌, ℕ, ℤ, pos, List, [], ◌∷◌, ◌++◌, map, arith}
-use Rattle.std.specs.List.{AllByRecursion}
+use Rattle.std.proofs.Common.{◌≡◌, ℕ, pos, List, map, arith}
 use Rattle.std.proofs.lemmas.Int.{ints}
 use Rattle.audit_types.specs.Truth.{sum_over}
 use Rattle.audit_types.specs.Column.{Answer, Agrees, known_sum, IsPossible, IsDangerous}
 use Rattle.audit_types.specs.Direction.{IsDirection, PinSomeRow}
 use Rattle.audit_types.specs.Judgement.{sets_with}
+use Rattle.audit_types.specs.ListLaws.{all-push, all-front}
 use Rattle.sum_audit.specs.Laws.{DangerousByPins}
-use Rattle.sum_audit.proofs.Shifts.{moved_by, number_at-moved_by, length-moved_by, sum_over-moved_by, difference, number_at-difference, length-difference, sum_over-difference}
-
-abbrev ZeroSums : List ℤ → List Answer → Type 0
-ZeroSums d answers = AllByRecursion (λ s. sum_over d s ≡ pos 0) (map (λ a. a.rows) answers)
-
-abbrev Gives : List ℤ → List Answer → Type 0
-Gives w answers = AllByRecursion (λ a. sum_over w a.rows ≡ a.value) answers
-
-split : (d : List ℤ) (answers : List Answer) (rows : List ℕ) → AllByRecursion (λ s. sum_over d s ≡ pos 0) (map (λ a. a.rows) answers ++ rows ∷ []) → ZeroSums d answers × (sum_over d rows ≡ pos 0)
-split d [] rows h = (tt, h.0)
-split d (a ∷ answers) rows h = let rest = split d answers rows h.1 in ((h.0, rest.0), rest.1)
-
-join : (d : List ℤ) (answers : List Answer) (rows : List ℕ) → ZeroSums d answers → sum_over d rows ≡ pos 0 → AllByRecursion (λ s. sum_over d s ≡ pos 0) (map (λ a. a.rows) answers ++ rows ∷ [])
-join d [] rows h last = (last, tt)
-join d (a ∷ answers) rows h last = (h.0, join d answers rows h.1 last)
-
--- a list that is moved along a direction gives the same answers
-moved : (w d : List ℤ) (answers : List Answer) → Gives w answers → ZeroSums d answers → Gives (moved_by d w) answers
-moved w d [] g z = tt
-moved w d (a ∷ answers) g z =
-    let sum = sum_over-moved_by d w a.rows in
-    let old = g.0 in
-    let zero_sum = z.0 in
-    (omega (arith, ints), moved w d answers g.1 z.1)
-
--- two lists with the same answers differ by a direction
-apart : (w v : List ℤ) (answers : List Answer) → Gives w answers → Gives v answers → ZeroSums (difference v w) answers
-apart w v [] g h = tt
-apart w v (a ∷ answers) g h =
-    let sum = sum_over-difference v w a.rows in
-    let first = g.0 in
-    let second = h.0 in
-    (omega (arith, ints), apart w v answers g.1 h.1)
+use Rattle.sum_audit.specs.Shifts.{moved_by, difference, number_at-moved_by, length-moved_by, number_at-difference, length-difference, sum_over-moved_by, sum_over-difference, moved_gives, zero_between}
 
 module _ (n : ℕ) (answers : List Answer) (rows : List ℕ) where
   pins : IsDangerous (known_sum n answers) rows → PinSomeRow n (sets_with (known_sum n answers) rows)
@@ -51,11 +19,11 @@ module _ (n : ℕ) (answers : List Answer) (rows : List ℕ) where
     record {
       below = danger.row_below;
       still = λ d direction.
-          let parts = split d answers rows direction.zero_sums in
+          let parts = all-front (λ s. sum_over d s ≡ pos 0) (map (λ a. a.rows) answers) rows direction.zero_sums in
           let w = danger.w in
           let agrees : Agrees (known_sum n answers) (moved_by d w) = record {
-            one_each = length-moved_by d w n direction.one_each danger.agrees.one_each;
-            same = moved w d answers danger.agrees.same parts.0;
+            one_each = length-moved_by n d w direction.one_each danger.agrees.one_each;
+            same = moved_gives d w answers danger.agrees.same parts.0;
           } in
           let sum = sum_over-moved_by d w rows in
           let asked : sum_over (moved_by d w) rows ≡ sum_over w rows = omega (arith, ints, parts.1) in
@@ -78,8 +46,9 @@ module _ (n : ℕ) (answers : List Answer) (rows : List ℕ) where
             let asked_same = mistaken.same in
             let asked : sum_over (difference v w) rows ≡ pos 0 = omega (arith, ints) in
             let direction : IsDirection n (sets_with (known_sum n answers) rows) (difference v w) = record {
-              one_each = length-difference v w n mistaken.agrees.one_each possible.1.one_each;
-              zero_sums = join (difference v w) answers rows (apart w v answers possible.1.same mistaken.agrees.same) asked;
+              one_each = length-difference n v w mistaken.agrees.one_each possible.1.one_each;
+              zero_sums =
+                  all-push (λ s. sum_over (difference v w) s ≡ pos 0) (map (λ a. a.rows) answers) rows (zero_between v w answers mistaken.agrees.same possible.1.same) asked;
             } in
             let zero_there = pinned.1.still (difference v w) direction in
             let here = number_at-difference v w pinned.0 in

@@ -1,40 +1,39 @@
 -- A row is pinned exactly where its unit row lies in the span: of the sets' rows, or of their reduced form.
-use Rattle.std.proofs.Common.{◌≡◌, ℕ, ◌<◌, ℤ, pos, List, [], ◌∷◌, length, map, sym, ◌∙◌, arith, inl, inr}
+use Rattle.std.proofs.Common.{◌≡◌, ℕ, ◌<◌, ℤ, List, [], ◌∷◌, length, map, sym, ◌∙◌, arith, inl, inr}
 use Rattle.std.specs.Prelude.{◌↔◌}
 use Rattle.std.specs.List.{AllByRecursion}
 use Rattle.std.proofs.Math.IntN.{+ℤ_idr}
 use Rattle.audit_types.specs.Rows.{AreRows}
 use Rattle.audit_types.specs.Truth.{number_at}
-use Rattle.audit_types.specs.Form.{set_row, InSpan, IsPrimitive}
+use Rattle.audit_types.specs.Form.{set_row, InSpan}
 use Rattle.audit_types.specs.Direction.{IsDirection, IsPinned}
+use Rattle.audit_types.specs.RowNumbers.{length-set_row, lengths_of_sets}
+use Rattle.audit_types.specs.FormRows.{lengths_of_form}
+use Rattle.audit_types.specs.Totals.{product-set_row, product-span, products_in_span, products_from_sums, sums_from_products}
 use Rattle.sum_basis.specs.Basis.{unit_row}
 use Rattle.sum_audit.specs.Dot.{dot, IsOrthogonal}
 use Rattle.sum_audit.specs.Laws.{PinnedByUnitRow, DirectionsByForm, PinnedByForm}
-use Rattle.sum_audit.proofs.Measuring.{dot_in_span, dot-set_row, sets_orthogonal, orthogonal_sums}
-use Rattle.sum_audit.proofs.SpannedOrMoved.{in_span_or_moved, length-set_row, lengths_of_sets}
-
-all_in_span : (n : ℕ) (rows others : List (List ℤ)) (d : List ℤ) → AllByRecursion (InSpan rows) others → AllByRecursion (λ r. dot n (number_at r) d ≡ pos 0) rows → AllByRecursion (λ r. dot n (number_at r) d ≡ pos 0) others
-all_in_span n rows [] d spans h = tt
-all_in_span n rows (r ∷ others) d spans h = (dot_in_span n rows r d spans.0 h, all_in_span n rows others d spans.1 h)
+use Rattle.sum_audit.proofs.SpannedOrMoved.{in_span_or_moved}
 
 sets_directions : (n : ℕ) (sets : List (List ℕ)) (d : List ℤ) → AllByRecursion (AreRows n) sets → IsDirection n sets d ↔ IsOrthogonal n (map (set_row n) sets) d
 sets_directions n sets d are = (
-  (λ direction. record { one_each = direction.one_each; zeros = sets_orthogonal n sets d are direction.zero_sums }),
-  (λ orthogonal. record { one_each = orthogonal.one_each; zero_sums = orthogonal_sums n sets d are orthogonal.zeros }),
+  (λ direction. record { one_each = direction.one_each; zeros = products_from_sums n d sets are direction.zero_sums }),
+  (λ orthogonal. record { one_each = orthogonal.one_each; zero_sums = sums_from_products n d sets are orthogonal.zeros }),
 )
 
 -- each row of the form is spanned by the sets, and the row of each set by the form
 pub directions_by_form : DirectionsByForm
 directions_by_form n sets form d are reduced = (
-  (λ direction. record { one_each = direction.one_each; zeros = all_in_span n (map (set_row n) sets) form d reduced.within (sets_orthogonal n sets d are direction.zero_sums) }),
-  (λ orthogonal. record { one_each = orthogonal.one_each; zero_sums = orthogonal_sums n sets d are (all_in_span n form (map (set_row n) sets) d reduced.spans orthogonal.zeros) }),
+  (λ direction. record { one_each = direction.one_each; zeros = products_in_span n (number_at d) (map (set_row n) sets) form (products_from_sums n d sets are direction.zero_sums) reduced.within }),
+  (λ orthogonal. record { one_each = orthogonal.one_each; zero_sums = sums_from_products n d sets are (products_in_span n (number_at d) form (map (set_row n) sets) orthogonal.zeros reduced.spans) }),
 )
 
 dot-unit_row : (n i : ℕ) (d : List ℤ) → i < n → dot n (number_at (unit_row n i)) d ≡ number_at d i
-dot-unit_row n i d below = let are : AreRows n (i ∷ []) = (omega arith, below, tt) in dot-set_row n (i ∷ []) d are ∙ +ℤ_idr (number_at d i)
+dot-unit_row n i d below = let are : AreRows n (i ∷ []) = (omega arith, below, tt) in product-set_row d n (i ∷ []) are ∙ +ℤ_idr (number_at d i)
 
 -- rows to which just the directions are orthogonal tell the pinned rows
-module _ (n : ℕ) (sets : List (List ℕ)) (rows : List (List ℤ)) (tell : (d : List ℤ) → IsDirection n sets d ↔ IsOrthogonal n rows d) (i : ℕ) (below : i < n) where
+module _ (n : ℕ) (sets : List (List ℕ)) (rows : List (List ℤ)) (tell : (d : List ℤ) → IsDirection n sets d ↔ IsOrthogonal n rows d) (i : ℕ)
+    (below : i < n) where
   pinned_in_span : AllByRecursion (λ r. length r ≡ n) rows → IsPinned n sets i → InSpan rows (unit_row n i)
   pinned_in_span lengths pinned = elim (in_span_or_moved n rows (unit_row n i) lengths (length-set_row n (i ∷ []))) [
     | inl span ↦ span
@@ -44,7 +43,7 @@ module _ (n : ℕ) (sets : List (List ℕ)) (rows : List (List ℤ)) (tell : (d 
   in_span_pinned : InSpan rows (unit_row n i) → IsPinned n sets i
   in_span_pinned span = record {
     below = below;
-    still = λ d direction. sym (dot-unit_row n i d below) ∙ dot_in_span n rows (unit_row n i) d span ((tell d).0 direction).zeros;
+    still = λ d direction. sym (dot-unit_row n i d below) ∙ product-span (number_at d) n rows (unit_row n i) ((tell d).0 direction).zeros span;
   }
 
 pub pinned_by_unit_row : PinnedByUnitRow
@@ -52,10 +51,6 @@ pinned_by_unit_row n sets i are below = (
   pinned_in_span n sets (map (set_row n) sets) (λ d. sets_directions n sets d are) i below (lengths_of_sets n sets),
   in_span_pinned n sets (map (set_row n) sets) (λ d. sets_directions n sets d are) i below,
 )
-
-lengths_of_form : (n : ℕ) (form : List (List ℤ)) → AllByRecursion (IsPrimitive n) form → AllByRecursion (λ r. length r ≡ n) form
-lengths_of_form n [] h = tt
-lengths_of_form n (r ∷ form) h = (h.0.one_each, lengths_of_form n form h.1)
 
 pub pinned_by_form : PinnedByForm
 pinned_by_form n sets form i are reduced below = (

@@ -11,23 +11,19 @@ use Rattle.std.proofs.lemmas.Bool.{cases_lt, cases_eq, eq-eqb, ne_eqb}
 use Rattle.std.proofs.lemmas.List.{get_or_past}
 use Rattle.std.proofs.lemmas.List.FromFn.{length-map-range_with_len, get_or-map-range_with_len}
 use Rattle.std.proofs.Math.IntN.{+ℤ_idl, *ℤ_comm, zero-*ℤ, *ℤ-zero, pos-*ℤ-pos, negsuc-*ℤ-negsuc}
-use Rattle.audit_types.specs.Rows.{has_row}
 use Rattle.audit_types.specs.Truth.{number_at}
 use Rattle.audit_types.specs.Form.{set_row, combined, InSpan}
 use Rattle.sum_basis.specs.Combination.{combine}
+use Rattle.sum_basis.specs.CombinedRows.{length-combine}
+use Rattle.sum_basis.specs.Spans.{Spans, spans_same, spans_zero, in_span_from}
 use Rattle.audit_types.specs.Products.{neg-times, times_assoc, times-add}
+use Rattle.audit_types.specs.Numbers.{zero_or_not, positive_is}
+use Rattle.audit_types.specs.RowNumbers.{length-set_row, lengths_of_sets}
+use Rattle.audit_types.specs.Totals.{total-single, product-span, product-set_row, sums_from_products}
 use Rattle.sum_audit.specs.Dot.{dot}
-use Rattle.sum_audit.specs.DotLaws.{dot_one}
 use Rattle.sum_audit.specs.Laws.{SpannedOrMoved}
-use Rattle.sum_audit.proofs.Measuring.{dot-add, dot-times, dot_in_span, dot-set_row, orthogonal_sums}
-use Rattle.sum_audit.proofs.Shifts.{length-combine, dot-combine}
-
--- a positive multiple of the function of columns is a combination of the rows
-record Spans (rows : List (List ℤ)) (u : ℕ → ℤ) : Type 0 where
-  multiple : ℕ
-  positive : 0 < multiple
-  coefficients : List ℤ
-  is : (j : ℕ) → pos multiple *ℤ u j ≡ combined coefficients rows j
+use Rattle.sum_audit.proofs.Measuring.{dot-add, dot-times, dot-combine}
+use Rattle.std.proofs.Math.Nat.{mul-pos}
 
 -- a list that is orthogonal to the rows, and not to u
 record Moves (n : ℕ) (rows : List (List ℤ)) (u : ℕ → ℤ) : Type 0 where
@@ -36,20 +32,10 @@ record Moves (n : ℕ) (rows : List (List ℤ)) (u : ℕ → ℤ) : Type 0 where
   zeros : AllByRecursion (λ r. dot n (number_at r) list ≡ pos 0) rows
   up : pos 0 <ℤ dot n u list
 
-zero_or_not : (z : ℤ) → (z ≡ pos 0) ⊎ (z ≢ pos 0)
-zero_or_not (pos zero) = inl refl
-zero_or_not (pos (suc n)) = inr (λ e. omega (arith, ints))
-zero_or_not (negsuc n) = inr (λ e. omega (arith, ints))
-
 square_positive : (z : ℤ) → z ≢ pos 0 → pos 0 <ℤ (z *ℤ z)
 square_positive (pos zero) some = absurd (some refl)
 square_positive (pos (suc n)) some = let product = pos-*ℤ-pos (suc n) (suc n) in omega (arith, ints)
 square_positive (negsuc n) some = let product = negsuc-*ℤ-negsuc n n in omega (arith, ints)
-
-product_positive : (a b : ℕ) → 0 < a → 0 < b → 0 < a * b
-product_positive (suc a) (suc b) p q = omega arith
-product_positive zero b p q = absurd (omega arith)
-product_positive (suc a) zero p q = absurd (omega arith)
 
 -- all columns below n are 0, or one is not
 columns : (n : ℕ) (u : ℕ → ℤ) → ((j : ℕ) → j < n → u j ≡ pos 0) ⊎ ((j : ℕ) × (j < n) × (u j ≢ pos 0))
@@ -79,7 +65,9 @@ spike_elsewhere n a x j other = elim (cases_lt j n) [
 ]
 
 dot-spike : (n : ℕ) (u : ℕ → ℤ) (a : ℕ) (x : ℤ) → a < n → dot n u (spike n a x) ≡ u a *ℤ x
-dot-spike n u a x l = dot_one n u (spike n a x) a l (λ j below other. ap (λ z. u j *ℤ z) (spike_elsewhere n a x j other) ∙ *ℤ-zero (u j)) ∙ ap (λ z. u a *ℤ z) (spike_here n a x l)
+dot-spike n u a x l =
+    total-single (λ j. u j *ℤ number_at (spike n a x) j) n a l (λ j below other. ap (λ z. u j *ℤ z) (spike_elsewhere n a x j other) ∙ *ℤ-zero (u j))
+    ∙ ap (λ z. u a *ℤ z) (spike_here n a x l)
 
 -- what is left of u when the first row is taken out
 abbrev rest_of : ℤ → (ℕ → ℤ) → ℤ → List ℤ → ℕ → ℤ
@@ -111,12 +99,13 @@ back m c u k r w e =
 with_first : (c : ℕ) (u : ℕ → ℤ) (k : ℤ) (r : List ℤ) (rows : List (List ℤ)) → 0 < c → Spans rows (rest_of (pos c) u k r) → Spans (r ∷ rows) u
 with_first c u k r rows h s = record {
   multiple = s.multiple * c;
-  positive = product_positive s.multiple c s.positive h;
+  positive = mul-pos s.positive h;
   coefficients = (pos s.multiple *ℤ k) ∷ s.coefficients;
   is = λ j. ap (λ z. z *ℤ u j) (sym (pos-*ℤ-pos s.multiple c)) ∙ back s.multiple (pos c) (u j) k (number_at r j) (combined s.coefficients rows j) (s.is j);
 }
 
-still_zeros : (n : ℕ) (x : ℤ) (a : List ℤ) (y : ℤ) (b : List ℤ) (rows : List (List ℤ)) → AllByRecursion (λ r. dot n (number_at r) a ≡ pos 0) rows → AllByRecursion (λ r. dot n (number_at r) b ≡ pos 0) rows → AllByRecursion (λ r. dot n (number_at r) (combine x a y b) ≡ pos 0) rows
+still_zeros : (n : ℕ) (x : ℤ) (a : List ℤ) (y : ℤ) (b : List ℤ) (rows : List (List ℤ)) → AllByRecursion (λ r. dot n (number_at r) a ≡ pos 0) rows →
+    AllByRecursion (λ r. dot n (number_at r) b ≡ pos 0) rows → AllByRecursion (λ r. dot n (number_at r) (combine x a y b) ≡ pos 0) rows
 still_zeros n x a y b [] p q = tt
 still_zeros n x a y b (r ∷ rows) p q = (
   dot-combine n (number_at r) x a y b ∙ ap (λ z. x *ℤ z +ℤ neg_ℤ y *ℤ dot n (number_at r) b) p.0 ∙ ap (λ z. x *ℤ pos 0 +ℤ neg_ℤ y *ℤ z) q.0
@@ -125,14 +114,15 @@ still_zeros n x a y b (r ∷ rows) p q = (
 )
 
 -- a list that shows it of the rest, with d taken out by the first row
-move_first : (n : ℕ) (u : ℕ → ℤ) (r : List ℤ) (rows : List (List ℤ)) (d : Moves n rows (number_at r)) → Moves n rows (rest_of (dot n (number_at r) d.list) u (dot n u d.list) r) → Moves n (r ∷ rows) u
+move_first : (n : ℕ) (u : ℕ → ℤ) (r : List ℤ) (rows : List (List ℤ)) (d : Moves n rows (number_at r)) →
+    Moves n rows (rest_of (dot n (number_at r) d.list) u (dot n u d.list) r) → Moves n (r ∷ rows) u
 move_first n u r rows d e =
     let c = dot n (number_at r) d.list in
     let k = dot n u d.list in
     let x = dot n (number_at r) e.list in
     record {
       list = combine c e.list x d.list;
-      one_each = length-combine c e.list x d.list n e.one_each d.one_each;
+      one_each = length-combine n c e.list x d.list e.one_each d.one_each;
       zeros = (
         let whole = dot-combine n (number_at r) c e.list x d.list in
             let turned = *ℤ_comm c x in
@@ -150,24 +140,16 @@ move_first n u r rows d e =
           omega (arith, ints);
     }
 
-above_is : (z : ℤ) → pos 0 <ℤ z → (c : ℕ) × (z ≡ pos c) × (0 < c)
-above_is (pos c) h = (c, refl, omega (arith, ints))
-above_is (negsuc c) h = absurd (omega (arith, ints))
-
 past_rest : (c k : ℤ) (u : ℕ → ℤ) (r : List ℤ) (j : ℕ) → u j ≡ pos 0 → length r ≤ j → rest_of c u k r j ≡ pos 0
 past_rest c k u r j e l =
     ap (λ z. c *ℤ z +ℤ neg_ℤ k *ℤ number_at r j) e ∙ ap (λ z. c *ℤ pos 0 +ℤ neg_ℤ k *ℤ z) (get_or_past r j (pos 0) l)
     ∙ ap (λ z. z +ℤ neg_ℤ k *ℤ pos 0) (*ℤ-zero c) ∙ ap (λ z. pos 0 +ℤ z) (*ℤ-zero (neg_ℤ k))
 
 -- the rows span u, or a list is orthogonal to them and not to u
-spans_or_moves : (n : ℕ) (rows : List (List ℤ)) (u : ℕ → ℤ) → AllByRecursion (λ r. length r ≡ n) rows → ((j : ℕ) → n ≤ j → u j ≡ pos 0) → Spans rows u ⊎ Moves n rows u
+spans_or_moves : (n : ℕ) (rows : List (List ℤ)) (u : ℕ → ℤ) → AllByRecursion (λ r. length r ≡ n) rows → ((j : ℕ) → n ≤ j → u j ≡ pos 0) →
+    Spans rows u ⊎ Moves n rows u
 spans_or_moves n [] u lengths past = elim (columns n u) [
-  | inl none ↦ inl (record {
-    multiple = 1;
-    positive = omega arith;
-    coefficients = [];
-    is = λ j. ap (λ z. pos 1 *ℤ z) (elim (cases_lt j n) [ inl l ↦ none j l | inr l ↦ past j l ]) ∙ *ℤ-zero (pos 1);
-  })
+  | inl none ↦ inl (spans_same [] (λ j. pos 0) u (λ j. sym (elim (cases_lt j n) [ inl l ↦ none j l | inr l ↦ past j l ])) (spans_zero []))
   | inr hit ↦ inr (record {
     list = spike n hit.0 (u hit.0);
     one_each = length-spike n hit.0 (u hit.0);
@@ -182,45 +164,30 @@ spans_or_moves n (r ∷ rows) u lengths past =
         | inr m ↦ inr (record {
           list = m.list;
           one_each = m.one_each;
-          zeros = (dot_in_span n rows r m.list (record { multiple = span.multiple; positive = span.positive; coefficients = span.coefficients; is = span.is }) m.zeros, m.zeros);
+          zeros = (product-span (number_at m.list) n rows r m.zeros (in_span_from rows r span), m.zeros);
           up = m.up;
         })
       ]
       | inr d ↦
           let c = dot n (number_at r) d.list in
           let k = dot n u d.list in
-          let size = above_is c d.up in
+          let size = positive_is c d.up in
           elim (spans_or_moves n rows (rest_of c u k r) lengths.1 (λ j l. past_rest c k u r j (past j l) (let one_each = lengths.0 in omega arith))) [
-            | inl s ↦ inl (with_first size.0 u k r rows size.2 (turned rows c size.0 u k r size.1 s))
+            | inl s ↦ inl (with_first size.0 u k r rows size.2 (spans_same rows (rest_of c u k r) (rest_of (pos size.0) u k r) (λ j. ap (λ z. z *ℤ u j +ℤ neg_ℤ k *ℤ number_at r j) size.1) s))
             | inr m ↦ inr (move_first n u r rows d m)
           ]
     ]
-  where
-    turned : (others : List (List ℤ)) (c : ℤ) (m : ℕ) (v : ℕ → ℤ) (k : ℤ) (f : List ℤ) → c ≡ pos m → Spans others (rest_of c v k f) → Spans others (rest_of (pos m) v k f)
-    turned others c m v k f e s = record {
-      multiple = s.multiple;
-      positive = s.positive;
-      coefficients = s.coefficients;
-      is = λ j. ap (λ z. pos s.multiple *ℤ (z *ℤ v j +ℤ neg_ℤ k *ℤ number_at f j)) (sym e) ∙ s.is j;
-    }
 
 -- the same of a row
 pub in_span_or_moved : (n : ℕ) (rows : List (List ℤ)) (row : List ℤ) → AllByRecursion (λ r. length r ≡ n) rows → length row ≡ n →
     InSpan rows row ⊎ ((d : List ℤ) × (length d ≡ n) × AllByRecursion (λ r. dot n (number_at r) d ≡ pos 0) rows × (dot n (number_at row) d ≢ pos 0))
 in_span_or_moved n rows row lengths one_each = elim (spans_or_moves n rows (number_at row) lengths (λ j l. get_or_past row j (pos 0) (omega arith))) [
-  | inl s ↦ inl (record { multiple = s.multiple; positive = s.positive; coefficients = s.coefficients; is = s.is })
+  | inl s ↦ inl (in_span_from rows row s)
   | inr m ↦ inr (m.list, m.one_each, m.zeros, λ e. let up = m.up in omega (arith, ints))
 ]
-
-pub length-set_row : (n : ℕ) (set : List ℕ) → length (set_row n set) ≡ n
-length-set_row n set = length-map-range_with_len (λ r. cond (has_row set r) (pos 1) (pos 0)) 0 n
-
-pub lengths_of_sets : (n : ℕ) (sets : List (List ℕ)) → AllByRecursion (λ r. length r ≡ n) (map (set_row n) sets)
-lengths_of_sets n [] = tt
-lengths_of_sets n (s ∷ sets) = (length-set_row n s, lengths_of_sets n sets)
 
 pub spanned_or_moved : SpannedOrMoved
 spanned_or_moved n sets u are rows = elim (in_span_or_moved n (map (set_row n) sets) (set_row n u) (lengths_of_sets n sets) (length-set_row n u)) [
   | inl s ↦ inl s
-  | inr m ↦ inr (m.0, record { one_each = m.1; zero_sums = orthogonal_sums n sets m.0 are m.2 }, λ e. m.3 (dot-set_row n u m.0 rows ∙ e))
+  | inr m ↦ inr (m.0, record { one_each = m.1; zero_sums = sums_from_products n m.0 sets are m.2 }, λ e. m.3 (product-set_row m.0 n u rows ∙ e))
 ]

@@ -1,5 +1,6 @@
 pub mod Dot
 pub mod DotLaws
+pub mod Shifts
 pub mod Laws
 pub mod Sets
 pub mod Columns

@@ -24,7 +24,8 @@ pub none_cleared : (n : ℕ) (new : List FreeEntry) (old : List SparseRow) → I
 none_cleared n new old = record { same_length = refl; done = λ m d h l. absurd (omega arith); left = λ m d h. refl }
 
 -- one row more
-pub one_more_done : (n : ℕ) (new : List FreeEntry) (old rows : List SparseRow) (k : ℕ) (before after : SparseRow) → k < length rows → before ≡ get_or rows k before → IsPartlyCleared n new old rows k → IsDone n new before after → IsPartlyCleared n new old (set rows k after) (k + 1)
+pub one_more_done : (n : ℕ) (new : List FreeEntry) (old rows : List SparseRow) (k : ℕ) (before after : SparseRow) → k < length rows →
+    before ≡ get_or rows k before → IsPartlyCleared n new old rows k → IsDone n new before after → IsPartlyCleared n new old (set rows k after) (k + 1)
 one_more_done n new old rows k before after h is part done = record {
   same_length = length-set rows k after ∙ part.same_length;
   done = λ m d l inside. elim (cases_eq m k) [
@@ -38,7 +39,9 @@ one_more_done n new old rows k before after h is part done = record {
 }
 
 -- in the end all
-all_done : (n : ℕ) (new : List FreeEntry) (old rows : List SparseRow) → length rows ≡ length old → ((m : ℕ) (d : SparseRow) → m < length old → IsDone n new (get_or old m d) (get_or rows m d)) → AllByRecursion (IsKept n) rows × AreCleared n (row_of n new) (rows_of n old) (rows_of n rows)
+all_done : (n : ℕ) (new : List FreeEntry) (old rows : List SparseRow) → length rows ≡ length old →
+    ((m : ℕ) (d : SparseRow) → m < length old → IsDone n new (get_or old m d) (get_or rows m d)) →
+    AllByRecursion (IsKept n) rows × AreCleared n (row_of n new) (rows_of n old) (rows_of n rows)
 all_done n new [] [] same h = (tt, tt)
 all_done n new [] (r ∷ rows) same h = absurd (omega arith)
 all_done n new (o ∷ old) [] same h = absurd (omega arith)
@@ -47,5 +50,6 @@ all_done n new (o ∷ old) (r ∷ rows) same h =
     let rest = all_done n new old rows (omega arith) (λ m d l. h (suc m) d (omega arith)) in
     ((first.kept, rest.0), (first.cleared, rest.1))
 
-pub in_the_end : (n : ℕ) (new : List FreeEntry) (old rows : List SparseRow) (k : ℕ) → length old ≤ k → IsPartlyCleared n new old rows k → AllByRecursion (IsKept n) rows × AreCleared n (row_of n new) (rows_of n old) (rows_of n rows)
+pub in_the_end : (n : ℕ) (new : List FreeEntry) (old rows : List SparseRow) (k : ℕ) → length old ≤ k → IsPartlyCleared n new old rows k →
+    AllByRecursion (IsKept n) rows × AreCleared n (row_of n new) (rows_of n old) (rows_of n rows)
 in_the_end n new old rows k past part = all_done n new old rows part.same_length (λ m d l. part.done m d (omega arith) l)

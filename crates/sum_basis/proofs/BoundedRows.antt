@@ -4,20 +4,21 @@ use Rattle.std.specs.Prelude.{◌+ℤ◌, ◌-ℤ◌, ◌*ℤ◌, neg_ℤ, unsig
 use Rattle.std.specs.List.{AllByRecursion}
 use Rattle.std.proofs.lemmas.Int.{ints, unsigned_abs-mul}
 use Rattle.std.proofs.lemmas.Bool.{cases_eq}
-use Rattle.std.proofs.Math.Nat.{mul-le-mul_left, mul-le-mul_right, le-mul_of_pos_right}
+use Rattle.std.proofs.Math.Nat.{mul-le-mul_left, mul-le-mul_right}
 use Rattle.std.proofs.Math.IntN.{*ℤ-zero}
 use Rattle.audit_types.specs.Truth.{number_at}
 use Rattle.audit_types.specs.Form.{IsPrimitive, pivot, pivot_entry}
 use Rattle.audit_types.specs.PrimitiveLines.{number_at-times}
-use Rattle.audit_types.specs.Products.{neg-times, product_not_zero}
-use Rattle.audit_types.specs.Numbers.{size_above, zero_or_not}
+use Rattle.audit_types.specs.Products.{neg-times, product_not_zero, size_of_factor}
+use Rattle.audit_types.specs.Numbers.{zero_or_not, positive_not_zero}
+use Rattle.audit_types.specs.RowNumbers.{some_entry, all_by_number}
 use Rattle.sum_basis.specs.declared.sparse.FreeEntry.{FreeEntry}
 use Rattle.sum_basis.specs.declared.sparse.SparseRow.{SparseRow}
 use Rattle.sum_basis.specs.Elimination.{IsSmall, IsCleared, IsLone}
 use Rattle.sum_basis.specs.Sparse.{entry_at, row_of, IsListed, entries_of, IsKept, IsNew, scaled}
-use Rattle.sum_basis.proofs.Reduction.{length-combine, primitive_exists}
-use Rattle.sum_basis.proofs.Clearing.{cleared_from, some_entry, leads_combination, positive_not_zero}
-use Rattle.sum_basis.proofs.Sizes.{all_by_place}
+use Rattle.sum_basis.specs.CombinedRows.{length-combine}
+use Rattle.sum_basis.proofs.Reduction.{primitive_exists}
+use Rattle.sum_basis.proofs.Clearing.{cleared_from, leads_combination}
 use Rattle.sum_basis.proofs.SparseRows.{here, elsewhere, no_entry, zero_below, number_at-row_of, length-row_of, listed_from}
 use Rattle.sum_basis.proofs.SparseMultiples.{kept_pivot}
 use Rattle.sum_basis.proofs.ListContents.{none, entry_at-scaled}
@@ -27,7 +28,8 @@ use Rattle.sum_basis.proofs.Parallels.{same_listed, same_length}
 use Rattle.sum_basis.proofs.KeptRows.{stands_earlier, cleared_as_it_is, lone_list}
 
 -- a list has nothing above its bound
-pub bounded_at : (from n most : ℕ) (es : List FreeEntry) → IsListed from n es → AllByRecursion (λ (e : FreeEntry). unsigned_abs e.value ≤ most) es → (j : ℕ) → unsigned_abs (entry_at es j) ≤ most
+pub bounded_at : (from n most : ℕ) (es : List FreeEntry) → IsListed from n es → AllByRecursion (λ (e : FreeEntry). unsigned_abs e.value ≤ most) es → (j : ℕ) →
+    unsigned_abs (entry_at es j) ≤ most
 bounded_at from n most [] h all j = omega arith
 bounded_at from n most (e ∷ es) h all j = elim (cases_eq e.place j) [
   | inl same ↦
@@ -45,11 +47,8 @@ bounded_at from n most (e ∷ es) h all j = elim (cases_eq e.place j) [
 pub first_small : (n : ℕ) (new : List FreeEntry) (by : ℤ) → IsNew n new → by ≡ (get_or new 0 none).value → unsigned_abs by ≤ 2 ^ 56
 first_small n new by is e = rw e ((is_led n new is.some is.listed).small is.small)
 
--- a multiple by a number that is not 0 is no smaller
-pub no_smaller : (c x : ℤ) → c ≢ pos 0 → unsigned_abs x ≤ unsigned_abs (c *ℤ x)
-no_smaller c x n = rw (unsigned_abs-mul c x) (let more = le-mul_of_pos_right {m = unsigned_abs c} (unsigned_abs x) (size_above c n) in omega arith)
-
-module _ (n : ℕ) (r : SparseRow) (new : List FreeEntry) (kept : IsKept n r) (primitive : IsPrimitive n (row_of n (entries_of r))) (is_new : IsNew n new) (nothing : entry_at new r.pivot ≡ pos 0) (before : r.pivot < (get_or new 0 none).place)
+module _ (n : ℕ) (r : SparseRow) (new : List FreeEntry) (kept : IsKept n r) (primitive : IsPrimitive n (row_of n (entries_of r))) (is_new : IsNew n new)
+    (nothing : entry_at new r.pivot ≡ pos 0) (before : r.pivot < (get_or new 0 none).place)
     (by times : ℤ) (by_is : by ≡ (get_or new 0 none).value) (times_is : times ≡ entry_at r.free.items (get_or new 0 none).place) where
   -- a row on the line of the combination, as it is cleared
   pub record IsOnLine (made : List ℤ) : Type 0 where
@@ -82,7 +81,8 @@ module _ (n : ℕ) (r : SparseRow) (new : List FreeEntry) (kept : IsKept n r) (p
         record {
           over = made.1;
           not_zero = made.2;
-          line = λ j. sym (number_at-times made.1 made.0 j) ∙ sym (ap (λ l. number_at l j) made.3) ∙ combined_rows_at n r new kept is_new before by times by_is times_is j;
+          line =
+              λ j. sym (number_at-times made.1 made.0 j) ∙ sym (ap (λ l. number_at l j) made.3) ∙ combined_rows_at n r new kept is_new before by times by_is times_is j;
           cleared = cleared_from n (row_of n new) row made.0 made.1 is_new.primitive primitive zero_there (omega arith) made.2 made.3 made.4;
         },
       )
@@ -92,13 +92,14 @@ module _ (n : ℕ) (r : SparseRow) (new : List FreeEntry) (kept : IsKept n r) (p
     made_pivot = l.cleared.same_pivot ∙ row_pivot
 
     -- its entries are within what the bounds allow
-    pub within_bounds : (most limit : ℕ) → AllByRecursion (λ (e : FreeEntry). unsigned_abs e.value ≤ most) new → unsigned_abs by * r.most + unsigned_abs times * most ≤ limit → AllByRecursion (λ x. unsigned_abs x ≤ limit) made
-    within_bounds most limit all enough = all_by_place (λ x. unsigned_abs x ≤ limit) made at
+    pub within_bounds : (most limit : ℕ) → AllByRecursion (λ (e : FreeEntry). unsigned_abs e.value ≤ most) new →
+        unsigned_abs by * r.most + unsigned_abs times * most ≤ limit → AllByRecursion (λ x. unsigned_abs x ≤ limit) made
+    within_bounds most limit all enough = all_by_number (λ x. unsigned_abs x ≤ limit) made at
       where
         at : (j : ℕ) → unsigned_abs (number_at made j) ≤ limit
         at j =
             let here = l.line j in
-            let least = no_smaller l.over (number_at made j) l.not_zero in
+            let least = size_of_factor l.over (number_at made j) l.not_zero in
             let one = unsigned_abs-mul by (entry_at (entries_of r) j) in
             let two = unsigned_abs-mul times (entry_at new j) in
             let first = mul-le-mul_left (unsigned_abs by) (bounded_at 0 n r.most (entries_of r) kept.listed kept.bounded j) in
@@ -130,23 +131,27 @@ module _ (n : ℕ) (r : SparseRow) (new : List FreeEntry) (kept : IsKept n r) (p
       ],
       λ lone.
           let listed = listed_from (r.pivot + 1) 0 n r.free.items (omega arith) kept.listed.3 in
-          same_listed 0 n (map (scaled by) r.free.items) (map (scaled times) new) (scaled_listed by 0 n r.free.items p listed) (scaled_listed times 0 n new q is_new.listed) (λ j.
+          same_listed 0 n (map (scaled by) r.free.items) (map (scaled times) new) (scaled_listed by 0 n r.free.items p listed)
+          (scaled_listed times 0 n new q is_new.listed) (λ j.
           entry_at-scaled by r.free.items j ∙ alike lone j ∙ sym (entry_at-scaled times new j)),
     )
       where
         alike : IsLone made → (j : ℕ) → by *ℤ entry_at r.free.items j ≡ times *ℤ entry_at new j
         alike lone j = elim (cases_eq j r.pivot) [
-          | inl same ↦ ap (λ z. by *ℤ z) (zero_below (r.pivot + 1) n r.free.items j kept.listed.3 (omega arith)) ∙ *ℤ-zero by ∙ sym (*ℤ-zero times) ∙ ap (λ z. times *ℤ z) (sym (led.before j (omega arith)))
+          | inl same ↦ ap (λ z. by *ℤ z) (zero_below (r.pivot + 1) n r.free.items j kept.listed.3 (omega arith)) ∙ *ℤ-zero by ∙ sym (*ℤ-zero times)
+              ∙ ap (λ z. times *ℤ z) (sym (led.before j (omega arith)))
           | inr other ↦
               let at = after_pivot j other in
               let gone = ap (λ z. l.over *ℤ z) (lone j (λ e. other (e ∙ made_pivot))) ∙ *ℤ-zero l.over in
               omega (arith, ints)
         ]
 
-module _ (n : ℕ) (r : SparseRow) (new : List FreeEntry) (kept : IsKept n r) (primitive : IsPrimitive n (row_of n (entries_of r))) (is_new : IsNew n new) (nothing : entry_at new r.pivot ≡ pos 0)
+module _ (n : ℕ) (r : SparseRow) (new : List FreeEntry) (kept : IsKept n r) (primitive : IsPrimitive n (row_of n (entries_of r))) (is_new : IsNew n new)
+    (nothing : entry_at new r.pivot ≡ pos 0)
     (most : ℕ) (all : AllByRecursion (λ (e : FreeEntry). unsigned_abs e.value ≤ most) new) (by : ℤ) (by_is : by ≡ (get_or new 0 none).value) where
   -- a row that the bounds show to be small, and whether it is lone
-  pub by_bounds : (times : ℤ) (b : Bool) → times ≡ entry_at r.free.items (get_or new 0 none).place → times ≢ pos 0 → unsigned_abs by * r.most + unsigned_abs times * most ≤ 2 ^ 56 → IsTrue b ↔ (map (scaled by) r.free.items ≡ map (scaled times) new)
+  pub by_bounds : (times : ℤ) (b : Bool) → times ≡ entry_at r.free.items (get_or new 0 none).place → times ≢ pos 0
+      → unsigned_abs by * r.most + unsigned_abs times * most ≤ 2 ^ 56 → IsTrue b ↔ (map (scaled by) r.free.items ≡ map (scaled times) new)
       → (made : List ℤ) × IsCleared n (row_of n new) (row_of n (entries_of r)) made × (IsSmall made × (IsTrue b ↔ IsLone made))
   by_bounds times b is some enough told =
       let before = stands_earlier n r new kept is_new (λ z. some (is ∙ z)) in
@@ -160,7 +165,8 @@ module _ (n : ℕ) (r : SparseRow) (new : List FreeEntry) (kept : IsKept n r) (p
       )
 
   -- where its list has another length than the new one it is lone exactly where it was
-  pub by_length : (b : Bool) → IsSmall (row_of n (entries_of r)) → length r.free.items ≢ length new → unsigned_abs by * r.most + r.most * most ≤ 2 ^ 56 → IsTrue b ↔ (length r.free.items ≡ 0)
+  pub by_length : (b : Bool) → IsSmall (row_of n (entries_of r)) → length r.free.items ≢ length new → unsigned_abs by * r.most + r.most * most ≤ 2 ^ 56
+      → IsTrue b ↔ (length r.free.items ≡ 0)
       → (made : List ℤ) × IsCleared n (row_of n new) (row_of n (entries_of r)) made × (IsSmall made × (IsTrue b ↔ IsLone made))
   by_length b small other enough empty =
       let place = (get_or new 0 none).place in
@@ -172,5 +178,6 @@ module _ (n : ℕ) (r : SparseRow) (new : List FreeEntry) (kept : IsKept n r) (p
         | inr some ↦
             let bound = bounded_at (r.pivot + 1) n r.most r.free.items kept.listed.3 kept.bounded.1 place in
             let part = mul-le-mul_right most bound in
-            by_bounds times b refl some (omega arith) (λ yes. absurd (some (no_entry r.free.items place (empty.0 yes))), λ same. absurd (other (same_length by times r.free.items new same)))
+            by_bounds times b refl some (omega arith)
+            (λ yes. absurd (some (no_entry r.free.items place (empty.0 yes))), λ same. absurd (other (same_length by times r.free.items new same)))
       ]

@@ -12,18 +12,21 @@ use Rattle.std.proofs.lemmas.Nat.Gcd.{dvd-zero}
 use Rattle.std.proofs.Math.IntN.{*ℤ-zero, pos-*ℤ-pos, pos-*ℤ-negsuc}
 use Rattle.audit_types.specs.Truth.{number_at}
 use Rattle.audit_types.specs.Form.{IsContent, IsPrimitive, pivot, pivot_entry}
-use Rattle.audit_types.specs.PrimitiveLines.{number_at-times, same_rows}
+use Rattle.audit_types.specs.PrimitiveLines.{number_at-times, same_rows, times as times_of}
 use Rattle.sum_basis.specs.declared.sparse.FreeEntry.{FreeEntry}
 use Rattle.sum_basis.specs.declared.sparse.SparseRow.{SparseRow}
-use Rattle.sum_basis.specs.Combination.{combine, times as times_of}
+use Rattle.sum_basis.specs.Combination.{combine}
 use Rattle.sum_basis.specs.Elimination.{IsSmall, IsCleared}
 use Rattle.sum_basis.specs.Sparse.{entry_at, row_of, IsListed, entries_of, IsKept, IsNew, IsOverContent}
+use Rattle.sum_basis.specs.CombinedRows.{number_at-combine, length-combine}
 use Rattle.audit_types.specs.Products.{times-add, neg-times}
-use Rattle.sum_basis.proofs.Clearing.{positive_not_zero, cleared_from}
-use Rattle.sum_basis.proofs.Reduction.{number_at-combine, length-combine}
+use Rattle.audit_types.specs.Numbers.{positive_not_zero}
+use Rattle.audit_types.specs.ListLaws.{all-unmap}
+use Rattle.sum_basis.proofs.Clearing.{cleared_from}
 use Rattle.sum_basis.proofs.Sizes.{small_at, product_small}
 use Rattle.sum_basis.proofs.SparseRows.{elsewhere, zero_below, number_at-row_of, length-row_of, pivot-row_of, pivot_entry-row_of, first_value, listed_to, small_values}
 use Rattle.sum_basis.proofs.ListContents.{values, none, entry_at-scaled, listed_scaled}
+use Rattle.int_rows.specs.ContentLaws.{all-ones}
 
 -- the first entry of a list that is not empty
 pub record IsLed (n : ℕ) (es : List FreeEntry) (place : ℕ) (value : ℤ) : Type 0 where
@@ -44,7 +47,8 @@ is_led n (e ∷ es) some h = record {
 }
 
 -- what holds of 0 and of each number of a row holds of each value
-pub values_from : (P : ℤ → Type 0) (from n : ℕ) (es : List FreeEntry) → IsListed from n es → ((j : ℕ) → P (entry_at es j)) → P (pos 0) → AllByRecursion P (values es)
+pub values_from : (P : ℤ → Type 0) (from n : ℕ) (es : List FreeEntry) → IsListed from n es → ((j : ℕ) → P (entry_at es j)) → P (pos 0) →
+    AllByRecursion P (values es)
 values_from P from n [] h all zero_too = tt
 values_from P from n (e ∷ es) h all zero_too = (
   subst P (first_value from n e es h) (all e.place),
@@ -60,21 +64,19 @@ values_from P from n (e ∷ es) h all zero_too = (
 -- a list whose values have content 1 is a row of content 1
 pub content_of_row : (n : ℕ) (es : List FreeEntry) → IsListed 0 n es → IsContent (values es) 1 → IsContent (row_of n es) 1
 content_of_row n es h content = record {
-  divides = ones (row_of n es);
-  greatest = λ d all. content.greatest d (values_from (λ x. d ∣ unsigned_abs x) 0 n es h (λ j. subst (λ x. d ∣ unsigned_abs x) (number_at-row_of 0 n es h j) (at d (row_of n es) j all)) (dvd-zero d));
+  divides = all-ones (row_of n es);
+  greatest =
+      λ d all. content.greatest d (values_from (λ x. d ∣ unsigned_abs x) 0 n es h (λ j. subst (λ x. d ∣ unsigned_abs x) (number_at-row_of 0 n es h j) (at d (row_of n es) j all)) (dvd-zero d));
 }
   where
-    ones : (xs : List ℤ) → AllByRecursion (λ x. 1 ∣ unsigned_abs x) xs
-    ones [] = tt
-    ones (x ∷ xs) = (one-dvd (unsigned_abs x), ones xs)
-
     at : (d : ℕ) (xs : List ℤ) (j : ℕ) → AllByRecursion (λ x. d ∣ unsigned_abs x) xs → d ∣ unsigned_abs (number_at xs j)
     at d [] j all = dvd-zero d
     at d (x ∷ xs) zero all = all.0
     at d (x ∷ xs) (suc j) all = at d xs j all.1
 
 -- entries that are 0 outside some columns are listed within them
-pub listed_within : (from n start m : ℕ) (es : List FreeEntry) → IsListed start m es → ((j : ℕ) → j < from → entry_at es j ≡ pos 0) → start ≤ from → m ≤ n → IsListed from n es
+pub listed_within : (from n start m : ℕ) (es : List FreeEntry) → IsListed start m es → ((j : ℕ) → j < from → entry_at es j ≡ pos 0) → start ≤ from → m ≤ n →
+    IsListed from n es
 listed_within from n start m [] h zeros l k = tt
 listed_within from n start m (e ∷ es) h zeros l k =
     let inside = h.1 in
@@ -82,11 +84,6 @@ listed_within from n start m (e ∷ es) h zeros l k =
       | inl before ↦ absurd (h.2 (sym (first_value start m e es h) ∙ zeros e.place before))
       | inr after ↦ (after, omega arith, h.2, listed_to (e.place + 1) m n es k h.3)
     ]
-
--- what holds of all values holds of the entries' values
-pub of_values : (P : ℤ → Type 0) (es : List FreeEntry) → AllByRecursion P (values es) → AllByRecursion (λ (e : FreeEntry). P e.value) es
-of_values P [] h = tt
-of_values P (e ∷ es) h = (h.0, of_values P es h.1)
 
 -- a small row has small entries after its pivot
 pub entry_small : (n : ℕ) (r : SparseRow) (j : ℕ) → IsKept n r → IsSmall (row_of n (entries_of r)) → unsigned_abs (entry_at r.free.items j) ≤ 2 ^ 56
@@ -103,9 +100,11 @@ pub head_small : (n : ℕ) (r : SparseRow) → IsKept n r → IsSmall (row_of n 
 head_small n r kept small = (small_values n (entries_of r) kept.listed small).0
 
 -- the values of a combination of small rows
-pub combined_small : (n : ℕ) (r : SparseRow) (new out : List FreeEntry) (by times : ℤ) → IsKept n r → IsSmall (row_of n (entries_of r)) → IsNew n new → unsigned_abs by ≤ 2 ^ 56 → unsigned_abs times ≤ 2 ^ 56 → IsListed 0 n out
+pub combined_small : (n : ℕ) (r : SparseRow) (new out : List FreeEntry) (by times : ℤ) → IsKept n r → IsSmall (row_of n (entries_of r)) → IsNew n new
+    → unsigned_abs by ≤ 2 ^ 56 → unsigned_abs times ≤ 2 ^ 56 → IsListed 0 n out
     → ((j : ℕ) → entry_at out j ≡ by *ℤ entry_at r.free.items j -ℤ times *ℤ entry_at new j) → AllByRecursion (λ (e : FreeEntry). unsigned_abs e.value ≤ 2 ^ 126) out
-combined_small n r new out by times kept small is_new p q h combined = of_values (λ x. unsigned_abs x ≤ 2 ^ 126) out (values_from (λ x. unsigned_abs x ≤ 2 ^ 126) 0 n out h at (omega arith))
+combined_small n r new out by times kept small is_new p q h combined =
+    all-unmap (λ (e : FreeEntry). e.value) (λ x. unsigned_abs x ≤ 2 ^ 126) out (values_from (λ x. unsigned_abs x ≤ 2 ^ 126) 0 n out h at (omega arith))
   where
     at : (j : ℕ) → unsigned_abs (entry_at out j) ≤ 2 ^ 126
     at j =
@@ -118,7 +117,8 @@ combined_small n r new out by times kept small is_new p q h combined = of_values
 pub positive_factor : (x y : ℤ) → pos 0 <ℤ x → pos 0 <ℤ (x *ℤ y) → pos 0 <ℤ y
 positive_factor x (pos (suc m)) p q = omega (arith, ints)
 positive_factor x (pos zero) p q = let none = *ℤ-zero x in absurd (omega (arith, ints))
-positive_factor (pos (suc n)) (negsuc m) p q = let product = pos-*ℤ-negsuc (suc n) m in let big : 0 < suc n * suc m = omega arith in absurd (omega (arith, ints))
+positive_factor (pos (suc n)) (negsuc m) p q =
+    let product = pos-*ℤ-negsuc (suc n) m in let big : 0 < suc n * suc m = omega arith in absurd (omega (arith, ints))
 positive_factor (pos zero) (negsuc m) p q = absurd (omega (arith, ints))
 positive_factor (negsuc n) (negsuc m) p q = absurd (omega (arith, ints))
 
@@ -157,7 +157,8 @@ module _ (n : ℕ) (r : SparseRow) (new : List FreeEntry) (kept : IsKept n r) (i
           times_is ∙ sym sum ∙ sym (number_at-row_of 0 n (entries_of r) kept.listed place) ∙ ap (number_at (row_of n (entries_of r))) (sym led.at_pivot)
 
 -- the row and the new one, combined at the new pivot, and that over its content
-module _ (n : ℕ) (r : SparseRow) (new : List FreeEntry) (kept : IsKept n r) (primitive : IsPrimitive n (row_of n (entries_of r))) (is_new : IsNew n new) (before : r.pivot < (get_or new 0 none).place)
+module _ (n : ℕ) (r : SparseRow) (new : List FreeEntry) (kept : IsKept n r) (primitive : IsPrimitive n (row_of n (entries_of r))) (is_new : IsNew n new)
+    (before : r.pivot < (get_or new 0 none).place)
     (by times : ℤ) (by_is : by ≡ (get_or new 0 none).value) (times_is : times ≡ entry_at r.free.items (get_or new 0 none).place)
     (out : List FreeEntry) (out_listed : IsListed 0 n out) (combined : (j : ℕ) → entry_at out j ≡ by *ℤ entry_at r.free.items j -ℤ times *ℤ entry_at new j)
     (head : ℤ) (made : List FreeEntry) (over : IsOverContent (by *ℤ r.head) out head made) where
@@ -179,7 +180,9 @@ module _ (n : ℕ) (r : SparseRow) (new : List FreeEntry) (kept : IsKept n r) (p
       omega (arith, ints)
 
   made_listed : IsListed (r.pivot + 1) n made
-  made_listed = listed_scaled over.by (r.pivot + 1) n made (subst (IsListed (r.pivot + 1) n) over.entries_are (listed_within (r.pivot + 1) n 0 n out out_listed out_before (omega arith) (omega arith)))
+  made_listed =
+      listed_scaled over.by (r.pivot + 1) n made
+      (subst (IsListed (r.pivot + 1) n) over.entries_are (listed_within (r.pivot + 1) n 0 n out out_listed out_before (omega arith) (omega arith)))
 
   -- the pivot entry is positive
   pub head_positive : pos 0 <ℤ head
@@ -239,7 +242,8 @@ pub record IsResult (n : ℕ) (r : SparseRow) (new : List FreeEntry) (head : ℤ
   pub listed : IsListed 0 n (record { place = r.pivot; value = head } ∷ made)
   pub cleared : IsCleared n (row_of n new) (row_of n (entries_of r)) (row_of n (record { place = r.pivot; value = head } ∷ made))
 
-pub result_is : (n : ℕ) (r : SparseRow) (new out : List FreeEntry) (times p head : ℤ) (made : List FreeEntry) → IsKept n r → IsPrimitive n (row_of n (entries_of r)) → IsNew n new → r.pivot < (get_or new 0 none).place → times ≡ entry_at r.free.items (get_or new 0 none).place
+pub result_is : (n : ℕ) (r : SparseRow) (new out : List FreeEntry) (times p head : ℤ) (made : List FreeEntry) → IsKept n r
+    → IsPrimitive n (row_of n (entries_of r)) → IsNew n new → r.pivot < (get_or new 0 none).place → times ≡ entry_at r.free.items (get_or new 0 none).place
     → IsListed 0 n out → ((j : ℕ) → entry_at out j ≡ (get_or new 0 none).value *ℤ entry_at r.free.items j -ℤ times *ℤ entry_at new j) → p ≡ (get_or new 0 none).value *ℤ r.head → IsOverContent p out head made → IsResult n r new head made
 result_is n r new out times p head made kept primitive is_new before times_is h combined e over =
     let whole = subst (λ z. IsOverContent z out head made) e over in
@@ -251,8 +255,10 @@ result_is n r new out times p head made kept primitive is_new before times_is h 
     }
 
 -- the same of numbers that are kept as bits
-pub result_of_bits : (n : ℕ) (r : SparseRow) (new out list made : List FreeEntry) (given p head : ℤ) → FitsSigned w128 given → FitsSigned w128 p → IsKept n r → IsPrimitive n (row_of n (entries_of r)) → IsNew n new → r.pivot < (get_or new 0 none).place → given ≡ entry_at r.free.items (get_or new 0 none).place
+pub result_of_bits : (n : ℕ) (r : SparseRow) (new out list made : List FreeEntry) (given p head : ℤ) → FitsSigned w128 given → FitsSigned w128 p → IsKept n r
+    → IsPrimitive n (row_of n (entries_of r)) → IsNew n new → r.pivot < (get_or new 0 none).place → given ≡ entry_at r.free.items (get_or new 0 none).place
     → IsListed 0 n out → ((j : ℕ) → entry_at out j ≡ (get_or new 0 none).value *ℤ entry_at r.free.items j -ℤ to_z w128 (of_z w128 given) *ℤ entry_at new j) → p ≡ (get_or new 0 none).value *ℤ r.head → list ≡ out → IsOverContent (to_z w128 (of_z w128 p)) list head made → IsResult n r new head made
 result_of_bits n r new out list made given p head f g kept primitive is_new before times_is listed combined e same over =
-    result_is n r new out given p head made kept primitive is_new before times_is listed (λ j. combined j ∙ ap (λ z. (get_or new 0 none).value *ℤ entry_at r.free.items j -ℤ z *ℤ entry_at new j) (to_z-of_z w128 given f)) e
+    result_is n r new out given p head made kept primitive is_new before times_is listed
+    (λ j. combined j ∙ ap (λ z. (get_or new 0 none).value *ℤ entry_at r.free.items j -ℤ z *ℤ entry_at new j) (to_z-of_z w128 given f)) e
     (subst (λ l. IsOverContent p l head made) same (subst (λ z. IsOverContent z list head made) (to_z-of_z w128 p g) over))

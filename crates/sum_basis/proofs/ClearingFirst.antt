@@ -10,7 +10,8 @@ use Rattle.sum_basis.proofs.Clearing.{cleared_all}
 
 module _ (n : ℕ) (new : List ℤ) where
   -- rows cleared in two parts are cleared
-  pub cleared-append : (rows others made more : List (List ℤ)) → AreCleared n new rows made → AreCleared n new others more → AreCleared n new (rows ++ others) (made ++ more)
+  pub cleared-append : (rows others made more : List (List ℤ)) → AreCleared n new rows made → AreCleared n new others more →
+      AreCleared n new (rows ++ others) (made ++ more)
   cleared-append [] others [] more h k = k
   cleared-append [] others (m ∷ made) more h k = absurd h
   cleared-append (row ∷ rows) others [] more h k = absurd h
@@ -32,14 +33,16 @@ module _ (n : ℕ) (new : List ℤ) where
   no_rows form = record { cleared = tt; small = tt }
 
   -- one row more is cleared
-  pub one_more_cleared : (form made : List (List ℤ)) (k : ℕ) (row : List ℤ) → k < length form → ClearsFirst n form new k made → IsCleared n new (get_or form k []) row → IsSmall row → ClearsFirst n form new (k + 1) (made ++ row ∷ [])
+  pub one_more_cleared : (form made : List (List ℤ)) (k : ℕ) (row : List ℤ) → k < length form → ClearsFirst n form new k made →
+      IsCleared n new (get_or form k []) row → IsSmall row → ClearsFirst n form new (k + 1) (made ++ row ∷ [])
   one_more_cleared form made k row h first is small = record {
     cleared = rw (take_more form k [] h) (cleared-append (take k form) (get_or form k [] ∷ []) made (row ∷ []) first.cleared (is, tt));
     small = all-push IsSmall made row first.small small;
   }
 
   -- what holds of a form holds of its rows from a place on
-  primitives_from : (form : List (List ℤ)) (k : ℕ) → AllByRecursion (IsPrimitive n) form → IsZeroAtPivots form new → AllByRecursion (IsPrimitive n) (drop k form) × IsZeroAtPivots (drop k form) new
+  primitives_from : (form : List (List ℤ)) (k : ℕ) → AllByRecursion (IsPrimitive n) form → IsZeroAtPivots form new →
+      AllByRecursion (IsPrimitive n) (drop k form) × IsZeroAtPivots (drop k form) new
   primitives_from form zero p z = (p, z)
   primitives_from [] (suc k) p z = (tt, tt)
   primitives_from (row ∷ form) (suc k) p z = primitives_from form k p.1 z.1
@@ -56,7 +59,8 @@ module _ (n : ℕ) (new : List ℤ) where
   split_at (row ∷ form) (suc k) h = ap (λ l. row ∷ l) (split_at form k (omega arith))
 
   -- when the first rows and one more are cleared, the rest can be, if not by the code
-  pub rest_cleared : (form made : List (List ℤ)) (k : ℕ) (row : List ℤ) → k < length form → IsPrimitive n new → AllByRecursion (IsPrimitive n) form → IsZeroAtPivots form new → ClearsFirst n form new k made → IsCleared n new (get_or form k []) row
+  pub rest_cleared : (form made : List (List ℤ)) (k : ℕ) (row : List ℤ) → k < length form → IsPrimitive n new → AllByRecursion (IsPrimitive n) form
+      → IsZeroAtPivots form new → ClearsFirst n form new k made → IsCleared n new (get_or form k []) row
       → (rest : List (List ℤ)) × AreCleared n new form (made ++ row ∷ rest)
   rest_cleared form made k row h p q z first is =
       let parts = primitives_from form (suc k) q z in
@@ -65,7 +69,8 @@ module _ (n : ℕ) (new : List ℤ) where
       (rest.0, subst (λ l. AreCleared n new l (made ++ row ∷ rest.0)) (sym (split_at form k h)) all)
 
   -- a row that is too large makes them all wide
-  pub too_large : (form made : List (List ℤ)) (k : ℕ) (row : List ℤ) → k < length form → IsPrimitive n new → AllByRecursion (IsPrimitive n) form → IsZeroAtPivots form new → ClearsFirst n form new k made → IsCleared n new (get_or form k []) row → ¬ (IsSmall row) → ClearsWide n form new
+  pub too_large : (form made : List (List ℤ)) (k : ℕ) (row : List ℤ) → k < length form → IsPrimitive n new → AllByRecursion (IsPrimitive n) form →
+      IsZeroAtPivots form new → ClearsFirst n form new k made → IsCleared n new (get_or form k []) row → ¬ (IsSmall row) → ClearsWide n form new
   too_large form made k row h p q z first is large =
       let rest = rest_cleared form made k row h p q z first is in
       record { rows = made ++ row ∷ rest.0; cleared = rest.1; wide = λ small. large (not_all made rest.0 row small) }

@@ -9,16 +9,17 @@ use Rattle.std.proofs.lemmas.Bool.{cases_eq}
 use Rattle.std.proofs.Math.IntN.{*ℤ-zero}
 use Rattle.audit_types.specs.Truth.{is_zero}
 use Rattle.audit_types.specs.Products.{times-add, product_not_zero}
-use Rattle.audit_types.specs.Numbers.{zero_or_not, test_of_not_zero}
+use Rattle.audit_types.specs.Numbers.{zero_or_not, test_of_not_zero, size_negated}
+use Rattle.audit_types.specs.ListLaws.{all-unmap}
 use Rattle.sum_basis.specs.declared.sparse.FreeEntry.{FreeEntry}
 use Rattle.sum_basis.specs.Sparse.{entry_at, IsListed}
 use Rattle.sum_basis.specs.Merging.{first_value}
 use Rattle.sum_basis.proofs.ListContents.{none}
-use Rattle.sum_basis.proofs.ClearedLists.{values_from, of_values}
+use Rattle.sum_basis.proofs.ClearedLists.{values_from}
 use Rattle.sum_basis.proofs.SparseRows.{here, elsewhere, listed_from, listed_length, take_entry, front_zero}
 use Rattle.sum_basis.proofs.Sizes.{product_small}
 use Rattle.sum_basis.proofs.Merges.{neg_not_zero}
-use Rattle.sum_basis.proofs.PrimitiveLists.{size_negated}
+use Rattle.std.proofs.lemmas.List.{take_all}
 
 -- one entry put in
 entry_at-insert : (es : List FreeEntry) (k : ℕ) (e : FreeEntry) (j : ℕ) → entry_at (insert es k e) j ≡ entry_at es j +ℤ cond (nat_eq e.place j) e.value (pos 0)
@@ -27,7 +28,8 @@ entry_at-insert [] (suc k) e j = omega (arith, ints)
 entry_at-insert (x ∷ es) zero e j = omega (arith, ints)
 entry_at-insert (x ∷ es) (suc k) e j = let rest = entry_at-insert es k e j in omega (arith, ints)
 
-listed_insert : (from n : ℕ) (es : List FreeEntry) (k : ℕ) (e : FreeEntry) → IsListed from n es → from ≤ e.place → e.place < n → e.value ≢ pos 0 → ((i : ℕ) (d : FreeEntry) → i < k → i < length es → (get_or es i d).place < e.place) → ((d : FreeEntry) → k < length es → e.place < (get_or es k d).place)
+listed_insert : (from n : ℕ) (es : List FreeEntry) (k : ℕ) (e : FreeEntry) → IsListed from n es → from ≤ e.place → e.place < n → e.value ≢ pos 0
+    → ((i : ℕ) (d : FreeEntry) → i < k → i < length es → (get_or es i d).place < e.place) → ((d : FreeEntry) → k < length es → e.place < (get_or es k d).place)
     → IsListed from n (insert es k e)
 listed_insert from n [] zero e h low inside some before after = (low, inside, some, tt)
 listed_insert from n [] (suc k) e h low inside some before after = (low, inside, some, tt)
@@ -37,7 +39,8 @@ listed_insert from n (x ∷ es) (suc k) e h low inside some before after =
     (h.0, h.1, h.2, listed_insert (x.place + 1) n es k e h.3 (omega arith) inside some (λ i d p q. before (suc i) d (omega arith) (omega arith)) (λ d p. after d (omega arith)))
 
 -- one entry taken out
-entry_at-remove : (es : List FreeEntry) (k : ℕ) (j : ℕ) → k < length es → entry_at (remove es k) j +ℤ cond (nat_eq (get_or es k none).place j) (get_or es k none).value (pos 0) ≡ entry_at es j
+entry_at-remove : (es : List FreeEntry) (k : ℕ) (j : ℕ) → k < length es →
+    entry_at (remove es k) j +ℤ cond (nat_eq (get_or es k none).place j) (get_or es k none).value (pos 0) ≡ entry_at es j
 entry_at-remove [] k j l = absurd (omega arith)
 entry_at-remove (x ∷ es) zero j l = omega (arith, ints)
 entry_at-remove (x ∷ es) (suc k) j l = let rest = entry_at-remove es k j (omega arith) in omega (arith, ints)
@@ -49,12 +52,15 @@ listed_remove from n (x ∷ es) zero h = let at = h.0 in listed_from (x.place + 
 listed_remove from n (x ∷ es) (suc k) h = (h.0, h.1, h.2, listed_remove (x.place + 1) n es k h.3)
 
 -- one entry with another value
-entry_at-set : (es : List FreeEntry) (k : ℕ) (v : ℤ) (j : ℕ) → k < length es → entry_at (set es k (record { place = (get_or es k none).place; value = v })) j +ℤ cond (nat_eq (get_or es k none).place j) (get_or es k none).value (pos 0) ≡ entry_at es j +ℤ cond (nat_eq (get_or es k none).place j) v (pos 0)
+entry_at-set : (es : List FreeEntry) (k : ℕ) (v : ℤ) (j : ℕ) → k < length es →
+    entry_at (set es k (record { place = (get_or es k none).place; value = v })) j +ℤ cond (nat_eq (get_or es k none).place j) (get_or es k none).value
+    (pos 0) ≡ entry_at es j +ℤ cond (nat_eq (get_or es k none).place j) v (pos 0)
 entry_at-set [] k v j l = absurd (omega arith)
 entry_at-set (x ∷ es) zero v j l = omega (arith, ints)
 entry_at-set (x ∷ es) (suc k) v j l = let rest = entry_at-set es k v j (omega arith) in omega (arith, ints)
 
-listed_set : (from n : ℕ) (es : List FreeEntry) (k : ℕ) (v : ℤ) → k < length es → IsListed from n es → v ≢ pos 0 → IsListed from n (set es k (record { place = (get_or es k none).place; value = v }))
+listed_set : (from n : ℕ) (es : List FreeEntry) (k : ℕ) (v : ℤ) → k < length es → IsListed from n es → v ≢ pos 0 →
+    IsListed from n (set es k (record { place = (get_or es k none).place; value = v }))
 listed_set from n [] k v l h some = absurd (omega arith)
 listed_set from n (x ∷ es) zero v l h some = (h.0, h.1, some, h.3)
 listed_set from n (x ∷ es) (suc k) v l h some = (h.0, h.1, h.2, listed_set (x.place + 1) n es k v (omega arith) h.3 some)
@@ -72,21 +78,26 @@ found (e ∷ es) zero place some = elim (cases_eq e.place place) [
   | inl same ↦ record { within = omega arith; at_place = same; value_is = sym (here e place same) }
   | inr other ↦ absurd (some (elsewhere e place other))
 ]
-found (e ∷ es) (suc k) place some = let rest = found es k place some in record { within = let l = rest.within in omega arith; at_place = rest.at_place; value_is = rest.value_is }
+found (e ∷ es) (suc k) place some =
+    let rest = found es k place some in record { within = let l = rest.within in omega arith; at_place = rest.at_place; value_is = rest.value_is }
 
 -- where it has none, entry k stands elsewhere
-missed : (from n : ℕ) (es : List FreeEntry) (k place : ℕ) (d : FreeEntry) → IsListed from n es → first_value (drop k es) place ≡ pos 0 → k < length es → (get_or es k d).place ≢ place
+missed : (from n : ℕ) (es : List FreeEntry) (k place : ℕ) (d : FreeEntry) → IsListed from n es → first_value (drop k es) place ≡ pos 0 → k < length es →
+    (get_or es k d).place ≢ place
 missed from n [] k place d h gone l = absurd (omega arith)
 missed from n (e ∷ es) zero place d h gone l = λ same. h.2 (sym (here e place same) ∙ gone)
 missed from n (e ∷ es) (suc k) place d h gone l = missed (e.place + 1) n es k place d h.3 gone (omega arith)
 
 -- a number added at a column
-module _ (n : ℕ) (es : List FreeEntry) (k place : ℕ) (number : ℤ) (h : IsListed 0 n es) (inside : place < n) (some : number ≢ pos 0) (before : (i : ℕ) (d : FreeEntry) → i < k → i < length es → (get_or es i d).place < place) (after : (d : FreeEntry) → k < length es → place ≤ (get_or es k d).place) where
+module _ (n : ℕ) (es : List FreeEntry) (k place : ℕ) (number : ℤ) (h : IsListed 0 n es) (inside : place < n) (some : number ≢ pos 0)
+    (before : (i : ℕ) (d : FreeEntry) → i < k → i < length es → (get_or es i d).place < place)
+    (after : (d : FreeEntry) → k < length es → place ≤ (get_or es k d).place) where
   abbrev entry : FreeEntry
   entry = record { place = place; value = number }
 
   pub inserted_listed : first_value (drop k es) place ≡ pos 0 → IsListed 0 n (insert es k (record { place = place; value = number }))
-  inserted_listed gone = listed_insert 0 n es k entry h (omega arith) inside some before (λ d l. let other = missed 0 n es k place d h gone l in let at = after d l in omega arith)
+  inserted_listed gone =
+      listed_insert 0 n es k entry h (omega arith) inside some before (λ d l. let other = missed 0 n es k place d h gone l in let at = after d l in omega arith)
 
   pub inserted_at : (j : ℕ) → entry_at (insert es k (record { place = place; value = number })) j ≡ entry_at es j +ℤ cond (nat_eq place j) number (pos 0)
   inserted_at j = entry_at-insert es k entry j
@@ -135,14 +146,16 @@ pub none_taken_yet : (old : List FreeEntry) (times : ℤ) (es : List FreeEntry) 
 none_taken_yet old times es = record { is = λ j. let none_there = *ℤ-zero times in omega (arith, ints) }
 
 -- up to entry k the list is as it was at that entry's place
-pub as_before : (old new : List FreeEntry) (times : ℤ) (n : ℕ) (es : List FreeEntry) (k : ℕ) (d : FreeEntry) → IsListed 0 n es → k < length es → IsTaken old new times es k → entry_at new (get_or es k d).place ≡ entry_at old (get_or es k d).place
+pub as_before : (old new : List FreeEntry) (times : ℤ) (n : ℕ) (es : List FreeEntry) (k : ℕ) (d : FreeEntry) → IsListed 0 n es → k < length es →
+    IsTaken old new times es k → entry_at new (get_or es k d).place ≡ entry_at old (get_or es k d).place
 as_before old new times n es k d h l part =
     let is = part.is (get_or es k d).place in
     let nothing = ap (λ z. times *ℤ z) (front_zero 0 n es k d h l) ∙ *ℤ-zero times in
     omega (arith, ints)
 
 -- one entry more
-pub one_more_entry_taken : (old new next : List FreeEntry) (times : ℤ) (es : List FreeEntry) (k : ℕ) (d : FreeEntry) (number : ℤ) → k < length es → IsTaken old new times es k → number ≡ neg_ℤ (times *ℤ (get_or es k d).value)
+pub one_more_entry_taken : (old new next : List FreeEntry) (times : ℤ) (es : List FreeEntry) (k : ℕ) (d : FreeEntry) (number : ℤ) → k < length es
+    → IsTaken old new times es k → number ≡ neg_ℤ (times *ℤ (get_or es k d).value)
     → ((j : ℕ) → entry_at next j ≡ entry_at new j +ℤ cond (nat_eq (get_or es k d).place j) number (pos 0)) → IsTaken old next times es (k + 1)
 one_more_entry_taken old new next times es k d number l part is added = record { is = λ j. at j }
   where
@@ -162,7 +175,8 @@ one_more_entry_taken old new next times es k d number l part is added = record {
         omega (arith, ints)
 
 -- the bound with the number that was written
-pub bounded_with : (new next : List FreeEntry) (place : ℕ) (number after : ℤ) (bound more : ℕ) → ((j : ℕ) → unsigned_abs (entry_at new j) ≤ bound) → ((j : ℕ) → entry_at next j ≡ entry_at new j +ℤ cond (nat_eq place j) number (pos 0)) → after ≡ entry_at new place +ℤ number
+pub bounded_with : (new next : List FreeEntry) (place : ℕ) (number after : ℤ) (bound more : ℕ) → ((j : ℕ) → unsigned_abs (entry_at new j) ≤ bound)
+    → ((j : ℕ) → entry_at next j ≡ entry_at new j +ℤ cond (nat_eq place j) number (pos 0)) → after ≡ entry_at new place +ℤ number
     → bound ≤ more → unsigned_abs after ≤ more → (j : ℕ) → unsigned_abs (entry_at next j) ≤ more
 bounded_with new next place number after bound more all added is p q j = elim (cases_eq place j) [
   | inl same ↦
@@ -179,21 +193,19 @@ bounded_with new next place number after bound more all added is p q j = elim (c
 ]
 
 -- what bounds a list at each column bounds its values
-pub all_bounded : (n most : ℕ) (es : List FreeEntry) → IsListed 0 n es → ((j : ℕ) → unsigned_abs (entry_at es j) ≤ most) → AllByRecursion (λ (e : FreeEntry). unsigned_abs e.value ≤ most) es
-all_bounded n most es h all = of_values (λ x. unsigned_abs x ≤ most) es (values_from (λ x. unsigned_abs x ≤ most) 0 n es h all (omega arith))
-
-all_of : (xs : List FreeEntry) (k : ℕ) → length xs ≤ k → take k xs ≡ xs
-all_of [] zero h = refl
-all_of [] (suc k) h = refl
-all_of (x ∷ xs) zero h = absurd (omega arith)
-all_of (x ∷ xs) (suc k) h = ap (λ l. x ∷ l) (all_of xs k (omega arith))
+pub all_bounded : (n most : ℕ) (es : List FreeEntry) → IsListed 0 n es → ((j : ℕ) → unsigned_abs (entry_at es j) ≤ most) →
+    AllByRecursion (λ (e : FreeEntry). unsigned_abs e.value ≤ most) es
+all_bounded n most es h all =
+    all-unmap (λ (e : FreeEntry). e.value) (λ x. unsigned_abs x ≤ most) es (values_from (λ x. unsigned_abs x ≤ most) 0 n es h all (omega arith))
 
 -- in the end the multiple of all entries is taken
-pub all_taken : (old new : List FreeEntry) (times : ℤ) (es : List FreeEntry) (k : ℕ) → length es ≤ k → IsTaken old new times es k → (j : ℕ) → entry_at new j ≡ entry_at old j -ℤ times *ℤ entry_at es j
-all_taken old new times es k past part j = part.is j ∙ ap (λ l. entry_at old j -ℤ times *ℤ entry_at l j) (all_of es k past)
+pub all_taken : (old new : List FreeEntry) (times : ℤ) (es : List FreeEntry) (k : ℕ) → length es ≤ k → IsTaken old new times es k → (j : ℕ) →
+    entry_at new j ≡ entry_at old j -ℤ times *ℤ entry_at es j
+all_taken old new times es k past part j = part.is j ∙ ap (λ l. entry_at old j -ℤ times *ℤ entry_at l j) (take_all k es past)
 
 -- a list parted at a column
-pub parted_of : (list es : List FreeEntry) (k place : ℕ) → list ≡ es → IsPartitionPoint (λ (e : FreeEntry). e.place < place) (λ (e : FreeEntry). place ≤ e.place) list k
+pub parted_of : (list es : List FreeEntry) (k place : ℕ) → list ≡ es
+    → IsPartitionPoint (λ (e : FreeEntry). e.place < place) (λ (e : FreeEntry). place ≤ e.place) list k
     → ((i : ℕ) (d : FreeEntry) → i < k → i < length es → (get_or es i d).place < place) × ((d : FreeEntry) → k < length es → place ≤ (get_or es k d).place)
 parted_of list es k place e parted =
     let h = subst (λ l. IsPartitionPoint (λ (x : FreeEntry). x.place < place) (λ (x : FreeEntry). place ≤ x.place) l k) e parted in
@@ -209,7 +221,8 @@ pub record IsTakenNumber (times value number : ℤ) : Type 0 where
   pub small : unsigned_abs number ≤ 2 ^ 112
   pub some : number ≢ pos 0
 
-pub taken_number : (times value number : ℤ) → unsigned_abs times ≤ 2 ^ 56 → unsigned_abs value ≤ 2 ^ 56 → times ≢ pos 0 → value ≢ pos 0 → number ≡ neg_ℤ (times *ℤ value) → IsTakenNumber times value number
+pub taken_number : (times value number : ℤ) → unsigned_abs times ≤ 2 ^ 56 → unsigned_abs value ≤ 2 ^ 56 → times ≢ pos 0 → value ≢ pos 0 →
+    number ≡ neg_ℤ (times *ℤ value) → IsTakenNumber times value number
 taken_number times value number p q t v is = record {
   is = is;
   small = rw (is, size_negated (times *ℤ value)) (product_small times value p q);

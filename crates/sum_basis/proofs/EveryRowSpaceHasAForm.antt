@@ -4,17 +4,14 @@ use Rattle.std.specs.Prelude.{◌<ℤ◌}
 use Rattle.std.specs.List.{AllByRecursion, list_all}
 use Rattle.audit_types.specs.Truth.{number_at, is_zero}
 use Rattle.audit_types.specs.Form.{InSpan, IsPrimitive, IsEchelon, pivot_entry}
-use Rattle.sum_basis.proofs.Spans.{in_span_from, spans_same, spans_zero, span_trans_all}
+use Rattle.audit_types.specs.RowNumbers.{all_zeros_at}
+use Rattle.audit_types.specs.FormRows.{lengths_of_form}
+use Rattle.sum_basis.specs.Spans.{in_span_from, spans_same, spans_zero, span_trans_all}
 use Rattle.sum_basis.proofs.FormsAreUnique.{own, one_more_all, first_own, leads_from}
 use Rattle.sum_basis.proofs.Reduction.{span_line, reduced_by, length-reduced, reduced_zeros, span_reduced, span_unreduced, primitive_exists}
 use Rattle.sum_basis.specs.Laws.{EveryRowSpaceHasAForm}
-use Rattle.sum_basis.proofs.Clearing.{cleared_all, still_echelon, still_zero, primitives, zeros_there, spans_there, spans_back, span_times, all_zeros_at, still_zero_at}
+use Rattle.sum_basis.proofs.Clearing.{cleared_all, still_echelon, still_zero, primitives, zeros_there, spans_there, spans_back, span_times, still_zero_at}
 use Rattle.sum_basis.proofs.Placing.{placed, all_placed, parts_placed, placed_echelon}
-
--- primitive rows have one length
-lengths : (n : ℕ) (rows : List (List ℤ)) → AllByRecursion (IsPrimitive n) rows → AllByRecursion (λ r. length r ≡ n) rows
-lengths n [] h = tt
-lengths n (r ∷ rows) h = (h.0.one_each, lengths n rows h.1)
 
 -- a form with one row more
 record HasOneMore (n : ℕ) (form : List (List ℤ)) (v : List ℤ) : Type 0 where
@@ -41,11 +38,12 @@ grow n form v p h e = go (list_all is_zero u) refl
       primitive = p;
       echelon = h;
       within = one_more_all v form form (own form);
-      has_row = span_unreduced form form v (own form) leads (in_span_from form u (spans_same form (λ j. pos 0) (number_at u) (λ j. sym (all_zeros_at u j zero_row)) (spans_zero form)));
+      has_row =
+          span_unreduced form form v (own form) leads (in_span_from form u (spans_same form (λ j. pos 0) (number_at u) (λ j. sym (all_zeros_at u j zero_row)) (spans_zero form)));
       has_form = own form;
     }
     go false some =
-        let made = primitive_exists n u (length-reduced n form v (lengths n form p) e) some in
+        let made = primitive_exists n u (length-reduced n form v (lengths_of_form n form p) e) some in
         let new = made.0 in
         let zeros = still_zero_at form u new made.1 made.2 made.3 (reduced_zeros form v h) in
         let rest = cleared_all n new form made.4 p zeros in
@@ -57,8 +55,10 @@ grow n form v p h e = go (list_all is_zero u) refl
         record {
           grown = result;
           primitive = all_placed (IsPrimitive n) new rows made.4 (primitives n new form rows rest.1);
-          echelon = placed_echelon new rows (still_echelon n new form rows rest.1 zeros h) (leads_from n rows (primitives n new form rows rest.1)) (still_zero n new form rows rest.1 zeros) (zeros_there n new form rows rest.1);
-          within = all_placed (InSpan (v ∷ form)) new rows new_within (spans_there (v ∷ form) n new form rows rest.1 new_within (one_more_all v form form (own form)));
+          echelon =
+              placed_echelon new rows (still_echelon n new form rows rest.1 zeros h) (leads_from n rows (primitives n new form rows rest.1)) (still_zero n new form rows rest.1 zeros) (zeros_there n new form rows rest.1);
+          within =
+              all_placed (InSpan (v ∷ form)) new rows new_within (spans_there (v ∷ form) n new form rows rest.1 new_within (one_more_all v form form (own form)));
           has_row = span_unreduced result form v has_form leads (subst (InSpan result) (sym made.3) (span_times result made.1 new inside.0));
           has_form = has_form;
         }

@@ -2,15 +2,16 @@
 use Rattle.std.proofs.Common.{◌≡◌, ℕ, ◌<◌, ℤ, pos, List, [], ◌∷◌, ◌++◌, sym, subst}
 use Rattle.audit_types.specs.Form.{InSpan, pivot, pivot_entry}
 use Rattle.sum_basis.specs.Basis.{Echelon}
-use Rattle.sum_basis.specs.Combination.{times}
 use Rattle.sum_basis.specs.Elimination.{IsSmallForm, IsRemainder}
 use Rattle.sum_basis.specs.Growth.{GrowsTo, GrowsWide, IsNewRow}
 use Rattle.sum_basis.proofs.FormsAreUnique.{own, leads_from}
-use Rattle.sum_basis.proofs.Clearing.{line_zero, span_times, positive_not_zero, still_zero_at}
+use Rattle.sum_basis.proofs.Clearing.{line_zero, span_times, still_zero_at}
 use Rattle.sum_basis.proofs.Reduction.{span_line}
 use Rattle.sum_basis.proofs.Remainders.{in_span, nothing_left, span_to_left, span_from_left, IsLine}
 use Rattle.audit_types.specs.Truth.{number_at}
 use Rattle.audit_types.specs.ListLaws.{all-front}
+use Rattle.audit_types.specs.PrimitiveLines.{times}
+use Rattle.audit_types.specs.Numbers.{positive_not_zero}
 use Rattle.sum_basis.proofs.Exactness.{other_row}
 
 module _ (old : Echelon) (v left : List ℤ) (f : IsSmallForm old.n old.rows) (rest : (m : ℕ) × (0 < m) × IsRemainder old.rows (times (pos m) v) left) where
@@ -30,7 +31,8 @@ module _ (old : Echelon) (v left : List ℤ) (f : IsSmallForm old.n old.rows) (r
             (nothing_left old.rows v left rest.0 rest.1 rest.2 f.echelon (leads_from old.n old.rows f.primitive) p (pivot made)));
         there = span_line (old.rows ++ v ∷ []) line.by made line.not_zero (subst (InSpan (old.rows ++ v ∷ [])) line.line
             (span_to_left old.rows v left rest.0 rest.1 rest.2 (old.rows ++ v ∷ []) with_v.0 with_v.1));
-        back = span_from_left old.rows v left rest.0 rest.1 rest.2 (old.rows ++ made ∷ []) with_made.0 (subst (InSpan (old.rows ++ made ∷ [])) (sym line.line) (span_times (old.rows ++ made ∷ []) line.by made with_made.1));
+        back =
+            span_from_left old.rows v left rest.0 rest.1 rest.2 (old.rows ++ made ∷ []) with_made.0 (subst (InSpan (old.rows ++ made ∷ [])) (sym line.line) (span_times (old.rows ++ made ∷ []) line.by made with_made.1));
       }
 
 -- the form with the new row is the form with the row of the set

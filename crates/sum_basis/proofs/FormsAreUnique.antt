@@ -1,19 +1,20 @@
 -- Two reduced forms of one row space are one.
-use Rattle.std.proofs.Common.{◌≡◌, ◌≢◌, ℕ, zero, suc, ◌<◌, true, false, not, ℤ, pos, negsuc, List, [], ◌∷◌, length, refl, sym, ap, ◌∙◌, subst, arith, inl, inr, ◌⊎◌}
+use Rattle.std.proofs.Common.{◌≡◌, ◌≢◌, ℕ, ◌<◌, not, ℤ, pos, List, [], ◌∷◌, length, refl, sym, ap, ◌∙◌, subst, arith, inl, inr, ◌⊎◌}
 use Rattle.std.specs.Prelude.{◌+ℤ◌, ◌*ℤ◌, neg_ℤ, ◌<ℤ◌}
 use Rattle.std.specs.List.{AllByRecursion}
 use Rattle.std.proofs.lemmas.Int.{ints}
 use Rattle.std.proofs.lemmas.List.Sums.{fails_before_first, position_or_len_is}
 use Rattle.std.proofs.lemmas.List.{get_or_past}
-use Rattle.std.proofs.lemmas.Bool.{cases_eq, cases_lt}
+use Rattle.std.proofs.lemmas.Bool.{cases_eq, cases_lt, not-false}
 use Rattle.std.proofs.Math.IntN.{+ℤ_idl, +ℤ_idr, *ℤ_comm, zero-*ℤ, *ℤ-zero}
 use Rattle.audit_types.specs.Truth.{number_at, is_zero}
 use Rattle.audit_types.specs.Form.{combined, InSpan, pivot, pivot_entry, IsPrimitive, IsEchelon, StandsBefore}
 use Rattle.audit_types.specs.Products.{neg-times, zero_factor}
 use Rattle.audit_types.specs.PrimitiveLines.{one_primitive}
-use Rattle.audit_types.specs.Numbers.{zero_or_not}
+use Rattle.audit_types.specs.Numbers.{zero_or_not, zero_from_test, test_of_not_zero}
+use Rattle.audit_types.specs.FormRows.{later_zero}
 use Rattle.sum_basis.specs.Laws.{FormsAreUnique}
-use Rattle.sum_basis.proofs.Spans.{spans_from, spans_times, spans_add, span_zero, span_trans_all, combined_zero, ZeroAtPivots}
+use Rattle.sum_basis.specs.Spans.{spans_from, spans_times, spans_add, span_zero, span_trans_all, combined_zero, ZeroAtPivots}
 
 -- the row is one of these
 abbrev pub IsRowOf : List ℤ → List (List ℤ) → Type 0
@@ -24,40 +25,24 @@ IsRowOf row (r ∷ rows) = (r ≡ row) ⊎ IsRowOf row rows
 abbrev Leads : List (List ℤ) → Type 0
 Leads rows = AllByRecursion (λ r. pos 0 <ℤ pivot_entry r) rows
 
--- a number that passes the test for 0 is 0
-from_is_zero : (z : ℤ) → not (is_zero z) ≡ false → z ≡ pos 0
-from_is_zero (pos zero) h = refl
-from_is_zero (pos (suc n)) h = absurd cc
-from_is_zero (negsuc n) h = absurd cc
-
--- and one that is not 0 fails it
-to_is_zero : (z : ℤ) → z ≢ pos 0 → not (is_zero z) ≡ true
-to_is_zero (pos zero) h = absurd (h refl)
-to_is_zero (pos (suc n)) h = refl
-to_is_zero (negsuc n) h = refl
-
 -- a row is 0 before its pivot
 pub zero_before : (row : List ℤ) (j : ℕ) → j < pivot row → number_at row j ≡ pos 0
-zero_before row j h = from_is_zero (number_at row j) (fails_before_first (λ x. not (is_zero x)) row j (pos 0) h)
+zero_before row j h = zero_from_test (number_at row j) (not-false (is_zero (number_at row j)) (fails_before_first (λ x. not (is_zero x)) row j (pos 0) h))
 
 -- the pivot is the first place that is not 0
 pub pivot_is : (row : List ℤ) (p : ℕ) → ((j : ℕ) → j < p → number_at row j ≡ pos 0) → number_at row p ≢ pos 0 → pivot row ≡ p
 pivot_is row p before here =
     elim (cases_lt p (length row)) [
       | inl l ↦ position_or_len_is (λ x. not (is_zero x)) row p (pos 0) (omega arith)
-          (λ k h. ap (λ z. not (is_zero z)) (before k h)) (λ _. to_is_zero (number_at row p) here)
+          (λ k h. ap (λ z. not (is_zero z)) (before k h)) (λ _. ap not (test_of_not_zero (number_at row p) here))
       | inr l ↦ absurd (here (get_or_past row p (pos 0) l))
     ]
 
 -- the rows behind a row are 0 before its pivot
-all_zero_before : (row : List ℤ) (rows : List (List ℤ)) (j : ℕ) → j < pivot row → AllByRecursion (StandsBefore row) rows → AllByRecursion (λ r. number_at r j ≡ pos 0) rows
+all_zero_before : (row : List ℤ) (rows : List (List ℤ)) (j : ℕ) → j < pivot row → AllByRecursion (StandsBefore row) rows →
+    AllByRecursion (λ r. number_at r j ≡ pos 0) rows
 all_zero_before row [] j h later = tt
 all_zero_before row (next ∷ rows) j h later = let order = later.0.0 in (zero_before next j (omega arith), all_zero_before row rows j h later.1)
-
--- and at it
-pub all_zero_at : (row : List ℤ) (rows : List (List ℤ)) → AllByRecursion (StandsBefore row) rows → AllByRecursion (λ r. number_at r (pivot row) ≡ pos 0) rows
-all_zero_at row [] later = tt
-all_zero_at row (next ∷ rows) later = (later.0.2, all_zero_at row rows later.1)
 
 -- a row that leads a combination
 record Led (rows : List (List ℤ)) (f : ℕ → ℤ) : Type 0 where
@@ -86,10 +71,11 @@ led (c ∷ cs) (row ∷ rows) echelon leads =
       | inr some ↦ inr (record {
         row = row;
         among = inl refl;
-        before = λ j h. ap (λ z. c *ℤ z +ℤ combined cs rows j) (zero_before row j h) ∙ ap (λ z. z +ℤ combined cs rows j) (*ℤ-zero c) ∙ +ℤ_idl (combined cs rows j)
+        before =
+            λ j h. ap (λ z. c *ℤ z +ℤ combined cs rows j) (zero_before row j h) ∙ ap (λ z. z +ℤ combined cs rows j) (*ℤ-zero c) ∙ +ℤ_idl (combined cs rows j)
             ∙ combined_zero cs rows j (all_zero_before row rows j h echelon.0);
         here = λ z. some (zero_factor c (pivot_entry row)
-            (sym (ap (λ y. c *ℤ pivot_entry row +ℤ y) (combined_zero cs rows (pivot row) (all_zero_at row rows echelon.0)) ∙ +ℤ_idr (c *ℤ pivot_entry row)) ∙ z) leads.0);
+            (sym (ap (λ y. c *ℤ pivot_entry row +ℤ y) (combined_zero cs rows (pivot row) (later_zero row rows echelon.0)) ∙ +ℤ_idr (c *ℤ pivot_entry row)) ∙ z) leads.0);
       })
     ]
 
@@ -100,13 +86,15 @@ leads_above (r ∷ rows) row leads (inl e) = subst (λ x. pos 0 <ℤ pivot_entry
 leads_above (r ∷ rows) row leads (inr among) = leads_above rows row leads.1 among
 
 -- a row stands before each row behind it
-pub stands_before : (row : List ℤ) (rows : List (List ℤ)) (other : List ℤ) → AllByRecursion (StandsBefore row) rows → IsRowOf other rows → StandsBefore row other
+pub stands_before : (row : List ℤ) (rows : List (List ℤ)) (other : List ℤ) → AllByRecursion (StandsBefore row) rows → IsRowOf other rows →
+    StandsBefore row other
 stands_before row [] other h among = absurd among
 stands_before row (r ∷ rows) other h (inl e) = subst (StandsBefore row) e h.0
 stands_before row (r ∷ rows) other h (inr among) = stands_before row rows other h.1 among
 
 -- a row is 0 at the pivots of the others
-pub zero_at_others : (rows : List (List ℤ)) (f g : List ℤ) → IsEchelon rows → IsRowOf f rows → IsRowOf g rows → pivot f ≢ pivot g → number_at f (pivot g) ≡ pos 0
+pub zero_at_others : (rows : List (List ℤ)) (f g : List ℤ) → IsEchelon rows → IsRowOf f rows → IsRowOf g rows → pivot f ≢ pivot g →
+    number_at f (pivot g) ≡ pos 0
 zero_at_others [] f g echelon p q apart = absurd p
 zero_at_others (r ∷ rows) f g echelon (inl e) (inl h) apart = absurd (apart (ap pivot (sym e ∙ h)))
 zero_at_others (r ∷ rows) f g echelon (inl e) (inr q) apart = subst (λ x. number_at x (pivot g) ≡ pos 0) e (stands_before r rows g echelon.0 q).1
@@ -114,7 +102,8 @@ zero_at_others (r ∷ rows) f g echelon (inr p) (inl h) apart = subst (λ x. num
 zero_at_others (r ∷ rows) f g echelon (inr p) (inr q) apart = zero_at_others rows f g echelon.1 p q apart
 
 -- a row of the span whose pivot entry is positive has the pivot of a row of the form
-pub pivot_among : (rows : List (List ℤ)) (f : List ℤ) → IsEchelon rows → Leads rows → InSpan rows f → pos 0 <ℤ pivot_entry f → (g : List ℤ) × IsRowOf g rows × (pivot f ≡ pivot g)
+pub pivot_among : (rows : List (List ℤ)) (f : List ℤ) → IsEchelon rows → Leads rows → InSpan rows f → pos 0 <ℤ pivot_entry f →
+    (g : List ℤ) × IsRowOf g rows × (pivot f ≡ pivot g)
 pivot_among rows f echelon leads span positive =
     elim (led span.coefficients rows echelon leads) [
       | inl z ↦
@@ -134,7 +123,8 @@ pivot_among rows f echelon leads span positive =
     ]
 
 -- what is 0 at the pivot of each row is 0 at all pivots
-pub zeros_walk : (f : ℕ → ℤ) (rows rest : List (List ℤ)) → ((g : List ℤ) → IsRowOf g rest → IsRowOf g rows) → ((g : List ℤ) → IsRowOf g rows → f (pivot g) ≡ pos 0) → ZeroAtPivots f rest
+pub zeros_walk : (f : ℕ → ℤ) (rows rest : List (List ℤ)) → ((g : List ℤ) → IsRowOf g rest → IsRowOf g rows) →
+    ((g : List ℤ) → IsRowOf g rows → f (pivot g) ≡ pos 0) → ZeroAtPivots f rest
 zeros_walk f rows [] into none = tt
 zeros_walk f rows (r ∷ rest) into none = (none r (into r (inl refl)), zeros_walk f rows rest (λ g q. into g (inr q)) none)
 
@@ -198,12 +188,14 @@ on_one_line rows others alike f g p q same j =
               let second = ap (number_at g) e in
               let minus = neg-times (pivot_entry f) (pivot_entry g) in
               let turned = *ℤ_comm (pivot_entry f) (pivot_entry g) in
-              ap (λ z. pivot_entry g *ℤ z +ℤ neg_ℤ (pivot_entry f) *ℤ number_at g (pivot h)) first ∙ ap (λ z. pivot_entry g *ℤ pivot_entry f +ℤ neg_ℤ (pivot_entry f) *ℤ z) second ∙ omega (arith, ints)
+              ap (λ z. pivot_entry g *ℤ z +ℤ neg_ℤ (pivot_entry f) *ℤ number_at g (pivot h)) first
+              ∙ ap (λ z. pivot_entry g *ℤ pivot_entry f +ℤ neg_ℤ (pivot_entry f) *ℤ z) second ∙ omega (arith, ints)
           | inr n ↦
               let hit = pivot_among rows h alike.echelon alike.leads (in_span_at rows others h alike.others_within r) (leads_above others h alike.others_leads r) in
               let first : number_at f (pivot h) ≡ pos 0 = ap (number_at f) hit.2 ∙ zero_at_others rows f hit.0 alike.echelon p hit.1 (λ e. n (hit.2 ∙ sym e ∙ same)) in
               let second : number_at g (pivot h) ≡ pos 0 = zero_at_others others g h alike.others_echelon q r (λ e. n (sym e)) in
-              ap (λ z. pivot_entry g *ℤ z +ℤ neg_ℤ (pivot_entry f) *ℤ number_at g (pivot h)) first ∙ ap (λ z. pivot_entry g *ℤ pos 0 +ℤ neg_ℤ (pivot_entry f) *ℤ z) second
+              ap (λ z. pivot_entry g *ℤ z +ℤ neg_ℤ (pivot_entry f) *ℤ number_at g (pivot h)) first
+              ∙ ap (λ z. pivot_entry g *ℤ pos 0 +ℤ neg_ℤ (pivot_entry f) *ℤ z) second
               ∙ ap (λ z. z +ℤ neg_ℤ (pivot_entry f) *ℤ pos 0) (*ℤ-zero (pivot_entry g)) ∙ ap (λ z. pos 0 +ℤ z) (*ℤ-zero (neg_ℤ (pivot_entry f)))
         ]
 
@@ -219,7 +211,8 @@ leads_from n [] h = tt
 leads_from n (r ∷ rows) h = (h.0.leading, leads_from n rows h.1)
 
 -- a row of one form is a row of the other
-row_of_other : (n : ℕ) (rows others : List (List ℤ)) → AreAlike rows others → AllByRecursion (IsPrimitive n) rows → AllByRecursion (IsPrimitive n) others → (f : List ℤ) → IsRowOf f rows → IsRowOf f others
+row_of_other : (n : ℕ) (rows others : List (List ℤ)) → AreAlike rows others → AllByRecursion (IsPrimitive n) rows → AllByRecursion (IsPrimitive n) others →
+    (f : List ℤ) → IsRowOf f rows → IsRowOf f others
 row_of_other n rows others alike p q f among =
     let own_f = primitive_at n rows f p among in
     let hit = pivot_among others f alike.others_echelon alike.others_leads (in_span_at others rows f alike.within among) own_f.leading in
@@ -233,7 +226,8 @@ after_first : (row : List ℤ) (rows : List (List ℤ)) (f : List ℤ) → IsEch
 after_first row rows f echelon among = (stands_before row rows f echelon.0 among).0
 
 -- two echelon forms with the same rows are one list
-same_list : (rows others : List (List ℤ)) → IsEchelon rows → IsEchelon others → ((f : List ℤ) → IsRowOf f rows → IsRowOf f others) → ((f : List ℤ) → IsRowOf f others → IsRowOf f rows) → rows ≡ others
+same_list : (rows others : List (List ℤ)) → IsEchelon rows → IsEchelon others → ((f : List ℤ) → IsRowOf f rows → IsRowOf f others) →
+    ((f : List ℤ) → IsRowOf f others → IsRowOf f rows) → rows ≡ others
 same_list [] [] e h into back = refl
 same_list [] (g ∷ others) e h into back = absurd (back g (inl refl))
 same_list (f ∷ rows) [] e h into back = absurd (into f (inl refl))
@@ -258,7 +252,8 @@ same_list (f ∷ rows) (g ∷ others) e h into back =
 
 -- two forms that are alike, the other way round
 turned_round : (rows others : List (List ℤ)) → AreAlike rows others → AreAlike others rows
-turned_round rows others a = record { echelon = a.others_echelon; leads = a.others_leads; others_echelon = a.echelon; others_leads = a.leads; within = a.others_within; others_within = a.within }
+turned_round rows others a =
+    record { echelon = a.others_echelon; leads = a.others_leads; others_echelon = a.echelon; others_leads = a.leads; within = a.others_within; others_within = a.within }
 
 -- a row space has at most one reduced form
 pub forms_are_unique : FormsAreUnique
@@ -271,4 +266,5 @@ forms_are_unique n rows form other p q =
       within = span_trans_all other rows form q.spans p.within;
       others_within = span_trans_all form rows other p.spans q.within;
     } in
-    same_list form other p.echelon q.echelon (row_of_other n form other alike p.primitive q.primitive) (row_of_other n other form (turned_round form other alike) q.primitive p.primitive)
+    same_list form other p.echelon q.echelon (row_of_other n form other alike p.primitive q.primitive)
+    (row_of_other n other form (turned_round form other alike) q.primitive p.primitive)

@@ -37,7 +37,8 @@ grows_same old v f narrow p = record {
   narrow = narrow;
 }
 
-pub foresees_same : (old : Echelon) (v : List ℤ) (p : Prospect) → IsSmallForm old.n old.rows → IsNarrow old.rows → InSpan old.rows v → IsAsItIs old p → Foresees old v p
+pub foresees_same : (old : Echelon) (v : List ℤ) (p : Prospect) → IsSmallForm old.n old.rows → IsNarrow old.rows → InSpan old.rows v → IsAsItIs old p →
+    Foresees old v p
 foresees_same old v Wide f narrow p is = absurd is
 foresees_same old v Fixing f narrow p is = (old, grows_same old v f narrow p, is)
 foresees_same old v Open f narrow p is = (old, grows_same old v f narrow p, is)
@@ -52,10 +53,12 @@ not_wide old v Open h other = (h.0, h.1)
 pub heads_are : (n : ℕ) (rows : List SparseRow) → AllByRecursion (IsKept n) rows → pivot_entries (rows_of n rows) ≡ heads rows
 heads_are n [] h = refl
 heads_are n (r ∷ rows) h =
-    ap (λ (z : ℤ). unsigned_abs z ∷ pivot_entries (rows_of n rows)) (pivot_entry-row_of 0 n (record { place = r.pivot; value = r.head }) r.free.items h.0.listed)
+    ap (λ (z : ℤ). unsigned_abs z ∷ pivot_entries (rows_of n rows))
+    (pivot_entry-row_of 0 n (record { place = r.pivot; value = r.head }) r.free.items h.0.listed)
     ∙ ap (λ l. unsigned_abs r.head ∷ l) (heads_are n rows h.1)
 
-small_heads : (n : ℕ) (rows : List SparseRow) → AllByRecursion (IsKept n) rows → AllByRecursion IsSmall (rows_of n rows) → AllByRecursion (λ r. (pos 0 <ℤ r.head) × (unsigned_abs r.head ≤ 2 ^ 56)) rows
+small_heads : (n : ℕ) (rows : List SparseRow) → AllByRecursion (IsKept n) rows → AllByRecursion IsSmall (rows_of n rows) →
+    AllByRecursion (λ r. (pos 0 <ℤ r.head) × (unsigned_abs r.head ≤ 2 ^ 56)) rows
 small_heads n [] h s = tt
 small_heads n (r ∷ rows) h s = ((h.0.leading, head_small n r h.0 s.0), small_heads n rows h.1 s.1)
 
@@ -66,7 +69,8 @@ pub record IsJoined (n : ℕ) (rows : List SparseRow) : Type 0 where
   pub small : AllByRecursion (λ r. (pos 0 <ℤ r.head) × (unsigned_abs r.head ≤ 2 ^ 56)) rows
   pub same : pivot_entries (rows_of n rows) ≡ heads rows
 
-pub joined : (n : ℕ) (old : List (List ℤ)) (v : List ℤ) (rows : List SparseRow) → ¬ (GrowsWide (record { n = n; rows = old }) v) → IsReducedForm n (old ++ v ∷ []) (rows_of n rows) → AllByRecursion (IsKept n) rows → IsJoined n rows
+pub joined : (n : ℕ) (old : List (List ℤ)) (v : List ℤ) (rows : List SparseRow) → ¬ (GrowsWide (record { n = n; rows = old }) v) →
+    IsReducedForm n (old ++ v ∷ []) (rows_of n rows) → AllByRecursion (IsKept n) rows → IsJoined n rows
 joined n old v rows other reduced kept = elim (narrow_or_not n (old ++ v ∷ []) (rows_of n rows) reduced) [
   | inr wide ↦ absurd (other (rows_of n rows, reduced, wide))
   | inl narrow ↦ record {
@@ -85,7 +89,8 @@ within_limit n rows m j least more =
     omega arith
 
 -- the fields of the form with the row
-pub joined_form : (n : ℕ) (rows : List SparseRow) (m : ℕ) (common : ℤ) → 0 < n → n ≤ 2048 → AllByRecursion (IsKept n) rows → IsJoined n rows → IsLeastCommonMultiple (heads rows) m → common ≡ pos m → 0 < m → m ≤ 2 ^ 56 → IsForm n common rows
+pub joined_form : (n : ℕ) (rows : List SparseRow) (m : ℕ) (common : ℤ) → 0 < n → n ≤ 2048 → AllByRecursion (IsKept n) rows → IsJoined n rows →
+    IsLeastCommonMultiple (heads rows) m → common ≡ pos m → 0 < m → m ≤ 2 ^ 56 → IsForm n common rows
 joined_form n rows m common some most kept j least e positive small = record {
   some = some;
   at_most = most;
@@ -100,7 +105,8 @@ joined_form n rows m common some most kept j least e positive small = record {
     positive_of k z f h = omega (arith, ints)
 
 -- a list with the numbers of a row is the row
-pub listed_row : (n : ℕ) (row : List ℤ) (list : List FreeEntry) → length row ≡ n → IsListed 0 n list → ((j : ℕ) → entry_at list j ≡ number_at row j) → row_of n list ≡ row
+pub listed_row : (n : ℕ) (row : List ℤ) (list : List FreeEntry) → length row ≡ n → IsListed 0 n list → ((j : ℕ) → entry_at list j ≡ number_at row j) →
+    row_of n list ≡ row
 listed_row n row list l h is = same_rows (row_of n list) row (length-row_of n list ∙ sym l) (λ j. number_at-row_of 0 n list h j ∙ is j)
 
 -- the list of a row that is not all zeros is not empty
@@ -112,14 +118,16 @@ some_entry n [] p h = absurd (none (pivot_entry (row_of n [])) p.leading (number
 some_entry n (e ∷ list) p h = omega arith
 
 -- so it is the list of a new row
-pub is_new_list : (n : ℕ) (row : List ℤ) (list : List FreeEntry) → length row ≡ n → IsListed 0 n list → ((j : ℕ) → entry_at list j ≡ number_at row j) → IsPrimitive n row → IsSmall row → IsNew n list
+pub is_new_list : (n : ℕ) (row : List ℤ) (list : List FreeEntry) → length row ≡ n → IsListed 0 n list → ((j : ℕ) → entry_at list j ≡ number_at row j) →
+    IsPrimitive n row → IsSmall row → IsNew n list
 is_new_list n row list l h is p small =
     let same = listed_row n row list l h is in
     let primitive = subst (IsPrimitive n) (sym same) p in
     record { some = some_entry n list primitive h; listed = h; primitive = primitive; small = subst IsSmall (sym same) small }
 
 -- what is told of the list holds of the row, for the form as it is seen
-pub told : (seen : Echelon) (n : ℕ) (rows items : List SparseRow) (new list : List FreeEntry) (v : List ℤ) (p : Prospect) (room : ℕ) → record { n = n; rows = rows_of n items } ≡ seen → rows ≡ items → new ≡ list
+pub told : (seen : Echelon) (n : ℕ) (rows items : List SparseRow) (new list : List FreeEntry) (v : List ℤ) (p : Prospect) (room : ℕ)
+    → record { n = n; rows = rows_of n items } ≡ seen → rows ≡ items → new ≡ list
     → Foresees (record { n = n; rows = rows_of n rows }) (row_of n new) p → IsNew seen.n list × IsNewRow seen v (row_of seen.n list) × (seen.n ≤ room) → Foresees seen v p
 told seen n rows items new list v p room view e f h left =
     let here = subst (λ (r : List SparseRow). Foresees (record { n = n; rows = rows_of n r }) (row_of n new) p) e h in
@@ -127,7 +135,8 @@ told seen n rows items new list v p room view e f h left =
     foresees_from seen v (row_of seen.n list) p left.1 (subst (λ (s : Echelon). Foresees s (row_of s.n list) p) view there)
 
 -- the list of a new row is 0 at the form's pivots, for the form as it is seen
-pub zeros_of_list : (seen : Echelon) (n : ℕ) (rows items : List SparseRow) (new list : List FreeEntry) → record { n = n; rows = rows_of n items } ≡ seen → rows ≡ items → new ≡ list
+pub zeros_of_list : (seen : Echelon) (n : ℕ) (rows items : List SparseRow) (new list : List FreeEntry) → record { n = n; rows = rows_of n items } ≡ seen
+    → rows ≡ items → new ≡ list
     → IsZeroAtPivots seen.rows (row_of seen.n list) → IsZeroAtPivots (rows_of n rows) (row_of n new)
 zeros_of_list seen n rows items new list view e f zeros =
     let here = subst (λ (s : Echelon). IsZeroAtPivots s.rows (row_of s.n list)) (sym view) zeros in
@@ -142,7 +151,8 @@ not_grown_wide old v p h other wide =
     wide.2 (subst IsNarrow same grown.1.narrow)
 
 -- what is told of the list, for the form as it is seen
-pub told_of_list : (seen : Echelon) (n : ℕ) (rows items : List SparseRow) (new list : List FreeEntry) (p : Prospect) → record { n = n; rows = rows_of n items } ≡ seen → rows ≡ items → new ≡ list
+pub told_of_list : (seen : Echelon) (n : ℕ) (rows items : List SparseRow) (new list : List FreeEntry) (p : Prospect)
+    → record { n = n; rows = rows_of n items } ≡ seen → rows ≡ items → new ≡ list
     → Foresees (record { n = n; rows = rows_of n rows }) (row_of n new) p → Foresees seen (row_of seen.n list) p
 told_of_list seen n rows items new list p view e f h =
     let here = subst (λ (r : List SparseRow). Foresees (record { n = n; rows = rows_of n r }) (row_of n new) p) e h in
@@ -150,21 +160,24 @@ told_of_list seen n rows items new list p view e f h =
     subst (λ (s : Echelon). Foresees s (row_of s.n list) p) view there
 
 -- the rows once the row has joined
-pub after_growth : (seen : Echelon) (n : ℕ) (items before grown : List SparseRow) (list : List FreeEntry) → record { n = n; rows = rows_of n items } ≡ seen → before ≡ items
+pub after_growth : (seen : Echelon) (n : ℕ) (items before grown : List SparseRow) (list : List FreeEntry) → record { n = n; rows = rows_of n items } ≡ seen
+    → before ≡ items
     → ¬ (GrowsWide seen (row_of seen.n list)) → IsReducedForm n (rows_of n before ++ row_of n list ∷ []) (rows_of n grown) → AllByRecursion (IsKept n) grown → IsJoined n grown
 after_growth seen n items before grown list view g other reduced kept =
     joined n (rows_of n items) (row_of n list) grown (subst (λ (s : Echelon). ¬ (GrowsWide s (row_of s.n list))) (sym view) other)
     (subst (λ (r : List SparseRow). IsReducedForm n (rows_of n r ++ row_of n list ∷ []) (rows_of n grown)) g reduced) kept
 
 -- the rows of the form with the list, as the form was seen
-pub grown_rows : (seen : Echelon) (n : ℕ) (items before grown : List SparseRow) (list : List FreeEntry) → record { n = n; rows = rows_of n items } ≡ seen → before ≡ items
+pub grown_rows : (seen : Echelon) (n : ℕ) (items before grown : List SparseRow) (list : List FreeEntry) → record { n = n; rows = rows_of n items } ≡ seen
+    → before ≡ items
     → IsReducedForm n (rows_of n before ++ row_of n list ∷ []) (rows_of n grown) → IsReducedForm seen.n (seen.rows ++ row_of seen.n list ∷ []) (rows_of n grown)
 grown_rows seen n items before grown list view g reduced =
     subst (λ (s : Echelon). IsReducedForm s.n (s.rows ++ row_of s.n list ∷ []) (rows_of n grown)) view
     (subst (λ (r : List SparseRow). IsReducedForm n (rows_of n r ++ row_of n list ∷ []) (rows_of n grown)) g reduced)
 
 -- the form with the row, once its list has joined
-pub grown_to : (old new : Echelon) (list : List FreeEntry) (v : List ℤ) → new.n ≡ old.n → IsNarrow new.rows → IsNewRow old v (row_of old.n list) → IsReducedForm old.n (old.rows ++ row_of old.n list ∷ []) new.rows → GrowsTo old v new
+pub grown_to : (old new : Echelon) (list : List FreeEntry) (v : List ℤ) → new.n ≡ old.n → IsNarrow new.rows → IsNewRow old v (row_of old.n list) →
+    IsReducedForm old.n (old.rows ++ row_of old.n list ∷ []) new.rows → GrowsTo old v new
 grown_to old new list v n narrow row reduced = grows_to old new v (row_of old.n list) row (record { n = n; reduced = reduced; narrow = narrow })
 
 -- a row with which the form is not wide has a primitive row with which it is not
@@ -173,8 +186,10 @@ not_wide_with old v made row other wide = other (grows_wide old v made row wide)
 
 -- a row of the span leaves a reduced form
 pub same_form : (old : Echelon) (v : List ℤ) → IsSmallForm old.n old.rows → InSpan old.rows v → IsReducedForm old.n (old.rows ++ v ∷ []) old.rows
-same_form old v f p = span_keeps_form old.n old.rows old.rows v (record { primitive = f.primitive; echelon = f.echelon; within = own old.rows; spans = own old.rows }) p
+same_form old v f p =
+    span_keeps_form old.n old.rows old.rows v (record { primitive = f.primitive; echelon = f.echelon; within = own old.rows; spans = own old.rows }) p
 
 -- the form with the list is the form with the row
-pub grown_with : (old : Echelon) (rows : List (List ℤ)) (list : List FreeEntry) (v : List ℤ) → IsNewRow old v (row_of old.n list) → IsReducedForm old.n (old.rows ++ row_of old.n list ∷ []) rows → IsReducedForm old.n (old.rows ++ v ∷ []) rows
+pub grown_with : (old : Echelon) (rows : List (List ℤ)) (list : List FreeEntry) (v : List ℤ) → IsNewRow old v (row_of old.n list) →
+    IsReducedForm old.n (old.rows ++ row_of old.n list ∷ []) rows → IsReducedForm old.n (old.rows ++ v ∷ []) rows
 grown_with old rows list v row reduced = other_row old.n old.rows rows (row_of old.n list) v row.there row.back reduced

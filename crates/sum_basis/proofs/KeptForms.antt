@@ -26,12 +26,14 @@ row_among (r ∷ rows) zero h = inl refl
 row_among (r ∷ rows) (suc k) h = inr (row_among rows k (omega arith))
 
 -- what holds of each row of a form
-each_row : (P : List ℤ → Type 0) (rows rest : List (List ℤ)) → ((g : List ℤ) → IsRowOf g rest → IsRowOf g rows) → ((g : List ℤ) → IsRowOf g rows → P g) → AllByRecursion P rest
+each_row : (P : List ℤ → Type 0) (rows rest : List (List ℤ)) → ((g : List ℤ) → IsRowOf g rest → IsRowOf g rows) → ((g : List ℤ) → IsRowOf g rows → P g) →
+    AllByRecursion P rest
 each_row P rows [] among h = tt
 each_row P rows (g ∷ rest) among h = (h g (among g (inl refl)), each_row P rows rest (λ f r. among f (inr r)) h)
 
 -- the values of a list are what it has at their places
-each_entry : (P : FreeEntry → Type 0) (from n : ℕ) (es : List FreeEntry) (f : ℕ → ℤ) → IsListed from n es → ((j : ℕ) → from ≤ j → entry_at es j ≡ f j) → ((e : FreeEntry) → from ≤ e.place → e.value ≢ pos 0 → f e.place ≡ e.value → P e) → AllByRecursion P es
+each_entry : (P : FreeEntry → Type 0) (from n : ℕ) (es : List FreeEntry) (f : ℕ → ℤ) → IsListed from n es → ((j : ℕ) → from ≤ j → entry_at es j ≡ f j) →
+    ((e : FreeEntry) → from ≤ e.place → e.value ≢ pos 0 → f e.place ≡ e.value → P e) → AllByRecursion P es
 each_entry P from n [] f h is each = tt
 each_entry P from n (e ∷ es) f h is each = (
   each e h.0 h.2 (sym (is e.place h.0) ∙ first_value from n e es h),
@@ -43,7 +45,8 @@ each_entry P from n (e ∷ es) f h is each = (
       (λ x l some same. each x (let after = h.0 in omega arith) some same),
 )
 
-module _ (n : ℕ) (rows : List SparseRow) (seen : Echelon) (view_is : record { n = n; rows = rows_of n rows } ≡ seen) (kept : AllByRecursion (IsKept n) rows) (k : ℕ) (r : SparseRow) (h : k < length seen.rows) (is : r ≡ get_or rows k r) where
+module _ (n : ℕ) (rows : List SparseRow) (seen : Echelon) (view_is : record { n = n; rows = rows_of n rows } ≡ seen)
+    (kept : AllByRecursion (IsKept n) rows) (k : ℕ) (r : SparseRow) (h : k < length seen.rows) (is : r ≡ get_or rows k r) where
   -- there are as many kept rows
   pub k_inside : k < length rows
   k_inside = let l = length-map rows (λ (x : SparseRow). row_of n (entries_of x)) in let same = ap (λ (e : Echelon). length e.rows) view_is in omega arith
@@ -79,8 +82,11 @@ module _ (n : ℕ) (rows : List SparseRow) (seen : Echelon) (view_is : record { 
   -- its list is that of its entries at free columns
   pub free_list : IsEchelon seen.rows → IsFreeList seen.n seen.rows (get_or seen.rows k []) r.free.items
   free_list echelon = record {
-    listed = subst (λ (m : ℕ). IsListed 0 m r.free.items) (ap (λ (e : Echelon). e.n) view_is) (listed_from (r.pivot + 1) 0 n r.free.items (omega arith) kept_row.listed.3);
-    free = each_entry (λ (e : FreeEntry). AllByRecursion (λ other. pivot other ≢ e.place) seen.rows) (r.pivot + 1) n r.free.items (number_at (get_or seen.rows k [])) kept_row.listed.3 (λ j l. free_seen j (λ same. omega arith))
+    listed =
+        subst (λ (m : ℕ). IsListed 0 m r.free.items) (ap (λ (e : Echelon). e.n) view_is) (listed_from (r.pivot + 1) 0 n r.free.items (omega arith) kept_row.listed.3);
+    free =
+        each_entry (λ (e : FreeEntry). AllByRecursion (λ other. pivot other ≢ e.place) seen.rows) (r.pivot + 1) n r.free.items
+        (number_at (get_or seen.rows k [])) kept_row.listed.3 (λ j l. free_seen j (λ same. omega arith))
         (λ e l some same. each_row (λ other. pivot other ≢ e.place) seen.rows seen.rows (λ g m. m) (λ other among at.
         some (sym same ∙ ap (number_at (get_or seen.rows k [])) (sym at) ∙ zero_at_others seen.rows (get_or seen.rows k []) other echelon (row_among seen.rows k h) among (λ both. let mine = pivot_seen in omega arith))));
     is = λ j apart. free_seen j (λ same. All-from_recursion (λ other. pivot other ≢ j) seen.rows apart k [] h (sym (same ∙ pivot_seen)));
@@ -90,4 +96,5 @@ module _ (n : ℕ) (rows : List SparseRow) (seen : Echelon) (view_is : record { 
   pub lone_seen : (len : ℕ) (b : Bool) → len ≡ length r.free.items → b ≡ nat_eq len 0 → IsTrue b ↔ IsLone (get_or seen.rows k [])
   lone_seen len b l e =
       let lone = lone_list n (record { place = r.pivot; value = r.head }) r.free.items kept_row.listed in
-      subst (λ (row : List ℤ). IsTrue b ↔ IsLone row) (sym row_seen) (λ t. lone.0 (sym l ∙ eqb-true len 0 (subst IsTrue e t)), λ all. subst IsTrue (sym e) (eq-eqb len 0 (l ∙ lone.1 all)))
+      subst (λ (row : List ℤ). IsTrue b ↔ IsLone row) (sym row_seen)
+      (λ t. lone.0 (sym l ∙ eqb-true len 0 (subst IsTrue e t)), λ all. subst IsTrue (sym e) (eq-eqb len 0 (l ∙ lone.1 all)))

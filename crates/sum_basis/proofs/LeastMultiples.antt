@@ -8,13 +8,12 @@ use Rattle.std.specs.List.{AllByRecursion}
 use Rattle.std.proofs.lemmas.Int.{ints}
 use Rattle.std.proofs.lemmas.List.{take_more}
 use Rattle.std.proofs.lemmas.Nat.Gcd.{dvd_trans, dvd_antisymm, le_of_dvd}
-use Rattle.std.proofs.Math.Nat.{one-dvd, eq-zero_of_zero-dvd, dvd-mul_left, dvd-mul_right}
+use Rattle.std.proofs.Math.Nat.{one-dvd, eq-zero_of_zero-dvd, dvd-mul_left, dvd-mul_right, mul-pos}
 use Rattle.audit_types.specs.Form.{IsLeastCommonMultiple, pivot_entry, pivot_entries}
 use Rattle.audit_types.specs.PrimitiveLines.{scaled_gcd}
-use Rattle.audit_types.specs.ListLaws.{all-push, all-front, all-weaker}
+use Rattle.audit_types.specs.ListLaws.{all-push, all-front, all-weaker, all-take}
 use Rattle.audit_types.specs.Numbers.{size_positive}
 use Rattle.int_rows.specs.Multiples.{least_multiple}
-use Rattle.sum_basis.proofs.Spans.{positive_product}
 
 -- of no numbers it is 1
 pub least-nil : IsLeastCommonMultiple [] 1
@@ -31,7 +30,7 @@ least-push xs x m n first both = record {
 pub least_positive : (a b m : ℕ) → 0 < a → 0 < b → IsLeastCommonMultiple (a ∷ b ∷ []) m → 0 < m
 least_positive a b (suc m) p q is = omega arith
 least_positive a b zero p q is =
-    let product = positive_product a b p q in
+    let product = mul-pos p q in
     let none : a * b ≡ 0 = eq-zero_of_zero-dvd (is.least (a * b) (dvd-mul_right a b, (dvd-mul_left b a, tt))) in
     absurd (omega arith)
 
@@ -61,17 +60,10 @@ least_exists (x ∷ xs) h =
 pub least_unique : (xs : List ℕ) (m n : ℕ) → IsLeastCommonMultiple xs m → IsLeastCommonMultiple xs n → m ≡ n
 least_unique xs m n p q = dvd_antisymm (p.least n q.multiple) (q.least m p.multiple)
 
--- what holds of all items holds of the first k
-pub all_taken : {X : Type 0} (P : X → Type 0) (xs : List X) (k : ℕ) → AllByRecursion P xs → AllByRecursion P (take k xs)
-all_taken P [] zero h = tt
-all_taken P [] (suc k) h = tt
-all_taken P (x ∷ xs) zero h = tt
-all_taken P (x ∷ xs) (suc k) h = (h.0, all_taken P xs k h.1)
-
 -- a positive number is its size
-pub size_is : (z : ℤ) → pos 0 <ℤ z → z ≡ pos (unsigned_abs z)
-size_is (pos n) h = refl
-size_is (negsuc n) h = absurd (omega (arith, ints))
+pub positive_size : (z : ℤ) → pos 0 <ℤ z → z ≡ pos (unsigned_abs z)
+positive_size (pos n) h = refl
+positive_size (negsuc n) h = absurd (omega (arith, ints))
 
 -- positive pivot entries have sizes above 0
 pub entries_positive : (rows : List (List ℤ)) → AllByRecursion (λ r. pos 0 <ℤ pivot_entry r) rows → AllByRecursion (λ x. 0 < x) (pivot_entries rows)
@@ -91,15 +83,18 @@ pivot_entries-push [] row = refl
 pivot_entries-push (r ∷ rows) row = ap (λ l. unsigned_abs (pivot_entry r) ∷ l) (pivot_entries-push rows row)
 
 -- the least common multiple of the first k + 1 pivot entries
-pub one_more_entry : (rows : List (List ℤ)) (k m n : ℕ) → k < length rows → IsLeastCommonMultiple (pivot_entries (take k rows)) m → IsLeastCommonMultiple (m ∷ unsigned_abs (pivot_entry (get_or rows k [])) ∷ []) n → IsLeastCommonMultiple (pivot_entries (take (k + 1) rows)) n
+pub one_more_entry : (rows : List (List ℤ)) (k m n : ℕ) → k < length rows → IsLeastCommonMultiple (pivot_entries (take k rows)) m →
+    IsLeastCommonMultiple (m ∷ unsigned_abs (pivot_entry (get_or rows k [])) ∷ []) n → IsLeastCommonMultiple (pivot_entries (take (k + 1) rows)) n
 one_more_entry rows k m n h first both =
-    rw (take_more rows k [] h, pivot_entries-push (take k rows) (get_or rows k [])) (least-push (pivot_entries (take k rows)) (unsigned_abs (pivot_entry (get_or rows k []))) m n first both)
+    rw (take_more rows k [] h, pivot_entries-push (take k rows) (get_or rows k []))
+    (least-push (pivot_entries (take k rows)) (unsigned_abs (pivot_entry (get_or rows k []))) m n first both)
 
 -- the multiple of all is no smaller than that of the first ones
-pub passes : (rows : List (List ℤ)) (k m limit : ℕ) → AllByRecursion (λ r. pos 0 <ℤ pivot_entry r) rows → IsLeastCommonMultiple (pivot_entries (take k rows)) m → limit < m → (all : ℕ) × IsLeastCommonMultiple (pivot_entries rows) all × (limit < all)
+pub passes : (rows : List (List ℤ)) (k m limit : ℕ) → AllByRecursion (λ r. pos 0 <ℤ pivot_entry r) rows →
+    IsLeastCommonMultiple (pivot_entries (take k rows)) m → limit < m → (all : ℕ) × IsLeastCommonMultiple (pivot_entries rows) all × (limit < all)
 passes rows k m limit leading first more =
     let all = least_exists (pivot_entries rows) (entries_positive rows leading) in
-    let divides : m ∣ all.0 = first.least all.0 (subst (AllByRecursion (λ x. x ∣ all.0)) (sym (pivot_entries-take rows k)) (all_taken (λ x. x ∣ all.0) (pivot_entries rows) k all.2.multiple)) in
+    let divides : m ∣ all.0 = first.least all.0 (subst (AllByRecursion (λ x. x ∣ all.0)) (sym (pivot_entries-take rows k)) (all-take (λ x. x ∣ all.0) k (pivot_entries rows) all.2.multiple)) in
     let most = le_of_dvd all.1 divides in
     (all.0, all.2, omega arith)
 
@@ -108,18 +103,21 @@ abbrev pub heads : List SparseRow → List ℕ
 heads rows = map (λ r. unsigned_abs r.head) rows
 
 -- the first k + 1 of them
-pub one_more_head : (rows : List SparseRow) (k : ℕ) (r : SparseRow) (m n : ℕ) → k < length rows → r ≡ get_or rows k r → IsLeastCommonMultiple (heads (take k rows)) m → IsLeastCommonMultiple (m ∷ unsigned_abs r.head ∷ []) n → IsLeastCommonMultiple (heads (take (k + 1) rows)) n
+pub one_more_head : (rows : List SparseRow) (k : ℕ) (r : SparseRow) (m n : ℕ) → k < length rows → r ≡ get_or rows k r →
+    IsLeastCommonMultiple (heads (take k rows)) m → IsLeastCommonMultiple (m ∷ unsigned_abs r.head ∷ []) n → IsLeastCommonMultiple (heads (take (k + 1) rows)) n
 one_more_head rows k r m n h is first both =
     rw (take_more rows k r h, map-append (λ (x : SparseRow). unsigned_abs x.head) (take k rows) (get_or rows k r ∷ []))
     (least-push (heads (take k rows)) (unsigned_abs (get_or rows k r).head) m n first (subst (λ (x : SparseRow). IsLeastCommonMultiple (m ∷ unsigned_abs x.head ∷ []) n) is both))
 
 -- they are above 0
-pub heads_positive : (rows : List SparseRow) → AllByRecursion (λ r. (pos 0 <ℤ r.head) × (unsigned_abs r.head ≤ 2 ^ 56)) rows → AllByRecursion (λ x. 0 < x) (heads rows)
+pub heads_positive : (rows : List SparseRow) → AllByRecursion (λ r. (pos 0 <ℤ r.head) × (unsigned_abs r.head ≤ 2 ^ 56)) rows →
+    AllByRecursion (λ x. 0 < x) (heads rows)
 heads_positive [] h = tt
 heads_positive (r ∷ rows) h = (size_positive r.head h.0.0, heads_positive rows h.1)
 
 -- the multiple of all of them is no smaller than that of the first ones
-pub passes_list : (rows : List SparseRow) (k m limit : ℕ) → AllByRecursion (λ x. 0 < x) (heads rows) → IsLeastCommonMultiple (heads (take k rows)) m → limit < m → (all : ℕ) × IsLeastCommonMultiple (heads rows) all × (limit < all)
+pub passes_list : (rows : List SparseRow) (k m limit : ℕ) → AllByRecursion (λ x. 0 < x) (heads rows) → IsLeastCommonMultiple (heads (take k rows)) m →
+    limit < m → (all : ℕ) × IsLeastCommonMultiple (heads rows) all × (limit < all)
 passes_list rows k m limit positive first more =
     let all = least_exists (heads rows) positive in
     let divides : m ∣ all.0 = first.least all.0 (taken all.0 rows k all.2.multiple) in

@@ -5,7 +5,6 @@ pub mod FormsAreUnique
 pub mod SpanKeepsForm
 pub mod NarrowOrWide
 pub mod Reduction
-pub mod Spans
 pub mod Reducing
 pub mod Multiples
 pub mod LeastMultiples

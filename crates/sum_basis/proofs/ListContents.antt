@@ -10,13 +10,12 @@ use Rattle.std.proofs.lemmas.List.{same_lists, get_or_default, get_or-map, lengt
 use Rattle.std.proofs.Math.Nat.{one-dvd}
 use Rattle.std.proofs.lemmas.Nat.Gcd.{dvd_refl}
 use Rattle.audit_types.specs.Form.{IsContent}
-use Rattle.int_rows.specs.ContentLaws.{IsContent-push}
+use Rattle.int_rows.specs.ContentLaws.{IsContent-push, all-ones}
 use Rattle.sum_basis.specs.declared.sparse.FreeEntry.{FreeEntry}
 use Rattle.sum_basis.specs.Sparse.{entry_at, IsListed, scaled, IsOverContent}
-use Rattle.sum_basis.proofs.Multiples.{one-times}
-use Rattle.sum_basis.proofs.Clearing.{positive_not_zero}
 use Rattle.int_rows.specs.PrimitiveLaws.{content_one}
-use Rattle.audit_types.specs.Products.{times-add}
+use Rattle.audit_types.specs.Products.{times-add, one-times}
+use Rattle.audit_types.specs.Numbers.{positive_not_zero}
 
 -- the values of a list
 abbrev pub values : List FreeEntry → List ℤ
@@ -31,12 +30,15 @@ pub content_of_one : (head : ℤ) → IsContent (head ∷ []) (unsigned_abs head
 content_of_one head = record { divides = (dvd_refl (unsigned_abs head), tt); greatest = λ d all. all.0 }
 
 -- the content with the value of entry k
-pub one_more_value : (head : ℤ) (es : List FreeEntry) (k g h : ℕ) → k < length es → IsContent (head ∷ values (take k es)) g → IsGcd g (unsigned_abs (get_or es k none).value) h → IsContent (head ∷ values (take (k + 1) es)) h
+pub one_more_value : (head : ℤ) (es : List FreeEntry) (k g h : ℕ) → k < length es → IsContent (head ∷ values (take k es)) g →
+    IsGcd g (unsigned_abs (get_or es k none).value) h → IsContent (head ∷ values (take (k + 1) es)) h
 one_more_value head es k g h l content common =
-    rw (take_more es k none l, map-append (λ (e : FreeEntry). e.value) (take k es) (get_or es k none ∷ [])) (IsContent-push (head ∷ values (take k es)) (get_or es k none).value g h content common)
+    rw (take_more es k none l, map-append (λ (e : FreeEntry). e.value) (take k es) (get_or es k none ∷ []))
+    (IsContent-push (head ∷ values (take k es)) (get_or es k none).value g h content common)
 
 -- what divides all values divides the first of them
-pub divides_first : (d : ℕ) (es : List FreeEntry) (k : ℕ) → AllByRecursion (λ x. d ∣ unsigned_abs x) (values es) → AllByRecursion (λ x. d ∣ unsigned_abs x) (values (take k es))
+pub divides_first : (d : ℕ) (es : List FreeEntry) (k : ℕ) → AllByRecursion (λ x. d ∣ unsigned_abs x) (values es) →
+    AllByRecursion (λ x. d ∣ unsigned_abs x) (values (take k es))
 divides_first d es zero all = tt
 divides_first d [] (suc k) all = tt
 divides_first d (e ∷ es) (suc k) all = (all.0, divides_first d es k all.1)
@@ -44,13 +46,9 @@ divides_first d (e ∷ es) (suc k) all = (all.0, divides_first d es k all.1)
 -- once the content is 1 it stays
 pub stays_one : (head : ℤ) (es : List FreeEntry) (k : ℕ) → IsContent (head ∷ values (take k es)) 1 → IsContent (head ∷ values es) 1
 stays_one head es k content = record {
-  divides = (one-dvd (unsigned_abs head), ones es);
+  divides = (one-dvd (unsigned_abs head), all-ones (values es));
   greatest = λ d all. content.greatest d (all.0, divides_first d es k all.1);
 }
-  where
-    ones : (xs : List FreeEntry) → AllByRecursion (λ x. 1 ∣ unsigned_abs x) (values xs)
-    ones [] = tt
-    ones (x ∷ xs) = (one-dvd (unsigned_abs x.value), ones xs)
 
 -- the first k entries are divided, and the others as they were
 pub record IsPartlyScaled (old new : List FreeEntry) (by : ℤ) (k : ℕ) : Type 0 where
@@ -58,7 +56,8 @@ pub record IsPartlyScaled (old new : List FreeEntry) (by : ℤ) (k : ℕ) : Type
   pub left : (m : ℕ) → k ≤ m → get_or new m none ≡ get_or old m none
 
 -- one entry more is divided
-pub one_more_scaled : (old new : List FreeEntry) (by : ℤ) (k : ℕ) (e : FreeEntry) → k < length new → IsPartlyScaled old new by k → get_or new k none ≡ scaled by e → IsPartlyScaled old (set new k e) by (k + 1)
+pub one_more_scaled : (old new : List FreeEntry) (by : ℤ) (k : ℕ) (e : FreeEntry) → k < length new → IsPartlyScaled old new by k →
+    get_or new k none ≡ scaled by e → IsPartlyScaled old (set new k e) by (k + 1)
 one_more_scaled old new by k e inside part is = record {
   done = λ m h. elim (cases_eq m k) [
     | inl same ↦ rw same (sym (part.left k (omega arith)) ∙ is ∙ ap (scaled by) (sym (get_or-set_same new k e none inside)))
@@ -68,7 +67,8 @@ one_more_scaled old new by k e inside part is = record {
 }
 
 -- when all are, the old list is the multiple of the new one
-pub all_scaled : (old new : List FreeEntry) (by : ℤ) (k : ℕ) → length new ≡ length old → length old ≤ k → IsPartlyScaled old new by k → old ≡ map (scaled by) new
+pub all_scaled : (old new : List FreeEntry) (by : ℤ) (k : ℕ) → length new ≡ length old → length old ≤ k → IsPartlyScaled old new by k →
+    old ≡ map (scaled by) new
 all_scaled old new by k same past part =
     same_lists old (map (scaled by) new) (sym (length-map new (scaled by) ∙ same)) (λ m d h.
     get_or_default old m d none h ∙ part.done m (omega arith) ∙ sym (get_or-map (scaled by) new m none d (omega arith)))
@@ -95,11 +95,6 @@ listed_scaled by from n (e ∷ es) h = (h.0, h.1, λ z. h.2 (ap (λ x. by *ℤ x
 pub entry_is : (es : List FreeEntry) (k : ℕ) (e : FreeEntry) → k < length es → e ≡ get_or es k e → get_or es k none ≡ e
 entry_is es k e h is = get_or_default es k none e h ∙ sym is
 
--- a divisor of all values divides each entry's
-pub all_divided_by : (g : ℕ) (es : List FreeEntry) → AllByRecursion (λ x. g ∣ unsigned_abs x) (values es) → AllByRecursion (λ (e : FreeEntry). g ∣ unsigned_abs e.value) es
-all_divided_by g [] h = tt
-all_divided_by g (e ∷ es) h = (h.0, all_divided_by g es h.1)
-
 -- the values of a multiple
 pub values-scaled : (by : ℤ) (es : List FreeEntry) → values (map (scaled by) es) ≡ map (λ x. by *ℤ x) (values es)
 values-scaled by [] = refl
@@ -108,18 +103,23 @@ values-scaled by (e ∷ es) = ap (λ l. (by *ℤ e.value) ∷ l) (values-scaled 
 -- once a list is the list
 pub scaled_once : (es : List FreeEntry) → es ≡ map (scaled (pos 1)) es
 scaled_once [] = refl
-scaled_once (e ∷ es) = ap (λ (x : ℤ). record { place = e.place; value = x } ∷ es) (sym (one-times e.value)) ∙ ap (λ l. record { place = e.place; value = pos 1 *ℤ e.value } ∷ l) (scaled_once es)
+scaled_once (e ∷ es) =
+    ap (λ (x : ℤ). record { place = e.place; value = x } ∷ es) (sym (one-times e.value))
+    ∙ ap (λ l. record { place = e.place; value = pos 1 *ℤ e.value } ∷ l) (scaled_once es)
 
 -- a pivot entry and a list with content 1 stay
 pub over_one : (head : ℤ) (es : List FreeEntry) → IsContent (head ∷ values es) 1 → IsOverContent head es head es
-over_one head es content = record { by = pos 1; positive = omega (arith, ints); head_is = sym (one-times head); entries_are = scaled_once es; content = content }
+over_one head es content =
+    record { by = pos 1; positive = omega (arith, ints); head_is = sym (one-times head); entries_are = scaled_once es; content = content }
 
 -- over their content they have content 1
-pub over_content : (by old_head head : ℤ) (old es : List FreeEntry) → pos 0 <ℤ by → IsContent (old_head ∷ values old) (unsigned_abs by) → old_head ≡ by *ℤ head → old ≡ map (scaled by) es → IsOverContent old_head old head es
+pub over_content : (by old_head head : ℤ) (old es : List FreeEntry) → pos 0 <ℤ by → IsContent (old_head ∷ values old) (unsigned_abs by) →
+    old_head ≡ by *ℤ head → old ≡ map (scaled by) es → IsOverContent old_head old head es
 over_content by old_head head old es p content e f = record {
   by = by;
   positive = p;
   head_is = e;
   entries_are = f;
-  content = content_one by (head ∷ values es) (positive_not_zero by p) (subst (λ l. IsContent l (unsigned_abs by)) (ap (λ x. x ∷ values old) e ∙ ap (λ l. (by *ℤ head) ∷ l) (ap values f ∙ values-scaled by es)) content);
+  content =
+      content_one by (head ∷ values es) (positive_not_zero by p) (subst (λ l. IsContent l (unsigned_abs by)) (ap (λ x. x ∷ values old) e ∙ ap (λ l. (by *ℤ head) ∷ l) (ap values f ∙ values-scaled by es)) content);
 }

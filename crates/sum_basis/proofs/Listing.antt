@@ -28,7 +28,8 @@ left_out row list k part none = record {
 }
 
 -- any other is listed
-pub one_more_listed : (row : List ℤ) (list : List FreeEntry) (k : ℕ) (v : ℤ) → IsPartlyListed row list k → v ≡ number_at row k → v ≢ pos 0 → IsPartlyListed row (list ++ record { place = k; value = v } ∷ []) (k + 1)
+pub one_more_listed : (row : List ℤ) (list : List FreeEntry) (k : ℕ) (v : ℤ) → IsPartlyListed row list k → v ≡ number_at row k → v ≢ pos 0 →
+    IsPartlyListed row (list ++ record { place = k; value = v } ∷ []) (k + 1)
 one_more_listed row list k v part e some = record {
   listed = listed_push 0 k (k + 1) list (record { place = k; value = v }) (omega arith) part.listed (omega arith) (omega arith) some;
   is = λ j h.

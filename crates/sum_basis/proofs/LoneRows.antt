@@ -10,17 +10,18 @@ use Rattle.std.proofs.Math.IntN.{*ℤ-zero}
 use Rattle.audit_types.specs.Truth.{number_at}
 use Rattle.audit_types.specs.Form.{IsPrimitive}
 use Rattle.audit_types.specs.Numbers.{zero_or_not}
+use Rattle.audit_types.specs.Products.{size_of_factor, one-times}
+use Rattle.audit_types.specs.RowNumbers.{all_by_number}
 use Rattle.sum_basis.specs.declared.sparse.FreeEntry.{FreeEntry}
 use Rattle.sum_basis.specs.declared.sparse.SparseRow.{SparseRow}
 use Rattle.sum_basis.specs.Elimination.{IsSmall, IsZeroAtPivots, IsCleared, AreCleared}
 use Rattle.sum_basis.specs.Sparse.{entry_at, row_of, rows_of, entries_of, IsKept, IsNew}
-use Rattle.sum_basis.proofs.Multiples.{one-times}
-use Rattle.sum_basis.proofs.Sizes.{small_at, all_by_place}
+use Rattle.sum_basis.proofs.Sizes.{small_at}
 use Rattle.sum_basis.proofs.SparseRows.{elsewhere, number_at-row_of}
 use Rattle.sum_basis.proofs.ListContents.{none}
 use Rattle.sum_basis.proofs.ClearedLists.{IsLed, is_led}
 use Rattle.sum_basis.proofs.KeptRows.{stands_earlier, cleared_as_it_is, nothing_at}
-use Rattle.sum_basis.proofs.BoundedRows.{no_smaller, on_line}
+use Rattle.sum_basis.proofs.BoundedRows.{on_line}
 
 -- it has nothing elsewhere
 elsewhere_nothing : (new : List FreeEntry) (j : ℕ) → length new ≡ 1 → j ≢ (get_or new 0 none).place → entry_at new j ≡ pos 0
@@ -38,7 +39,9 @@ module _ (n : ℕ) (new : List FreeEntry) (is_new : IsNew n new) (one : length n
 
   -- its entry is 1
   value_is : (get_or new 0 none).value ≡ pos 1
-  value_is = size_one v (subst (λ z. pos 0 <ℤ z) led.pivot_entry_is is_new.primitive.leading) (le_of_dvd (omega arith) (is_new.primitive.content.greatest (unsigned_abs v) (all_by_place (λ x. unsigned_abs v ∣ unsigned_abs x) (row_of n new) at)))
+  value_is =
+      size_one v (subst (λ z. pos 0 <ℤ z) led.pivot_entry_is is_new.primitive.leading)
+      (le_of_dvd (omega arith) (is_new.primitive.content.greatest (unsigned_abs v) (all_by_number (λ x. unsigned_abs v ∣ unsigned_abs x) (row_of n new) at)))
     where
       v : ℤ
       v = (get_or new 0 none).value
@@ -50,7 +53,8 @@ module _ (n : ℕ) (new : List FreeEntry) (is_new : IsNew n new) (one : length n
       ]
 
   -- a row that it clears is small
-  pub cleared_small : (r : SparseRow) → IsKept n r → IsPrimitive n (row_of n (entries_of r)) → entry_at new r.pivot ≡ pos 0 → IsSmall (row_of n (entries_of r)) → (made : List ℤ) × IsCleared n (row_of n new) (row_of n (entries_of r)) made × IsSmall made
+  pub cleared_small : (r : SparseRow) → IsKept n r → IsPrimitive n (row_of n (entries_of r)) → entry_at new r.pivot ≡ pos 0 →
+      IsSmall (row_of n (entries_of r)) → (made : List ℤ) × IsCleared n (row_of n new) (row_of n (entries_of r)) made × IsSmall made
   cleared_small r kept primitive nothing small = elim (zero_or_not (entry_at r.free.items (get_or new 0 none).place)) [
     | inl z ↦ (row_of n (entries_of r), cleared_as_it_is n r new kept is_new nothing primitive z, small)
     | inr some ↦
@@ -61,17 +65,18 @@ module _ (n : ℕ) (new : List FreeEntry) (is_new : IsNew n new) (one : length n
           | inl same ↦ subst (λ z. unsigned_abs z ≤ 2 ^ 56) (sym (ap (number_at line.0) (same ∙ sym led.at_pivot) ∙ line.1.cleared.zero_there)) (omega arith)
           | inr other ↦
               let is = line.1.line j in
-              let least = no_smaller line.1.over (number_at line.0 j) line.1.not_zero in
+              let least = size_of_factor line.1.over (number_at line.0 j) line.1.not_zero in
               let once = one-times (entry_at (entries_of r) j) in
               let gone = ap (λ z. neg_ℤ times *ℤ z) (elsewhere_nothing new j one other) ∙ *ℤ-zero (neg_ℤ times) in
               let was = subst (λ z. unsigned_abs z ≤ 2 ^ 56) (number_at-row_of 0 n (entries_of r) kept.listed j) (small_at (row_of n (entries_of r)) j small) in
               omega (arith, ints)
         ] in
-        (line.0, line.1.cleared, all_by_place (λ x. unsigned_abs x ≤ 2 ^ 56) line.0 at)
+        (line.0, line.1.cleared, all_by_number (λ x. unsigned_abs x ≤ 2 ^ 56) line.0 at)
   ]
 
   -- and so are all rows
-  pub all_cleared_small : (rows : List SparseRow) → AllByRecursion (IsKept n) rows → AllByRecursion (IsPrimitive n) (rows_of n rows) → AllByRecursion IsSmall (rows_of n rows) → IsZeroAtPivots (rows_of n rows) (row_of n new)
+  pub all_cleared_small : (rows : List SparseRow) → AllByRecursion (IsKept n) rows → AllByRecursion (IsPrimitive n) (rows_of n rows)
+      → AllByRecursion IsSmall (rows_of n rows) → IsZeroAtPivots (rows_of n rows) (row_of n new)
       → (made : List (List ℤ)) × AreCleared n (row_of n new) (rows_of n rows) made × AllByRecursion IsSmall made
   all_cleared_small [] kept primitive small zero = ([], tt, tt)
   all_cleared_small (r ∷ rows) kept primitive small zero =

@@ -1,5 +1,5 @@
 -- What is told of a form with a new row while its rows are cleared one after the other.
-use Rattle.std.proofs.Common.{◌≡◌, ◌↔◌, ℕ, zero, suc, ◌+◌, ◌*◌, ◌<◌, ◌≤◌, ◌^◌, Bool, true, ℤ, pos, List, [], ◌∷◌, ◌++◌, length, take, get_or, refl, sym, ap, subst, arith, inl, inr, ◌⊎◌, IsTrue}
+use Rattle.std.proofs.Common.{◌≡◌, ◌↔◌, ℕ, ◌+◌, ◌*◌, ◌<◌, ◌≤◌, ◌^◌, Bool, true, ℤ, pos, List, [], ◌∷◌, ◌++◌, length, take, get_or, refl, sym, subst, arith, inl, inr, ◌⊎◌, IsTrue}
 use Rattle.std.specs.Prelude.{◌<ℤ◌, unsigned_abs}
 use Rattle.std.specs.Int.{◌∣◌}
 use Rattle.std.specs.List.{AllByRecursion}
@@ -9,20 +9,21 @@ use Rattle.std.proofs.Math.Nat.{dvd-mul_right, mul-dvd-mul_left, mul-pos}
 use Rattle.std.proofs.Math.Seq.{take-length}
 use Rattle.std.proofs.lemmas.List.Elements.{All-from_recursion}
 use Rattle.audit_types.specs.Form.{InSpan, IsPrimitive, IsReducedForm, IsLeastCommonMultiple, pivot, pivot_entry, pivot_entries}
-use Rattle.audit_types.specs.ListLaws.{all-push}
+use Rattle.audit_types.specs.ListLaws.{all-push, all-take, all-map, all-unmap}
 use Rattle.audit_types.specs.Numbers.{size_positive}
+use Rattle.audit_types.specs.FormRows.{pivot_below}
 use Rattle.sum_basis.specs.Basis.{Echelon, HasUnitRow}
 use Rattle.sum_basis.specs.Elimination.{IsSmall, IsSmallForm, IsZeroAtPivots, IsCleared, AreCleared, IsLone}
 use Rattle.sum_basis.specs.Growth.{ClearsFirst, GrowsTo, GrowsWide}
 use Rattle.sum_basis.proofs.FormsAreUnique.{own, leads_from}
-use Rattle.sum_basis.proofs.LeastMultiples.{least-push, least_positive, least_exists, least_unique, entries_positive, pivot_entries-push, all_taken}
+use Rattle.sum_basis.proofs.LeastMultiples.{least-push, least_positive, least_exists, least_unique, entries_positive, pivot_entries-push}
 use Rattle.sum_basis.proofs.Placing.{placed, all_placed, parts_placed}
 use Rattle.sum_basis.proofs.Growing.{placed_is_reduced}
 use Rattle.sum_basis.proofs.ClearingFirst.{one_more_cleared, rest_cleared, too_large, no_rows}
 use Rattle.sum_basis.proofs.Clearing.{primitives}
 use Rattle.sum_basis.proofs.WideForms.{row_too_large, is_narrow}
-use Rattle.sum_basis.proofs.Ranks.{pivot_within}
 use Rattle.sum_basis.proofs.UnitRowsInSpan.{unit_in_span, no_unit}
+use Rattle.std.proofs.lemmas.List.{take_all}
 
 -- some row has one entry that is not 0
 abbrev pub SomeLone : List (List ℤ) → Type 0
@@ -40,7 +41,8 @@ pub record IsLooked (n : ℕ) (form : List (List ℤ)) (new : List ℤ) (k : ℕ
   pub none : ¬ (IsTrue fixing) → AllByRecursion (λ r. ¬ (IsLone r)) (new ∷ made)
 
 -- at the start only the new row was looked at
-pub nothing_looked : (n : ℕ) (form : List (List ℤ)) (new : List ℤ) (common : ℤ) (fixing : Bool) → IsPrimitive n new → unsigned_abs common ≤ 2 ^ 56 → common ≡ pivot_entry new → IsTrue fixing ↔ IsLone new → IsLooked n form new 0 common fixing
+pub nothing_looked : (n : ℕ) (form : List (List ℤ)) (new : List ℤ) (common : ℤ) (fixing : Bool) → IsPrimitive n new → unsigned_abs common ≤ 2 ^ 56 →
+    common ≡ pivot_entry new → IsTrue fixing ↔ IsLone new → IsLooked n form new 0 common fixing
 nothing_looked n form new common fixing p small e lone = record {
   made = [];
   clears = no_rows n new form;
@@ -60,27 +62,23 @@ some_push (r ∷ rows) row (inl (inr some)) = inr (some_push rows row (inl some)
 some_push (r ∷ rows) row (inr is) = inr (some_push rows row (inr is))
 
 -- one row more was looked at
-pub one_more_looked : (n : ℕ) (form : List (List ℤ)) (new : List ℤ) (k : ℕ) (common : ℤ) (fixing : Bool) (row : List ℤ) (m : ℕ) (multiple : ℤ) (lone also : Bool) → k < length form → IsLooked n form new k common fixing
+pub one_more_looked : (n : ℕ) (form : List (List ℤ)) (new : List ℤ) (k : ℕ) (common : ℤ) (fixing : Bool) (row : List ℤ) (m : ℕ) (multiple : ℤ) (lone also : Bool)
+    → k < length form → IsLooked n form new k common fixing
     → IsPrimitive n row → IsCleared n new (get_or form k []) row → IsSmall row → IsLeastCommonMultiple (unsigned_abs common ∷ unsigned_abs (pivot_entry row) ∷ []) m → multiple ≡ pos m → m ≤ 2 ^ 56 → IsTrue lone ↔ IsLone row
     → IsTrue also ↔ (IsTrue fixing ⊎ IsTrue lone) → IsLooked n form new (k + 1) multiple also
 one_more_looked n form new k common fixing row m multiple lone also h l p is small least e within one both = record {
   made = l.made ++ row ∷ [];
   clears = one_more_cleared n new form l.made k row h l.clears is small;
-  positive = let above = least_positive (unsigned_abs common) (unsigned_abs (pivot_entry row)) m (size_positive common l.positive) (size_positive (pivot_entry row) p.leading) least in omega (arith, ints);
+  positive =
+      let above = least_positive (unsigned_abs common) (unsigned_abs (pivot_entry row)) m (size_positive common l.positive) (size_positive (pivot_entry row) p.leading) least in
+      omega (arith, ints);
   within = rw e within;
-  multiple = rw (e, pivot_entries-push (new ∷ l.made) row) (least-push (pivot_entries (new ∷ l.made)) (unsigned_abs (pivot_entry row)) (unsigned_abs common) m l.multiple least);
-  lone = λ yes. elim (both.0 yes) [ inl before ↦ some_push (new ∷ l.made) row (inl (l.lone before)) | inr here ↦ some_push (new ∷ l.made) row (inr (one.0 here)) ];
+  multiple =
+      rw (e, pivot_entries-push (new ∷ l.made) row) (least-push (pivot_entries (new ∷ l.made)) (unsigned_abs (pivot_entry row)) (unsigned_abs common) m l.multiple least);
+  lone =
+      λ yes. elim (both.0 yes) [ inl before ↦ some_push (new ∷ l.made) row (inl (l.lone before)) | inr here ↦ some_push (new ∷ l.made) row (inr (one.0 here)) ];
   none = λ no. all-push (λ r. ¬ (IsLone r)) (new ∷ l.made) row (l.none (λ before. no (both.1 (inl before)))) (λ here. no (both.1 (inr (one.1 here))));
 }
-
--- what divides for each row
-all_rows : (m : ℕ) (rows : List (List ℤ)) → AllByRecursion (λ x. x ∣ m) (pivot_entries rows) → AllByRecursion (λ r. unsigned_abs (pivot_entry r) ∣ m) rows
-all_rows m [] h = tt
-all_rows m (r ∷ rows) h = (h.0, all_rows m rows h.1)
-
-all_entries : (m : ℕ) (rows : List (List ℤ)) → AllByRecursion (λ r. unsigned_abs (pivot_entry r) ∣ m) rows → AllByRecursion (λ x. x ∣ m) (pivot_entries rows)
-all_entries m [] h = tt
-all_entries m (r ∷ rows) h = (h.0, all_entries m rows h.1)
 
 -- the rows in front of others
 all_before : (P : List ℤ → Type 0) (made rest : List (List ℤ)) (row : List ℤ) → AllByRecursion P (made ++ row ∷ rest) → AllByRecursion P made × P row
@@ -91,7 +89,8 @@ all_before P (r ∷ made) rest row h = let more = all_before P made rest row h.1
 pub record IsGlanced (n : ℕ) (form : List (List ℤ)) (new : List ℤ) (k : ℕ) (fixing : Bool) : Type 0 where
   pub made : List (List ℤ)
   pub clears : ClearsFirst n form new k made
-  pub divides : (m : ℕ) → AllByRecursion (λ x. x ∣ m) (pivot_entries form) → AllByRecursion (λ r. unsigned_abs (pivot_entry r) ∣ (unsigned_abs (pivot_entry new) * m)) (new ∷ made)
+  pub divides : (m : ℕ) → AllByRecursion (λ x. x ∣ m) (pivot_entries form) →
+      AllByRecursion (λ r. unsigned_abs (pivot_entry r) ∣ (unsigned_abs (pivot_entry new) * m)) (new ∷ made)
   pub lone : IsTrue fixing → SomeLone (new ∷ made)
   pub none : ¬ (IsTrue fixing) → AllByRecursion (λ r. ¬ (IsLone r)) (new ∷ made)
 
@@ -106,19 +105,22 @@ nothing_glanced n form new fixing lone = record {
 }
 
 -- one row more was looked at
-pub one_more_glanced : (n : ℕ) (form : List (List ℤ)) (new : List ℤ) (k : ℕ) (fixing : Bool) (row : List ℤ) (lone also : Bool) → k < length form → IsGlanced n form new k fixing → IsCleared n new (get_or form k []) row → IsSmall row
+pub one_more_glanced : (n : ℕ) (form : List (List ℤ)) (new : List ℤ) (k : ℕ) (fixing : Bool) (row : List ℤ) (lone also : Bool) → k < length form
+    → IsGlanced n form new k fixing → IsCleared n new (get_or form k []) row → IsSmall row
     → IsTrue lone ↔ IsLone row → IsTrue also ↔ (IsTrue fixing ⊎ IsTrue lone) → IsGlanced n form new (k + 1) also
 one_more_glanced n form new k fixing row lone also h g is small one both = record {
   made = g.made ++ row ∷ [];
   clears = one_more_cleared n new form g.made k row h g.clears is small;
   divides = λ m all. all-push (λ r. unsigned_abs (pivot_entry r) ∣ (unsigned_abs (pivot_entry new) * m)) (new ∷ g.made) row (g.divides m all)
-      (dvd_trans (unsigned_abs (pivot_entry row)) is.head (mul-dvd-mul_left (unsigned_abs (pivot_entry (get_or form k []))) (unsigned_abs (pivot_entry new)) (All-from_recursion (λ r. unsigned_abs (pivot_entry r) ∣ m) form (all_rows m form all) k [] h)));
-  lone = λ yes. elim (both.0 yes) [ inl before ↦ some_push (new ∷ g.made) row (inl (g.lone before)) | inr here ↦ some_push (new ∷ g.made) row (inr (one.0 here)) ];
+      (dvd_trans (unsigned_abs (pivot_entry row)) is.head (mul-dvd-mul_left (unsigned_abs (pivot_entry (get_or form k []))) (unsigned_abs (pivot_entry new)) (All-from_recursion (λ r. unsigned_abs (pivot_entry r) ∣ m) form (all-unmap (λ r. unsigned_abs (pivot_entry r)) (λ x. x ∣ m) form all) k [] h)));
+  lone =
+      λ yes. elim (both.0 yes) [ inl before ↦ some_push (new ∷ g.made) row (inl (g.lone before)) | inr here ↦ some_push (new ∷ g.made) row (inr (one.0 here)) ];
   none = λ no. all-push (λ r. ¬ (IsLone r)) (new ∷ g.made) row (g.none (λ before. no (both.1 (inl before)))) (λ here. no (both.1 (inr (one.1 here))));
 }
 
 -- each cleared pivot entry divides what the new one makes of a multiple of the form's
-heads_divide : (n : ℕ) (new : List ℤ) (form made : List (List ℤ)) (m : ℕ) → AreCleared n new form made → AllByRecursion (λ r. unsigned_abs (pivot_entry r) ∣ m) form → AllByRecursion (λ r. unsigned_abs (pivot_entry r) ∣ (unsigned_abs (pivot_entry new) * m)) made
+heads_divide : (n : ℕ) (new : List ℤ) (form made : List (List ℤ)) (m : ℕ) → AreCleared n new form made →
+    AllByRecursion (λ r. unsigned_abs (pivot_entry r) ∣ m) form → AllByRecursion (λ r. unsigned_abs (pivot_entry r) ∣ (unsigned_abs (pivot_entry new) * m)) made
 heads_divide n new [] [] m cleared all = tt
 heads_divide n new [] (row ∷ made) m cleared all = absurd cleared
 heads_divide n new (r ∷ form) [] m cleared all = absurd cleared
@@ -128,22 +130,25 @@ heads_divide n new (r ∷ form) (row ∷ made) m cleared all = (
 )
 
 -- a lone new row that leaves all rows small fixes a number
-pub glanced_at_once : (n : ℕ) (form : List (List ℤ)) (new : List ℤ) (made : List (List ℤ)) → AreCleared n new form made → AllByRecursion IsSmall made → IsLone new → IsGlanced n form new (length form) true
+pub glanced_at_once : (n : ℕ) (form : List (List ℤ)) (new : List ℤ) (made : List (List ℤ)) → AreCleared n new form made → AllByRecursion IsSmall made →
+    IsLone new → IsGlanced n form new (length form) true
 glanced_at_once n form new made cleared small lone = record {
   made = made;
   clears = record { cleared = rw (take-length form) cleared; small = small };
-  divides = λ m all. (dvd-mul_right (unsigned_abs (pivot_entry new)) m, heads_divide n new form made m cleared (all_rows m form all));
+  divides =
+      λ m all. (dvd-mul_right (unsigned_abs (pivot_entry new)) m, heads_divide n new form made m cleared (all-unmap (λ r. unsigned_abs (pivot_entry r)) (λ x. x ∣ m) form all));
   lone = λ yes. inl lone;
   none = λ no. absurd (no refl);
 }
 
 -- where that product is within the limit, so is the least common multiple
-pub glanced_is_looked : (n : ℕ) (form : List (List ℤ)) (new : List ℤ) (k m : ℕ) (fixing : Bool) → IsPrimitive n new → 0 < m → AllByRecursion (λ x. x ∣ m) (pivot_entries form) → unsigned_abs (pivot_entry new) * m ≤ 2 ^ 56 → IsGlanced n form new k fixing
+pub glanced_is_looked : (n : ℕ) (form : List (List ℤ)) (new : List ℤ) (k m : ℕ) (fixing : Bool) → IsPrimitive n new → 0 < m
+    → AllByRecursion (λ x. x ∣ m) (pivot_entries form) → unsigned_abs (pivot_entry new) * m ≤ 2 ^ 56 → IsGlanced n form new k fixing
     → (common : ℤ) × IsLooked n form new k common fixing
 glanced_is_looked n form new k m fixing p some all within g =
     let rows = primitives n new (take k form) g.made g.clears.cleared in
     let least = least_exists (pivot_entries (new ∷ g.made)) (entries_positive (new ∷ g.made) (leads_from n (new ∷ g.made) (p, rows))) in
-    let divides = least.2.least (unsigned_abs (pivot_entry new) * m) (all_entries (unsigned_abs (pivot_entry new) * m) (new ∷ g.made) (g.divides m all)) in
+    let divides = least.2.least (unsigned_abs (pivot_entry new) * m) (all-map (λ r. unsigned_abs (pivot_entry r)) (λ x. x ∣ (unsigned_abs) (pivot_entry new) * m) (new ∷ g.made) (g.divides m all)) in
     let above : 0 < unsigned_abs (pivot_entry new) * m = mul-pos (size_positive (pivot_entry new) p.leading) some in
     let most = le_of_dvd above divides in
     let positive = least.1 in (
@@ -161,11 +166,13 @@ glanced_is_looked n form new k m fixing p some all within g =
 
 module _ (form : Echelon) (new : List ℤ) (f : IsSmallForm form.n form.rows) (p : IsPrimitive form.n new) (z : IsZeroAtPivots form.rows new) where
   -- a cleared row that is too large
-  pub looked_large : (k : ℕ) (common : ℤ) (fixing : Bool) (row : List ℤ) → k < length form.rows → IsLooked form.n form.rows new k common fixing → IsCleared form.n new (get_or form.rows k []) row → ¬ (IsSmall row) → GrowsWide form new
+  pub looked_large : (k : ℕ) (common : ℤ) (fixing : Bool) (row : List ℤ) → k < length form.rows → IsLooked form.n form.rows new k common fixing →
+      IsCleared form.n new (get_or form.rows k []) row → ¬ (IsSmall row) → GrowsWide form new
   looked_large k common fixing row h l is large = row_too_large form new f p z (too_large form.n new form.rows l.made k row h p f.primitive z l.clears is large)
 
   -- pivot entries whose multiple is too large
-  pub looked_multiple : (k : ℕ) (common : ℤ) (fixing : Bool) (row : List ℤ) (m : ℕ) → k < length form.rows → IsLooked form.n form.rows new k common fixing → IsCleared form.n new (get_or form.rows k []) row
+  pub looked_multiple : (k : ℕ) (common : ℤ) (fixing : Bool) (row : List ℤ) (m : ℕ) → k < length form.rows → IsLooked form.n form.rows new k common fixing
+      → IsCleared form.n new (get_or form.rows k []) row
       → IsLeastCommonMultiple (unsigned_abs common ∷ unsigned_abs (pivot_entry row) ∷ []) m → 2 ^ 56 < m → GrowsWide form new
   looked_multiple k common fixing row m h l is least more =
       let rest = rest_cleared form.n new form.rows l.made k row h p f.primitive z l.clears is in
@@ -177,9 +184,9 @@ module _ (form : Echelon) (new : List ℤ) (f : IsSmallForm form.n form.rows) (p
         λ narrow.
             let least_of = least_exists (pivot_entries grown) (entries_positive grown (leads_from form.n grown reduced.primitive)) in
             let same = least_unique (pivot_entries grown) narrow.common least_of.0 narrow.common_is least_of.2 in
-            let each = parts_placed (λ r. unsigned_abs (pivot_entry r) ∣ least_of.0) new all (all_rows least_of.0 grown least_of.2.multiple) in
+            let each = parts_placed (λ r. unsigned_abs (pivot_entry r) ∣ least_of.0) new all (all-unmap (λ r. unsigned_abs (pivot_entry r)) (λ x. x ∣ least_of.0) grown least_of.2.multiple) in
             let parts = all_before (λ r. unsigned_abs (pivot_entry r) ∣ least_of.0) l.made rest.0 row each.1 in
-            let first = l.multiple.least least_of.0 (each.0, all_entries least_of.0 l.made parts.0) in
+            let first = l.multiple.least least_of.0 (each.0, all-map (λ r. unsigned_abs (pivot_entry r)) (λ x. x ∣ least_of.0) l.made parts.0) in
             let most = le_of_dvd least_of.1 (least.least least_of.0 (first, (parts.1, tt))) in
             let small = narrow.common_small in
             omega arith,
@@ -190,14 +197,8 @@ module _ (form : Echelon) (new : List ℤ) (f : IsSmallForm form.n form.rows) (p
     abbrev grown : List (List ℤ)
     grown = placed new l.made
 
-    all_of : (xs : List (List ℤ)) (m : ℕ) → length xs ≤ m → take m xs ≡ xs
-    all_of [] zero h = refl
-    all_of [] (suc m) h = refl
-    all_of (x ∷ xs) zero h = absurd (omega arith)
-    all_of (x ∷ xs) (suc m) h = ap (λ t. x ∷ t) (all_of xs m (omega arith))
-
     cleared : AreCleared form.n new form.rows l.made
-    cleared = subst (λ rows. AreCleared form.n new rows l.made) (all_of form.rows k past) l.clears.cleared
+    cleared = subst (λ rows. AreCleared form.n new rows l.made) (take_all k form.rows past) l.clears.cleared
 
     reduced : IsReducedForm form.n (form.rows ++ new ∷ []) grown
     reduced = placed_is_reduced form.n form.rows l.made new f.primitive f.echelon p z cleared
@@ -207,8 +208,10 @@ module _ (form : Echelon) (new : List ℤ) (f : IsSmallForm form.n form.rows) (p
 
     least : IsLeastCommonMultiple (pivot_entries grown) (unsigned_abs common)
     least = record {
-      multiple = all_entries (unsigned_abs common) grown (all_placed (λ r. unsigned_abs (pivot_entry r) ∣ unsigned_abs common) new l.made l.multiple.multiple.0 (all_rows (unsigned_abs common) l.made l.multiple.multiple.1));
-      least = λ m all. let parts = parts_placed (λ r. unsigned_abs (pivot_entry r) ∣ m) new l.made (all_rows m grown all) in l.multiple.least m (parts.0, all_entries m l.made parts.1);
+      multiple =
+          all-map (λ r. unsigned_abs (pivot_entry r)) (λ x. x ∣ (unsigned_abs) common) grown (all_placed (λ r. unsigned_abs (pivot_entry r) ∣ unsigned_abs common) new l.made l.multiple.multiple.0 (all-unmap (λ r. unsigned_abs (pivot_entry r)) (λ x. x ∣ (unsigned_abs) common) l.made l.multiple.multiple.1));
+      least =
+          λ m all. let parts = parts_placed (λ r. unsigned_abs (pivot_entry r) ∣ m) new l.made (all-unmap (λ r. unsigned_abs (pivot_entry r)) (λ x. x ∣ m) grown all) in l.multiple.least m (parts.0, all-map (λ r. unsigned_abs (pivot_entry r)) (λ x. x ∣ m) l.made parts.1);
     }
 
     abbrev pub foreseen : Echelon
@@ -221,7 +224,7 @@ module _ (form : Echelon) (new : List ℤ) (f : IsSmallForm form.n form.rows) (p
     -- a lone row has a unit row in the span
     unit_of : (rows : List (List ℤ)) → AllByRecursion (InSpan grown) rows → AllByRecursion (IsPrimitive form.n) rows → SomeLone rows → HasUnitRow foreseen
     unit_of [] span q none = absurd none
-    unit_of (row ∷ rows) span q (inl lone) = (pivot row, (pivot_within form.n row q.0, unit_in_span form.n grown row q.0 span.0 lone))
+    unit_of (row ∷ rows) span q (inl lone) = (pivot row, (pivot_below form.n row q.0, unit_in_span form.n grown row q.0 span.0 lone))
     unit_of (row ∷ rows) span q (inr some) = unit_of rows span.1 q.1 some
 
     -- with one of them the new row fixes a number
@@ -235,4 +238,4 @@ module _ (form : Echelon) (new : List ℤ) (f : IsSmallForm form.n form.rows) (p
     looked_open denied unit =
         let none = l.none denied in
         let all = all_placed (λ r. ¬ (IsLone r)) new l.made none.0 none.1 in
-        no_unit foreseen (length grown) small_form (omega arith) (record { none = all_taken (λ r. ¬ (IsLone r)) grown (length grown) all }) unit.0 unit.1.0 unit.1.1
+        no_unit foreseen (length grown) small_form (omega arith) (record { none = all-take (λ r. ¬ (IsLone r)) (length grown) grown all }) unit.0 unit.1.0 unit.1.1

@@ -3,7 +3,7 @@ use Rattle.std.proofs.Common.{◌≡◌, ◌≢◌, ℕ, zero, suc, ◌+◌, ◌
 use Rattle.std.specs.Prelude.{◌+ℤ◌, ◌-ℤ◌, ◌*ℤ◌, neg_ℤ}
 use Rattle.std.proofs.lemmas.Int.{ints}
 use Rattle.std.proofs.lemmas.Bool.{cases_eq, cases_lt}
-use Rattle.std.proofs.lemmas.List.{drop-drop, length-append, length-map, append-nil}
+use Rattle.std.proofs.lemmas.List.{drop-drop, length-append, length-map, append-nil, take_all}
 use Rattle.std.proofs.Math.IntN.{*ℤ-zero}
 use Rattle.audit_types.specs.Truth.{is_zero}
 use Rattle.sum_basis.specs.declared.sparse.FreeEntry.{FreeEntry}
@@ -32,7 +32,8 @@ rest_listed next n (e ∷ es) place h le = elim (cases_eq e.place place) [
 ]
 
 -- and has what the list had but for that entry
-rest_entry : (next n : ℕ) (es : List FreeEntry) (place : ℕ) → IsListed next n es → place ≤ first_place n es → (j : ℕ) → entry_at es j ≡ cond (nat_eq place j) (first_value es place) (pos 0) +ℤ entry_at (rest es place) j
+rest_entry : (next n : ℕ) (es : List FreeEntry) (place : ℕ) → IsListed next n es → place ≤ first_place n es → (j : ℕ) →
+    entry_at es j ≡ cond (nat_eq place j) (first_value es place) (pos 0) +ℤ entry_at (rest es place) j
 rest_entry next n [] place h le j = let none = nothing (nat_eq place j) in omega (arith, ints)
   where
     nothing : (b : Bool) → cond b (pos 0) (pos 0) ≡ pos 0
@@ -80,7 +81,8 @@ pub record IsMerging (n : ℕ) (by : ℤ) (first : List FreeEntry) (times : ℤ)
   pub second_left : IsListed next n (drop j second)
   pub first_within : i ≤ length first
   pub second_within : j ≤ length second
-  pub is : (k : ℕ) → entry_at out k +ℤ (by *ℤ entry_at (drop i first) k -ℤ times *ℤ entry_at (drop j second) k) ≡ by *ℤ entry_at first k -ℤ times *ℤ entry_at second k
+  pub is : (k : ℕ) →
+      entry_at out k +ℤ (by *ℤ entry_at (drop i first) k -ℤ times *ℤ entry_at (drop j second) k) ≡ by *ℤ entry_at first k -ℤ times *ℤ entry_at second k
 
 -- a list begins where it was said to, or there is none
 first_after : (next n : ℕ) (es : List FreeEntry) → next ≤ n → IsListed next n es → next ≤ first_place n es
@@ -115,7 +117,8 @@ still_within es i place h = elim (cases_lt i (length es)) [
     gone (x ∷ xs) (suc k) l = gone xs k (omega arith)
 
 -- at the start nothing is combined
-pub nothing_merged : (n : ℕ) (by : ℤ) (first : List FreeEntry) (times : ℤ) (second : List FreeEntry) → IsListed 0 n first → IsListed 0 n second → IsMerging n by first times second [] 0 0
+pub nothing_merged : (n : ℕ) (by : ℤ) (first : List FreeEntry) (times : ℤ) (second : List FreeEntry) → IsListed 0 n first → IsListed 0 n second →
+    IsMerging n by first times second [] 0 0
 nothing_merged n by first times second p q = record {
   next = 0;
   next_within = omega arith;
@@ -145,7 +148,9 @@ module _ (n : ℕ) (by : ℤ) (first : List FreeEntry) (times : ℤ) (second out
     none_left (x ∷ xs) (suc k) l = none_left xs k (omega arith)
 
     part_listed : IsListed 0 n (out ++ map (scaled by) (drop i first))
-    part_listed = listed_append 0 m.next n out (map (scaled by) (drop i first)) m.next_within m.out_listed (scaled_listed by m.next n (drop i first) p m.first_left) (omega arith)
+    part_listed =
+        listed_append 0 m.next n out (map (scaled by) (drop i first)) m.next_within m.out_listed (scaled_listed by m.next n (drop i first) p m.first_left)
+        (omega arith)
 
     pub whole_listed : IsListed 0 n whole
     whole_listed = elim done [
@@ -153,7 +158,8 @@ module _ (n : ℕ) (by : ℤ) (first : List FreeEntry) (times : ℤ) (second out
           subst (λ (l : List FreeEntry). IsListed 0 n ((out ++ map (scaled by) l) ++ map (scaled (neg_ℤ times)) (drop j second))) (sym (none_left first i one))
           (rw (append-nil out) (listed_append 0 m.next n out (map (scaled (neg_ℤ times)) (drop j second)) m.next_within m.out_listed (scaled_listed (neg_ℤ times) m.next n (drop j second) (neg_not_zero times q) m.second_left) (omega arith)))
       | inr other ↦
-          subst (λ (l : List FreeEntry). IsListed 0 n ((out ++ map (scaled by) (drop i first)) ++ map (scaled (neg_ℤ times)) l)) (sym (none_left second j other)) (rw (append-nil (out ++ map (scaled by) (drop i first))) part_listed)
+          subst (λ (l : List FreeEntry). IsListed 0 n ((out ++ map (scaled by) (drop i first)) ++ map (scaled (neg_ℤ times)) l))
+          (sym (none_left second j other)) (rw (append-nil (out ++ map (scaled by) (drop i first))) part_listed)
     ]
 
     pub whole_is : (k : ℕ) → entry_at whole k ≡ by *ℤ entry_at first k -ℤ times *ℤ entry_at second k
@@ -167,7 +173,11 @@ module _ (n : ℕ) (by : ℤ) (first : List FreeEntry) (times : ℤ) (second out
 
     -- so there is room for what is left of the first, and then of the second
     pub part_length : length out + length (drop i first) ≤ n
-    part_length = let all = listed_length 0 n (out ++ map (scaled by) (drop i first)) (omega arith) part_listed in let one = length-append out (map (scaled by) (drop i first)) in let two = length-map (drop i first) (scaled by) in omega arith
+    part_length =
+        let all = listed_length 0 n (out ++ map (scaled by) (drop i first)) (omega arith) part_listed in
+        let one = length-append out (map (scaled by) (drop i first)) in
+        let two = length-map (drop i first) (scaled by) in
+        omega arith
 
     pub whole_length : length (out ++ map (scaled by) (drop i first)) + length (drop j second) ≤ n
     whole_length =
@@ -194,7 +204,8 @@ module _ (n : ℕ) (by : ℤ) (first : List FreeEntry) (times : ℤ) (second out
 
     -- one place more is combined
     pub one_place_merged : (v : ℤ) → v ≡ by *ℤ first_value (drop i first) place -ℤ times *ℤ first_value (drop j second) place
-        → IsMerging n by first times second (cond (is_zero v) out (out ++ record { place = place; value = v } ∷ [])) (cond (is_zero (first_value (drop i first) place)) i (i + 1)) (cond (is_zero (first_value (drop j second) place)) j (j + 1))
+        → IsMerging n by first times second (cond (is_zero v) out (out ++ record { place = place; value = v } ∷ []))
+        (cond (is_zero (first_value (drop i first) place)) i (i + 1)) (cond (is_zero (first_value (drop j second) place)) j (j + 1))
     one_place_merged v value = record {
       next = place + 1;
       next_within = let inside = place_inside in omega arith;
@@ -235,7 +246,9 @@ module _ (n : ℕ) (by : ℤ) (first : List FreeEntry) (times : ℤ) (second out
         here_value true = value
         here_value false = let none = *ℤ-zero by in let other = *ℤ-zero times in omega (arith, ints)
 
-        at : (k : ℕ) → entry_at (cond (is_zero v) out (out ++ entry ∷ [])) k +ℤ (by *ℤ entry_at (drop (cond (is_zero x) i (i + 1)) first) k -ℤ times *ℤ entry_at (drop (cond (is_zero y) j (j + 1)) second) k)
+        at : (k : ℕ) →
+            entry_at (cond (is_zero v) out (out ++ entry ∷ [])) k +ℤ
+            (by *ℤ entry_at (drop (cond (is_zero x) i (i + 1)) first) k -ℤ times *ℤ entry_at (drop (cond (is_zero y) j (j + 1)) second) k)
             ≡ by *ℤ entry_at first k -ℤ times *ℤ entry_at second k
         at k =
             let before = m.is k in
@@ -259,7 +272,8 @@ module _ (es : List FreeEntry) (k : ℕ) (l : k < length es) where
   no_value place other = ap (λ xs. first_value xs place) (drop_entry es k none l) ∙ elsewhere (get_or es k none) place other
 
 -- one step, by the order of the two places
-module _ (n : ℕ) (by : ℤ) (first : List FreeEntry) (times : ℤ) (second out : List FreeEntry) (i j : ℕ) (m : IsMerging n by first times second out i j) (p : i < length first) (q : j < length second) where
+module _ (n : ℕ) (by : ℤ) (first : List FreeEntry) (times : ℤ) (second out : List FreeEntry) (i j : ℕ) (m : IsMerging n by first times second out i j)
+    (p : i < length first) (q : j < length second) where
   first_listed : IsListed m.next n (get_or first i none ∷ drop (suc i) first)
   first_listed = subst (IsListed m.next n) (drop_entry first i none p) m.first_left
 
@@ -281,7 +295,8 @@ module _ (n : ℕ) (by : ℤ) (first : List FreeEntry) (times : ℤ) (second out
   stays x k e = ap (λ z. cond (is_zero z) k (k + 1)) e
 
   -- the first entry of the first list comes sooner
-  pub first_merged : (v : ℤ) → (get_or first i none).place < (get_or second j none).place → v ≡ by *ℤ (get_or first i none).value → IsMerging n by first times second (with_entry (get_or first i none).place v) (i + 1) j
+  pub first_merged : (v : ℤ) → (get_or first i none).place < (get_or second j none).place → v ≡ by *ℤ (get_or first i none).value →
+      IsMerging n by first times second (with_entry (get_or first i none).place v) (i + 1) j
   first_merged v sooner is =
       let place = (get_or first i none).place in
       let x = value_is first i p place refl in
@@ -294,7 +309,8 @@ module _ (n : ℕ) (by : ℤ) (first : List FreeEntry) (times : ℤ) (second out
       (subst (λ (k : ℕ). IsMerging n by first times second (with_entry place v) (cond (is_zero (first_value (drop i first) place)) i (i + 1)) k) (stays _ j y) step)
 
   -- the first entry of the second list comes sooner
-  pub second_merged : (v : ℤ) → (get_or second j none).place < (get_or first i none).place → v ≡ neg_ℤ times *ℤ (get_or second j none).value → IsMerging n by first times second (with_entry (get_or second j none).place v) i (j + 1)
+  pub second_merged : (v : ℤ) → (get_or second j none).place < (get_or first i none).place → v ≡ neg_ℤ times *ℤ (get_or second j none).value →
+      IsMerging n by first times second (with_entry (get_or second j none).place v) i (j + 1)
   second_merged v sooner is =
       let place = (get_or second j none).place in
       let x = no_value first i p place (λ same. omega arith) in
@@ -302,13 +318,16 @@ module _ (n : ℕ) (by : ℤ) (first : List FreeEntry) (times : ℤ) (second out
       let at = place_is second j q n in
       let later = place_is first i p n in
       let value : v ≡ by *ℤ first_value (drop i first) place -ℤ times *ℤ first_value (drop j second) place =
-      is ∙ (let a = ap (λ z. by *ℤ z) x ∙ *ℤ-zero by in let b = ap (λ z. times *ℤ z) y in let minus = neg-times times (get_or second j none).value in omega (arith, ints)) in
+      is
+      ∙ (let a = ap (λ z. by *ℤ z) x ∙ *ℤ-zero by in let b = ap (λ z. times *ℤ z) y in let minus = neg-times times (get_or second j none).value in omega (arith, ints)) in
       let step = one_place_merged n by first times second out i j m place (omega arith) (omega arith) (omega arith) (inr (sym at)) v value in
       subst (λ (k : ℕ). IsMerging n by first times second (with_entry place v) i k) (on _ _ j y second_listed.2)
       (subst (λ (k : ℕ). IsMerging n by first times second (with_entry place v) k (cond (is_zero (first_value (drop j second) place)) j (j + 1))) (stays _ i x) step)
 
   -- both stand at one place
-  pub both_merged : (v : ℤ) → (get_or first i none).place ≡ (get_or second j none).place → v ≡ by *ℤ (get_or first i none).value -ℤ times *ℤ (get_or second j none).value → IsMerging n by first times second (with_entry (get_or first i none).place v) (i + 1) (j + 1)
+  pub both_merged : (v : ℤ) → (get_or first i none).place ≡ (get_or second j none).place →
+      v ≡ by *ℤ (get_or first i none).value -ℤ times *ℤ (get_or second j none).value →
+      IsMerging n by first times second (with_entry (get_or first i none).place v) (i + 1) (j + 1)
   both_merged v same is =
       let place = (get_or first i none).place in
       let x = value_is first i p place refl in
@@ -320,17 +339,13 @@ module _ (n : ℕ) (by : ℤ) (first : List FreeEntry) (times : ℤ) (second out
       subst (λ (k : ℕ). IsMerging n by first times second (with_entry place v) k (j + 1)) (on _ _ i x first_listed.2)
       (subst (λ (k : ℕ). IsMerging n by first times second (with_entry place v) (cond (is_zero (first_value (drop i first) place)) i (i + 1)) k) (on _ _ j y second_listed.2) step)
 
-taken_all : (xs : List FreeEntry) (m : ℕ) → length xs ≤ m → take m xs ≡ xs
-taken_all [] zero h = refl
-taken_all [] (suc m) h = refl
-taken_all (x ∷ xs) zero h = absurd (omega arith)
-taken_all (x ∷ xs) (suc m) h = ap (λ t. x ∷ t) (taken_all xs m (omega arith))
-
 -- the end of a list, as the code takes it
 pub end_is : (xs : List FreeEntry) (k : ℕ) → take (length xs - k) (drop k xs) ≡ drop k xs
-end_is xs k = taken_all (drop k xs) (length xs - k) (let len = length-drop k xs in omega arith)
+end_is xs k = take_all (length xs - k) (drop k xs) (let len = length-drop k xs in omega arith)
 
 -- the combination, as the code appends the ends of the lists
-pub appended : (out one two first second : List FreeEntry) (by times minus : ℤ) (i j : ℕ) → one ≡ out ++ map (scaled by) (take (length first - i) (drop i first)) → two ≡ one ++ map (scaled minus) (take (length second - j) (drop j second)) → minus ≡ neg_ℤ times
+pub appended : (out one two first second : List FreeEntry) (by times minus : ℤ) (i j : ℕ)
+    → one ≡ out ++ map (scaled by) (take (length first - i) (drop i first)) → two ≡ one ++ map (scaled minus) (take (length second - j) (drop j second))
+    → minus ≡ neg_ℤ times
     → two ≡ (out ++ map (scaled by) (drop i first)) ++ map (scaled (neg_ℤ times)) (drop j second)
 appended out one two first second by times minus i j e f g = rw (f, e, g, end_is first i, end_is second j) refl

@@ -3,17 +3,13 @@ use Rattle.std.proofs.Common.{◌≡◌, ℕ, ◌<◌, ◌≤◌, ◌*◌, ◌^�
 use Rattle.std.specs.Prelude.{◌+ℤ◌, ◌*ℤ◌, ◌<ℤ◌, unsigned_abs}
 use Rattle.std.proofs.lemmas.Int.{ints, unsigned_abs-mul}
 use Rattle.std.proofs.Math.Nat.{le-mul_of_pos_right}
-use Rattle.std.proofs.Math.IntN.{*ℤ_comm, zero-*ℤ, +ℤ_idr, suc_ℤ-*ℤ, +ℤ_idl}
+use Rattle.std.proofs.Math.IntN.{*ℤ_comm, zero-*ℤ, +ℤ_idr}
 use Rattle.audit_types.specs.Truth.{number_at}
 use Rattle.audit_types.specs.Form.{pivot, pivot_entry}
 use Rattle.sum_basis.specs.Combination.{combine}
 use Rattle.sum_basis.specs.Elimination.{IsLessMultiple}
-use Rattle.audit_types.specs.Products.{neg-times}
-use Rattle.sum_basis.proofs.Reduction.{number_at-combine}
-
--- once a number is the number
-pub one-times : (x : ℤ) → pos 1 *ℤ x ≡ x
-one-times x = suc_ℤ-*ℤ (pos 0) x ∙ ap (λ z. z +ℤ x) (zero-*ℤ x) ∙ +ℤ_idl x
+use Rattle.sum_basis.specs.CombinedRows.{number_at-combine}
+use Rattle.audit_types.specs.Products.{neg-times, one-times}
 
 -- a factor of a small number is small
 pub factor_small : (x d times : ℤ) → x ≡ d *ℤ times → pos 0 <ℤ d → unsigned_abs x ≤ 2 ^ 56 → unsigned_abs times ≤ 2 ^ 56
@@ -24,7 +20,8 @@ factor_small x (pos n) times e p h =
 factor_small x (negsuc n) times e p h = absurd (omega (arith, ints))
 
 -- the exact quotient is the multiple to take
-pub less_multiple : (other old new : List ℤ) (times : ℤ) → number_at old (pivot other) ≡ pivot_entry other *ℤ times → pos 0 <ℤ pivot_entry other → unsigned_abs (number_at old (pivot other)) ≤ 2 ^ 56
+pub less_multiple : (other old new : List ℤ) (times : ℤ) → number_at old (pivot other) ≡ pivot_entry other *ℤ times → pos 0 <ℤ pivot_entry other
+    → unsigned_abs (number_at old (pivot other)) ≤ 2 ^ 56
     → new ≡ combine (pos 1) old times other → IsLessMultiple other old new
 less_multiple other old new times e p h is = record {
   times = times;

@@ -1,15 +1,15 @@
 -- The form of any sets is narrow or wide, and not both.
-use Rattle.std.proofs.Common.{◌≡◌, ℕ, ◌≤◌, ◌^◌, ℤ, List, [], ◌∷◌, map, length, subst, inl, inr, ◌⊎◌, arith}
+use Rattle.std.proofs.Common.{ℕ, ◌≤◌, ◌^◌, ℤ, List, [], ◌∷◌, map, subst, inl, inr, ◌⊎◌, arith}
 use Rattle.std.specs.Prelude.{unsigned_abs}
 use Rattle.std.specs.List.{AllByRecursion}
 use Rattle.std.proofs.lemmas.Bool.{cases_lt}
 use Rattle.audit_types.specs.Form.{IsReducedForm, IsNarrow, HasNarrowForm, HasWideForm, set_row, pivot_entries}
+use Rattle.audit_types.specs.RowNumbers.{lengths_of_sets}
 use Rattle.sum_basis.specs.Elimination.{IsSmall}
 use Rattle.sum_basis.specs.Laws.{NarrowOrWide}
 use Rattle.sum_basis.proofs.FormsAreUnique.{forms_are_unique, leads_from}
 use Rattle.sum_basis.proofs.EveryRowSpaceHasAForm.{every_row_space_has_a_form}
 use Rattle.sum_basis.proofs.LeastMultiples.{least_exists, least_unique, entries_positive}
-use Rattle.sum_basis.proofs.SetRows.{length-set_row}
 
 module _ {X : Type 0} (P : X → Type 0) (decide : (x : X) → P x ⊎ ¬ (P x)) where
   -- a test that is decided of one item is decided of all
@@ -37,15 +37,10 @@ narrow_or_not n rows form r =
           ]
     ]
 
--- the rows of sets have n entries
-all_long : (n : ℕ) (sets : List (List ℕ)) → AllByRecursion (λ r. length r ≡ n) (map (set_row n) sets)
-all_long n [] = tt
-all_long n (s ∷ sets) = (length-set_row n s, all_long n sets)
-
 -- there is a form, and it is narrow or not
 one_of_them : (n : ℕ) (sets : List (List ℕ)) → HasNarrowForm n sets ⊎ HasWideForm n sets
 one_of_them n sets =
-    let form = every_row_space_has_a_form n (map (set_row n) sets) (all_long n sets) in
+    let form = every_row_space_has_a_form n (map (set_row n) sets) (lengths_of_sets n sets) in
     elim (narrow_or_not n (map (set_row n) sets) form.0 form.1) [
       | inl narrow ↦ inl (record { form = form.0; reduced = form.1; narrow = narrow })
       | inr wide ↦ inr (record { form = form.0; reduced = form.1; wide = wide })

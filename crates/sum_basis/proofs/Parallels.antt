@@ -1,8 +1,8 @@
 -- Lists that are multiples of one another.
-use Rattle.std.proofs.Common.{◌≡◌, ℕ, zero, suc, ◌+◌, ◌<◌, ◌≤◌, ℤ, List, [], ◌∷◌, ◌++◌, length, map, take, get_or, refl, sym, ap, ◌∙◌, subst, arith, inl, inr}
+use Rattle.std.proofs.Common.{◌≡◌, ℕ, ◌+◌, ◌<◌, ◌≤◌, ℤ, List, [], ◌∷◌, ◌++◌, length, map, take, get_or, refl, sym, ap, ◌∙◌, subst, arith, inl, inr}
 use Rattle.std.proofs.lemmas.Int.{ints}
 use Rattle.std.proofs.lemmas.Bool.{cases_order}
-use Rattle.std.proofs.lemmas.List.{take_more, map-append, get_or-map, length-map}
+use Rattle.std.proofs.lemmas.List.{take_more, map-append, get_or-map, length-map, take_all}
 use Rattle.sum_basis.specs.declared.sparse.FreeEntry.{FreeEntry}
 use Rattle.sum_basis.specs.Sparse.{entry_at, IsListed, scaled}
 use Rattle.sum_basis.proofs.SparseRows.{here, zero_below, first_value}
@@ -28,26 +28,25 @@ same_listed from n (x ∷ xs) (y ∷ ys) h k same = elim (cases_order x.place y.
 ]
 
 -- one entry more of two parallel lists
-pub one_more_alike : (by times : ℤ) (xs ys : List FreeEntry) (k : ℕ) (d : FreeEntry) → k < length xs → k < length ys → map (scaled by) (take k xs) ≡ map (scaled times) (take k ys) → scaled by (get_or xs k d) ≡ scaled times (get_or ys k d)
+pub one_more_alike : (by times : ℤ) (xs ys : List FreeEntry) (k : ℕ) (d : FreeEntry) → k < length xs → k < length ys
+    → map (scaled by) (take k xs) ≡ map (scaled times) (take k ys) → scaled by (get_or xs k d) ≡ scaled times (get_or ys k d)
     → map (scaled by) (take (k + 1) xs) ≡ map (scaled times) (take (k + 1) ys)
 one_more_alike by times xs ys k d p q front here =
     ap (map (scaled by)) (take_more xs k d p) ∙ map-append (scaled by) (take k xs) (get_or xs k d ∷ []) ∙ ap (λ l. l ++ scaled by (get_or xs k d) ∷ []) front
-    ∙ ap (λ e. map (scaled times) (take k ys) ++ e ∷ []) here ∙ sym (map-append (scaled times) (take k ys) (get_or ys k d ∷ [])) ∙ sym (ap (map (scaled times)) (take_more ys k d q))
+    ∙ ap (λ e. map (scaled times) (take k ys) ++ e ∷ []) here ∙ sym (map-append (scaled times) (take k ys) (get_or ys k d ∷ []))
+    ∙ sym (ap (map (scaled times)) (take_more ys k d q))
 
 -- entry k of parallel lists
-pub alike_at : (by times : ℤ) (xs ys : List FreeEntry) (k : ℕ) (d : FreeEntry) → k < length xs → k < length ys → map (scaled by) xs ≡ map (scaled times) ys → scaled by (get_or xs k d) ≡ scaled times (get_or ys k d)
-alike_at by times xs ys k d p q same = sym (get_or-map (scaled by) xs k d (scaled by d) p) ∙ ap (λ l. get_or l k (scaled by d)) same ∙ get_or-map (scaled times) ys k d (scaled by d) q
+pub alike_at : (by times : ℤ) (xs ys : List FreeEntry) (k : ℕ) (d : FreeEntry) → k < length xs → k < length ys → map (scaled by) xs ≡ map (scaled times) ys →
+    scaled by (get_or xs k d) ≡ scaled times (get_or ys k d)
+alike_at by times xs ys k d p q same =
+    sym (get_or-map (scaled by) xs k d (scaled by d) p) ∙ ap (λ l. get_or l k (scaled by d)) same ∙ get_or-map (scaled times) ys k d (scaled by d) q
 
 -- parallel lists have one length
 pub same_length : (by times : ℤ) (xs ys : List FreeEntry) → map (scaled by) xs ≡ map (scaled times) ys → length xs ≡ length ys
 same_length by times xs ys same = sym (length-map xs (scaled by)) ∙ ap length same ∙ length-map ys (scaled times)
 
-all_of : (xs : List FreeEntry) (k : ℕ) → length xs ≤ k → take k xs ≡ xs
-all_of [] zero h = refl
-all_of [] (suc k) h = refl
-all_of (x ∷ xs) zero h = absurd (omega arith)
-all_of (x ∷ xs) (suc k) h = ap (λ l. x ∷ l) (all_of xs k (omega arith))
-
 -- in the end all entries are alike
-pub all_alike : (by times : ℤ) (xs ys : List FreeEntry) (k : ℕ) → length xs ≤ k → length ys ≤ k → map (scaled by) (take k xs) ≡ map (scaled times) (take k ys) → map (scaled by) xs ≡ map (scaled times) ys
-all_alike by times xs ys k p q same = sym (ap (map (scaled by)) (all_of xs k p)) ∙ same ∙ ap (map (scaled times)) (all_of ys k q)
+pub all_alike : (by times : ℤ) (xs ys : List FreeEntry) (k : ℕ) → length xs ≤ k → length ys ≤ k → map (scaled by) (take k xs) ≡ map (scaled times) (take k ys) →
+    map (scaled by) xs ≡ map (scaled times) ys
+all_alike by times xs ys k p q same = sym (ap (map (scaled by)) (take_all k xs p)) ∙ same ∙ ap (map (scaled times)) (take_all k ys q)

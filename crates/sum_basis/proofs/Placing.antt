@@ -6,10 +6,10 @@ use Rattle.std.proofs.lemmas.Bool.{ltb-true, ltb-false}
 use Rattle.audit_types.specs.Truth.{number_at}
 use Rattle.audit_types.specs.Form.{IsEchelon, StandsBefore, pivot, pivot_entry}
 use Rattle.audit_types.specs.ListLaws.{all-push}
-use Rattle.sum_basis.proofs.Spans.{ZeroAtPivots}
+use Rattle.audit_types.specs.Numbers.{positive_not_zero}
+use Rattle.sum_basis.specs.Spans.{ZeroAtPivots}
 use Rattle.std.proofs.Common.{◌+◌, take, get_or}
 use Rattle.std.proofs.lemmas.List.{take_more}
-use Rattle.sum_basis.proofs.Clearing.{positive_not_zero}
 
 -- the new row in its place by pivots
 abbrev pub placed : List ℤ → List (List ℤ) → List (List ℤ)
@@ -30,17 +30,20 @@ module _ (P : List ℤ → Type 0) (new : List ℤ) where
   parts_placed [] h = (h.0, tt)
   parts_placed (r ∷ rows) h = go (nat_lt (pivot new) (pivot r)) h (λ k. parts_placed rows k)
     where
-      go : (b : Bool) → AllByRecursion P (cond b (new ∷ r ∷ rows) (r ∷ placed new rows)) → (AllByRecursion P (placed new rows) → P new × AllByRecursion P rows) → P new × AllByRecursion P (r ∷ rows)
+      go : (b : Bool) → AllByRecursion P (cond b (new ∷ r ∷ rows) (r ∷ placed new rows)) →
+          (AllByRecursion P (placed new rows) → P new × AllByRecursion P rows) → P new × AllByRecursion P (r ∷ rows)
       go true k later = (k.0, k.1)
       go false k later = let rest = later k.1 in (rest.0, (k.0, rest.1))
 
 -- a new row with the first pivot stands before all rows
-before_all : (new r : List ℤ) (rows : List (List ℤ)) → pivot new < pivot r → AllByRecursion (StandsBefore r) rows → ZeroAtPivots (number_at new) rows → AllByRecursion (λ q. number_at q (pivot new) ≡ pos 0) rows → AllByRecursion (StandsBefore new) rows
+before_all : (new r : List ℤ) (rows : List (List ℤ)) → pivot new < pivot r → AllByRecursion (StandsBefore r) rows → ZeroAtPivots (number_at new) rows →
+    AllByRecursion (λ q. number_at q (pivot new) ≡ pos 0) rows → AllByRecursion (StandsBefore new) rows
 before_all new r [] lt h z k = tt
 before_all new r (q ∷ rows) lt h z k = let order = h.0.0 in ((omega arith, z.0, k.0), before_all new r rows lt h.1 z.1 k.1)
 
 -- the rows with the new one in its place are in echelon form
-pub placed_echelon : (new : List ℤ) (rows : List (List ℤ)) → IsEchelon rows → AllByRecursion (λ q. pos 0 <ℤ pivot_entry q) rows → ZeroAtPivots (number_at new) rows → AllByRecursion (λ q. number_at q (pivot new) ≡ pos 0) rows → IsEchelon (placed new rows)
+pub placed_echelon : (new : List ℤ) (rows : List (List ℤ)) → IsEchelon rows → AllByRecursion (λ q. pos 0 <ℤ pivot_entry q) rows →
+    ZeroAtPivots (number_at new) rows → AllByRecursion (λ q. number_at q (pivot new) ≡ pos 0) rows → IsEchelon (placed new rows)
 placed_echelon new [] h l z k = (tt, tt)
 placed_echelon new (r ∷ rows) h l z k = go (nat_lt (pivot new) (pivot r)) refl (placed_echelon new rows h.1 l.1 z.1 k.1)
   where
@@ -62,5 +65,7 @@ pub nothing_before : (form : List (List ℤ)) (at_pivot : ℕ) → StandBefore f
 nothing_before form at_pivot = record { before = tt }
 
 -- one row more has a pivot that is not later
-pub one_more_before : (form : List (List ℤ)) (at_pivot k : ℕ) → k < length form → StandBefore form at_pivot k → pivot (get_or form k []) ≤ at_pivot → StandBefore form at_pivot (k + 1)
-one_more_before form at_pivot k h so_far here = record { before = rw (take_more form k [] h) (all-push (λ row. pivot row ≤ at_pivot) (take k form) (get_or form k []) so_far.before here) }
+pub one_more_before : (form : List (List ℤ)) (at_pivot k : ℕ) → k < length form → StandBefore form at_pivot k → pivot (get_or form k []) ≤ at_pivot →
+    StandBefore form at_pivot (k + 1)
+one_more_before form at_pivot k h so_far here =
+    record { before = rw (take_more form k [] h) (all-push (λ row. pivot row ≤ at_pivot) (take k form) (get_or form k []) so_far.before here) }

@@ -1,22 +1,13 @@
 -- How many rows a form has.
-use Rattle.std.proofs.Common.{ℕ, ◌+◌, ◌<◌, ◌≤◌, ℤ, pos, List, [], ◌∷◌, length, arith}
+use Rattle.std.proofs.Common.{ℕ, ◌+◌, ◌≤◌, ℤ, List, [], ◌∷◌, length, arith}
 use Rattle.std.specs.List.{AllByRecursion}
-use Rattle.std.proofs.lemmas.Bool.{cases_lt}
-use Rattle.std.proofs.lemmas.List.{get_or_past}
-use Rattle.std.proofs.Common.{inl, inr}
-use Rattle.audit_types.specs.Form.{IsPrimitive, IsEchelon, StandsBefore, pivot, pivot_entry}
-use Rattle.sum_basis.proofs.Clearing.{positive_not_zero}
-
--- a primitive row's pivot is one of its columns
-pub pivot_within : (n : ℕ) (row : List ℤ) → IsPrimitive n row → pivot row < n
-pivot_within n row p = elim (cases_lt (pivot row) n) [
-  | inl lt ↦ lt
-  | inr le ↦ let all = p.one_each in absurd (positive_not_zero (pivot_entry row) p.leading (get_or_past row (pivot row) (pos 0) (omega arith)))
-]
+use Rattle.audit_types.specs.Form.{IsPrimitive, IsEchelon, StandsBefore, pivot}
+use Rattle.audit_types.specs.FormRows.{pivot_below}
 
 -- from a row on there are at most as many rows as columns from its pivot on
-rows_after : (n : ℕ) (row : List ℤ) (form : List (List ℤ)) → IsPrimitive n row → AllByRecursion (StandsBefore row) form → AllByRecursion (IsPrimitive n) form → IsEchelon form → pivot row + 1 + length form ≤ n
-rows_after n row [] p h q e = let here = pivot_within n row p in omega arith
+rows_after : (n : ℕ) (row : List ℤ) (form : List (List ℤ)) → IsPrimitive n row → AllByRecursion (StandsBefore row) form → AllByRecursion (IsPrimitive n) form →
+    IsEchelon form → pivot row + 1 + length form ≤ n
+rows_after n row [] p h q e = let here = pivot_below n row p in omega arith
 rows_after n row (next ∷ form) p h q e = let order = h.0.0 in let rest = rows_after n next form q.0 e.0 q.1 e.1 in omega arith
 
 -- a form has at most as many rows as columns

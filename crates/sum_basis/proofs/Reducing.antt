@@ -37,7 +37,8 @@ combined_front (c ∷ cs) [] j h = refl
 combined_front (c ∷ cs) (row ∷ rows) j h = let first = ap (λ z. c *ℤ z) h.0 ∙ *ℤ-zero c in let rest = combined_front cs rows j h.1 in omega (arith, ints)
 
 -- a combination with one row more
-combined_push : (cs : List ℤ) (rows : List (List ℤ)) (c : ℤ) (j : ℕ) → length cs < length rows → combined (cs ++ c ∷ []) rows j ≡ combined cs rows j +ℤ c *ℤ number_at (get_or rows (length cs) []) j
+combined_push : (cs : List ℤ) (rows : List (List ℤ)) (c : ℤ) (j : ℕ) → length cs < length rows →
+    combined (cs ++ c ∷ []) rows j ≡ combined cs rows j +ℤ c *ℤ number_at (get_or rows (length cs) []) j
 combined_push [] [] c j h = absurd (omega arith)
 combined_push [] (row ∷ rows) c j h = omega (arith, ints)
 combined_push (d ∷ cs) [] c j h = absurd (omega arith)
@@ -50,12 +51,14 @@ stand_before (row ∷ form) zero h e = tt
 stand_before (row ∷ form) (suc k) h e = (All-from_recursion (StandsBefore row) form e.0 k [] (omega arith), stand_before form k (omega arith) e.1)
 
 -- rows are 0 at the pivots of later rows
-zero_at_later : (rows : List (List ℤ)) (later : List ℤ) → AllByRecursion (λ r. StandsBefore r later) rows → AllByRecursion (λ r. number_at r (pivot later) ≡ pos 0) rows
+zero_at_later : (rows : List (List ℤ)) (later : List ℤ) → AllByRecursion (λ r. StandsBefore r later) rows →
+    AllByRecursion (λ r. number_at r (pivot later) ≡ pos 0) rows
 zero_at_later [] later h = tt
 zero_at_later (r ∷ rows) later h = (h.0.1, zero_at_later rows later h.1)
 
 -- up to row k the row is as it was at that row's pivot
-pub as_it_was : (n : ℕ) (form : List (List ℤ)) (old new : List ℤ) (k : ℕ) → k < length form → IsEchelon form → IsPartRemainder form old new k → number_at new (pivot (get_or form k [])) ≡ number_at old (pivot (get_or form k []))
+pub as_it_was : (n : ℕ) (form : List (List ℤ)) (old new : List ℤ) (k : ℕ) → k < length form → IsEchelon form → IsPartRemainder form old new k →
+    number_at new (pivot (get_or form k [])) ≡ number_at old (pivot (get_or form k []))
 as_it_was n form old new k h e part =
     let row = get_or form k [] in
     let none = combined_front part.coefficients form (pivot row) (subst (λ m. AllByRecursion (λ r. number_at r (pivot row) ≡ pos 0) (take m form)) (sym part.count) (zero_at_later (take k form) row (stand_before form k h e))) in
@@ -63,7 +66,8 @@ as_it_was n form old new k h e part =
     omega (arith, ints)
 
 -- a multiple of a later row changes nothing at the pivots before it
-stay_zero : (rows : List (List ℤ)) (other old new : List ℤ) (times : ℤ) → ((j : ℕ) → number_at old j ≡ number_at new j +ℤ times *ℤ number_at other j) → AllByRecursion (λ r. StandsBefore r other) rows → IsZeroAtPivots rows old → IsZeroAtPivots rows new
+stay_zero : (rows : List (List ℤ)) (other old new : List ℤ) (times : ℤ) → ((j : ℕ) → number_at old j ≡ number_at new j +ℤ times *ℤ number_at other j) →
+    AllByRecursion (λ r. StandsBefore r other) rows → IsZeroAtPivots rows old → IsZeroAtPivots rows new
 stay_zero [] other old new times is h z = tt
 stay_zero (r ∷ rows) other old new times is h z =
     let here = is (pivot r) in
@@ -72,7 +76,8 @@ stay_zero (r ∷ rows) other old new times is h z =
     (omega (arith, ints), stay_zero rows other old new times is h.1 z.1)
 
 -- one multiple more is taken
-pub one_more_taken : (form : List (List ℤ)) (old new next : List ℤ) (k : ℕ) → k < length form → IsEchelon form → IsSmall (get_or form k []) → IsPartRemainder form old new k → IsLessMultiple (get_or form k []) new next → IsPartRemainder form old next (k + 1)
+pub one_more_taken : (form : List (List ℤ)) (old new next : List ℤ) (k : ℕ) → k < length form → IsEchelon form → IsSmall (get_or form k []) →
+    IsPartRemainder form old new k → IsLessMultiple (get_or form k []) new next → IsPartRemainder form old next (k + 1)
 one_more_taken form old new next k h e s part less = record {
   coefficients = part.coefficients ++ less.times ∷ [];
   count = length-append part.coefficients (less.times ∷ []) ∙ let count = part.count in omega arith;

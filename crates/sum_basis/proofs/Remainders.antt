@@ -6,13 +6,11 @@ use Rattle.std.proofs.lemmas.Int.{ints}
 use Rattle.std.proofs.lemmas.Bool.{and_from}
 use Rattle.audit_types.specs.Truth.{number_at, is_zero}
 use Rattle.audit_types.specs.Form.{combined, InSpan, IsPrimitive, IsEchelon, pivot, pivot_entry}
-use Rattle.audit_types.specs.PrimitiveLines.{number_at-times}
-use Rattle.sum_basis.specs.Combination.{times}
+use Rattle.audit_types.specs.PrimitiveLines.{number_at-times, times}
 use Rattle.sum_basis.specs.Elimination.{IsRemainder}
-use Rattle.audit_types.specs.Products.{neg-times}
-use Rattle.sum_basis.proofs.Spans.{spans_from, in_span_from, spans_same, spans_times, spans_add, spans_down, spans_combined, span_zero}
+use Rattle.audit_types.specs.Products.{neg-times, one-times}
+use Rattle.sum_basis.specs.Spans.{spans_from, in_span_from, spans_same, spans_times, spans_add, spans_down, spans_combined, span_zero}
 use Rattle.sum_basis.proofs.FormsAreUnique.{own}
-use Rattle.sum_basis.proofs.Multiples.{one-times}
 
 module _ (form : List (List ℤ)) (v left : List ℤ) (m : ℕ) (above : 0 < m) (r : IsRemainder form (times (pos m) v) left) where
   -- the row of the set, a multiple of it taken apart

@@ -5,7 +5,6 @@ use Rattle.std.specs.Int.{◌∣◌}
 use Rattle.std.specs.List.{AllByRecursion}
 use Rattle.std.proofs.Common.{map, get_or, length-set}
 use Rattle.std.proofs.lemmas.List.{get_or-map, get_or-set_same, get_or-set_other, length-map, get_or_past}
-use Rattle.std.proofs.lemmas.List.FromFn.{get_or-map-range_with_len, length-map-range_with_len}
 use Rattle.std.proofs.lemmas.Bool.{cases_eq, cases_lt}
 use Rattle.std.proofs.lemmas.Int.{unsigned_abs-mul}
 use Rattle.std.proofs.Math.Nat.{dvd-mul_right_of_dvd}
@@ -13,25 +12,17 @@ use Rattle.std.proofs.Math.IntN.{*ℤ-zero}
 use Rattle.audit_types.specs.Rows.{has_row}
 use Rattle.audit_types.specs.Truth.{number_at}
 use Rattle.audit_types.specs.Form.{set_row, pivot, pivot_entry, pivot_entries}
-use Rattle.sum_basis.specs.Combination.{times}
 use Rattle.sum_basis.specs.Elimination.{IsSmall}
-use Rattle.audit_types.specs.PrimitiveLines.{same_rows, number_at-times}
-use Rattle.sum_basis.proofs.Sizes.{all_by_place}
-
--- the row of a set has 1 at its rows and 0 elsewhere
-pub number_at-set_row : (n : ℕ) (rows : List ℕ) (j : ℕ) → j < n → number_at (set_row n rows) j ≡ cond (has_row rows j) (pos 1) (pos 0)
-number_at-set_row n rows j h = get_or-map-range_with_len (λ r. cond (has_row rows r) (pos 1) (pos 0)) 0 n j j (pos 0) h (omega arith)
-
--- it has n entries
-pub length-set_row : (n : ℕ) (rows : List ℕ) → length (set_row n rows) ≡ n
-length-set_row n rows = length-map-range_with_len (λ r. cond (has_row rows r) (pos 1) (pos 0)) 0 n
+use Rattle.audit_types.specs.PrimitiveLines.{same_rows, number_at-times, times}
+use Rattle.audit_types.specs.RowNumbers.{number_at-set_row, length-set_row, all_by_number}
 
 -- the entries below j are written
 pub record IsPartlyWritten (n : ℕ) (rows : List ℕ) (row : List ℤ) (j : ℕ) : Type 0 where
   pub done : (k : ℕ) → k < j → number_at row k ≡ cond (has_row rows k) (pos 1) (pos 0)
 
 -- one entry more is written
-pub one_more_written : (n : ℕ) (rows : List ℕ) (row : List ℤ) (j : ℕ) (v : ℤ) → j < length row → IsPartlyWritten n rows row j → v ≡ cond (has_row rows j) (pos 1) (pos 0) → IsPartlyWritten n rows (set row j v) (j + 1)
+pub one_more_written : (n : ℕ) (rows : List ℕ) (row : List ℤ) (j : ℕ) (v : ℤ) → j < length row → IsPartlyWritten n rows row j →
+    v ≡ cond (has_row rows j) (pos 1) (pos 0) → IsPartlyWritten n rows (set row j v) (j + 1)
 one_more_written n rows row j v inside so_far is = record {
   done = λ k h. elim (cases_eq k j) [
     | inl e ↦ rw e (get_or-set_same row j v (pos 0) inside ∙ is)
@@ -55,7 +46,8 @@ pub record IsPartlyMultiplied (old row : List ℤ) (multiple : ℤ) (j : ℕ) : 
   pub left : (k : ℕ) → j ≤ k → number_at row k ≡ number_at old k
 
 -- one entry more is multiplied
-pub one_more_multiplied : (old row : List ℤ) (multiple : ℤ) (j : ℕ) (v : ℤ) → j < length row → IsPartlyMultiplied old row multiple j → v ≡ multiple *ℤ number_at row j → IsPartlyMultiplied old (set row j v) multiple (j + 1)
+pub one_more_multiplied : (old row : List ℤ) (multiple : ℤ) (j : ℕ) (v : ℤ) → j < length row → IsPartlyMultiplied old row multiple j →
+    v ≡ multiple *ℤ number_at row j → IsPartlyMultiplied old (set row j v) multiple (j + 1)
 one_more_multiplied old row multiple j v inside so_far is = record {
   done = λ k h. elim (cases_eq k j) [
     | inl e ↦ rw e (get_or-set_same row j v (pos 0) inside ∙ is ∙ ap (λ z. multiple *ℤ z) (so_far.left j (omega arith)))
@@ -65,13 +57,15 @@ one_more_multiplied old row multiple j v inside so_far is = record {
 }
 
 -- when all are, the row is the multiple
-pub all_multiplied : (old row : List ℤ) (multiple : ℤ) (j : ℕ) → length row ≡ length old → length old ≤ j → IsPartlyMultiplied old row multiple j → row ≡ times multiple old
+pub all_multiplied : (old row : List ℤ) (multiple : ℤ) (j : ℕ) → length row ≡ length old → length old ≤ j → IsPartlyMultiplied old row multiple j →
+    row ≡ times multiple old
 all_multiplied old row multiple j l past so_far = same_rows row (times multiple old) (l ∙ sym (length-map old (λ x. multiple *ℤ x))) entry
   where
     entry : (k : ℕ) → number_at row k ≡ number_at (times multiple old) k
     entry k = elim (cases_lt k (length old)) [
       | inl lt ↦ so_far.done k (omega arith) ∙ sym (number_at-times multiple old k)
-      | inr le ↦ get_or_past row k (pos 0) (omega arith) ∙ sym (number_at-times multiple old k ∙ ap (λ z. multiple *ℤ z) (get_or_past old k (pos 0) le) ∙ *ℤ-zero multiple)
+      | inr le ↦ get_or_past row k (pos 0) (omega arith)
+          ∙ sym (number_at-times multiple old k ∙ ap (λ z. multiple *ℤ z) (get_or_past old k (pos 0) le) ∙ *ℤ-zero multiple)
     ]
 
 -- a product with 0 or 1 is no greater than the factor
@@ -81,8 +75,9 @@ product_at_most m (suc zero) limit p q = omega arith
 product_at_most m (suc (suc b)) limit p q = absurd (omega arith)
 
 -- a small multiple of a row of zeros and ones has small entries
-pub multiple_small : (row : List ℤ) (multiple : ℤ) → ((j : ℕ) → unsigned_abs (number_at row j) ≤ 1) → unsigned_abs multiple ≤ 2 ^ 56 → IsSmall (times multiple row)
-multiple_small row multiple bits h = all_by_place (λ x. unsigned_abs x ≤ 2 ^ 56) (times multiple row)
+pub multiple_small : (row : List ℤ) (multiple : ℤ) → ((j : ℕ) → unsigned_abs (number_at row j) ≤ 1) → unsigned_abs multiple ≤ 2 ^ 56 →
+    IsSmall (times multiple row)
+multiple_small row multiple bits h = all_by_number (λ x. unsigned_abs x ≤ 2 ^ 56) (times multiple row)
     (λ j. rw (number_at-times multiple row j, unsigned_abs-mul multiple (number_at row j)) (product_at_most (unsigned_abs multiple) (unsigned_abs (number_at row j)) (2 ^ 56) h (bits j)))
 
 -- its entries are at most 1
@@ -97,7 +92,8 @@ bit_small n rows j = elim (cases_lt j n) [
     bit false = omega arith
 
 -- the pivot entries divide a multiple of their common multiple
-pub entries_divide : (form : List (List ℤ)) (v : List ℤ) (multiple : ℤ) → AllByRecursion (λ x. x ∣ unsigned_abs multiple) (pivot_entries form) → AllByRecursion (λ r. unsigned_abs (pivot_entry r) ∣ unsigned_abs (number_at (times multiple v) (pivot r))) form
+pub entries_divide : (form : List (List ℤ)) (v : List ℤ) (multiple : ℤ) → AllByRecursion (λ x. x ∣ unsigned_abs multiple) (pivot_entries form) →
+    AllByRecursion (λ r. unsigned_abs (pivot_entry r) ∣ unsigned_abs (number_at (times multiple v) (pivot r))) form
 entries_divide [] v multiple h = tt
 entries_divide (row ∷ form) v multiple h = (
   rw (number_at-times multiple v (pivot row), unsigned_abs-mul multiple (number_at v (pivot row))) (dvd-mul_right_of_dvd (unsigned_abs (pivot_entry row)) h.0 (unsigned_abs (number_at v (pivot row)))),
@@ -114,7 +110,8 @@ pub record ArePartlyWritten (bits : List ℕ) (row : List ℤ) (j : ℕ) : Type 
   pub done : (k : ℕ) → k < j → number_at row k ≡ number_at (map pos bits) k
 
 -- one bit more is written
-pub one_more_bit : (bits : List ℕ) (row : List ℤ) (j : ℕ) (v : ℤ) → j < length row → ArePartlyWritten bits row j → v ≡ pos (get_or bits j 0) → ArePartlyWritten bits (set row j v) (j + 1)
+pub one_more_bit : (bits : List ℕ) (row : List ℤ) (j : ℕ) (v : ℤ) → j < length row → ArePartlyWritten bits row j → v ≡ pos (get_or bits j 0) →
+    ArePartlyWritten bits (set row j v) (j + 1)
 one_more_bit bits row j v inside part is = record {
   same_length = length-set row j v ∙ part.same_length;
   done = λ k h. elim (cases_eq k j) [
@@ -127,7 +124,8 @@ one_more_bit bits row j v inside part is = record {
 pub all_bits : (bits : List ℕ) (row : List ℤ) (j : ℕ) → length row ≤ j → ArePartlyWritten bits row j → row ≡ map pos bits
 all_bits bits row j past part = same_rows row (map pos bits) (part.same_length ∙ sym (length-map bits (λ (b : ℕ). pos b))) (λ k. elim (cases_lt k j) [
   | inl lt ↦ part.done k lt
-  | inr le ↦ get_or_past row k (pos 0) (omega arith) ∙ sym (get_or_past (map pos bits) k (pos 0) (let all = length-map bits (λ (b : ℕ). pos b) in let same = part.same_length in omega arith))
+  | inr le ↦ get_or_past row k (pos 0) (omega arith)
+      ∙ sym (get_or_past (map pos bits) k (pos 0) (let all = length-map bits (λ (b : ℕ). pos b) in let same = part.same_length in omega arith))
 ])
 
 -- bits are at most 1

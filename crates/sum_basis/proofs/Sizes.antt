@@ -7,8 +7,8 @@ use Rattle.std.proofs.Math.Nat.{mul-le-mul}
 use Rattle.audit_types.specs.Truth.{number_at}
 use Rattle.sum_basis.specs.Combination.{combine}
 use Rattle.sum_basis.specs.Elimination.{IsSmall}
+use Rattle.sum_basis.specs.CombinedRows.{number_at-combine}
 use Rattle.audit_types.specs.Products.{neg-times}
-use Rattle.sum_basis.proofs.Reduction.{number_at-combine}
 
 -- each number of a row of small entries, and 0 past its end
 pub small_at : (row : List ℤ) (j : ℕ) → IsSmall row → unsigned_abs (number_at row j) ≤ 2 ^ 56
@@ -16,17 +16,13 @@ small_at [] j h = omega arith
 small_at (x ∷ row) zero h = h.0
 small_at (x ∷ row) (suc j) h = small_at row j h.1
 
--- what holds of the number at each place holds of each entry
-pub all_by_place : (P : ℤ → Type 0) (row : List ℤ) → ((j : ℕ) → P (number_at row j)) → AllByRecursion P row
-all_by_place P [] h = tt
-all_by_place P (x ∷ row) h = (h 0, all_by_place P row (λ j. h (suc j)))
-
 -- products of small numbers
 pub product_small : (x y : ℤ) → unsigned_abs x ≤ 2 ^ 56 → unsigned_abs y ≤ 2 ^ 56 → unsigned_abs (x *ℤ y) ≤ 2 ^ 112
 product_small x y p q = rw (unsigned_abs-mul x y) (mul-le-mul {n₂ = 2 ^ 56} {m₂ = 2 ^ 56} p q)
 
 -- the numbers of a combination
-pub combined_at : (x : ℤ) (f : List ℤ) (y : ℤ) (g : List ℤ) (j bound : ℕ) → unsigned_abs (x *ℤ number_at f j) ≤ bound → unsigned_abs y ≤ 2 ^ 56 → IsSmall g → unsigned_abs (number_at (combine x f y g) j) ≤ bound + 2 ^ 112
+pub combined_at : (x : ℤ) (f : List ℤ) (y : ℤ) (g : List ℤ) (j bound : ℕ) → unsigned_abs (x *ℤ number_at f j) ≤ bound → unsigned_abs y ≤ 2 ^ 56 → IsSmall g →
+    unsigned_abs (number_at (combine x f y g) j) ≤ bound + 2 ^ 112
 combined_at x f y g j bound p q s =
     let is = number_at-combine x f y g j in
     let turned = neg-times y (number_at g j) in

@@ -11,9 +11,9 @@ use Rattle.sum_basis.specs.declared.sparse.SparseRow.{SparseRow}
 use Rattle.sum_basis.specs.Combination.{combine}
 use Rattle.sum_basis.specs.Elimination.{IsLessMultiple}
 use Rattle.sum_basis.specs.Sparse.{entry_at, row_of, IsListed, entries_of, IsKept}
-use Rattle.audit_types.specs.Products.{times-add, neg-times}
-use Rattle.sum_basis.proofs.Multiples.{one-times, factor_small, no_multiple}
-use Rattle.sum_basis.proofs.Reduction.{number_at-combine}
+use Rattle.sum_basis.specs.CombinedRows.{number_at-combine}
+use Rattle.audit_types.specs.Products.{times-add, neg-times, one-times}
+use Rattle.sum_basis.proofs.Multiples.{factor_small, no_multiple}
 use Rattle.sum_basis.proofs.SparseRows.{here, elsewhere, zero_below, number_at-row_of, pivot-row_of}
 
 -- the entries after the pivot are listed
@@ -25,7 +25,8 @@ pub kept_pivot : (n : ℕ) (r : SparseRow) → IsKept n r → pivot (row_of n (e
 kept_pivot n r k = pivot-row_of 0 n (record { place = r.pivot; value = r.head }) r.free.items k.listed
 
 -- the exact quotient is the multiple to take
-pub less_by_entries : (n : ℕ) (r : SparseRow) (old new : List ℤ) (times : ℤ) → IsKept n r → length old ≡ n → number_at old r.pivot ≡ r.head *ℤ times → unsigned_abs (number_at old r.pivot) ≤ 2 ^ 56
+pub less_by_entries : (n : ℕ) (r : SparseRow) (old new : List ℤ) (times : ℤ) → IsKept n r → length old ≡ n → number_at old r.pivot ≡ r.head *ℤ times
+    → unsigned_abs (number_at old r.pivot) ≤ 2 ^ 56
     → new ≡ combine (pos 1) (set old r.pivot (pos 0)) times (row_of n r.free.items) → IsLessMultiple (row_of n (entries_of r)) old new
 less_by_entries n r old new times k l e small is = record {
   times = times;

@@ -4,7 +4,7 @@ use Rattle.std.specs.Prelude.{◌+ℤ◌, ◌-ℤ◌, ◌*ℤ◌, unsigned_abs}
 use Rattle.std.specs.List.{AllByRecursion}
 use Rattle.std.proofs.lemmas.Int.{ints}
 use Rattle.std.proofs.lemmas.Bool.{cases_eq, cases_lt, eq-eqb, ne_eqb}
-use Rattle.std.proofs.lemmas.List.{get_or_past, get_or-set_same, get_or-set_other, take_more}
+use Rattle.std.proofs.lemmas.List.{get_or_past, get_or-set_same, get_or-set_other, take_more, take_all}
 use Rattle.std.proofs.lemmas.List.FromFn.{get_or-map-range_with_len, length-map-range_with_len}
 use Rattle.std.proofs.Math.IntN.{+ℤ_idl, *ℤ-zero}
 use Rattle.audit_types.specs.Truth.{number_at}
@@ -14,13 +14,13 @@ use Rattle.sum_basis.specs.Combination.{combine}
 use Rattle.sum_basis.specs.Elimination.{IsSmall}
 use Rattle.sum_basis.specs.Sparse.{entry_at, row_of, IsListed}
 use Rattle.sum_basis.specs.Merging.{first_value as first_value_at}
+use Rattle.sum_basis.specs.CombinedRows.{number_at-combine, length-combine}
 use Rattle.std.specs.List.Sorted.{IsNonDecreasingBy}
-use Rattle.audit_types.specs.Products.{times-add, neg-times}
-use Rattle.sum_basis.proofs.Multiples.{one-times}
+use Rattle.audit_types.specs.Products.{times-add, neg-times, one-times}
 use Rattle.sum_basis.proofs.FormsAreUnique.{pivot_is}
-use Rattle.sum_basis.proofs.Sizes.{all_by_place, small_at}
-use Rattle.sum_basis.proofs.Reduction.{number_at-combine, length-combine}
+use Rattle.sum_basis.proofs.Sizes.{small_at}
 use Rattle.audit_types.specs.PrimitiveLines.{same_rows}
+use Rattle.audit_types.specs.RowNumbers.{all_by_number}
 
 -- what an entry has at its own place
 pub here : (e : FreeEntry) (j : ℕ) → e.place ≡ j → cond (nat_eq e.place j) e.value (pos 0) ≡ e.value
@@ -85,7 +85,8 @@ pivot-row_of from n e es h =
 
 -- and the first value its pivot entry
 pub pivot_entry-row_of : (from n : ℕ) (e : FreeEntry) (es : List FreeEntry) → IsListed from n (e ∷ es) → pivot_entry (row_of n (e ∷ es)) ≡ e.value
-pivot_entry-row_of from n e es h = ap (number_at (row_of n (e ∷ es))) (pivot-row_of from n e es h) ∙ number_at-row_of from n (e ∷ es) h e.place ∙ first_value from n e es h
+pivot_entry-row_of from n e es h =
+    ap (number_at (row_of n (e ∷ es))) (pivot-row_of from n e es h) ∙ number_at-row_of from n (e ∷ es) h e.place ∙ first_value from n e es h
 
 -- there are no more entries than columns
 pub listed_length : (from n : ℕ) (es : List FreeEntry) → from ≤ n → IsListed from n es → length es + from ≤ n
@@ -103,9 +104,11 @@ listed_to from m n [] l h = tt
 listed_to from m n (e ∷ es) l h = let at = h.1 in (h.0, omega arith, h.2, listed_to (e.place + 1) m n es l h.3)
 
 -- one entry more, at a later place
-pub listed_push : (from m n : ℕ) (es : List FreeEntry) (e : FreeEntry) → from ≤ m → IsListed from m es → m ≤ e.place → e.place < n → e.value ≢ pos 0 → IsListed from n (es ++ e ∷ [])
+pub listed_push : (from m n : ℕ) (es : List FreeEntry) (e : FreeEntry) → from ≤ m → IsListed from m es → m ≤ e.place → e.place < n → e.value ≢ pos 0 →
+    IsListed from n (es ++ e ∷ [])
 listed_push from m n [] e l h at inside some = (omega arith, inside, some, tt)
-listed_push from m n (x ∷ es) e l h at inside some = let last = h.1 in (h.0, omega arith, h.2, listed_push (x.place + 1) m n es e (omega arith) h.3 at inside some)
+listed_push from m n (x ∷ es) e l h at inside some =
+    let last = h.1 in (h.0, omega arith, h.2, listed_push (x.place + 1) m n es e (omega arith) h.3 at inside some)
 
 -- where entry k stands
 pub record StandsWithin (from n : ℕ) (e : FreeEntry) : Type 0 where
@@ -122,7 +125,8 @@ stands_within from n (e ∷ es) (suc k) d h l =
     record { after = omega arith; inside = rest.inside; some = rest.some }
 
 -- the entries before entry k have nothing at its place
-pub front_zero : (from n : ℕ) (es : List FreeEntry) (k : ℕ) (d : FreeEntry) → IsListed from n es → k < length es → entry_at (take k es) (get_or es k d).place ≡ pos 0
+pub front_zero : (from n : ℕ) (es : List FreeEntry) (k : ℕ) (d : FreeEntry) → IsListed from n es → k < length es →
+    entry_at (take k es) (get_or es k d).place ≡ pos 0
 front_zero from n [] k d h l = absurd (omega arith)
 front_zero from n (e ∷ es) zero d h l = refl
 front_zero from n (e ∷ es) (suc k) d h l =
@@ -132,7 +136,8 @@ front_zero from n (e ∷ es) (suc k) d h l =
     omega (arith, ints)
 
 -- what the first k + 1 entries have
-pub take_entry : (es : List FreeEntry) (k : ℕ) (d : FreeEntry) (j : ℕ) → k < length es → entry_at (take (k + 1) es) j ≡ entry_at (take k es) j +ℤ cond (nat_eq (get_or es k d).place j) (get_or es k d).value (pos 0)
+pub take_entry : (es : List FreeEntry) (k : ℕ) (d : FreeEntry) (j : ℕ) → k < length es →
+    entry_at (take (k + 1) es) j ≡ entry_at (take k es) j +ℤ cond (nat_eq (get_or es k d).place j) (get_or es k d).value (pos 0)
 take_entry es k d j h =
     let split = ap (λ l. entry_at l j) (take_more es k d h) ∙ entry_at-append (take k es) (get_or es k d ∷ []) j in
     omega (arith, ints)
@@ -146,14 +151,16 @@ pub none_taken : (old : List ℤ) (times : ℤ) (es : List FreeEntry) → IsPart
 none_taken old times es = record { taken = λ j. let none = *ℤ-zero times in omega (arith, ints) }
 
 -- up to entry k the row is as it was at that entry's place
-pub not_yet_taken : (old row : List ℤ) (times : ℤ) (n : ℕ) (es : List FreeEntry) (k : ℕ) (d : FreeEntry) → IsListed 0 n es → k < length es → IsPartlyTaken old row times es k → number_at row (get_or es k d).place ≡ number_at old (get_or es k d).place
+pub not_yet_taken : (old row : List ℤ) (times : ℤ) (n : ℕ) (es : List FreeEntry) (k : ℕ) (d : FreeEntry) → IsListed 0 n es → k < length es →
+    IsPartlyTaken old row times es k → number_at row (get_or es k d).place ≡ number_at old (get_or es k d).place
 not_yet_taken old row times n es k d h l part =
     let is = part.taken (get_or es k d).place in
     let none = ap (λ z. times *ℤ z) (front_zero 0 n es k d h l) ∙ *ℤ-zero times in
     omega (arith, ints)
 
 -- one entry more is taken
-pub one_entry_taken : (old row : List ℤ) (times : ℤ) (es : List FreeEntry) (k : ℕ) (d : FreeEntry) (v : ℤ) → k < length es → (get_or es k d).place < length row → IsPartlyTaken old row times es k
+pub one_entry_taken : (old row : List ℤ) (times : ℤ) (es : List FreeEntry) (k : ℕ) (d : FreeEntry) (v : ℤ) → k < length es → (get_or es k d).place < length row
+    → IsPartlyTaken old row times es k
     → v ≡ number_at row (get_or es k d).place -ℤ times *ℤ (get_or es k d).value → IsPartlyTaken old (set row (get_or es k d).place v) times es (k + 1)
 one_entry_taken old row times es k d v h inside part is = record { taken = λ j. at j }
   where
@@ -177,22 +184,18 @@ one_entry_taken old row times es k d v h inside part is = record { taken = λ j.
         ]
 
 -- when all are, the row is less the multiple
-pub all_entries_taken : (old row : List ℤ) (times : ℤ) (es : List FreeEntry) (k : ℕ) → length row ≡ length old → IsListed 0 (length old) es → length es ≤ k → IsPartlyTaken old row times es k → row ≡ combine (pos 1) old times (row_of (length old) es)
-all_entries_taken old row times es k same h past part = same_rows row (combine (pos 1) old times whole) (same ∙ sym (length-combine (length old) (pos 1) old times whole refl (length-row_of (length old) es))) at
+pub all_entries_taken : (old row : List ℤ) (times : ℤ) (es : List FreeEntry) (k : ℕ) → length row ≡ length old → IsListed 0 (length old) es → length es ≤ k →
+    IsPartlyTaken old row times es k → row ≡ combine (pos 1) old times (row_of (length old) es)
+all_entries_taken old row times es k same h past part =
+    same_rows row (combine (pos 1) old times whole) (same ∙ sym (length-combine (length old) (pos 1) old times whole refl (length-row_of (length old) es))) at
   where
     whole : List ℤ
     whole = row_of (length old) es
 
-    all_of : (xs : List FreeEntry) (m : ℕ) → length xs ≤ m → take m xs ≡ xs
-    all_of [] zero l = refl
-    all_of [] (suc m) l = refl
-    all_of (x ∷ xs) zero l = absurd (omega arith)
-    all_of (x ∷ xs) (suc m) l = ap (λ t. x ∷ t) (all_of xs m (omega arith))
-
     at : (j : ℕ) → number_at row j ≡ number_at (combine (pos 1) old times whole) j
     at j =
         let taken = part.taken j in
-        let list = ap (λ l. times *ℤ entry_at l j) (all_of es k past) in
+        let list = ap (λ l. times *ℤ entry_at l j) (take_all k es past) in
         let is = number_at-combine (pos 1) old times whole j in
         let other = ap (λ z. times *ℤ z) (number_at-row_of 0 (length old) es h j) in
         let once = one-times (number_at old j) in
@@ -201,9 +204,10 @@ all_entries_taken old row times es k same h past part = same_rows row (combine (
 
 -- small values make a small row
 pub small_row : (n : ℕ) (es : List FreeEntry) → IsListed 0 n es → AllByRecursion (λ e. unsigned_abs e.value ≤ 2 ^ 56) es → IsSmall (row_of n es)
-small_row n es h small = all_by_place (λ x. unsigned_abs x ≤ 2 ^ 56) (row_of n es) (λ j. rw (number_at-row_of 0 n es h j) (at 0 es j h small))
+small_row n es h small = all_by_number (λ x. unsigned_abs x ≤ 2 ^ 56) (row_of n es) (λ j. rw (number_at-row_of 0 n es h j) (at 0 es j h small))
   where
-    at : (from : ℕ) (xs : List FreeEntry) (j : ℕ) → IsListed from n xs → AllByRecursion (λ e. unsigned_abs e.value ≤ 2 ^ 56) xs → unsigned_abs (entry_at xs j) ≤ 2 ^ 56
+    at : (from : ℕ) (xs : List FreeEntry) (j : ℕ) → IsListed from n xs → AllByRecursion (λ e. unsigned_abs e.value ≤ 2 ^ 56) xs →
+        unsigned_abs (entry_at xs j) ≤ 2 ^ 56
     at from [] j l all = omega arith
     at from (e ∷ xs) j l all = elim (cases_eq e.place j) [
       | inl same ↦
@@ -221,7 +225,8 @@ small_row n es h small = all_by_place (λ x. unsigned_abs x ≤ 2 ^ 56) (row_of 
 pub small_values : (n : ℕ) (es : List FreeEntry) → IsListed 0 n es → IsSmall (row_of n es) → AllByRecursion (λ e. unsigned_abs e.value ≤ 2 ^ 56) es
 small_values n es h small = go 0 es h (λ j. subst (λ z. unsigned_abs z ≤ 2 ^ 56) (number_at-row_of 0 n es h j) (small_at (row_of n es) j small))
   where
-    go : (from : ℕ) (xs : List FreeEntry) → IsListed from n xs → ((j : ℕ) → unsigned_abs (entry_at xs j) ≤ 2 ^ 56) → AllByRecursion (λ e. unsigned_abs e.value ≤ 2 ^ 56) xs
+    go : (from : ℕ) (xs : List FreeEntry) → IsListed from n xs → ((j : ℕ) → unsigned_abs (entry_at xs j) ≤ 2 ^ 56) →
+        AllByRecursion (λ e. unsigned_abs e.value ≤ 2 ^ 56) xs
     go from [] l all = tt
     go from (e ∷ xs) l all = (
       subst (λ z. unsigned_abs z ≤ 2 ^ 56) (first_value from n e xs l) (all e.place),
@@ -249,7 +254,8 @@ places_rise from n (e ∷ es) h (suc i) zero d p q = absurd (omega arith)
 places_rise from n (e ∷ es) h (suc i) (suc j) d p q = places_rise (e.place + 1) n es h.3 i j d (omega arith) (omega arith)
 
 -- what a list has at a column, by the first entry that stands no sooner
-pub value_from_there : (from n : ℕ) (es : List FreeEntry) (k column : ℕ) → IsListed from n es → ((i : ℕ) (d : FreeEntry) → i < k → i < length es → (get_or es i d).place < column) → ((d : FreeEntry) → k < length es → column ≤ (get_or es k d).place)
+pub value_from_there : (from n : ℕ) (es : List FreeEntry) (k column : ℕ) → IsListed from n es
+    → ((i : ℕ) (d : FreeEntry) → i < k → i < length es → (get_or es i d).place < column) → ((d : FreeEntry) → k < length es → column ≤ (get_or es k d).place)
     → first_value_at (drop k es) column ≡ entry_at es column
 value_from_there from n [] zero column h before after = refl
 value_from_there from n [] (suc k) column h before after = refl

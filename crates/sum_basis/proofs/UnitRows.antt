@@ -6,8 +6,8 @@ use Rattle.std.proofs.Math.Seq.{take-length}
 use Rattle.std.proofs.lemmas.Bool.{cases_lt, cases_order}
 use Rattle.audit_types.specs.Truth.{number_at}
 use Rattle.audit_types.specs.Form.{pivot}
+use Rattle.audit_types.specs.RowNumbers.{all_by_number}
 use Rattle.sum_basis.proofs.FormsAreUnique.{zero_before}
-use Rattle.sum_basis.proofs.Sizes.{all_by_place}
 
 -- a row of zeros is 0 at each place
 zeros_at : (row : List ℤ) (j : ℕ) → AllByRecursion (λ x. x ≡ pos 0) row → number_at row j ≡ pos 0
@@ -18,7 +18,8 @@ zeros_at (x ∷ row) (suc j) h = zeros_at row j h.1
 -- what comes behind the pivot is 0 exactly where every other entry is
 pub lone_entry : (row : List ℤ) (place : ℕ) → place ≡ pivot row → pivot row < length row
     → AllByRecursion (λ x. x ≡ pos 0) (take (length row - (place + 1)) (drop (place + 1) row)) ↔ ((j : ℕ) → j ≢ pivot row → number_at row j ≡ pos 0)
-lone_entry row place e inside = (λ zeros j other. there zeros j other, λ others. subst (AllByRecursion (λ x. x ≡ pos 0)) (sym all) (all_by_place (λ x. x ≡ pos 0) behind (λ i. get_or-drop (place + 1) row i (pos 0) ∙ others (place + 1 + i) (λ same. omega arith))))
+lone_entry row place e inside =
+    (λ zeros j other. there zeros j other, λ others. subst (AllByRecursion (λ x. x ≡ pos 0)) (sym all) (all_by_number (λ x. x ≡ pos 0) behind (λ i. get_or-drop (place + 1) row i (pos 0) ∙ others (place + 1 + i) (λ same. omega arith))))
   where
     behind : List ℤ
     behind = drop (place + 1) row
@@ -33,7 +34,8 @@ lone_entry row place e inside = (λ zeros j other. there zeros j other, λ other
         | inl before ↦ zero_before row j before
         | inr after ↦
             let place_of_j : place + 1 + (j - (place + 1)) ≡ j = omega arith in
-            ap (number_at row) (sym place_of_j) ∙ sym (get_or-drop (place + 1) row (j - (place + 1)) (pos 0)) ∙ zeros_at behind (j - (place + 1)) (subst (AllByRecursion (λ x. x ≡ pos 0)) all zeros)
+            ap (number_at row) (sym place_of_j) ∙ sym (get_or-drop (place + 1) row (j - (place + 1)) (pos 0))
+            ∙ zeros_at behind (j - (place + 1)) (subst (AllByRecursion (λ x. x ≡ pos 0)) all zeros)
       ]
     ]
 

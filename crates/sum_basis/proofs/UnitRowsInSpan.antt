@@ -11,14 +11,13 @@ use Rattle.audit_types.specs.Truth.{number_at}
 use Rattle.audit_types.specs.Form.{InSpan, IsPrimitive, IsEchelon, pivot, pivot_entry}
 use Rattle.sum_basis.specs.Basis.{Echelon, unit_row}
 use Rattle.sum_basis.specs.Elimination.{IsSmallForm, IsLone}
-use Rattle.audit_types.specs.Products.{neg-times}
+use Rattle.audit_types.specs.Products.{neg-times, one-times}
 use Rattle.audit_types.specs.ListLaws.{all-push}
-use Rattle.sum_basis.proofs.Spans.{spans_from, in_span_from, spans_same, spans_times, spans_add, spans_down, span_zero}
+use Rattle.audit_types.specs.Numbers.{positive_is}
+use Rattle.audit_types.specs.RowNumbers.{number_at-set_row, length-set_row}
+use Rattle.audit_types.specs.FormRows.{pivot_below}
+use Rattle.sum_basis.specs.Spans.{spans_from, in_span_from, spans_same, spans_times, spans_add, spans_down, span_zero}
 use Rattle.sum_basis.proofs.FormsAreUnique.{IsRowOf, stands_before, pivot_is, pivot_among, zeros_walk, zero_at_others, in_span_at, own, leads_from}
-use Rattle.sum_basis.proofs.Reduction.{above_is}
-use Rattle.sum_basis.proofs.Multiples.{one-times}
-use Rattle.sum_basis.proofs.SetRows.{number_at-set_row, length-set_row}
-use Rattle.sum_basis.proofs.Ranks.{pivot_within}
 
 -- a unit row has 1 at its place
 unit_here : (n i : ℕ) → i < n → number_at (unit_row n i) i ≡ pos 1
@@ -72,11 +71,13 @@ lone_row n form i f h p = record { row = hit.0; among = hit.1; at = at; lone = l
           let product = *ℤ_comm (pivot_entry hit.0) (pos 1) ∙ one-times (pivot_entry hit.0) in
           let minus = neg-times (pos 1) (pivot_entry hit.0) in
           let once = one-times (pivot_entry hit.0) in
-          ap (λ z. pivot_entry hit.0 *ℤ z +ℤ neg_ℤ (pos 1) *ℤ number_at hit.0 (pivot other)) one ∙ ap (λ z. pivot_entry hit.0 *ℤ pos 1 +ℤ neg_ℤ (pos 1) *ℤ z) entry ∙ omega (arith, ints)
+          ap (λ z. pivot_entry hit.0 *ℤ z +ℤ neg_ℤ (pos 1) *ℤ number_at hit.0 (pivot other)) one
+          ∙ ap (λ z. pivot_entry hit.0 *ℤ pos 1 +ℤ neg_ℤ (pos 1) *ℤ z) entry ∙ omega (arith, ints)
       | inr apart ↦
           let none = unit_elsewhere n i (pivot other) apart in
           let gone = zero_at_others form hit.0 other f.echelon hit.1 among (λ e. apart (sym e ∙ at)) in
-          ap (λ z. pivot_entry hit.0 *ℤ z +ℤ neg_ℤ (pos 1) *ℤ number_at hit.0 (pivot other)) none ∙ ap (λ z. pivot_entry hit.0 *ℤ pos 0 +ℤ neg_ℤ (pos 1) *ℤ z) gone
+          ap (λ z. pivot_entry hit.0 *ℤ z +ℤ neg_ℤ (pos 1) *ℤ number_at hit.0 (pivot other)) none
+          ∙ ap (λ z. pivot_entry hit.0 *ℤ pos 0 +ℤ neg_ℤ (pos 1) *ℤ z) gone
           ∙ ap (λ z. z +ℤ neg_ℤ (pos 1) *ℤ pos 0) (*ℤ-zero (pivot_entry hit.0)) ∙ ap (λ z. pos 0 +ℤ z) (*ℤ-zero (neg_ℤ (pos 1)))
     ]
 
@@ -100,10 +101,12 @@ none_yet form = record { none = tt }
 
 -- one row more has another entry too
 pub one_more_not : (form : List (List ℤ)) (k : ℕ) → k < length form → NoneLone form k → ¬ (IsLone (get_or form k [])) → NoneLone form (k + 1)
-one_more_not form k h so_far other = record { none = rw (take_more form k [] h) (all-push (λ row. ¬ (IsLone row)) (take k form) (get_or form k []) so_far.none other) }
+one_more_not form k h so_far other =
+    record { none = rw (take_more form k [] h) (all-push (λ row. ¬ (IsLone row)) (take k form) (get_or form k []) so_far.none other) }
 
 -- a row with a lone entry doesn't come before the first that was found
-not_before : (form : List (List ℤ)) (k : ℕ) (row : List ℤ) → k < length form → IsEchelon form → AllByRecursion (λ r. ¬ (IsLone r)) (take k form) → IsRowOf row form → IsLone row → pivot (get_or form k []) ≤ pivot row
+not_before : (form : List (List ℤ)) (k : ℕ) (row : List ℤ) → k < length form → IsEchelon form → AllByRecursion (λ r. ¬ (IsLone r)) (take k form) →
+    IsRowOf row form → IsLone row → pivot (get_or form k []) ≤ pivot row
 not_before [] k row h e none among lone = absurd among
 not_before (r ∷ form) zero row h e none (inl same) lone = let here = ap pivot same in omega arith
 not_before (r ∷ form) zero row h e none (inr among) lone = let later = (stands_before r form row e.0 among).0 in omega arith
@@ -111,7 +114,8 @@ not_before (r ∷ form) (suc k) row h e none (inl same) lone = absurd (none.0 (s
 not_before (r ∷ form) (suc k) row h e none (inr among) lone = not_before form k row (omega arith) e.1 none.1 among lone
 
 -- where no row has a lone entry none is found
-not_among : (form : List (List ℤ)) (k : ℕ) (row : List ℤ) → length form ≤ k → AllByRecursion (λ r. ¬ (IsLone r)) (take k form) → IsRowOf row form → IsLone row → ⊥
+not_among : (form : List (List ℤ)) (k : ℕ) (row : List ℤ) → length form ≤ k → AllByRecursion (λ r. ¬ (IsLone r)) (take k form) → IsRowOf row form → IsLone row →
+    ⊥
 not_among [] k row h none among lone = among
 not_among (r ∷ form) zero row h none among lone = omega arith
 not_among (r ∷ form) (suc k) row h none (inl same) lone = none.0 (subst IsLone (sym same) lone)
@@ -119,15 +123,17 @@ not_among (r ∷ form) (suc k) row h none (inr among) lone = not_among form k ro
 
 -- the row with a lone entry is a multiple of a unit row
 pub unit_in_span : (n : ℕ) (form : List (List ℤ)) (row : List ℤ) → IsPrimitive n row → InSpan form row → IsLone row → InSpan form (unit_row n (pivot row))
-unit_in_span n form row p h lone = in_span_from form (unit_row n (pivot row)) (spans_down form m.0 (number_at (unit_row n (pivot row))) m.2 (spans_same form (number_at row) (λ j. pos m.0 *ℤ number_at (unit_row n (pivot row)) j) same (spans_from form row h)))
+unit_in_span n form row p h lone =
+    in_span_from form (unit_row n (pivot row))
+    (spans_down form m.0 (number_at (unit_row n (pivot row))) m.2 (spans_same form (number_at row) (λ j. pos m.0 *ℤ number_at (unit_row n (pivot row)) j) same (spans_from form row h)))
   where
     m : (m : ℕ) × (pivot_entry row ≡ pos m) × (0 < m)
-    m = above_is (pivot_entry row) p.leading
+    m = positive_is (pivot_entry row) p.leading
 
     same : (j : ℕ) → number_at row j ≡ pos m.0 *ℤ number_at (unit_row n (pivot row)) j
     same j = elim (cases_eq j (pivot row)) [
       | inl e ↦
-          let one = ap (number_at (unit_row n (pivot row))) e ∙ unit_here n (pivot row) (pivot_within n row p) in
+          let one = ap (number_at (unit_row n (pivot row))) e ∙ unit_here n (pivot row) (pivot_below n row p) in
           ap (number_at row) e ∙ m.1 ∙ sym (ap (λ z. pos m.0 *ℤ z) one ∙ *ℤ_comm (pos m.0) (pos 1) ∙ one-times (pos m.0))
       | inr other ↦ lone j other ∙ sym (ap (λ z. pos m.0 *ℤ z) (unit_elsewhere n (pivot row) j other) ∙ *ℤ-zero (pos m.0))
     ]
@@ -139,12 +145,13 @@ pub record IsFirstUnit (form : Echelon) (i : ℕ) : Type 0 where
   pub least : (j : ℕ) → j < i → ¬ (InSpan form.rows (unit_row form.n j))
 
 -- the first row with a lone entry has the least unit row of the span
-pub first_unit : (form : Echelon) (k : ℕ) → IsSmallForm form.n form.rows → k < length form.rows → NoneLone form.rows k → IsLone (get_or form.rows k []) → IsFirstUnit form (pivot (get_or form.rows k []))
+pub first_unit : (form : Echelon) (k : ℕ) → IsSmallForm form.n form.rows → k < length form.rows → NoneLone form.rows k → IsLone (get_or form.rows k []) →
+    IsFirstUnit form (pivot (get_or form.rows k []))
 first_unit form k f h none lone =
     let row = get_or form.rows k [] in
     let primitive = All-from_recursion (IsPrimitive form.n) form.rows f.primitive k [] h in
     let in_own = All-from_recursion (InSpan form.rows) form.rows (own form.rows) k [] h in
-    let inside = pivot_within form.n row primitive in
+    let inside = pivot_below form.n row primitive in
     record {
       within = inside;
       in_span = unit_in_span form.n form.rows row primitive in_own lone;
@@ -156,5 +163,6 @@ first_unit form k f h none lone =
     }
 
 -- with no lone entry there is no unit row in the span
-pub no_unit : (form : Echelon) (k : ℕ) → IsSmallForm form.n form.rows → length form.rows ≤ k → NoneLone form.rows k → (i : ℕ) → i < form.n → ¬ (InSpan form.rows (unit_row form.n i))
+pub no_unit : (form : Echelon) (k : ℕ) → IsSmallForm form.n form.rows → length form.rows ≤ k → NoneLone form.rows k → (i : ℕ) → i < form.n →
+    ¬ (InSpan form.rows (unit_row form.n i))
 no_unit form k f h none i inside p = let other = lone_row form.n form.rows i f inside p in not_among form.rows k other.row h none.none other.among other.lone

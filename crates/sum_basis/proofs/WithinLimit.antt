@@ -9,10 +9,11 @@ use Rattle.std.proofs.Math.Nat.{pos_of_dvd_of_pos, mul-le-mul_left, le_of_mul-le
 use Rattle.audit_types.specs.Form.{IsContent}
 use Rattle.audit_types.specs.PrimitiveLines.{scaled_content}
 use Rattle.audit_types.specs.Numbers.{size_positive}
+use Rattle.audit_types.specs.ListLaws.{all-unmap}
 use Rattle.int_rows.specs.Exact.{exact}
 use Rattle.sum_basis.specs.declared.sparse.FreeEntry.{FreeEntry}
 use Rattle.sum_basis.specs.Sparse.{scaled, IsOverContent}
-use Rattle.sum_basis.proofs.ListContents.{values, divides_first, all_divided_by, over_content}
+use Rattle.sum_basis.proofs.ListContents.{values, divides_first, over_content}
 
 -- the content of a positive pivot entry and of some values is positive, and not above that of the first of them
 pub record HasContent (head : ℤ) (es : List FreeEntry) (g : ℕ) : Type 0 where
@@ -41,11 +42,16 @@ over g es = map (λ (e : FreeEntry). record { place = e.place; value = int_div e
 
 pub over_is : (g : ℕ) (es : List FreeEntry) → AllByRecursion (λ (e : FreeEntry). g ∣ unsigned_abs e.value) es → es ≡ map (scaled (pos g)) (over g es)
 over_is g [] h = refl
-over_is g (e ∷ es) h = ap (λ (x : ℤ). record { place = e.place; value = x } ∷ es) (exact e.value (pos g) h.0) ∙ ap (λ l. scaled (pos g) (record { place = e.place; value = int_div e.value (pos g) }) ∷ l) (over_is g es h.1)
+over_is g (e ∷ es) h =
+    ap (λ (x : ℤ). record { place = e.place; value = x } ∷ es) (exact e.value (pos g) h.0)
+    ∙ ap (λ l. scaled (pos g) (record { place = e.place; value = int_div e.value (pos g) }) ∷ l) (over_is g es h.1)
 
 -- the pivot entry and the values over the content
-pub is_over : (head over_head : ℤ) (es : List FreeEntry) (g : ℕ) → 0 < g → IsContent (head ∷ values es) g → head ≡ pos g *ℤ over_head → IsOverContent head es over_head (over g es)
-is_over head over_head es g p content e = over_content (pos g) head over_head es (over g es) (omega (arith, ints)) content e (over_is g es (all_divided_by g es content.divides.1))
+pub is_over : (head over_head : ℤ) (es : List FreeEntry) (g : ℕ) → 0 < g → IsContent (head ∷ values es) g → head ≡ pos g *ℤ over_head →
+    IsOverContent head es over_head (over g es)
+is_over head over_head es g p content e =
+    over_content (pos g) head over_head es (over g es) (omega (arith, ints)) content e
+    (over_is g es (all-unmap (λ (e : FreeEntry). e.value) (λ x. g ∣ unsigned_abs x) es content.divides.1))
 
 -- the size of a multiple
 size_times : (g : ℕ) (x y : ℤ) → x ≡ pos g *ℤ y → unsigned_abs x ≡ g * unsigned_abs y
@@ -55,10 +61,13 @@ size_times g x y e = ap unsigned_abs e ∙ unsigned_abs-mul (pos g) y
 pub comes_within : (g most : ℕ) (x y : ℤ) → 0 < g → x ≡ pos g *ℤ y → unsigned_abs x ≤ most → most ≤ g * 2 ^ 56 → unsigned_abs y ≤ 2 ^ 56
 comes_within g most x y p e h l = le_of_mul-le-mul_left (subst (λ z. z ≤ g * 2 ^ 56) (size_times g x y e) (omega arith)) p
 
-pub come_within : (g most : ℕ) (es made : List FreeEntry) → 0 < g → es ≡ map (scaled (pos g)) made → AllByRecursion (λ (e : FreeEntry). unsigned_abs e.value ≤ most) es → most ≤ g * 2 ^ 56 → AllByRecursion (λ (e : FreeEntry). unsigned_abs e.value ≤ 2 ^ 56) made
+pub come_within : (g most : ℕ) (es made : List FreeEntry) → 0 < g → es ≡ map (scaled (pos g)) made →
+    AllByRecursion (λ (e : FreeEntry). unsigned_abs e.value ≤ most) es → most ≤ g * 2 ^ 56 →
+    AllByRecursion (λ (e : FreeEntry). unsigned_abs e.value ≤ 2 ^ 56) made
 come_within g most es made p e all l = go made (subst (AllByRecursion (λ (e : FreeEntry). unsigned_abs e.value ≤ most)) e all)
   where
-    go : (xs : List FreeEntry) → AllByRecursion (λ (e : FreeEntry). unsigned_abs e.value ≤ most) (map (scaled (pos g)) xs) → AllByRecursion (λ (e : FreeEntry). unsigned_abs e.value ≤ 2 ^ 56) xs
+    go : (xs : List FreeEntry) → AllByRecursion (λ (e : FreeEntry). unsigned_abs e.value ≤ most) (map (scaled (pos g)) xs) →
+        AllByRecursion (λ (e : FreeEntry). unsigned_abs e.value ≤ 2 ^ 56) xs
     go [] h = tt
     go (x ∷ xs) h = (comes_within g most (pos g *ℤ x.value) x.value p refl h.0 l, go xs h.1)
 
@@ -66,23 +75,28 @@ come_within g most es made p e all l = go made (subst (AllByRecursion (λ (e : F
 pub was_within : (g : ℕ) (x y : ℤ) → x ≡ pos g *ℤ y → unsigned_abs y ≤ 2 ^ 56 → unsigned_abs x ≤ g * 2 ^ 56
 was_within g x y e h = subst (λ z. z ≤ g * 2 ^ 56) (sym (size_times g x y e)) (mul-le-mul_left g h)
 
-pub were_within : (g : ℕ) (es made : List FreeEntry) → es ≡ map (scaled (pos g)) made → AllByRecursion (λ (e : FreeEntry). unsigned_abs e.value ≤ 2 ^ 56) made → AllByRecursion (λ (e : FreeEntry). unsigned_abs e.value ≤ g * 2 ^ 56) es
+pub were_within : (g : ℕ) (es made : List FreeEntry) → es ≡ map (scaled (pos g)) made → AllByRecursion (λ (e : FreeEntry). unsigned_abs e.value ≤ 2 ^ 56) made →
+    AllByRecursion (λ (e : FreeEntry). unsigned_abs e.value ≤ g * 2 ^ 56) es
 were_within g es made e all = subst (AllByRecursion (λ (e : FreeEntry). unsigned_abs e.value ≤ g * 2 ^ 56)) (sym e) (go made all)
   where
-    go : (xs : List FreeEntry) → AllByRecursion (λ (e : FreeEntry). unsigned_abs e.value ≤ 2 ^ 56) xs → AllByRecursion (λ (e : FreeEntry). unsigned_abs e.value ≤ g * 2 ^ 56) (map (scaled (pos g)) xs)
+    go : (xs : List FreeEntry) → AllByRecursion (λ (e : FreeEntry). unsigned_abs e.value ≤ 2 ^ 56) xs →
+        AllByRecursion (λ (e : FreeEntry). unsigned_abs e.value ≤ g * 2 ^ 56) (map (scaled (pos g)) xs)
     go [] h = tt
     go (x ∷ xs) h = (was_within g (pos g *ℤ x.value) x.value refl h.0, go xs h.1)
 
 -- where the content brings the greatest size within the limit, all are
-pub small_enough : (head over_head : ℤ) (es : List FreeEntry) (g most least : ℕ) → 0 < g → IsContent (head ∷ values es) g → head ≡ pos g *ℤ over_head → unsigned_abs head ≤ most → AllByRecursion (λ (e : FreeEntry). unsigned_abs e.value ≤ most) es → most ≤ least * 2 ^ 56 → least ≤ g
+pub small_enough : (head over_head : ℤ) (es : List FreeEntry) (g most least : ℕ) → 0 < g → IsContent (head ∷ values es) g → head ≡ pos g *ℤ over_head
+    → unsigned_abs head ≤ most → AllByRecursion (λ (e : FreeEntry). unsigned_abs e.value ≤ most) es → most ≤ least * 2 ^ 56 → least ≤ g
     → (unsigned_abs over_head ≤ 2 ^ 56) × AllByRecursion (λ (e : FreeEntry). unsigned_abs e.value ≤ 2 ^ 56) (over g es)
 small_enough head over_head es g most least p content e at_head at_values enough h =
     let within : most ≤ g * 2 ^ 56 = omega arith in
-    (comes_within g most head over_head p e at_head within, come_within g most es (over g es) p (over_is g es (all_divided_by g es content.divides.1)) at_values within)
+    (comes_within g most head over_head p e at_head within, come_within g most es (over g es) p (over_is g es (all-unmap (λ (e : FreeEntry). e.value) (λ x. g ∣ unsigned_abs x) es content.divides.1)) at_values within)
 
 -- and where it is less than that needs, not all are
-pub too_large : (head over_head : ℤ) (es : List FreeEntry) (g most least : ℕ) → IsContent (head ∷ values es) g → head ≡ pos g *ℤ over_head → ((m : ℕ) → unsigned_abs head ≤ m → AllByRecursion (λ (e : FreeEntry). unsigned_abs e.value ≤ m) es → most ≤ m) → least * 2 ^ 56 < most + 2 ^ 56 → g < least
+pub too_large : (head over_head : ℤ) (es : List FreeEntry) (g most least : ℕ) → IsContent (head ∷ values es) g → head ≡ pos g *ℤ over_head
+    → ((m : ℕ) → unsigned_abs head ≤ m → AllByRecursion (λ (e : FreeEntry). unsigned_abs e.value ≤ m) es → most ≤ m) → least * 2 ^ 56 < most + 2 ^ 56
+    → g < least
     → ¬ ((unsigned_abs over_head ≤ 2 ^ 56) × AllByRecursion (λ (e : FreeEntry). unsigned_abs e.value ≤ 2 ^ 56) (over g es))
 too_large head over_head es g most least content e greatest needed h small =
-    let most_at = greatest (g * 2 ^ 56) (was_within g head over_head e small.0) (were_within g es (over g es) (over_is g es (all_divided_by g es content.divides.1)) small.1) in
+    let most_at = greatest (g * 2 ^ 56) (was_within g head over_head e small.0) (were_within g es (over g es) (over_is g es (all-unmap (λ (e : FreeEntry). e.value) (λ x. g ∣ unsigned_abs x) es content.divides.1)) small.1) in
     absurd (omega arith)

@@ -1,15 +1,12 @@
--- Sums and multiples of rows, as lists.
-use Rattle.std.specs.Prelude.{ℤ, ◌+ℤ◌, ◌*ℤ◌, neg_ℤ, List, [], ◌∷◌, map}
+-- Sums and combinations of rows, as lists.
+use Rattle.std.specs.Prelude.{ℤ, ◌+ℤ◌, neg_ℤ, List, [], ◌∷◌}
+use Rattle.audit_types.specs.PrimitiveLines.{times}
 
 -- the sum of two rows, entry by entry
 abbrev pub both : List ℤ → List ℤ → List ℤ
 both [] b = b
 both (x ∷ a) [] = x ∷ a
 both (x ∷ a) (y ∷ b) = (x +ℤ y) ∷ both a b
-
--- k times the row
-abbrev pub times : ℤ → List ℤ → List ℤ
-times k a = map (λ x. k *ℤ x) a
 
 -- x times f less y times g
 abbrev pub combine : ℤ → List ℤ → ℤ → List ℤ → List ℤ

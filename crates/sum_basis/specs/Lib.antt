@@ -2,6 +2,8 @@ pub mod Laws
 pub mod Basis
 pub mod Growth
 pub mod Combination
+pub mod CombinedRows
+pub mod Spans
 pub mod Elimination
 pub mod Sparse
 pub mod Merging

@@ -116,7 +116,8 @@ impl Basis {
         Ok(prospect)
     }
 
-    /// The same, and keeps what it found of the set, so that `insert` needn't find it again.
+    /// Tells what the form would become with the row of a set, as `prospect` does, and keeps what it found of the set, so that
+    /// `insert` needn't find it again.
     pub fn weigh(&mut self, rows: &RowSet) -> Result<Prospect, NoMemory>
         requires { rows.now.n ≡ self.old.n }
         ensures foresees { IfOk result (λ prospect. Foresees self.old (set_row self.old.n rows.now.list) prospect) }

@@ -125,7 +125,8 @@ fn short_product(x: i64, y: i64) -> i128
 pub fn product(x: i128, y: i128) -> i128
     requires x { unsigned_abs x ≤ 2 ^ 56 }
     requires y { unsigned_abs y ≤ 2 ^ 56 }
-    ensures { result ≡ x *ℤ y }
+    ensures exact { result ≡ x *ℤ y }
+    ensures small { unsigned_abs result ≤ 2 ^ 112 }
 {
     short_product(x as i64, y as i64)
 }

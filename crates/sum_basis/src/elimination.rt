@@ -3,13 +3,13 @@ ghost use Rattle.std.specs.Prelude.{◌≡◌, ◌↔◌, ℕ, ◌≤◌, ◌^�
 ghost use Rattle.std.specs.List.{AllByRecursion};
 ghost use Rattle.audit_types.specs.Truth.{number_at};
 ghost use Rattle.audit_types.specs.Form.{set_row, pivot};
-ghost use Rattle.sum_basis.specs.Combination.{times};
+ghost use Rattle.audit_types.specs.PrimitiveLines.{times};
 ghost use Rattle.sum_basis.specs.Elimination.{IsSmall};
 
 use crate::cleared_list::product;
 use audit_types::RowSet;
 
-// The greatest size of an entry of a narrow form, and of the common multiple of its pivot entries.
+/// The greatest size of an entry of a narrow form, and of the common multiple of its pivot entries.
 pub const LIMIT: u128 = 1 << 56;
 
 /// The place of the first entry that is not 0, and the length where all are 0.

@@ -4,7 +4,7 @@ ghost use Rattle.std.specs.List.{AllByRecursion};
 ghost use Rattle.audit_types.specs.Form.{InSpan, IsNarrow, IsReducedForm, pivot, pivot_entries, IsLeastCommonMultiple};
 ghost use Rattle.audit_types.specs.Truth.{number_at};
 ghost use Rattle.sum_basis.specs.Basis.{IsLeastUnit, IsFreeList};
-ghost use Rattle.sum_basis.specs.Combination.{times};
+ghost use Rattle.audit_types.specs.PrimitiveLines.{times};
 ghost use Rattle.sum_basis.specs.Elimination.{IsSmallForm, IsRemainder, IsZeroAtPivots};
 ghost use Rattle.std.specs.Vec.{vec_capacity};
 ghost use Rattle.sum_basis.specs.Sparse.{row_of, IsNew};

@@ -6,7 +6,7 @@ pub fn every_row_space_has_a_form()
     ensures { EveryRowSpaceHasAForm }
 {}
 
-/// And only one.
+/// A list of rows has no two reduced forms.
 pub fn forms_are_unique()
     ensures { FormsAreUnique }
 {}

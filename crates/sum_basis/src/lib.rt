@@ -1,7 +1,8 @@
 //! The one reduced form of the sets of a sum column.
 //!
-//! Start with `Basis::extend`: `same`, `wide` and `grows` say what a set does to the form, and `stands` of which sets it is
-//! the form afterwards. That there is one form, and only one, is a law: see `laws`.
+//! Start with `Basis::weigh`, which tells what the form would become with a set, and `Basis::insert`, which adds one with which
+//! it is narrow: `stands` says of which sets it is the form then. `Basis::extend` does both. That there is one form, and only
+//! one, is a law: see `laws`.
 #![tactic(auto)]
 
 mod basis;

@@ -62,7 +62,7 @@ fn either(a: bool, b: bool) -> bool
     a || b
 }
 
-// Tells it by clearing each row, and by the multiple of their pivot entries.
+// Tells what the form would become with a new row by clearing each row, and by the multiple of the pivot entries.
 fn look_at_each(
     rows: &[SparseRow],
     columns: u16,
@@ -147,7 +147,8 @@ fn look_closely(
     Some(cleared.lone)
 }
 
-// The same. Where the row's bound suffices, and its list is longer or shorter than the new one, the list is not read.
+// Whether the row, cleared at the new row's pivot, has one entry that is not 0. None where an entry is above the limit. Where
+// the row's bound suffices, and its list is longer or shorter than the new one, the list is not read.
 fn look_at(
     row: &SparseRow,
     columns: u16,
@@ -172,7 +173,8 @@ fn look_at(
     look_closely(row, columns, new, most, room)
 }
 
-// Tells it where the multiple of the pivot entries is surely within the limit: few rows have to be cleared.
+// Tells what the form would become with a new row, where the multiple of the pivot entries is surely within the limit: few rows
+// have to be cleared.
 fn look_by_bounds(
     rows: &[SparseRow],
     columns: u16,

@@ -20,7 +20,7 @@ pub fn value_from(entries: &[FreeEntry], k: usize, place: u16) -> i128
     }
 }
 
-// As often the one as `by` says, less the other as often as `times` says.
+// `by * x - times * y`.
 fn difference(by: i128, x: i128, times: i128, y: i128) -> i128
     requires by { unsigned_abs by ≤ 2 ^ 56 }
     requires x { unsigned_abs x ≤ 2 ^ 56 }

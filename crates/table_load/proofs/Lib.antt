@@ -1,3 +1,5 @@
+pub mod AddedRows
+pub mod OpenedFiles
 pub mod NumeralLaw
 pub mod Digits
 pub mod FieldPlaces

@@ -1,5 +1,5 @@
 -- Sums and greatest numbers over the rows of a set.
-use Rattle.std.proofs.Common.{◌≡◌, ℕ, zero, suc, ◌^◌, ◌<◌, ◌≤◌, true, List, [], ◌∷◌, length, map, get_or, sym, ap, ◌∙◌, arith, subst, Vec, Global}
+use Rattle.std.proofs.Common.{◌≡◌, ℕ, ◌^◌, ◌<◌, ◌≤◌, true, List, length, map, get_or, sym, ap, ◌∙◌, arith, subst, Vec, Global}
 use Rattle.std.specs.Prelude.{ℤ, pos, unsigned_abs, nat_lt}
 use Rattle.std.specs.List.{AllByRecursion}
 use Rattle.std.proofs.lemmas.Bool.{ltb-false, not-true}

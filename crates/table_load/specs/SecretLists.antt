@@ -1,6 +1,5 @@
 -- The lists of a table's secrets have the lengths that its shape asks for.
-use Rattle.std.specs.Prelude.{◌≡◌, ℕ, ℤ, List, [], ◌∷◌, length}
-use Rattle.std.specs.List.{AllByRecursion}
+use Rattle.std.specs.Prelude.{◌≡◌, length}
 use Rattle.audit_types.specs.History.{AreSecrets}
 use Rattle.audit_types.specs.ListLaws.{all-weaker}
 use Rattle.table_load.specs.Cells.{SecretView, IsSecret, AreNumbers}

@@ -1,20 +1,23 @@
 -- What the reader of records has read of a file, and what it answers.
-use Rattle.std.specs.Prelude.{◌≡◌, ◌<◌, ◌≤◌, ℕ, true, List, [], ◌∷◌, length, map, Some, None, Vec, Result, Ok, Err}
+use Rattle.std.specs.Prelude.{◌≡◌, ◌<◌, ◌≤◌, ◌+◌, ◌==◌, if◌then◌else◌, ℕ, true, false, List, [], ◌∷◌, ◌++◌, length, map, Option, Some, None, Vec, Result, Ok, Err}
 use Rattle.std.specs.declared.alloc.Global.{Global}
 use Rattle.std.specs.Borrow.{Bor}
 use Rattle.audit_types.specs.Limits.{most_rows}
 use Rattle.csv.specs.Reading.{Reached, Ready, default_config, is_flexible, source_of, strip_bom}
 use Rattle.csv.specs.Records.{Row, fields_of}
+use Rattle.csv.specs.declared.error.Error.{Error}
 use Rattle.csv.specs.declared.error.ErrorKind.{ErrorKind}
 use Rattle.csv.specs.declared.error.ErrorKind.TheVariants as kind
 use Rattle.csv.specs.declared.iter.ByteRecordsIntoIter.{ByteRecordsIntoIter}
 use Rattle.csv.specs.declared.parser.State.TheVariants as state
 use Rattle.csv.specs.declared.reader.Trim.TheVariants as trim
 use Rattle.schema_json.specs.Columns.{Column}
+use Rattle.schema_json.specs.declared.roles.Role.{Role}
 use Rattle.table_load.specs.Faults.{UnlessMemory}
-use Rattle.table_load.specs.Reading.{Fields, names_are, records_fault, roles_of, file_fault, most_table}
+use Rattle.table_load.specs.Reading.{Fields, names_are, record_fault, records_fault, roles_of, file_fault, most_table}
 use Rattle.table_load.specs.Tables.{data_of}
 use Rattle.table_load.specs.declared.faults.TableFault.{TableFault}
+use Rattle.table_load.specs.declared.faults.TableFault.TheVariants.{Header, TooManyRows, NoMemory}
 
 -- these are the first records of the bytes, and the reader stands after them
 pub record HasRead (bytes : List ℕ) (rows : List Fields) (reader : ByteRecordsIntoIter (Bor (List ℕ))) : Type 0 where
@@ -44,6 +47,26 @@ pub record HasOpened (columns : List Column) (bytes : List ℕ) (rows : List Fie
   pub header : Fields
   pub named : names_are header columns ≡ true
   pub read : HasRead bytes (header ∷ rows) reader
+
+-- the first record has these columns' names, or the fault of the file's front is answered
+abbrev pub ChecksHeader : Result Unit TableFault → List Column → Option (Result Row Error) → Type 0
+ChecksHeader (Ok u) columns (Some (Ok row)) = names_are (fields_of row) columns ≡ true
+ChecksHeader (Ok u) columns (Some (Err error)) = ⊥
+ChecksHeader (Ok u) columns None = ⊥
+ChecksHeader (Err fault) columns (Some (Ok row)) = (names_are (fields_of row) columns ≡ false) × (fault ≡ Header)
+ChecksHeader (Err fault) columns (Some (Err error)) = fault ≡ NoMemory
+ChecksHeader (Err fault) columns None = fault ≡ Header
+
+-- the fault that a record has after so many
+abbrev pub next_fault : List Role → ℕ → Fields → Option TableFault
+next_fault roles count fields = if count == most_rows then Some TooManyRows else record_fault roles (count + 2) fields
+
+-- a record that was read stands after those before it, or its fault is answered
+abbrev pub AddsRow : Result Unit TableFault → List Role → List Row → Result Row Error → List Row → Type 0
+AddsRow (Ok u) roles rows (Ok row) more = (more ≡ rows ++ row ∷ []) × (next_fault roles (length rows) (fields_of row) ≡ None)
+AddsRow (Ok u) roles rows (Err error) more = ⊥
+AddsRow (Err fault) roles rows (Ok row) more = UnlessMemory fault (next_fault roles (length rows) (fields_of row) ≡ Some fault)
+AddsRow (Err fault) roles rows (Err error) more = fault ≡ NoMemory
 
 -- the file with its header read, or its first fault
 abbrev pub Opens : Result (ByteRecordsIntoIter (Bor (List ℕ))) TableFault → List Column → List ℕ → Type 0

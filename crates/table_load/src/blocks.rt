@@ -57,7 +57,7 @@ pub(crate) fn sum_by_blocks(list: &[i64], blocks: &Blocks, rows: &RowSet) -> i64
     sum + sum_over(list, &left)
 }
 
-/// The greatest number over the rows of a set. It costs as many steps.
+/// The greatest number over the rows of a set. It costs a step for each block, and for each row that lies in no whole one.
 pub(crate) fn greatest_by_blocks(list: &[i64], blocks: &Blocks, rows: &RowSet) -> i64
     requires numbers { AreNumbers rows.now.n list.now }
     requires blocks { AreBlocks Max rows.now.n list.now blocks.now }

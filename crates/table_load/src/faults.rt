@@ -22,7 +22,7 @@ pub enum TableFault {
     TooManyRows,
     /// No data record.
     NoRows,
-    /// There was no memory to read it.
+    /// Memory ran out while it was read.
     NoMemory,
 }
 

@@ -1,8 +1,8 @@
 //! The data records of a file, read until one has a fault.
-ghost use Rattle.std.specs.Prelude.{◌≡◌, [], length, ◌≤◌};
+ghost use Rattle.std.specs.Prelude.{◌≡◌, [], length, ◌≤◌, IfErr, IfSome};
 ghost use Rattle.table_load.specs.Reading.{file_columns, roles_of};
 ghost use Rattle.csv.specs.Reading.{error_kind};
-ghost use Rattle.table_load.specs.Steps.{HasRead, IsOfMemory, Opens, ReadsData};
+ghost use Rattle.table_load.specs.Steps.{AddsRow, ChecksHeader, HasRead, IsOfMemory, Opens, ReadsData};
 ghost use Rattle.table_load.specs.declared.faults.TableFault.TheVariants.{NoMemory};
 
 use crate::faults::TableFault;
@@ -41,6 +41,28 @@ fn read_fault(error: &Error) -> TableFault
     }
 }
 
+// Tells whether the first record is the header of a file.
+fn check_header(
+    schema: &Schema,
+    which: FileColumns,
+    first: Option<Result<ByteRecord, Error>>,
+) -> Result<(), TableFault>
+    requires { IfSome first (λ read. IfErr read (λ error. IsOfMemory (error_kind error))) }
+    ensures { ChecksHeader result (file_columns which schema.now.columns) first }
+{
+    match first {
+        None => Err(TableFault::Header),
+        Some(Err(error)) => Err(read_fault(&error)),
+        Some(Ok(header)) => {
+            if is_header(schema, which, &header) {
+                Ok(())
+            } else {
+                Err(TableFault::Header)
+            }
+        }
+    }
+}
+
 // A reader after the header of a file.
 fn open_file<'b>(
     alloc: Global,
@@ -54,17 +76,37 @@ fn open_file<'b>(
         return Err(TableFault::TooLong);
     }
     let mut records = records_of(alloc, bytes);
-    match records.next() {
-        None => Err(TableFault::Header),
-        Some(Err(error)) => Err(read_fault(&error)),
-        Some(Ok(header)) => {
-            if is_header(schema, which, &header) {
-                Ok(records)
-            } else {
-                Err(TableFault::Header)
-            }
-        }
+    match check_header(schema, which, records.next()) {
+        Ok(()) => Ok(records),
+        Err(fault) => Err(fault),
     }
+}
+
+// Adds a record to those before it, unless it has a fault.
+fn add_row(
+    roles: &[Role],
+    rows: &mut Vec<ByteRecord>,
+    read: Result<ByteRecord, Error>,
+) -> Result<(), TableFault>
+    requires few { length roles.now ≤ 32 }
+    requires at_most { length rows.old.items ≤ 1024 }
+    requires of_memory { IfErr read (λ error. IsOfMemory (error_kind error)) }
+    ensures { AddsRow result roles.now rows.old.items read rows.new.items }
+{
+    let row = match read {
+        Ok(row) => row,
+        Err(error) => return Err(read_fault(&error)),
+    };
+    if rows.len() == MOST_ROWS as usize {
+        return Err(TableFault::TooManyRows);
+    }
+    if let Some(fault) = record_fault(roles, rows.len() as u32 + 2, &row) {
+        return Err(fault);
+    }
+    if rows.push(row).is_err() {
+        return Err(TableFault::NoMemory);
+    }
+    Ok(())
 }
 
 /// The data records of a file, where none of them has a fault. Records of another length are read too, and only want of
@@ -86,18 +128,8 @@ pub(crate) fn read_rows(
     };
     let mut rows = Vec::new(alloc);
     for row in records {
-        let row = match row {
-            Ok(row) => row,
-            Err(error) => return Err(read_fault(&error)),
-        };
-        if rows.len() == MOST_ROWS as usize {
-            return Err(TableFault::TooManyRows);
-        }
-        if let Some(fault) = record_fault(roles, rows.len() as u32 + 2, &row) {
+        if let Err(fault) = add_row(roles, &mut rows, row) {
             return Err(fault);
-        }
-        if rows.push(row).is_err() {
-            return Err(TableFault::NoMemory);
         }
     }
     if rows.is_empty() {

@@ -150,9 +150,9 @@ module _ {P B : Type 0} (source : SourceGhosts P) (bench : Ghosts B) (columns : 
           }
 
           -- it couldn't be
-          pub question_unsent : (bench.told → AppendsFront (bench.sent at) (verdict_bytes (due_of expected)) (bench.sent sending)) → source.faults after ≡ source.faults from → Rose (bench.faults at) (bench.faults sending) → bench.faults at ≤ bench.faults sending
+          pub question_unsent : (bench.told → AppendsFront (bench.sent at) (verdict_bytes (due_of expected)) (bench.sent sending)) → source.faults after ≡ source.faults from → Rose (bench.faults at) (bench.faults sending) → bench.last_failed sending ≡ true → bench.faults at ≤ bench.faults sending
               → Simulates source bench columns public first_source after first sending (Err fault.Bench)
-          question_unsent part steady rose later = record {
+          question_unsent part steady rose last later = record {
             verdicts = λ t. (verdicts ++ sent_for expected ∷ [], begin_of (new.pending ++ source.left after) new.ended (lines ++ line ∷ []) (verdicts ++ sent_for expected ∷ []) (reads_now t) are_with, λ told. front_now told (bench.sent sending) (part told));
             calls = λ t told. tt;
             reads = λ t. tt;
@@ -163,6 +163,8 @@ module _ {P B : Type 0} (source : SourceGhosts P) (bench : Ghosts B) (columns : 
             bench_later = omega (arith, later, so_far.bench_steady);
             source_rose = λ is. absurd (search rules);
             bench_rose = λ is. subst (λ (n : ℕ). Rose n (bench.faults sending)) so_far.bench_steady rose;
+            source_last = λ is. absurd (search rules);
+            bench_last = λ is. last;
             source_steady = λ other. steady ∙ so_far.source_steady;
             bench_steady = λ other. absurd (other refl);
           }
@@ -172,9 +174,9 @@ module _ {P B : Type 0} (source : SourceGhosts P) (bench : Ghosts B) (columns : 
     -- by what is said of the verdicts and of the input
     pub ends : (after : P) (result : Result (Unit {0}) SimulationFault) → result ≢ Err fault.Bench → (source.told → EndVerdicts result columns public (source.left first_source) (source.left after) verdicts)
         → (bench.told → EndSends result verdicts (bench.sent first) (bench.sent at)) → (source.told → bench.told → OnOk result (bench.moment at ≡ bench.moment first + length (exchanges (counted_lines (source.left first_source))))) → (source.told → EndReads result (source.left first_source) (source.left after)) → source.faults from ≤ source.faults after
-        → (result ≡ Err fault.Input → Rose (source.faults from) (source.faults after)) → (result ≢ Err fault.Input → source.faults after ≡ source.faults from)
+        → (result ≡ Err fault.Input → Rose (source.faults from) (source.faults after)) → (result ≡ Err fault.Input → source.last_failed after ≡ true) → (result ≢ Err fault.Input → source.faults after ≡ source.faults from)
         → Simulates source bench columns public first_source after first at result
-    ends after result fine are sends calls reads later rose steady = record {
+    ends after result fine are sends calls reads later rose last steady = record {
       verdicts = λ t. (verdicts, are t, sends);
       calls = calls;
       reads = reads;
@@ -185,6 +187,8 @@ module _ {P B : Type 0} (source : SourceGhosts P) (bench : Ghosts B) (columns : 
       bench_later = omega (arith, so_far.bench_steady);
       source_rose = λ is. subst (λ (n : ℕ). Rose n (source.faults after)) so_far.source_steady (rose is);
       bench_rose = λ is. absurd (fine is);
+      source_last = last;
+      bench_last = λ is. absurd (fine is);
       source_steady = λ other. steady other ∙ so_far.source_steady;
       bench_steady = λ other. so_far.bench_steady;
     }
@@ -194,7 +198,7 @@ module _ {P B : Type 0} (source : SourceGhosts P) (bench : Ghosts B) (columns : 
 
     -- there was no memory
     pub wants_memory : (after : P) → source.faults after ≡ source.faults from → Simulates source bench columns public first_source after first at (Err fault.NoMemory)
-    wants_memory after steady = ends after (Err fault.NoMemory) (search rules) begun so_far.sent (λ t told. tt) (λ t. tt) (omega (arith, steady)) (λ is. absurd (search rules)) (λ other. steady)
+    wants_memory after steady = ends after (Err fault.NoMemory) (search rules) begun so_far.sent (λ t told. tt) (λ t. tt) (omega (arith, steady)) (λ is. absurd (search rules)) (λ is. absurd (search rules)) (λ other. steady)
 
     -- no line is left
     pub all_read : (new : Cutter) (after : P) → GivesNone source cutter new from after → Cuts source cutter new from after → Simulates source bench columns public first_source after first at (Ok tt)
@@ -205,7 +209,7 @@ module _ {P B : Type 0} (source : SourceGhosts P) (bench : Ghosts B) (columns : 
         omega (arith, so_far.ticks told, length-replies (IsVerdict columns public) [] (exchanges lines) verdicts so_far.are, ap (λ (ls : List CountedLine). length (exchanges ls)) all))
         (λ t.
         let parts = nil_parts new.pending (source.left after) (sym (gives.nothing t)) in
-        (parts.1, omega (arith, cuts.within, cuts.taken t, so_far.taken t, ap (λ (l : List ℕ). length l) parts.0, ap (λ (l : List ℕ). length l) parts.1))) cuts.later (λ is. absurd (no_fault fault.Input is)) (λ other. gives.steady)
+        (parts.1, omega (arith, cuts.within, cuts.taken t, so_far.taken t, ap (λ (l : List ℕ). length l) parts.0, ap (λ (l : List ℕ). length l) parts.1))) cuts.later (λ is. absurd (no_fault fault.Input is)) (λ is. absurd (no_fault fault.Input is)) (λ other. gives.steady)
       where
         nil_parts : (a b : List ℕ) → [] ≡ a ++ b → (a ≡ []) × (b ≡ [])
         nil_parts [] b is = (refl, sym is)
@@ -234,7 +238,7 @@ module _ {P B : Type 0} (source : SourceGhosts P) (bench : Ghosts B) (columns : 
         (λ t.
         let going : cutter.ended ≡ true → cutter.pending ++ source.left from ≡ [] → ⊥ = λ ended none. short.going ended in
         record { read = read t (source.left after) going (short.stops t); split = read_split t (source.left after) going (short.stops t); are = read_are t (source.left after) going (short.stops t) }) so_far.sent (λ t told. tt)
-        (λ t. omega (arith, short.within, cuts.taken t, so_far.taken t)) cuts.later (λ is. short.rose) (λ other. absurd (other refl))
+        (λ t. omega (arith, short.within, cuts.taken t, so_far.taken t)) cuts.later (λ is. short.rose) (λ is. short.last) (λ other. absurd (other refl))
     cut_short new after fault.Limit short cuts = ends after (Err fault.Limit) (search rules)
         (λ t.
         let rest = new.pending ++ source.left after in
@@ -247,7 +251,7 @@ module _ {P B : Type 0} (source : SourceGhosts P) (bench : Ghosts B) (columns : 
           size = omega (arith, ap (λ (l : List ℕ). length l) split, length-append (read t rest going (short.stops t)) rest, length-append new.pending (source.left after), short.over, cuts.taken t, so_far.taken t);
           are = read_are t rest going (short.stops t);
         }) so_far.sent (λ t told. tt)
-        (λ t. omega (arith, short.over, short.some, cuts.taken t, so_far.taken t)) cuts.later (λ is. absurd (search rules)) (λ other. short.steady)
+        (λ t. omega (arith, short.over, short.some, cuts.taken t, so_far.taken t)) cuts.later (λ is. absurd (search rules)) (λ is. absurd (search rules)) (λ other. short.steady)
     cut_short new after fault.NoMemory short cuts = wants_memory after short
     cut_short new after fault.Bench short cuts = absurd short
     cut_short new after (fault.Disagrees line due) short cuts = absurd short

@@ -1,5 +1,5 @@
 -- The turns of a simulation: a question whose verdict is sent, and then the reply that was shown to it.
-use Rattle.std.proofs.Common.{rules, ◌≡◌, ℕ, ◌+◌, ◌-◌, ◌*◌, ◌≤◌, List, [], ◌∷◌, ◌++◌, length, take, Option, Some, Err, refl, sym, ◌∙◌, ap, subst, arith, inl, inr, ⊎_elim, append_assoc, length-append}
+use Rattle.std.proofs.Common.{rules, ◌≡◌, ℕ, ◌+◌, ◌-◌, ◌*◌, ◌≤◌, true, List, [], ◌∷◌, ◌++◌, length, take, Option, Some, Err, refl, sym, ◌∙◌, ap, subst, arith, inl, inr, ⊎_elim, append_assoc, length-append}
 use Rattle.std.specs.Option.{option_to_list}
 use Rattle.std.proofs.Math.Seq.{take-append_seam}
 use Rattle.std.proofs.lemmas.List.{append-nil}
@@ -151,7 +151,7 @@ module _ {P B : Type 0} (source : SourceGhosts P) (bench : Ghosts B) (columns : 
 
     pub disagreed : Simulates source bench columns public first_source after first at (Err (fault.Disagrees line (due_of expected)))
     disagreed = ends source bench columns public first_source first more_read cutter from at asked (half.verdicts ++ sent_for expected ∷ []) half.so_far after (Err (fault.Disagrees line (due_of expected))) (search rules)
-        disagrees_at half.so_far.sent (λ t told. tt) within_limit cuts.later (λ is. absurd (search rules)) (λ other. gives.steady)
+        disagrees_at half.so_far.sent (λ t told. tt) within_limit cuts.later (λ is. absurd (search rules)) (λ is. absurd (search rules)) (λ other. gives.steady)
 
 -- ---- a question, and the sending of its verdict
 
@@ -182,7 +182,7 @@ module _ {P B : Type 0} (source : SourceGhosts P) (bench : Ghosts B) (columns : 
   }
 
   -- it couldn't be
-  pub asked_unsent : (bench.told → AppendsFront (bench.sent at) (verdict_bytes due) (bench.sent sending)) → Rose (bench.faults at) (bench.faults sending) → bench.faults at ≤ bench.faults sending
+  pub asked_unsent : (bench.told → AppendsFront (bench.sent at) (verdict_bytes due) (bench.sent sending)) → Rose (bench.faults at) (bench.faults sending) → bench.last_failed sending ≡ true → bench.faults at ≤ bench.faults sending
       → Simulates source bench columns public first_source after first sending (Err fault.Bench)
-  asked_unsent part rose later = question_unsent source bench columns public first_source first more_read cutter from at turn.lines turn.verdicts turn.so_far new after question.line question.gives cuts (length turn.verdicts) turn.even expected expects sending
-      file crash time_of_due (λ told. subst (λ (d : Due). AppendsFront (bench.sent at) (verdict_bytes d) (bench.sent sending)) due_is (part told)) question.gives.steady rose later
+  asked_unsent part rose last later = question_unsent source bench columns public first_source first more_read cutter from at turn.lines turn.verdicts turn.so_far new after question.line question.gives cuts (length turn.verdicts) turn.even expected expects sending
+      file crash time_of_due (λ told. subst (λ (d : Due). AppendsFront (bench.sent at) (verdict_bytes d) (bench.sent sending)) due_is (part told)) question.gives.steady rose last later

@@ -1,5 +1,5 @@
 -- How reading a transcript ends.
-use Rattle.std.specs.Prelude.{◌≡◌, ◌≢◌, ◌⊎◌, ◌<◌, ◌≤◌, ◌-◌, ◌+◌, ◌*◌, ℕ, List, [], ◌∷◌, ◌++◌, length, take, None, Result, Ok, Err, OnOk}
+use Rattle.std.specs.Prelude.{◌≡◌, ◌≢◌, ◌⊎◌, ◌<◌, ◌≤◌, ◌-◌, ◌+◌, ◌*◌, ℕ, true, List, [], ◌∷◌, ◌++◌, length, take, None, Result, Ok, Err, OnOk}
 use Rattle.audit_types.specs.declared.records.Answered.{Answered}
 use Rattle.schema_json.specs.Columns.{Column}
 use Rattle.table_load.specs.Cells.{PublicView}
@@ -107,5 +107,7 @@ pub record Simulates {P B : Type 0} (source : SourceGhosts P) (bench : Ghosts B)
   pub bench_later : bench.faults old ≤ bench.faults at
   pub source_rose : result ≡ Err fault.Input → Rose (source.faults first) (source.faults from)
   pub bench_rose : result ≡ Err fault.Bench → Rose (bench.faults old) (bench.faults at)
+  pub source_last : result ≡ Err fault.Input → source.last_failed from ≡ true
+  pub bench_last : result ≡ Err fault.Bench → bench.last_failed at ≡ true
   pub source_steady : result ≢ Err fault.Input → source.faults from ≡ source.faults first
   pub bench_steady : result ≢ Err fault.Bench → bench.faults at ≡ bench.faults old

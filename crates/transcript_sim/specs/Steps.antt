@@ -61,6 +61,7 @@ pub record FailsRead {P : Type 0} (source : Ghosts P) (old new : Cutter) (before
   pub stops : source.told → StopsAt (old.pending ++ source.left before) (source.left after)
   pub within : new.taken ≤ most_input
   pub rose : Rose (source.faults before) (source.faults after)
+  pub last : source.last_failed after ≡ true
 
 -- the limit was passed
 pub record PassesLimit {P : Type 0} (source : Ghosts P) (old new : Cutter) (before after : P) : Type 0 where

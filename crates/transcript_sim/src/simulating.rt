@@ -1,5 +1,5 @@
 //! Reading a transcript, and sending its verdicts.
-ghost use Rattle.std.specs.Prelude.{◌≡◌, ◌≢◌, ◌≤◌, ◌+◌, ◌++◌, [], List, ℕ, false, length, OnOk, OnErr, Err};
+ghost use Rattle.std.specs.Prelude.{◌≡◌, ◌≢◌, ◌≤◌, ◌+◌, ◌++◌, [], List, ℕ, false, length, OnOk, OnErr, Err, true};
 ghost use Rattle.audit_types.specs.History.{setting_of};
 ghost use Rattle.audit_types.specs.declared.records.Answered.{Answered};
 ghost use Rattle.bench_core.specs.Causes.{HasCause, Rose};
@@ -79,11 +79,12 @@ fn send_verdict<B: Bench>(bench: &mut B, due: Due) -> Result<(), Failed>
     ensures time { Elapses (B.moment bench.old) (B.moment bench.new) (B.since bench.old) (B.since bench.new) (Sending (B.leaves bench.new) (B.sent bench.old) (verdict_bytes due)) }
     ensures ticks { B.told → OnOk result (B.moment bench.new ≡ B.moment bench.old + 1) }
     ensures cause { HasCause (B.faults bench.old) (B.faults bench.new) result }
+    ensures last_call { OnErr result (B.last_failed bench.new ≡ true) }
 {
     bench.send(verdict_line(due))
 }
 
-// Judges the exchanges that are still to come. A reply's line is read after its question's verdict alone.
+// Judges the exchanges that are still to come. A reply is looked at once the verdict on its question was sent.
 fn judge<P: Source, B: Bench>(
     alloc: Global,
     lines: &mut Lines,
@@ -125,8 +126,9 @@ fn judge<P: Source, B: Bench>(
     Ok(())
 }
 
-/// Sends the verdict on each question of a transcript before its reply is read, and takes an answer only from a reply that
-/// agrees. The index is that of the public columns of the schema; no secret is read, and nothing is written.
+/// Sends the verdict on each question of a transcript, by one call before its reply is looked at, and takes an answer only from
+/// a reply that agrees. No verdict depends on its own reply. The index is that of the public columns of the schema; no secret is
+/// read, and nothing is written.
 pub fn simulate<P: Source, B: Bench>(
     alloc: Global,
     schema: &Schema,
@@ -153,6 +155,7 @@ pub fn simulate<P: Source, B: Bench>(
     ensures later { (P.faults source.old ≤ P.faults source.new) × (B.faults bench.old ≤ B.faults bench.new) }
     ensures input { result ≡ Err SimulationFault.Input → Rose (P.faults source.old) (P.faults source.new) }
     ensures bench { result ≡ Err SimulationFault.Bench → Rose (B.faults bench.old) (B.faults bench.new) }
+    ensures last_call { (result ≡ Err SimulationFault.Input → P.last_failed source.new ≡ true) × (result ≡ Err SimulationFault.Bench → B.last_failed bench.new ≡ true) }
     ensures steady { (result ≢ Err SimulationFault.Input → P.faults source.new ≡ P.faults source.old) × (result ≢ Err SimulationFault.Bench → B.faults bench.new ≡ B.faults bench.old) }
 {
     // A public part says of itself that it has 1 to 1,024 rows.

@@ -1,20 +1,21 @@
 -- Numbers whose signs are turned, and a multiple of a list.
-use Rattle.std.proofs.Common.{◌≡◌, ◌≢◌, ℕ, zero, suc, ◌+◌, ◌^◌, ◌<◌, ◌≤◌, false, ℤ, pos, negsuc, List, [], ◌∷◌, length, map, set, refl, sym, ap, ◌∙◌, subst, arith, inl, inr, to_z, of_z}
+use Rattle.std.proofs.Common.{◌≡◌, ◌≢◌, ℕ, ◌+◌, ◌^◌, ◌<◌, ◌≤◌, ℤ, pos, List, [], ◌∷◌, length, map, set, refl, sym, ap, ◌∙◌, subst, arith, inl, inr, to_z, of_z}
 use Rattle.std.specs.Prelude.{◌*ℤ◌, ◌-ℤ◌, neg_ℤ, ◌<ℤ◌, ◌≤ℤ◌, unsigned_abs, FitsSigned}
 use Rattle.std.specs.Int.{w128, ◌∣◌}
-use Rattle.std.specs.List.{AllByRecursion, list_all}
+use Rattle.std.specs.List.{AllByRecursion}
 use Rattle.std.proofs.Math.IntN.{*ℤ_comm, *ℤ-zero}
-use Rattle.std.proofs.Math.Nat.{le-mul_of_pos_right}
 use Rattle.std.proofs.lemmas.Bool.{cases_eq, MatchBool-at_false}
-use Rattle.std.proofs.lemmas.Int.{ints, to_z-of_z, unsigned_abs-mul, fits_signed_from_abs}
+use Rattle.std.proofs.lemmas.Int.{ints, to_z-of_z, fits_signed_from_abs}
 use Rattle.std.proofs.lemmas.List.{same_lists, get_or_default, get_or-map, length-map, get_or-set_same, get_or-set_other}
-use Rattle.audit_types.specs.Truth.{number_at, is_zero}
+use Rattle.audit_types.specs.Truth.{number_at}
 use Rattle.audit_types.specs.Form.{IsContent, pivot_entry}
 use Rattle.int_rows.specs.Primitive.{IsMadePrimitive}
-use Rattle.audit_types.specs.Products.{neg-times}
+use Rattle.audit_types.specs.Products.{neg-times, size_of_factor}
 use Rattle.witness_build.specs.Directions.{IsDivided}
 use Rattle.audit_types.specs.PrimitiveLines.{number_at-times}
-use Rattle.audit_types.specs.Numbers.{size_above}
+use Rattle.audit_types.specs.Numbers.{size_negated, zero_less}
+use Rattle.audit_types.specs.RowNumbers.{number_at-negated, some_entry}
+use Rattle.audit_types.specs.ListLaws.{all-weaker}
 use Rattle.audit_types.specs.Direction.{IsSmall}
 
 -- the numbers below i are turned, and those from i on are as they were
@@ -22,7 +23,8 @@ pub record IsPartlyTurned (old new : List ℤ) (i : ℕ) : Type 0 where
   pub done : (k : ℕ) → k < i → number_at new k ≡ neg_ℤ (number_at old k)
   pub left : (k : ℕ) → i ≤ k → number_at new k ≡ number_at old k
 
-pub one_turned : (old new : List ℤ) (v : ℤ) (i : ℕ) → i < length new → IsPartlyTurned old new i → v ≡ neg_ℤ (number_at new i) → IsPartlyTurned old (set new i v) (i + 1)
+pub one_turned : (old new : List ℤ) (v : ℤ) (i : ℕ) → i < length new → IsPartlyTurned old new i → v ≡ neg_ℤ (number_at new i) →
+    IsPartlyTurned old (set new i v) (i + 1)
 one_turned old new v i inside so_far is = record {
   done = λ k h. elim (cases_eq k i) [
     | inl e ↦ rw e (get_or-set_same new i v (pos 0) inside ∙ is ∙ ap neg_ℤ (so_far.left i (omega arith)))
@@ -43,27 +45,12 @@ module _ (x : ℤ) (fits : FitsSigned w128 x) (small : unsigned_abs x ≤ 2 ^ 12
   pub turn_fits : FitsSigned w128 (pos 0 -ℤ to_z w128 (of_z w128 x))
   turn_fits = rw (to_z-of_z w128 x fits) (fits_signed_from_abs w128 (pos 0 -ℤ x) (let s = turned_size in omega arith))
 
-  less_is : (z : ℤ) → pos 0 -ℤ z ≡ neg_ℤ z
-  less_is z = omega (arith, ints)
-
   pub turn_is : to_z w128 (of_z w128 (pos 0 -ℤ to_z w128 (of_z w128 x))) ≡ neg_ℤ x
-  turn_is = to_z-of_z w128 (pos 0 -ℤ to_z w128 (of_z w128 x)) turn_fits ∙ ap (λ z. pos 0 -ℤ z) (to_z-of_z w128 x fits) ∙ less_is x
-
--- a factor that isn't 0 makes no number less in size
-pub size_of_factor : (a b : ℤ) → a ≢ pos 0 → unsigned_abs b ≤ unsigned_abs (a *ℤ b)
-size_of_factor a b h =
-    let product = unsigned_abs-mul a b in
-    let more = le-mul_of_pos_right (unsigned_abs b) (size_above a h) in
-    omega arith
+  turn_is = to_z-of_z w128 (pos 0 -ℤ to_z w128 (of_z w128 x)) turn_fits ∙ ap (λ z. pos 0 -ℤ z) (to_z-of_z w128 x fits) ∙ zero_less x
 
 pub small_divided : (k : ℤ) (d : List ℤ) → k ≢ pos 0 → IsSmall (map (λ x. k *ℤ x) d) → IsSmall d
 small_divided k [] h s = tt
 small_divided k (x ∷ d) h s = (let more = size_of_factor k x h in let all = s.0 in omega arith, small_divided k d h s.1)
-
-number_at-turned : (d : List ℤ) (j : ℕ) → number_at (map neg_ℤ d) j ≡ neg_ℤ (number_at d j)
-number_at-turned [] j = refl
-number_at-turned (x ∷ d) zero = refl
-number_at-turned (x ∷ d) (suc j) = number_at-turned d j
 
 turned_multiple : (k : ℤ) (d : List ℤ) → map (λ x. k *ℤ x) d ≡ map (λ x. neg_ℤ k *ℤ x) (map neg_ℤ d)
 turned_multiple k [] = refl
@@ -76,39 +63,28 @@ turned_multiple k (x ∷ d) =
     omega (arith, ints) in
     ap (λ z. z ∷ map (λ x. k *ℤ x) d) both ∙ ap (λ l. (neg_ℤ k *ℤ neg_ℤ x) ∷ l) (turned_multiple k d)
 
-size_turned : (x : ℤ) → unsigned_abs (neg_ℤ x) ≡ unsigned_abs x
-size_turned (pos zero) = refl
-size_turned (pos (suc n)) = refl
-size_turned (negsuc n) = refl
-
 divides_turned : (g : ℕ) (d : List ℤ) → AllByRecursion (λ x. g ∣ unsigned_abs x) d → AllByRecursion (λ x. g ∣ unsigned_abs x) (map neg_ℤ d)
 divides_turned g [] h = tt
-divides_turned g (x ∷ d) h = (rw (size_turned x) h.0, divides_turned g d h.1)
+divides_turned g (x ∷ d) h = (rw (size_negated x) h.0, divides_turned g d h.1)
 
 divides_back : (g : ℕ) (d : List ℤ) → AllByRecursion (λ x. g ∣ unsigned_abs x) (map neg_ℤ d) → AllByRecursion (λ x. g ∣ unsigned_abs x) d
 divides_back g [] h = tt
-divides_back g (x ∷ d) h = (rw (size_turned x) at h.0, divides_back g d h.1)
+divides_back g (x ∷ d) h = (rw (size_negated x) at h.0, divides_back g d h.1)
 
 content_turned : (d : List ℤ) (g : ℕ) → IsContent d g → IsContent (map neg_ℤ d) g
 content_turned d g h = record { divides = divides_turned g d h.divides; greatest = λ e all. h.greatest e (divides_back e d all) }
 
-some_left : (d : List ℤ) (j : ℕ) → number_at d j ≢ pos 0 → list_all is_zero d ≡ false
-some_left [] j h = absurd (h refl)
-some_left (pos zero ∷ d) zero h = absurd (h refl)
-some_left (pos zero ∷ d) (suc j) h = some_left d j h
-some_left (pos (suc n) ∷ d) j h = refl
-some_left (negsuc n ∷ d) j h = refl
-
 module _ (old new : List ℤ) (row : ℕ) (moves : number_at old row ≢ pos 0) (made : IsMadePrimitive old new) where
   content_one : IsContent new 1 × (pos 0 <ℤ pivot_entry new)
-  content_one = MatchBool-at_false (new ≡ old) (IsContent new 1 × (pos 0 <ℤ pivot_entry new)) (some_left old row moves) made.primitive
+  content_one = MatchBool-at_false (new ≡ old) (IsContent new 1 × (pos 0 <ℤ pivot_entry new)) (some_entry old row moves) made.primitive
 
   still_moves : number_at new row ≢ pos 0
   still_moves e = moves (ap (λ l. number_at l row) made.is_multiple ∙ number_at-times made.factor new row ∙ ap (λ z. made.factor *ℤ z) e ∙ *ℤ-zero made.factor)
 
   -- where the number at the row isn't negative, it is positive
   pub divided_positive : pos 0 ≤ℤ number_at new row → IsDivided old row new
-  divided_positive h = record { factor = made.factor; is_multiple = made.is_multiple; content = content_one.0; positive = let some = still_moves in omega (arith, ints) }
+  divided_positive h =
+      record { factor = made.factor; is_multiple = made.is_multiple; content = content_one.0; positive = let some = still_moves in omega (arith, ints) }
 
   -- and where it is, the turned one is
   pub divided_turned : (turned : List ℤ) → number_at new row <ℤ pos 0 → turned ≡ map neg_ℤ new → IsDivided old row turned
@@ -116,14 +92,16 @@ module _ (old new : List ℤ) (row : ℕ) (moves : number_at old row ≢ pos 0) 
     factor = neg_ℤ made.factor;
     is_multiple = made.is_multiple ∙ turned_multiple made.factor new;
     content = content_turned new 1 content_one.0;
-    positive = let here = number_at-turned new row in omega (arith, ints);
+    positive = let here = number_at-negated new row in omega (arith, ints);
   })
 
   -- the numbers that are to be turned are small
   pub made_small : IsSmall old → IsSmall new
-  made_small s = small_divided made.factor new (λ e. moves (ap (λ l. number_at l row) made.is_multiple ∙ number_at-times made.factor new row ∙ ap (λ z. z *ℤ number_at new row) e ∙ *ℤ_comm (pos 0) (number_at new row) ∙ *ℤ-zero (number_at new row))) (subst IsSmall made.is_multiple s)
+  made_small s =
+      small_divided made.factor new
+      (λ e. moves (ap (λ l. number_at l row) made.is_multiple ∙ number_at-times made.factor new row ∙ ap (λ z. z *ℤ number_at new row) e ∙ *ℤ_comm (pos 0) (number_at new row) ∙ *ℤ-zero (number_at new row)))
+      (subst IsSmall made.is_multiple s)
 
 -- small numbers are within what may be divided and turned
 pub within_126 : (d : List ℤ) → IsSmall d → AllByRecursion (λ x. unsigned_abs x ≤ 2 ^ 126) d
-within_126 [] h = tt
-within_126 (x ∷ d) h = (let small = h.0 in omega arith, within_126 d h.1)
+within_126 = all-weaker (λ x. unsigned_abs x ≤ 2 ^ 112) (λ x. unsigned_abs x ≤ 2 ^ 126) (λ x small. omega arith)

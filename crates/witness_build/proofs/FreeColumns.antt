@@ -11,18 +11,20 @@ use Rattle.audit_types.specs.Form.{pivot, pivot_entry, IsPrimitive, Reduced}
 use Rattle.audit_types.specs.Rows.{AreRows}
 use Rattle.audit_types.specs.Direction.{IsDirection, IsPinned, is_pivot, first_free, free_column_of}
 use Rattle.audit_types.specs.Products.{zero_factor}
-use Rattle.audit_types.specs.Numbers.{test_of_not_zero, zero_from_test}
+use Rattle.audit_types.specs.Numbers.{test_of_not_zero, zero_from_test, not_zero_from_test}
+use Rattle.audit_types.specs.FormRows.{IsZeroAtOthers, zero_at_others}
+use Rattle.audit_types.specs.Totals.{total-single}
 use Rattle.sum_audit.specs.Dot.{dot}
-use Rattle.sum_audit.specs.DotLaws.{dot_one}
 use Rattle.sum_audit.specs.Laws.{DirectionsByForm}
 use Rattle.witness_build.specs.Directions.{IsForm}
-use Rattle.witness_build.proofs.FormRows.{ZeroAtOthers, zero_at_others, is_pivot_at, not_zero_from_test, test_of_zero}
+use Rattle.witness_build.proofs.FormRows.{is_pivot_at}
 
 -- the search from column j on
 abbrev pub free_from : List (List ℤ) → List ℤ → ℕ → ℕ
 free_from form row j = first_free form (drop j row) j
 
-passes : (form : List (List ℤ)) (x : ℤ) (row : List ℤ) (j : ℕ) → (is_pivot form j || is_zero x) ≡ true → first_free form (x ∷ row) j ≡ first_free form row (j + 1)
+passes : (form : List (List ℤ)) (x : ℤ) (row : List ℤ) (j : ℕ) → (is_pivot form j || is_zero x) ≡ true →
+    first_free form (x ∷ row) j ≡ first_free form row (j + 1)
 passes form x row j e = ap (λ b. cond b (first_free form row (j + 1)) j) e
 
 stops : (form : List (List ℤ)) (x : ℤ) (row : List ℤ) (j : ℕ) → (is_pivot form j || is_zero x) ≡ false → first_free form (x ∷ row) j ≡ j
@@ -30,20 +32,23 @@ stops form x row j e = ap (λ b. cond b (first_free form row (j + 1)) j) e
 
 module _ (form : List (List ℤ)) (k : ℕ) (below : k < length form) where
   -- a column that is the row's pivot or 0 is passed over
-  pub one_passed : (j : ℕ) → j < length (get_or form k []) → (j ≡ pivot (get_or form k [])) ⊎ (number_at (get_or form k []) j ≡ pos 0) → free_from form (get_or form k []) j ≡ free_from form (get_or form k []) (j + 1)
+  pub one_passed : (j : ℕ) → j < length (get_or form k []) → (j ≡ pivot (get_or form k [])) ⊎ (number_at (get_or form k []) j ≡ pos 0) →
+      free_from form (get_or form k []) j ≡ free_from form (get_or form k []) (j + 1)
   one_passed j inside why =
       let row = get_or form k [] in
       let test : (is_pivot form j || is_zero (number_at row j)) ≡ true = elim why [
         | inl e ↦ or_left (is_pivot form j) (is_zero (number_at row j)) (ap (is_pivot form) e ∙ is_pivot_at form k below)
-        | inr e ↦ or_right (is_pivot form j) (is_zero (number_at row j)) (test_of_zero (number_at row j) e)
+        | inr e ↦ or_right (is_pivot form j) (is_zero (number_at row j)) (ap is_zero e)
       ] in
-      ap (λ l. first_free form l j) (drop-cons row j (pos 0) inside) ∙ passes form (number_at row j) (drop (suc j) row) j test ∙ ap (λ i. first_free form (drop i row) (j + 1)) (sym (add-one j))
+      ap (λ l. first_free form l j) (drop-cons row j (pos 0) inside) ∙ passes form (number_at row j) (drop (suc j) row) j test
+      ∙ ap (λ i. first_free form (drop i row) (j + 1)) (sym (add-one j))
 
   -- and any other one is the one
-  pub one_stops : (n : ℕ) → IsForm n form → (j : ℕ) → j < length (get_or form k []) → j ≢ pivot (get_or form k []) → number_at (get_or form k []) j ≢ pos 0 → free_from form (get_or form k []) j ≡ j
+  pub one_stops : (n : ℕ) → IsForm n form → (j : ℕ) → j < length (get_or form k []) → j ≢ pivot (get_or form k []) → number_at (get_or form k []) j ≢ pos 0 →
+      free_from form (get_or form k []) j ≡ j
   one_stops n h j inside other some =
       let row = get_or form k [] in
-      let zero_elsewhere = All-from_recursion (ZeroAtOthers form) form (zero_at_others form h.echelon) k [] below in
+      let zero_elsewhere = All-from_recursion (IsZeroAtOthers form) form (zero_at_others form h.echelon) k [] below in
       let test = or_from (is_pivot form j) (is_zero (number_at row j)) (false_from_ne_true (is_pivot form j) (λ there. some (zero_elsewhere j there other))) (test_of_not_zero (number_at row j) some) in
       ap (λ l. first_free form l j) (drop-cons row j (pos 0) inside) ∙ stops form (number_at row j) (drop (suc j) row) j test
 
@@ -63,13 +68,15 @@ pub length_of_row : (n : ℕ) (form : List (List ℤ)) (k : ℕ) → IsForm n fo
 length_of_row n form k h below = (All-from_recursion (IsPrimitive n) form h.primitive k [] below).one_each
 
 -- a row with another pivot is passed over
-pub other_row : (form : List (List ℤ)) (k i : ℕ) → k < length form → pivot (get_or form k []) ≢ i → free_column_of form (drop k form) i ≡ free_column_of form (drop (k + 1) form) i
+pub other_row : (form : List (List ℤ)) (k i : ℕ) → k < length form → pivot (get_or form k []) ≢ i →
+    free_column_of form (drop k form) i ≡ free_column_of form (drop (k + 1) form) i
 other_row form k i below other =
     ap (λ l. free_column_of form l i) (drop-cons form k [] below)
     ∙ ap (λ b. cond b (first_free form (get_or form k []) 0) (free_column_of form (drop (suc k) form) i)) (ne_eqb (pivot (get_or form k [])) i other)
     ∙ ap (λ m. free_column_of form (drop m form) i) (sym (add-one k))
 
-pub own_row : (form : List (List ℤ)) (k i : ℕ) → k < length form → pivot (get_or form k []) ≡ i → free_column_of form (drop k form) i ≡ first_free form (get_or form k []) 0
+pub own_row : (form : List (List ℤ)) (k i : ℕ) → k < length form → pivot (get_or form k []) ≡ i →
+    free_column_of form (drop k form) i ≡ first_free form (get_or form k []) 0
 own_row form k i below e =
     ap (λ l. free_column_of form l i) (drop-cons form k [] below)
     ∙ ap (λ b. cond b (first_free form (get_or form k []) 0) (free_column_of form (drop (suc k) form) i)) (eq-eqb (pivot (get_or form k [])) i e)
@@ -91,7 +98,8 @@ record IsFirstFree (form : List (List ℤ)) (row : List ℤ) (s j : ℕ) : Type 
   before : (i : ℕ) → s + i < j → (is_pivot form (s + i) || is_zero (number_at row i)) ≡ true
 
 -- a column that is passed over, and the search after it
-passed_over : (form : List (List ℤ)) (x : ℤ) (row : List ℤ) (s j : ℕ) → (is_pivot form s || is_zero x) ≡ true → IsFirstFree form row (s + 1) j → IsFirstFree form (x ∷ row) s j
+passed_over : (form : List (List ℤ)) (x : ℤ) (row : List ℤ) (s j : ℕ) → (is_pivot form s || is_zero x) ≡ true → IsFirstFree form row (s + 1) j →
+    IsFirstFree form (x ∷ row) s j
 passed_over form x row s j e rest =
     let start = rest.from in
     let end = rest.within in
@@ -108,7 +116,8 @@ passed_over form x row s j e rest =
 
     before_at : (i : ℕ) → s + i < j → (is_pivot form (s + i) || is_zero (number_at (x ∷ row) i)) ≡ true
     before_at zero l = let same : s + zero ≡ s = omega arith in ap (λ m. is_pivot form m || is_zero x) same ∙ e
-    before_at (suc i) l = let same : s + suc i ≡ (s + 1) + i = omega arith in ap (λ m. is_pivot form m || is_zero (number_at row i)) same ∙ rest.before i (omega arith)
+    before_at (suc i) l =
+        let same : s + suc i ≡ (s + 1) + i = omega arith in ap (λ m. is_pivot form m || is_zero (number_at row i)) same ∙ rest.before i (omega arith)
 
 -- a column at which the search stops
 stopped_at : (form : List (List ℤ)) (x : ℤ) (row : List ℤ) (s : ℕ) → (is_pivot form s || is_zero x) ≡ false → IsFirstFree form (x ∷ row) s s
@@ -123,7 +132,8 @@ stopped_at form x row s e = record {
     here zero same = not_zero_from_test x (or_parts (is_pivot form s) (is_zero x) e).1
     here (suc i) same = absurd (omega arith)
 
-by_test : (form : List (List ℤ)) (x : ℤ) (row : List ℤ) (s j : ℕ) (b : Bool) → (is_pivot form s || is_zero x) ≡ b → IsFirstFree form row (s + 1) j → IsFirstFree form (x ∷ row) s (cond b j s)
+by_test : (form : List (List ℤ)) (x : ℤ) (row : List ℤ) (s j : ℕ) (b : Bool) → (is_pivot form s || is_zero x) ≡ b → IsFirstFree form row (s + 1) j →
+    IsFirstFree form (x ∷ row) s (cond b j s)
 by_test form x row s j true e rest = passed_over form x row s j e rest
 by_test form x row s j false e rest = stopped_at form x row s e
 
@@ -145,19 +155,20 @@ pub record IsFreeColumn (form rows : List (List ℤ)) (n i j : ℕ) : Type 0 whe
 -- what a row that isn't pinned may suppose of the rows of the form
 record IsOpen (n : ℕ) (sets : List (List ℕ)) (form rows : List (List ℤ)) (i : ℕ) : Type 0 where
   primitive : AllByRecursion (IsPrimitive n) rows
-  zeros : AllByRecursion (ZeroAtOthers form) rows
+  zeros : AllByRecursion (IsZeroAtOthers form) rows
   orthogonal : (d : List ℤ) → IsDirection n sets d → AllByRecursion (λ f. dot n (number_at f) d ≡ pos 0) rows
   same : is_pivot form i ≡ is_pivot rows i
   below : i < n
   free : ¬ (IsPinned n sets i)
 
 -- a row with one entry pins its pivot: its dot product with a direction is that entry times the direction's
-lone_pins : (n : ℕ) (sets : List (List ℕ)) (row : List ℤ) (i : ℕ) → pos 0 <ℤ pivot_entry row → pivot row ≡ i → i < n → ((k : ℕ) → k < n → k ≢ i → number_at row k ≡ pos 0) →
+lone_pins : (n : ℕ) (sets : List (List ℕ)) (row : List ℤ) (i : ℕ) → pos 0 <ℤ pivot_entry row → pivot row ≡ i → i < n →
+    ((k : ℕ) → k < n → k ≢ i → number_at row k ≡ pos 0) →
     ((d : List ℤ) → IsDirection n sets d → dot n (number_at row) d ≡ pos 0) → IsPinned n sets i
 lone_pins n sets row i leading e below zeros orthogonal = record {
   below = below;
   still = λ d direction.
-      let one = dot_one n (number_at row) d i below (λ k l other. ap (λ z. z *ℤ number_at d k) (zeros k l other) ∙ zero-*ℤ (number_at d k)) in
+      let one = total-single (λ k. number_at row k *ℤ number_at d k) n i below (λ k l other. ap (λ z. z *ℤ number_at d k) (zeros k l other) ∙ zero-*ℤ (number_at d k)) in
       let positive : pos 0 <ℤ number_at row i = let entry = ap (number_at row) e in omega (arith, ints) in
       zero_factor (number_at d i) (number_at row i) (*ℤ_comm (number_at d i) (number_at row i) ∙ sym one ∙ orthogonal d direction) positive;
 }
@@ -186,7 +197,8 @@ module _ (n : ℕ) (sets : List (List ℕ)) (form : List (List ℤ)) (row : List
             | inr none ↦ zero_from_test (number_at row k) none
           ]
 
-  by_pivot : (b : Bool) (j : ℕ) → (pivot row == i) ≡ b → ((pivot row == i) ≡ false → IsFreeColumn form rows n i j) → IsFreeColumn form (row ∷ rows) n i (cond b (first_free form row 0) j)
+  by_pivot : (b : Bool) (j : ℕ) → (pivot row == i) ≡ b → ((pivot row == i) ≡ false → IsFreeColumn form rows n i j) →
+      IsFreeColumn form (row ∷ rows) n i (cond b (first_free form row 0) j)
   by_pivot true j e rest =
       let at = eqb-true (pivot row) i e in
       let facts = found form row 0 in
@@ -201,13 +213,16 @@ module _ (n : ℕ) (sets : List (List ℕ)) (form : List (List ℤ)) (row : List
       let there = rest e in
       record { below = there.below; free = there.free; reaches = elim there.reaches [ inl same ↦ inl same | inr r ↦ inr (inr r) ] }
 
-free_column_is : (n : ℕ) (sets : List (List ℕ)) (form rows : List (List ℤ)) (i : ℕ) → IsOpen n sets form rows i → IsFreeColumn form rows n i (free_column_of form rows i)
+free_column_is : (n : ℕ) (sets : List (List ℕ)) (form rows : List (List ℤ)) (i : ℕ) → IsOpen n sets form rows i →
+    IsFreeColumn form rows n i (free_column_of form rows i)
 free_column_is n sets form [] i h = record { below = h.below; free = h.same; reaches = inl refl }
 free_column_is n sets form (row ∷ rows) i h =
-    by_pivot n sets form row rows i h (pivot row == i) (free_column_of form rows i) refl (λ e. free_column_is n sets form rows i (passed_row n sets form row rows i h e))
+    by_pivot n sets form row rows i h (pivot row == i) (free_column_of form rows i) refl
+    (λ e. free_column_is n sets form rows i (passed_row n sets form row rows i h e))
 
 -- the free column of a row that isn't pinned
-pub free_column_found : DirectionsByForm → (n : ℕ) (sets : List (List ℕ)) (form : List (List ℤ)) (i : ℕ) → AllByRecursion (AreRows n) sets → Reduced n sets form → i < n → ¬ (IsPinned n sets i) → IsFreeColumn form form n i (free_column_of form form i)
+pub free_column_found : DirectionsByForm → (n : ℕ) (sets : List (List ℕ)) (form : List (List ℤ)) (i : ℕ) → AllByRecursion (AreRows n) sets →
+    Reduced n sets form → i < n → ¬ (IsPinned n sets i) → IsFreeColumn form form n i (free_column_of form form i)
 free_column_found directions n sets form i are reduced below free = free_column_is n sets form form i (record {
   primitive = reduced.primitive;
   zeros = zero_at_others form reduced.echelon;

@@ -51,7 +51,8 @@ is_max : (known : Known) → known.kind ≡ Max → known_max known.n known.answ
 is_max known e = ap (λ kind. record { kind = kind; n = known.n; answers = known.answers }) (sym e)
 
 -- where no row is lone, both lists agree, by the laws of maxima
-pub both_agree : HighestAgrees → LoneOrLowered → (known : Known) (row : ℕ) → known.kind ≡ Max → IsWellFormed known → IsConsistent known.answers → ((r : ℕ) → ¬ (IsLone known.answers r)) →
+pub both_agree : HighestAgrees → LoneOrLowered → (known : Known) (row : ℕ) → known.kind ≡ Max → IsWellFormed known → IsConsistent known.answers →
+    ((r : ℕ) → ¬ (IsLone known.answers r)) →
     row < known.n → Agrees known (lowered_at (highest known.n known.answers) row) × Agrees known (highest known.n known.answers)
 both_agree highest_law lowered_law known row kind well consistent free below =
     let is = is_max known kind in

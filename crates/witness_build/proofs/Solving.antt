@@ -14,6 +14,9 @@ use Rattle.audit_types.specs.Truth.{number_at}
 use Rattle.audit_types.specs.Form.{pivot, pivot_entry, pivot_entries}
 use Rattle.audit_types.specs.Direction.{is_pivot, IsSmall}
 use Rattle.audit_types.specs.Products.{neg-times, times_assoc}
+use Rattle.audit_types.specs.Numbers.{zero_less}
+use Rattle.audit_types.specs.ListLaws.{all-push, all-set}
+use Rattle.audit_types.specs.RowNumbers.{all_by_number}
 use Rattle.witness_build.specs.Directions.{IsForm, Solves, IsSolvedWith}
 use Rattle.witness_build.proofs.FormRows.{is_pivot_at, other_pivots, is_pivot-more}
 
@@ -22,7 +25,8 @@ pub record IsQuotient (common pivot_entry : ℤ) (times : ℕ) : Type 0 where
   pub product : pos times *ℤ pivot_entry ≡ common
   pub small : times ≤ 2 ^ 56
 
-pub quotient : (common lead : ℤ) (a b : ℕ) → pos 0 <ℤ common → pos 0 <ℤ lead → unsigned_abs common ≤ 2 ^ 56 → unsigned_abs lead ∣ unsigned_abs common → a ≡ unsigned_abs common → b ≡ unsigned_abs lead → IsQuotient common lead (a / b)
+pub quotient : (common lead : ℤ) (a b : ℕ) → pos 0 <ℤ common → pos 0 <ℤ lead → unsigned_abs common ≤ 2 ^ 56 → unsigned_abs lead ∣ unsigned_abs common →
+    a ≡ unsigned_abs common → b ≡ unsigned_abs lead → IsQuotient common lead (a / b)
 quotient (pos m) (pos p) a b h k small divides e f = subst (λ x. IsQuotient (pos m) (pos p) (x / b)) (sym e) (subst (λ y. IsQuotient (pos m) (pos p) (m / y)) (sym f) (record {
   product =
       let whole = div-add-mod' m p in
@@ -67,72 +71,66 @@ module _ (entry : ℤ) (times : ℕ) (fits : FitsSigned w128 entry) (small : uns
   turned_is : to_z w128 (of_z w128 (pos 0 -ℤ to_z w128 (of_z w128 (to_z w128 (of_z w128 entry) *ℤ to_z w128 times)))) ≡ pos 0 -ℤ entry *ℤ pos times
   turned_is = to_z-of_z w128 (pos 0 -ℤ to_z w128 (of_z w128 (to_z w128 (of_z w128 entry) *ℤ to_z w128 times))) turned_fits ∙ ap (λ z. pos 0 -ℤ z) product_read
 
-  less_is : (z : ℤ) → pos 0 -ℤ z ≡ neg_ℤ z
-  less_is z = omega (arith, ints)
-
   solution_at : (lead common : ℤ) → IsQuotient common lead times → IsSolution entry lead common (pos 0 -ℤ entry *ℤ pos times)
   solution_at lead common q = record {
-    exact = ap (λ z. z *ℤ lead) (less_is (entry *ℤ pos times)) ∙ neg-times (entry *ℤ pos times) lead ∙ ap neg_ℤ (times_assoc entry (pos times) lead ∙ ap (λ z. entry *ℤ z) q.product);
+    exact =
+        ap (λ z. z *ℤ lead) (zero_less (entry *ℤ pos times)) ∙ neg-times (entry *ℤ pos times) lead
+        ∙ ap neg_ℤ (times_assoc entry (pos times) lead ∙ ap (λ z. entry *ℤ z) q.product);
     small = size_turned (entry *ℤ pos times) size;
   }
 
-  pub solution_is : (lead common : ℤ) → IsQuotient common lead times → IsSolution entry lead common (to_z w128 (of_z w128 (pos 0 -ℤ to_z w128 (of_z w128 (to_z w128 (of_z w128 entry) *ℤ to_z w128 times)))))
+  pub solution_is : (lead common : ℤ) → IsQuotient common lead times →
+      IsSolution entry lead common (to_z w128 (of_z w128 (pos 0 -ℤ to_z w128 (of_z w128 (to_z w128 (of_z w128 entry) *ℤ to_z w128 times)))))
   solution_is lead common q = rw turned_is (solution_at lead common q)
 
 -- the pivot entry of a row divides a common multiple
-pub divides_at : (form : List (List ℤ)) (m k : ℕ) → AllByRecursion (λ x. x ∣ m) (pivot_entries form) → k < length form → unsigned_abs (pivot_entry (get_or form k [])) ∣ m
+pub divides_at : (form : List (List ℤ)) (m k : ℕ) → AllByRecursion (λ x. x ∣ m) (pivot_entries form) → k < length form →
+    unsigned_abs (pivot_entry (get_or form k [])) ∣ m
 divides_at [] m k h l = absurd (omega arith)
 divides_at (row ∷ rows) m zero h l = h.0
 divides_at (row ∷ rows) m (suc k) h l = divides_at rows m k h.1 (omega arith)
 
-small-set : (d : List ℤ) (i : ℕ) (x : ℤ) → IsSmall d → unsigned_abs x ≤ 2 ^ 112 → IsSmall (set d i x)
-small-set [] i x h s = tt
-small-set (y ∷ d) zero x h s = (s, h.1)
-small-set (y ∷ d) (suc i) x h s = (h.0, small-set d i x h.1 s)
-
-small_zeros : (d : List ℤ) → ((j : ℕ) → number_at d j ≡ pos 0) → IsSmall d
-small_zeros [] h = tt
-small_zeros (x ∷ d) h = (let none = ap unsigned_abs (h 0) in omega arith, small_zeros d (λ j. h (suc j)))
-
 -- with the common multiple at the free column alone, no row is solved yet
-pub solving_begins : (n : ℕ) (common : ℤ) (free : ℕ) (d : List ℤ) → length d ≡ n → ((j : ℕ) → number_at d j ≡ pos 0) → free < n → unsigned_abs common ≤ 2 ^ 56 → IsSolvedWith n common [] free (set d free common)
+pub solving_begins : (n : ℕ) (common : ℤ) (free : ℕ) (d : List ℤ) → length d ≡ n → ((j : ℕ) → number_at d j ≡ pos 0) → free < n → unsigned_abs common ≤ 2 ^ 56 →
+    IsSolvedWith n common [] free (set d free common)
 solving_begins n common free d e zeros below small = record {
   one_each = length-set d free common ∙ e;
   at_free = get_or-set_same d free common (pos 0) (omega arith);
   solves = tt;
   elsewhere = λ j none other. get_or-set_other d free j common (pos 0) other ∙ zeros j;
-  small = small-set d free common (small_zeros d zeros) (omega arith);
+  small =
+      all-set (λ y. unsigned_abs y ≤ 2 ^ 112) d free common (all_by_number (λ y. unsigned_abs y ≤ 2 ^ 112) d (λ j. let none = ap unsigned_abs (zeros j) in omega arith)) (omega arith);
 }
 
-still_solves : (d : List ℤ) (common : ℤ) (free p : ℕ) (x : ℤ) (rows : List (List ℤ)) → AllByRecursion (λ r. pivot r ≢ p) rows → AllByRecursion (Solves d common free) rows → AllByRecursion (Solves (set d p x) common free) rows
+still_solves : (d : List ℤ) (common : ℤ) (free p : ℕ) (x : ℤ) (rows : List (List ℤ)) → AllByRecursion (λ r. pivot r ≢ p) rows →
+    AllByRecursion (Solves d common free) rows → AllByRecursion (Solves (set d p x) common free) rows
 still_solves d common free p x [] h k = tt
-still_solves d common free p x (r ∷ rows) h k = (ap (λ z. z *ℤ pivot_entry r) (get_or-set_other d p (pivot r) x (pos 0) h.0) ∙ k.0, still_solves d common free p x rows h.1 k.1)
-
-push_solved : (d : List ℤ) (common : ℤ) (free : ℕ) (rows : List (List ℤ)) (row : List ℤ) → AllByRecursion (Solves d common free) rows → Solves d common free row → AllByRecursion (Solves d common free) (rows ++ row ∷ [])
-push_solved d common free [] row h last = (last, tt)
-push_solved d common free (r ∷ rows) row h last = (h.0, push_solved d common free rows row h.1 last)
+still_solves d common free p x (r ∷ rows) h k =
+    (ap (λ z. z *ℤ pivot_entry r) (get_or-set_other d p (pivot r) x (pos 0) h.0) ∙ k.0, still_solves d common free p x rows h.1 k.1)
 
 -- one row more is solved
-solved_more : (n : ℕ) (common : ℤ) (rows : List (List ℤ)) (row : List ℤ) (free p : ℕ) (d : List ℤ) (x : ℤ) → p ≡ pivot row → p < n → free ≢ p → AllByRecursion (λ r. pivot r ≢ p) rows → IsSolvedWith n common rows free d → IsSolution (number_at row free) (pivot_entry row) common x →
+solved_more : (n : ℕ) (common : ℤ) (rows : List (List ℤ)) (row : List ℤ) (free p : ℕ) (d : List ℤ) (x : ℤ) → p ≡ pivot row → p < n → free ≢ p →
+    AllByRecursion (λ r. pivot r ≢ p) rows → IsSolvedWith n common rows free d → IsSolution (number_at row free) (pivot_entry row) common x →
     IsSolvedWith n common (rows ++ row ∷ []) free (set d p x)
 solved_more n common rows row free p d x e below apart others so_far is = record {
   one_each = length-set d p x ∙ so_far.one_each;
   at_free = get_or-set_other d p free x (pos 0) apart ∙ so_far.at_free;
-  solves = push_solved (set d p x) common free rows row (still_solves d common free p x rows others so_far.solves)
+  solves = all-push (Solves (set d p x) common free) rows row (still_solves d common free p x rows others so_far.solves)
       (ap (λ z. z *ℤ pivot_entry row) (ap (number_at (set d p x)) (sym e) ∙ get_or-set_same d p x (pos 0) (let long = so_far.one_each in omega arith)) ∙ is.exact);
   elsewhere = λ j none other.
       let neither = sym (is_pivot-more rows row j) ∙ none in
       let here = (or_parts (pivot row == j) false (or_parts (is_pivot rows j) (pivot row == j || false) neither).1).0 in
       get_or-set_other d p j x (pos 0) (λ same. absurd (different (pivot row == j) here (eq-eqb (pivot row) j (sym e ∙ sym same))))
       ∙ so_far.elsewhere j (or_parts (is_pivot rows j) (pivot row == j || false) neither).0 other;
-  small = small-set d p x so_far.small is.small;
+  small = all-set (λ y. unsigned_abs y ≤ 2 ^ 112) d p x so_far.small is.small;
 }
   where
     different : (b : Bool) → b ≡ false → b ≡ true → ⊥
     different true f t = cc
     different false f t = cc
 
-pub row_solved : (n : ℕ) (common : ℤ) (form : List (List ℤ)) (k free p : ℕ) (d : List ℤ) (x : ℤ) → IsForm n form → k < length form → is_pivot form free ≡ false → p ≡ pivot (get_or form k []) → p < n → IsSolvedWith n common (take k form) free d →
+pub row_solved : (n : ℕ) (common : ℤ) (form : List (List ℤ)) (k free p : ℕ) (d : List ℤ) (x : ℤ) → IsForm n form → k < length form →
+    is_pivot form free ≡ false → p ≡ pivot (get_or form k []) → p < n → IsSolvedWith n common (take k form) free d →
     IsSolution (number_at (get_or form k []) free) (pivot_entry (get_or form k [])) common x → IsSolvedWith n common (take (k + 1) form) free (set d p x)
 row_solved n common form k free p d x h l none e below so_far is =
     subst (λ rows. IsSolvedWith n common rows free (set d p x)) (sym (take_more form k [] l))
@@ -147,15 +145,19 @@ common_small x m e h = let size = ap unsigned_abs e in omega arith
 pub common_positive : (x : ℤ) (m : ℕ) → FitsSigned w128 x → x ≡ pos m → 0 < m → pos 0 <ℤ to_z w128 (of_z w128 x)
 common_positive x m fits e h = rw (to_z-of_z w128 x fits) (omega (arith, ints))
 
-pub divides_of : (form : List (List ℤ)) (k p m : ℕ) (x y : ℤ) → FitsSigned w128 x → FitsSigned w128 y → x ≡ number_at (get_or form k []) p → p ≡ pivot (get_or form k []) → y ≡ pos m → AllByRecursion (λ z. z ∣ m) (pivot_entries form) → k < length form →
+pub divides_of : (form : List (List ℤ)) (k p m : ℕ) (x y : ℤ) → FitsSigned w128 x → FitsSigned w128 y → x ≡ number_at (get_or form k []) p →
+    p ≡ pivot (get_or form k []) → y ≡ pos m → AllByRecursion (λ z. z ∣ m) (pivot_entries form) → k < length form →
     unsigned_abs (to_z w128 (of_z w128 x)) ∣ unsigned_abs (to_z w128 (of_z w128 y))
 divides_of form k p m x y fx fy ex e ey all l =
     let entry = ap unsigned_abs (to_z-of_z w128 x fx ∙ ex ∙ ap (number_at (get_or form k [])) e) in
     let common = ap unsigned_abs (to_z-of_z w128 y fy ∙ ey) in
-    subst (λ u. u ∣ unsigned_abs (to_z w128 (of_z w128 y))) (sym entry) (subst (λ v. unsigned_abs (pivot_entry (get_or form k [])) ∣ v) (sym common) (divides_at form m k all l))
+    subst (λ u. u ∣ unsigned_abs (to_z w128 (of_z w128 y))) (sym entry)
+    (subst (λ v. unsigned_abs (pivot_entry (get_or form k [])) ∣ v) (sym common) (divides_at form m k all l))
 
 -- the solution as the code reads it
-pub solution_read : (row : List ℤ) (free p : ℕ) (x e l common : ℤ) → FitsSigned w128 x → FitsSigned w128 e → FitsSigned w128 l → x *ℤ to_z w128 (of_z w128 l) ≡ neg_ℤ (to_z w128 (of_z w128 e) *ℤ common) → unsigned_abs x ≤ 2 ^ 112 → e ≡ number_at row free → l ≡ number_at row p → p ≡ pivot row →
+pub solution_read : (row : List ℤ) (free p : ℕ) (x e l common : ℤ) → FitsSigned w128 x → FitsSigned w128 e → FitsSigned w128 l →
+    x *ℤ to_z w128 (of_z w128 l) ≡ neg_ℤ (to_z w128 (of_z w128 e) *ℤ common) → unsigned_abs x ≤ 2 ^ 112 → e ≡ number_at row free → l ≡ number_at row p →
+    p ≡ pivot row →
     IsSolution (number_at row free) (pivot_entry row) common (to_z w128 (of_z w128 x))
 solution_read row free p x e l common fx fe fl exact small entry lead at =
     let first = to_z-of_z w128 e fe ∙ entry in
@@ -172,5 +174,6 @@ take_past (row ∷ rows) zero h = absurd (omega arith)
 take_past (row ∷ rows) (suc k) h = ap (λ l. row ∷ l) (take_past rows k (omega arith))
 
 -- after the last row all are solved
-pub all_solved : (n : ℕ) (common : ℤ) (form : List (List ℤ)) (k free : ℕ) (d : List ℤ) → length form ≤ k → IsSolvedWith n common (take k form) free d → IsSolvedWith n common form free d
+pub all_solved : (n : ℕ) (common : ℤ) (form : List (List ℤ)) (k free : ℕ) (d : List ℤ) → length form ≤ k → IsSolvedWith n common (take k form) free d →
+    IsSolvedWith n common form free d
 all_solved n common form k free d h so_far = subst (λ rows. IsSolvedWith n common rows free d) (take_past form k h) so_far

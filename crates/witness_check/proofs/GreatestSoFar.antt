@@ -1,8 +1,8 @@
 -- A walk that keeps the greatest number so far.
-use Rattle.std.proofs.Common.{◌≡◌, ℕ, ◌+◌, ◌<◌, ◌≤◌, ℤ, List, [], ◌∷◌, map, length, refl, arith, Option, Some, None}
+use Rattle.std.proofs.Common.{◌≡◌, ℕ, ◌<◌, ◌≤◌, ℤ, List, [], ◌∷◌, map, length, refl, Option, Some, None}
 use Rattle.std.specs.Int.{int_max}
 use Rattle.std.specs.List.{AllByRecursion, fold}
-use Rattle.audit_types.specs.Rows.{AscendsFrom, AreRows}
+use Rattle.audit_types.specs.Rows.{AreRows}
 use Rattle.audit_types.specs.Truth.{number_at}
 use Rattle.witness_check.specs.Pairs.{greater_of, greatest_of}
 use Rattle.audit_types.specs.FilteredRows.{rows_within}

@@ -5,7 +5,7 @@ use Rattle.std.specs.Int.{w128}
 use Rattle.std.specs.List.{AllByRecursion}
 use Rattle.std.proofs.lemmas.Int.{ints, to_z-of_z, fits_signed_from_abs}
 use Rattle.std.proofs.Math.IntN.{+ℤ_idl}
-use Rattle.audit_types.specs.Rows.{Rows, AscendsFrom, AreRows}
+use Rattle.audit_types.specs.Rows.{Rows, AreRows}
 use Rattle.audit_types.specs.RowLaws.{length-rows}
 use Rattle.audit_types.specs.FilteredRows.{rows_within}
 use Rattle.audit_types.specs.Truth.{number_at, sum_over}

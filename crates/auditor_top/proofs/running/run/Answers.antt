@@ -1,4 +1,5 @@
 use Rattle.std.proofs.Common.{◌≡◌, ◌+◌, ℕ, List, [], ◌++◌, Option, Some, refl, sym, ◌∙◌, ap, subst}
+use Rattle.std.proofs.lemmas.Bool.{false≢true}
 use Rattle.std.proofs.lemmas.List.{append_cancel_left, append-nil}
 use Rattle.bench_core.specs.Calls.{LeavesOnly}
 use Rattle.bench_core.specs.Moments.{started}
@@ -7,14 +8,16 @@ use Rattle.question_plan.specs.Replies.{IsDue}
 use Rattle.audit_session.specs.Ends.{TakesCalls}
 use Rattle.audit_session.specs.Stops.{Stop, StopsOver, stands_over}
 use Rattle.journal_audit.specs.Reports.{subjects}
+use Rattle.journal_audit.specs.SendLaws.{none_front}
 use Rattle.auditor_top.specs.declared.words.Command.{Command}
 use Rattle.auditor_top.specs.declared.words.Command.TheVariants.{Init, Serve, Audit, Simulate, Drill}
+use Rattle.auditor_top.specs.declared.status.Status.{Status}
 use Rattle.auditor_top.specs.Commands.{opens_journal, reads_files, reads_secrets, reads_lines}
 use Rattle.auditor_top.specs.Causes.{WordCause, FileCause}
 use Rattle.auditor_top.specs.Drills.{DrillEnds}
 use Rattle.auditor_top.specs.Ends.{ServeEnds, audit_over, outside}
 use Rattle.auditor_top.proofs.OneTable.{nothing_served, untouched_stops}
-use Rattle.auditor_top.proofs.AuditEndings.{none_sent, untouched_report}
+use Rattle.auditor_top.proofs.AuditEndings.{untouched_report}
 use Rattle.auditor_top.proofs.SimulationEndings.{none_begun, before_lines, still_file}
 use Rattle.auditor_top.proofs.OneCommand.{one_command, one_batch, one_drill, not_false}
 use Rattle.auditor_top.proofs.running.run.Goals as goal
@@ -49,7 +52,7 @@ returns-in-Err-NoMemory-clause-lives g c = λ ptold itold told batch asked quiet
     (subst (λ (bytes : List ℕ). Stop (IsDue base) (stands_over base) batch history (counted_lines input) image bytes) same stops.2)
 
 pub returns-in-Err-NoMemory-clause-audited : goal.returns-in-Err-NoMemory-clause-audited
-returns-in-Err-NoMemory-clause-audited g c = λ ptold told asked base history over. none_sent (audit_over base history) (subjects base.secret.shape) (g.B.Bench.sent c.args.bench.now)
+returns-in-Err-NoMemory-clause-audited g c = λ ptold told asked base history over. none_front (audit_over base history) (subjects base.secret.shape) (g.B.Bench.sent c.args.bench.now)
 
 pub returns-in-Err-NoMemory-clause-auditing : goal.returns-in-Err-NoMemory-clause-auditing
 returns-in-Err-NoMemory-clause-auditing g c = λ ptold told asked quiet base history over.
@@ -82,6 +85,9 @@ returns-in-Ok-Init-clause-makes g c = λ ptold told asked base files absent none
 
 pub returns-in-Ok-Init-clause-later : goal.returns-in-Ok-Init-clause-later
 returns-in-Ok-Init-clause-later g c = c.init.ensures.later (g.I.Source.faults c.args.input.now) (g.B.Bench.faults c.args.spare.now)
+
+pub returns-in-Ok-Init-clause-input_last : goal.returns-in-Ok-Init-clause-input_last
+returns-in-Ok-Init-clause-input_last g c = λ is. absurd (false≢true (subst (λ (status : Status). WordCause status (Some Init)) is c.init.ensures.word_cause))
 
 -- ---- `serve`
 
@@ -153,6 +159,9 @@ returns-in-Ok-Audit-clause-audits g c = λ ptold told asked base history over no
 
 pub returns-in-Ok-Audit-clause-later : goal.returns-in-Ok-Audit-clause-later
 returns-in-Ok-Audit-clause-later g c = c.audit.ensures.later (g.I.Source.faults c.args.input.now) (g.B.Bench.faults c.args.spare.now)
+
+pub returns-in-Ok-Audit-clause-input_last : goal.returns-in-Ok-Audit-clause-input_last
+returns-in-Ok-Audit-clause-input_last g c = λ is. absurd (false≢true (subst (λ (status : Status). WordCause status (Some Audit)) is c.audit.ensures.word_cause))
 
 -- ---- `simulate`
 

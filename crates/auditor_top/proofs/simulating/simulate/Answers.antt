@@ -11,8 +11,8 @@ use Rattle.auditor_top.specs.Status.{open_status}
 use Rattle.auditor_top.specs.Ends.{SimulateEnds, SimulateSends}
 use Rattle.auditor_top.specs.Causes.{SchemaCause, TableCause, FaultCause, InputCause, IsDoneOrWants, counts}
 use Rattle.auditor_top.proofs.Calls.{simulation_done}
-use Rattle.auditor_top.proofs.StepFaults.{moved}
-use Rattle.auditor_top.proofs.SimulationEndings.{same_columns, same_public_part, none_begun, before_lines, still_file, unopened_verdicts, unopened_sends, unopened_simulation, simulation_ends, simulation_sends, simulation_reads, simulation_faults, simulation_wants}
+use Rattle.auditor_top.proofs.StepFaults.{moved, unopened_wants}
+use Rattle.auditor_top.proofs.SimulationEndings.{same_columns, same_public_part, none_begun, before_lines, still_file, unopened_verdicts, unopened_sends, simulation_ends, simulation_sends, simulation_reads, simulation_faults, simulation_wants}
 use Rattle.auditor_top.proofs.simulating.simulate.Goals as goal
 
 -- ---- the files weren't opened
@@ -45,7 +45,7 @@ returns-in-Err-clause-complete g c = λ ptold itold columns public files verdict
     let bench = g.B.Bench.faults c.args.bench.now in
     let before = counts (g.P.Source.faults c.args.schema.now) (g.P.Source.faults c.args.table.now) read bench spare in
     let after = counts (g.P.Source.faults c.open_public.new.schema) (g.P.Source.faults c.open_public.new.table) read bench spare in
-    subst (λ (status : Status). IsDoneOrWants status) (sym c.from.ensures) (unopened_simulation fault columns public before after schema table (c.in-Err.ensures.faults read bench spare) none)
+    subst (λ (status : Status). IsDoneOrWants status) (sym c.from.ensures) (unopened_wants fault columns public before after schema table (c.in-Err.ensures.faults read bench spare) none)
 
 -- ---- no memory for the index
 

@@ -5,15 +5,16 @@ use mir.Val.{to_z, of_z}
 use Rattle.std.proofs.lemmas.Int.{to_z-of_z}
 use Rattle.std.proofs.Math.IntN.{*ℤ-zero}
 use Rattle.int_rows.specs.Exact.{divided}
-use Rattle.int_rows.specs.PrimitiveLaws.{zero_from_bits, times_one, short_is}
+use Rattle.int_rows.specs.PrimitiveLaws.{zero_from_bits, short_is}
 use Rattle.int_rows.proofs.divisors.quotient.Goals.{then-of-eq1-via-then-of-eq1, then-of-eq1-via-else-of-eq1+then-multiple-eq0}
 use Rattle.int_rows.proofs.divisors.quotient.Goals as goal
+use Rattle.audit_types.specs.Products.{one-times}
 
 of_zero : (multiple of : ℤ) → multiple ≡ pos 0 → multiple ≡ of *ℤ multiple
 of_zero multiple of e = e ∙ sym (ap (λ z. of *ℤ z) e ∙ *ℤ-zero of)
 
 by_one : (multiple of : ℤ) → of ≡ pos 1 → multiple ≡ of *ℤ multiple
-by_one multiple of e = times_one multiple ∙ sym (ap (λ z. z *ℤ multiple) e)
+by_one multiple of e = sym (one-times multiple) ∙ sym (ap (λ z. z *ℤ multiple) e)
 
 pub returns-then-of-eq1 : goal.returns-then-of-eq1
 returns-then-of-eq1 c = rw (to_z-of_z w128 c.args.multiple c.ranges.multiple) (elim c.then-of-eq1.branch [
@@ -37,7 +38,8 @@ returns-then-is_short-2 c =
     let two = short_is c.args.of c.ranges.of (tested c.args.of c.is_short-then-is_short.result c.ranges.of c.if-is_short-2.true c.is_short-then-is_short.ensures.0) in
     let q : FitsSigned w64 c.short_quotient.result = search rules in
     let wide : FitsSigned w128 c.short_quotient.result = search rules in
-    sym one ∙ c.short_quotient.ensures ∙ ap (λ z. z *ℤ c.short_quotient.result) two ∙ ap (λ z. c.args.of *ℤ z) (sym (ap (λ z. to_z w128 (of_z w128 z)) (to_z-of_z w64 c.short_quotient.result q) ∙ to_z-of_z w128 c.short_quotient.result wide))
+    sym one ∙ c.short_quotient.ensures ∙ ap (λ z. z *ℤ c.short_quotient.result) two
+    ∙ ap (λ z. c.args.of *ℤ z) (sym (ap (λ z. to_z w128 (of_z w128 z)) (to_z-of_z w64 c.short_quotient.result q) ∙ to_z-of_z w128 c.short_quotient.result wide))
 
 pub returns-else-is_short : goal.returns-else-is_short
 returns-else-is_short c = divided c.args.multiple c.args.of c.requires.not_zero c.ranges.multiple c.ranges.of c.requires.size c.requires.divides

@@ -21,4 +21,5 @@ loop-x-preserved c =
 
 pub returns-then-divisor-eq1-clause-content : goal.returns-then-divisor-eq1-clause-content
 returns-then-divisor-eq1-clause-content c =
-    IsContent-one c.args.row.now c.loop-x.x-index (subst (λ (g : ℕ). IsContent (take c.loop-x.x-index c.args.row.now) g) c.if-divisor-eq1.true c.loop-x.invariant.content)
+    IsContent-one c.args.row.now c.loop-x.x-index
+    (subst (λ (g : ℕ). IsContent (take c.loop-x.x-index c.args.row.now) g) c.if-divisor-eq1.true c.loop-x.invariant.content)

@@ -16,7 +16,8 @@ pub loop-x-init : goal.loop-x-init
 loop-x-init c = record { done = λ k h. absurd (omega arith); left = λ k h. refl }
 
 pub returns-then-by-eq1 : goal.returns-then-by-eq1
-returns-then-by-eq1 c = subst (λ z. c.args.row.now ≡ map (λ x. z *ℤ x) c.args.row.now) (sym (one_is c.args.by c.ranges.by c.if-by-eq1.true)) (one_times c.args.row.now)
+returns-then-by-eq1 c =
+    subst (λ z. c.args.row.now ≡ map (λ x. z *ℤ x) c.args.row.now) (sym (one_is c.args.by c.ranges.by c.if-by-eq1.true)) (one_times c.args.row.now)
 
 pub quotient-requires-clause-divides : goal.quotient-requires-clause-divides
 quotient-requires-clause-divides c =
@@ -43,4 +44,6 @@ loop-x-preserved c =
     one_more c.args.row.now c.loop-x.row _ _ i (omega arith) c.loop-x.invariant is
 
 pub returns : goal.returns
-returns c = all_divided c.args.row.now c.loop-x.row c.args.by c.loop-x.x-index c.loop-x.auto.row c.loop-x-test.false (subst (λ (d : ℤ). IsPartlyDivided c.args.row.now c.loop-x.row d c.loop-x.x-index) (to_z-of_z w128 c.args.by c.ranges.by) c.loop-x.invariant)
+returns c =
+    all_divided c.args.row.now c.loop-x.row c.args.by c.loop-x.x-index c.loop-x.auto.row c.loop-x-test.false
+    (subst (λ (d : ℤ). IsPartlyDivided c.args.row.now c.loop-x.row d c.loop-x.x-index) (to_z-of_z w128 c.args.by c.ranges.by) c.loop-x.invariant)

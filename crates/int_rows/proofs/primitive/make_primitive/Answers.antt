@@ -10,7 +10,8 @@ use Rattle.int_rows.proofs.primitive.make_primitive.Goals as goal
 pub divide-requires-clause-divides : goal.divide-requires-clause-divides
 divide-requires-clause-divides c =
     let fits : FitsSigned w128 c.signed_content-by.result = search rules in
-    subst (λ (b : ℤ). AllByRecursion (λ x. unsigned_abs b ∣ unsigned_abs x) c.args.row.now) (sym (to_z-of_z w128 c.signed_content-by.result fits)) c.signed_content-by.ensures.content.divides
+    subst (λ (b : ℤ). AllByRecursion (λ x. unsigned_abs b ∣ unsigned_abs x) c.args.row.now)
+    (sym (to_z-of_z w128 c.signed_content-by.result fits)) c.signed_content-by.ensures.content.divides
 
 pub returns-then-by-ne0 : goal.returns-then-by-ne0
 returns-then-by-ne0 c =

@@ -6,7 +6,9 @@ use Rattle.journal_audit.proofs.reporting.audit.Given.{Over}
 use Rattle.journal_audit.proofs.reporting.audit.Goals as goal
 
 -- the columns' lines were refused
-refused_first : (g : Over) (c : goal.After-from_residual g) → SendsLinesOn g.B.Bench (audit_of c.args.schema.now.columns c.args.store.now) (subjects c.args.store.now.secret.shape) c.args.bench.now c.send_columns.new.bench c.from_residual.result
+refused_first : (g : Over) (c : goal.After-from_residual g) →
+    SendsLinesOn g.B.Bench (audit_of c.args.schema.now.columns c.args.store.now)
+    (subjects c.args.store.now.secret.shape) c.args.bench.now c.send_columns.new.bench c.from_residual.result
 refused_first g c =
     let shape = c.args.store.now.secret.shape in
     let audit = audit_of c.args.schema.now.columns c.args.store.now in
@@ -15,11 +17,14 @@ refused_first g c =
     (refused g.B.Bench g.met.B.Bench.only_now audit (subjects_before shape (columns shape)) (totals ∷ []) c.args.bench.now c.send_columns.new.bench c.in_err-send_columns.field-0.0 c.in_err-send_columns.ensures)
 
 -- the columns' lines were sent, and then that of totals
-then_totals : (g : Over) (c : goal.After-send_totals g) → SendsLinesOn g.B.Bench (audit_of c.args.schema.now.columns c.args.store.now) (subjects c.args.store.now.secret.shape) c.args.bench.now c.send_totals.new.bench c.send_totals.result
+then_totals : (g : Over) (c : goal.After-send_totals g) →
+    SendsLinesOn g.B.Bench (audit_of c.args.schema.now.columns c.args.store.now)
+    (subjects c.args.store.now.secret.shape) c.args.bench.now c.send_totals.new.bench c.send_totals.result
 then_totals g c =
     let shape = c.args.store.now.secret.shape in
     let audit = audit_of c.args.schema.now.columns c.args.store.now in
-    and_then g.B.Bench g.met.B.Bench.only_now audit (subjects_before shape (columns shape)) (totals ∷ []) c.args.bench.now c.send_columns.new.bench c.send_totals.new.bench c.in_ok-send_columns.ensures c.send_totals.result c.send_totals.ensures
+    and_then g.B.Bench g.met.B.Bench.only_now audit (subjects_before shape (columns shape))
+    (totals ∷ []) c.args.bench.now c.send_columns.new.bench c.send_totals.new.bench c.in_ok-send_columns.ensures c.send_totals.result c.send_totals.ensures
 
 pub returns-in_err-send_columns-clause-part : goal.returns-in_err-send_columns-clause-part
 returns-in_err-send_columns-clause-part g c = (refused_first g c).part

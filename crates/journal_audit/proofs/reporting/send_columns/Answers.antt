@@ -25,7 +25,8 @@ returns-in_err-send_column g c =
     let counted = (secret_at c.args.schema.now.columns c.loop-place.place column (sym c.in-Some.ensures.place)).counted in
     let is = refusal_is c.from_residual.result _ c.from_residual.ensures in
     let among = column_among shape column (columns shape) below in
-    refused_among g.B.Bench g.met.B.Bench.only_now audit (subjects_before shape column) (subjects_of shape column (kind_at shape column)) among.0 (subjects_before shape (columns shape)) c.args.bench.now c.loop-place.bench c.send_column.new.bench
+    refused_among g.B.Bench g.met.B.Bench.only_now audit (subjects_before shape column) (subjects_of shape column (kind_at shape column)) among.0
+    (subjects_before shape (columns shape)) c.args.bench.now c.loop-place.bench c.send_column.new.bench
     c.from_residual.result c.in_err-send_column.field-0.0 among.1 (is.1.0 ∙ ap Err is.1.1)
     (subst (λ n. SendsLinesOn g.B.Bench audit (subjects_before shape n) c.args.bench.now c.loop-place.bench (Ok tt)) (sym counted) c.loop-place.invariant)
     c.in_err-send_column.ensures
@@ -43,11 +44,13 @@ loop-place-preserved g c =
           let found = sym c.secret.ensures.place ∙ w.in-Some.is in
           let so_far = subst (λ n. SendsLinesOn g.B.Bench audit (subjects_before shape n) c.args.bench.now c.loop-place.bench (Ok tt)) (sym (secret_at schema place column found).counted) c.loop-place.invariant in
           let both = and_then g.B.Bench g.met.B.Bench.only_now audit (subjects_before shape column) (subjects_of shape column (kind_at shape column)) c.args.bench.now c.loop-place.bench w.send_column.new.bench so_far (Ok tt) w.in_ok-send_column.ensures in
-          subst (λ l. SendsLinesOn g.B.Bench audit l c.args.bench.now c.match-secret.bench (Ok tt)) (sym (ap (subjects_before shape) (one_more_secret schema place column found) ∙ subjects_before-more shape column))
+          subst (λ l. SendsLinesOn g.B.Bench audit l c.args.bench.now c.match-secret.bench (Ok tt))
+          (sym (ap (subjects_before shape) (one_more_secret schema place column found) ∙ subjects_before-more shape column))
           (subst (λ b. SendsLinesOn g.B.Bench audit (subjects_before shape column ++ subjects_of shape column (kind_at shape column)) c.args.bench.now b (Ok tt)) (sym w.bench-is) both)
       | in_default w ↦
           let none = sym c.secret.ensures.place ∙ w.in_default.is in
-          subst (λ n. SendsLinesOn g.B.Bench audit (subjects_before shape n) c.args.bench.now c.match-secret.bench (Ok tt)) (sym (no_more_secret schema place below none))
+          subst (λ n. SendsLinesOn g.B.Bench audit (subjects_before shape n) c.args.bench.now c.match-secret.bench (Ok tt))
+          (sym (no_more_secret schema place below none))
           (subst (λ b. SendsLinesOn g.B.Bench audit (subjects_before shape (secret_count (take place schema))) c.args.bench.now b (Ok tt)) (sym w.bench-is) c.loop-place.invariant)
     ]
 

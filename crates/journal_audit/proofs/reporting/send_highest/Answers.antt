@@ -17,7 +17,8 @@ unreachable-requires g c =
     let free = c.free_numbers.ensures.lone (secret_table secret) history c.args.column (c.lists_of_secrets.ensures secret c.requires.is.numbers) c.requires.is.legal c.requires.below c.requires.part.own_kind in
     let consistent = subst IsConsistent (sym c.requires.part.answers) free.0 in
     let found = c.in-Some.ensures.fixed consistent in
-    free.1 c.in-Some.field-0 (subst (λ n. c.in-Some.field-0 < n) c.requires.part.n found.0.0) (subst (λ a. IsLone a c.in-Some.field-0) c.requires.part.answers c.in-Some.ensures.lone.0)
+    free.1 c.in-Some.field-0 (subst (λ n. c.in-Some.field-0 < n) c.requires.part.n found.0.0)
+    (subst (λ a. IsLone a c.in-Some.field-0) c.requires.part.answers c.in-Some.ensures.lone.0)
 
 pub name-name-requires : goal.name-name-requires
 name-name-requires g c = place_below c.args.schema.now.columns c.args.place c.args.column c.requires.named
@@ -38,7 +39,8 @@ returns-in_err-write_column g c =
     let audit = audit_of c.args.schema.now.columns c.args.store.now in
     let about = column_of c.args.column ∷ [] in
     let is = refusal_is c.from_residual.result _ c.from_residual.ensures in
-    subst (λ r. SendsLinesOn g.B.Bench audit about c.args.bench.now c.args.bench.now r) (sym (is.1.0 ∙ ap Err is.1.1)) (no_memory g.B.Bench g.met.B.Bench.only_now audit about c.args.bench.now)
+    subst (λ r. SendsLinesOn g.B.Bench audit about c.args.bench.now c.args.bench.now r) (sym (is.1.0 ∙ ap Err is.1.1))
+    (no_memory g.B.Bench g.met.B.Bench.only_now audit about c.args.bench.now)
 
 pub returns : goal.returns
 returns g c =
@@ -47,4 +49,5 @@ returns g c =
     let line = c.deref.ensures.value ∙ c.in_ok-write_column.ensures ∙ ap (λ s. high_line s (highest c.args.maxima.now.n c.args.maxima.now.answers)) named
     ∙ ap (λ n. high_line (secret_name audit.schema c.args.column) (highest n c.args.maxima.now.answers)) c.requires.part.n
     ∙ ap (λ a. high_line (secret_name audit.schema c.args.column) (highest audit.shape.rows a)) c.requires.part.answers in
-    line_on g.B.Bench g.met.B.Bench.only_now audit (column_of c.args.column) c.deref.result.now line c.args.bench.now c.send_line.new.bench c.send_line.result c.send_line.ensures
+    line_on g.B.Bench g.met.B.Bench.only_now audit
+    (column_of c.args.column) c.deref.result.now line c.args.bench.now c.send_line.new.bench c.send_line.result c.send_line.ensures

@@ -18,7 +18,8 @@ returns-in_err-sets g c =
     let audit = audit_of c.args.schema.now.columns c.args.store.now in
     let all = rows_before c.args.column audit.shape.rows in
     let is = refusal_is c.from_residual.result _ c.from_residual.ensures in
-    subst (λ r. SendsLinesOn g.B.Bench audit all c.args.bench.now c.args.bench.now r) (sym (is.1.0 ∙ ap Err is.1.1)) (no_memory g.B.Bench g.met.B.Bench.only_now audit all c.args.bench.now)
+    subst (λ r. SendsLinesOn g.B.Bench audit all c.args.bench.now c.args.bench.now r) (sym (is.1.0 ∙ ap Err is.1.1))
+    (no_memory g.B.Bench g.met.B.Bench.only_now audit all c.args.bench.now)
 
 pub loop-row-init : goal.loop-row-init
 loop-row-init g c = no_lines g.B.Bench g.met.B.Bench.only_now (audit_of c.args.schema.now.columns c.args.store.now) c.args.bench.now
@@ -35,7 +36,8 @@ write_row-requires-clause-same_n g c =
     let audit = audit_of c.args.schema.now.columns c.args.store.now in
     let sets = sets_same_n audit.shape.rows (λ r. r.column == c.args.column) audit.history (same_n (secret_table c.args.store.now.secret) audit.history c.requires.is.legal) in
     let here = c.deref.ensures.value ∙ c.in_ok-sets.ensures ∙ ap (λ l. map (λ (r : Answered). r.rows) (filter (λ r. r.column == c.args.column) l)) c.history.ensures.history in
-    subst (λ n. AllByRecursion (λ s. s.n ≡ n) c.deref.result.now) (sym c.requires.part.n) (subst (λ l. AllByRecursion (λ s. s.n ≡ audit.shape.rows) l) (sym here) sets)
+    subst (λ n. AllByRecursion (λ s. s.n ≡ n) c.deref.result.now) (sym c.requires.part.n)
+    (subst (λ l. AllByRecursion (λ s. s.n ≡ audit.shape.rows) l) (sym here) sets)
 
 pub write_row-requires-clause-sets : goal.write_row-requires-clause-sets
 write_row-requires-clause-sets g c =
@@ -50,8 +52,10 @@ returns-in_err-write_row g c =
     let row = c.loop-row.row in
     let is = refusal_is c.from_residual-in_err-write_row.result _ c.from_residual-in_err-write_row.ensures in
     let among = row_among column row audit.shape.rows (omega (arith, c.loop-row-test.true, c.n-row-end.ensures.n, c.requires.part.n)) in
-    refused_among g.B.Bench g.met.B.Bench.only_now audit (rows_before column row) (row_of column row ∷ []) among.0 (rows_before column audit.shape.rows) c.args.bench.now c.loop-row.bench c.loop-row.bench
-    c.from_residual-in_err-write_row.result _ among.1 (is.1.0 ∙ ap Err is.1.1) c.loop-row.invariant (no_memory g.B.Bench g.met.B.Bench.only_now audit (row_of column row ∷ []) c.loop-row.bench)
+    refused_among g.B.Bench g.met.B.Bench.only_now audit (rows_before column row) (row_of column row ∷ []) among.0
+    (rows_before column audit.shape.rows) c.args.bench.now c.loop-row.bench c.loop-row.bench
+    c.from_residual-in_err-write_row.result _ among.1 (is.1.0 ∙ ap Err is.1.1) c.loop-row.invariant
+    (no_memory g.B.Bench g.met.B.Bench.only_now audit (row_of column row ∷ []) c.loop-row.bench)
 
 pub returns-in_err-send_line : goal.returns-in_err-send_line
 returns-in_err-send_line g c =
@@ -63,7 +67,8 @@ returns-in_err-send_line g c =
     let w = c.in_ok-write_row.ensures in
     let name = name_is audit.schema c.args.place column c.name-name.result.now c.requires.named c.name-name.ensures in
     let line = is_row_line audit column row c.args.sums.now.n c.args.sums.now.answers c.name-name.result.now c.deref-in-loop-row.result.now c.requires.part.n c.requires.part.answers name w.0 w.1 w.2.0 w.2.1 (c.deref-in-loop-row.ensures.value ∙ w.2.2) in
-    refused_among g.B.Bench g.met.B.Bench.only_now audit (rows_before column row) (row_of column row ∷ []) among.0 (rows_before column audit.shape.rows) c.args.bench.now c.loop-row.bench c.send_line.new.bench
+    refused_among g.B.Bench g.met.B.Bench.only_now audit (rows_before column row) (row_of column row ∷ []) among.0
+    (rows_before column audit.shape.rows) c.args.bench.now c.loop-row.bench c.send_line.new.bench
     c.from_residual-in_err-send_line.result c.in_err-send_line.field-0.0 among.1 (is.1.0 ∙ ap Err is.1.1) c.loop-row.invariant
     (line_on g.B.Bench g.met.B.Bench.only_now audit (row_of column row) c.deref-in-loop-row.result.now line c.loop-row.bench c.send_line.new.bench (Err c.in_err-send_line.field-0.0) c.in_err-send_line.ensures)
 

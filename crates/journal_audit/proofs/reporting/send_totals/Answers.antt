@@ -9,7 +9,8 @@ pub returns-in_err-write_totals : goal.returns-in_err-write_totals
 returns-in_err-write_totals g c =
     let audit = audit_of c.args.schema.now.columns c.args.store.now in
     let is = refusal_is c.from_residual.result _ c.from_residual.ensures in
-    subst (λ r. SendsLinesOn g.B.Bench audit (totals ∷ []) c.args.bench.now c.args.bench.now r) (sym (is.1.0 ∙ ap Err is.1.1)) (no_memory g.B.Bench g.met.B.Bench.only_now audit (totals ∷ []) c.args.bench.now)
+    subst (λ r. SendsLinesOn g.B.Bench audit (totals ∷ []) c.args.bench.now c.args.bench.now r) (sym (is.1.0 ∙ ap Err is.1.1))
+    (no_memory g.B.Bench g.met.B.Bench.only_now audit (totals ∷ []) c.args.bench.now)
 
 pub returns : goal.returns
 returns g c =

@@ -19,7 +19,10 @@ loop-row-preserved c =
           let more = moved_by d i c.loop-row-test.true (λ e. w.if-number-ne0.true (ap (of_z w128) e)) in
           let put = w.in_ok-put_at_row.ensures ∙ ap (λ z. w.put_comma.new.line.items ++ at_row i z) same ∙ ap (λ l. l ++ at_row i x) w.in_ok-put_comma.ensures in
           record {
-            so_far = ap (λ v. v.items) w.line-is ∙ text_more before w.put_at_row.new.line.items c.loop-row.line.items c.loop-row.first texts (at_row i x) c.loop-row.invariant.so_far c.loop-row.invariant.none_before put
+            so_far =
+                ap (λ v. v.items) w.line-is
+                ∙ text_more before w.put_at_row.new.line.items c.loop-row.line.items c.loop-row.first texts
+                (at_row i x) c.loop-row.invariant.so_far c.loop-row.invariant.none_before put
                 ∙ ap (λ t. before ++ with_commas t) (sym more);
             none_before = w.first-is ∙ sym (ap is_none more ∙ is_none-snoc texts (at_row i x));
           }

@@ -16,7 +16,9 @@ loop-number-preserved c =
     let more = numbers_more c.args.numbers.now i c.loop-number-test.true in
     let put = c.in_ok-put_number.ensures ∙ ap (λ z. c.put_comma.new.line.items ++ signed_decimal z) same ∙ ap (λ l. l ++ signed_decimal x) c.in_ok-put_comma.ensures in
     record {
-      so_far = text_more before c.put_number.new.line.items c.loop-number.line.items c.loop-number.first texts (signed_decimal x) c.loop-number.invariant.so_far c.loop-number.invariant.none_before put
+      so_far =
+          text_more before c.put_number.new.line.items c.loop-number.line.items c.loop-number.first texts
+          (signed_decimal x) c.loop-number.invariant.so_far c.loop-number.invariant.none_before put
           ∙ ap (λ t. before ++ with_commas t) (sym more);
       none_before = sym (ap is_none more ∙ is_none-snoc texts (signed_decimal x));
     }

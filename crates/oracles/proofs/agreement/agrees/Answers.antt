@@ -1,8 +1,5 @@
-use Rattle.std.proofs.Common.{◌≡◌, ap, sym, subst, ◌∙◌, ◌==◌, of_z, w64}
-use Rattle.std.proofs.lemmas.Bool.{eq-eqb}
-use Rattle.audit_types.specs.declared.records.Answered.{Answered}
+use Rattle.std.proofs.Common.{◌≡◌, ap, ◌∙◌, of_z, w64}
 use Rattle.audit_types.specs.Column.{Answer}
-use Rattle.audit_types.specs.History.{answer_in}
 use Rattle.audit_types.specs.Truth.{truth}
 use Rattle.audit_types.specs.HistoryLaws.{own_answer}
 use Rattle.oracles.proofs.agreement.agrees.Goals as goal

@@ -1,5 +1,5 @@
 -- What is left of the open constructs ends at the same bracket, and the operand under them means the same.
-use Rattle.std.proofs.Common.{◌≡◌, vec_len}
+use Rattle.std.proofs.Common.{◌≡◌, length}
 use Rattle.predicate_lang.specs.Trees.{tree_of}
 use Rattle.predicate_lang.specs.Machine.{negated, without_nots}
 use Rattle.predicate_lang.specs.Building.{frames_of}
@@ -12,4 +12,4 @@ invariant-nots l = record {
 }
 
 abbrev pub decreases-nots : goal.decreases-nots
-decreases-nots l = vec_len l.opened
+decreases-nots l = length l.opened.items

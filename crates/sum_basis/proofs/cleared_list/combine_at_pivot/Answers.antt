@@ -1,43 +1,39 @@
-use Rattle.std.proofs.Common.{◌≡◌, ℕ, ◌+◌, ◌≤◌, ◌^◌, ℤ, pos, List, get_or, sym, ap, ◌∙◌, subst, arith, rules}
+use Rattle.std.proofs.Common.{◌≡◌, ℕ, ◌+◌, ◌≤◌, ◌^◌, ℤ, pos, List, get_or, refl, sym, ap, ◌∙◌, subst, arith, rules}
 use Rattle.std.specs.Prelude.{FitsSigned, unsigned_abs, ◌*ℤ◌, ◌-ℤ◌, ◌<ℤ◌}
 use Rattle.std.specs.Int.{w128}
 use Rattle.std.specs.List.{AllByRecursion}
 use mir.Val.{to_z, of_z}
 use Rattle.std.proofs.lemmas.Int.{to_z-of_z}
 use Rattle.sum_basis.specs.declared.sparse.FreeEntry.{FreeEntry}
-use Rattle.sum_basis.specs.declared.sparse.SparseRow.{SparseRow}
-use Rattle.sum_basis.specs.Elimination.{IsSmall}
-use Rattle.sum_basis.specs.Sparse.{entry_at, row_of, entries_of, IsKept, IsNew}
+use Rattle.sum_basis.specs.Sparse.{entry_at, entries_of, IsNew}
 use Rattle.sum_basis.proofs.Sizes.{product_small}
 use Rattle.sum_basis.proofs.SparseRows.{small_values, listed_from}
 use Rattle.sum_basis.proofs.ListContents.{none}
 use Rattle.sum_basis.proofs.ClearedLists.{is_led, entry_small, head_small, combined_small, positive_times}
 use Rattle.sum_basis.proofs.cleared_list.combine_at_pivot.Goals as goal
-
--- the first entry of the new row is small
-by_small : (n : ℕ) (new : List FreeEntry) → IsNew n new → unsigned_abs (get_or new 0 none).value ≤ 2 ^ 56
-by_small n new is = (is_led n new is.some is.listed).small is.small
+use Rattle.sum_basis.proofs.Wide.{product_of}
+use Rattle.sum_basis.proofs.BoundedRows.{first_small}
 
 by_positive : (n : ℕ) (new : List FreeEntry) → IsNew n new → pos 0 <ℤ (get_or new 0 none).value
 by_positive n new is = subst (λ z. pos 0 <ℤ z) (is_led n new is.some is.listed).pivot_entry_is is.primitive.leading
 
-times_small : (n : ℕ) (r : SparseRow) (times : ℤ) (place : ℕ) → IsKept n r → IsSmall (row_of n (entries_of r)) → times ≡ entry_at r.free.items place → unsigned_abs times ≤ 2 ^ 56
-times_small n r times place kept small e = rw e (entry_small n r place kept small)
-
 pub combine_into-requires-clause-by : goal.combine_into-requires-clause-by
 combine_into-requires-clause-by c =
     let fits : FitsSigned w128 (get_or c.args.new.now 0 (record { place = 0; value = pos 0 })).value = search rules in
-    rw (to_z-of_z w128 (get_or c.args.new.now 0 none).value fits) (by_small c.args.columns c.args.new.now c.requires.new)
+    rw (to_z-of_z w128 (get_or c.args.new.now 0 none).value fits) (first_small c.args.columns c.args.new.now _ c.requires.new refl)
 
 pub combine_into-requires-clause-first : goal.combine_into-requires-clause-first
-combine_into-requires-clause-first c = rw c.deref.ensures.value (listed_from (c.args.row.now.pivot + 1) 0 c.args.columns c.args.row.now.free.items (omega arith) c.requires.kept.listed.3)
+combine_into-requires-clause-first c =
+    rw c.deref.ensures.value (listed_from (c.args.row.now.pivot + 1) 0 c.args.columns c.args.row.now.free.items (omega arith) c.requires.kept.listed.3)
 
 pub combine_into-requires-clause-first_small : goal.combine_into-requires-clause-first_small
 combine_into-requires-clause-first_small c =
-    subst (AllByRecursion (λ (e : FreeEntry). unsigned_abs e.value ≤ 2 ^ 56)) (sym c.deref.ensures.value) (small_values c.args.columns (entries_of c.args.row.now) c.requires.kept.listed c.requires.small).1
+    subst (AllByRecursion (λ (e : FreeEntry). unsigned_abs e.value ≤ 2 ^ 56)) (sym c.deref.ensures.value)
+    (small_values c.args.columns (entries_of c.args.row.now) c.requires.kept.listed c.requires.small).1
 
 pub combine_into-requires-clause-times : goal.combine_into-requires-clause-times
-combine_into-requires-clause-times c = rw (to_z-of_z w128 c.args.times c.ranges.times) (times_small c.args.columns c.args.row.now c.args.times _ c.requires.kept c.requires.small c.requires.times)
+combine_into-requires-clause-times c =
+    rw (to_z-of_z w128 c.args.times c.ranges.times) (rw c.requires.times (entry_small c.args.columns c.args.row.now _ c.requires.kept c.requires.small))
 
 pub combine_into-requires-clause-second_small : goal.combine_into-requires-clause-second_small
 combine_into-requires-clause-second_small c = small_values c.args.columns c.args.new.now c.requires.new.listed c.requires.new.small
@@ -45,22 +41,20 @@ combine_into-requires-clause-second_small c = small_values c.args.columns c.args
 pub product-requires-clause-x : goal.product-requires-clause-x
 product-requires-clause-x c =
     let fits : FitsSigned w128 (get_or c.args.new.now 0 (record { place = 0; value = pos 0 })).value = search rules in
-    rw (to_z-of_z w128 (get_or c.args.new.now 0 none).value fits) (by_small c.args.columns c.args.new.now c.requires.new)
+    rw (to_z-of_z w128 (get_or c.args.new.now 0 none).value fits) (first_small c.args.columns c.args.new.now _ c.requires.new refl)
 
 pub product-requires-clause-y : goal.product-requires-clause-y
 product-requires-clause-y c =
     let fits : FitsSigned w128 c.args.row.now.head = search rules in
     rw (to_z-of_z w128 c.args.row.now.head fits) (head_small c.args.columns c.args.row.now c.requires.kept c.requires.small)
 
--- the product as it is
-product_is : (p x y : ℤ) → FitsSigned w128 p → FitsSigned w128 x → FitsSigned w128 y → p ≡ to_z w128 (of_z w128 x) *ℤ to_z w128 (of_z w128 y) → to_z w128 (of_z w128 p) ≡ x *ℤ y
-product_is p x y f g h e = to_z-of_z w128 p f ∙ e ∙ ap (λ z. z *ℤ to_z w128 (of_z w128 y)) (to_z-of_z w128 x g) ∙ ap (λ z. x *ℤ z) (to_z-of_z w128 y h)
-
 -- the combination, of the numbers as they are
-combined_is : (row new out list : List FreeEntry) (by times : ℤ) → FitsSigned w128 by → FitsSigned w128 times → list ≡ row → ((j : ℕ) → entry_at out j ≡ to_z w128 (of_z w128 by) *ℤ entry_at list j -ℤ to_z w128 (of_z w128 times) *ℤ entry_at new j)
+combined_is : (row new out list : List FreeEntry) (by times : ℤ) → FitsSigned w128 by → FitsSigned w128 times → list ≡ row
+    → ((j : ℕ) → entry_at out j ≡ to_z w128 (of_z w128 by) *ℤ entry_at list j -ℤ to_z w128 (of_z w128 times) *ℤ entry_at new j)
     → (j : ℕ) → entry_at out j ≡ by *ℤ entry_at row j -ℤ times *ℤ entry_at new j
 combined_is row new out list by times p q e is j =
-    is j ∙ ap (λ z. z *ℤ entry_at list j -ℤ to_z w128 (of_z w128 times) *ℤ entry_at new j) (to_z-of_z w128 by p) ∙ ap (λ z. by *ℤ entry_at list j -ℤ z *ℤ entry_at new j) (to_z-of_z w128 times q)
+    is j ∙ ap (λ z. z *ℤ entry_at list j -ℤ to_z w128 (of_z w128 times) *ℤ entry_at new j) (to_z-of_z w128 by p)
+    ∙ ap (λ z. by *ℤ entry_at list j -ℤ z *ℤ entry_at new j) (to_z-of_z w128 times q)
     ∙ ap (λ l. by *ℤ entry_at l j -ℤ times *ℤ entry_at new j) e
 
 pub combine_into-requires-clause-times_some : goal.combine_into-requires-clause-times_some
@@ -69,13 +63,16 @@ combine_into-requires-clause-times_some c = rw (to_z-of_z w128 c.args.times c.ra
 pub returns-clause-combined : goal.returns-clause-combined
 returns-clause-combined c =
     let x : FitsSigned w128 (get_or c.args.new.now 0 (record { place = 0; value = pos 0 })).value = search rules in
-    combined_is c.args.row.now.free.items c.args.new.now c.combine_into.new.out.items c.deref.result.now (get_or c.args.new.now 0 none).value c.args.times x c.ranges.times c.deref.ensures.value c.combine_into.ensures.combined
+    combined_is c.args.row.now.free.items c.args.new.now c.combine_into.new.out.items c.deref.result.now
+    (get_or c.args.new.now 0 none).value c.args.times x c.ranges.times c.deref.ensures.value c.combine_into.ensures.combined
 
 pub returns-clause-sizes : goal.returns-clause-sizes
 returns-clause-sizes c =
     let x : FitsSigned w128 (get_or c.args.new.now 0 (record { place = 0; value = pos 0 })).value = search rules in
-    combined_small c.args.columns c.args.row.now c.args.new.now c.combine_into.new.out.items (get_or c.args.new.now 0 none).value c.args.times c.requires.kept c.requires.small c.requires.new
-    (by_small c.args.columns c.args.new.now c.requires.new) (times_small c.args.columns c.args.row.now c.args.times _ c.requires.kept c.requires.small c.requires.times) c.combine_into.ensures.listed
+    combined_small c.args.columns c.args.row.now c.args.new.now c.combine_into.new.out.items
+    (get_or c.args.new.now 0 none).value c.args.times c.requires.kept c.requires.small c.requires.new
+    (first_small c.args.columns c.args.new.now _ c.requires.new refl)
+    (rw c.requires.times (entry_small c.args.columns c.args.row.now _ c.requires.kept c.requires.small)) c.combine_into.ensures.listed
     (combined_is c.args.row.now.free.items c.args.new.now c.combine_into.new.out.items c.deref.result.now (get_or c.args.new.now 0 none).value c.args.times x c.ranges.times c.deref.ensures.value c.combine_into.ensures.combined)
 
 pub returns-clause-head : goal.returns-clause-head
@@ -83,13 +80,13 @@ returns-clause-head c =
     let x : FitsSigned w128 (get_or c.args.new.now 0 (record { place = 0; value = pos 0 })).value = search rules in
     let y : FitsSigned w128 c.args.row.now.head = search rules in
     let p : FitsSigned w128 c.product.result = search rules in
-    product_is c.product.result (get_or c.args.new.now 0 none).value c.args.row.now.head p x y c.product.ensures
+    product_of c.product.result (get_or c.args.new.now 0 none).value c.args.row.now.head p x y c.product.ensures.exact
 
 pub returns-clause-leading : goal.returns-clause-leading
 returns-clause-leading c =
     let x : FitsSigned w128 (get_or c.args.new.now 0 (record { place = 0; value = pos 0 })).value = search rules in
     let y : FitsSigned w128 c.args.row.now.head = search rules in
     let p : FitsSigned w128 c.product.result = search rules in
-    rw (product_is c.product.result (get_or c.args.new.now 0 none).value c.args.row.now.head p x y c.product.ensures)
-    (let size = product_small (get_or c.args.new.now 0 none).value c.args.row.now.head (by_small c.args.columns c.args.new.now c.requires.new) (head_small c.args.columns c.args.row.now c.requires.kept c.requires.small) in
+    rw (product_of c.product.result (get_or c.args.new.now 0 none).value c.args.row.now.head p x y c.product.ensures.exact)
+    (let size = product_small (get_or c.args.new.now 0 none).value c.args.row.now.head (first_small c.args.columns c.args.new.now _ c.requires.new refl) (head_small c.args.columns c.args.row.now c.requires.kept c.requires.small) in
     (positive_times (get_or c.args.new.now 0 none).value c.args.row.now.head (by_positive c.args.columns c.args.new.now c.requires.new) c.requires.kept.leading, omega arith))

@@ -36,10 +36,12 @@ loop-k-preserved c =
     let q : FitsSigned w128 c.quotient-value.result = search rules in
     let is = sym (to_z-of_z w128 c.index-e.result.now.value value) ∙ c.quotient-value.ensures ∙ ap (λ z. pos c.args.by.now *ℤ z) (sym (to_z-of_z w128 c.quotient-value.result q)) in
     record {
-      scaled = one_more_scaled c.args.entries.now.items c.loop-k.entries.items _ c.loop-k.k _ (omega arith) c.loop-k.invariant.scaled (here ∙ multiple c.index-e.result.now (pos c.args.by.now) (to_z w128 (of_z w128 c.quotient-value.result)) is);
+      scaled =
+          one_more_scaled c.args.entries.now.items c.loop-k.entries.items _ c.loop-k.k _ (omega arith) c.loop-k.invariant.scaled (here ∙ multiple c.index-e.result.now (pos c.args.by.now) (to_z w128 (of_z w128 c.quotient-value.result)) is);
       length = length-set c.loop-k.entries.items c.loop-k.k _ ∙ c.loop-k.invariant.length;
       capacity = c.loop-k.invariant.capacity;
     }
 
 pub returns-clause-scaled : goal.returns-clause-scaled
-returns-clause-scaled c = all_scaled c.args.entries.now.items c.loop-k.entries.items (pos c.args.by.now) c.loop-k.k c.loop-k.invariant.length (omega arith) c.loop-k.invariant.scaled
+returns-clause-scaled c =
+    all_scaled c.args.entries.now.items c.loop-k.entries.items (pos c.args.by.now) c.loop-k.k c.loop-k.invariant.length (omega arith) c.loop-k.invariant.scaled

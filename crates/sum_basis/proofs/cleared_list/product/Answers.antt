@@ -16,7 +16,9 @@ short_product-requires-clause-x c = rw (short c.args.x c.ranges.x c.requires.x) 
 pub short_product-requires-clause-y : goal.short_product-requires-clause-y
 short_product-requires-clause-y c = rw (short c.args.y c.ranges.y c.requires.y) c.requires.y
 
-pub returns : goal.returns
-returns c =
+pub returns-clause-exact : goal.returns-clause-exact
+returns-clause-exact c =
     let fits : FitsSigned w128 c.short_product.result = search rules in
-    to_z-of_z w128 c.short_product.result fits ∙ c.short_product.ensures ∙ ap (λ z. z *ℤ to_z w64 (of_z w64 (to_z w128 (of_z w128 c.args.y)))) (short c.args.x c.ranges.x c.requires.x) ∙ ap (λ z. c.args.x *ℤ z) (short c.args.y c.ranges.y c.requires.y)
+    to_z-of_z w128 c.short_product.result fits ∙ c.short_product.ensures
+    ∙ ap (λ z. z *ℤ to_z w64 (of_z w64 (to_z w128 (of_z w128 c.args.y)))) (short c.args.x c.ranges.x c.requires.x)
+    ∙ ap (λ z. c.args.x *ℤ z) (short c.args.y c.ranges.y c.requires.y)

@@ -14,7 +14,8 @@ widened z fits small = ap (λ x. to_z w128 (of_z w128 x)) (to_z-of_z w64 z fits)
 product_is : (x y : ℤ) → FitsSigned w64 x → FitsSigned w64 y → unsigned_abs x ≤ 2 ^ 56 → unsigned_abs y ≤ 2 ^ 56
     → to_z w128 (of_z w128 (to_z w128 (of_z w128 (to_z w64 (of_z w64 x))) *ℤ to_z w128 (of_z w128 (to_z w64 (of_z w64 y))))) ≡ x *ℤ y
 product_is x y p q small also =
-    ap (λ z. to_z w128 (of_z w128 (z *ℤ to_z w128 (of_z w128 (to_z w64 (of_z w64 y)))))) (widened x p small) ∙ ap (λ z. to_z w128 (of_z w128 (x *ℤ z))) (widened y q also)
+    ap (λ z. to_z w128 (of_z w128 (z *ℤ to_z w128 (of_z w128 (to_z w64 (of_z w64 y)))))) (widened x p small)
+    ∙ ap (λ z. to_z w128 (of_z w128 (x *ℤ z))) (widened y q also)
     ∙ to_z-of_z w128 (x *ℤ y) (fits_signed_from_abs w128 (x *ℤ y) (let size = product_small x y small also in omega arith))
 
 pub returns : goal.returns

@@ -26,4 +26,5 @@ returns c =
     let fits : FitsSigned w128 c.value_from.result = search rules in
     let parted = c.places_before-k.ensures.parted in
     to_z-of_z w128 c.value_from.result fits ∙ c.value_from.ensures
-    ∙ value_from_there 0 65536 c.args.entries.now c.places_before-k.result c.args.column c.requires (λ i d h l. parted.0 i d (omega arith) h) (λ d l. parted.1 c.places_before-k.result d (omega arith) l)
+    ∙ value_from_there 0 65536 c.args.entries.now c.places_before-k.result c.args.column c.requires (λ i d h l. parted.0 i d (omega arith) h)
+    (λ d l. parted.1 c.places_before-k.result d (omega arith) l)

@@ -41,7 +41,8 @@ returns-then-before-eq0-clause-listed c =
     let parted = parted_of c.deref.result.now es c.places_before-k.result c.args.place c.deref.ensures.value c.places_before-k.ensures.parted in
     let gone = sym (value_in c.deref-2.result.now es c.places_before-k.result c.args.place c.value_from-before.result c.deref-2.ensures.value c.value_from-before.ensures) ∙ zero_from_bits c.value_from-before.result before c.if-before-eq0.true in
     let items = rw c.unwrap.ensures at c.insert.ensures.items in
-    subst (IsListed 0 c.args.columns) (sym items) (subst (λ (z : ℤ). IsListed 0 c.args.columns (insert es c.places_before-k.result (record { place = c.args.place; value = z }))) (sym (to_z-of_z w128 c.args.number c.ranges.number))
+    subst (IsListed 0 c.args.columns) (sym items)
+    (subst (λ (z : ℤ). IsListed 0 c.args.columns (insert es c.places_before-k.result (record { place = c.args.place; value = z }))) (sym (to_z-of_z w128 c.args.number c.ranges.number))
     (inserted_listed c.args.columns es c.places_before-k.result c.args.place c.args.number c.requires.listed c.requires.inside c.requires.some parted.0 parted.1 gone))
 
 pub returns-then-before-eq0-clause-added : goal.returns-then-before-eq0-clause-added
@@ -49,11 +50,14 @@ returns-then-before-eq0-clause-added c = λ j.
     let es = c.args.entries.now.items in
     let parted = parted_of c.deref.result.now es c.places_before-k.result c.args.place c.deref.ensures.value c.places_before-k.ensures.parted in
     let items = rw c.unwrap.ensures at c.insert.ensures.items in
-    ap (λ l. entry_at l j) items ∙ ap (λ (z : ℤ). entry_at (insert es c.places_before-k.result (record { place = c.args.place; value = z })) j) (to_z-of_z w128 c.args.number c.ranges.number)
+    ap (λ l. entry_at l j) items
+    ∙ ap (λ (z : ℤ). entry_at (insert es c.places_before-k.result (record { place = c.args.place; value = z })) j)
+    (to_z-of_z w128 c.args.number c.ranges.number)
     ∙ inserted_at c.args.columns es c.places_before-k.result c.args.place c.args.number c.requires.listed c.requires.inside c.requires.some parted.0 parted.1 j
 
 -- what the list has at the column is what was found
-found_is : (n : ℕ) (list es : List FreeEntry) (k place : ℕ) (v : ℤ) → IsListed 0 n es → list ≡ es → v ≡ first_value (drop k list) place → ((i : ℕ) (d : FreeEntry) → i < k → i < length es → (get_or es i d).place < place) → ((d : FreeEntry) → k < length es → place ≤ (get_or es k d).place)
+found_is : (n : ℕ) (list es : List FreeEntry) (k place : ℕ) (v : ℤ) → IsListed 0 n es → list ≡ es → v ≡ first_value (drop k list) place
+    → ((i : ℕ) (d : FreeEntry) → i < k → i < length es → (get_or es i d).place < place) → ((d : FreeEntry) → k < length es → place ≤ (get_or es k d).place)
     → v ≡ entry_at es place
 found_is n list es k place v h e is before after = value_in list es k place v e is ∙ value_from_there 0 n es k place h before after
 
@@ -76,8 +80,10 @@ sum-after-requires-clause-x c =
     rw (to_z-of_z w128 c.value_from-before.result before, there) c.requires.small
 
 -- the sum, of the numbers as they are
-sum_is : (after before number : ℤ) → FitsSigned w128 after → FitsSigned w128 before → FitsSigned w128 number → after ≡ to_z w128 (of_z w128 before) +ℤ to_z w128 (of_z w128 number) → to_z w128 (of_z w128 after) ≡ before +ℤ number
-sum_is after before number p q r is = to_z-of_z w128 after p ∙ is ∙ ap (λ z. z +ℤ to_z w128 (of_z w128 number)) (to_z-of_z w128 before q) ∙ ap (λ z. before +ℤ z) (to_z-of_z w128 number r)
+sum_is : (after before number : ℤ) → FitsSigned w128 after → FitsSigned w128 before → FitsSigned w128 number →
+    after ≡ to_z w128 (of_z w128 before) +ℤ to_z w128 (of_z w128 number) → to_z w128 (of_z w128 after) ≡ before +ℤ number
+sum_is after before number p q r is =
+    to_z-of_z w128 after p ∙ is ∙ ap (λ z. z +ℤ to_z w128 (of_z w128 number)) (to_z-of_z w128 before q) ∙ ap (λ z. before +ℤ z) (to_z-of_z w128 number r)
 
 pub returns-clause-listed : goal.returns-clause-listed
 returns-clause-listed c =
@@ -88,7 +94,8 @@ returns-clause-listed c =
     let here = value_in c.deref-2.result.now es c.places_before-k.result c.args.place c.value_from-before.result c.deref-2.ensures.value c.value_from-before.ensures in
     subst (IsListed 0 c.args.columns) (sym c.replace.ensures.items)
     (replaced_listed c.args.columns es c.places_before-k.result c.args.place c.args.number c.requires.listed c.requires.inside c.requires.some parted.0 parted.1 _
-    (λ z. c.if-before-eq0.false (ap (of_z w128) (here ∙ z))) (sum_is _ _ _ after before c.ranges.number c.sum-after.ensures ∙ ap (λ z. z +ℤ c.args.number) here))
+    (λ z. c.if-before-eq0.false (ap (of_z w128) (here ∙ z)))
+    (sum_is _ _ _ after before c.ranges.number c.sum-after.ensures ∙ ap (λ z. z +ℤ c.args.number) here))
 
 pub returns-clause-added : goal.returns-clause-added
 returns-clause-added c = λ j.
@@ -99,7 +106,8 @@ returns-clause-added c = λ j.
     let here = value_in c.deref-2.result.now es c.places_before-k.result c.args.place c.value_from-before.result c.deref-2.ensures.value c.value_from-before.ensures in
     ap (λ l. entry_at l j) c.replace.ensures.items
     ∙ replaced_at c.args.columns es c.places_before-k.result c.args.place c.args.number c.requires.listed c.requires.inside c.requires.some parted.0 parted.1 _
-    (λ z. c.if-before-eq0.false (ap (of_z w128) (here ∙ z))) (sum_is _ _ _ after before c.ranges.number c.sum-after.ensures ∙ ap (λ z. z +ℤ c.args.number) here) j
+    (λ z. c.if-before-eq0.false (ap (of_z w128) (here ∙ z)))
+    (sum_is _ _ _ after before c.ranges.number c.sum-after.ensures ∙ ap (λ z. z +ℤ c.args.number) here) j
 
 pub returns-clause-is : goal.returns-clause-is
 returns-clause-is c =

@@ -2,7 +2,6 @@ use Rattle.std.proofs.Common.{◌≡◌, ◌≢◌, ℕ, ◌<◌, ◌≤◌, ◌
 use Rattle.std.specs.Prelude.{FitsSigned, ◌*ℤ◌, ◌-ℤ◌, neg_ℤ, unsigned_abs}
 use Rattle.std.specs.Int.{w128}
 use Rattle.std.specs.List.{AllByRecursion}
-use mir.Val.{to_z, of_z}
 use Rattle.std.proofs.lemmas.Int.{to_z-of_z}
 use Rattle.std.proofs.lemmas.List.Elements.{All-from_recursion}
 use Rattle.sum_basis.specs.declared.sparse.FreeEntry.{FreeEntry}
@@ -13,6 +12,7 @@ use Rattle.sum_basis.proofs.Sizes.{product_small}
 use Rattle.sum_basis.proofs.BoundedRows.{bounded_at}
 use Rattle.sum_basis.proofs.Edits.{IsTakenNumber, taken_number, none_taken_yet, as_before, one_more_entry_taken, bounded_with, all_bounded, all_taken}
 use Rattle.sum_basis.proofs.editing.take_entries.Goals as goal
+use Rattle.sum_basis.proofs.Wide.{product_of}
 
 pub loop-e-init : goal.loop-e-init
 loop-e-init c = record {
@@ -23,12 +23,9 @@ loop-e-init c = record {
   room = c.requires.room;
 }
 
--- the product as the code has it
-product_is : (p times value : ℤ) → FitsSigned w128 p → FitsSigned w128 times → FitsSigned w128 value → p ≡ to_z w128 (of_z w128 times) *ℤ to_z w128 (of_z w128 value) → to_z w128 (of_z w128 p) ≡ times *ℤ value
-product_is p times value f g h is = to_z-of_z w128 p f ∙ is ∙ ap (λ z. z *ℤ to_z w128 (of_z w128 value)) (to_z-of_z w128 times g) ∙ ap (λ z. times *ℤ z) (to_z-of_z w128 value h)
-
 -- the value of entry k
-value_small : (es : List FreeEntry) (k : ℕ) → k < length es → AllByRecursion (λ (e : FreeEntry). unsigned_abs e.value ≤ 2 ^ 56) es → unsigned_abs (get_or es k none).value ≤ 2 ^ 56
+value_small : (es : List FreeEntry) (k : ℕ) → k < length es → AllByRecursion (λ (e : FreeEntry). unsigned_abs e.value ≤ 2 ^ 56) es →
+    unsigned_abs (get_or es k none).value ≤ 2 ^ 56
 value_small es k l all = All-from_recursion (λ (e : FreeEntry). unsigned_abs e.value ≤ 2 ^ 56) es all k none l
 
 pub negative-number-requires : goal.negative-number-requires
@@ -36,12 +33,15 @@ negative-number-requires c =
     let p : FitsSigned w128 c.product.result = search rules in
     let value : FitsSigned w128 (get_or c.args.taken.now c.loop-e.e-index (record { place = 0; value = pos 0 })).value = search rules in
     let size = product_small c.args.times (get_or c.args.taken.now c.loop-e.e-index none).value c.requires.times (value_small c.args.taken.now c.loop-e.e-index c.loop-e-test.true c.requires.taken_small) in
-    rw (product_is c.product.result c.args.times (get_or c.args.taken.now c.loop-e.e-index none).value p c.ranges.times value c.product.ensures) (omega arith)
+    rw (product_of c.product.result c.args.times (get_or c.args.taken.now c.loop-e.e-index none).value p c.ranges.times value c.product.ensures.exact) (omega arith)
 
 -- the number that is added
-number_of : (n : ℕ) (es : List FreeEntry) (k : ℕ) (times product number x : ℤ) → k < length es → IsListed 0 n es → AllByRecursion (λ (e : FreeEntry). unsigned_abs e.value ≤ 2 ^ 56) es → unsigned_abs times ≤ 2 ^ 56 → times ≢ pos 0 → x ≡ number → number ≡ neg_ℤ product → product ≡ times *ℤ (get_or es k none).value
+number_of : (n : ℕ) (es : List FreeEntry) (k : ℕ) (times product number x : ℤ) → k < length es → IsListed 0 n es
+    → AllByRecursion (λ (e : FreeEntry). unsigned_abs e.value ≤ 2 ^ 56) es → unsigned_abs times ≤ 2 ^ 56 → times ≢ pos 0 → x ≡ number → number ≡ neg_ℤ product
+    → product ≡ times *ℤ (get_or es k none).value
     → IsTakenNumber times (get_or es k none).value x
-number_of n es k times product number x l h small t some e is product_is = taken_number times (get_or es k none).value x t (value_small es k l small) some (stands_within 0 n es k none h l).some (e ∙ is ∙ ap neg_ℤ product_is)
+number_of n es k times product number x l h small t some e is product_is =
+    taken_number times (get_or es k none).value x t (value_small es k l small) some (stands_within 0 n es k none h l).some (e ∙ is ∙ ap neg_ℤ product_is)
 
 pub add_at-after-requires-clause-inside : goal.add_at-after-requires-clause-inside
 add_at-after-requires-clause-inside c = (stands_within 0 c.args.columns c.args.taken.now c.loop-e.e-index none c.requires.taken c.loop-e-test.true).inside
@@ -58,7 +58,7 @@ add_at-after-requires-clause-number c =
     let q : FitsSigned w128 c.negative-number.result = search rules in
     let value : FitsSigned w128 (get_or c.args.taken.now c.loop-e.e-index (record { place = 0; value = pos 0 })).value = search rules in
     let is = number_of c.args.columns c.args.taken.now c.loop-e.e-index c.args.times _ c.negative-number.result _ c.loop-e-test.true c.requires.taken c.requires.taken_small c.requires.times c.requires.some (to_z-of_z w128 c.negative-number.result q) c.negative-number.ensures
-    (product_is c.product.result c.args.times (get_or c.args.taken.now c.loop-e.e-index none).value p c.ranges.times value c.product.ensures) in
+    (product_of c.product.result c.args.times (get_or c.args.taken.now c.loop-e.e-index none).value p c.ranges.times value c.product.ensures.exact) in
     let small = is.small in
     omega arith
 
@@ -68,7 +68,7 @@ add_at-after-requires-clause-some c =
     let q : FitsSigned w128 c.negative-number.result = search rules in
     let value : FitsSigned w128 (get_or c.args.taken.now c.loop-e.e-index (record { place = 0; value = pos 0 })).value = search rules in
     (number_of c.args.columns c.args.taken.now c.loop-e.e-index c.args.times _ c.negative-number.result _ c.loop-e-test.true c.requires.taken c.requires.taken_small c.requires.times c.requires.some (to_z-of_z w128 c.negative-number.result q) c.negative-number.ensures
-    (product_is c.product.result c.args.times (get_or c.args.taken.now c.loop-e.e-index none).value p c.ranges.times value c.product.ensures)).some
+    (product_of c.product.result c.args.times (get_or c.args.taken.now c.loop-e.e-index none).value p c.ranges.times value c.product.ensures.exact)).some
 
 pub loop-e-preserved : goal.loop-e-preserved
 loop-e-preserved c =
@@ -77,7 +77,7 @@ loop-e-preserved c =
     let after : FitsSigned w128 c.add_at-after.result = search rules in
     let value : FitsSigned w128 (get_or c.args.taken.now c.loop-e.e-index (record { place = 0; value = pos 0 })).value = search rules in
     let is = number_of c.args.columns c.args.taken.now c.loop-e.e-index c.args.times _ c.negative-number.result _ c.loop-e-test.true c.requires.taken c.requires.taken_small c.requires.times c.requires.some (to_z-of_z w128 c.negative-number.result q) c.negative-number.ensures
-    (product_is c.product.result c.args.times (get_or c.args.taken.now c.loop-e.e-index none).value p c.ranges.times value c.product.ensures) in
+    (product_of c.product.result c.args.times (get_or c.args.taken.now c.loop-e.e-index none).value p c.ranges.times value c.product.ensures.exact) in
     let times = to_z-of_z w128 c.args.times c.ranges.times in
     let size = c.unsigned_abs.ensures.value ∙ ap unsigned_abs (to_z-of_z w128 c.add_at-after.result after) in
     let one = c.greater-bound.ensures.first in
@@ -85,8 +85,10 @@ loop-e-preserved c =
     let most = c.loop-e.invariant.most in
     record {
       listed = c.add_at-after.ensures.listed;
-      taken = one_more_entry_taken c.args.entries.now.items c.loop-e.entries.items c.add_at-after.new.entries.items _ c.args.taken.now c.loop-e.e-index none _ c.loop-e-test.true c.loop-e.invariant.taken (is.is ∙ ap (λ z. neg_ℤ (z *ℤ (get_or c.args.taken.now c.loop-e.e-index none).value)) (sym times)) c.add_at-after.ensures.added;
-      bounded = bounded_with c.loop-e.entries.items c.add_at-after.new.entries.items _ _ c.add_at-after.result c.loop-e.bound c.greater-bound.result c.loop-e.invariant.bounded c.add_at-after.ensures.added c.add_at-after.ensures.is one (omega arith);
+      taken =
+          one_more_entry_taken c.args.entries.now.items c.loop-e.entries.items c.add_at-after.new.entries.items _ c.args.taken.now c.loop-e.e-index none _ c.loop-e-test.true c.loop-e.invariant.taken (is.is ∙ ap (λ z. neg_ℤ (z *ℤ (get_or c.args.taken.now c.loop-e.e-index none).value)) (sym times)) c.add_at-after.ensures.added;
+      bounded =
+          bounded_with c.loop-e.entries.items c.add_at-after.new.entries.items _ _ c.add_at-after.result c.loop-e.bound c.greater-bound.result c.loop-e.invariant.bounded c.add_at-after.ensures.added c.add_at-after.ensures.is one (omega arith);
       most = omega arith;
       room = c.add_at-after.ensures.room;
     }

@@ -18,7 +18,7 @@ loop-j-preserved c =
     let result : FitsSigned w128 c.product.result = search rules in
     record {
       multiplied = one_more_multiplied c.args.row.now c.loop-j.row (to_z w128 (of_z w128 c.args.multiple)) c.loop-j.j _ (omega arith) c.loop-j.invariant.multiplied
-          (to_z-of_z w128 c.product.result result ∙ c.product.ensures ∙ ap (λ z. to_z w128 (of_z w128 c.args.multiple) *ℤ z) (to_z-of_z w128 (get_or c.loop-j.row c.loop-j.j (pos 0)) fits));
+          (to_z-of_z w128 c.product.result result ∙ c.product.ensures.exact ∙ ap (λ z. to_z w128 (of_z w128 c.args.multiple) *ℤ z) (to_z-of_z w128 (get_or c.loop-j.row c.loop-j.j (pos 0)) fits));
       length = length-set c.loop-j.row c.loop-j.j _ ∙ c.loop-j.invariant.length;
     }
 

@@ -12,13 +12,15 @@ use Rattle.sum_basis.proofs.growth.clear.Goals as goal
 pub value_at-times-requires : goal.value_at-times-requires
 value_at-times-requires c =
     let fits = c.ranges.columns.fits in
-    rw c.deref.ensures.value (listed_to 0 c.args.columns 65536 c.args.row.now.free.items (omega arith) (listed_from (c.args.row.now.pivot + 1) 0 c.args.columns c.args.row.now.free.items (omega arith) c.requires.kept.listed.3))
+    rw c.deref.ensures.value
+    (listed_to 0 c.args.columns 65536 c.args.row.now.free.items (omega arith) (listed_from (c.args.row.now.pivot + 1) 0 c.args.columns c.args.row.now.free.items (omega arith) c.requires.kept.listed.3))
 
 pub returns-then-times-eq0-clause-cleared : goal.returns-then-times-eq0-clause-cleared
 returns-then-times-eq0-clause-cleared c =
     let times : FitsSigned w128 c.value_at-times.result = search rules in
     let nothing = sym c.value_at-times.ensures ∙ zero_from_bits c.value_at-times.result times c.if-times-eq0.true in
-    cleared_as_it_is c.args.columns c.args.row.now c.args.new.now c.requires.kept c.requires.new c.requires.zero c.requires.primitive (ap (λ l. entry_at l (get_or c.args.new.now 0 none).place) (sym c.deref.ensures.value) ∙ nothing)
+    cleared_as_it_is c.args.columns c.args.row.now c.args.new.now c.requires.kept c.requires.new c.requires.zero c.requires.primitive
+    (ap (λ l. entry_at l (get_or c.args.new.now 0 none).place) (sym c.deref.ensures.value) ∙ nothing)
 
 pub clear_in_place-requires-clause-before : goal.clear_in_place-requires-clause-before
 clear_in_place-requires-clause-before c =

@@ -10,7 +10,8 @@ use Rattle.sum_basis.proofs.AllCleared.{IsPartlyCleared, one_more_done, in_the_e
 use Rattle.sum_basis.proofs.growth.clear_all.Goals as goal
 
 -- row k is still the old one
-still : (n : ℕ) (new : List FreeEntry) (old rows : List SparseRow) (k : ℕ) (r : SparseRow) → IsPartlyCleared n new old rows k → r ≡ get_or rows k r → r ≡ get_or old k r
+still : (n : ℕ) (new : List FreeEntry) (old rows : List SparseRow) (k : ℕ) (r : SparseRow) → IsPartlyCleared n new old rows k → r ≡ get_or rows k r →
+    r ≡ get_or old k r
 still n new old rows k r part is = is ∙ part.left k r (omega arith)
 
 inside : (n : ℕ) (new : List FreeEntry) (old rows : List SparseRow) (k : ℕ) → IsPartlyCleared n new old rows k → k < length rows → k < length old
@@ -18,28 +19,35 @@ inside n new old rows k part h = let same = part.same_length in omega arith
 
 pub clear-requires-clause-primitive : goal.clear-requires-clause-primitive
 clear-requires-clause-primitive c =
-    of_whole_row (IsPrimitive c.args.columns) c.args.columns c.args.rows.now.items c.loop-k.k c.index_mut.result.now (inside _ _ _ _ _ c.loop-k.invariant.cleared (omega arith)) (still _ _ _ _ _ _ c.loop-k.invariant.cleared c.index_mut.ensures.value) c.requires.form.primitive
+    of_whole_row (IsPrimitive c.args.columns) c.args.columns c.args.rows.now.items c.loop-k.k c.index_mut.result.now
+    (inside _ _ _ _ _ c.loop-k.invariant.cleared (omega arith))
+    (still _ _ _ _ _ _ c.loop-k.invariant.cleared c.index_mut.ensures.value) c.requires.form.primitive
 
 pub clear-requires-clause-small : goal.clear-requires-clause-small
 clear-requires-clause-small c =
-    of_whole_row IsSmall c.args.columns c.args.rows.now.items c.loop-k.k c.index_mut.result.now (inside _ _ _ _ _ c.loop-k.invariant.cleared (omega arith)) (still _ _ _ _ _ _ c.loop-k.invariant.cleared c.index_mut.ensures.value) c.requires.form.entries
+    of_whole_row IsSmall c.args.columns c.args.rows.now.items c.loop-k.k c.index_mut.result.now (inside _ _ _ _ _ c.loop-k.invariant.cleared (omega arith))
+    (still _ _ _ _ _ _ c.loop-k.invariant.cleared c.index_mut.ensures.value) c.requires.form.entries
 
 pub clear-requires-clause-zero : goal.clear-requires-clause-zero
 clear-requires-clause-zero c =
     let is = still _ _ _ _ _ _ c.loop-k.invariant.cleared c.index_mut.ensures.value in
     let h = inside _ _ _ _ _ c.loop-k.invariant.cleared (omega arith) in
-    nothing_at c.args.columns c.index_mut.result.now c.args.new.now (of_row (IsKept c.args.columns) c.args.rows.now.items c.loop-k.k c.index_mut.result.now h is c.requires.kept) c.requires.new
+    nothing_at c.args.columns c.index_mut.result.now c.args.new.now
+    (of_row (IsKept c.args.columns) c.args.rows.now.items c.loop-k.k c.index_mut.result.now h is c.requires.kept) c.requires.new
     (of_whole_row (λ other. number_at (row_of c.args.columns c.args.new.now) (pivot other) ≡ pos 0) c.args.columns c.args.rows.now.items c.loop-k.k c.index_mut.result.now h is c.requires.zero)
 
 pub loop-k-preserved : goal.loop-k-preserved
 loop-k-preserved c = record {
-  cleared = one_more_done c.args.columns c.args.new.now c.args.rows.now.items c.loop-k.rows.items c.loop-k.k c.index_mut.result.now c.clear.new.row (omega arith) c.index_mut.ensures.value c.loop-k.invariant.cleared (record { kept = c.clear.ensures.kept; cleared = c.clear.ensures.cleared });
+  cleared =
+      one_more_done c.args.columns c.args.new.now c.args.rows.now.items c.loop-k.rows.items c.loop-k.k c.index_mut.result.now c.clear.new.row (omega arith) c.index_mut.ensures.value c.loop-k.invariant.cleared (record { kept = c.clear.ensures.kept; cleared = c.clear.ensures.cleared });
   capacity = c.loop-k.invariant.capacity;
   room = c.clear.ensures.room;
 }
 
 pub returns-clause-kept : goal.returns-clause-kept
-returns-clause-kept c = (in_the_end c.args.columns c.args.new.now c.args.rows.now.items c.loop-k.rows.items c.loop-k.k (let same = c.loop-k.invariant.cleared.same_length in let len = c.loop-k.rows.ok.0 in omega arith) c.loop-k.invariant.cleared).0
+returns-clause-kept c =
+    (in_the_end c.args.columns c.args.new.now c.args.rows.now.items c.loop-k.rows.items c.loop-k.k (let same = c.loop-k.invariant.cleared.same_length in let len = c.loop-k.rows.ok.0 in omega arith) c.loop-k.invariant.cleared).0
 
 pub returns-clause-cleared : goal.returns-clause-cleared
-returns-clause-cleared c = (in_the_end c.args.columns c.args.new.now c.args.rows.now.items c.loop-k.rows.items c.loop-k.k (let same = c.loop-k.invariant.cleared.same_length in let len = c.loop-k.rows.ok.0 in omega arith) c.loop-k.invariant.cleared).1
+returns-clause-cleared c =
+    (in_the_end c.args.columns c.args.new.now c.args.rows.now.items c.loop-k.rows.items c.loop-k.k (let same = c.loop-k.invariant.cleared.same_length in let len = c.loop-k.rows.ok.0 in omega arith) c.loop-k.invariant.cleared).1

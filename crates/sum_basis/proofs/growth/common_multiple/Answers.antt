@@ -34,7 +34,8 @@ record IsAfter (m : ℕ) (x : ℤ) : Type 0 where
   small : unsigned_abs x ≤ 2 ^ 56
 
 after : (common x : ℤ) (m : ℕ) → x ≡ common → common ≡ pos m → pos m ≤ℤ pos (2 ^ 56) → 0 < m → IsAfter m x
-after common x m e f h p = record { is = ap unsigned_abs (e ∙ f); positive = omega (arith, ints); small = rw (e ∙ f) (let most : m ≤ 2 ^ 56 = omega (arith, ints) in most) }
+after common x m e f h p =
+    record { is = ap unsigned_abs (e ∙ f); positive = omega (arith, ints); small = rw (e ∙ f) (let most : m ≤ 2 ^ 56 = omega (arith, ints) in most) }
 
 pub loop-row-preserved : goal.loop-row-preserved
 loop-row-preserved c =

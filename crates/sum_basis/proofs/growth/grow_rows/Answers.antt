@@ -12,14 +12,17 @@ use Rattle.sum_basis.proofs.Inserting.{all_inserted, without_first, kept_new, in
 use Rattle.sum_basis.proofs.growth.grow_rows.Goals as goal
 
 pub unwrap-requires : goal.unwrap-requires
-unwrap-requires c = c.insert.ensures.succeeds (let len = c.clear_all.ensures.len in let cap = c.clear_all.ensures.capacity in let space = c.requires.space in omega arith)
+unwrap-requires c =
+    c.insert.ensures.succeeds (let len = c.clear_all.ensures.len in let cap = c.clear_all.ensures.capacity in let space = c.requires.space in omega arith)
 
 -- the new row as it is kept
-entries_are : (entries rest : List FreeEntry) (first : FreeEntry) (value : ℤ) → value ≡ first.value → entries ≡ first ∷ rest → entries ≡ record { place = first.place; value = value } ∷ rest
+entries_are : (entries rest : List FreeEntry) (first : FreeEntry) (value : ℤ) → value ≡ first.value → entries ≡ first ∷ rest →
+    entries ≡ record { place = first.place; value = value } ∷ rest
 entries_are entries rest first value e is = is ∙ ap (λ (v : ℤ). record { place = first.place; value = v } ∷ rest) (sym e)
 
 -- no entry of it is above its bound
-bounded : (first : FreeEntry) (rest list : List FreeEntry) (most : ℕ) → FitsSigned w128 first.value → unsigned_abs (to_z w128 (of_z w128 first.value)) ≤ most → list ≡ rest → AllByRecursion (λ (e : FreeEntry). unsigned_abs e.value ≤ most) list
+bounded : (first : FreeEntry) (rest list : List FreeEntry) (most : ℕ) → FitsSigned w128 first.value → unsigned_abs (to_z w128 (of_z w128 first.value)) ≤ most
+    → list ≡ rest → AllByRecursion (λ (e : FreeEntry). unsigned_abs e.value ≤ most) list
     → AllByRecursion (λ (e : FreeEntry). unsigned_abs e.value ≤ most) (record { place = first.place; value = to_z w128 (of_z w128 first.value) } ∷ rest)
 bounded first rest list most fits head same all = (head, subst (AllByRecursion (λ (e : FreeEntry). unsigned_abs e.value ≤ most)) same all)
 
@@ -31,7 +34,8 @@ returns-clause-kept c =
     let split = without_first c.args.new.items c.remove-first.result c.remove-first.new.self.items c.requires.new.some c.remove-first.ensures.value c.remove-first.ensures.items in
     let is = entries_are c.args.new.items c.remove-first.new.self.items c.remove-first.result _ (to_z-of_z w128 c.remove-first.result.value fits) split.is in
     let room : c.args.columns ≤ c.remove-first.new.self.cap = let cap = c.remove-first.ensures.capacity in let most = c.requires.new_room in omega arith in
-    subst (AllByRecursion (IsKept c.args.columns)) (sym items) (all_inserted (IsKept c.args.columns) c.clear_all.new.rows.items c.place_of-place.result r c.clear_all.ensures.kept (kept_new c.args.columns c.args.new.items r c.requires.new is (bounded c.remove-first.result c.remove-first.new.self.items c.deref-3.result.now c.bound_of-most.result fits c.bound_of-most.ensures.head c.deref-3.ensures.value c.bound_of-most.ensures.values) room))
+    subst (AllByRecursion (IsKept c.args.columns)) (sym items)
+    (all_inserted (IsKept c.args.columns) c.clear_all.new.rows.items c.place_of-place.result r c.clear_all.ensures.kept (kept_new c.args.columns c.args.new.items r c.requires.new is (bounded c.remove-first.result c.remove-first.new.self.items c.deref-3.result.now c.bound_of-most.result fits c.bound_of-most.ensures.head c.deref-3.ensures.value c.bound_of-most.ensures.values) room))
 
 pub returns-clause-reduced : goal.returns-clause-reduced
 returns-clause-reduced c =
@@ -42,7 +46,8 @@ returns-clause-reduced c =
     let is = entries_are c.args.new.items c.remove-first.new.self.items c.remove-first.result _ (to_z-of_z w128 c.remove-first.result.value fits) split.is in
     let room : c.args.columns ≤ c.remove-first.new.self.cap = let cap = c.remove-first.ensures.capacity in let most = c.requires.new_room in omega arith in
     let kept = kept_new c.args.columns c.args.new.items r c.requires.new is (bounded c.remove-first.result c.remove-first.new.self.items c.deref-3.result.now c.bound_of-most.result fits c.bound_of-most.ensures.head c.deref-3.ensures.value c.bound_of-most.ensures.values) room in
-    rw items (inserted_is_reduced c.args.columns c.args.rows.now.items c.clear_all.new.rows.items c.args.new.items r c.place_of-place.result c.requires.form c.requires.new c.requires.zero c.clear_all.ensures.kept
+    rw items
+    (inserted_is_reduced c.args.columns c.args.rows.now.items c.clear_all.new.rows.items c.args.new.items r c.place_of-place.result c.requires.form c.requires.new c.requires.zero c.clear_all.ensures.kept
     (subst (λ (l : List FreeEntry). AreCleared c.args.columns (row_of c.args.columns l) (rows_of c.args.columns c.args.rows.now.items) (rows_of c.args.columns c.clear_all.new.rows.items)) c.deref.ensures.value c.clear_all.ensures.cleared)
     is kept
     (subst (λ (l : List SparseRow). AllByRecursion (λ x. x.pivot ≤ c.remove-first.result.place) (take c.place_of-place.result l)) c.deref-2.ensures.value c.place_of-place.ensures.before)

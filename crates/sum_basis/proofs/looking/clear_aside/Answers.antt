@@ -7,16 +7,17 @@ use Rattle.std.proofs.lemmas.List.{length-map}
 use Rattle.int_rows.specs.PrimitiveLaws.{zero_from_bits}
 use Rattle.sum_basis.specs.declared.sparse.FreeEntry.{FreeEntry}
 use Rattle.sum_basis.specs.Sparse.{entry_at, row_of, entries_of, scaled}
-use Rattle.sum_basis.proofs.SparseRows.{listed_from, listed_to, pivot_entry-row_of, small_values}
+use Rattle.sum_basis.proofs.SparseRows.{listed_from, listed_to, pivot_entry-row_of, small_values, small_row}
 use Rattle.sum_basis.proofs.ListContents.{none}
-use Rattle.sum_basis.proofs.KeptRows.{stands_earlier, cleared_as_it_is, lone_by_length, small_list}
+use Rattle.sum_basis.proofs.KeptRows.{stands_earlier, cleared_as_it_is, lone_by_length}
 use Rattle.sum_basis.proofs.ClearedLists.{result_of_bits}
 use Rattle.sum_basis.proofs.looking.clear_aside.Goals as goal
 
 pub value_at-times-requires : goal.value_at-times-requires
 value_at-times-requires c =
     let fits = c.ranges.columns.fits in
-    rw c.deref.ensures.value (listed_to 0 c.args.columns 65536 c.args.row.now.free.items (omega arith) (listed_from (c.args.row.now.pivot + 1) 0 c.args.columns c.args.row.now.free.items (omega arith) c.requires.kept.listed.3))
+    rw c.deref.ensures.value
+    (listed_to 0 c.args.columns 65536 c.args.row.now.free.items (omega arith) (listed_from (c.args.row.now.pivot + 1) 0 c.args.columns c.args.row.now.free.items (omega arith) c.requires.kept.listed.3))
 
 pub returns-then-times-eq0-clause-cleared : goal.returns-then-times-eq0-clause-cleared
 returns-then-times-eq0-clause-cleared c =
@@ -74,7 +75,7 @@ returns-clause-cleared c =
       row_of n (e ∷ all.1),
       made.cleared,
       (
-        small_list n e all.1 made.listed all.3.1 all.3.2,
+        small_row n (e ∷ all.1) made.listed (all.3.1, all.3.2),
         to_z-of_z w128 c.in_ok-head.head head ∙ all.3.0 ∙ sym (pivot_entry-row_of 0 n e all.1 made.listed),
         lone_by_length n out.len e all.1 c.is_empty-2.result made.listed length_is c.is_empty-2.ensures,
       ),

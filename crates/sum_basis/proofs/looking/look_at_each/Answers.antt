@@ -1,4 +1,4 @@
-use Rattle.std.proofs.Common.{◌≡◌, ℕ, ◌<◌, ◌≤◌, ◌^◌, ℤ, pos, List, [], ◌∷◌, length, get_or, nat_eq, sym, ◌∙◌, subst, arith, rules}
+use Rattle.std.proofs.Common.{◌≡◌, ℕ, ◌≤◌, ◌^◌, ℤ, pos, List, [], ◌∷◌, length, get_or, nat_eq, sym, ◌∙◌, subst, arith, rules}
 use Rattle.std.specs.Prelude.{FitsSigned, unsigned_abs, ◌<ℤ◌, ◌≤ℤ◌}
 use Rattle.std.specs.Int.{w128}
 use mir.Val.{to_z, of_z}
@@ -10,22 +10,24 @@ use Rattle.audit_types.specs.Form.{IsPrimitive, IsLeastCommonMultiple, pivot, pi
 use Rattle.sum_basis.specs.declared.sparse.FreeEntry.{FreeEntry}
 use Rattle.sum_basis.specs.declared.sparse.SparseRow.{SparseRow}
 use Rattle.sum_basis.specs.Basis.{Echelon}
-use Rattle.sum_basis.specs.Elimination.{IsSmall, IsCleared}
+use Rattle.sum_basis.specs.Elimination.{IsSmall}
 use Rattle.sum_basis.specs.Sparse.{row_of, rows_of, entries_of, IsKept, IsNew}
 use Rattle.sum_basis.proofs.Sizes.{small_at}
-use Rattle.sum_basis.proofs.LeastMultiples.{size_is}
 use Rattle.sum_basis.proofs.ListContents.{none}
 use Rattle.sum_basis.proofs.ClearedLists.{is_led}
-use Rattle.sum_basis.proofs.KeptRows.{row_is, of_row, of_whole_row, nothing_at, lone_new}
+use Rattle.sum_basis.proofs.KeptRows.{of_row, of_whole_row, nothing_at, lone_new, cleared_at, row_within}
 use Rattle.sum_basis.proofs.LookingAhead.{IsLooked, nothing_looked, one_more_looked, looked_large, looked_multiple, foreseen, looked_grows, looked_fixing, looked_open}
 use Rattle.sum_basis.proofs.looking.look_at_each.Goals as goal
+use Rattle.sum_basis.proofs.LeastMultiples.{positive_size}
 
 -- at the start
-start : (n : ℕ) (rows : List SparseRow) (new : List FreeEntry) (common : ℤ) → IsNew n new → common ≡ (get_or new 0 none).value → IsLooked n (rows_of n rows) (row_of n new) 0 common (nat_eq (length new) 1)
+start : (n : ℕ) (rows : List SparseRow) (new : List FreeEntry) (common : ℤ) → IsNew n new → common ≡ (get_or new 0 none).value →
+    IsLooked n (rows_of n rows) (row_of n new) 0 common (nat_eq (length new) 1)
 start n rows new common is_new e =
     let led = is_led n new is_new.some is_new.listed in
     let lone = lone_new n new is_new in
-    nothing_looked n (rows_of n rows) (row_of n new) common (nat_eq (length new) 1) is_new.primitive (rw e (led.small is_new.small)) (e ∙ sym led.pivot_entry_is)
+    nothing_looked n (rows_of n rows) (row_of n new) common (nat_eq (length new) 1) is_new.primitive (rw e (led.small is_new.small))
+    (e ∙ sym led.pivot_entry_is)
     (λ t. lone.0 (eqb-true (length new) 1 t), λ is. eq-eqb (length new) 1 (lone.1 is))
 
 pub loop-row-init : goal.loop-row-init
@@ -34,10 +36,13 @@ loop-row-init c =
     record { looked = start c.args.columns c.args.rows.now c.args.new.now _ c.requires.new (to_z-of_z w128 (get_or c.args.new.now 0 none).value fits); room = c.requires.room }
 
 pub clear_aside-requires-clause-primitive : goal.clear_aside-requires-clause-primitive
-clear_aside-requires-clause-primitive c = of_whole_row (IsPrimitive c.args.columns) c.args.columns c.args.rows.now c.loop-row.row-index c.row-item.result c.loop-row-test.true c.row-item.is c.requires.form.primitive
+clear_aside-requires-clause-primitive c =
+    of_whole_row
+    (IsPrimitive c.args.columns) c.args.columns c.args.rows.now c.loop-row.row-index c.row-item.result c.loop-row-test.true c.row-item.is c.requires.form.primitive
 
 pub clear_aside-requires-clause-small : goal.clear_aside-requires-clause-small
-clear_aside-requires-clause-small c = of_whole_row IsSmall c.args.columns c.args.rows.now c.loop-row.row-index c.row-item.result c.loop-row-test.true c.row-item.is c.requires.form.entries
+clear_aside-requires-clause-small c =
+    of_whole_row IsSmall c.args.columns c.args.rows.now c.loop-row.row-index c.row-item.result c.loop-row-test.true c.row-item.is c.requires.form.entries
 
 pub clear_aside-requires-clause-zero : goal.clear_aside-requires-clause-zero
 clear_aside-requires-clause-zero c =
@@ -45,20 +50,14 @@ clear_aside-requires-clause-zero c =
     nothing_at c.args.columns c.row-item.result c.args.new.now kept c.requires.new
     (of_whole_row (λ other. number_at (row_of c.args.columns c.args.new.now) (pivot other) ≡ pos 0) c.args.columns c.args.rows.now c.loop-row.row-index c.row-item.result c.loop-row-test.true c.row-item.is c.requires.zero)
 
--- a row that was cleared, as one of the form
-cleared_at : (n : ℕ) (new : List ℤ) (rows : List SparseRow) (k : ℕ) (r : SparseRow) (made : List ℤ) → k < length rows → r ≡ get_or rows k r → IsCleared n new (row_of n (entries_of r)) made → IsCleared n new (get_or (rows_of n rows) k []) made
-cleared_at n new rows k r made h is cleared = subst (λ row. IsCleared n new row made) (sym (row_is n rows k r h is)) cleared
-
-within : (n : ℕ) (rows : List SparseRow) (k : ℕ) → k < length rows → k < length (rows_of n rows)
-within n rows k h = let l = length-map rows (λ (x : SparseRow). row_of n (entries_of x)) in omega arith
-
 pub returns-in_default-clause-foresees : goal.returns-in_default-clause-foresees
 returns-in_default-clause-foresees c =
     let n = c.args.columns in
     let rows = c.args.rows.now in
     let form : Echelon = record { n = n; rows = rows_of n rows } in
     let all = rw c.in_default.is at c.clear_aside.ensures.cleared in
-    looked_large form (row_of n c.args.new.now) c.requires.form c.requires.new.primitive c.requires.zero c.loop-row.row-index (to_z w128 c.loop-row.common-bits) c.loop-row.fixing all.0 (within n rows c.loop-row.row-index c.loop-row-test.true) c.loop-row.invariant.looked
+    looked_large form (row_of n c.args.new.now) c.requires.form c.requires.new.primitive c.requires.zero c.loop-row.row-index
+    (to_z w128 c.loop-row.common-bits) c.loop-row.fixing all.0 (row_within n rows c.loop-row.row-index c.loop-row-test.true) c.loop-row.invariant.looked
     (cleared_at n (row_of n c.args.new.now) rows c.loop-row.row-index c.row-item.result all.0 c.loop-row-test.true c.row-item.is all.1) all.2
 
 -- a positive pivot entry of a small row
@@ -66,7 +65,7 @@ head_within : (n : ℕ) (head : ℤ) (made : List ℤ) → IsPrimitive n made �
 head_within n head made p small e =
     let positive : pos 0 <ℤ head = subst (λ z. pos 0 <ℤ z) (sym e) p.leading in
     let size : unsigned_abs head ≤ 2 ^ 56 = rw e (small_at made (pivot made) small) in
-    let is = size_is head positive in
+    let is = positive_size head positive in
     (positive, omega (arith, ints))
 
 pub lcm_within-requires-clause-b : goal.lcm_within-requires-clause-b
@@ -76,8 +75,11 @@ lcm_within-requires-clause-b c =
     rw (to_z-of_z w128 c.in-Some.cleared.head head) (head_within c.args.columns c.in-Some.cleared.head all.0 all.1.primitive all.2.0 all.2.1)
 
 -- the multiple of the two numbers as they are
-multiple_of : (common head : ℤ) (made : List ℤ) (m : ℕ) → FitsSigned w128 head → head ≡ pivot_entry made → IsLeastCommonMultiple (unsigned_abs common ∷ unsigned_abs (to_z w128 (of_z w128 head)) ∷ []) m → IsLeastCommonMultiple (unsigned_abs common ∷ unsigned_abs (pivot_entry made) ∷ []) m
-multiple_of common head made m fits e least = subst (λ (z : ℤ). IsLeastCommonMultiple (unsigned_abs common ∷ unsigned_abs z ∷ []) m) (to_z-of_z w128 head fits ∙ e) least
+multiple_of : (common head : ℤ) (made : List ℤ) (m : ℕ) → FitsSigned w128 head → head ≡ pivot_entry made →
+    IsLeastCommonMultiple (unsigned_abs common ∷ unsigned_abs (to_z w128 (of_z w128 head)) ∷ []) m →
+    IsLeastCommonMultiple (unsigned_abs common ∷ unsigned_abs (pivot_entry made) ∷ []) m
+multiple_of common head made m fits e least =
+    subst (λ (z : ℤ). IsLeastCommonMultiple (unsigned_abs common ∷ unsigned_abs z ∷ []) m) (to_z-of_z w128 head fits ∙ e) least
 
 pub returns-in_default-lcm_within-clause-foresees : goal.returns-in_default-lcm_within-clause-foresees
 returns-in_default-lcm_within-clause-foresees c =
@@ -87,7 +89,8 @@ returns-in_default-lcm_within-clause-foresees c =
     let head : FitsSigned w128 c.in-Some.cleared.head = search rules in
     let all = rw c.in-Some.is at c.clear_aside.ensures.cleared in
     let least = rw c.in_default-lcm_within.is at c.lcm_within.ensures in
-    looked_multiple form (row_of n c.args.new.now) c.requires.form c.requires.new.primitive c.requires.zero c.loop-row.row-index (to_z w128 c.loop-row.common-bits) c.loop-row.fixing all.0 least.0 (within n rows c.loop-row.row-index c.loop-row-test.true) c.loop-row.invariant.looked
+    looked_multiple form (row_of n c.args.new.now) c.requires.form c.requires.new.primitive c.requires.zero c.loop-row.row-index
+    (to_z w128 c.loop-row.common-bits) c.loop-row.fixing all.0 least.0 (row_within n rows c.loop-row.row-index c.loop-row-test.true) c.loop-row.invariant.looked
     (cleared_at n (row_of n c.args.new.now) rows c.loop-row.row-index c.row-item.result all.0 c.loop-row-test.true c.row-item.is all.1)
     (multiple_of (to_z w128 c.loop-row.common-bits) c.in-Some.cleared.head all.0 least.0 head all.2.1 least.1) (let more = least.2 in omega (arith, ints))
 
@@ -100,9 +103,14 @@ loop-row-preserved c =
     let all = rw c.in-Some.is at c.clear_aside.ensures.cleared in
     let least = rw c.in-Some-lcm_within.is at c.lcm_within.ensures in
     record {
-      looked = one_more_looked n (rows_of n rows) (row_of n c.args.new.now) c.loop-row.row-index (to_z w128 c.loop-row.common-bits) c.loop-row.fixing all.0 least.0 _ c.in-Some.cleared.lone c.either-fixing.result (within n rows c.loop-row.row-index c.loop-row-test.true) c.loop-row.invariant.looked
-          all.1.primitive (cleared_at n (row_of n c.args.new.now) rows c.loop-row.row-index c.row-item.result all.0 c.loop-row-test.true c.row-item.is all.1) all.2.0
-          (multiple_of (to_z w128 c.loop-row.common-bits) c.in-Some.cleared.head all.0 least.0 head all.2.1 least.1) (to_z-of_z w128 c.in-Some-lcm_within.multiple multiple ∙ least.2.0) (let small = least.2.1 in omega (arith, ints))
+      looked =
+          one_more_looked n (rows_of n rows) (row_of n c.args.new.now) c.loop-row.row-index
+          (to_z w128 c.loop-row.common-bits) c.loop-row.fixing all.0 least.0 _ c.in-Some.cleared.lone c.either-fixing.result
+          (row_within n rows c.loop-row.row-index c.loop-row-test.true) c.loop-row.invariant.looked
+          all.1.primitive
+          (cleared_at n (row_of n c.args.new.now) rows c.loop-row.row-index c.row-item.result all.0 c.loop-row-test.true c.row-item.is all.1) all.2.0
+          (multiple_of (to_z w128 c.loop-row.common-bits) c.in-Some.cleared.head all.0 least.0 head all.2.1 least.1)
+          (to_z-of_z w128 c.in-Some-lcm_within.multiple multiple ∙ least.2.0) (let small = least.2.1 in omega (arith, ints))
           all.2.2 c.either-fixing.ensures;
       room = c.clear_aside.ensures.room;
     }

@@ -1,4 +1,4 @@
-use Rattle.std.proofs.Common.{◌≡◌, ℕ, ◌*◌, ◌<◌, ◌≤◌, ◌^◌, Bool, true, ℤ, pos, List, [], length, get_or, nat_eq, refl, sym, ◌∙◌, subst, arith}
+use Rattle.std.proofs.Common.{◌≡◌, ℕ, ◌*◌, ◌<◌, ◌≤◌, ◌^◌, Bool, true, ℤ, pos, List, length, get_or, nat_eq, refl, sym, ◌∙◌, subst, arith}
 use Rattle.std.specs.Prelude.{unsigned_abs}
 use Rattle.std.specs.Int.{◌∣◌}
 use Rattle.std.specs.List.{AllByRecursion}
@@ -9,11 +9,11 @@ use Rattle.audit_types.specs.Form.{IsPrimitive, pivot, pivot_entries}
 use Rattle.sum_basis.specs.declared.sparse.FreeEntry.{FreeEntry}
 use Rattle.sum_basis.specs.declared.sparse.SparseRow.{SparseRow}
 use Rattle.sum_basis.specs.Basis.{Echelon}
-use Rattle.sum_basis.specs.Elimination.{IsSmall, IsCleared}
+use Rattle.sum_basis.specs.Elimination.{IsSmall}
 use Rattle.sum_basis.specs.Sparse.{row_of, rows_of, entries_of, IsKept, IsNew}
 use Rattle.sum_basis.proofs.ListContents.{none}
 use Rattle.sum_basis.proofs.ClearedLists.{is_led}
-use Rattle.sum_basis.proofs.KeptRows.{row_is, of_row, of_whole_row, nothing_at, lone_new}
+use Rattle.sum_basis.proofs.KeptRows.{of_row, of_whole_row, nothing_at, lone_new, cleared_at, row_within}
 use Rattle.sum_basis.proofs.LookingAhead.{IsLooked, IsGlanced, nothing_glanced, one_more_glanced, glanced_is_looked, glanced_at_once, looked_large, foreseen, looked_grows, looked_fixing, looked_open}
 use Rattle.sum_basis.proofs.LoneRows.{all_cleared_small}
 use Rattle.sum_basis.proofs.looking.look_by_bounds.Goals as goal
@@ -25,16 +25,20 @@ start n rows new is_new =
     nothing_glanced n (rows_of n rows) (row_of n new) (nat_eq (length new) 1) (λ t. lone.0 (eqb-true (length new) 1 t), λ is. eq-eqb (length new) 1 (lone.1 is))
 
 pub loop-row-init : goal.loop-row-init
-loop-row-init c = record { glanced = subst (λ b. IsGlanced c.args.columns (rows_of c.args.columns c.args.rows.now) (row_of c.args.columns c.args.new.now) 0 b) (ne_eqb (length c.args.new.now) 1 c.if-new-eq1.false) (start c.args.columns c.args.rows.now c.args.new.now c.requires.new); room = c.requires.room }
+loop-row-init c =
+    record { glanced = subst (λ b. IsGlanced c.args.columns (rows_of c.args.columns c.args.rows.now) (row_of c.args.columns c.args.new.now) 0 b) (ne_eqb (length c.args.new.now) 1 c.if-new-eq1.false) (start c.args.columns c.args.rows.now c.args.new.now c.requires.new); room = c.requires.room }
 
 pub look_at-requires-clause-most : goal.look_at-requires-clause-most
 look_at-requires-clause-most c = c.bound_of-most.ensures.values
 
 pub look_at-requires-clause-primitive : goal.look_at-requires-clause-primitive
-look_at-requires-clause-primitive c = of_whole_row (IsPrimitive c.args.columns) c.args.columns c.args.rows.now c.loop-row.row-index c.row-item.result c.loop-row-test.true c.row-item.is c.requires.form.primitive
+look_at-requires-clause-primitive c =
+    of_whole_row
+    (IsPrimitive c.args.columns) c.args.columns c.args.rows.now c.loop-row.row-index c.row-item.result c.loop-row-test.true c.row-item.is c.requires.form.primitive
 
 pub look_at-requires-clause-small : goal.look_at-requires-clause-small
-look_at-requires-clause-small c = of_whole_row IsSmall c.args.columns c.args.rows.now c.loop-row.row-index c.row-item.result c.loop-row-test.true c.row-item.is c.requires.form.entries
+look_at-requires-clause-small c =
+    of_whole_row IsSmall c.args.columns c.args.rows.now c.loop-row.row-index c.row-item.result c.loop-row-test.true c.row-item.is c.requires.form.entries
 
 pub look_at-requires-clause-zero : goal.look_at-requires-clause-zero
 look_at-requires-clause-zero c =
@@ -42,30 +46,28 @@ look_at-requires-clause-zero c =
     nothing_at c.args.columns c.row-item.result c.args.new.now kept c.requires.new
     (of_whole_row (λ other. number_at (row_of c.args.columns c.args.new.now) (pivot other) ≡ pos 0) c.args.columns c.args.rows.now c.loop-row.row-index c.row-item.result c.loop-row-test.true c.row-item.is c.requires.zero)
 
--- a row that was cleared, as one of the form
-cleared_at : (n : ℕ) (new : List ℤ) (rows : List SparseRow) (k : ℕ) (r : SparseRow) (made : List ℤ) → k < length rows → r ≡ get_or rows k r → IsCleared n new (row_of n (entries_of r)) made → IsCleared n new (get_or (rows_of n rows) k []) made
-cleared_at n new rows k r made h is cleared = subst (λ row. IsCleared n new row made) (sym (row_is n rows k r h is)) cleared
-
-within : (n : ℕ) (rows : List SparseRow) (k : ℕ) → k < length rows → k < length (rows_of n rows)
-within n rows k h = let l = length-map rows (λ (x : SparseRow). row_of n (entries_of x)) in omega arith
-
 pub loop-row-preserved : goal.loop-row-preserved
 loop-row-preserved c =
     let n = c.args.columns in
     let rows = c.args.rows.now in
     let all = rw c.in-Some.is at c.look_at.ensures.cleared in
     record {
-      glanced = one_more_glanced n (rows_of n rows) (row_of n c.args.new.now) c.loop-row.row-index c.loop-row.fixing all.0 c.in-Some.lone c.either-fixing.result (within n rows c.loop-row.row-index c.loop-row-test.true) c.loop-row.invariant.glanced
+      glanced =
+          one_more_glanced n (rows_of n rows) (row_of n c.args.new.now) c.loop-row.row-index c.loop-row.fixing all.0 c.in-Some.lone c.either-fixing.result
+          (row_within n rows c.loop-row.row-index c.loop-row-test.true) c.loop-row.invariant.glanced
           (cleared_at n (row_of n c.args.new.now) rows c.loop-row.row-index c.row-item.result all.0 c.loop-row-test.true c.row-item.is all.1) all.2.0 all.2.1 c.either-fixing.ensures;
       room = c.look_at.ensures.room;
     }
 
 -- what was looked at, with the least common multiple
-looked : (n : ℕ) (form : List (List ℤ)) (new : List FreeEntry) (k : ℕ) (fixing : Bool) → IsNew n new → (m : ℕ) × AllByRecursion (λ x. x ∣ m) (pivot_entries form) × (0 < m) × (unsigned_abs (get_or new 0 none).value * m ≤ 2 ^ 56) → IsGlanced n form (row_of n new) k fixing
+looked : (n : ℕ) (form : List (List ℤ)) (new : List FreeEntry) (k : ℕ) (fixing : Bool) → IsNew n new
+    → (m : ℕ) × AllByRecursion (λ x. x ∣ m) (pivot_entries form) × (0 < m) × (unsigned_abs (get_or new 0 none).value * m ≤ 2 ^ 56)
+    → IsGlanced n form (row_of n new) k fixing
     → (common : ℤ) × IsLooked n form (row_of n new) k common fixing
 looked n form new k fixing is_new multiple g =
     let led = is_led n new is_new.some is_new.listed in
-    glanced_is_looked n form (row_of n new) k multiple.0 fixing is_new.primitive multiple.2 multiple.1 (subst (λ z. unsigned_abs z * multiple.0 ≤ 2 ^ 56) (sym led.pivot_entry_is) multiple.3) g
+    glanced_is_looked n form (row_of n new) k multiple.0 fixing is_new.primitive multiple.2 multiple.1
+    (subst (λ z. unsigned_abs z * multiple.0 ≤ 2 ^ 56) (sym led.pivot_entry_is) multiple.3) g
 
 pub returns-in_default-clause-foresees : goal.returns-in_default-clause-foresees
 returns-in_default-clause-foresees c =
@@ -74,7 +76,8 @@ returns-in_default-clause-foresees c =
     let form : Echelon = record { n = n; rows = rows_of n rows } in
     let all = rw c.in_default.is at c.look_at.ensures.cleared in
     let l = looked n (rows_of n rows) c.args.new.now c.loop-row.row-index c.loop-row.fixing c.requires.new c.requires.multiple c.loop-row.invariant.glanced in
-    looked_large form (row_of n c.args.new.now) c.requires.form c.requires.new.primitive c.requires.zero c.loop-row.row-index l.0 c.loop-row.fixing all.0 (within n rows c.loop-row.row-index c.loop-row-test.true) l.1
+    looked_large form (row_of n c.args.new.now) c.requires.form c.requires.new.primitive c.requires.zero c.loop-row.row-index l.0 c.loop-row.fixing all.0
+    (row_within n rows c.loop-row.row-index c.loop-row-test.true) l.1
     (cleared_at n (row_of n c.args.new.now) rows c.loop-row.row-index c.row-item.result all.0 c.loop-row-test.true c.row-item.is all.1) all.2
 
 pub returns-then-fixing-clause-foresees : goal.returns-then-fixing-clause-foresees

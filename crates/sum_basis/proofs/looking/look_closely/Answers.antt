@@ -19,10 +19,12 @@ use Rattle.sum_basis.proofs.looking.look_closely.Goals as goal
 pub value_at-times-requires : goal.value_at-times-requires
 value_at-times-requires c =
     let fits = c.ranges.columns.fits in
-    rw c.deref.ensures.value (listed_to 0 c.args.columns 65536 c.args.row.now.free.items (omega arith) (listed_from (c.args.row.now.pivot + 1) 0 c.args.columns c.args.row.now.free.items (omega arith) c.requires.kept.listed.3))
+    rw c.deref.ensures.value
+    (listed_to 0 c.args.columns 65536 c.args.row.now.free.items (omega arith) (listed_from (c.args.row.now.pivot + 1) 0 c.args.columns c.args.row.now.free.items (omega arith) c.requires.kept.listed.3))
 
 -- and so is the row's entry at its place
-times_small : (n : ℕ) (r : SparseRow) (place : ℕ) (list : List FreeEntry) (found times : ℤ) → IsKept n r → IsSmall (row_of n (entries_of r)) → list ≡ r.free.items → found ≡ entry_at list place → times ≡ found → unsigned_abs times ≤ 2 ^ 56
+times_small : (n : ℕ) (r : SparseRow) (place : ℕ) (list : List FreeEntry) (found times : ℤ) → IsKept n r → IsSmall (row_of n (entries_of r)) →
+    list ≡ r.free.items → found ≡ entry_at list place → times ≡ found → unsigned_abs times ≤ 2 ^ 56
 times_small n r place list found times kept small l is e = rw (e, is, l) (entry_small n r place kept small)
 
 pub is_surely_small-requires : goal.is_surely_small-requires
@@ -32,12 +34,14 @@ is_surely_small-requires c =
 
 pub are_parallel-requires-clause-first : goal.are_parallel-requires-clause-first
 are_parallel-requires-clause-first c =
-    subst (AllByRecursion (λ (e : FreeEntry). unsigned_abs e.value ≤ 2 ^ 56)) (sym c.deref-then-is_surely_small.ensures.value) (small_values c.args.columns (entries_of c.args.row.now) c.requires.kept.listed c.requires.small).1
+    subst (AllByRecursion (λ (e : FreeEntry). unsigned_abs e.value ≤ 2 ^ 56)) (sym c.deref-then-is_surely_small.ensures.value)
+    (small_values c.args.columns (entries_of c.args.row.now) c.requires.kept.listed c.requires.small).1
 
 pub are_parallel-requires-clause-times : goal.are_parallel-requires-clause-times
 are_parallel-requires-clause-times c =
     let times : FitsSigned w128 c.value_at-times.result = search rules in
-    times_small c.args.columns c.args.row.now _ c.deref.result.now c.value_at-times.result _ c.requires.kept c.requires.small c.deref.ensures.value c.value_at-times.ensures (to_z-of_z w128 c.value_at-times.result times)
+    times_small c.args.columns c.args.row.now _ c.deref.result.now c.value_at-times.result _ c.requires.kept c.requires.small c.deref.ensures.value c.value_at-times.ensures
+    (to_z-of_z w128 c.value_at-times.result times)
 
 pub are_parallel-requires-clause-second : goal.are_parallel-requires-clause-second
 are_parallel-requires-clause-second c = small_values c.args.columns c.args.new.now c.requires.new.listed c.requires.new.small
@@ -51,8 +55,11 @@ returns-then-is_surely_small-clause-cleared c =
     let told = c.are_parallel.ensures in
     let first = to_z w128 (of_z w128 (get_or c.args.new.now 0 none).value) in
     let found = to_z w128 (of_z w128 c.value_at-times.result) in
-    by_bounds c.args.columns c.args.row.now c.args.new.now c.requires.kept c.requires.primitive c.requires.new c.requires.zero c.args.most c.requires.most first (to_z-of_z w128 (get_or c.args.new.now 0 none).value by) found c.are_parallel.result
-    (is ∙ c.value_at-times.ensures ∙ ap (λ l. entry_at l (get_or c.args.new.now 0 none).place) c.deref.ensures.value) (λ z. c.if-times-eq0.false (ap (of_z w128) (sym is ∙ z))) (subst (λ (size : ℕ). unsigned_abs first * c.args.row.now.most + size * c.args.most ≤ 2 ^ 56) c.unsigned_abs.ensures.value (c.is_surely_small.ensures c.if-is_surely_small.true))
+    by_bounds c.args.columns c.args.row.now c.args.new.now c.requires.kept c.requires.primitive c.requires.new c.requires.zero c.args.most c.requires.most first
+    (to_z-of_z w128 (get_or c.args.new.now 0 none).value by) found c.are_parallel.result
+    (is ∙ c.value_at-times.ensures ∙ ap (λ l. entry_at l (get_or c.args.new.now 0 none).place) c.deref.ensures.value)
+    (λ z. c.if-times-eq0.false (ap (of_z w128) (sym is ∙ z)))
+    (subst (λ (size : ℕ). unsigned_abs first * c.args.row.now.most + size * c.args.most ≤ 2 ^ 56) c.unsigned_abs.ensures.value (c.is_surely_small.ensures c.if-is_surely_small.true))
     (λ yes. ap (map (scaled first)) (sym list) ∙ told.0 yes, λ same. told.1 (ap (map (scaled first)) list ∙ same))
 
 pub returns-then-times-eq0-clause-cleared : goal.returns-then-times-eq0-clause-cleared

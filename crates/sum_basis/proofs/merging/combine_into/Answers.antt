@@ -16,7 +16,8 @@ passed x y fits e = to_z-of_z w128 x fits ∙ e
 of_value : (by x : ℤ) → FitsSigned w128 x → by *ℤ to_z w128 (of_z w128 x) ≡ by *ℤ x
 of_value by x fits = ap (λ z. by *ℤ z) (to_z-of_z w128 x fits)
 
-of_values : (by x times y : ℤ) → FitsSigned w128 x → FitsSigned w128 y → by *ℤ to_z w128 (of_z w128 x) -ℤ times *ℤ to_z w128 (of_z w128 y) ≡ by *ℤ x -ℤ times *ℤ y
+of_values : (by x times y : ℤ) → FitsSigned w128 x → FitsSigned w128 y →
+    by *ℤ to_z w128 (of_z w128 x) -ℤ times *ℤ to_z w128 (of_z w128 y) ≡ by *ℤ x -ℤ times *ℤ y
 of_values by x times y p q = ap (λ z. z -ℤ times *ℤ to_z w128 (of_z w128 y)) (of_value by x p) ∙ ap (λ z. by *ℤ x -ℤ z) (of_value times y q)
 
 some_by : (z : ℤ) → FitsSigned w128 z → z ≢ pos 0 → to_z w128 (of_z w128 z) ≢ pos 0
@@ -60,7 +61,7 @@ loop-i-preserved-then-one-other c =
     let x : FitsSigned w128 (get_or c.args.first.now c.loop-i.i (record { place = 0; value = pos 0 })).value = search rules in
     let v : FitsSigned w128 c.product.result = search rules in
     record {
-      merging = rw c.put.ensures.items (first_merged c.args.columns _ c.args.first.now _ c.args.second.now c.loop-i.out.items c.loop-i.i c.loop-i.j c.loop-i.invariant.merging c.loop-i-test.true c.if-j-second.true _ c.if-one-other.true (passed _ _ v (c.product.ensures ∙ of_value _ _ x)));
+      merging = rw c.put.ensures.items (first_merged c.args.columns _ c.args.first.now _ c.args.second.now c.loop-i.out.items c.loop-i.i c.loop-i.j c.loop-i.invariant.merging c.loop-i-test.true c.if-j-second.true _ c.if-one-other.true (passed _ _ v (c.product.ensures.exact ∙ of_value _ _ x)));
       capacity = c.put.ensures.capacity ∙ c.loop-i.invariant.capacity;
     }
 
@@ -70,7 +71,7 @@ loop-i-preserved-then-other-one c =
     let v : FitsSigned w128 c.product-then-other-one.result = search rules in
     record {
       merging = rw c.put-then-other-one.ensures.items (second_merged c.args.columns _ c.args.first.now _ c.args.second.now c.loop-i.out.items c.loop-i.i c.loop-i.j c.loop-i.invariant.merging c.loop-i-test.true c.if-j-second.true _ c.if-other-one.true
-          (passed _ _ v (c.product-then-other-one.ensures ∙ ap (λ z. z *ℤ to_z w128 (of_z w128 (get_or c.args.second.now c.loop-i.j (record { place = 0; value = pos 0 })).value)) (minus_is c.args.times c.ranges.times c.requires.times) ∙ of_value _ _ y)));
+          (passed _ _ v (c.product-then-other-one.ensures.exact ∙ ap (λ z. z *ℤ to_z w128 (of_z w128 (get_or c.args.second.now c.loop-i.j (record { place = 0; value = pos 0 })).value)) (minus_is c.args.times c.ranges.times c.requires.times) ∙ of_value _ _ y)));
       capacity = c.put-then-other-one.ensures.capacity ∙ c.loop-i.invariant.capacity;
     }
 
@@ -82,7 +83,8 @@ loop-i-preserved c =
     let up = c.if-one-other.false in
     let down = c.if-other-one.false in
     record {
-      merging = rw c.put-else-other-one.ensures.items (both_merged c.args.columns _ c.args.first.now _ c.args.second.now c.loop-i.out.items c.loop-i.i c.loop-i.j c.loop-i.invariant.merging c.loop-i-test.true c.if-j-second.true _ (omega arith) (passed _ _ v (c.difference.ensures ∙ of_values _ _ _ _ x y)));
+      merging =
+          rw c.put-else-other-one.ensures.items (both_merged c.args.columns _ c.args.first.now _ c.args.second.now c.loop-i.out.items c.loop-i.i c.loop-i.j c.loop-i.invariant.merging c.loop-i-test.true c.if-j-second.true _ (omega arith) (passed _ _ v (c.difference.ensures ∙ of_values _ _ _ _ x y)));
       capacity = c.put-else-other-one.ensures.capacity ∙ c.loop-i.invariant.capacity;
     }
 
@@ -113,13 +115,15 @@ pub returns-clause-listed : goal.returns-clause-listed
 returns-clause-listed c =
     let over : (length c.args.first.now ≤ c.loop-i.i) ⊎ (length c.args.second.now ≤ c.loop-i.j) = elim c.loop-i-test.branch [ then-loop-i-test+else-j-second w ↦ let past = w.if-j-second.false in inr (omega arith) | else-loop-i-test w ↦ let past = w.loop-i-test.false in inl (omega arith) ] in
     let is = appended c.loop-i.out.items c.append.new.out.items c.append-2.new.out.items c.args.first.now c.args.second.now _ (to_z w128 (of_z w128 c.args.times)) _ c.loop-i.i c.loop-i.j c.append.ensures.items c.append-2.ensures.items (minus_is c.args.times c.ranges.times c.requires.times) in
-    rw is (whole_listed c.args.columns _ c.args.first.now _ c.args.second.now c.loop-i.out.items c.loop-i.i c.loop-i.j c.loop-i.invariant.merging over (some_by c.args.by c.ranges.by c.requires.by_some) (some_by c.args.times c.ranges.times c.requires.times_some))
+    rw is
+    (whole_listed c.args.columns _ c.args.first.now _ c.args.second.now c.loop-i.out.items c.loop-i.i c.loop-i.j c.loop-i.invariant.merging over (some_by c.args.by c.ranges.by c.requires.by_some) (some_by c.args.times c.ranges.times c.requires.times_some))
 
 pub returns-clause-combined : goal.returns-clause-combined
 returns-clause-combined c = λ k.
     let over : (length c.args.first.now ≤ c.loop-i.i) ⊎ (length c.args.second.now ≤ c.loop-i.j) = elim c.loop-i-test.branch [ then-loop-i-test+else-j-second w ↦ let past = w.if-j-second.false in inr (omega arith) | else-loop-i-test w ↦ let past = w.loop-i-test.false in inl (omega arith) ] in
     let is = appended c.loop-i.out.items c.append.new.out.items c.append-2.new.out.items c.args.first.now c.args.second.now _ (to_z w128 (of_z w128 c.args.times)) _ c.loop-i.i c.loop-i.j c.append.ensures.items c.append-2.ensures.items (minus_is c.args.times c.ranges.times c.requires.times) in
     ap (λ l. entry_at l k) is
-    ∙ whole_is c.args.columns _ c.args.first.now _ c.args.second.now c.loop-i.out.items c.loop-i.i c.loop-i.j c.loop-i.invariant.merging over (some_by c.args.by c.ranges.by c.requires.by_some) (some_by c.args.times c.ranges.times c.requires.times_some) k
+    ∙ whole_is c.args.columns _ c.args.first.now _ c.args.second.now c.loop-i.out.items c.loop-i.i c.loop-i.j c.loop-i.invariant.merging over
+    (some_by c.args.by c.ranges.by c.requires.by_some) (some_by c.args.times c.ranges.times c.requires.times_some) k
     ∙ ap (λ z. z *ℤ entry_at c.args.first.now k -ℤ to_z w128 (of_z w128 c.args.times) *ℤ entry_at c.args.second.now k) (to_z-of_z w128 c.args.by c.ranges.by)
     ∙ ap (λ z. c.args.by *ℤ entry_at c.args.first.now k -ℤ z *ℤ entry_at c.args.second.now k) (to_z-of_z w128 c.args.times c.ranges.times)

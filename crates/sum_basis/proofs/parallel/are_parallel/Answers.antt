@@ -18,7 +18,8 @@ refused : (b : Bool) → b ≡ false → IsTrue b → ⊥
 refused b e h = true≢false (sym h ∙ e)
 
 pub returns-then-first-second : goal.returns-then-first-second
-returns-then-first-second c = (λ yes. absurd (true≢false (sym yes)), λ same. absurd (c.if-first-second.true (same_length c.args.by c.args.times c.args.first.now c.args.second.now same)))
+returns-then-first-second c =
+    (λ yes. absurd (true≢false (sym yes)), λ same. absurd (c.if-first-second.true (same_length c.args.by c.args.times c.args.first.now c.args.second.now same)))
 
 pub returns-then-not-are_alike : goal.returns-then-not-are_alike
 returns-then-not-are_alike c =

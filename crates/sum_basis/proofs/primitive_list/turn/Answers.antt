@@ -24,10 +24,12 @@ loop-k-preserved c =
     let q : FitsSigned w128 c.negative-value.result = search rules in
     let is = to_z-of_z w128 c.negative-value.result q ∙ c.negative-value.ensures ∙ ap neg_ℤ (to_z-of_z w128 c.index-e.result.now.value value) in
     record {
-      scaled = one_more_scaled c.args.entries.now.items c.loop-k.entries.items _ c.loop-k.k _ (omega arith) c.loop-k.invariant.scaled (here ∙ turned c.index-e.result.now (to_z w128 (of_z w128 c.negative-value.result)) is);
+      scaled =
+          one_more_scaled c.args.entries.now.items c.loop-k.entries.items _ c.loop-k.k _ (omega arith) c.loop-k.invariant.scaled (here ∙ turned c.index-e.result.now (to_z w128 (of_z w128 c.negative-value.result)) is);
       length = length-set c.loop-k.entries.items c.loop-k.k _ ∙ c.loop-k.invariant.length;
       capacity = c.loop-k.invariant.capacity;
     }
 
 pub returns-clause-scaled : goal.returns-clause-scaled
-returns-clause-scaled c = all_scaled c.args.entries.now.items c.loop-k.entries.items (neg_ℤ (pos 1)) c.loop-k.k c.loop-k.invariant.length (omega arith) c.loop-k.invariant.scaled
+returns-clause-scaled c =
+    all_scaled c.args.entries.now.items c.loop-k.entries.items (neg_ℤ (pos 1)) c.loop-k.k c.loop-k.invariant.length (omega arith) c.loop-k.invariant.scaled

@@ -7,10 +7,14 @@ use Rattle.sum_basis.proofs.SparseRows.{IsPartlyTaken, stands_within, not_yet_ta
 use Rattle.sum_basis.proofs.sparse.subtract.Goals as goal
 
 pub slice_copy_out-before : goal.slice_copy_out-before
-slice_copy_out-before c = rw c.loop-e.auto.row (stands_within 0 (length c.args.row.now) c.args.entries.now c.loop-e.e-index (record { place = 0; value = pos 0 }) c.requires.listed c.loop-e-test.true).inside
+slice_copy_out-before c =
+    rw c.loop-e.auto.row
+    (stands_within 0 (length c.args.row.now) c.args.entries.now c.loop-e.e-index (record { place = 0; value = pos 0 }) c.requires.listed c.loop-e-test.true).inside
 
 pub bounds-row-place : goal.bounds-row-place
-bounds-row-place c = rw c.loop-e.auto.row (stands_within 0 (length c.args.row.now) c.args.entries.now c.loop-e.e-index (record { place = 0; value = pos 0 }) c.requires.listed c.loop-e-test.true).inside
+bounds-row-place c =
+    rw c.loop-e.auto.row
+    (stands_within 0 (length c.args.row.now) c.args.entries.now c.loop-e.e-index (record { place = 0; value = pos 0 }) c.requires.listed c.loop-e-test.true).inside
 
 pub less-requires-clause-x : goal.less-requires-clause-x
 less-requires-clause-x c =
@@ -25,7 +29,8 @@ loop-e-preserved c =
     let fits : FitsSigned w128 (get_or c.loop-e.row e.place (pos 0)) = search rules in
     let small : FitsSigned w128 e.value = search rules in
     let result : FitsSigned w128 c.less.result = search rules in
-    one_entry_taken c.args.row.now c.loop-e.row (to_z w128 (of_z w128 c.args.times)) c.args.entries.now c.loop-e.e-index (record { place = 0; value = pos 0 }) _ c.loop-e-test.true
+    one_entry_taken c.args.row.now c.loop-e.row (to_z w128 (of_z w128 c.args.times)) c.args.entries.now c.loop-e.e-index
+    (record { place = 0; value = pos 0 }) _ c.loop-e-test.true
     (rw c.loop-e.auto.row (stands_within 0 (length c.args.row.now) c.args.entries.now c.loop-e.e-index (record { place = 0; value = pos 0 }) c.requires.listed c.loop-e-test.true).inside)
     c.loop-e.invariant
     (to_z-of_z w128 c.less.result result ∙ c.less.ensures ∙ ap (λ z. z -ℤ to_z w128 (of_z w128 c.args.times) *ℤ to_z w128 (of_z w128 e.value)) (to_z-of_z w128 (get_or c.loop-e.row e.place (pos 0)) fits)

@@ -24,24 +24,29 @@ quotient-times-requires-clause-divides c =
 
 pub subtract-requires-clause-listed : goal.subtract-requires-clause-listed
 subtract-requires-clause-listed c =
-    rw (length-set c.args.row.now c.args.other.now.pivot (pos 0), c.deref.ensures.value) (listed_from (c.args.other.now.pivot + 1) 0 (length c.args.row.now) c.args.other.now.free.items (omega arith) c.requires.other.listed.3)
+    rw (length-set c.args.row.now c.args.other.now.pivot (pos 0), c.deref.ensures.value)
+    (listed_from (c.args.other.now.pivot + 1) 0 (length c.args.row.now) c.args.other.now.free.items (omega arith) c.requires.other.listed.3)
 
 pub subtract-requires-clause-small : goal.subtract-requires-clause-small
 subtract-requires-clause-small c =
-    subst (AllByRecursion (λ (e : FreeEntry). unsigned_abs e.value ≤ 2 ^ 56)) (sym c.deref.ensures.value) (small_values (length c.args.row.now) (entries_of c.args.other.now) c.requires.other.listed c.requires.other_small).1
+    subst (AllByRecursion (λ (e : FreeEntry). unsigned_abs e.value ≤ 2 ^ 56)) (sym c.deref.ensures.value)
+    (small_values (length c.args.row.now) (entries_of c.args.other.now) c.requires.other.listed c.requires.other_small).1
 
 pub subtract-requires-clause-times : goal.subtract-requires-clause-times
 subtract-requires-clause-times c =
     let fits : FitsSigned w128 c.quotient-times.result = search rules in
-    rw (to_z-of_z w128 c.quotient-times.result fits) (factor_small (number_at c.args.row.now c.args.other.now.pivot) c.args.other.now.head c.quotient-times.result (is_multiple (get_or c.args.row.now c.args.other.now.pivot (pos 0)) c.args.other.now.head c.quotient-times.result (search rules) (search rules) c.quotient-times.ensures) c.requires.other.leading c.requires.at_pivot)
+    rw (to_z-of_z w128 c.quotient-times.result fits)
+    (factor_small (number_at c.args.row.now c.args.other.now.pivot) c.args.other.now.head c.quotient-times.result (is_multiple (get_or c.args.row.now c.args.other.now.pivot (pos 0)) c.args.other.now.head c.quotient-times.result (search rules) (search rules) c.quotient-times.ensures) c.requires.other.leading c.requires.at_pivot)
 
 pub returns-then-multiple-ne0 : goal.returns-then-multiple-ne0
 returns-then-multiple-ne0 c =
     let fits : FitsSigned w128 c.quotient-times.result = search rules in
-    less_by_entries (length c.args.row.now) c.args.other.now c.args.row.now c.subtract.new.row c.quotient-times.result c.requires.other refl (is_multiple (get_or c.args.row.now c.args.other.now.pivot (pos 0)) c.args.other.now.head c.quotient-times.result (search rules) (search rules) c.quotient-times.ensures) c.requires.at_pivot
+    less_by_entries (length c.args.row.now) c.args.other.now c.args.row.now c.subtract.new.row c.quotient-times.result c.requires.other refl
+    (is_multiple (get_or c.args.row.now c.args.other.now.pivot (pos 0)) c.args.other.now.head c.quotient-times.result (search rules) (search rules) c.quotient-times.ensures) c.requires.at_pivot
     (rw (sym (length-set c.args.row.now c.args.other.now.pivot (pos 0)), sym c.deref.ensures.value) (c.subtract.ensures ∙ rw (to_z-of_z w128 c.quotient-times.result fits) refl))
 
 pub returns-else-multiple-ne0 : goal.returns-else-multiple-ne0
 returns-else-multiple-ne0 c =
     let multiple : FitsSigned w128 (get_or c.args.row.now c.args.other.now.pivot (pos 0)) = search rules in
-    nothing_to_take (length c.args.row.now) c.args.other.now c.args.row.now c.requires.other (zero_from_bits (get_or c.args.row.now c.args.other.now.pivot (pos 0)) multiple c.if-multiple-ne0.false)
+    nothing_to_take (length c.args.row.now) c.args.other.now c.args.row.now c.requires.other
+    (zero_from_bits (get_or c.args.row.now c.args.other.now.pivot (pos 0)) multiple c.if-multiple-ne0.false)

@@ -24,12 +24,14 @@ loop-e-preserved c =
     let common : IsGcd c.loop-e.divisor (unsigned_abs (get_or c.args.entries.now c.loop-e.e-index (record { place = 0; value = pos 0 })).value) c.with-divisor.result =
     subst (λ (m : ℤ). IsGcd c.loop-e.divisor (unsigned_abs m) c.with-divisor.result) (to_z-of_z w128 (get_or c.args.entries.now c.loop-e.e-index (record { place = 0; value = pos 0 })).value value) c.with-divisor.ensures in
     record {
-      content = one_more_value (to_z w128 (of_z w128 c.args.head)) c.args.entries.now c.loop-e.e-index c.loop-e.divisor c.with-divisor.result c.loop-e-test.true c.loop-e.invariant.content common;
+      content =
+          one_more_value (to_z w128 (of_z w128 c.args.head)) c.args.entries.now c.loop-e.e-index c.loop-e.divisor c.with-divisor.result c.loop-e-test.true c.loop-e.invariant.content common;
       positive = pos_of_dvd_of_pos common.0 c.loop-e.invariant.positive;
     }
 
 -- what the values so far have in common
-so_far : (head : ℤ) (es : List FreeEntry) (k g : ℕ) → FitsSigned w128 head → IsContent (to_z w128 (of_z w128 head) ∷ values (take k es)) g → IsContent (head ∷ values (take k es)) g
+so_far : (head : ℤ) (es : List FreeEntry) (k g : ℕ) → FitsSigned w128 head → IsContent (to_z w128 (of_z w128 head) ∷ values (take k es)) g →
+    IsContent (head ∷ values (take k es)) g
 so_far head es k g fits content = subst (λ (h : ℤ). IsContent (h ∷ values (take k es)) g) (to_z-of_z w128 head fits) content
 
 pub returns-then-is_below : goal.returns-then-is_below

@@ -18,7 +18,8 @@ pub quotient-requires-clause-divides : goal.quotient-requires-clause-divides
 quotient-requires-clause-divides c = let all = c.in_ok-divisor.ensures.content in rw all.3.0 all.1.divides.0
 
 -- the content, of the pivot entry as it is
-content_of : (head : ℤ) (es : List FreeEntry) (g : ℕ) → FitsSigned w128 head → IsContent (to_z w128 (of_z w128 head) ∷ values es) g → IsContent (head ∷ values es) g
+content_of : (head : ℤ) (es : List FreeEntry) (g : ℕ) → FitsSigned w128 head → IsContent (to_z w128 (of_z w128 head) ∷ values es) g →
+    IsContent (head ∷ values es) g
 content_of head es g fits content = subst (λ (h : ℤ). IsContent (h ∷ values es) g) (to_z-of_z w128 head fits) content
 
 pub returns-in_err-divisor : goal.returns-in_err-divisor

@@ -49,7 +49,7 @@ returns-in_err-send_verdict g c =
     let question = subst (λ (o : Option Expected). AsksNext g.P.Source c.loop-scratch.lines c.next_question.new.lines c.loop-scratch.source c.next_question.new.source c.args.schema.now.columns c.args.index.now c.loop-scratch.core.history o) c.in-Some.is c.in_ok-expected.ensures.asks in
     subst (λ (r : Result (Unit {0}) SimulationFault). Simulates g.P.Source g.B.Bench c.args.schema.now.columns c.args.index.now c.args.source.now c.next_question.new.source c.args.bench.now c.send_verdict.new.bench r) (sym same)
     (asked_unsent g.P.Source g.B.Bench c.args.schema.now.columns c.args.index.now c.args.source.now c.args.bench.now c.lines_in_turn.ensures.more c.loop-scratch.lines c.loop-scratch.source c.loop-scratch.bench c.loop-scratch.core c.loop-scratch.line c.loop-scratch.invariant c.next_question.new.lines c.next_question.new.source c.in-Some.expected question
-    c.in_ok-expected.ensures.cuts c.due-due.result c.due-due.ensures c.send_verdict.new.bench sent.file sent.crash sent.time sent.part sent.cause.failed sent.cause.later)
+    c.in_ok-expected.ensures.cuts c.due-due.result c.due-due.ensures c.send_verdict.new.bench sent.file sent.crash sent.time sent.part sent.cause.failed sent.last_call sent.cause.later)
 
 -- ---- the reply
 

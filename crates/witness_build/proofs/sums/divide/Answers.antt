@@ -5,7 +5,9 @@ use Rattle.witness_build.proofs.Dividing.{within_126, made_small, divided_turned
 use Rattle.witness_build.proofs.sums.divide.Goals as goal
 
 pub turn-requires : goal.turn-requires
-turn-requires c = within_126 c.make_primitive.new.row (made_small c.args.numbers.now c.make_primitive.new.row c.args.row c.requires.moves c.make_primitive.ensures c.requires.small)
+turn-requires c =
+    within_126 c.make_primitive.new.row
+    (made_small c.args.numbers.now c.make_primitive.new.row c.args.row c.requires.moves c.make_primitive.ensures c.requires.small)
 
 pub returns-then-numbers-row-lt0 : goal.returns-then-numbers-row-lt0
 returns-then-numbers-row-lt0 c =

@@ -17,7 +17,8 @@ solution-requires-clause-divides c =
     let common = c.common-common.ensures in
     let fits_entry : FitsSigned w128 c.entry-in-loop-k.result = search rules in
     let fits_common : FitsSigned w128 c.common-common.result = search rules in
-    divides_of c.args.basis.now.rows c.loop-k.k c.pivot-pivot.result common.0 c.entry-in-loop-k.result c.common-common.result fits_entry fits_common c.entry-in-loop-k.ensures c.pivot-pivot.ensures.pivot common.1 common.2.multiple (omega arith)
+    divides_of c.args.basis.now.rows c.loop-k.k c.pivot-pivot.result common.0 c.entry-in-loop-k.result c.common-common.result fits_entry fits_common c.entry-in-loop-k.ensures c.pivot-pivot.ensures.pivot common.1 common.2.multiple
+    (omega arith)
 
 pub loop-k-preserved : goal.loop-k-preserved
 loop-k-preserved c =

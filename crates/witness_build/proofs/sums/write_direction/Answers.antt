@@ -26,7 +26,8 @@ divide-requires c =
     let solved = subst (λ k. IsSolved k form c.free_column-free.result c.solve.new.direction) c.basis-basis.ensures.n c.solve.ensures in
     record {
       small = solved.2.small;
-      moves = moves c.directions_of_a_form.ensures.directions c.forms_are_unique.ensures known.n (sets_of known.answers) form c.args.row c.free_column-free.result c.n.ensures.are_rows c.basis-basis.ensures.form c.requires.row c.requires.free c.free_column-free.ensures c.solve.new.direction solved;
+      moves =
+          moves c.directions_of_a_form.ensures.directions c.forms_are_unique.ensures known.n (sets_of known.answers) form c.args.row c.free_column-free.result c.n.ensures.are_rows c.basis-basis.ensures.form c.requires.row c.requires.free c.free_column-free.ensures c.solve.new.direction solved;
     }
 
 pub returns : goal.returns
@@ -35,7 +36,10 @@ returns c =
     let form = c.basis-basis.result.now.rows in
     let solved = subst (λ k. IsSolved k form c.free_column-free.result c.solve.new.direction) c.basis-basis.ensures.n c.solve.ensures in
     record {
-      canonical = canonical c.directions_of_a_form.ensures.directions c.forms_are_unique.ensures known.n (sets_of known.answers) form c.args.row c.free_column-free.result c.n.ensures.are_rows c.basis-basis.ensures.form c.requires.row c.requires.free c.free_column-free.ensures c.solve.new.direction solved c.divide.new.numbers c.divide.ensures;
-      small = divided_small c.directions_of_a_form.ensures.directions c.forms_are_unique.ensures known.n (sets_of known.answers) form c.args.row c.free_column-free.result c.n.ensures.are_rows c.basis-basis.ensures.form c.requires.row c.requires.free c.free_column-free.ensures c.solve.new.direction solved c.divide.new.numbers c.divide.ensures;
-      n = divided_length c.directions_of_a_form.ensures.directions c.forms_are_unique.ensures known.n (sets_of known.answers) form c.args.row c.free_column-free.result c.n.ensures.are_rows c.basis-basis.ensures.form c.requires.row c.requires.free c.free_column-free.ensures c.solve.new.direction solved c.divide.new.numbers c.divide.ensures;
+      canonical =
+          canonical c.directions_of_a_form.ensures.directions c.forms_are_unique.ensures known.n (sets_of known.answers) form c.args.row c.free_column-free.result c.n.ensures.are_rows c.basis-basis.ensures.form c.requires.row c.requires.free c.free_column-free.ensures c.solve.new.direction solved c.divide.new.numbers c.divide.ensures;
+      small =
+          divided_small c.directions_of_a_form.ensures.directions c.forms_are_unique.ensures known.n (sets_of known.answers) form c.args.row c.free_column-free.result c.n.ensures.are_rows c.basis-basis.ensures.form c.requires.row c.requires.free c.free_column-free.ensures c.solve.new.direction solved c.divide.new.numbers c.divide.ensures;
+      n =
+          divided_length c.directions_of_a_form.ensures.directions c.forms_are_unique.ensures known.n (sets_of known.answers) form c.args.row c.free_column-free.result c.n.ensures.are_rows c.basis-basis.ensures.form c.requires.row c.requires.free c.free_column-free.ensures c.solve.new.direction solved c.divide.new.numbers c.divide.ensures;
     }

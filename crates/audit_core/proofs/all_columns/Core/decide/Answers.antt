@@ -21,4 +21,5 @@ pub returns-clause-decided : goal.returns-clause-decided
 returns-clause-decided c =
     let own = known_at c.args.self.now c.self.inside.shape c.self.inside.history.items c.self.inside.columns.items c.self.view_is c.self.invariant
     c.args.asked.now.column c.index.result.now c.requires.column_below c.index.ensures in
-    decided_after c.args.self.now c.args.asked.now.column c.args.asked.now.rows.list (known_in c.index.result.now) c.probe.result c.requires.column_below own c.probe.ensures.decided
+    decided_after c.args.self.now c.args.asked.now.column c.args.asked.now.rows.list
+    (known_in c.index.result.now) c.probe.result c.requires.column_below own c.probe.ensures.decided

@@ -23,7 +23,8 @@ pub returns-clause-decided : goal.returns-clause-decided
 returns-clause-decided c =
     let own = known_at c.args.self.now c.self.inside.shape c.self.inside.history.items c.self.inside.columns.items c.self.view_is c.self.invariant
     c.args.asked.now.column c.index_mut.result.now c.requires.column_below c.index_mut.ensures.value in
-    decided_after c.args.self.now c.args.asked.now.column c.args.asked.now.rows.list (known_in c.index_mut.result.now) c.weigh.result c.requires.column_below own c.weigh.ensures.decided
+    decided_after c.args.self.now c.args.asked.now.column c.args.asked.now.rows.list
+    (known_in c.index_mut.result.now) c.weigh.result c.requires.column_below own c.weigh.ensures.decided
 
 pub invariant_of-self : goal.invariant_of-self
 invariant_of-self c =

@@ -10,4 +10,6 @@ returns-clause-bits c = λ i l.
     ∙ ap (λ (s : Rows). has_row s.list (8 * c.args.at + i)) c.self.view_is
 
 pub returns-clause-below : goal.returns-clause-below
-returns-clause-below c = subst (λ (s : Rows). bit_and (get_or c.self.inside.words (c.args.at / 8) 0 / 2 ^ (8 * (c.args.at % 8))) 255 < 2 ^ (s.n - 8 * c.args.at)) c.self.view_is (byte_below c.self.inside.n c.self.inside.words c.args.at c.self.invariant)
+returns-clause-below c =
+    subst (λ (s : Rows). bit_and (get_or c.self.inside.words (c.args.at / 8) 0 / 2 ^ (8 * (c.args.at % 8))) 255 < 2 ^ (s.n - 8 * c.args.at)) c.self.view_is
+    (byte_below c.self.inside.n c.self.inside.words c.args.at c.self.invariant)

@@ -4,7 +4,8 @@ use Rattle.audit_types.specs.WordLaws.{AreWords-flip, rows-flip}
 use Rattle.audit_types.proofs.rows.RowSet.flip.Goals as goal
 
 pub invariant_of-self : goal.invariant_of-self
-invariant_of-self c = AreWords-flip c.self.inside.words c.flip_words.new.words c.self.inside.n c.self.invariant c.flip_words.ensures.sixteen c.flip_words.ensures.turned
+invariant_of-self c =
+    AreWords-flip c.self.inside.words c.flip_words.new.words c.self.inside.n c.self.invariant c.flip_words.ensures.sixteen c.flip_words.ensures.turned
 
 pub returns-clause-others : goal.returns-clause-others
 returns-clause-others c =

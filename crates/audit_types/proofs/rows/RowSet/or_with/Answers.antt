@@ -11,7 +11,9 @@ others : (c : goal.After-or_words) → AreWords c.self.inside.n c.other.inside.w
 others c = subst (λ m. AreWords m c.other.inside.words) (same_n c) c.other.invariant
 
 pub invariant_of-self : goal.invariant_of-self
-invariant_of-self c = AreWords-or c.self.inside.words c.other.inside.words c.or_words.new.words c.self.inside.n c.self.invariant (others c) c.or_words.array_long c.or_words.ensures
+invariant_of-self c =
+    AreWords-or c.self.inside.words c.other.inside.words c.or_words.new.words c.self.inside.n c.self.invariant
+    (others c) c.or_words.array_long c.or_words.ensures
 
 pub returns-clause-either : goal.returns-clause-either
 returns-clause-either c =

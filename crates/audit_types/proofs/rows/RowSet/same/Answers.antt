@@ -16,6 +16,7 @@ returns-then-self-other c =
           sym c.self.view_is ∙ ap rows_of_set inside ∙ c.other.view_is,
       λ e.
           let inside : c.self.inside ≡ c.other.inside =
-          sym (words-rows c.self.inside c.self.invariant) ∙ ap set_of_rows (c.self.view_is ∙ e ∙ sym c.other.view_is) ∙ words-rows c.other.inside c.other.invariant in
+          sym (words-rows c.self.inside c.self.invariant) ∙ ap set_of_rows (c.self.view_is ∙ e ∙ sym c.other.view_is)
+          ∙ words-rows c.other.inside c.other.invariant in
           decides.1 (ap (λ (a : Inside). a.words) inside),
     )

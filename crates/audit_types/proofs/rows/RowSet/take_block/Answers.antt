@@ -16,7 +16,8 @@ returns-then-self-k-clause-whole c = (
 )
 
 pub returns-clause-whole : goal.returns-clause-whole
-returns-clause-whole c = (λ yes r word. shown c.self.inside c.args.self.now c.self.invariant c.self.view_is r ∙ full_has c.self.inside.words c.args.block r c.if-self-k.false word, λ all. refl)
+returns-clause-whole c =
+    (λ yes r word. shown c.self.inside c.args.self.now c.self.invariant c.self.view_is r ∙ full_has c.self.inside.words c.args.block r c.if-self-k.false word, λ all. refl)
 
 pub returns-clause-left : goal.returns-clause-left
 returns-clause-left c =

@@ -1,4 +1,4 @@
-use Rattle.std.proofs.Common.{rules, ◌<◌, ◌+◌, ◌||◌, length, arith, ap, ◌∙◌}
+use Rattle.std.proofs.Common.{rules, ◌<◌, ◌+◌, ◌||◌, length, arith, ap, ◌∙◌, true}
 use Rattle.bench_core.specs.Machine.{unwritten, in_range}
 use Rattle.bench_core.specs.LogContents.{LogContents}
 use Rattle.bench_core.proofs.TiedToItsCalls.{tied_step}
@@ -11,7 +11,7 @@ invariant_of-self c =
     let log = c.touch.ensures in
     let early : b.calls < b.room.calls = search rules in
     let same_sent = ap (λ (l : LogContents). length l.sent) log in
-    tied_step b (unwritten c.args.at c.args.count) c.touch-2.new.self c.touch.new.self (b.calls + 1) _ tied (record {
+    tied_step b (unwritten c.args.at c.args.count) c.touch-2.new.self c.touch.new.self (b.calls + 1) _ true tied (record {
       calls_are = ap (λ (l : LogContents). l.calls) log;
       file = c.touch-2.ensures.same.0 ∙ tied.file;
       stable = c.touch-2.ensures.same.1 ∙ tied.stable;

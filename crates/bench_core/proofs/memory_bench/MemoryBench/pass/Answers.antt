@@ -1,4 +1,4 @@
-use Rattle.std.proofs.Common.{rules, ◌<◌, ◌+◌, length, arith, ap, refl, ◌∙◌}
+use Rattle.std.proofs.Common.{rules, ◌<◌, ◌+◌, length, arith, ap, refl, ◌∙◌, false}
 use Rattle.bench_core.specs.Machine.{other}
 use Rattle.bench_core.specs.LogContents.{LogContents}
 use Rattle.bench_core.proofs.TiedToItsCalls.{tied_step}
@@ -11,7 +11,7 @@ invariant_of-self c =
     let log = c.pass.ensures in
     let early : b.calls < b.room.calls = search rules in
     let same_sent = ap (λ (l : LogContents). length l.sent) log in
-    tied_step b other b.disk c.pass.new.self (b.calls + 1) b.faults tied (record {
+    tied_step b other b.disk c.pass.new.self (b.calls + 1) b.faults false tied (record {
       calls_are = ap (λ (l : LogContents). l.calls) log;
       file = tied.file;
       stable = tied.stable;

@@ -1,4 +1,4 @@
-use Rattle.std.proofs.Common.{rules, ◌<◌, ◌+◌, ◌++◌, length, arith, ap, refl, ◌∙◌, length-append}
+use Rattle.std.proofs.Common.{rules, ◌<◌, ◌+◌, ◌++◌, length, arith, ap, refl, ◌∙◌, length-append, false}
 use Rattle.bench_core.specs.Machine.{sending}
 use Rattle.bench_core.specs.LogContents.{LogContents}
 use Rattle.bench_core.specs.BenchContents.{BenchContents, sent_of}
@@ -14,7 +14,7 @@ invariant_of-self c =
     let same_sent = ap (λ (l : LogContents). length l.sent) log in
     let sent_is = ap (λ (v : BenchContents). length (sent_of v)) c.self.view_is in
     let room_is = ap (λ (v : BenchContents). v.room.sent) c.self.view_is in
-    tied_step b (sending c.args.piece.now) b.disk c.send.new.self (b.calls + 1) b.faults tied (record {
+    tied_step b (sending c.args.piece.now) b.disk c.send.new.self (b.calls + 1) b.faults false tied (record {
       calls_are = ap (λ (l : LogContents). l.calls) log;
       file = tied.file;
       stable = tied.stable;

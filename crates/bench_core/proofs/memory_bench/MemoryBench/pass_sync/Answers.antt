@@ -1,4 +1,4 @@
-use Rattle.std.proofs.Common.{rules, ◌<◌, ◌+◌, length, arith, ap, ◌∙◌}
+use Rattle.std.proofs.Common.{rules, ◌<◌, ◌+◌, length, arith, ap, ◌∙◌, false}
 use Rattle.bench_core.specs.Machine.{synced}
 use Rattle.bench_core.specs.LogContents.{LogContents}
 use Rattle.bench_core.proofs.TiedToItsCalls.{tied_step}
@@ -11,7 +11,7 @@ invariant_of-self c =
     let log = c.sync.ensures in
     let early : b.calls < b.room.calls = search rules in
     let same_sent = ap (λ (l : LogContents). length l.sent) log in
-    tied_step b synced c.sync-2.new.self c.sync.new.self (b.calls + 1) b.faults tied (record {
+    tied_step b synced c.sync-2.new.self c.sync.new.self (b.calls + 1) b.faults false tied (record {
       calls_are = ap (λ (l : LogContents). l.calls) log;
       file = c.sync-2.ensures.same.0 ∙ tied.file;
       stable = c.sync-2.ensures.stable ∙ tied.file;

@@ -1,4 +1,4 @@
-use Rattle.std.proofs.Common.{rules, ◌<◌, ◌≤◌, ◌+◌, ◌||◌, length, arith, ap, ◌∙◌}
+use Rattle.std.proofs.Common.{rules, ◌<◌, ◌≤◌, ◌+◌, ◌||◌, length, arith, ap, ◌∙◌, false}
 use Rattle.bench_core.specs.Machine.{wrote, in_range, written}
 use Rattle.bench_core.specs.LogContents.{LogContents}
 use Rattle.bench_core.specs.BenchContents.{BenchContents, file_of}
@@ -15,7 +15,7 @@ invariant_of-self c =
     let file_is = ap (λ (v : BenchContents). length (file_of v)) c.self.view_is in
     let at_inside : c.args.at ≤ length b.disk.file = omega (arith, c.requires.inside, ap length tied.file, file_is) in
     let room_is = ap (λ (v : BenchContents). v.room.file) c.self.view_is in
-    tied_step b (wrote c.args.at c.args.piece.now) c.write-2.new.self c.write.new.self (b.calls + 1) b.faults tied (record {
+    tied_step b (wrote c.args.at c.args.piece.now) c.write-2.new.self c.write.new.self (b.calls + 1) b.faults false tied (record {
       calls_are = ap (λ (l : LogContents). l.calls) log;
       file = c.write-2.ensures.written ∙ ap (λ file. written file c.args.at c.args.piece.now) tied.file;
       stable = c.write-2.ensures.same.0 ∙ tied.stable;

@@ -1,4 +1,4 @@
-use Rattle.std.proofs.Common.{◌≡◌, ℕ, List, length, take, ap, refl, Err}
+use Rattle.std.proofs.Common.{◌≡◌, ◌≤◌, ◌+◌, ℕ, List, [], ◌∷◌, length, take, true, ap, refl, Err, arith, length-append}
 use Rattle.bench_core.specs.declared.source.Failed.{Failed}
 use Rattle.bench_core.specs.Causes.{HasCause, next_count}
 use Rattle.bench_core.specs.Bench.{AppendsFront, Sending, Elapses}
@@ -33,3 +33,9 @@ returns-then-send_fails-clause-time c = rw c.fail_send.ensures.changed (front_or
 
 pub returns-then-send_fails-clause-cause : goal.returns-then-send_fails-clause-cause
 returns-then-send_fails-clause-cause c = let cause : HasCause {T = Unit {0}} {E = Failed} c.args.self.now.faults (next_count c.args.self.now.faults) (Err (record {})) = failed_cause (record {}) c.args.self.now.faults c.fail_send.ensures.faults in rw c.fail_send.ensures.changed (front_or_none c.args.self.now (take c.min-count.result c.args.piece.now) (λ v. HasCause {T = Unit {0}} {E = Failed} c.args.self.now.faults v.faults (Err (record {}))) cause (λ none. cause))
+
+pub returns-then-send_fails-clause-last_call : goal.returns-then-send_fails-clause-last_call
+returns-then-send_fails-clause-last_call c = rw c.fail_send.ensures.changed (front_or_none c.args.self.now (take c.min-count.result c.args.piece.now) (λ v. v.last_failed ≡ true) refl (λ none. refl))
+
+pub returns-then-send_fails-clause-one_tick : goal.returns-then-send_fails-clause-one_tick
+returns-then-send_fails-clause-one_tick c = rw c.fail_send.ensures.changed (front_or_none c.args.self.now (take c.min-count.result c.args.piece.now) (λ v. length v.past ≤ length c.args.self.now.past + 1) (omega (arith, length-append c.args.self.now.past (sending (take c.min-count.result c.args.piece.now) ∷ []))) (λ none. (omega arith)))

@@ -1,4 +1,4 @@
-use Rattle.std.proofs.Common.{◌≡◌, length, ap, refl, Err}
+use Rattle.std.proofs.Common.{◌≡◌, ◌≤◌, ◌+◌, [], ◌∷◌, length, true, ap, refl, Err, arith, length-append}
 use Rattle.bench_core.specs.declared.source.Failed.{Failed}
 use Rattle.bench_core.specs.Causes.{HasCause, next_count}
 use Rattle.bench_core.specs.Bench.{Torn, Follows, Unsent, Elapses}
@@ -33,3 +33,9 @@ returns-then-write_fails-clause-time c = rw c.fail_write.ensures.changed (touche
 
 pub returns-then-write_fails-clause-cause : goal.returns-then-write_fails-clause-cause
 returns-then-write_fails-clause-cause c = let cause : HasCause {T = Unit {0}} {E = Failed} c.args.self.now.faults (next_count c.args.self.now.faults) (Err (record {})) = failed_cause (record {}) c.args.self.now.faults c.fail_write.ensures.faults in rw c.fail_write.ensures.changed (touched_or_not c.args.self.now c.args.at (length c.args.piece.now) (λ v. HasCause {T = Unit {0}} {E = Failed} c.args.self.now.faults v.faults (Err (record {}))) cause cause)
+
+pub returns-then-write_fails-clause-last_call : goal.returns-then-write_fails-clause-last_call
+returns-then-write_fails-clause-last_call c = rw c.fail_write.ensures.changed (touched_or_not c.args.self.now c.args.at (length c.args.piece.now) (λ v. v.last_failed ≡ true) refl refl)
+
+pub returns-then-write_fails-clause-one_tick : goal.returns-then-write_fails-clause-one_tick
+returns-then-write_fails-clause-one_tick c = rw c.fail_write.ensures.changed (touched_or_not c.args.self.now c.args.at (length c.args.piece.now) (λ v. length v.past ≤ length c.args.self.now.past + 1) (omega (arith, length-append c.args.self.now.past (unwritten c.args.at (length c.args.piece.now) ∷ []))) (omega arith))

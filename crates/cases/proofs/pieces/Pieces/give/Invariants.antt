@@ -3,7 +3,7 @@ use Rattle.std.proofs.Common.{◌≡◌, ◌≤◌, ◌-◌, length}
 use Rattle.cases.proofs.pieces.Pieces.give.Given as goal
 
 abbrev pub invariant-loop-count : goal.invariant-loop-count
-invariant-loop-count l = (l.count ≤ length l.buf) × (l.self.faults ≡ l.initial.self.faults)
+invariant-loop-count l = (l.count ≤ length l.buf) × (l.self.faults ≡ l.initial.self.faults) × (l.self.last_failed ≡ l.initial.self.last_failed)
 
 abbrev pub decreases-loop-count : goal.decreases-loop-count
 decreases-loop-count l = length l.buf - l.count

@@ -1,11 +1,11 @@
 use Rattle.std.proofs.Common.{◌≡◌, ℕ, ℤ, pos, List, length, sym, ap, ◌∙◌, subst}
 use Rattle.std.proofs.lemmas.Bool.{eqb-true, eq-eqb}
 use Rattle.audit_types.specs.Form.{set_row}
-use Rattle.sum_basis.specs.Combination.{times}
+use Rattle.audit_types.specs.PrimitiveLines.{times}
+use Rattle.audit_types.specs.RowNumbers.{all_by_number}
 use Rattle.sum_basis.specs.Basis.{Echelon}
 use Rattle.sum_basis.specs.Elimination.{IsRemainder, IsSmallForm}
 use Rattle.sum_basis.proofs.FormsAreUnique.{leads_from}
-use Rattle.sum_basis.proofs.Sizes.{all_by_place}
 use Rattle.sum_basis.proofs.SetRows.{set_bits}
 use Rattle.sum_basis.proofs.UnitRows.{no_pivot}
 use Rattle.sum_basis.proofs.Remainders.{in_span, nothing_left, pivot_of_zeros}
@@ -29,6 +29,6 @@ returns c =
       λ p.
           let small = subst (λ (e : Echelon). IsSmallForm e.n e.rows) c.self.view_is form in
           let none = nothing_left c.args.self.now.rows v c.remainder.new.row all.0 all.1 rest small.echelon (leads_from c.args.self.now.n c.args.self.now.rows small.primitive) p in
-          let at_end = pivot_of_zeros c.remainder.new.row (all_by_place (λ x. x ≡ pos 0) c.remainder.new.row none) in
+          let at_end = pivot_of_zeros c.remainder.new.row (all_by_number (λ x. x ≡ pos 0) c.remainder.new.row none) in
           eq-eqb c.pivot_of.result (length c.remainder.new.row) (c.pivot_of.ensures ∙ at_end),
     )

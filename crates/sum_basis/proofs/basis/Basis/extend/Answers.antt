@@ -16,5 +16,7 @@ returns-clause-stands c = λ sets r.
 
 pub returns-clause-wide : goal.returns-clause-wide
 returns-clause-wide c =
-    wide_exactly c.args.self.now c.join.new.self (set_row c.args.self.now.n c.args.rows.now.list) c.in_ok-grown.grown (subst (λ (e : Echelon). IsSmallForm e.n e.rows) c.self.view_is c.columns.ensures.form) (subst (λ (e : Echelon). IsNarrow e.rows) c.self.view_is c.columns.ensures.narrow)
+    wide_exactly c.args.self.now c.join.new.self (set_row c.args.self.now.n c.args.rows.now.list) c.in_ok-grown.grown
+    (subst (λ (e : Echelon). IsSmallForm e.n e.rows) c.self.view_is c.columns.ensures.form)
+    (subst (λ (e : Echelon). IsNarrow e.rows) c.self.view_is c.columns.ensures.narrow)
     (grows_at c.self.inside.form c.args.self.now c.write_set.new.row c.args.rows.now.n c.args.rows.now.list c.in_ok-grown.grown c.join.new.self c.self.view_is c.write_set.ensures c.requires c.in_ok-grown.ensures.grows)

@@ -16,10 +16,12 @@ pub insert-requires-clause-bits : goal.insert-requires-clause-bits
 insert-requires-clause-bits c = set_bits c.args.rows.now.n c.args.rows.now.list c.write_set.new.row c.write_set.ensures
 
 pub insert-requires-clause-narrow : goal.insert-requires-clause-narrow
-insert-requires-clause-narrow c = not_wide_at c.self.inside.form c.args.self.now c.write_set.new.row c.args.rows.now.n c.args.rows.now.list c.self.view_is c.write_set.ensures c.requires.n c.requires.narrow
+insert-requires-clause-narrow c =
+    not_wide_at c.self.inside.form c.args.self.now c.write_set.new.row c.args.rows.now.n c.args.rows.now.list c.self.view_is c.write_set.ensures c.requires.n c.requires.narrow
 
 pub returns-clause-reduced : goal.returns-clause-reduced
-returns-clause-reduced c = reduced_at c.self.inside.form c.args.self.now c.insert.new.self.rows c.write_set.new.row c.args.rows.now.n c.args.rows.now.list c.self.view_is c.write_set.ensures c.requires.n c.in_ok-insert.ensures.reduced
+returns-clause-reduced c =
+    reduced_at c.self.inside.form c.args.self.now c.insert.new.self.rows c.write_set.new.row c.args.rows.now.n c.args.rows.now.list c.self.view_is c.write_set.ensures c.requires.n c.in_ok-insert.ensures.reduced
 
 pub returns-clause-stands : goal.returns-clause-stands
 returns-clause-stands c =
@@ -27,7 +29,8 @@ returns-clause-stands c =
     (reduced_at c.self.inside.form c.args.self.now c.insert.new.self.rows c.write_set.new.row c.args.rows.now.n c.args.rows.now.list c.self.view_is c.write_set.ensures c.requires.n c.in_ok-insert.ensures.reduced)
 
 -- the held list is that of the set
-module _ (form seen : Echelon) (held : Option Held) (m : ℕ) (list : List ℕ) (new : Held) (view : form ≡ seen) (is_held : IsHeld form held) (is : held ≡ Some new) (same : new.rows.list ≡ list) (n : m ≡ seen.n) where
+module _ (form seen : Echelon) (held : Option Held) (m : ℕ) (list : List ℕ) (new : Held) (view : form ≡ seen) (is_held : IsHeld form held)
+    (is : held ≡ Some new) (same : new.rows.list ≡ list) (n : m ≡ seen.n) where
   left : IsLeft form (set_row form.n list) (Entries new.list)
   left = subst (λ rows. IsLeft form (set_row form.n rows) (Entries new.list)) same (subst (IsHeld form) is is_held)
 
@@ -35,20 +38,27 @@ module _ (form seen : Echelon) (held : Option Held) (m : ℕ) (list : List ℕ) 
   row_is = ap (λ (k : ℕ). set_row k list) (ap (λ (e : Echelon). e.n) view ∙ sym n)
 
   list_not_wide : StaysNarrow seen list → ¬ (GrowsWide form (row_of form.n new.list.items))
-  list_not_wide narrow = not_wide_with form (set_row form.n list) (row_of form.n new.list.items) left.1 (not_wide_at form seen (set_row form.n list) m list view row_is n narrow)
+  list_not_wide narrow =
+      not_wide_with form (set_row form.n list) (row_of form.n new.list.items) left.1 (not_wide_at form seen (set_row form.n list) m list view row_is n narrow)
 
-  with_list : (rows : List (List ℤ)) → IsReducedForm form.n (form.rows ++ row_of form.n new.list.items ∷ []) rows → IsReducedForm seen.n (seen.rows ++ set_row seen.n list ∷ []) rows
-  with_list rows reduced = reduced_at form seen rows (set_row form.n list) m list view row_is n (grown_with form rows new.list.items (set_row form.n list) left.1 reduced)
+  with_list : (rows : List (List ℤ)) → IsReducedForm form.n (form.rows ++ row_of form.n new.list.items ∷ []) rows →
+      IsReducedForm seen.n (seen.rows ++ set_row seen.n list ∷ []) rows
+  with_list rows reduced =
+      reduced_at form seen rows (set_row form.n list) m list view row_is n (grown_with form rows new.list.items (set_row form.n list) left.1 reduced)
 
 pub insert_list-requires-clause-narrow : goal.insert_list-requires-clause-narrow
 insert_list-requires-clause-narrow c =
     let is = rw c.in-Some.is at c.list_of_set.ensures in
-    list_not_wide c.self.inside.form c.args.self.now c.self.inside.held c.args.rows.now.n c.args.rows.now.list (record { rows = c.args.rows.now; list = c.in-Some.list }) c.self.view_is c.self.invariant.1 (sym c.take-held.ensures.value ∙ is) refl c.requires.n c.requires.narrow
+    list_not_wide c.self.inside.form c.args.self.now c.self.inside.held c.args.rows.now.n c.args.rows.now.list
+    (record { rows = c.args.rows.now; list = c.in-Some.list }) c.self.view_is c.self.invariant.1
+    (sym c.take-held.ensures.value ∙ is) refl c.requires.n c.requires.narrow
 
 pub returns-in-Some-clause-reduced : goal.returns-in-Some-clause-reduced
 returns-in-Some-clause-reduced c =
     let is = rw c.in-Some.is at c.list_of_set.ensures in
-    with_list c.self.inside.form c.args.self.now c.self.inside.held c.args.rows.now.n c.args.rows.now.list (record { rows = c.args.rows.now; list = c.in-Some.list }) c.self.view_is c.self.invariant.1 (sym c.take-held.ensures.value ∙ is) refl c.requires.n c.insert_list.new.self.rows
+    with_list c.self.inside.form c.args.self.now c.self.inside.held c.args.rows.now.n c.args.rows.now.list
+    (record { rows = c.args.rows.now; list = c.in-Some.list }) c.self.view_is c.self.invariant.1
+    (sym c.take-held.ensures.value ∙ is) refl c.requires.n c.insert_list.new.self.rows
     c.in_ok-insert_list.ensures.reduced
 
 pub returns-in-Some-clause-stands : goal.returns-in-Some-clause-stands

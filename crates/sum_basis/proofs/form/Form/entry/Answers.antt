@@ -18,7 +18,8 @@ value_at-requires c =
 pub returns-then-column-row : goal.returns-then-column-row
 returns-then-column-row c =
     let head : FitsSigned w128 c.index-row.result.now.head = search rules in
-    to_z-of_z w128 c.index-row.result.now.head head ∙ head_seen c.self.inside.columns c.self.inside.rows.items c.args.self.now c.self.view_is c.self.invariant.kept c.args.k c.index-row.result.now c.requires.k c.index-row.ensures c.args.column c.if-column-row.true
+    to_z-of_z w128 c.index-row.result.now.head head
+    ∙ head_seen c.self.inside.columns c.self.inside.rows.items c.args.self.now c.self.view_is c.self.invariant.kept c.args.k c.index-row.result.now c.requires.k c.index-row.ensures c.args.column c.if-column-row.true
 
 pub returns-else-column-row : goal.returns-else-column-row
 returns-else-column-row c =

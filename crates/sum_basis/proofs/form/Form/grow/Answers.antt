@@ -21,19 +21,22 @@ invariant_of-self-in-Some c =
     let j = after_growth c.args.self.now c.self.inside.columns c.self.inside.rows.items c.reserve.new.self.items c.grow_rows.new.rows.items c.args.new.items c.self.view_is c.reserve.ensures.items c.requires.narrow c.grow_rows.ensures.reduced c.grow_rows.ensures.kept in
     let least = rw c.in-Some.is at c.common_multiple.ensures in
     joined_form c.self.inside.columns c.grow_rows.new.rows.items least.0 _ c.self.invariant.some c.self.invariant.at_most c.grow_rows.ensures.kept j
-    (subst (λ (l : List SparseRow). IsLeastCommonMultiple (heads l) least.0) c.deref.ensures.value least.1) (to_z-of_z w128 c.in-Some.common fits ∙ least.2.0) least.2.1 least.2.2
+    (subst (λ (l : List SparseRow). IsLeastCommonMultiple (heads l) least.0) c.deref.ensures.value least.1)
+    (to_z-of_z w128 c.in-Some.common fits ∙ least.2.0) least.2.1 least.2.2
 
 pub unreachable-requires : goal.unreachable-requires
 unreachable-requires c =
     let j = after_growth c.args.self.now c.self.inside.columns c.self.inside.rows.items c.reserve.new.self.items c.grow_rows.new.rows.items c.args.new.items c.self.view_is c.reserve.ensures.items c.requires.narrow c.grow_rows.ensures.reduced c.grow_rows.ensures.kept in
     let least = rw c.in-None.is at c.common_multiple.ensures in
-    within_limit c.self.inside.columns c.grow_rows.new.rows.items least.0 j (subst (λ (l : List SparseRow). IsLeastCommonMultiple (heads l) least.0) c.deref.ensures.value least.1) least.2
+    within_limit c.self.inside.columns c.grow_rows.new.rows.items least.0 j
+    (subst (λ (l : List SparseRow). IsLeastCommonMultiple (heads l) least.0) c.deref.ensures.value least.1) least.2
 
 pub returns : goal.returns
 returns c =
     let j = after_growth c.args.self.now c.self.inside.columns c.self.inside.rows.items c.reserve.new.self.items c.grow_rows.new.rows.items c.args.new.items c.self.view_is c.reserve.ensures.items c.requires.narrow c.grow_rows.ensures.reduced c.grow_rows.ensures.kept in
     record {
-      reduced = grown_rows c.args.self.now c.self.inside.columns c.self.inside.rows.items c.reserve.new.self.items c.grow_rows.new.rows.items c.args.new.items c.self.view_is c.reserve.ensures.items c.grow_rows.ensures.reduced;
+      reduced =
+          grown_rows c.args.self.now c.self.inside.columns c.self.inside.rows.items c.reserve.new.self.items c.grow_rows.new.rows.items c.args.new.items c.self.view_is c.reserve.ensures.items c.grow_rows.ensures.reduced;
       narrow = j.narrow;
       n = ap (λ (e : Echelon). e.n) c.self.view_is;
       err = tt;

@@ -20,7 +20,8 @@ pub returns : goal.returns
 returns c =
     let left = rw c.in-Entries.is at c.in_ok-settle.ensures.left in
     record {
-      grows = (left.1.outside, grown_to c.args.self.now c.grow.new.self c.in-Entries.new.items c.args.row.now c.in_ok-grow.ensures.n c.in_ok-grow.ensures.narrow left.1 c.in_ok-grow.ensures.reduced);
+      grows =
+          (left.1.outside, grown_to c.args.self.now c.grow.new.self c.in-Entries.new.items c.args.row.now c.in_ok-grow.ensures.n c.in_ok-grow.ensures.narrow left.1 c.in_ok-grow.ensures.reduced);
       n = c.in_ok-grow.ensures.n;
       err = tt;
     }

@@ -16,4 +16,5 @@ overflow_cast-result c =
 
 pub returns-clause-at_most : goal.returns-clause-at_most
 returns-clause-at_most c =
-    subst (λ (e : Echelon). length e.rows ≤ e.n) c.self.view_is (rank_at_most c.self.inside.columns (rows_of c.self.inside.columns c.self.inside.rows.items) c.self.invariant.form.primitive c.self.invariant.form.echelon)
+    subst (λ (e : Echelon). length e.rows ≤ e.n) c.self.view_is
+    (rank_at_most c.self.inside.columns (rows_of c.self.inside.columns c.self.inside.rows.items) c.self.invariant.form.primitive c.self.invariant.form.echelon)

@@ -3,10 +3,11 @@ use Rattle.std.specs.Prelude.{unsigned_abs}
 use Rattle.std.specs.List.{AllByRecursion}
 use Rattle.std.proofs.lemmas.Bool.{true≢false, eqb-true, eq-eqb}
 use Rattle.audit_types.specs.Truth.{number_at}
+use Rattle.audit_types.specs.ListLaws.{all-unmap}
 use Rattle.sum_basis.specs.declared.sparse.FreeEntry.{FreeEntry}
 use Rattle.sum_basis.specs.Sparse.{entry_at, IsListed}
 use Rattle.sum_basis.proofs.ListContents.{none}
-use Rattle.sum_basis.proofs.ClearedLists.{of_values, values_from}
+use Rattle.sum_basis.proofs.ClearedLists.{values_from}
 use Rattle.sum_basis.proofs.SparseRows.{small_row, small_values}
 use Rattle.sum_basis.proofs.WideForms.{new_too_large}
 use Rattle.sum_basis.proofs.Extending.{nothing_new, new_row, grows_wide}
@@ -28,7 +29,8 @@ none_listed (x ∷ list) row e is j = absurd (omega arith)
 
 pub returns-then-is_empty-clause-left : goal.returns-then-is_empty-clause-left
 returns-then-is_empty-clause-left c =
-    nothing_new c.args.self.now c.args.row.now c.remainder.new.row c.remainder.ensures.form c.remainder.ensures.remainder (none_listed c.in_ok-list.list.items c.remainder.new.row (empty c.in_ok-list.list.len c.in_ok-list.list.items c.is_empty.result c.in_ok-list.list.ok.0 c.is_empty.ensures c.if-is_empty.true) c.in_ok-list.ensures.is)
+    nothing_new c.args.self.now c.args.row.now c.remainder.new.row c.remainder.ensures.form c.remainder.ensures.remainder
+    (none_listed c.in_ok-list.list.items c.remainder.new.row (empty c.in_ok-list.list.len c.in_ok-list.list.items c.is_empty.result c.in_ok-list.list.ok.0 c.is_empty.ensures c.if-is_empty.true) c.in_ok-list.ensures.is)
 
 first_some : (n : ℕ) (list : List FreeEntry) → IsListed 0 n list → 0 < length list → (get_or list 0 none).value ≢ pos 0
 first_some n [] h some = absurd (omega arith)
@@ -41,11 +43,13 @@ make_primitive-requires-clause-some c =
     omega arith
 
 pub make_primitive-requires-clause-first : goal.make_primitive-requires-clause-first
-make_primitive-requires-clause-first c = first_some (length c.remainder.new.row) c.in_ok-list.list.items c.in_ok-list.ensures.listed (not_empty c.in_ok-list.list.len c.in_ok-list.list.items c.is_empty.result c.in_ok-list.list.ok.0 c.is_empty.ensures c.if-is_empty.false)
+make_primitive-requires-clause-first c =
+    first_some (length c.remainder.new.row) c.in_ok-list.list.items c.in_ok-list.ensures.listed
+    (not_empty c.in_ok-list.list.len c.in_ok-list.list.items c.is_empty.result c.in_ok-list.list.ok.0 c.is_empty.ensures c.if-is_empty.false)
 
 pub make_primitive-requires-clause-size : goal.make_primitive-requires-clause-size
 make_primitive-requires-clause-size c =
-    of_values (λ x. unsigned_abs x ≤ 2 ^ 126) c.in_ok-list.list.items
+    all-unmap (λ (e : FreeEntry). e.value) (λ x. unsigned_abs x ≤ 2 ^ 126) c.in_ok-list.list.items
     (values_from (λ x. unsigned_abs x ≤ 2 ^ 126) 0 (length c.remainder.new.row) c.in_ok-list.list.items c.in_ok-list.ensures.listed (λ j. rw (c.in_ok-list.ensures.is j) (let small = c.remainder.ensures.small j in omega arith)) (omega arith))
 
 pub returns-then-not-are_small-clause-left : goal.returns-then-not-are_small-clause-left

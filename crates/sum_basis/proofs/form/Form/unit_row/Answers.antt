@@ -10,7 +10,8 @@ use Rattle.sum_basis.proofs.UnitRowsInSpan.{IsFirstUnit, first_unit, no_unit, on
 use Rattle.sum_basis.proofs.form.Form.unit_row.Goals as goal
 
 -- as many rows are kept as are seen
-as_many : (n : ℕ) (rows items : List SparseRow) (seen : Echelon) → record { n = n; rows = rows_of n items } ≡ seen → rows ≡ items → length rows ≡ length seen.rows
+as_many : (n : ℕ) (rows items : List SparseRow) (seen : Echelon) → record { n = n; rows = rows_of n items } ≡ seen → rows ≡ items →
+    length rows ≡ length seen.rows
 as_many n rows items seen view e = ap length e ∙ sym (length-map items (λ (x : SparseRow). row_of n (entries_of x))) ∙ ap (λ (s : Echelon). length s.rows) view
 
 -- the row among the items

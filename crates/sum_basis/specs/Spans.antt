@@ -1,19 +1,16 @@
--- Row spaces, column by column.
-use Rattle.std.proofs.Common.{◌≡◌, ℕ, zero, suc, ◌*◌, ◌<◌, ℤ, pos, List, [], ◌∷◌, refl, sym, ap, ◌∙◌, arith}
+-- Facts on row spaces, column by column.
+use Rattle.std.proofs.Common.{◌≡◌, ℕ, ◌*◌, ◌<◌, ℤ, pos, List, [], ◌∷◌, refl, sym, ap, ◌∙◌, arith}
 use Rattle.std.specs.Prelude.{◌+ℤ◌, ◌*ℤ◌, ◌<ℤ◌}
 use Rattle.std.specs.List.{AllByRecursion}
 use Rattle.std.proofs.lemmas.Int.{ints}
 use Rattle.std.proofs.Math.IntN.{+ℤ_idl, +ℤ_idr, *ℤ_comm, zero-*ℤ, *ℤ-zero}
 use Rattle.audit_types.specs.Truth.{number_at}
-use Rattle.audit_types.specs.Form.{combined, InSpan, pivot, pivot_entry, IsEchelon, StandsBefore}
-use Rattle.sum_basis.specs.Combination.{both, times}
+use Rattle.audit_types.specs.Form.{combined, InSpan, pivot, pivot_entry, IsEchelon}
+use Rattle.sum_basis.specs.Combination.{both}
 use Rattle.audit_types.specs.Products.{add-times, times-add, times_assoc, zero_factor}
-
--- products of numbers above 0 are above 0
-pub positive_product : (a b : ℕ) → 0 < a → 0 < b → 0 < a * b
-positive_product (suc a) (suc b) p q = omega arith
-positive_product zero b p q = absurd (omega arith)
-positive_product (suc a) zero p q = absurd (omega arith)
+use Rattle.audit_types.specs.PrimitiveLines.{times}
+use Rattle.audit_types.specs.FormRows.{later_zero}
+use Rattle.std.proofs.Math.Nat.{mul-pos}
 
 -- combinations with the sums of coefficients
 pub combined-both : (a b : List ℤ) (rows : List (List ℤ)) (j : ℕ) → combined (both a b) rows j ≡ combined a rows j +ℤ combined b rows j
@@ -44,17 +41,13 @@ combined_zero (x ∷ a) (row ∷ rows) j h =
     let rest = combined_zero a rows j h.1 in
     omega (arith, ints)
 
--- later rows are 0 at the pivot of a row
-later_zero : (row : List ℤ) (rows : List (List ℤ)) → AllByRecursion (StandsBefore row) rows → AllByRecursion (λ later. number_at later (pivot row) ≡ pos 0) rows
-later_zero row [] h = tt
-later_zero row (next ∷ rows) h = (h.0.2, later_zero row rows h.1)
-
 -- a function of columns is 0 at all pivots
 abbrev pub ZeroAtPivots : (ℕ → ℤ) → List (List ℤ) → Type 0
 ZeroAtPivots f rows = AllByRecursion (λ row. f (pivot row) ≡ pos 0) rows
 
 -- the first row is left out where its coefficient is 0
-without_first : (c : ℤ) (row : List ℤ) (cs : List ℤ) (rows others : List (List ℤ)) → c ≡ pos 0 → ZeroAtPivots (λ j. c *ℤ number_at row j +ℤ combined cs rows j) others → ZeroAtPivots (λ j. combined cs rows j) others
+without_first : (c : ℤ) (row : List ℤ) (cs : List ℤ) (rows others : List (List ℤ)) → c ≡ pos 0 →
+    ZeroAtPivots (λ j. c *ℤ number_at row j +ℤ combined cs rows j) others → ZeroAtPivots (λ j. combined cs rows j) others
 without_first c row cs rows [] none h = tt
 without_first c row cs rows (other ∷ others) none h =
     let first = ap (λ z. z *ℤ number_at row (pivot other)) none ∙ zero-*ℤ (number_at row (pivot other)) in
@@ -62,7 +55,8 @@ without_first c row cs rows (other ∷ others) none h =
     (omega (arith, ints), without_first c row cs rows others none h.1)
 
 -- a combination of a form that is 0 at all its pivots is 0
-pub combination_zero : (cs : List ℤ) (rows : List (List ℤ)) → IsEchelon rows → AllByRecursion (λ row. pos 0 <ℤ pivot_entry row) rows → ZeroAtPivots (combined cs rows) rows → (j : ℕ) → combined cs rows j ≡ pos 0
+pub combination_zero : (cs : List ℤ) (rows : List (List ℤ)) → IsEchelon rows → AllByRecursion (λ row. pos 0 <ℤ pivot_entry row) rows →
+    ZeroAtPivots (combined cs rows) rows → (j : ℕ) → combined cs rows j ≡ pos 0
 combination_zero [] rows echelon leading zeros j = refl
 combination_zero (c ∷ cs) [] echelon leading zeros j = refl
 combination_zero (c ∷ cs) (row ∷ rows) echelon leading zeros j =
@@ -89,14 +83,11 @@ spans_from rows row h = record { multiple = h.multiple; positive = h.positive; c
 pub in_span_from : (rows : List (List ℤ)) (row : List ℤ) → Spans rows (number_at row) → InSpan rows row
 in_span_from rows row h = record { multiple = h.multiple; positive = h.positive; coefficients = h.coefficients; is = h.is }
 
--- a number above 0 is positive
-above : (m : ℕ) → 0 < m → pos 0 <ℤ pos m
-above m h = omega (arith, ints)
-
 module _ (rows : List (List ℤ)) where
   -- equal functions lie in the same spans
   pub spans_same : (f g : ℕ → ℤ) → ((j : ℕ) → f j ≡ g j) → Spans rows f → Spans rows g
-  spans_same f g e h = record { multiple = h.multiple; positive = h.positive; coefficients = h.coefficients; is = λ j. ap (λ z. pos h.multiple *ℤ z) (sym (e j)) ∙ h.is j }
+  spans_same f g e h =
+      record { multiple = h.multiple; positive = h.positive; coefficients = h.coefficients; is = λ j. ap (λ z. pos h.multiple *ℤ z) (sym (e j)) ∙ h.is j }
 
   -- zeros lie in each span
   pub spans_zero : Spans rows (λ j. pos 0)
@@ -116,7 +107,7 @@ module _ (rows : List (List ℤ)) where
   pub spans_add : (f g : ℕ → ℤ) → Spans rows f → Spans rows g → Spans rows (λ j. f j +ℤ g j)
   spans_add f g p q = record {
     multiple = p.multiple * q.multiple;
-    positive = positive_product p.multiple q.multiple p.positive q.positive;
+    positive = mul-pos p.positive q.positive;
     coefficients = both (times (pos q.multiple) p.coefficients) (times (pos p.multiple) q.coefficients);
     is = λ j.
         let left = ap (λ z. z *ℤ f j) (*ℤ_comm (pos p.multiple) (pos q.multiple)) ∙ times_assoc (pos q.multiple) (pos p.multiple) (f j) ∙ ap (λ z. pos q.multiple *ℤ z) (p.is j) ∙ sym (combined-times (pos q.multiple) p.coefficients rows j) in
@@ -130,7 +121,7 @@ module _ (rows : List (List ℤ)) where
   pub spans_down : (k : ℕ) (f : ℕ → ℤ) → 0 < k → Spans rows (λ j. pos k *ℤ f j) → Spans rows f
   spans_down k f h p = record {
     multiple = p.multiple * k;
-    positive = positive_product p.multiple k p.positive h;
+    positive = mul-pos p.positive h;
     coefficients = p.coefficients;
     is = λ j. times_assoc (pos p.multiple) (pos k) (f j) ∙ p.is j;
   }
@@ -149,7 +140,8 @@ span_trans rows others row h span =
     (spans_same rows (combined span.coefficients others) (λ j. pos span.multiple *ℤ number_at row j) (λ j. sym (span.is j)) (spans_combined rows span.coefficients others h)))
 
 -- of all rows too
-pub span_trans_all : (rows others more : List (List ℤ)) → AllByRecursion (InSpan rows) others → AllByRecursion (InSpan others) more → AllByRecursion (InSpan rows) more
+pub span_trans_all : (rows others more : List (List ℤ)) → AllByRecursion (InSpan rows) others → AllByRecursion (InSpan others) more →
+    AllByRecursion (InSpan rows) more
 span_trans_all rows others [] h k = tt
 span_trans_all rows others (row ∷ more) h k = (span_trans rows others row h k.0, span_trans_all rows others more h k.1)
 
@@ -159,7 +151,8 @@ zeros_of m f g [] is h = tt
 zeros_of m f g (row ∷ rows) is h = (sym (is (pivot row)) ∙ ap (λ z. m *ℤ z) h.0 ∙ *ℤ-zero m, zeros_of m f g rows is h.1)
 
 -- what lies in the span and is 0 at all pivots is 0
-pub span_zero : (rows : List (List ℤ)) (f : ℕ → ℤ) → IsEchelon rows → AllByRecursion (λ r. pos 0 <ℤ pivot_entry r) rows → Spans rows f → ZeroAtPivots f rows → (j : ℕ) → f j ≡ pos 0
+pub span_zero : (rows : List (List ℤ)) (f : ℕ → ℤ) → IsEchelon rows → AllByRecursion (λ r. pos 0 <ℤ pivot_entry r) rows → Spans rows f → ZeroAtPivots f rows →
+    (j : ℕ) → f j ≡ pos 0
 span_zero rows f echelon leading span zeros j =
     let none = combination_zero span.coefficients rows echelon leading (zeros_of (pos span.multiple) f (combined span.coefficients rows) rows span.is zeros) j in
-    zero_factor (f j) (pos span.multiple) (*ℤ_comm (f j) (pos span.multiple) ∙ span.is j ∙ none) (above span.multiple span.positive)
+    zero_factor (f j) (pos span.multiple) (*ℤ_comm (f j) (pos span.multiple) ∙ span.is j ∙ none) (let some = span.positive in omega (arith, ints))

@@ -2,7 +2,7 @@
 use Rattle.std.proofs.Common.{◌≤◌, length, ◌-◌}
 use Rattle.predicate_lang.specs.Building.{build_of}
 use Rattle.predicate_lang.specs.Reads.{HasRead}
-use Rattle.predicate_lang.proofs.reading.read_where.Given as goal
+use Rattle.predicate_lang.proofs.reading.take_tokens.Given as goal
 
 abbrev pub invariant-tokens : goal.invariant-tokens
 invariant-tokens l = record {
