@@ -6,7 +6,7 @@ ghost use Rattle.journal_form.specs.Header.{named, header, IsGoodHeaderByte, Hea
 use audit_types::{MOST_ROWS, Shape};
 
 // The gate, open, then the name and the version. These bytes are in every journal: never change them.
-const FRONT: [u8; 9] = [1, 83, 81, 65, 74, 82, 78, 76, 1];
+const FRONT: [u8; 9] = *b"\x01SQAJRNL\x01";
 
 /// Writes bytes 0 to 20 of a fresh journal, with both gates closed: the header's at byte 0, and the first group's.
 pub fn write_header(shape: &Shape, out: &mut [u8; 21])
@@ -19,7 +19,8 @@ pub fn write_header(shape: &Shape, out: &mut [u8; 21])
     let high = (shape.rows / 256) as u8;
     let low = (shape.rows % 256) as u8;
     *out = [
-        0, 83, 81, 65, 74, 82, 78, 76, 1, high, low, columns, a, b, c, d, e, f, g, h, 0,
+        0, FRONT[1], FRONT[2], FRONT[3], FRONT[4], FRONT[5], FRONT[6], FRONT[7], FRONT[8], high,
+        low, columns, a, b, c, d, e, f, g, h, 0,
     ];
 }
 
