@@ -5,7 +5,7 @@ pub mod HighestBounds
 pub mod HighRows
 pub mod LostSets
 pub mod ReachedRows
-pub mod Spans
+pub mod Ranges
 pub mod FallingCounts
 pub mod LoweredSets
 pub mod Descending

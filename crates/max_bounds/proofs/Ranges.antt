@@ -5,27 +5,27 @@ use Rattle.std.proofs.lemmas.Int.{ints}
 use Rattle.audit_types.specs.Rows.{has_row}
 use Rattle.audit_types.specs.Column.{Answer}
 use Rattle.audit_types.specs.Extremes.{is_bound}
-use Rattle.max_bounds.specs.declared.counts.Span.{Span}
-use Rattle.max_bounds.specs.Kept.{falls_of, IsSpan, Widens}
+use Rattle.max_bounds.specs.declared.counts.Range.{Range}
+use Rattle.max_bounds.specs.Kept.{falls_of, IsRange, Widens}
 use Rattle.max_bounds.specs.BoundLaws.{exact_bound}
 use Rattle.max_bounds.proofs.Walks.{has-push, filter-none}
 
 -- one row more
-pub spans_more : (bound : ℕ → Option ℤ) (yielded : List ℕ) (r : ℕ) (span wider : Span) → IsSpan bound yielded span → Widens span (bound r) wider → IsSpan bound (yielded ++ r ∷ []) wider
-spans_more bound yielded r span wider spans widens q b there is = elim (has-push yielded r q there) [
+pub range_more : (bound : ℕ → Option ℤ) (yielded : List ℕ) (r : ℕ) (range wider : Range) → IsRange bound yielded range → Widens range (bound r) wider → IsRange bound (yielded ++ r ∷ []) wider
+range_more bound yielded r range wider holds widens q b there is = elim (has-push yielded r q there) [
   | inl front ↦
-      let within = spans q b front is in
+      let within = holds q b front is in
       let least = within.0 in
       let most = within.1 in
       let low = widens.low in
       let high = widens.high in
       (omega (arith, ints), omega (arith, ints))
-  | inr last ↦ widens.spans b (ap bound last ∙ is)
+  | inr last ↦ widens.holds b (ap bound last ∙ is)
 ]
 
 -- an answer outside them is no bound of the rows
-pub falls-outside : (bound : ℕ → Option ℤ) (falling : List ℕ) (span : Span) (a : Answer) → IsSpan bound falling span → (a.value <ℤ span.low) ⊎ (span.high <ℤ a.value) → falls_of bound falling a ≡ []
-falls-outside bound falling span a spans beyond = filter-none (λ r. has_row a.rows r && is_bound (bound r) a.value) falling (λ r there.
+pub falls-outside : (bound : ℕ → Option ℤ) (falling : List ℕ) (range : Range) (a : Answer) → IsRange bound falling range → (a.value <ℤ range.low) ⊎ (range.high <ℤ a.value) → falls_of bound falling a ≡ []
+falls-outside bound falling range a holds beyond = filter-none (λ r. has_row a.rows r && is_bound (bound r) a.value) falling (λ r there.
     ap (λ b. has_row a.rows r && b) (no_bound r there) ∙ never (has_row a.rows r))
   where
     never : (b : Bool) → (b && false) ≡ false
@@ -35,7 +35,7 @@ falls-outside bound falling span a spans beyond = filter-none (λ r. has_row a.r
     no_bound : (r : ℕ) → has_row falling r ≡ true → is_bound (bound r) a.value ≡ false
     no_bound r there = elim (is_bound (bound r) a.value) as (λ b. is_bound (bound r) a.value ≡ b → b ≡ false) [
       | true ↦ λ e.
-          let within = spans r a.value there (exact_bound (bound r) a.value e) in
+          let within = holds r a.value there (exact_bound (bound r) a.value e) in
           let least = within.0 in
           let most = within.1 in
           absurd (elim beyond [ inl below ↦ omega (arith, ints) | inr above ↦ omega (arith, ints) ])

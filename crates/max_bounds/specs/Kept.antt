@@ -10,7 +10,7 @@ use Rattle.max_bounds.specs.Reaching.{bound_at, reaching}
 use Rattle.max_bounds.specs.Outside.{outside, IsStranded}
 use Rattle.max_bounds.specs.declared.answered.AnsweredMax.{AnsweredMax}
 use Rattle.max_bounds.specs.declared.bounds.Bounds.TheInside.{Inside}
-use Rattle.max_bounds.specs.declared.counts.Span.{Span}
+use Rattle.max_bounds.specs.declared.counts.Range.{Range}
 use Rattle.max_bounds.specs.declared.high_rows.HighRows.{HighRows}
 use Rattle.max_bounds.specs.declared.stranding.Left.{Left}
 use Rattle.max_bounds.specs.declared.stranding.Left.TheVariants.{Nothing, One, More}
@@ -66,14 +66,14 @@ abbrev pub falls_of : (ℕ → Option ℤ) → List ℕ → Answer → List ℕ
 falls_of bound falling a = filter (λ r. has_row a.rows r && is_bound (bound r) a.value) falling
 
 -- the bounds of these rows are within two numbers
-abbrev pub IsSpan : (ℕ → Option ℤ) → List ℕ → Span → Type 0
-IsSpan bound rows span = (r : ℕ) (b : ℤ) → has_row rows r ≡ true → bound r ≡ Some b → (span.low ≤ℤ b) × (b ≤ℤ span.high)
+abbrev pub IsRange : (ℕ → Option ℤ) → List ℕ → Range → Type 0
+IsRange bound rows range = (r : ℕ) (b : ℤ) → has_row rows r ≡ true → bound r ≡ Some b → (range.low ≤ℤ b) × (b ≤ℤ range.high)
 
--- the second two numbers span what the first do, and a bound
-pub record Widens (before : Span) (bound : Option ℤ) (after : Span) : Type 0 where
+-- the second range holds what the first does, and a bound
+pub record Widens (before : Range) (bound : Option ℤ) (after : Range) : Type 0 where
   pub low : after.low ≤ℤ before.low
   pub high : before.high ≤ℤ after.high
-  pub spans : (b : ℤ) → bound ≡ Some b → (after.low ≤ℤ b) × (b ≤ℤ after.high)
+  pub holds : (b : ℤ) → bound ≡ Some b → (after.low ≤ℤ b) × (b ≤ℤ after.high)
 
 -- a set with a higher answer loses its rows in the new set
 abbrev pub lowered_set : ℤ → List ℕ → Answer → Answer

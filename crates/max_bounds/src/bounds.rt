@@ -85,7 +85,7 @@ impl Bounds {
         self.pairs.reserve(1)?;
         self.counts.reserve(1)?;
         self.least.reserve(1)?;
-        let asked = AnsweredMax {
+        let latest = AnsweredMax {
             rows: *rows,
             answer,
         };
@@ -96,15 +96,15 @@ impl Bounds {
             &mut self.least,
             &self.pairs,
             &self.upper,
-            &asked,
+            &latest,
             &affected.falling,
         );
         settle(&mut self.upper, &affected, answer);
         let count = affected.extremes.len();
         self.fewest = fewest.min(count);
         self.counts.push_reserved(count);
-        insert(&mut self.least, &affected.extremes, &asked, &self.pairs);
-        self.pairs.push_reserved(asked);
+        insert(&mut self.least, &affected.extremes, &latest, &self.pairs);
+        self.pairs.push_reserved(latest);
         renew_high(&mut self.high, &self.upper, &affected, rows, answer);
         Ok(())
     }

@@ -5,7 +5,7 @@ ghost use Rattle.audit_types.specs.Rows.{has_row};
 ghost use Rattle.audit_types.specs.Extremes.{is_bound};
 ghost use Rattle.max_bounds.specs.Maxima.{answer_of, answers_of};
 ghost use Rattle.max_bounds.specs.Reaching.{bound_at, reaching};
-ghost use Rattle.max_bounds.specs.Kept.{reaching_counts, falls_of, fewest_of, IsSpan, Widens};
+ghost use Rattle.max_bounds.specs.Kept.{reaching_counts, falls_of, fewest_of, IsRange, Widens};
 
 use crate::answered::AnsweredMax;
 use audit_types::RowSet;
@@ -20,47 +20,47 @@ fn is_extreme(pair: &AnsweredMax, row: u16, bound: Option<i64>) -> bool
 
 // The least and the greatest of some bounds.
 #[derive(Clone, Copy)]
-pub(crate) struct Span {
+pub(crate) struct Range {
     pub low: i64,
     pub high: i64,
 }
 
-fn widen(span: Span, bound: Option<i64>) -> Span
-    ensures { Widens span bound result }
+fn widen(range: Range, bound: Option<i64>) -> Range
+    ensures { Widens range bound result }
 {
     match bound {
-        None => span,
-        Some(bound) => Span {
-            low: span.low.min(bound),
-            high: span.high.max(bound),
+        None => range,
+        Some(bound) => Range {
+            low: range.low.min(bound),
+            high: range.high.max(bound),
         },
     }
 }
 
-fn span_of(upper: &[Option<i64>], falling: &RowSet) -> Span
+fn range_of(upper: &[Option<i64>], falling: &RowSet) -> Range
     requires within { falling.now.n ≤ length upper.now }
-    ensures { IsSpan (bound_at upper.now) falling.now.list result }
+    ensures { IsRange (bound_at upper.now) falling.now.list result }
 {
     // A set says of its n that no row is past it.
     let _ = falling.n();
-    let mut span = Span {
+    let mut range = Range {
         low: i64::MAX,
         high: i64::MIN,
     };
     for row in falling.iter() {
-        span = widen(span, upper[row as usize]);
+        range = widen(range, upper[row as usize]);
     }
-    span
+    range
 }
 
-// How many of the falling rows are extreme for an answer: none, where the answer is outside of what their bounds span.
-fn falls(upper: &[Option<i64>], falling: &RowSet, span: Span, pair: &AnsweredMax) -> u16
-    requires spans { IsSpan (bound_at upper.now) falling.now.list span }
+// How many of the falling rows are extreme for an answer: none, where the answer is outside of the range of their bounds.
+fn falls(upper: &[Option<i64>], falling: &RowSet, range: Range, pair: &AnsweredMax) -> u16
+    requires holds { IsRange (bound_at upper.now) falling.now.list range }
     requires same_n { pair.now.rows.n ≡ falling.now.n }
     requires within { falling.now.n ≤ length upper.now }
     ensures { result ≡ length (falls_of (bound_at upper.now) falling.now.list (answer_of pair.now)) }
 {
-    if pair.answer < span.low || pair.answer > span.high {
+    if pair.answer < range.low || pair.answer > range.high {
         return 0;
     }
     // A set says of its n that no row is past it.
@@ -87,9 +87,9 @@ pub(crate) fn lower_counts(
     requires few { AllByRecursion (λ a. length (falls_of (bound_at upper.now) falling.now.list a) ≤ length (reaching (bound_at upper.now) a.rows a.value)) (answers_of pairs.now) }
     ensures lowered { counts.new ≡ map (λ a. length (reaching (bound_at upper.now) a.rows a.value) - length (falls_of (bound_at upper.now) falling.now.list a)) (answers_of pairs.now) }
 {
-    let span = span_of(upper, falling);
+    let range = range_of(upper, falling);
     for (k, pair) in pairs.iter().enumerate() {
-        counts[k] -= falls(upper, falling, span, pair);
+        counts[k] -= falls(upper, falling, range, pair);
     }
 }
 

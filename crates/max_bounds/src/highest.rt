@@ -5,8 +5,8 @@ ghost use Rattle.max_bounds.specs.Outside.{IsBelowBound, HasOneHighest};
 
 use audit_types::RowSet;
 
-// Whether a bound is above another. No bound is above every number.
-fn is_above(bound: Option<i64>, other: Option<i64>) -> bool
+// Whether a bound is higher than another. No bound is above every number.
+fn is_higher(bound: Option<i64>, other: Option<i64>) -> bool
     ensures { IsTrue result ↔ IsBelowBound other bound }
 {
     match (bound, other) {
@@ -36,7 +36,7 @@ pub(crate) fn one_highest(upper: &[Option<i64>], rows: &RowSet) -> bool
                 return false;
             }
             alone = false;
-        } else if is_above(bound, highest) {
+        } else if is_higher(bound, highest) {
             highest = bound;
             alone = true;
         }

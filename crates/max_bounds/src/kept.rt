@@ -20,29 +20,29 @@ pub(crate) fn fall(
     least: &mut [AnsweredMax],
     pairs: &[AnsweredMax],
     upper: &[Option<i64>],
-    asked: &AnsweredMax,
+    latest: &AnsweredMax,
     falling: &RowSet,
 ) -> u16
-    requires same_n { AllByRecursion (λ p. p.rows.n ≡ asked.now.rows.n) pairs.now }
-    requires same_n_least { AllByRecursion (λ p. p.rows.n ≡ asked.now.rows.n) least.old }
-    requires same_n_falling { falling.now.n ≡ asked.now.rows.n }
+    requires same_n { AllByRecursion (λ p. p.rows.n ≡ latest.now.rows.n) pairs.now }
+    requires same_n_least { AllByRecursion (λ p. p.rows.n ≡ latest.now.rows.n) least.old }
+    requires same_n_falling { falling.now.n ≡ latest.now.rows.n }
     requires within { falling.now.n ≤ length upper.now }
-    requires are_rows { AllByRecursion (λ a. AreRows asked.now.rows.n a.rows) (answers_of pairs.now) }
+    requires are_rows { AllByRecursion (λ a. AreRows latest.now.rows.n a.rows) (answers_of pairs.now) }
     requires bounds { (r : ℕ) → bound_at upper.now r ≡ upper_bound (answers_of pairs.now) r }
-    requires falling { falling.now.list ≡ rows_above (bound_at upper.now) asked.now.answer asked.now.rows.list }
+    requires falling { falling.now.list ≡ rows_above (bound_at upper.now) latest.now.answer latest.now.rows.list }
     requires descend { Descend (answers_of least.old) }
     requires told { TellsExtremes (extremes (answers_of pairs.now)) (answers_of pairs.now) counts.old least_count (answers_of least.old) }
-    ensures same_n_least { AllByRecursion (λ p. p.rows.n ≡ asked.now.rows.n) least.new }
+    ensures same_n_least { AllByRecursion (λ p. p.rows.n ≡ latest.now.rows.n) least.new }
     ensures descend { Descend (answers_of least.new) }
-    ensures tells { TellsExtremes (extremes (and_answer (answers_of pairs.now) asked.now.rows.list asked.now.answer)) (answers_of pairs.now) counts.new result (answers_of least.new) }
+    ensures tells { TellsExtremes (extremes (and_answer (answers_of pairs.now) latest.now.rows.list latest.now.answer)) (answers_of pairs.now) counts.new result (answers_of least.new) }
 {
     if falling.is_empty() {
         return least_count;
     }
     // A set says of its n that no row is past it.
-    let _ = asked.rows.n();
+    let _ = latest.rows.n();
     lower_counts(counts, pairs, upper, falling);
-    lower_sets(least, &asked.rows, asked.answer);
+    lower_sets(least, &latest.rows, latest.answer);
     fewest(counts)
 }
 
@@ -59,25 +59,25 @@ fn place_of(least: &[AnsweredMax], answer: i64) -> usize
 pub(crate) fn insert(
     least: &mut Vec<AnsweredMax>,
     own: &RowSet,
-    asked: &AnsweredMax,
+    latest: &AnsweredMax,
     pairs: &[AnsweredMax],
 )
     requires room { vec_len least.old < vec_capacity least.old }
-    requires same_n_least { AllByRecursion (λ p. p.rows.n ≡ asked.now.rows.n) least.old.items }
-    requires same_n { own.now.n ≡ asked.now.rows.n }
-    requires own { own.now.list ≡ extremes (and_answer (answers_of pairs.now) asked.now.rows.list asked.now.answer) (answer_of asked.now) }
+    requires same_n_least { AllByRecursion (λ p. p.rows.n ≡ latest.now.rows.n) least.old.items }
+    requires same_n { own.now.n ≡ latest.now.rows.n }
+    requires own { own.now.list ≡ extremes (and_answer (answers_of pairs.now) latest.now.rows.list latest.now.answer) (answer_of latest.now) }
     requires descend { Descend (answers_of least.old.items) }
-    requires told { AreLeast (extremes (and_answer (answers_of pairs.now) asked.now.rows.list asked.now.answer)) (answers_of pairs.now) (answers_of least.old.items) }
-    ensures same_n_least { AllByRecursion (λ p. p.rows.n ≡ asked.now.rows.n) least.new.items }
+    requires told { AreLeast (extremes (and_answer (answers_of pairs.now) latest.now.rows.list latest.now.answer)) (answers_of pairs.now) (answers_of least.old.items) }
+    ensures same_n_least { AllByRecursion (λ p. p.rows.n ≡ latest.now.rows.n) least.new.items }
     ensures descend { Descend (answers_of least.new.items) }
-    ensures tells { AreLeast (extremes (and_answer (answers_of pairs.now) asked.now.rows.list asked.now.answer))
-        (and_answer (answers_of pairs.now) asked.now.rows.list asked.now.answer) (answers_of least.new.items) }
+    ensures tells { AreLeast (extremes (and_answer (answers_of pairs.now) latest.now.rows.list latest.now.answer))
+        (and_answer (answers_of pairs.now) latest.now.rows.list latest.now.answer) (answers_of least.new.items) }
 {
-    if !has_within(least, &asked.rows, asked.answer) {
-        let place = place_of(least, asked.answer);
+    if !has_within(least, &latest.rows, latest.answer) {
+        let place = place_of(least, latest.answer);
         let set = AnsweredMax {
             rows: *own,
-            answer: asked.answer,
+            answer: latest.answer,
         };
         // There is room for it.
         least.insert(place, set).unwrap();

@@ -6,9 +6,9 @@ use Rattle.max_bounds.specs.Maxima.{answer_of}
 use Rattle.max_bounds.specs.Reaching.{bound_at}
 use Rattle.max_bounds.specs.Kept.{falls_of}
 use Rattle.max_bounds.proofs.Walks.{walk_ends, counted-push, counted-same, filter-shorter}
-use Rattle.max_bounds.proofs.Spans.{falls-outside}
+use Rattle.max_bounds.proofs.Ranges.{falls-outside}
 use Rattle.max_bounds.proofs.counts.falls.Goals as goal
-use Rattle.max_bounds.proofs.counts.falls.Goals.{then-pair-span-via-then-pair-span, then-pair-span-via-else-pair-span+then-pair-span-2}
+use Rattle.max_bounds.proofs.counts.falls.Goals.{then-pair-range-via-then-pair-range, then-pair-range-via-else-pair-range+then-pair-range-2}
 
 pub bounds-upper-row : goal.bounds-upper-row
 bounds-upper-row c =
@@ -46,15 +46,15 @@ returns c =
     let all = walk_ends c.loop-row.yielded c.loop-row.row-iterator c.args.falling.now.list c.loop-row.invariant.together c.in-None.ensures.steps.0 in
     c.loop-row.invariant.counted ∙ ap (λ l. length (falls_of (bound_at c.args.upper.now) l (answer_of c.args.pair.now))) all
 
-pub returns-then-pair-span : goal.returns-then-pair-span
-returns-then-pair-span c =
+pub returns-then-pair-range : goal.returns-then-pair-range
+returns-then-pair-range c =
     let fits : SFits w64 c.args.pair.now.answer = search rules in
-    let low_fits : SFits w64 c.args.span.low = search rules in
-    let high_fits : SFits w64 c.args.span.high = search rules in
+    let low_fits : SFits w64 c.args.range.low = search rules in
+    let high_fits : SFits w64 c.args.range.high = search rules in
     let same = to_z-of_z w64 c.args.pair.now.answer fits in
-    let low = to_z-of_z w64 c.args.span.low low_fits in
-    let high = to_z-of_z w64 c.args.span.high high_fits in
-    sym (ap length (falls-outside (bound_at c.args.upper.now) c.args.falling.now.list c.args.span (answer_of c.args.pair.now) c.requires.spans (elim c.then-pair-span.branch [
-      | then-pair-span-via-then-pair-span w ↦ inl (omega (arith, ints))
-      | then-pair-span-via-else-pair-span+then-pair-span-2 w ↦ inr (omega (arith, ints))
+    let low = to_z-of_z w64 c.args.range.low low_fits in
+    let high = to_z-of_z w64 c.args.range.high high_fits in
+    sym (ap length (falls-outside (bound_at c.args.upper.now) c.args.falling.now.list c.args.range (answer_of c.args.pair.now) c.requires.holds (elim c.then-pair-range.branch [
+      | then-pair-range-via-then-pair-range w ↦ inl (omega (arith, ints))
+      | then-pair-range-via-else-pair-range+then-pair-range-2 w ↦ inr (omega (arith, ints))
     ])))

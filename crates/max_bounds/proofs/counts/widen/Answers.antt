@@ -12,7 +12,7 @@ returns-in-Some c =
     record {
       low = omega (arith, ints, clamps, c.min.ensures.value);
       high = omega (arith, ints, clamps, c.max.ensures.value);
-      spans = λ b is.
+      holds = λ b is.
           let both : Some c.in-Some.bound ≡ Some b = sym c.in-Some.is ∙ is in
           let same : c.in-Some.bound ≡ b = cc in
           (omega (arith, ints, clamps, c.min.ensures.value), omega (arith, ints, clamps, c.max.ensures.value));

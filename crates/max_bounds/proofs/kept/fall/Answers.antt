@@ -17,8 +17,8 @@ use Rattle.max_bounds.proofs.kept.fall.Goals as goal
 pub returns-then-is_empty-clause-tells : goal.returns-then-is_empty-clause-tells
 returns-then-is_empty-clause-tells c =
     let answers = answers_of c.args.pairs.now in
-    let rows = c.args.asked.now.rows.list in
-    let x = c.args.asked.now.answer in
+    let rows = c.args.latest.now.rows.list in
+    let x = c.args.latest.now.answer in
     let none : rows_above (upper_bound answers) x rows ≡ [] = ap (λ u. rows_above u x rows) (sym (fun_ext c.requires.bounds)) ∙ sym c.requires.falling ∙ c.is_empty.ensures.0 c.if-is_empty.true in
     let same = none_falls answers rows x none in
     record {
@@ -37,9 +37,9 @@ lower_counts-requires-clause-counted c =
 pub lower_counts-requires-clause-few : goal.lower_counts-requires-clause-few
 lower_counts-requires-clause-few c =
     let answers = answers_of c.args.pairs.now in
-    let rows = c.args.asked.now.rows.list in
-    let x = c.args.asked.now.answer in
-    let n = c.args.asked.now.rows.n in
+    let rows = c.args.latest.now.rows.list in
+    let x = c.args.latest.now.answer in
+    let n = c.args.latest.now.rows.n in
     let falling = ap (λ u. rows_above u x rows) (fun_ext c.requires.bounds) in
     let few : AllByRecursion (λ a. length (falls_of (upper_bound answers) (rows_above (upper_bound answers) x rows) a) ≤ length (extremes answers a)) answers =
     all_from (λ a. length (falls_of (upper_bound answers) (rows_above (upper_bound answers) x rows) a) ≤ length (extremes answers a)) answers
@@ -50,9 +50,9 @@ lower_counts-requires-clause-few c =
 pub returns-clause-tells : goal.returns-clause-tells
 returns-clause-tells c =
     let answers = answers_of c.args.pairs.now in
-    let rows = c.args.asked.now.rows.list in
-    let x = c.args.asked.now.answer in
-    let n = c.args.asked.now.rows.n in
+    let rows = c.args.latest.now.rows.list in
+    let x = c.args.latest.now.answer in
+    let n = c.args.latest.now.rows.n in
     let fits : SFits w64 x = search rules in
     let same = to_z-of_z w64 x fits in
     record {
@@ -66,4 +66,4 @@ returns-clause-tells c =
     }
 
 pub returns-clause-descend : goal.returns-clause-descend
-returns-clause-descend c = subst Descend (sym c.lower_sets.ensures.lowered) (lowered_descend _ c.args.asked.now.rows.list (answers_of c.args.least.now) c.requires.descend)
+returns-clause-descend c = subst Descend (sym c.lower_sets.ensures.lowered) (lowered_descend _ c.args.latest.now.rows.list (answers_of c.args.least.now) c.requires.descend)

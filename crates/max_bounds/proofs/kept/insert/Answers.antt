@@ -18,20 +18,20 @@ pub returns-then-not-has_within-clause-descend : goal.returns-then-not-has_withi
 returns-then-not-has_within-clause-descend c =
     let least = c.args.least.now.items in
     let place = c.place_of-place.result in
-    let set : AnsweredMax = record { rows = c.args.own.now; answer = to_z w64 (of_z w64 c.args.asked.now.answer) } in
+    let set : AnsweredMax = record { rows = c.args.own.now; answer = to_z w64 (of_z w64 c.args.latest.now.answer) } in
     let items_are : c.insert.new.self.items ≡ insert least place set = c.insert.ensures.items ∙ ap (λ b. cond b (insert least place set) least) (c.insert.ensures.succeeds c.requires.room) in
-    subst (λ l. Descend (answers_of l)) (sym items_are) (inserted_descend least place set c.requires.descend (subst (λ l. IsPlaceOf (to_z w64 (of_z w64 c.args.asked.now.answer)) l place) c.deref-then-not-has_within.ensures.value c.place_of-place.ensures.place))
+    subst (λ l. Descend (answers_of l)) (sym items_are) (inserted_descend least place set c.requires.descend (subst (λ l. IsPlaceOf (to_z w64 (of_z w64 c.args.latest.now.answer)) l place) c.deref-then-not-has_within.ensures.value c.place_of-place.ensures.place))
 
 pub returns-then-not-has_within-clause-tells : goal.returns-then-not-has_within-clause-tells
 returns-then-not-has_within-clause-tells c =
     let answers = answers_of c.args.pairs.now in
-    let rows = c.args.asked.now.rows.list in
-    let x = c.args.asked.now.answer in
+    let rows = c.args.latest.now.rows.list in
+    let x = c.args.latest.now.answer in
     let fits : SFits w64 x = search rules in
     let same = to_z-of_z w64 x fits in
     let least = c.args.least.now.items in
     let place = c.place_of-place.result in
-    let set : AnsweredMax = record { rows = c.args.own.now; answer = to_z w64 (of_z w64 c.args.asked.now.answer) } in
+    let set : AnsweredMax = record { rows = c.args.own.now; answer = to_z w64 (of_z w64 c.args.latest.now.answer) } in
     let items_are : c.insert.new.self.items ≡ insert least place set = c.insert.ensures.items ∙ ap (λ b. cond b (insert least place set) least) (c.insert.ensures.succeeds c.requires.room) in
     subst (AreLeast (extremes (and_answer answers rows x)) (and_answer answers rows x))
     (sym (ap answers_of items_are ∙ answers_inserted least place set ∙ ap (λ a. take place (answers_of least) ++ record { rows = c.args.own.now.list; value = a } ∷ drop place (answers_of least)) same))
@@ -40,8 +40,8 @@ returns-then-not-has_within-clause-tells c =
 pub returns-else-not-has_within-clause-tells : goal.returns-else-not-has_within-clause-tells
 returns-else-not-has_within-clause-tells c =
     let answers = answers_of c.args.pairs.now in
-    let rows = c.args.asked.now.rows.list in
-    let x = c.args.asked.now.answer in
+    let rows = c.args.latest.now.rows.list in
+    let x = c.args.latest.now.answer in
     let fits : SFits w64 x = search rules in
     let same = to_z-of_z w64 x fits in
     least_within answers rows x (answers_of c.args.least.now.items)
