@@ -11,7 +11,8 @@ use Rattle.max_bounds.specs.BoundLaws.{exact_bound}
 use Rattle.max_bounds.proofs.Walks.{has-push, filter-none}
 
 -- one row more
-pub spans_more : (bound : ℕ → Option ℤ) (yielded : List ℕ) (r : ℕ) (span wider : Span) → IsSpan bound yielded span → Widens span (bound r) wider → IsSpan bound (yielded ++ r ∷ []) wider
+pub spans_more : (bound : ℕ → Option ℤ) (yielded : List ℕ) (r : ℕ) (span wider : Span) → IsSpan bound yielded span → Widens span (bound r) wider →
+    IsSpan bound (yielded ++ r ∷ []) wider
 spans_more bound yielded r span wider spans widens q b there is = elim (has-push yielded r q there) [
   | inl front ↦
       let within = spans q b front is in
@@ -24,7 +25,8 @@ spans_more bound yielded r span wider spans widens q b there is = elim (has-push
 ]
 
 -- an answer outside them is no bound of the rows
-pub falls-outside : (bound : ℕ → Option ℤ) (falling : List ℕ) (span : Span) (a : Answer) → IsSpan bound falling span → (a.value <ℤ span.low) ⊎ (span.high <ℤ a.value) → falls_of bound falling a ≡ []
+pub falls-outside : (bound : ℕ → Option ℤ) (falling : List ℕ) (span : Span) (a : Answer) → IsSpan bound falling span →
+    (a.value <ℤ span.low) ⊎ (span.high <ℤ a.value) → falls_of bound falling a ≡ []
 falls-outside bound falling span a spans beyond = filter-none (λ r. has_row a.rows r && is_bound (bound r) a.value) falling (λ r there.
     ap (λ b. has_row a.rows r && b) (no_bound r there) ∙ never (has_row a.rows r))
   where

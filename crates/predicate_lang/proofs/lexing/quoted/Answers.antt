@@ -11,5 +11,6 @@ bytes-preserved-then-byte-ne39 c = record {
 pub bytes-preserved : goal.bytes-preserved
 bytes-preserved c = record {
   within = omega arith;
-  same = doubled_quote c.args.rest.now c.bytes.list.items _ c.bytes.at (omega arith) (omega arith) c.if-rest-at-eq39.true c.in_ok-push-2.ensures.items c.bytes.invariant.same;
+  same =
+      doubled_quote c.args.rest.now c.bytes.list.items _ c.bytes.at (omega arith) (omega arith) c.if-rest-at-eq39.true c.in_ok-push-2.ensures.items c.bytes.invariant.same;
 }
