@@ -1,7 +1,6 @@
 //! Gathering the lines of a group.
 ghost use Rattle.std.specs.Prelude.{◌≡◌, ◌≢◌, ◌<◌, ◌≤◌, ◌+◌, ◌++◌, ◌||◌, [], ◌∷◌, not, true, false, length, All, IfOk, OnOk, Ok, Err};
 ghost use Rattle.std.specs.Vec.{vec_capacity};
-ghost use Rattle.audit_types.specs.Limits.{most_rows};
 ghost use Rattle.schema_json.specs.SecretShape.{shape_of};
 ghost use Rattle.table_load.specs.Cells.{FitsSchema};
 ghost use Rattle.bench_core.specs.Causes.{Rose};
@@ -88,7 +87,6 @@ fn next_plan<P: Source>(
 ) -> Result<Option<Plan>, EndFault>
     requires same { P.told → lines.old.ended ≡ true → P.left source.old ≡ [] }
     requires fits { FitsSchema schema.now.columns index.now }
-    requires few { index.now.rows ≤ most_rows }
     ensures next { IfOk result (GivesNext P.told schema.now.columns index.now (lines.old.pending ++ P.left source.old) (lines.new.pending ++ P.left source.new) lines.new.ended) }
     ensures takes { IfOk result (TakesByte (lines.old.taken + length lines.new.pending) (lines.new.taken + length lines.old.pending)) }
     ensures input { P.told → result ≡ Err EndFault.Input → StopsAt (lines.old.pending ++ P.left source.old) (P.left source.new) }
@@ -125,7 +123,6 @@ pub(crate) fn gather<P: Source>(
     requires same { P.told → lines.old.ended ≡ true → P.left source.old ≡ [] }
     requires within { lines.old.taken ≤ most_input + length lines.old.pending }
     requires fits { FitsSchema schema.now.columns index.now }
-    requires few { index.now.rows ≤ most_rows }
     requires some { 0 < batch }
 
     // The lines, what they come to, and how many there are.

@@ -1,6 +1,6 @@
 -- How many of the lines that were sent tell what.
-use Rattle.std.specs.Prelude.{◌≡◌, ◌⊎◌, ℕ, Bool, true, false, not, List, [], ◌∷◌, ◌++◌, length, filter, count_by, codes, decimal, ◌==◌}
-use Rattle.std.specs.List.{slice_split}
+use Rattle.std.specs.Prelude.{◌≡◌, ◌⊎◌, ℕ, Bool, true, false, not, List, ◌++◌, length, filter, count_by, codes, decimal, ◌==◌}
+use Rattle.std.specs.List.{AllZip, slice_split}
 use Rattle.line_wire.specs.Lines.{is_feed}
 use Rattle.line_wire.specs.Reply.{reply_bytes, IsReply}
 use Rattle.line_wire.specs.declared.reply.Reply.{Reply}
@@ -33,10 +33,7 @@ HasKind line kind = ((r : Reply) × IsReply line r × (kind ≡ kind_of r)) ⊎ 
 
 -- the kinds of some lines, in order
 abbrev pub HaveKinds : List (List ℕ) → List ReplyKind → Type 0
-HaveKinds [] [] = Unit {0}
-HaveKinds [] (kind ∷ kinds) = ⊥
-HaveKinds (line ∷ lines) [] = ⊥
-HaveKinds (line ∷ lines) (kind ∷ kinds) = HasKind line kind × HaveKinds lines kinds
+HaveKinds lines kinds = AllZip HasKind lines kinds
 
 -- ---- how many are of each
 

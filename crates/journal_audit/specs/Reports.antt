@@ -1,6 +1,6 @@
 -- The report of an audit: for each secret number a line, or a line for a column of them, that shows it to be free.
 use Rattle.std.specs.Prelude.{◌≡◌, ◌≤◌, ◌+◌, ℕ, ℤ, true, List, [], ◌∷◌, ◌++◌, length, map, filter, slice_index_or, Result, Err, OnOk, OnErr}
-use Rattle.std.specs.List.{flat_map, concat, range_with_len}
+use Rattle.std.specs.List.{AllZip, flat_map, concat, range_with_len}
 use Rattle.audit_types.specs.declared.shapes.Kind.{Kind}
 use Rattle.audit_types.specs.declared.shapes.Kind.TheVariants.{Sum, Max}
 use Rattle.audit_types.specs.declared.shapes.Shape.{Shape}
@@ -86,10 +86,7 @@ IsLineOn audit totals line = line ≡ total_line (length audit.history) (columns
 
 -- a line on each
 abbrev pub AreLinesOn : Audit → List Subject → List (List ℕ) → Type 0
-AreLinesOn audit [] [] = Unit {0}
-AreLinesOn audit [] (line ∷ lines) = ⊥
-AreLinesOn audit (subject ∷ others) [] = ⊥
-AreLinesOn audit (subject ∷ others) (line ∷ lines) = IsLineOn audit subject line × AreLinesOn audit others lines
+AreLinesOn audit about lines = AllZip (IsLineOn audit) about lines
 
 -- ---- what was sent
 

@@ -1,6 +1,5 @@
 //! Planning a line.
 ghost use Rattle.std.specs.Prelude.{◌≡◌, ◌≤◌, true, length, IfOk, MatchResult, Some};
-ghost use Rattle.audit_types.specs.Limits.{most_rows};
 ghost use Rattle.schema_json.specs.SecretShape.{shape_of};
 ghost use Rattle.table_load.specs.Cells.{FitsSchema};
 ghost use Rattle.set_index.specs.Asked.{fits_public};
@@ -84,11 +83,12 @@ pub fn plan_line(
 ) -> Result<Plan, NoMemory>
     requires short { length line.now ≤ 8192 }
     requires fits { FitsSchema schema.now.columns index.now }
-    requires few { index.now.rows ≤ most_rows }
     ensures planned { IfOk result (IsPlan schema.now.columns index.now (text line.now)) }
     ensures served { IfOk result (CanBeServed (shape_of schema.now.columns index.now.rows)) }
 {
     reads_what_fits();
+    // A public part says of itself that it has 1 to 1,024 rows.
+    let _ = index.public().rows();
     match read_line_request(alloc, schema, line, scratch) {
         Ok(request) => Ok(plan_request(index, request)),
         Err(fault) => Ok(Plan::Ready(refused(fault)?)),

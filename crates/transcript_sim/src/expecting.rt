@@ -43,11 +43,13 @@ impl Expected {
     }
 }
 
-/// What the question of a plan calls for after the records of the core. No secret is read.
-pub(crate) fn expected_of(core: &Core, plan: Plan) -> Result<Expected, NoMemory>
-    requires { CanBeServed core.now.setting.shape plan }
-    ensures calls { IfOk result (CallsFor core.now.setting core.now.history plan) }
-    ensures can { IfOk result (CanBeTaken core.now.setting core.now.history) }
+/// What the question of a plan calls for after the records of the core. The core keeps what it found for the answer to come; no
+/// secret is read.
+pub(crate) fn expected_of(core: &mut Core, plan: Plan) -> Result<Expected, NoMemory>
+    requires { CanBeServed core.old.setting.shape plan }
+    ensures calls { IfOk result (CallsFor core.old.setting core.old.history plan) }
+    ensures can { IfOk result (CanBeTaken core.old.setting core.old.history) }
+    ensures same { core.new ≡ core.old }
 {
     let (take, asked) = match plan {
         Plan::Ready(reply) => return Ok(Expected::Only(reply)),
@@ -56,7 +58,7 @@ pub(crate) fn expected_of(core: &Core, plan: Plan) -> Result<Expected, NoMemory>
     if core.history().len() >= MOST_RECORDS {
         return Ok(Expected::Only(Reply::Full));
     }
-    match core.decide(&asked)? {
+    match core.weigh(&asked)? {
         Verdict::Released => Ok(Expected::Answer { take, asked }),
         Verdict::DeniedUnsafe => Ok(Expected::Only(Reply::Unsafe)),
         Verdict::DeniedWide => Ok(Expected::Only(Reply::Wide)),

@@ -1,6 +1,5 @@
 //! Reading the lines of a transcript: a question, and the line that was shown to it.
-ghost use Rattle.std.specs.Prelude.{◌≡◌, ◌≤◌, [], true, IfOk, IfErr};
-ghost use Rattle.audit_types.specs.Limits.{most_rows};
+ghost use Rattle.std.specs.Prelude.{◌≡◌, [], true, IfOk, IfErr};
 ghost use Rattle.audit_types.specs.History.{setting_of};
 ghost use Rattle.schema_json.specs.SecretShape.{shape_of};
 ghost use Rattle.table_load.specs.Cells.{FitsSchema};
@@ -25,15 +24,15 @@ pub(crate) fn next_question<P: Source>(
     lines: &mut Lines,
     schema: &Schema,
     index: &Index,
-    core: &Core,
+    core: &mut Core,
     source: &mut P,
     scratch: &mut Scratch,
 ) -> Result<Option<Expected>, SimulationFault>
     requires same { P.told → lines.old.ended ≡ true → P.left source.old ≡ [] }
     requires fits { FitsSchema schema.now.columns index.now }
-    requires few { index.now.rows ≤ most_rows }
-    requires setting { core.now.setting ≡ setting_of (shape_of schema.now.columns index.now.rows) }
-    ensures asks { IfOk result (AsksNext P.Source lines.old lines.new source.old source.new schema.now.columns index.now core.now.history) }
+    requires setting { core.old.setting ≡ setting_of (shape_of schema.now.columns index.now.rows) }
+    ensures asks { IfOk result (AsksNext P.Source lines.old lines.new source.old source.new schema.now.columns index.now core.old.history) }
+    ensures same { core.new ≡ core.old }
     ensures short { IfErr result (IsCutShort P.Source lines.old lines.new source.old source.new) }
     ensures cuts { Cuts P.Source lines.old lines.new source.old source.new }
 {

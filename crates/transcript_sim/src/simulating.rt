@@ -1,6 +1,5 @@
 //! Reading a transcript, and sending its verdicts.
 ghost use Rattle.std.specs.Prelude.{◌≡◌, ◌≢◌, ◌≤◌, ◌+◌, ◌++◌, [], List, ℕ, false, length, OnOk, OnErr, Err, true};
-ghost use Rattle.audit_types.specs.Limits.{most_rows};
 ghost use Rattle.audit_types.specs.History.{setting_of};
 ghost use Rattle.audit_types.specs.declared.records.Answered.{Answered};
 ghost use Rattle.bench_core.specs.Causes.{HasCause, Rose};
@@ -97,7 +96,6 @@ fn judge<P: Source, B: Bench>(
 ) -> Result<(), SimulationFault>
     requires fresh { (lines.old.taken ≡ 0) × (lines.old.pending ≡ []) × (lines.old.ended ≡ false) }
     requires fits { FitsSchema schema.now.columns index.now }
-    requires few { index.now.rows ≤ most_rows }
     requires setting { core.old.setting ≡ setting_of (shape_of schema.now.columns index.now.rows) }
     requires nothing { core.old.history ≡ [] }
     ensures { Simulates P.Source B.Bench schema.now.columns index.now source.old source.new bench.old bench.new result }

@@ -17,7 +17,7 @@ unreachable-requires g c =
     let free = c.free_numbers.ensures.lone (secret_table secret) history c.args.column (c.lists_of_secrets.ensures secret c.requires.is.numbers) c.requires.is.legal c.requires.below c.requires.part.own_kind in
     let consistent = subst IsConsistent (sym c.requires.part.answers) free.0 in
     let found = c.in-Some.ensures.fixed consistent in
-    free.1 c.in-Some.field-0 (subst (λ n. c.in-Some.field-0 < n) c.requires.part.n found.0)
+    free.1 c.in-Some.field-0 (subst (λ n. c.in-Some.field-0 < n) c.requires.part.n found.0.0)
     (subst (λ a. IsLone a c.in-Some.field-0) c.requires.part.answers c.in-Some.ensures.lone.0)
 
 pub name-name-requires : goal.name-name-requires

@@ -1,5 +1,7 @@
-use Rattle.std.proofs.Common.{rules, ◌≡◌, ◌+◌, [], ◌∷◌, ◌++◌, Option, Some, None, Result, Err, refl, sym, subst}
+use Rattle.std.proofs.Common.{rules, ◌≡◌, ◌+◌, [], ◌∷◌, ◌++◌, Option, Some, None, Result, Err, refl, sym, ◌∙◌, ap, subst}
+use Rattle.std.specs.Option.{option_to_list}
 use Rattle.audit_types.specs.declared.records.Answered.{Answered}
+use Rattle.audit_core.specs.Audited.{Audited}
 use Rattle.transcript_sim.specs.declared.due.Due.{Due}
 use Rattle.transcript_sim.specs.declared.expecting.Expected.{Expected}
 use Rattle.transcript_sim.specs.declared.shown.Shown.{Shown}
@@ -114,9 +116,9 @@ loop-scratch-preserved g c =
     let shows = subst (λ (o : Option Shown). ShowsNext g.P.Source c.next_question.new.lines c.next_shown.new.lines c.next_question.new.source c.next_shown.new.source expected o) c.in-Some-Agrees-None.is c.in_ok-due.ensures.shows in
     let added : c.in-Some-Agrees-None.field-0-0 ≡ None = c.in-Some-Agrees-None.field-0-0-is in
     let agrees = subst (λ (o : Option Answered). AgreesWith shows.line expected o) added (subst (λ (s : Shown). ComesTo shows.line expected s) c.in-Some-Agrees-None.field-0-is shows.comes_to) in
-    agreed g.P.Source g.B.Bench c.args.schema.now.columns c.args.index.now c.args.source.now c.args.bench.now c.lines_in_turn.ensures.more c.next_question.new.lines c.next_question.new.source c.send_verdict.new.bench c.loop-scratch.core
-    (c.loop-scratch.line + 2) expected half c.next_shown.new.lines c.next_shown.new.source shows.line shows.gives c.in_ok-due.ensures.cuts None agrees c.loop-scratch.core
-    (search rules) refl
+    let same : c.next_question.new.core ≡ c.loop-scratch.core = c.in_ok-expected.ensures.same in
+    let kept : c.loop-scratch.core.history ≡ c.loop-scratch.core.history ++ option_to_list None = search rules in
+    agreed g.P.Source g.B.Bench c.args.schema.now.columns c.args.index.now c.args.source.now c.args.bench.now c.lines_in_turn.ensures.more c.next_question.new.lines c.next_question.new.source c.send_verdict.new.bench c.loop-scratch.core (c.loop-scratch.line + 2) expected half c.next_shown.new.lines c.next_shown.new.source shows.line shows.gives c.in_ok-due.ensures.cuts None agrees c.next_question.new.core (ap (λ (k : Audited). k.history) same ∙ kept) (ap (λ (k : Audited). k.setting) same)
 
 pub loop-scratch-preserved-in-Continue-branch-8 : goal.loop-scratch-preserved-in-Continue-branch-8
 loop-scratch-preserved-in-Continue-branch-8 g c =
@@ -130,9 +132,10 @@ loop-scratch-preserved-in-Continue-branch-8 g c =
     let shows = subst (λ (o : Option Shown). ShowsNext g.P.Source c.next_question.new.lines c.next_shown.new.lines c.next_question.new.source c.next_shown.new.source expected o) c.in-Some-Agrees-Some.is c.in_ok-due.ensures.shows in
     let added : c.in-Some-Agrees-Some.field-0-0 ≡ Some c.in-Some-Agrees-Some.answered = search rules in
     let agrees = subst (λ (o : Option Answered). AgreesWith shows.line expected o) added (subst (λ (s : Shown). ComesTo shows.line expected s) c.in-Some-Agrees-Some.field-0-is shows.comes_to) in
-    agreed g.P.Source g.B.Bench c.args.schema.now.columns c.args.index.now c.args.source.now c.args.bench.now c.lines_in_turn.ensures.more c.next_question.new.lines c.next_question.new.source c.send_verdict.new.bench c.loop-scratch.core
-    (c.loop-scratch.line + 2) expected half c.next_shown.new.lines c.next_shown.new.source shows.line shows.gives c.in_ok-due.ensures.cuts
-    (Some c.in-Some-Agrees-Some.answered) agrees c.take.new.self (search rules) (search rules)
+    let same : c.next_question.new.core ≡ c.loop-scratch.core = c.in_ok-expected.ensures.same in
+    let taken : c.take.new.self.history ≡ c.next_question.new.core.history ++ c.in-Some-Agrees-Some.answered ∷ [] = search rules in
+    let kept : c.take.new.self.setting ≡ c.next_question.new.core.setting = search rules in
+    agreed g.P.Source g.B.Bench c.args.schema.now.columns c.args.index.now c.args.source.now c.args.bench.now c.lines_in_turn.ensures.more c.next_question.new.lines c.next_question.new.source c.send_verdict.new.bench c.loop-scratch.core (c.loop-scratch.line + 2) expected half c.next_shown.new.lines c.next_shown.new.source shows.line shows.gives c.in_ok-due.ensures.cuts (Some c.in-Some-Agrees-Some.answered) agrees c.take.new.self (taken ∙ ap (λ (k : Audited). k.history ++ c.in-Some-Agrees-Some.answered ∷ []) same) (kept ∙ ap (λ (k : Audited). k.setting) same)
 
 pub returns-in_err-take-in-Some-Agrees-Some : goal.returns-in_err-take-in-Some-Agrees-Some
 returns-in_err-take-in-Some-Agrees-Some g c =
