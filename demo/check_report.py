@@ -35,6 +35,7 @@ def secret_columns():
 
 
 def number_of_rows():
+    csv.field_size_limit(2**24)  # a field may be as long as a table
     try:
         with open("table.csv", encoding="utf-8-sig", newline="") as file:
             rows = sum(1 for record in csv.reader(file) if record) - 1
@@ -49,7 +50,7 @@ def records(columns, rows):
     with open("answers.journal", "rb") as file:
         data = file.read()
     kinds = bytes(KINDS[kind] for _, kind in columns)
-    need(data[:9] == b"\x01SQAJRNL\x01", "no journal")
+    need(len(data) > 20 and data[:9] == b"\x01SQAJRNL\x01", "no journal")
     shape = rows.to_bytes(2, "big") + bytes([len(kinds)]) + kinds.ljust(8, b"\0")
     need(data[9:20] == shape, "the journal is of another table")
     at, size = 20, 9 + (rows + 7) // 8
@@ -69,29 +70,31 @@ def records(columns, rows):
 
 def report():
     """The lines of the report, each an object."""
-    for text in sys.stdin.buffer:
-        try:
-            line = json.loads(text)
-        except (ValueError, RecursionError):
-            raise Wrong("no JSON") from None
-        need(isinstance(line, dict), "no object of JSON")
-        yield line
+    with open(0, "rb") as file:
+        for text in file:
+            try:
+                line = json.loads(text)
+            except (ValueError, RecursionError):
+                raise Wrong("no JSON") from None
+            need(isinstance(line, dict), "no object of JSON")
+            yield line
 
 
 def are_whole(numbers):
-    """A fraction could be rounded until a total is 0, so none is taken."""
+    """A fraction could be rounded until a total is 0, so none is taken, and neither is true, which Python holds to be 1."""
     return isinstance(numbers, list) and all(type(number) is int for number in numbers)
 
 
 def check_direction(line, row, rows, sets):
-    need(line.get("row") == row, f"not the line of row {row}")
+    need(are_whole([line.get("row")]) and line["row"] == row, f"not the line of row {row}")
     entries = line.get("direction")
     need(isinstance(entries, list), "no direction")
     change = [0] * rows
-    for entry in entries:
-        need(are_whole(entry) and len(entry) == 2 and 0 <= entry[0] < rows, f"{entry} is no row and its number")
+    for at, entry in enumerate(entries):
+        need(are_whole(entry) and len(entry) == 2 and 0 <= entry[0] < rows, f"entry {at} of the direction is no row and its number")
         place, number = entry
         change[place] = number
+    need(len({place for place, _ in entries}) == len(entries), "a row comes twice")
     need(change[row] > 0, "the change doesn't move its row")
     for chosen in sets:
         need(sum(change[place] for place in chosen) == 0, "the change alters an answer")
@@ -136,7 +139,8 @@ def main():
         number += 1
         where = f"line {number}"
         totals = {"audited": len(history), "columns": len(columns), "rows": rows}
-        need(next(lines, None) == totals, f"the last line has to be {json.dumps(totals)}")
+        last = next(lines, None)
+        need(last == totals and are_whole([*last.values()]), f"the last line has to be {json.dumps(totals)}")
         where = f"line {number + 1}"
         need(next(lines, None) is None, "there are more lines than the totals")
     except (Wrong, OSError) as wrong:

@@ -18,7 +18,8 @@ stands_is_made file shape history gate stands =
     )
 
 -- what a read into a buffer of so many bytes, or of the file's length where that is less, leaves of it
-pub front_read : (file read items buf more : List ℕ) (size count : ℕ) → read ≡ file → length buf ≡ size → size ≡ min (length file) most_bytes → count ≡ min (length buf) (length read - 0) → take count buf ≡ take count read
+pub front_read : (file read items buf more : List ℕ) (size count : ℕ) → read ≡ file → length buf ≡ size → size ≡ min (length file) most_bytes
+    → count ≡ min (length buf) (length read - 0) → take count buf ≡ take count read
     → items ≡ take count (take size (buf ++ more)) → items ≡ take most_bytes file
 front_read file read items buf more size count read_is long size_is count_is bytes items_are =
     let same : count ≡ min most_bytes (length file) = omega (arith, size_is, count_is, long, ap length read_is) in
@@ -31,7 +32,8 @@ front_of_made : (file : List ℕ) → IsMade file → IsMade (take most_bytes fi
 front_of_made file made = (omega (arith, made.0, length-take most_bytes file), get_or-take most_bytes file 0 0 (omega arith) ∙ made.1)
 
 -- what a fault says of the front it says of the file
-pub fault_of_file : (file : List ℕ) (fault : BackFault) → ((file : List ℕ) (at : ℕ) → BreaksAt (take most_bytes file) at → BreaksAt file at) → IsFaultOf (take most_bytes file) fault → IsFaultOf file fault
+pub fault_of_file : (file : List ℕ) (fault : BackFault) → ((file : List ℕ) (at : ℕ) → BreaksAt (take most_bytes file) at → BreaksAt file at) →
+    IsFaultOf (take most_bytes file) fault → IsFaultOf file fault
 fault_of_file file NotMade tells is = λ made. is (front_of_made file made)
 fault_of_file file (Damaged at) tells is = (made_by_front file is.0, tells file at is.1)
 fault_of_file file Failed tells is = tt
@@ -52,14 +54,17 @@ module _ (file : List ℕ) where
   not_made_is_due NoMemory is unmade = inr tt
 
   -- where a byte breaks it
-  pub damage_is_due : (fault : BackFault) (at : ℕ) → ((file : List ℕ) (at place : ℕ) → BreaksAt file at → BreaksAt file place → at ≡ place) → IsFaultOf file fault → IsMade file → BreaksAt file at → IsDueOrGaveUp (Damaged at) fault
+  pub damage_is_due : (fault : BackFault) (at : ℕ) → ((file : List ℕ) (at place : ℕ) → BreaksAt file at → BreaksAt file place → at ≡ place) →
+      IsFaultOf file fault → IsMade file → BreaksAt file at → IsDueOrGaveUp (Damaged at) fault
   damage_is_due NotMade at once is made breaks = absurd (is made)
   damage_is_due (Damaged place) at once is made breaks = inl (ap (λ k. Damaged k) (once file place at is.1 breaks))
   damage_is_due Failed at once is made breaks = inr tt
   damage_is_due NoMemory at once is made breaks = inr tt
 
   -- where it stands for a history
-  pub whole_has_no_fault : (fault : BackFault) (shape : Shape) (history : List Answered) (gate : ℕ) → ((file : List ℕ) (shape : Shape) (history : List Answered) (gate at : ℕ) → StandsAt file shape history gate → BreaksAt file at → ⊥) → IsFaultOf file fault → StandsAt file shape history gate → GaveUp fault
+  pub whole_has_no_fault : (fault : BackFault) (shape : Shape) (history : List Answered) (gate : ℕ) →
+      ((file : List ℕ) (shape : Shape) (history : List Answered) (gate at : ℕ) → StandsAt file shape history gate → BreaksAt file at → ⊥) →
+      IsFaultOf file fault → StandsAt file shape history gate → GaveUp fault
   whole_has_no_fault NotMade shape history gate unbroken is stands = is (stands_is_made file shape history gate stands)
   whole_has_no_fault (Damaged at) shape history gate unbroken is stands = unbroken file shape history gate at stands is.1
   whole_has_no_fault Failed shape history gate unbroken is stands = tt

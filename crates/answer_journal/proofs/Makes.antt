@@ -38,8 +38,10 @@ module _ (file : List ℕ) (shape : Shape) (shaped : IsWholeShape shape) (some :
   pub opened : (new : List ℕ) → new ≡ appended 0 (named shape ++ 0 ∷ []) file → StandsAt new shape [] 20
   opened new is = fresh new shape (drop (1 + length (named shape ++ 0 ∷ [])) file) shaped is
 
-  pub opening_moments : {D : Type 0} (bench : Ghosts D) (old new : D) (before : List ℕ) → LeavesOnly bench old new (Appending 0 (named shape ++ 0 ∷ []) file before) → LeavesOnly bench old new (IsUnmadeOrEmpty shape before)
-  opening_moments bench old new before only = weakens bench old new (Appending 0 (named shape ++ 0 ∷ []) file before) (IsUnmadeOrEmpty shape before) (opening before) only
+  pub opening_moments : {D : Type 0} (bench : Ghosts D) (old new : D) (before : List ℕ) →
+      LeavesOnly bench old new (Appending 0 (named shape ++ 0 ∷ []) file before) → LeavesOnly bench old new (IsUnmadeOrEmpty shape before)
+  opening_moments bench old new before only =
+      weakens bench old new (Appending 0 (named shape ++ 0 ∷ []) file before) (IsUnmadeOrEmpty shape before) (opening before) only
 
 -- a short image isn't made
 pub short_unmade : (shape : Shape) (before image sent : List ℕ) → (sent ≡ before) × IsShort image → IsUnmadeOrEmpty shape before image sent

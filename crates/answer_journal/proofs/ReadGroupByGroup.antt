@@ -48,7 +48,8 @@ module _ (bytes : List ℕ) (shape : Shape) (list : List Answered) (gate : ℕ) 
       (record { gate = get_or bytes gate 0; rest = drop (gate + 1) bytes; bytes_are = at_gate lt; closed = closed }) parts
 
   begins : Begins bytes shape read.groups (drop gate bytes)
-  begins = record { shaped = read.shaped; whole = read.whole; file_is = parts ∙ append_assoc (header shape) (texts read.groups) (drop gate bytes); few = omega (arith, read.few, ap length read.list_is) }
+  begins =
+      record { shaped = read.shaped; whole = read.whole; file_is = parts ∙ append_assoc (header shape) (texts read.groups) (drop gate bytes); few = omega (arith, read.few, ap length read.list_is) }
 
   -- the next gate isn't there
   pub breaks_at_end : length bytes ≤ gate → BreaksBehind bytes gate
@@ -61,17 +62,20 @@ module _ (bytes : List ℕ) (shape : Shape) (list : List Answered) (gate : ℕ) 
   }
 
   -- a byte breaks the group behind the open gate
-  pub breaks_in_group : (at : ℕ) → gate < length bytes → get_or bytes gate 0 ≡ 1 → GroupBreaks shape (65536 - length list) (drop (gate + 1) bytes) at → BreaksBehind bytes (gate + 1 + at)
+  pub breaks_in_group : (at : ℕ) → gate < length bytes → get_or bytes gate 0 ≡ 1 → GroupBreaks shape (65536 - length list) (drop (gate + 1) bytes) at →
+      BreaksBehind bytes (gate + 1 + at)
   breaks_in_group at lt open_gate breaks = record {
     shape = shape;
     groups = read.groups;
     behind = drop gate bytes;
     begins = begins;
-    breaks = inr (drop (gate + 1) bytes, at, at_gate lt ∙ ap (λ b. b ∷ drop (gate + 1) bytes) open_gate, subst (λ (l : List Answered). GroupBreaks shape (65536 - length l) (drop (gate + 1) bytes) at) read.list_is breaks, ap (λ g. g + 1 + at) read.gate_is);
+    breaks =
+        inr (drop (gate + 1) bytes, at, at_gate lt ∙ ap (λ b. b ∷ drop (gate + 1) bytes) open_gate, subst (λ (l : List Answered). GroupBreaks shape (65536 - length l) (drop (gate + 1) bytes) at) read.list_is breaks, ap (λ g. g + 1 + at) read.gate_is);
   }
 
   -- one group more
-  pub read_more : (size : ℕ) (more : List Answered) → gate < length bytes → get_or bytes gate 0 ≡ 1 → size ≤ length (drop (gate + 1) bytes) → length more ≤ 65536 - length list → IsGroup shape (take size (drop (gate + 1) bytes)) more
+  pub read_more : (size : ℕ) (more : List Answered) → gate < length bytes → get_or bytes gate 0 ≡ 1 → size ≤ length (drop (gate + 1) bytes)
+      → length more ≤ 65536 - length list → IsGroup shape (take size (drop (gate + 1) bytes)) more
       → IsReadSoFar bytes shape (list ++ more) (gate + (1 + size))
   read_more size more lt open_gate inside few group =
       let text = take size (drop (gate + 1) bytes) in
@@ -84,9 +88,13 @@ module _ (bytes : List ℕ) (shape : Shape) (list : List Answered) (gate : ℕ) 
         groups = all;
         shaped = read.shaped;
         whole = whole_more read.groups added read.whole group;
-        front = take-add gate (1 + size) bytes ∙ ap (λ t. t ++ take (1 + size) (drop gate bytes)) read.front ∙ ap (λ t. (header shape ++ texts read.groups) ++ t) behind ∙ append_assoc (header shape) (texts read.groups) (1 ∷ text) ∙ ap (λ t. header shape ++ t) (sym texts_are);
+        front =
+            take-add gate (1 + size) bytes ∙ ap (λ t. t ++ take (1 + size) (drop gate bytes)) read.front
+            ∙ ap (λ t. (header shape ++ texts read.groups) ++ t) behind ∙ append_assoc (header shape) (texts read.groups) (1 ∷ text)
+            ∙ ap (λ t. header shape ++ t) (sym texts_are);
         inside = omega (arith, inside, lt, length-drop (gate + 1) bytes);
-        gate_is = omega (arith, read.gate_is, ap length texts_are, length-append (texts read.groups) (1 ∷ text), length-take size (drop (gate + 1) bytes), inside);
+        gate_is =
+            omega (arith, read.gate_is, ap length texts_are, length-append (texts read.groups) (1 ∷ text), length-take size (drop (gate + 1) bytes), inside);
         list_is = ap (λ l. l ++ more) read.list_is ∙ sym records_are;
         few = omega (arith, length-append list more, few, read.few);
       }

@@ -24,7 +24,8 @@ record_fits shape text r is =
     record {
       column_below = is.column_below;
       same_n = is.same_n;
-      are_rows = subst (λ (rows : List ℕ). AreRows r.rows.n rows) (sym is.set.rows_are) (subst (λ (n : ℕ). AreRows n (rows_in shape.rows set)) (sym is.same_n) ascend);
+      are_rows =
+          subst (λ (rows : List ℕ). AreRows r.rows.n rows) (sym is.set.rows_are) (subst (λ (n : ℕ). AreRows n (rows_in shape.rows set)) (sym is.same_n) ascend);
       some = is.some;
     }
 
@@ -43,6 +44,7 @@ groups_fit shape (group ∷ groups) whole =
     (All-append (Fits shape) group.list (records groups) (group_fits shape group.text group.list whole.0) (groups_fit shape groups whole.1))
 
 -- each record of the history fits
-pub history_fits : (file : List ℕ) (shape : Shape) (history : List Answered) (gate : ℕ) → StandsAt file shape history gate → All (λ r. FitsShape shape r.column r.rows) history
+pub history_fits : (file : List ℕ) (shape : Shape) (history : List Answered) (gate : ℕ) → StandsAt file shape history gate →
+    All (λ r. FitsShape shape r.column r.rows) history
 history_fits file shape history gate stands =
     subst (λ (list : List Answered). All (Fits shape) list) (sym stands.history_is) (groups_fit shape stands.groups stands.begins.whole)

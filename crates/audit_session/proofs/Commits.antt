@@ -35,20 +35,24 @@ in_group batch replies q = makes_record (take batch (drop (q * batch) replies))
 abbrev among : {R : Type 0} → ℕ → List (Replied R) → ℕ → ℕ
 among batch replies n = count_by (in_group batch replies) (range_with_len 0 n)
 
-one_more : {R : Type 0} (batch : ℕ) (replies : List (Replied R)) (n : ℕ) → among batch replies (suc n) ≡ among batch replies n + cond (in_group batch replies n) 1 0
+one_more : {R : Type 0} (batch : ℕ) (replies : List (Replied R)) (n : ℕ) →
+    among batch replies (suc n) ≡ among batch replies n + cond (in_group batch replies n) 1 0
 one_more batch replies n =
     let here : 0 + n ≡ n = omega arith in
     grown (in_group batch replies) 0 n ∙ ap (λ (q : ℕ). among batch replies n + cond (in_group batch replies q) 1 0) here
 
 -- whole groups are the same where others come after them
-same_group : {R : Type 0} (batch count : ℕ) (xs ys : List (Replied R)) (q : ℕ) → length xs ≡ count * batch → q < count → in_group batch (xs ++ ys) q ≡ in_group batch xs q
+same_group : {R : Type 0} (batch count : ℕ) (xs ys : List (Replied R)) (q : ℕ) → length xs ≡ count * batch → q < count →
+    in_group batch (xs ++ ys) q ≡ in_group batch xs q
 same_group {R = R} batch count xs ys q long less =
     let step : suc q ≤ count = omega (arith, less) in
     let inside : q * batch + batch ≤ length xs = omega (arith, suc-mul q batch, mul-le-mul_right batch step, long) in
     let rest : drop (q * batch) (xs ++ ys) ≡ drop (q * batch) xs ++ ys = drop-append-le (q * batch) xs ys (omega (arith, inside)) in
-    ap (λ (l : List (Replied R)). makes_record l) (ap (λ (l : List (Replied R)). take batch l) rest ∙ take-append-le batch (drop (q * batch) xs) ys (omega (arith, length-drop (q * batch) xs, inside)))
+    ap (λ (l : List (Replied R)). makes_record l)
+    (ap (λ (l : List (Replied R)). take batch l) rest ∙ take-append-le batch (drop (q * batch) xs) ys (omega (arith, length-drop (q * batch) xs, inside)))
 
-same_among : {R : Type 0} (batch count : ℕ) (xs ys : List (Replied R)) (n : ℕ) → length xs ≡ count * batch → n ≤ count → among batch (xs ++ ys) n ≡ among batch xs n
+same_among : {R : Type 0} (batch count : ℕ) (xs ys : List (Replied R)) (n : ℕ) → length xs ≡ count * batch → n ≤ count →
+    among batch (xs ++ ys) n ≡ among batch xs n
 same_among batch count xs ys zero long le = refl
 same_among batch count xs ys (suc n) long le =
     one_more batch (xs ++ ys) n ∙ ap (λ (b : Bool). among batch (xs ++ ys) n + cond b 1 0) (same_group batch count xs ys n long (omega (arith, le)))
@@ -62,14 +66,16 @@ no_more {R = R} batch count xs (suc d) long =
     let le : count ≤ d + count = omega arith in
     let none : drop ((d + count) * batch) xs ≡ [] = drop_all ((d + count) * batch) xs (omega (arith, long, mul-le-mul_right batch le)) in
     let no : in_group batch xs (d + count) ≡ false = ap (λ (l : List (Replied R)). makes_record (take batch l)) none ∙ take_none batch in
-    ap (λ (n : ℕ). among batch xs n) same ∙ one_more batch xs (d + count) ∙ ap (λ (b : Bool). among batch xs (d + count) + cond b 1 0) no ∙ omega (arith, no_more batch count xs d long)
+    ap (λ (n : ℕ). among batch xs n) same ∙ one_more batch xs (d + count) ∙ ap (λ (b : Bool). among batch xs (d + count) + cond b 1 0) no
+    ∙ omega (arith, no_more batch count xs d long)
   where
     take_none : (n : ℕ) → makes_record {R = R} (take n []) ≡ false
     take_none zero = refl
     take_none (suc n) = refl
 
 -- the calls for the records of a group
-calls_of : (o : Option Answered) (rest : List (Replied Answered)) → calls_for (records_of rest) ≡ 4 * cond (makes_record rest) 1 0 → calls_for (option_to_list o ++ records_of rest) ≡ 4 * cond (is_some o || makes_record rest) 1 0
+calls_of : (o : Option Answered) (rest : List (Replied Answered)) → calls_for (records_of rest) ≡ 4 * cond (makes_record rest) 1 0 →
+    calls_for (option_to_list o ++ records_of rest) ≡ 4 * cond (is_some o || makes_record rest) 1 0
 calls_of None rest is = is
 calls_of (Some r) rest is = refl
 
@@ -84,7 +90,8 @@ module _ (batch count : ℕ) (xs : List (Replied Answered)) (some : 0 < batch) (
       let split : length xs ≡ (length xs - count) + count = omega (arith, le) in
       ap (λ (n : ℕ). among batch xs n) split ∙ no_more batch count xs (length xs - count) (omega (arith, long))
 
-  with_more : (reply : Replied Answered) (more : List (Replied Answered)) → length (reply ∷ more) ≤ batch → commits batch (xs ++ reply ∷ more) ≡ among batch xs count + cond (makes_record (reply ∷ more)) 1 0
+  with_more : (reply : Replied Answered) (more : List (Replied Answered)) → length (reply ∷ more) ≤ batch →
+      commits batch (xs ++ reply ∷ more) ≡ among batch xs count + cond (makes_record (reply ∷ more)) 1 0
   with_more reply more few =
       let ys : List (Replied Answered) = reply ∷ more in
       let all : length (xs ++ ys) ≡ length xs + length ys = length-append xs ys in
@@ -93,10 +100,13 @@ module _ (batch count : ℕ) (xs : List (Replied Answered)) (some : 0 < batch) (
       let within : length (xs ++ ys) ≤ suc count * batch = omega (arith, all, long, few, suc-mul count batch) in
       let here : drop (count * batch) (xs ++ ys) ≡ ys = ap (λ (n : ℕ). drop n (xs ++ ys)) (sym long) ∙ drop-append_seam xs ys in
       let group : in_group batch (xs ++ ys) count ≡ makes_record ys = ap (λ (l : List (Replied Answered)). makes_record (take batch l)) here ∙ ap (λ (l : List (Replied Answered)). makes_record l) (take_all batch ys few) in
-      ap (λ (n : ℕ). among batch (xs ++ ys) n) split ∙ no_more batch (suc count) (xs ++ ys) (length (xs ++ ys) - suc count) within ∙ one_more batch (xs ++ ys) count
-      ∙ ap (λ (b : Bool). among batch (xs ++ ys) count + cond b 1 0) group ∙ ap (λ (k : ℕ). k + cond (makes_record ys) 1 0) (same_among batch count xs ys count long (omega arith))
+      ap (λ (n : ℕ). among batch (xs ++ ys) n) split ∙ no_more batch (suc count) (xs ++ ys) (length (xs ++ ys) - suc count) within
+      ∙ one_more batch (xs ++ ys) count
+      ∙ ap (λ (b : Bool). among batch (xs ++ ys) count + cond b 1 0) group
+      ∙ ap (λ (k : ℕ). k + cond (makes_record ys) 1 0) (same_among batch count xs ys count long (omega arith))
 
   -- the calls for one group more
-  pub commits_more : (more : List (Replied Answered)) → length more ≤ batch → 4 * commits batch (xs ++ more) ≡ 4 * commits batch xs + calls_for (records_of more)
+  pub commits_more : (more : List (Replied Answered)) → length more ≤ batch →
+      4 * commits batch (xs ++ more) ≡ 4 * commits batch xs + calls_for (records_of more)
   commits_more [] few = omega (arith, ap (λ (l : List (Replied Answered)). commits batch l) (append-nil xs))
   commits_more (reply ∷ more) few = omega (arith, with_more reply more few, whole, calls_are (reply ∷ more))

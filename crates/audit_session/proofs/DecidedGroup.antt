@@ -30,7 +30,8 @@ use Rattle.audit_session.proofs.ToldPlans.{can_all, some_replies}
 use Rattle.audit_session.proofs.Sending.{SendsPart}
 
 -- a refusal is want of memory or another
-pub by_fault : {X Claim : Type 0} (fault : StoreFault) → (IsErrOf {T = X} (Err fault) NoMemory → Claim) → ((IsErrOf {T = X} (Err fault) NoMemory → ⊥) → Claim) → Claim
+pub by_fault : {X Claim : Type 0} (fault : StoreFault) → (IsErrOf {T = X} (Err fault) NoMemory → Claim) → ((IsErrOf {T = X} (Err fault) NoMemory → ⊥) → Claim) →
+    Claim
 by_fault NoMemory same other = same refl
 by_fault {X} Failed same other = other (λ (e : IsErrOf {T = X} (Err Failed) NoMemory). cc)
 
@@ -47,7 +48,8 @@ length-told (Ask take asked ∷ plans) (outcome ∷ outcomes) (reply ∷ told) t
 
 module _ {B : Type 0} (bench : Ghosts B) (old mid : B) (secret : SecretView) (history : List Answered) (plans : List Plan) where
   -- the outcomes were told
-  pub told_group : (now : List Answered) (outcomes : List Outcome) (told : List Reply) → AreOutcomes (secret_table secret) history (questions_of plans) outcomes → AreTold plans outcomes told
+  pub told_group : (now : List Answered) (outcomes : List Outcome) (told : List Reply) → AreOutcomes (secret_table secret) history (questions_of plans) outcomes
+      → AreTold plans outcomes told
       → now ≡ history ++ records_made (questions_of plans) outcomes → (bench.told → bench.moment mid ≡ bench.moment old + calls_for (records_made (questions_of plans) outcomes))
       → DecidesGroup bench old mid (secret_table secret) history now plans told
   told_group now outcomes told are tells history_is calls =
@@ -62,7 +64,8 @@ module _ {B : Type 0} (bench : Ghosts B) (old mid : B) (secret : SecretView) (hi
       }
 
   -- while they are kept
-  pub while_kept : OutcomesCanBeTold → SomeReplyTells → IsSecret secret → All (CanBeServed secret.shape) plans → (before : List ℕ) → Keeps bench old mid secret history (questions_of plans) before
+  pub while_kept : OutcomesCanBeTold → SomeReplyTells → IsSecret secret → All (CanBeServed secret.shape) plans → (before : List ℕ)
+      → Keeps bench old mid secret history (questions_of plans) before
       → LeavesOnly bench old mid (InGroup (IsReplyOf (secret_table secret)) (stands_of secret) history plans before)
   while_kept can some is served before keeps =
       let told = some_replies some plans keeps.outcomes (can_all can secret is history plans keeps.outcomes served keeps.due) in
@@ -79,7 +82,8 @@ module _ {B : Type 0} (bench : Ghosts B) (old mid : B) (secret : SecretView) (hi
       found.1) keeps.moments
 
   -- where nothing was called
-  pub nothing_called : mid ≡ old → ((image bytes : List ℕ) → bench.since old (bench.moment old) image bytes → bench.leaves old image × (bytes ≡ bench.sent old)) → IsQuiet bench old → stands_of secret (bench.file old) history
+  pub nothing_called : mid ≡ old → ((image bytes : List ℕ) → bench.since old (bench.moment old) image bytes → bench.leaves old image × (bytes ≡ bench.sent old))
+      → IsQuiet bench old → stands_of secret (bench.file old) history
       → LeavesOnly bench old mid (InGroup (IsReplyOf (secret_table secret)) (stands_of secret) history plans (bench.sent old))
   nothing_called same only_now quiet stands =
       subst (λ (b : B). LeavesOnly bench old b (InGroup (IsReplyOf (secret_table secret)) (stands_of secret) history plans (bench.sent old))) (sym same)
@@ -88,8 +92,10 @@ module _ {B : Type 0} (bench : Ghosts B) (old mid : B) (secret : SecretView) (hi
       inl (found.1, subst (λ (i : List ℕ). stands_of secret i history) (sym (quiet image found.0)) stands)))
 
   -- and then their replies are sent
-  module _ (now : List Answered) (told : List Reply) (decides : DecidesGroup bench old mid (secret_table secret) history now plans told) (nothing_sent : bench.sent mid ≡ bench.sent old) where
-    pub then_sent : (new : B) → stands_of secret (bench.file mid) now → LeavesOnly bench old mid (InGroup (IsReplyOf (secret_table secret)) (stands_of secret) history plans (bench.sent old))
+  module _ (now : List Answered) (told : List Reply) (decides : DecidesGroup bench old mid (secret_table secret) history now plans told)
+      (nothing_sent : bench.sent mid ≡ bench.sent old) where
+    pub then_sent : (new : B) → stands_of secret (bench.file mid) now
+        → LeavesOnly bench old mid (InGroup (IsReplyOf (secret_table secret)) (stands_of secret) history plans (bench.sent old))
         → LeavesOnly bench mid new (SendsPart (bench.file mid) (bench.sent mid) (flat_map reply_bytes told)) → LeavesOnly bench old new (InGroup (IsReplyOf (secret_table secret)) (stands_of secret) history plans (bench.sent old))
     then_sent new stands first sends =
         joins bench old mid new _ first (weakens bench mid new _ _ (λ image bytes found.
@@ -100,15 +106,18 @@ module _ {B : Type 0} (bench : Ghosts B) (old mid : B) (secret : SecretView) (hi
           subst (λ (l : List ℕ). AppendsFront (bench.sent old) l bytes) (sym decides.bytes_are) (subst (λ (l : List ℕ). AppendsFront l (flat_map reply_bytes told) bytes) nothing_sent found.1),
         )) sends)
 
-    pub group_answered : (new : B) → (bench.told → bench.sent new ≡ bench.sent mid ++ flat_map reply_bytes told) → (bench.told → bench.moment new ≡ bench.moment mid + length told) → AnswersGroup bench old new (secret_table secret) history now plans
+    pub group_answered : (new : B) → (bench.told → bench.sent new ≡ bench.sent mid ++ flat_map reply_bytes told) →
+        (bench.told → bench.moment new ≡ bench.moment mid + length told) → AnswersGroup bench old new (secret_table secret) history now plans
     group_answered new all ticks = record {
       replies = decides.replies;
       due = decides.due;
       history_is = decides.history_is;
-      sent_is = λ t. all t ∙ ap (λ (l : List ℕ). l ++ flat_map reply_bytes told) nothing_sent ∙ ap (λ (l : List ℕ). bench.sent old ++ l) (sym decides.bytes_are);
+      sent_is =
+          λ t. all t ∙ ap (λ (l : List ℕ). l ++ flat_map reply_bytes told) nothing_sent ∙ ap (λ (l : List ℕ). bench.sent old ++ l) (sym decides.bytes_are);
       calls = λ t. omega (arith, ticks t, decides.calls t, decides.many);
     }
 
 -- the file of a store that was left stands for its history
-pub left_stands : (file : List ℕ) (before after : StoreContents) → IsAsLeft file after → after.secret ≡ before.secret → stands_of before.secret file after.history
+pub left_stands : (file : List ℕ) (before after : StoreContents) → IsAsLeft file after → after.secret ≡ before.secret →
+    stands_of before.secret file after.history
 left_stands file before after left same = subst (λ (s : SecretView). stands_of s file after.history) same (after.journal.gate, left)

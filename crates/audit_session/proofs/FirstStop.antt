@@ -12,13 +12,15 @@ use Rattle.question_plan.specs.Replies.{IsDue}
 use Rattle.audit_session.specs.Stops.{StopsOver, stands_over}
 use Rattle.audit_session.proofs.StopsOfGroups.{stop_between}
 
-pub stops_first : {B : Type 0} (bench : Ghosts B) (at : B) (base : Database) (batch : ℕ) (history : List Answered) (lines : List CountedLine) → ((image bytes : List ℕ) → bench.since at (bench.moment at) image bytes → bench.leaves at image × (bytes ≡ bench.sent at))
+pub stops_first : {B : Type 0} (bench : Ghosts B) (at : B) (base : Database) (batch : ℕ) (history : List Answered) (lines : List CountedLine)
+    → ((image bytes : List ℕ) → bench.since at (bench.moment at) image bytes → bench.leaves at image × (bytes ≡ bench.sent at))
     → IsQuiet bench at → stands_over base (bench.file at) history → LeavesOnly bench at at (StopsOver base batch history lines (bench.sent at))
 stops_first bench at base batch history lines only_now quiet stands = started bench at _ (λ image bytes was.
     let found = only_now image bytes was in (
       [],
       found.1 ∙ sym (append-nil (bench.sent at)),
-      stop_between (IsDue base) (stands_over base) batch history lines 0 [] image [] (subst (λ (n : ℕ). AreReplies (IsDue base) history (take n lines) []) none tt)
+      stop_between (IsDue base) (stands_over base) batch history lines 0 [] image []
+          (subst (λ (n : ℕ). AreReplies (IsDue base) history (take n lines) []) none tt)
           (subst (λ (h : List Answered). stands_over base image h) (sym (append-nil history)) (subst (λ (f : List ℕ). stands_over base f history) (sym (quiet image found.0)) stands)) refl,
     ))
   where

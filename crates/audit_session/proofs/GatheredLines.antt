@@ -20,7 +20,8 @@ use Rattle.audit_session.proofs.Planned.{plans-append, length-plans}
 
 -- ---- while a group is gathered
 
-pub record Gathering {P : Type 0} (source : Ghosts P) (columns : List Column) (public : PublicView) (batch : ℕ) (old lines : Cutter) (first now : P) (plans : List Plan) (asked : List Asked) : Type 0 where
+pub record Gathering {P : Type 0} (source : Ghosts P) (columns : List Column) (public : PublicView) (batch : ℕ) (old lines : Cutter) (first now : P)
+    (plans : List Plan) (asked : List Asked) : Type 0 where
   pub gathers : Gathers source.told columns public (old.pending ++ source.left first) (lines.pending ++ source.left now) lines.ended plans
   pub questions : asked ≡ questions_of plans
   pub served : All (CanBeServed (shape_of columns public.rows)) plans
@@ -33,7 +34,8 @@ pub record Gathering {P : Type 0} (source : Ghosts P) (columns : List Column) (p
   pub steady : source.faults now ≡ source.faults first
 
 -- before the first line
-pub nothing_gathered : {P : Type 0} (source : Ghosts P) (columns : List Column) (public : PublicView) (batch : ℕ) (lines : Cutter) (at : P) → (source.told → lines.ended ≡ true → source.left at ≡ []) → lines.taken ≤ most_input + length lines.pending
+pub nothing_gathered : {P : Type 0} (source : Ghosts P) (columns : List Column) (public : PublicView) (batch : ℕ) (lines : Cutter) (at : P)
+    → (source.told → lines.ended ≡ true → source.left at ≡ []) → lines.taken ≤ most_input + length lines.pending
     → Gathering source columns public batch lines lines at at [] []
 nothing_gathered source columns public batch lines at same within = record {
   gathers = record { lines = []; planned = tt; reads = λ told. reads_none (lines.pending ++ source.left at) lines.ended };
@@ -48,9 +50,12 @@ nothing_gathered source columns public batch lines at same within = record {
   steady = refl;
 }
 
-module _ {P : Type 0} (source : Ghosts P) (columns : List Column) (public : PublicView) (batch : ℕ) (old lines : Cutter) (first now : P) (plans : List Plan) (asked : List Asked) (so_far : Gathering source columns public batch old lines first now plans asked) where
+module _ {P : Type 0} (source : Ghosts P) (columns : List Column) (public : PublicView) (batch : ℕ) (old lines : Cutter) (first now : P)
+    (plans : List Plan) (asked : List Asked) (so_far : Gathering source columns public batch old lines first now plans asked) where
   -- one line more
-  pub one_gathered : (lines_now : Cutter) (source_now : P) (plan : Plan) → GivesNext source.told columns public (lines.pending ++ source.left now) (lines_now.pending ++ source.left source_now) lines_now.ended (Some plan) → length plans < batch
+  pub one_gathered : (lines_now : Cutter) (source_now : P) (plan : Plan)
+      → GivesNext source.told columns public (lines.pending ++ source.left now) (lines_now.pending ++ source.left source_now) lines_now.ended (Some plan)
+      → length plans < batch
       → lines.taken + length lines_now.pending < lines_now.taken + length lines.pending → (source.told → lines_now.ended ≡ true → source.left source_now ≡ []) → (source.told → lines_now.taken + length (source.left source_now) ≡ lines.taken + length (source.left now))
       → lines_now.taken ≤ most_input + length lines_now.pending → (lines.ended ≡ true → lines_now.ended ≡ true) → source.faults source_now ≡ source.faults now
       → Gathering source columns public batch old lines_now first source_now (plans ++ plan ∷ []) (asked ++ question_in plan)
@@ -58,9 +63,12 @@ module _ {P : Type 0} (source : Ghosts P) (columns : List Column) (public : Publ
     gathers = record {
       lines = so_far.gathers.lines ++ next.1.lines;
       planned = plans-append columns public so_far.gathers.lines next.1.lines plans (plan ∷ []) so_far.gathers.planned next.1.planned;
-      reads = λ told. reads_more (old.pending ++ source.left first) (lines.pending ++ source.left now) (lines_now.pending ++ source.left source_now) lines.ended lines_now.ended so_far.gathers.lines next.1.lines (so_far.gathers.reads told) (next.1.reads told) once;
+      reads =
+          λ told. reads_more (old.pending ++ source.left first) (lines.pending ++ source.left now) (lines_now.pending ++ source.left source_now) lines.ended lines_now.ended so_far.gathers.lines next.1.lines (so_far.gathers.reads told) (next.1.reads told) once;
     };
-    questions = ap (λ (list : List Asked). list ++ question_in plan) so_far.questions ∙ sym (flat_map-append question_in plans (plan ∷ []) ∙ ap (λ (list : List Asked). questions_of plans ++ list) (append-nil (question_in plan)));
+    questions =
+        ap (λ (list : List Asked). list ++ question_in plan) so_far.questions
+        ∙ sym (flat_map-append question_in plans (plan ∷ []) ∙ ap (λ (list : List Asked). questions_of plans ++ list) (append-nil (question_in plan)));
     served = All-push (CanBeServed (shape_of columns public.rows)) plans plan so_far.served next.0;
     most = omega (arith, room, length-append plans (plan ∷ []));
     takes = omega (arith, so_far.takes, takes, length-append plans (plan ∷ []));
@@ -72,7 +80,8 @@ module _ {P : Type 0} (source : Ghosts P) (columns : List Column) (public : Publ
   }
 
   -- no whole line stands before the place where reading stopped
-  pub cut_short : (left : List ℕ) → source.told → (lines.ended ≡ true → lines.pending ++ source.left now ≡ [] → ⊥) → length plans < batch → StopsAt (lines.pending ++ source.left now) left → CutsShort batch (old.pending ++ source.left first) left
+  pub cut_short : (left : List ℕ) → source.told → (lines.ended ≡ true → lines.pending ++ source.left now ≡ [] → ⊥) → length plans < batch →
+      StopsAt (lines.pending ++ source.left now) left → CutsShort batch (old.pending ++ source.left first) left
   cut_short left told going room stop =
       let reads = so_far.gathers.reads told in
       let whole : IsRead reads.read so_far.gathers.lines = ⊎_elim (λ read. read) (λ over. absurd (going over.0 over.1)) reads.whole in
@@ -80,15 +89,18 @@ module _ {P : Type 0} (source : Ghosts P) (columns : List Column) (public : Publ
       record {
         read = reads.read ++ stop.front;
         split = reads.split ∙ ap (λ (l : List ℕ). reads.read ++ l) stop.split ∙ sym (append_assoc reads.read stop.front left);
-        few = omega (arith, ap (λ (ls : List CountedLine). length ls) lines_are, length-plans columns public so_far.gathers.lines plans so_far.gathers.planned, room);
+        few =
+            omega (arith, ap (λ (ls : List CountedLine). length ls) lines_are, length-plans columns public so_far.gathers.lines plans so_far.gathers.planned, room);
       }
 
 -- bytes are left at the limit
 pub not_over : (rest pending left : List ℕ) → StopsAt rest (pending ++ left) → 0 < length pending → rest ≡ [] → ⊥
-not_over rest pending left stop some none = omega (arith, ap (λ (l : List ℕ). length l) (sym none ∙ stop.split), length-append stop.front (pending ++ left), length-append pending left, some)
+not_over rest pending left stop some none =
+    omega (arith, ap (λ (l : List ℕ). length l) (sym none ∙ stop.split), length-append stop.front (pending ++ left), length-append pending left, some)
 
 -- nothing was left
-pub gathers_last : (told : Type 0) (columns : List Column) (public : PublicView) (rest mid left : List ℕ) (ended : Bool) (plans : List Plan) → Gathers told columns public rest mid ended plans → (told → (left ≡ []) × (counted_lines mid ≡ []))
+pub gathers_last : (told : Type 0) (columns : List Column) (public : PublicView) (rest mid left : List ℕ) (ended : Bool) (plans : List Plan)
+    → Gathers told columns public rest mid ended plans → (told → (left ≡ []) × (counted_lines mid ≡ []))
     → Gathers told columns public rest left true plans
 gathers_last told columns public rest mid left ended plans gathers none = record {
   lines = gathers.lines;

@@ -16,32 +16,42 @@ use Rattle.audit_session.proofs.EventsToStops.{next_groups}
 use Rattle.audit_session.proofs.Planned.{length-plans, replies_due}
 
 -- the history with the records of more replies
-pub history_more : (history : List Answered) (replies more : List (Replied Answered)) → (history ++ records_of replies) ++ records_of more ≡ history ++ records_of (replies ++ more)
-history_more history replies more = append_assoc history (records_of replies) (records_of more) ∙ ap (λ (l : List Answered). history ++ l) (sym (records_of-append replies more))
+pub history_more : (history : List Answered) (replies more : List (Replied Answered)) →
+    (history ++ records_of replies) ++ records_of more ≡ history ++ records_of (replies ++ more)
+history_more history replies more =
+    append_assoc history (records_of replies) (records_of more) ∙ ap (λ (l : List Answered). history ++ l) (sym (records_of-append replies more))
 
 -- whole groups are the first groups of these lines
 pub first_groups : (batch count : ℕ) (front behind : List CountedLine) → length front ≡ count * batch → groups batch count (front ++ behind) ≡ front
 first_groups batch count front behind long = ap (λ (n : ℕ). take n (front ++ behind)) (sym long) ∙ take-append_seam front behind
 
-module _ (base : Database) (batch count : ℕ) (history now : List Answered) (front mid : List CountedLine) (replies : List (Replied Answered)) (plans : List Plan) (long : length front ≡ count * batch) (few : length plans ≤ batch)
-    (due : AreReplies (IsDue base) history front replies) (now_is : now ≡ history ++ records_of replies) (planned : ArePlans base.columns base.public mid plans) where
+module _ (base : Database) (batch count : ℕ) (history now : List Answered) (front mid : List CountedLine) (replies : List (Replied Answered))
+    (plans : List Plan) (long : length front ≡ count * batch) (few : length plans ≤ batch)
+    (due : AreReplies (IsDue base) history front replies) (now_is : now ≡ history ++ records_of replies)
+    (planned : ArePlans base.columns base.public mid plans) where
   as_many : length mid ≡ length plans
   as_many = length-plans base.columns base.public mid plans planned
 
   -- the replies to the lines so far and to those of the group
-  pub all_due : (more : List (Replied Answered)) → AreReplies (IsReplyOf (secret_table base.secret)) now plans more → AreReplies (IsDue base) history (front ++ mid) (replies ++ more)
-  all_due more are = replies-append (IsDue base) history front mid replies more due (subst (λ (h : List Answered). AreReplies (IsDue base) h mid more) now_is (replies_due base now mid plans more planned are))
+  pub all_due : (more : List (Replied Answered)) → AreReplies (IsReplyOf (secret_table base.secret)) now plans more →
+      AreReplies (IsDue base) history (front ++ mid) (replies ++ more)
+  all_due more are =
+      replies-append (IsDue base) history front mid replies more due
+      (subst (λ (h : List Answered). AreReplies (IsDue base) h mid more) now_is (replies_due base now mid plans more planned are))
 
   module _ (lines : List CountedLine) (before sent image bytes : List ℕ) (sent_is : sent ≡ before ++ bytes_of replies) where
     between : groups batch count lines ≡ front → bytes ≡ sent → stands_over base image now → StopsOver base batch history lines before image bytes
     between first same stands = (
       bytes_of replies,
       same ∙ sent_is,
-      stop_between (IsDue base) (stands_over base) batch history lines count replies image (bytes_of replies) (subst (λ (ls : List CountedLine). AreReplies (IsDue base) history ls replies) (sym first) due)
+      stop_between (IsDue base) (stands_over base) batch history lines count replies image (bytes_of replies)
+          (subst (λ (ls : List CountedLine). AreReplies (IsDue base) history ls replies) (sym first) due)
           (subst (λ (h : List Answered). stands_over base image h) now_is stands) refl,
     )
 
-    sending : (more : List (Replied Answered)) (k : ℕ) → groups batch (count + 1) lines ≡ front ++ mid → AreReplies (IsReplyOf (secret_table base.secret)) now plans more → stands_over base image (now ++ records_of more) → bytes ≡ sent ++ take k (bytes_of more)
+    sending : (more : List (Replied Answered)) (k : ℕ) → groups batch (count + 1) lines ≡ front ++ mid
+        → AreReplies (IsReplyOf (secret_table base.secret)) now plans more → stands_over base image (now ++ records_of more)
+        → bytes ≡ sent ++ take k (bytes_of more)
         → StopsOver base batch history lines before image bytes
     sending more k first are stands is =
         let part = take k (bytes_of more) in
@@ -55,12 +65,14 @@ module _ (base : Database) (batch count : ℕ) (history now : List Answered) (fr
               (record { rest = drop k (bytes_of more); is = sym (take-append-drop k (bytes_of more)) }),
         )
 
-    stops_over : groups batch count lines ≡ front → groups batch (count + 1) lines ≡ front ++ mid → InGroup (IsReplyOf (secret_table base.secret)) (stands_over base) now plans sent image bytes → StopsOver base batch history lines before image bytes
+    stops_over : groups batch count lines ≡ front → groups batch (count + 1) lines ≡ front ++ mid →
+        InGroup (IsReplyOf (secret_table base.secret)) (stands_over base) now plans sent image bytes → StopsOver base batch history lines before image bytes
     stops_over first next (inl found) = between first found.0 found.1
     stops_over first next (inr found) = sending found.0 found.3.0 next found.1 found.2 found.3.1
 
   -- the lines so far, and whatever the source tells
-  pub stops_among : (told : Type 0) (all behind : List CountedLine) (before sent image bytes : List ℕ) → (told → all ≡ front ++ (mid ++ behind)) → (told → (length plans ≡ batch) ⊎ (behind ≡ [])) → sent ≡ before ++ bytes_of replies
+  pub stops_among : (told : Type 0) (all behind : List CountedLine) (before sent image bytes : List ℕ) → (told → all ≡ front ++ (mid ++ behind))
+      → (told → (length plans ≡ batch) ⊎ (behind ≡ [])) → sent ≡ before ++ bytes_of replies
       → InGroup (IsReplyOf (secret_table base.secret)) (stands_over base) now plans sent image bytes → StopsAmong told base batch history all before image bytes
   stops_among told all behind before sent image bytes is ends sent_is found = (
     (

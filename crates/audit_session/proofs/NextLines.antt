@@ -32,7 +32,8 @@ module _ (fault : LineStop) (rest : List ℕ) (new : Cutter) (left : List ℕ) (
   pub stops_limit : fault ≡ stop.Limit → StopsAt rest (new.pending ++ left)
   stops_limit is = let P : LineStop → Type 0 = λ s. Stops s rest new left in subst P is stops
 
-pub limit_within : (fault : LineStop) (new : Cutter) → StopsWithin fault new → fault ≡ stop.Limit → (new.taken ≡ most_input + length new.pending) × (0 < length new.pending)
+pub limit_within : (fault : LineStop) (new : Cutter) → StopsWithin fault new → fault ≡ stop.Limit →
+    (new.taken ≡ most_input + length new.pending) × (0 < length new.pending)
 limit_within fault new within is = let P : LineStop → Type 0 = λ s. StopsWithin s new in subst P is within
 
 -- the refusal, as the answer

@@ -20,21 +20,24 @@ use Rattle.question_plan.specs.Replies.{IsDue, IsReplyOf, only}
 use Rattle.audit_session.specs.Groups.{ArePlans, AreTold, questions_of}
 
 -- plans of lines, and of more lines
-pub plans-append : (columns : List Column) (public : PublicView) (lines more : List CountedLine) (plans others : List Plan) → ArePlans columns public lines plans → ArePlans columns public more others → ArePlans columns public (lines ++ more) (plans ++ others)
+pub plans-append : (columns : List Column) (public : PublicView) (lines more : List CountedLine) (plans others : List Plan) →
+    ArePlans columns public lines plans → ArePlans columns public more others → ArePlans columns public (lines ++ more) (plans ++ others)
 plans-append columns public [] more [] others are those = those
 plans-append columns public [] more (plan ∷ plans) others are those = absurd are
 plans-append columns public (line ∷ lines) more [] others are those = absurd are
 plans-append columns public (line ∷ lines) more (plan ∷ plans) others are those = (are.0, plans-append columns public lines more plans others are.1 those)
 
 -- as many plans as lines
-pub length-plans : (columns : List Column) (public : PublicView) (lines : List CountedLine) (plans : List Plan) → ArePlans columns public lines plans → length lines ≡ length plans
+pub length-plans : (columns : List Column) (public : PublicView) (lines : List CountedLine) (plans : List Plan) → ArePlans columns public lines plans →
+    length lines ≡ length plans
 length-plans columns public [] [] are = refl
 length-plans columns public [] (plan ∷ plans) are = absurd are
 length-plans columns public (line ∷ lines) [] are = absurd are
 length-plans columns public (line ∷ lines) (plan ∷ plans) are = omega (arith, length-plans columns public lines plans are.1)
 
 -- replies to plans are due to their lines
-pub replies_due : (base : Database) (history : List Answered) (lines : List CountedLine) (plans : List Plan) (replies : List (Replied Answered)) → ArePlans base.columns base.public lines plans → AreReplies (IsReplyOf (secret_table base.secret)) history plans replies
+pub replies_due : (base : Database) (history : List Answered) (lines : List CountedLine) (plans : List Plan) (replies : List (Replied Answered))
+    → ArePlans base.columns base.public lines plans → AreReplies (IsReplyOf (secret_table base.secret)) history plans replies
     → AreReplies (IsDue base) history lines replies
 replies_due base history [] [] [] are due = tt
 replies_due base history [] [] (reply ∷ replies) are due = absurd due
@@ -54,10 +57,12 @@ replies_to [] outcomes told = []
 replies_to (plan ∷ plans) outcomes [] = []
 replies_to (Ready answer ∷ plans) outcomes (reply ∷ told) = only reply ∷ replies_to plans outcomes told
 replies_to (Ask take asked ∷ plans) [] (reply ∷ told) = []
-replies_to (Ask take asked ∷ plans) (outcome ∷ outcomes) (reply ∷ told) = record { bytes = reply_bytes reply; added = record_of asked outcome } ∷ replies_to plans outcomes told
+replies_to (Ask take asked ∷ plans) (outcome ∷ outcomes) (reply ∷ told) =
+    record { bytes = reply_bytes reply; added = record_of asked outcome } ∷ replies_to plans outcomes told
 
 module _ (table : Table) where
-  pub replies_are : (history : List Answered) (plans : List Plan) (outcomes : List Outcome) (told : List Reply) → AreOutcomes table history (questions_of plans) outcomes → AreTold plans outcomes told
+  pub replies_are : (history : List Answered) (plans : List Plan) (outcomes : List Outcome) (told : List Reply)
+      → AreOutcomes table history (questions_of plans) outcomes → AreTold plans outcomes told
       → AreReplies (IsReplyOf table) history plans (replies_to plans outcomes told)
   replies_are history [] [] [] are tells = tt
   replies_are history [] [] (reply ∷ told) are tells = absurd tells
@@ -75,7 +80,8 @@ module _ (table : Table) where
   )
 
 -- their records are those of the outcomes
-pub records_are : (plans : List Plan) (outcomes : List Outcome) (told : List Reply) → AreTold plans outcomes told → records_of (replies_to plans outcomes told) ≡ records_made (questions_of plans) outcomes
+pub records_are : (plans : List Plan) (outcomes : List Outcome) (told : List Reply) → AreTold plans outcomes told →
+    records_of (replies_to plans outcomes told) ≡ records_made (questions_of plans) outcomes
 records_are [] [] [] tells = refl
 records_are [] [] (reply ∷ told) tells = absurd tells
 records_are [] (outcome ∷ outcomes) told tells = absurd tells
@@ -83,10 +89,12 @@ records_are (Ready answer ∷ plans) outcomes [] tells = absurd tells
 records_are (Ask take asked ∷ plans) outcomes [] tells = absurd tells
 records_are (Ready answer ∷ plans) outcomes (reply ∷ told) tells = records_are plans outcomes told tells.1
 records_are (Ask take asked ∷ plans) [] (reply ∷ told) tells = absurd tells
-records_are (Ask take asked ∷ plans) (outcome ∷ outcomes) (reply ∷ told) tells = ap (λ (list : List Answered). option_to_list (record_of asked outcome) ++ list) (records_are plans outcomes told tells.1)
+records_are (Ask take asked ∷ plans) (outcome ∷ outcomes) (reply ∷ told) tells =
+    ap (λ (list : List Answered). option_to_list (record_of asked outcome) ++ list) (records_are plans outcomes told tells.1)
 
 -- their bytes are those that are told
-pub bytes_are : (plans : List Plan) (outcomes : List Outcome) (told : List Reply) → AreTold plans outcomes told → bytes_of (replies_to plans outcomes told) ≡ flat_map reply_bytes told
+pub bytes_are : (plans : List Plan) (outcomes : List Outcome) (told : List Reply) → AreTold plans outcomes told →
+    bytes_of (replies_to plans outcomes told) ≡ flat_map reply_bytes told
 bytes_are [] [] [] tells = refl
 bytes_are [] [] (reply ∷ told) tells = absurd tells
 bytes_are [] (outcome ∷ outcomes) told tells = absurd tells
@@ -94,4 +102,5 @@ bytes_are (Ready answer ∷ plans) outcomes [] tells = absurd tells
 bytes_are (Ask take asked ∷ plans) outcomes [] tells = absurd tells
 bytes_are (Ready answer ∷ plans) outcomes (reply ∷ told) tells = ap (λ (list : List ℕ). reply_bytes reply ++ list) (bytes_are plans outcomes told tells.1)
 bytes_are (Ask take asked ∷ plans) [] (reply ∷ told) tells = absurd tells
-bytes_are (Ask take asked ∷ plans) (outcome ∷ outcomes) (reply ∷ told) tells = ap (λ (list : List ℕ). reply_bytes reply ++ list) (bytes_are plans outcomes told tells.1)
+bytes_are (Ask take asked ∷ plans) (outcome ∷ outcomes) (reply ∷ told) tells =
+    ap (λ (list : List ℕ). reply_bytes reply ++ list) (bytes_are plans outcomes told tells.1)

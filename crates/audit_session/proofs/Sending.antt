@@ -26,10 +26,12 @@ pub record Sent {B : Type 0} (bench : Ghosts B) (old now : B) (replies : List Re
 
 -- a front of the bytes
 front_of : (before part rest bytes sent : List ℕ) → sent ≡ before ++ part → bytes ≡ part ++ rest → AppendsFront before bytes sent
-front_of before part rest bytes sent is whole = (length part, is ∙ ap (λ (l : List ℕ). before ++ l) (sym (ap (λ (l : List ℕ). take (length part) l) whole ∙ take-append_seam part rest)))
+front_of before part rest bytes sent is whole =
+    (length part, is ∙ ap (λ (l : List ℕ). before ++ l) (sym (ap (λ (l : List ℕ). take (length part) l) whole ∙ take-append_seam part rest)))
 
 -- none was
-pub none_sent : {B : Type 0} (bench : Ghosts B) (at : B) (replies : List Reply) → ((image bytes : List ℕ) → bench.since at (bench.moment at) image bytes → bench.leaves at image × (bytes ≡ bench.sent at)) → Sent bench at at replies 0
+pub none_sent : {B : Type 0} (bench : Ghosts B) (at : B) (replies : List Reply) →
+    ((image bytes : List ℕ) → bench.since at (bench.moment at) image bytes → bench.leaves at image × (bytes ≡ bench.sent at)) → Sent bench at at replies 0
 none_sent bench at replies only_now = record {
   sent = λ told. sym (append-nil (bench.sent at));
   file = refl;
@@ -46,23 +48,28 @@ module _ (replies : List Reply) (count : ℕ) (reply : Reply) (inside : count < 
   pub one_more : flat_map reply_bytes (take (count + 1) replies) ≡ flat_map reply_bytes (take count replies) ++ reply_bytes reply
   one_more =
       ap (λ (rs : List Reply). flat_map reply_bytes rs) (take_more replies count reply inside ∙ ap (λ (r : Reply). take count replies ++ r ∷ []) (sym is))
-      ∙ flat_map-append reply_bytes (take count replies) (reply ∷ []) ∙ ap (λ (l : List ℕ). flat_map reply_bytes (take count replies) ++ l) (append-nil (reply_bytes reply))
+      ∙ flat_map-append reply_bytes (take count replies) (reply ∷ [])
+      ∙ ap (λ (l : List ℕ). flat_map reply_bytes (take count replies) ++ l) (append-nil (reply_bytes reply))
 
   all_bytes : flat_map reply_bytes replies ≡ (flat_map reply_bytes (take count replies) ++ reply_bytes reply) ++ flat_map reply_bytes (drop (count + 1) replies)
   all_bytes =
-      ap (λ (rs : List Reply). flat_map reply_bytes rs) (sym (take-append-drop (count + 1) replies)) ∙ flat_map-append reply_bytes (take (count + 1) replies) (drop (count + 1) replies)
+      ap (λ (rs : List Reply). flat_map reply_bytes rs) (sym (take-append-drop (count + 1) replies))
+      ∙ flat_map-append reply_bytes (take (count + 1) replies) (drop (count + 1) replies)
       ∙ ap (λ (l : List ℕ). l ++ flat_map reply_bytes (drop (count + 1) replies)) one_more
 
-  part_is : (k : ℕ) → flat_map reply_bytes replies ≡ (flat_map reply_bytes (take count replies) ++ take k (reply_bytes reply)) ++ (drop k (reply_bytes reply) ++ flat_map reply_bytes (drop (count + 1) replies))
+  part_is : (k : ℕ) →
+      flat_map reply_bytes replies ≡ (flat_map reply_bytes (take count replies) ++ take k (reply_bytes reply)) ++ (drop k (reply_bytes reply) ++ flat_map reply_bytes (drop (count + 1) replies))
   part_is k =
       let front = flat_map reply_bytes (take count replies) in
       let rest = flat_map reply_bytes (drop (count + 1) replies) in
-      all_bytes ∙ ap (λ (l : List ℕ). (front ++ l) ++ rest) (sym (take-append-drop k (reply_bytes reply))) ∙ regroup front (take k (reply_bytes reply)) (drop k (reply_bytes reply)) rest
+      all_bytes ∙ ap (λ (l : List ℕ). (front ++ l) ++ rest) (sym (take-append-drop k (reply_bytes reply)))
+      ∙ regroup front (take k (reply_bytes reply)) (drop k (reply_bytes reply)) rest
     where
       regroup : (a b c d : List ℕ) → (a ++ (b ++ c)) ++ d ≡ (a ++ b) ++ (c ++ d)
       regroup a b c d = simp append_assoc
 
-  module _ {B : Type 0} (bench : Ghosts B) (old mid new : B) (sent : Sent bench old mid replies count) (file : bench.file new ≡ bench.file mid) (crash : (image : List ℕ) → bench.leaves new image → bench.leaves mid image)
+  module _ {B : Type 0} (bench : Ghosts B) (old mid new : B) (sent : Sent bench old mid replies count) (file : bench.file new ≡ bench.file mid)
+      (crash : (image : List ℕ) → bench.leaves new image → bench.leaves mid image)
       (time : Elapses (bench.moment mid) (bench.moment new) (bench.since mid) (bench.since new) (Sending (bench.leaves new) (bench.sent mid) (reply_bytes reply))) where
     -- while the next one is sent
     pub next_moments : bench.told → IsQuiet bench old → LeavesOnly bench old new (SendsPart (bench.file old) (bench.sent old) (flat_map reply_bytes replies))
@@ -70,14 +77,17 @@ module _ (replies : List Reply) (count : ℕ) (reply : Reply) (inside : count < 
         let front = flat_map reply_bytes (take count replies) in
         let part = take found.1.0 (reply_bytes reply) in (
           quiet image (sent.crash image (crash image found.0)),
-          front_of (bench.sent old) (front ++ part) (drop found.1.0 (reply_bytes reply) ++ flat_map reply_bytes (drop (count + 1) replies)) (flat_map reply_bytes replies) bytes
+          front_of (bench.sent old) (front ++ part) (drop found.1.0 (reply_bytes reply) ++ flat_map reply_bytes (drop (count + 1) replies))
+              (flat_map reply_bytes replies) bytes
               (found.1.1 ∙ ap (λ (l : List ℕ). l ++ part) (sent.sent told) ∙ append_assoc (bench.sent old) front part) (part_is found.1.0),
         ))
 
     -- it was sent
-    pub next_sent : (bench.told → bench.sent new ≡ bench.sent mid ++ reply_bytes reply) → (bench.told → bench.moment new ≡ bench.moment mid + 1) → bench.faults new ≡ bench.faults mid → Sent bench old new replies (count + 1)
+    pub next_sent : (bench.told → bench.sent new ≡ bench.sent mid ++ reply_bytes reply) → (bench.told → bench.moment new ≡ bench.moment mid + 1) →
+        bench.faults new ≡ bench.faults mid → Sent bench old new replies (count + 1)
     next_sent all ticks steady = record {
-      sent = λ told. all told ∙ ap (λ (l : List ℕ). l ++ reply_bytes reply) (sent.sent told) ∙ append_assoc (bench.sent old) (flat_map reply_bytes (take count replies)) (reply_bytes reply) ∙ ap (λ (l : List ℕ). bench.sent old ++ l) (sym one_more);
+      sent =
+          λ told. all told ∙ ap (λ (l : List ℕ). l ++ reply_bytes reply) (sent.sent told) ∙ append_assoc (bench.sent old) (flat_map reply_bytes (take count replies)) (reply_bytes reply) ∙ ap (λ (l : List ℕ). bench.sent old ++ l) (sym one_more);
       file = file ∙ sent.file;
       crash = λ image left. sent.crash image (crash image left);
       moments = next_moments;

@@ -31,10 +31,12 @@ use Rattle.audit_session.proofs.EndsByFault.{limited_is}
 
 -- bytes are left where a group was cut short at the limit
 pub cut_not_over : (batch : ℕ) (rest pending left : List ℕ) → CutsShort batch rest (pending ++ left) → 0 < length pending → rest ≡ [] → ⊥
-cut_not_over batch rest pending left cut some none = omega (arith, ap (λ (l : List ℕ). length l) (sym none ∙ cut.split), length-append cut.read (pending ++ left), length-append pending left, some)
+cut_not_over batch rest pending left cut some none =
+    omega (arith, ap (λ (l : List ℕ). length l) (sym none ∙ cut.split), length-append cut.read (pending ++ left), length-append pending left, some)
 
 -- the lines of the groups that were answered, and their replies
-pub record AnsweredLines (told : Type 0) (base : Database) (batch : ℕ) (history : List Answered) (input rest : List ℕ) (ended : Bool) (now : List Answered) : Type 0 where
+pub record AnsweredLines (told : Type 0) (base : Database) (batch : ℕ) (history : List Answered) (input rest : List ℕ) (ended : Bool)
+    (now : List Answered) : Type 0 where
   pub lines : List CountedLine
   pub reads : told → ReadsLines input rest ended lines
   pub count : ℕ
@@ -44,7 +46,8 @@ pub record AnsweredLines (told : Type 0) (base : Database) (batch : ℕ) (histor
   pub history_is : now ≡ history ++ records_of replies
 
 -- what holds at each turn of the loop
-pub record Served {P B : Type 0} (source : SourceGhosts P) (bench : Ghosts B) (columns : List Column) (public : PublicView) (batch : ℕ) (lines : Cutter) (first_store store : StoreContents) (first_source from : P) (first at : B) : Type 0 where
+pub record Served {P B : Type 0} (source : SourceGhosts P) (bench : Ghosts B) (columns : List Column) (public : PublicView) (batch : ℕ) (lines : Cutter)
+    (first_store store : StoreContents) (first_source from : P) (first at : B) : Type 0 where
   pub same : source.told → lines.ended ≡ true → source.left from ≡ []
   pub taken : source.told → lines.taken + length (source.left from) ≡ length (source.left first_source)
   pub within : lines.taken ≤ most_input + length lines.pending
@@ -56,7 +59,8 @@ pub record Served {P B : Type 0} (source : SourceGhosts P) (bench : Ghosts B) (c
   pub answered : AnsweredLines source.told (base_of columns public first_store.secret) batch first_store.history (source.left first_source) (lines.pending ++ source.left from) lines.ended store.history
   pub sent_is : bench.told → bench.sent at ≡ bench.sent first ++ bytes_of answered.replies
   pub calls : bench.told → bench.moment at ≡ bench.moment first + length answered.lines + 4 * commits batch answered.replies
-  pub moments : bench.told → IsQuiet bench first → LeavesOnly bench first at (StopsAmong source.told (base_of columns public first_store.secret) batch first_store.history (counted_lines (source.left first_source)) (bench.sent first))
+  pub moments : bench.told → IsQuiet bench first →
+      LeavesOnly bench first at (StopsAmong source.told (base_of columns public first_store.secret) batch first_store.history (counted_lines (source.left first_source)) (bench.sent first))
   pub source_steady : source.faults from ≡ source.faults first_source
   pub bench_steady : bench.faults at ≡ bench.faults first
 
@@ -88,7 +92,8 @@ nothing_served source bench columns public batch lines store from at fresh usabl
   quiet = λ told quiet. quiet;
   answered = record {
     lines = [];
-    reads = λ told. subst (λ (rest : List ℕ). ReadsLines (source.left from) rest lines.ended []) (ap (λ (l : List ℕ). l ++ source.left from) (sym fresh.1)) (reads_none (source.left from) lines.ended);
+    reads =
+        λ told. subst (λ (rest : List ℕ). ReadsLines (source.left from) rest lines.ended []) (ap (λ (l : List ℕ). l ++ source.left from) (sym fresh.1)) (reads_none (source.left from) lines.ended);
     count = 0;
     many = omega arith;
     replies = [];
@@ -102,7 +107,8 @@ nothing_served source bench columns public batch lines store from at fresh usabl
   bench_steady = refl;
 }
 
-module _ {P B : Type 0} (source : SourceGhosts P) (bench : Ghosts B) (columns : List Column) (public : PublicView) (batch : ℕ) (lines : Cutter) (first_store store : StoreContents) (first_source from : P) (first at : B)
+module _ {P B : Type 0} (source : SourceGhosts P) (bench : Ghosts B) (columns : List Column) (public : PublicView) (batch : ℕ) (lines : Cutter)
+    (first_store store : StoreContents) (first_source from : P) (first at : B)
     (served : Served source bench columns public batch lines first_store store first_source from first at) where
   abbrev base : Database
   base = base_of columns public first_store.secret
@@ -113,7 +119,8 @@ module _ {P B : Type 0} (source : SourceGhosts P) (bench : Ghosts B) (columns : 
   -- ---- ends before the next group
 
   -- the groups so far, where these are the first lines
-  groups_served : bench.told → (more : List CountedLine) → groups batch served.answered.count more ≡ served.answered.lines → Serves base first_store.history (groups batch served.answered.count more) store.history (bench.sent first) (bench.sent at)
+  groups_served : bench.told → (more : List CountedLine) → groups batch served.answered.count more ≡ served.answered.lines →
+      Serves base first_store.history (groups batch served.answered.count more) store.history (bench.sent first) (bench.sent at)
   groups_served told more is = record {
     replies = served.answered.replies;
     due = subst (λ (ls : List CountedLine). AreReplies (IsDue base) first_store.history ls served.answered.replies) (sym is) served.answered.due;
@@ -124,11 +131,13 @@ module _ {P B : Type 0} (source : SourceGhosts P) (bench : Ghosts B) (columns : 
   pub some_served : source.told → bench.told → ServesSome base first_store.history batch all store.history (bench.sent first) (bench.sent at)
   some_served t u = record {
     count = served.answered.count;
-    serves = groups_served u all (ap (λ (ls : List CountedLine). groups batch served.answered.count ls) (served.answered.reads t).counted ∙ first_groups batch served.answered.count served.answered.lines (counted_lines (lines.pending ++ source.left from)) served.answered.many);
+    serves =
+        groups_served u all (ap (λ (ls : List CountedLine). groups batch served.answered.count ls) (served.answered.reads t).counted ∙ first_groups batch served.answered.count served.answered.lines (counted_lines (lines.pending ++ source.left from)) served.answered.many);
   }
 
   -- a group was cut short where this is left
-  module _ (t : source.told) (u : bench.told) (left : List ℕ) (going : lines.ended ≡ true → lines.pending ++ source.left from ≡ [] → ⊥) (cut : CutsShort batch (lines.pending ++ source.left from) left) where
+  module _ (t : source.told) (u : bench.told) (left : List ℕ) (going : lines.ended ≡ true → lines.pending ++ source.left from ≡ [] → ⊥)
+      (cut : CutsShort batch (lines.pending ++ source.left from) left) where
     abbrev reads : ReadsLines (source.left first_source) (lines.pending ++ source.left from) lines.ended served.answered.lines
     reads = served.answered.reads t
 
@@ -142,10 +151,14 @@ module _ {P B : Type 0} (source : SourceGhosts P) (bench : Ghosts B) (columns : 
     lines_are = ⊎_elim (λ (is : IsRead reads.read served.answered.lines). is cut.read) (λ over. absurd (going over.0 over.1)) reads.whole
 
     many_lines : length (whole_lines read) ≡ served.answered.count * batch + length (whole_lines cut.read)
-    many_lines = ap (λ (ls : List CountedLine). length ls) lines_are ∙ length-append served.answered.lines (whole_lines cut.read) ∙ ap (λ (n : ℕ). n + length (whole_lines cut.read)) served.answered.many
+    many_lines =
+        ap (λ (ls : List CountedLine). length ls) lines_are ∙ length-append served.answered.lines (whole_lines cut.read)
+        ∙ ap (λ (n : ℕ). n + length (whole_lines cut.read)) served.answered.many
 
     whole_groups : groups batch served.answered.count (whole_lines read) ≡ served.answered.lines
-    whole_groups = ap (λ (ls : List CountedLine). groups batch served.answered.count ls) lines_are ∙ first_groups batch served.answered.count served.answered.lines (whole_lines cut.read) served.answered.many
+    whole_groups =
+        ap (λ (ls : List CountedLine). groups batch served.answered.count ls) lines_are
+        ∙ first_groups batch served.answered.count served.answered.lines (whole_lines cut.read) served.answered.many
 
     begun : served.answered.count * batch ≤ length (whole_lines read)
     begun = omega (arith, many_lines)
@@ -156,13 +169,17 @@ module _ {P B : Type 0} (source : SourceGhosts P) (bench : Ghosts B) (columns : 
         omega (arith, many_lines, size, cut.few)
 
     pub served_whole : ServesWhole base first_store.history batch (source.left first_source) left store.history (bench.sent first) (bench.sent at)
-    served_whole = record { read = read; split = split; count = served.answered.count; begun = begun; rest = rest; serves = groups_served u (whole_lines read) whole_groups }
+    served_whole =
+        record { read = read; split = split; count = served.answered.count; begun = begun; rest = rest; serves = groups_served u (whole_lines read) whole_groups }
 
-    below_limit : (pending behind : List ℕ) (taken : ℕ) → left ≡ pending ++ behind → taken ≡ most_input + length pending → taken + length behind ≡ length (source.left first_source) → limited (source.left first_source) ≡ read
+    below_limit : (pending behind : List ℕ) (taken : ℕ) → left ≡ pending ++ behind → taken ≡ most_input + length pending →
+        taken + length behind ≡ length (source.left first_source) → limited (source.left first_source) ≡ read
     below_limit pending behind taken is over all = limited_is (source.left first_source) read left split
         (omega (arith, ap (λ (l : List ℕ). length l) split, length-append read left, ap (λ (l : List ℕ). length l) is, length-append pending behind, over, all))
 
-    pub served_limited : (pending behind : List ℕ) (taken : ℕ) → left ≡ pending ++ behind → taken ≡ most_input + length pending → taken + length behind ≡ length (source.left first_source) → ServesLimited base first_store.history batch (source.left first_source) store.history (bench.sent first) (bench.sent at)
+    pub served_limited : (pending behind : List ℕ) (taken : ℕ) → left ≡ pending ++ behind → taken ≡ most_input + length pending →
+        taken + length behind ≡ length (source.left first_source) →
+        ServesLimited base first_store.history batch (source.left first_source) store.history (bench.sent first) (bench.sent at)
     served_limited pending behind taken left_is over total =
         let is = below_limit pending behind taken left_is over total in
         let P : List ℕ → Type 0 = λ l. (served.answered.count * batch ≤ length (whole_lines l)) × (length (whole_lines l) < (served.answered.count + 1) * batch) × Serves base first_store.history (groups batch served.answered.count (whole_lines l)) store.history (bench.sent first) (bench.sent at) in
@@ -171,13 +188,17 @@ module _ {P B : Type 0} (source : SourceGhosts P) (bench : Ghosts B) (columns : 
 
   -- ---- a group more
 
-  module _ (lines_now : Cutter) (ended_now : Bool) (source_now : P) (plans : List Plan) (gathers : Gathers source.told columns public (lines.pending ++ source.left from) (lines_now.pending ++ source.left source_now) ended_now plans)
+  module _ (lines_now : Cutter) (ended_now : Bool) (source_now : P) (plans : List Plan)
+      (gathers : Gathers source.told columns public (lines.pending ++ source.left from) (lines_now.pending ++ source.left source_now) ended_now plans)
       (few : length plans ≤ batch) (some : 0 < batch) (once : lines.ended ≡ true → ended_now ≡ true) where
     abbrev behind : List CountedLine
     behind = counted_lines (lines_now.pending ++ source.left source_now)
 
-    reads_now : source.told → ReadsLines (source.left first_source) (lines_now.pending ++ source.left source_now) ended_now (served.answered.lines ++ gathers.lines)
-    reads_now t = reads_more (source.left first_source) (lines.pending ++ source.left from) (lines_now.pending ++ source.left source_now) lines.ended ended_now served.answered.lines gathers.lines (served.answered.reads t) (gathers.reads t) once
+    reads_now : source.told →
+        ReadsLines (source.left first_source) (lines_now.pending ++ source.left source_now) ended_now (served.answered.lines ++ gathers.lines)
+    reads_now t =
+        reads_more (source.left first_source) (lines.pending ++ source.left from)
+        (lines_now.pending ++ source.left source_now) lines.ended ended_now served.answered.lines gathers.lines (served.answered.reads t) (gathers.reads t) once
 
     all_are : source.told → all ≡ served.answered.lines ++ (gathers.lines ++ behind)
     all_are t = (reads_now t).counted ∙ append_assoc served.answered.lines gathers.lines behind
@@ -202,26 +223,36 @@ module _ {P B : Type 0} (source : SourceGhosts P) (bench : Ghosts B) (columns : 
 
     module _ (now : List Answered) (new : B) (answers : AnswersGroup bench at new (secret_table store.secret) store.history now plans) where
       due_now : AreReplies (IsDue base) first_store.history (served.answered.lines ++ gathers.lines) (served.answered.replies ++ answers.replies)
-      due_now = all_due base batch served.answered.count first_store.history store.history served.answered.lines gathers.lines served.answered.replies plans served.answered.many few served.answered.due served.answered.history_is gathers.planned answers.replies
+      due_now =
+          all_due base batch served.answered.count first_store.history store.history served.answered.lines gathers.lines served.answered.replies plans served.answered.many few served.answered.due served.answered.history_is gathers.planned answers.replies
           (over_first (λ s. AreReplies (IsReplyOf (secret_table s)) store.history plans answers.replies) answers.due)
 
       history_now : now ≡ first_store.history ++ records_of (served.answered.replies ++ answers.replies)
-      history_now = answers.history_is ∙ ap (λ (h : List Answered). h ++ records_of answers.replies) served.answered.history_is ∙ history_more first_store.history served.answered.replies answers.replies
+      history_now =
+          answers.history_is ∙ ap (λ (h : List Answered). h ++ records_of answers.replies) served.answered.history_is
+          ∙ history_more first_store.history served.answered.replies answers.replies
 
       sent_now : bench.told → bench.sent new ≡ bench.sent first ++ bytes_of (served.answered.replies ++ answers.replies)
-      sent_now u = answers.sent_is u ∙ ap (λ (l : List ℕ). l ++ bytes_of answers.replies) (served.sent_is u) ∙ append_assoc (bench.sent first) (bytes_of served.answered.replies) (bytes_of answers.replies)
+      sent_now u =
+          answers.sent_is u ∙ ap (λ (l : List ℕ). l ++ bytes_of answers.replies) (served.sent_is u)
+          ∙ append_assoc (bench.sent first) (bytes_of served.answered.replies) (bytes_of answers.replies)
           ∙ ap (λ (l : List ℕ). bench.sent first ++ l) (sym (bytes_of-append served.answered.replies answers.replies))
 
-      calls_now : bench.told → bench.moment new ≡ bench.moment first + length (served.answered.lines ++ gathers.lines) + 4 * commits batch (served.answered.replies ++ answers.replies)
+      calls_now : bench.told →
+          bench.moment new ≡ bench.moment first + length (served.answered.lines ++ gathers.lines) + 4 * commits batch (served.answered.replies ++ answers.replies)
       calls_now u =
           let long : length served.answered.replies ≡ served.answered.count * batch = length-replies (IsDue base) first_store.history served.answered.lines served.answered.replies served.answered.due ∙ served.answered.many in
           let more : length answers.replies ≡ length plans = length-replies (IsReplyOf (secret_table store.secret)) store.history plans answers.replies answers.due in
-          omega (arith, answers.calls u, served.calls u, as_many, length-append served.answered.lines gathers.lines, commits_more batch served.answered.count served.answered.replies some long answers.replies (omega (arith, more, few)))
+          omega
+          (arith, answers.calls u, served.calls u, as_many, length-append served.answered.lines gathers.lines, commits_more batch served.answered.count served.answered.replies some long answers.replies (omega (arith, more, few)))
 
       -- the group was whole
-      pub next_turn : (store_now : StoreContents) → store_now.history ≡ now → ended_now ≡ lines_now.ended → length plans ≡ batch → (source.told → lines_now.ended ≡ true → source.left source_now ≡ []) → (source.told → lines_now.taken + length (source.left source_now) ≡ lines.taken + length (source.left from))
+      pub next_turn : (store_now : StoreContents) → store_now.history ≡ now → ended_now ≡ lines_now.ended → length plans ≡ batch
+          → (source.told → lines_now.ended ≡ true → source.left source_now ≡ [])
+          → (source.told → lines_now.taken + length (source.left source_now) ≡ lines.taken + length (source.left from))
           → lines_now.taken ≤ most_input + length lines_now.pending → source.faults source_now ≡ source.faults from → StandsOn bench at new store_now → store_now.secret ≡ store.secret → IsStore store_now → bench.faults new ≡ bench.faults at
-          → (bench.told → IsQuiet bench at → LeavesOnly bench at new (InGroup (IsReplyOf (secret_table store.secret)) (stands_of store.secret) store.history plans (bench.sent at)))
+          →
+          (bench.told → IsQuiet bench at → LeavesOnly bench at new (InGroup (IsReplyOf (secret_table store.secret)) (stands_of store.secret) store.history plans (bench.sent at)))
           → Served source bench columns public batch lines_now first_store store_now first_source source_now first new
       next_turn store_now is is_ended full same taken within source_steady stands secret of_store bench_steady moments = record {
         same = same;
@@ -234,7 +265,8 @@ module _ {P B : Type 0} (source : SourceGhosts P) (bench : Ghosts B) (columns : 
         quiet = λ u quiet. stands.quiet u (served.quiet u quiet);
         answered = record {
           lines = served.answered.lines ++ gathers.lines;
-          reads = λ t. subst (λ (b : Bool). ReadsLines (source.left first_source) (lines_now.pending ++ source.left source_now) b (served.answered.lines ++ gathers.lines)) is_ended (reads_now t);
+          reads =
+              λ t. subst (λ (b : Bool). ReadsLines (source.left first_source) (lines_now.pending ++ source.left source_now) b (served.answered.lines ++ gathers.lines)) is_ended (reads_now t);
           count = served.answered.count + 1;
           many =
               let size : (served.answered.count + 1) * batch ≡ served.answered.count * batch + batch = ap (λ (n : ℕ). n * batch) (omega arith) ∙ suc-mul served.answered.count batch in
@@ -252,12 +284,16 @@ module _ {P B : Type 0} (source : SourceGhosts P) (bench : Ghosts B) (columns : 
 
       -- the group was the last one
       lines_are_all : source.told → behind ≡ [] → served.answered.lines ++ gathers.lines ≡ all
-      lines_are_all t none = sym ((reads_now t).counted ∙ ap (λ (ls : List CountedLine). (served.answered.lines ++ gathers.lines) ++ ls) none ∙ append-nil (served.answered.lines ++ gathers.lines))
+      lines_are_all t none =
+          sym
+          ((reads_now t).counted ∙ ap (λ (ls : List CountedLine). (served.answered.lines ++ gathers.lines) ++ ls) none ∙ append-nil (served.answered.lines ++ gathers.lines))
 
-      pub all_served : source.told → bench.told → behind ≡ [] → (last : List Answered) → last ≡ now → Serves base first_store.history all last (bench.sent first) (bench.sent new)
+      pub all_served : source.told → bench.told → behind ≡ [] → (last : List Answered) → last ≡ now →
+          Serves base first_store.history all last (bench.sent first) (bench.sent new)
       all_served t u none last is = record {
         replies = served.answered.replies ++ answers.replies;
-        due = subst (λ (ls : List CountedLine). AreReplies (IsDue base) first_store.history ls (served.answered.replies ++ answers.replies)) (lines_are_all t none) due_now;
+        due =
+            subst (λ (ls : List CountedLine). AreReplies (IsDue base) first_store.history ls (served.answered.replies ++ answers.replies)) (lines_are_all t none) due_now;
         history_is = is ∙ history_now;
         sent_is = sent_now u;
       }
@@ -265,6 +301,8 @@ module _ {P B : Type 0} (source : SourceGhosts P) (bench : Ghosts B) (columns : 
       pub all_calls : source.told → bench.told → behind ≡ [] → TakesCalls base first_store.history batch all (bench.moment first) (bench.moment new)
       all_calls t u none = record {
         replies = served.answered.replies ++ answers.replies;
-        due = subst (λ (ls : List CountedLine). AreReplies (IsDue base) first_store.history ls (served.answered.replies ++ answers.replies)) (lines_are_all t none) due_now;
-        calls = subst (λ (ls : List CountedLine). bench.moment new ≡ bench.moment first + length ls + 4 * commits batch (served.answered.replies ++ answers.replies)) (lines_are_all t none) (calls_now u);
+        due =
+            subst (λ (ls : List CountedLine). AreReplies (IsDue base) first_store.history ls (served.answered.replies ++ answers.replies)) (lines_are_all t none) due_now;
+        calls =
+            subst (λ (ls : List CountedLine). bench.moment new ≡ bench.moment first + length ls + 4 * commits batch (served.answered.replies ++ answers.replies)) (lines_are_all t none) (calls_now u);
       }

@@ -11,17 +11,21 @@ all_front whole = record { rest = []; is = sym (append-nil whole) }
 
 -- the bytes of the first replies are a front of those of all
 first_front : {R : Type 0} (n : ℕ) (replies : List (Replied R)) → IsFront (bytes_of (take n replies)) (bytes_of replies)
-first_front n replies = record { rest = bytes_of (drop n replies); is = ap bytes_of (sym (take-append-drop n replies)) ∙ bytes_of-append (take n replies) (drop n replies) }
+first_front n replies =
+    record { rest = bytes_of (drop n replies); is = ap bytes_of (sym (take-append-drop n replies)) ∙ bytes_of-append (take n replies) (drop n replies) }
 
 module _ {R L : Type 0} (rule : List R → L → Replied R → Type 0) (stands : List ℕ → List R → Type 0) (batch : ℕ) (history : List R) (lines : List L) where
   -- all replies of some groups were sent, and the image stands for the history with their records
-  pub stop_between : (count : ℕ) (replies : List (Replied R)) (image sent : List ℕ) → AreReplies rule history (groups batch count lines) replies → stands image (history ++ records_of replies) → sent ≡ bytes_of replies → Stop rule stands batch history lines image sent
+  pub stop_between : (count : ℕ) (replies : List (Replied R)) (image sent : List ℕ) → AreReplies rule history (groups batch count lines) replies →
+      stands image (history ++ records_of replies) → sent ≡ bytes_of replies → Stop rule stands batch history lines image sent
   stop_between count replies image sent are is same =
       let P : List ℕ → Type 0 = λ bytes. Stop rule stands batch history lines image bytes in
-      subst P (sym same) (record { count = count; replies = replies; due = are; stands_for = is; begun = first_front ((count - 1) * batch) replies; so_far = all_front (bytes_of replies) })
+      subst P (sym same)
+      (record { count = count; replies = replies; due = are; stands_for = is; begun = first_front ((count - 1) * batch) replies; so_far = all_front (bytes_of replies) })
 
   -- the image stands for the history with the next group's records too, and of its replies a part was sent
-  pub stop_sending : (count : ℕ) (replies more : List (Replied R)) (image sent part : List ℕ) → AreReplies rule history (groups batch (count + 1) lines) (replies ++ more) → take (count * batch) (replies ++ more) ≡ replies
+  pub stop_sending : (count : ℕ) (replies more : List (Replied R)) (image sent part : List ℕ)
+      → AreReplies rule history (groups batch (count + 1) lines) (replies ++ more) → take (count * batch) (replies ++ more) ≡ replies
       → stands image (history ++ records_of (replies ++ more)) → sent ≡ bytes_of replies ++ part → IsFront part (bytes_of more) → Stop rule stands batch history lines image sent
   stop_sending count replies more image sent part are first is same front =
       let before : count + 1 - 1 ≡ count = omega arith in
@@ -30,9 +34,12 @@ module _ {R L : Type 0} (rule : List R → L → Replied R → Type 0) (stands :
         replies = replies ++ more;
         due = are;
         stands_for = is;
-        begun = record { rest = part; is = same ∙ ap (λ (rs : List (Replied R)). bytes_of rs ++ part) (sym first) ∙ ap (λ (n : ℕ). bytes_of (take (n * batch) (replies ++ more)) ++ part) (sym before) };
+        begun =
+            record { rest = part; is = same ∙ ap (λ (rs : List (Replied R)). bytes_of rs ++ part) (sym first) ∙ ap (λ (n : ℕ). bytes_of (take (n * batch) (replies ++ more)) ++ part) (sym before) };
         so_far = record {
           rest = front.rest;
-          is = bytes_of-append replies more ∙ ap (λ (l : List ℕ). bytes_of replies ++ l) front.is ∙ sym (append_assoc (bytes_of replies) part front.rest) ∙ ap (λ (l : List ℕ). l ++ front.rest) (sym same);
+          is =
+              bytes_of-append replies more ∙ ap (λ (l : List ℕ). bytes_of replies ++ l) front.is ∙ sym (append_assoc (bytes_of replies) part front.rest)
+              ∙ ap (λ (l : List ℕ). l ++ front.rest) (sym same);
         };
       }

@@ -27,8 +27,10 @@ record TwoParts {R L : Type 0} (rule : List R → L → Replied R → Type 0) (h
   first_due : AreReplies rule history lines first
   second_due : AreReplies rule (history ++ records_of first) more second
 
-two_parts : {R L : Type 0} (rule : List R → L → Replied R → Type 0) (history : List R) (lines more : List L) (replies : List (Replied R)) → AreReplies rule history (lines ++ more) replies → TwoParts rule history lines more replies
-two_parts rule history [] more replies are = record { first = []; second = replies; is = refl; first_due = tt; second_due = subst (λ h. AreReplies rule h more replies) (sym (append-nil history)) are }
+two_parts : {R L : Type 0} (rule : List R → L → Replied R → Type 0) (history : List R) (lines more : List L) (replies : List (Replied R)) →
+    AreReplies rule history (lines ++ more) replies → TwoParts rule history lines more replies
+two_parts rule history [] more replies are =
+    record { first = []; second = replies; is = refl; first_due = tt; second_due = subst (λ h. AreReplies rule h more replies) (sym (append-nil history)) are }
 two_parts rule history (line ∷ lines) more [] are = absurd are
 two_parts {R} {L} rule history (line ∷ lines) more (reply ∷ replies) are =
     let rest = two_parts rule (history ++ option_to_list reply.added) lines more replies are.1 in
@@ -37,7 +39,8 @@ two_parts {R} {L} rule history (line ∷ lines) more (reply ∷ replies) are =
       second = rest.second;
       is = ap (λ (rs : List (Replied R)). reply ∷ rs) rest.is;
       first_due = (are.0, rest.first_due);
-      second_due = subst (λ (h : List R). AreReplies rule h more rest.second) (append_assoc history (option_to_list reply.added) (records_of rest.first)) rest.second_due;
+      second_due =
+          subst (λ (h : List R). AreReplies rule h more rest.second) (append_assoc history (option_to_list reply.added) (records_of rest.first)) rest.second_due;
     }
 
 module _ {R L : Type 0} (rule : List R → L → Replied R → Type 0) (batch : ℕ) where
@@ -53,7 +56,8 @@ module _ {R L : Type 0} (rule : List R → L → Replied R → Type 0) (batch : 
   steps-append (x ∷ xs) ys s m t first second = (first.0, first.1, steps-append xs ys first.0 m t first.2 second)
 
   then_leads : (s : SessionState R L) (P Q : SessionState R L → Type 0) → (a : Leads s P) → Leads a.last Q → Leads s Q
-  then_leads s P Q a b = record { events = a.events ++ b.events; last = b.last; steps = steps-append a.events b.events s a.last b.last a.steps b.steps; has = b.has }
+  then_leads s P Q a b =
+      record { events = a.events ++ b.events; last = b.last; steps = steps-append a.events b.events s a.last b.last a.steps b.steps; has = b.has }
 
   by_one : (event : Event) (s t : SessionState R L) (P : SessionState R L → Type 0) → IsStep rule batch event s t → P t → Leads s P
   by_one event s t P step has = record { events = event ∷ []; last = t; steps = (t, step, refl); has = has }
@@ -85,7 +89,8 @@ module _ {R L : Type 0} (rule : List R → L → Replied R → Type 0) (batch : 
     sent_is : s.sent ≡ sent
     phase_is : s.phase ≡ leaving
 
-  ask_group : (s : SessionState R L) (line : L) (mid more : List L) (reply : Replied R) (cur : List (Replied R)) → s.phase ≡ asking → s.lines ≡ line ∷ (mid ++ more) → AreReplies rule (s.released ++ s.pending) (line ∷ mid) (reply ∷ cur)
+  ask_group : (s : SessionState R L) (line : L) (mid more : List L) (reply : Replied R) (cur : List (Replied R)) → s.phase ≡ asking
+      → s.lines ≡ line ∷ (mid ++ more) → AreReplies rule (s.released ++ s.pending) (line ∷ mid) (reply ∷ cur)
       → length s.waiting + length mid + 1 ≤ batch → ((length s.waiting + length mid + 1 ≡ batch) ⊎ (more ≡ []))
       → Leads s (Waits s.released (s.pending ++ records_of (reply ∷ cur)) (s.waiting ++ map bytes_in (reply ∷ cur)) more s.sent)
   ask_group s line [] more reply (r ∷ cur) phase lines_are are few end = absurd are.1
@@ -132,7 +137,8 @@ module _ {R L : Type 0} (rule : List R → L → Replied R → Type 0) (batch : 
         };
       }
 
-  commit_group : (released pending : List R) (waiting : List (List ℕ)) (lines : List L) (sent : List ℕ) (s : SessionState R L) → Waits released pending waiting lines sent s → Leads s (MayLeave (released ++ pending) waiting lines sent)
+  commit_group : (released pending : List R) (waiting : List (List ℕ)) (lines : List L) (sent : List ℕ) (s : SessionState R L) →
+      Waits released pending waiting lines sent s → Leads s (MayLeave (released ++ pending) waiting lines sent)
   commit_group released pending waiting lines sent s w = elim (cases_Bool (has_none s.pending)) [
     | inl nothing ↦
         let none : s.pending ≡ [] = none_is_nil s.pending nothing in
@@ -160,7 +166,8 @@ module _ {R L : Type 0} (rule : List R → L → Replied R → Type 0) (batch : 
         })
   ]
 
-  leave_all : (history : List R) (r : Replied R) (rs : List (Replied R)) (lines : List L) (sent : List ℕ) (s : SessionState R L) → MayLeave history (map bytes_in (r ∷ rs)) lines sent s → Leads s (Rests history lines (sent ++ bytes_of (r ∷ rs)))
+  leave_all : (history : List R) (r : Replied R) (rs : List (Replied R)) (lines : List L) (sent : List ℕ) (s : SessionState R L) →
+      MayLeave history (map bytes_in (r ∷ rs)) lines sent s → Leads s (Rests history lines (sent ++ bytes_of (r ∷ rs)))
   leave_all history r [] lines sent s m =
       by_one leave s (after_leave s r.bytes []) _ (m.phase_is, r.bytes, [], m.waiting_is, refl) (record {
         released_is = m.released_is;
@@ -201,7 +208,8 @@ module _ {R L : Type 0} (rule : List R → L → Replied R → Type 0) (batch : 
       (sym (take-append-le (length bytes) part end long) ∙ ap (λ (l : List ℕ). take (length bytes) l) (sym same) ∙ take-append_seam bytes rest)
 
   -- a reply is cut
-  cut_now : (history : List R) (r : Replied R) (rs : List (Replied R)) (lines : List L) (sent part : List ℕ) (s : SessionState R L) → MayLeave history (map bytes_in (r ∷ rs)) lines sent s → IsFront part (bytes_of (r ∷ rs)) → length part < length r.bytes
+  cut_now : (history : List R) (r : Replied R) (rs : List (Replied R)) (lines : List L) (sent part : List ℕ) (s : SessionState R L)
+      → MayLeave history (map bytes_in (r ∷ rs)) lines sent s → IsFront part (bytes_of (r ∷ rs)) → length part < length r.bytes
       → Leads s (λ last. Crashes last history (sent ++ part))
   cut_now history r rs lines sent part s m front shorter =
       let is : part ≡ take (length part) r.bytes = sym (take-append_seam part front.rest) ∙ ap (λ (l : List ℕ). take (length part) l) (sym front.is) ∙ take-append-le (length part) r.bytes (bytes_of rs) (omega (arith, shorter)) in
@@ -209,19 +217,23 @@ module _ {R L : Type 0} (rule : List R → L → Replied R → Type 0) (batch : 
         events = [];
         last = s;
         steps = refl;
-        has = (sym m.released_is, inr (record { phase = m.phase_is; bytes = r.bytes; waiting = map bytes_in rs; first = m.waiting_is; count = length part; proper = shorter; sent_is = ap (λ (b : List ℕ). b ++ part) (sym m.sent_is) ∙ ap (λ (b : List ℕ). s.sent ++ b) is }));
+        has =
+            (sym m.released_is, inr (record { phase = m.phase_is; bytes = r.bytes; waiting = map bytes_in rs; first = m.waiting_is; count = length part; proper = shorter; sent_is = ap (λ (b : List ℕ). b ++ part) (sym m.sent_is) ∙ ap (λ (b : List ℕ). s.sent ++ b) is }));
       }
 
   -- what was sent after it
-  rest_after : (r : Replied R) (rs : List (Replied R)) (part : List ℕ) → IsFront part (bytes_of (r ∷ rs)) → length r.bytes ≤ length part → IsFront (drop (length r.bytes) part) (bytes_of rs)
+  rest_after : (r : Replied R) (rs : List (Replied R)) (part : List ℕ) → IsFront part (bytes_of (r ∷ rs)) → length r.bytes ≤ length part →
+      IsFront (drop (length r.bytes) part) (bytes_of rs)
   rest_after r rs part front longer =
       let is : part ≡ r.bytes ++ drop (length r.bytes) part = after_reply r.bytes (bytes_of rs) part front.rest front.is longer in
       record {
         rest = front.rest;
-        is = append_cancel_left r.bytes (bytes_of rs) (drop (length r.bytes) part ++ front.rest) (front.is ∙ ap (λ (l : List ℕ). l ++ front.rest) is ∙ append_assoc r.bytes (drop (length r.bytes) part) front.rest);
+        is =
+            append_cancel_left r.bytes (bytes_of rs) (drop (length r.bytes) part ++ front.rest) (front.is ∙ ap (λ (l : List ℕ). l ++ front.rest) is ∙ append_assoc r.bytes (drop (length r.bytes) part) front.rest);
       }
 
-  leave_part : (history : List R) (r : Replied R) (rs : List (Replied R)) (lines : List L) (sent part : List ℕ) (s : SessionState R L) → MayLeave history (map bytes_in (r ∷ rs)) lines sent s → IsFront part (bytes_of (r ∷ rs)) → Leads s (λ last. Crashes last history (sent ++ part))
+  leave_part : (history : List R) (r : Replied R) (rs : List (Replied R)) (lines : List L) (sent part : List ℕ) (s : SessionState R L) →
+      MayLeave history (map bytes_in (r ∷ rs)) lines sent s → IsFront part (bytes_of (r ∷ rs)) → Leads s (λ last. Crashes last history (sent ++ part))
   leave_part history r [] lines sent part s m front = elim (cases_lt (length part) (length r.bytes)) [
     | inl shorter ↦ cut_now history r [] lines sent part s m front shorter
     | inr longer ↦
@@ -247,12 +259,14 @@ module _ {R L : Type 0} (rule : List R → L → Replied R → Type 0) (batch : 
           events = leave ∷ more.events;
           last = more.last;
           steps = (t, (m.phase_is, r.bytes, map bytes_in (q ∷ rs), m.waiting_is, refl), more.steps);
-          has = subst (λ (b : List ℕ). Crashes more.last history b) (append_assoc sent r.bytes (drop (length r.bytes) part) ∙ ap (λ (b : List ℕ). sent ++ b) (sym is)) more.has;
+          has =
+              subst (λ (b : List ℕ). Crashes more.last history b) (append_assoc sent r.bytes (drop (length r.bytes) part) ∙ ap (λ (b : List ℕ). sent ++ b) (sym is)) more.has;
         }
   ]
 
   -- a group that is there is asked, committed where it makes a record, and its replies may leave
-  group_waits : (history : List R) (line : L) (mid more : List L) (sent : List ℕ) (r : Replied R) (rs : List (Replied R)) (s : SessionState R L) → Rests history (line ∷ (mid ++ more)) sent s → AreReplies rule history (line ∷ mid) (r ∷ rs)
+  group_waits : (history : List R) (line : L) (mid more : List L) (sent : List ℕ) (r : Replied R) (rs : List (Replied R)) (s : SessionState R L)
+      → Rests history (line ∷ (mid ++ more)) sent s → AreReplies rule history (line ∷ mid) (r ∷ rs)
       → length mid + 1 ≤ batch → ((length mid + 1 ≡ batch) ⊎ (more ≡ [])) → Leads s (MayLeave (history ++ records_of (r ∷ rs)) (map bytes_in (r ∷ rs)) more sent)
   group_waits history line mid more sent r rs s at are few end =
       let none : length s.waiting ≡ 0 = ap (λ (w : List (List ℕ)). length w) at.waiting_is in
@@ -270,7 +284,8 @@ module _ {R L : Type 0} (rule : List R → L → Replied R → Type 0) (batch : 
       }))
 
   -- between the parts of replies: the first of all replies
-  first_of_two : (count : ℕ) (first second : List (Replied R)) → ((length first ≡ batch) ⊎ (second ≡ [])) → length first ≤ batch → 0 < count → take (count * batch) (first ++ second) ≡ first ++ take ((count - 1) * batch) second
+  first_of_two : (count : ℕ) (first second : List (Replied R)) → ((length first ≡ batch) ⊎ (second ≡ [])) → length first ≤ batch → 0 < count →
+      take (count * batch) (first ++ second) ≡ first ++ take ((count - 1) * batch) second
   first_of_two count first second end few some =
       let size : count * batch ≡ (count - 1) * batch + batch = (let one : count ≡ suc (count - 1) = omega (arith, some) in ap (λ (n : ℕ). n * batch) one ∙ suc-mul (count - 1) batch) in
       elim end [
@@ -286,14 +301,16 @@ module _ {R L : Type 0} (rule : List R → L → Replied R → Type 0) (batch : 
       ]
 
   -- nothing is left to do
-  at_rest : (history : List R) (lines : List L) (sent part : List ℕ) (replies : List (Replied R)) (s : SessionState R L) → Rests history lines sent s → replies ≡ [] → IsFront part (bytes_of replies) → Leads s (λ last. Crashes last (history ++ records_of replies) (sent ++ part))
+  at_rest : (history : List R) (lines : List L) (sent part : List ℕ) (replies : List (Replied R)) (s : SessionState R L) → Rests history lines sent s →
+      replies ≡ [] → IsFront part (bytes_of replies) → Leads s (λ last. Crashes last (history ++ records_of replies) (sent ++ part))
   at_rest history lines sent part replies s at none front =
       let nothing : part ≡ [] = nil_front part front.rest (sym (ap (λ (rs : List (Replied R)). bytes_of rs) none) ∙ front.is) in
       record {
         events = [];
         last = s;
         steps = refl;
-        has = (ap (λ (rs : List (Replied R)). history ++ records_of rs) none ∙ append-nil history ∙ sym at.released_is, inl (ap (λ (b : List ℕ). sent ++ b) nothing ∙ append-nil sent ∙ sym at.sent_is));
+        has =
+            (ap (λ (rs : List (Replied R)). history ++ records_of rs) none ∙ append-nil history ∙ sym at.released_is, inl (ap (λ (b : List ℕ). sent ++ b) nothing ∙ append-nil sent ∙ sym at.sent_is));
       }
 
   -- no line, no reply
@@ -306,10 +323,13 @@ module _ {R L : Type 0} (rule : List R → L → Replied R → Type 0) (batch : 
 
   -- what stands after a group, for the groups that are left
   abbrev GoesOn : ℕ → Type 0
-  GoesOn count = (history : List R) (lines : List L) (sent part : List ℕ) (replies : List (Replied R)) (s : SessionState R L) → Rests history lines sent s → AreReplies rule history (take (count * batch) lines) replies
+  GoesOn count =
+      (history : List R) (lines : List L) (sent part : List ℕ) (replies : List (Replied R)) (s : SessionState R L) → Rests history lines sent s → AreReplies rule history (take (count * batch) lines) replies
       → IsFront (bytes_of (take ((count - 1) * batch) replies)) part → IsFront part (bytes_of replies) → Leads s (λ last. Crashes last (history ++ records_of replies) (sent ++ part))
 
-  group_then : (count : ℕ) → GoesOn count → (history : List R) (line : L) (mid more : List L) (sent part : List ℕ) (r : Replied R) (rs second : List (Replied R)) (s : SessionState R L) → Rests history (line ∷ (mid ++ more)) sent s
+  group_then : (count : ℕ) → GoesOn count
+      → (history : List R) (line : L) (mid more : List L) (sent part : List ℕ) (r : Replied R) (rs second : List (Replied R)) (s : SessionState R L)
+      → Rests history (line ∷ (mid ++ more)) sent s
       → AreReplies rule history (line ∷ mid) (r ∷ rs) → AreReplies rule (history ++ records_of (r ∷ rs)) (take (count * batch) more) second → length mid + 1 ≤ batch → ((length mid + 1 ≡ batch) ⊎ (more ≡ []))
       → IsFront (bytes_of (take (count * batch) ((r ∷ rs) ++ second))) part → IsFront part (bytes_of ((r ∷ rs) ++ second)) → Leads s (λ last. Crashes last (history ++ records_of ((r ∷ rs) ++ second)) (sent ++ part))
   group_then zero go history line mid more sent part r rs second s at first_due second_due few end begun so_far =
@@ -337,7 +357,9 @@ module _ {R L : Type 0} (rule : List R → L → Replied R → Type 0) (batch : 
         events = done.events;
         last = done.last;
         steps = done.steps;
-        has = subst (λ (h : List R). Crashes done.last h (sent ++ part)) (append_assoc history (records_of first) (records_of second) ∙ ap (λ (l : List R). history ++ l) (sym (records_of-append first second)))
+        has =
+            subst (λ (h : List R). Crashes done.last h (sent ++ part))
+            (append_assoc history (records_of first) (records_of second) ∙ ap (λ (l : List R). history ++ l) (sym (records_of-append first second)))
             (subst (λ (b : List ℕ). Crashes done.last ((history ++ records_of first) ++ records_of second) b) (append_assoc sent (bytes_of first) (later ++ begun.rest) ∙ ap (λ (b : List ℕ). sent ++ b) (sym is)) done.has);
       }
 
@@ -349,9 +371,11 @@ module _ {R L : Type 0} (rule : List R → L → Replied R → Type 0) (batch : 
 
   go_on : 0 < batch → (count : ℕ) → GoesOn count
   go_on some zero history lines sent part replies s at are begun so_far =
-      at_rest history lines sent part replies s at (none_due history (take (0 * batch) lines) replies (let zero_is : 0 * batch ≡ 0 = omega arith in ap (λ (n : ℕ). take n lines) zero_is) are) so_far
+      at_rest history lines sent part replies s at
+      (none_due history (take (0 * batch) lines) replies (let zero_is : 0 * batch ≡ 0 = omega arith in ap (λ (n : ℕ). take n lines) zero_is) are) so_far
   go_on some (suc count) history [] sent part replies s at are begun so_far =
-      at_rest history [] sent part replies s at (none_due history (take (suc count * batch) []) replies (take_all (suc count * batch) [] (omega arith)) are) so_far
+      at_rest history [] sent part replies s at
+      (none_due history (take (suc count * batch) []) replies (take_all (suc count * batch) [] (omega arith)) are) so_far
   go_on some (suc count) history (line ∷ rest) sent part replies s at are begun so_far =
       let mid : List L = take (batch - 1) rest in
       let more : List L = drop (batch - 1) rest in
@@ -360,7 +384,8 @@ module _ {R L : Type 0} (rule : List R → L → Replied R → Type 0) (batch : 
       let front : take batch (line ∷ rest) ≡ line ∷ mid = ap (λ (n : ℕ). take n (line ∷ rest)) one in
       let left : drop batch (line ∷ rest) ≡ more = ap (λ (n : ℕ). drop n (line ∷ rest)) one in
       let groups_are : take (suc count * batch) (line ∷ rest) ≡ (line ∷ mid) ++ take (count * batch) more =
-      ap (λ (n : ℕ). take n (line ∷ rest)) size ∙ take-add batch (count * batch) (line ∷ rest) ∙ ap (λ (l : List L). l ++ take (count * batch) (drop batch (line ∷ rest))) front ∙ ap (λ (l : List L). (line ∷ mid) ++ take (count * batch) l) left in
+      ap (λ (n : ℕ). take n (line ∷ rest)) size ∙ take-add batch (count * batch) (line ∷ rest)
+      ∙ ap (λ (l : List L). l ++ take (count * batch) (drop batch (line ∷ rest))) front ∙ ap (λ (l : List L). (line ∷ mid) ++ take (count * batch) l) left in
       let parts = two_parts rule history (line ∷ mid) (take (count * batch) more) replies (subst (λ (ls : List L). AreReplies rule history ls replies) groups_are are) in
       let few : length mid + 1 ≤ batch = omega (arith, some, length-take (batch - 1) rest) in
       let end : (length mid + 1 ≡ batch) ⊎ (more ≡ []) = elim (cases_lt (length rest) (batch - 1)) [ inl short ↦ inr (nothing_dropped (batch - 1) rest (omega (arith, short))) | inr long ↦ inl (omega (arith, some, long, length-take (batch - 1) rest)) ] in
@@ -370,7 +395,9 @@ module _ {R L : Type 0} (rule : List R → L → Replied R → Type 0) (batch : 
       parts.first_due parts.second_due few end replies parts.is
       (record { rest = begun.rest; is = begun.is ∙ ap (λ (n : ℕ). bytes_of (take (n * batch) replies) ++ begun.rest) same_count }) so_far
     where
-      by_first : (count : ℕ) → GoesOn count → (history : List R) (line : L) (mid more : List L) (sent part : List ℕ) (first second : List (Replied R)) (s : SessionState R L) → Rests history (line ∷ (mid ++ more)) sent s
+      by_first : (count : ℕ) → GoesOn count
+          → (history : List R) (line : L) (mid more : List L) (sent part : List ℕ) (first second : List (Replied R)) (s : SessionState R L)
+          → Rests history (line ∷ (mid ++ more)) sent s
           → AreReplies rule history (line ∷ mid) first → AreReplies rule (history ++ records_of first) (take (count * batch) more) second → length mid + 1 ≤ batch → ((length mid + 1 ≡ batch) ⊎ (more ≡ []))
           → (replies : List (Replied R)) → replies ≡ first ++ second → IsFront (bytes_of (take (count * batch) replies)) part → IsFront part (bytes_of replies) → Leads s (λ last. Crashes last (history ++ records_of replies) (sent ++ part))
       by_first count go history line mid more sent part [] second s at first_due second_due few end replies is begun so_far = absurd first_due
@@ -380,7 +407,9 @@ module _ {R L : Type 0} (rule : List R → L → Replied R → Type 0) (batch : 
           record { events = led.events; last = led.last; steps = led.steps; has = subst (λ (l : List (Replied R)). Crashes led.last (history ++ records_of l) (sent ++ part)) (sym is) led.has }
 
   -- a session that is stopped somewhere
-  pub stops_crash : 0 < batch → (history : List R) (lines : List L) (count : ℕ) (replies : List (Replied R)) (sent : List ℕ) → AreReplies rule history (take (count * batch) lines) replies → IsFront (bytes_of (take ((count - 1) * batch) replies)) sent → IsFront sent (bytes_of replies)
+  pub stops_crash : 0 < batch → (history : List R) (lines : List L) (count : ℕ) (replies : List (Replied R)) (sent : List ℕ)
+      → AreReplies rule history (take (count * batch) lines) replies → IsFront (bytes_of (take ((count - 1) * batch) replies)) sent
+      → IsFront sent (bytes_of replies)
       → EndsByCrash rule batch history lines (history ++ records_of replies) sent
   stops_crash some history lines count replies sent are begun so_far =
       let led = go_on some count history lines [] sent replies (begin history lines) (record { released_is = refl; pending_is = refl; waiting_is = refl; lines_are = refl; sent_is = refl; phase_is = refl }) are begun so_far in

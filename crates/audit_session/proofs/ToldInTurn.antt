@@ -25,7 +25,8 @@ next_of xs place x inside is =
 abbrev pub ToldSoFar : List Plan → List Outcome → List Plan → List Outcome → List Reply → Type 0
 ToldSoFar plans outcomes left waiting replies = (rest : List Reply) → AreTold left waiting rest → AreTold plans outcomes (replies ++ rest)
 
-module _ (plans : List Plan) (outcomes : List Outcome) (place decided : ℕ) (replies : List Reply) (plan : Plan) (inside : place < length plans) (is : plan ≡ get_or plans place plan)
+module _ (plans : List Plan) (outcomes : List Outcome) (place decided : ℕ) (replies : List Reply) (plan : Plan) (inside : place < length plans)
+    (is : plan ≡ get_or plans place plan)
     (can : CanAllBeTold (drop place plans) (drop decided outcomes)) (so_far : ToldSoFar plans outcomes (drop place plans) (drop decided outcomes) replies) where
   can_here : CanAllBeTold (plan ∷ drop (place + 1) plans) (drop decided outcomes)
   can_here = subst (λ (ps : List Plan). CanAllBeTold ps (drop decided outcomes)) (next_of plans place plan inside is) can
@@ -62,7 +63,8 @@ module _ (plans : List Plan) (outcomes : List Outcome) (place decided : ℕ) (re
 
     module _ (outcome : Outcome) (here : outcome ≡ get_or outcomes decided outcome) where
       can_next : CanAllBeTold (Ask take asked ∷ drop (place + 1) plans) (outcome ∷ drop (decided + 1) outcomes)
-      can_next = subst (λ (os : List Outcome). CanAllBeTold (Ask take asked ∷ drop (place + 1) plans) os) (next_of outcomes decided outcome some_waits here) can_ask
+      can_next =
+          subst (λ (os : List Outcome). CanAllBeTold (Ask take asked ∷ drop (place + 1) plans) os) (next_of outcomes decided outcome some_waits here) can_ask
 
       pub some_row : 0 < length asked.rows.list
       some_row = can_next.0
@@ -76,14 +78,17 @@ module _ (plans : List Plan) (outcomes : List Outcome) (place decided : ℕ) (re
       pub can_after_ask : CanAllBeTold (drop (place + 1) plans) (drop (decided + 1) outcomes)
       can_after_ask = can_next.3
 
-      pub told_ask : (reply : Reply) → TellsOutcome take (length asked.rows.list) outcome reply → ToldSoFar plans outcomes (drop (place + 1) plans) (drop (decided + 1) outcomes) (replies ++ reply ∷ [])
+      pub told_ask : (reply : Reply) → TellsOutcome take (length asked.rows.list) outcome reply →
+          ToldSoFar plans outcomes (drop (place + 1) plans) (drop (decided + 1) outcomes) (replies ++ reply ∷ [])
       told_ask reply tells rest told =
           subst (λ (rs : List Reply). AreTold plans outcomes rs) (sym (append_assoc replies (reply ∷ []) rest))
           (subst (λ (os : List Outcome). ToldSoFar plans outcomes (Ask take asked ∷ drop (place + 1) plans) os replies) (next_of outcomes decided outcome some_waits here)
-          (subst (λ (p : Plan). ToldSoFar plans outcomes (p ∷ drop (place + 1) plans) (drop decided outcomes) replies) asks told_here) (reply ∷ rest) (tells, told))
+          (subst (λ (p : Plan). ToldSoFar plans outcomes (p ∷ drop (place + 1) plans) (drop decided outcomes) replies) asks told_here) (reply ∷ rest)
+          (tells, told))
 
 -- at the end all are told
-pub all_told : (plans : List Plan) (outcomes : List Outcome) (place decided : ℕ) (replies : List Reply) → length plans ≤ place → CanAllBeTold (drop place plans) (drop decided outcomes) → ToldSoFar plans outcomes (drop place plans) (drop decided outcomes) replies
+pub all_told : (plans : List Plan) (outcomes : List Outcome) (place decided : ℕ) (replies : List Reply) → length plans ≤ place
+    → CanAllBeTold (drop place plans) (drop decided outcomes) → ToldSoFar plans outcomes (drop place plans) (drop decided outcomes) replies
     → AreTold plans outcomes replies
 all_told plans outcomes place decided replies over can so_far =
     let none = drop_all place plans over in

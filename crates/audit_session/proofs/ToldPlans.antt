@@ -25,11 +25,13 @@ some_row [] some = absurd (some refl)
 some_row (r ∷ rows) some = omega arith
 
 -- the questions of plans that can be served fit the shape
-pub questions_fit : (shape : Shape) (plans : List Plan) → All (CanBeServed shape) plans → All (λ (a : Asked). FitsShape shape a.column a.rows) (questions_of plans)
+pub questions_fit : (shape : Shape) (plans : List Plan) → All (CanBeServed shape) plans →
+    All (λ (a : Asked). FitsShape shape a.column a.rows) (questions_of plans)
 questions_fit shape [] all = All-nil (λ (a : Asked). FitsShape shape a.column a.rows)
 questions_fit shape (Ready answer ∷ plans) all = questions_fit shape plans (All-tail (CanBeServed shape) (Ready answer) plans all)
 questions_fit shape (Ask take asked ∷ plans) all =
-    All-cons (λ (a : Asked). FitsShape shape a.column a.rows) asked (questions_of plans) (All-head (CanBeServed shape) (Ask take asked) plans all).fits (questions_fit shape plans (All-tail (CanBeServed shape) (Ask take asked) plans all))
+    All-cons (λ (a : Asked). FitsShape shape a.column a.rows) asked (questions_of plans) (All-head (CanBeServed shape) (Ask take asked) plans all).fits
+    (questions_fit shape plans (All-tail (CanBeServed shape) (Ask take asked) plans all))
 
 -- there are no more than plans
 pub few_questions : (plans : List Plan) → length (questions_of plans) ≤ length plans
@@ -38,7 +40,8 @@ few_questions (Ready answer ∷ plans) = omega (arith, few_questions plans)
 few_questions (Ask take asked ∷ plans) = omega (arith, few_questions plans)
 
 module _ (can : OutcomesCanBeTold) (secret : SecretView) (is : IsSecret secret) where
-  pub can_all : (history : List Answered) (plans : List Plan) (outcomes : List Outcome) → All (CanBeServed secret.shape) plans → AreOutcomes (secret_table secret) history (questions_of plans) outcomes → CanAllBeTold plans outcomes
+  pub can_all : (history : List Answered) (plans : List Plan) (outcomes : List Outcome) → All (CanBeServed secret.shape) plans →
+      AreOutcomes (secret_table secret) history (questions_of plans) outcomes → CanAllBeTold plans outcomes
   can_all history [] [] all are = tt
   can_all history [] (outcome ∷ outcomes) all are = absurd are
   can_all history (Ready answer ∷ plans) outcomes all are =
@@ -53,7 +56,8 @@ module _ (can : OutcomesCanBeTold) (secret : SecretView) (is : IsSecret secret) 
       )
 
 -- and some replies tell them
-pub some_replies : SomeReplyTells → (plans : List Plan) (outcomes : List Outcome) → CanAllBeTold plans outcomes → (told : List Reply) × AreTold plans outcomes told
+pub some_replies : SomeReplyTells → (plans : List Plan) (outcomes : List Outcome) → CanAllBeTold plans outcomes →
+    (told : List Reply) × AreTold plans outcomes told
 some_replies some [] [] can = ([], tt)
 some_replies some [] (outcome ∷ outcomes) can = absurd can
 some_replies some (Ready answer ∷ plans) outcomes can = let rest = some_replies some plans outcomes can.1 in (answer ∷ rest.0, (refl, rest.1))

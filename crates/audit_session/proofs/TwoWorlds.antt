@@ -18,14 +18,16 @@ first_same a b x y xs ys first second same =
 
 module _ (alike : DecidedAlike) (equal : EqualAnswersEqualReplies) (base twin : Database) (twins : AreTwins base twin) where
   -- answers to one question that make the same record are the same
-  same_answers : (a b : Replied Answered) (replies others : List (Replied Answered)) → option_to_list b.added ++ records_of others ≡ option_to_list a.added ++ records_of replies
+  same_answers : (a b : Replied Answered) (replies others : List (Replied Answered))
+      → option_to_list b.added ++ records_of others ≡ option_to_list a.added ++ records_of replies
       → AreAnswersAlike (secret_table base.secret) (secret_table twin.secret) a b → a ≡ b
   same_answers a b replies others same both =
       let one = first_same a.added b.added _ _ (records_of replies) (records_of others) (ap (λ (r : Replied Answered). r.added) both.first.replied_is) (ap (λ (r : Replied Answered). r.added) both.second.replied_is) same in
       equal (secret_table base.secret) (secret_table twin.secret) a b both (sym (ap (λ (r : Answered). r.answer) one))
 
   -- replies that make the same records are the same
-  pub same_replies : (history : List Answered) (lines : List CountedLine) (replies others : List (Replied Answered)) → AreReplies (IsDue base) history lines replies → AreReplies (IsDue twin) history lines others
+  pub same_replies : (history : List Answered) (lines : List CountedLine) (replies others : List (Replied Answered))
+      → AreReplies (IsDue base) history lines replies → AreReplies (IsDue twin) history lines others
       → records_of others ≡ records_of replies → others ≡ replies
   same_replies history [] [] [] are those same = refl
   same_replies history [] [] (b ∷ others) are those same = absurd those
@@ -40,8 +42,10 @@ module _ (alike : DecidedAlike) (equal : EqualAnswersEqualReplies) (base twin : 
       ap (λ (r : Replied Answered). r ∷ others) (sym e) ∙ ap (λ (rs : List (Replied Answered)). a ∷ rs) rest
 
   -- lives that left the same histories have the same last one
-  pub same_last : (first other : List Answered) (runs others : List Run) (last final : List Answered) → other ≡ first → Lead base first runs last → Lead twin other others final → AreAlike runs others → final ≡ last
+  pub same_last : (first other : List Answered) (runs others : List Run) (last final : List Answered) → other ≡ first → Lead base first runs last →
+      Lead twin other others final → AreAlike runs others → final ≡ last
   same_last first other [] [] last final same lead those are = those ∙ same ∙ sym lead
   same_last first other [] (run ∷ others) last final same lead those are = absurd are
   same_last first other (run ∷ runs) [] last final same lead those are = absurd are
-  same_last first other (run ∷ runs) (that ∷ others) last final same lead those are = same_last run.last that.last runs others last final are.2 lead.1 those.1 are.3
+  same_last first other (run ∷ runs) (that ∷ others) last final same lead those are =
+      same_last run.last that.last runs others last final are.2 lead.1 those.1 are.3

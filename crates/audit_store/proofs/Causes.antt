@@ -31,11 +31,14 @@ due_fault due fault (inl same) = inl (ap start_fault same)
 due_fault due fault (inr gave) = inr (gave_up fault gave)
 
 -- the cause in a history is a cause in each file that stands for it
-pub cause_in_file : (file : List ℕ) (shape : Shape) (history : List Answered) (gate : ℕ) (secret : SecretView) (fault : StartFault) → StandsAt file shape history gate → HistoryCause fault shape history secret → StartCause fault file secret
+pub cause_in_file : (file : List ℕ) (shape : Shape) (history : List Answered) (gate : ℕ) (secret : SecretView) (fault : StartFault) →
+    StandsAt file shape history gate → HistoryCause fault shape history secret → StartCause fault file secret
 cause_in_file file shape history gate secret NotMade stands cause = absurd cause
 cause_in_file file shape history gate secret (Damaged at) stands cause = absurd cause
-cause_in_file file shape history gate secret (OtherShape kept now) stands cause = (history, (gate, subst (λ s. StandsAt file s history gate) (sym cause.0) stands), (cause.1, cause.2))
-cause_in_file file shape history gate secret (Untrue place kept now) stands cause = (history, (gate, subst (λ s. StandsAt file s history gate) cause.0 stands), cause.1)
+cause_in_file file shape history gate secret (OtherShape kept now) stands cause =
+    (history, (gate, subst (λ s. StandsAt file s history gate) (sym cause.0) stands), (cause.1, cause.2))
+cause_in_file file shape history gate secret (Untrue place kept now) stands cause =
+    (history, (gate, subst (λ s. StandsAt file s history gate) cause.0 stands), cause.1)
 cause_in_file file shape history gate secret (Illegal place) stands cause = (history, (gate, subst (λ s. StandsAt file s history gate) cause.0 stands), cause.1)
 cause_in_file file shape history gate secret Failed stands cause = absurd cause
 cause_in_file file shape history gate secret NoMemory stands cause = tt
@@ -45,7 +48,8 @@ module _ (table : Table) (history : List Answered) where
   untrue_not_before : (a b : ℕ) (kept now other due : ℤ) → IsFirstUntrue table history a kept now → IsFirstUntrue table history b other due → a < b → ⊥
   untrue_not_before a b kept now other due p q lt = p.differ (p.kept_is ∙ q.before a p.at lt p.stands ∙ sym p.now_is)
 
-  untrue_once : (a b : ℕ) (kept now other due : ℤ) → IsFirstUntrue table history a kept now → IsFirstUntrue table history b other due → Untrue b other due ≡ Untrue a kept now
+  untrue_once : (a b : ℕ) (kept now other due : ℤ) → IsFirstUntrue table history a kept now → IsFirstUntrue table history b other due →
+      Untrue b other due ≡ Untrue a kept now
   untrue_once a b kept now other due p q =
       let place : b ≡ a = elim (cases_lt a b) [
         | inl lt ↦ absurd (untrue_not_before a b kept now other due p q lt)
@@ -74,7 +78,8 @@ module _ (shape : Shape) (history : List Answered) (secret : SecretView) where
   other_shape kept now cause same = cause.2 (cause.0 ∙ same ∙ sym cause.1)
 
   -- one cause at most holds of a history
-  pub one_cause : (due fault : StartFault) → (GivesUp due → ⊥) → HistoryCause due shape history secret → HistoryCause fault shape history secret → (fault ≡ due) ⊎ GivesUp fault
+  pub one_cause : (due fault : StartFault) → (GivesUp due → ⊥) → HistoryCause due shape history secret → HistoryCause fault shape history secret →
+      (fault ≡ due) ⊎ GivesUp fault
   one_cause NotMade fault some cause other = absurd cause
   one_cause (Damaged at) fault some cause other = absurd cause
   one_cause Failed fault some cause other = absurd cause
@@ -83,7 +88,8 @@ module _ (shape : Shape) (history : List Answered) (secret : SecretView) where
   one_cause due (Damaged at) some cause other = absurd other
   one_cause due Failed some cause other = absurd other
   one_cause due NoMemory some cause other = inr tt
-  one_cause (OtherShape kept now) (OtherShape k n) some cause other = inl (ap (λ s. OtherShape s n) (other.0 ∙ sym cause.0) ∙ ap (λ s. OtherShape kept s) (other.1 ∙ sym cause.1))
+  one_cause (OtherShape kept now) (OtherShape k n) some cause other =
+      inl (ap (λ s. OtherShape s n) (other.0 ∙ sym cause.0) ∙ ap (λ s. OtherShape kept s) (other.1 ∙ sym cause.1))
   one_cause (OtherShape kept now) (Untrue b k n) some cause other = absurd (other_shape kept now cause other.0)
   one_cause (OtherShape kept now) (Illegal b) some cause other = absurd (other_shape kept now cause other.0)
   one_cause (Untrue a kept now) (OtherShape k n) some cause other = absurd (other_shape k n other cause.0)
@@ -94,18 +100,21 @@ module _ (shape : Shape) (history : List Answered) (secret : SecretView) where
   one_cause (Illegal a) (Illegal b) some cause other = inl (illegal_once (secret_table secret) history a b cause.1 other.1)
 
   -- a legal history of the secrets' shape has none
-  pub legal_has_no_cause : (fault : StartFault) → shape ≡ secret.shape → IsLegal (secret_table secret) history → HistoryCause fault shape history secret → GivesUp fault
+  pub legal_has_no_cause : (fault : StartFault) → shape ≡ secret.shape → IsLegal (secret_table secret) history → HistoryCause fault shape history secret →
+      GivesUp fault
   legal_has_no_cause NotMade same legal cause = absurd cause
   legal_has_no_cause (Damaged at) same legal cause = absurd cause
   legal_has_no_cause (OtherShape kept now) same legal cause = other_shape kept now cause same
-  legal_has_no_cause (Untrue place kept now) same legal cause = let first = cause.1 in first.differ (first.kept_is ∙ (legal.each place first.at first.stands).true_answer ∙ sym first.now_is)
+  legal_has_no_cause (Untrue place kept now) same legal cause =
+      let first = cause.1 in first.differ (first.kept_is ∙ (legal.each place first.at first.stands).true_answer ∙ sym first.now_is)
   legal_has_no_cause (Illegal place) same legal cause = let first = cause.1 in first.denied (legal.each place first.at first.stands).released
   legal_has_no_cause Failed same legal cause = absurd cause
   legal_has_no_cause NoMemory same legal cause = tt
 
 module _ (file : List ℕ) (secret : SecretView) where
   -- where the journal was not read back, what is due of the start is due of the reading
-  pub due_of_reading : (fault : BackFault) (due : StartFault) → ((IsMade file → ⊥) → IsDueOrGaveUp back.NotMade fault) → ((at : ℕ) → IsMade file → BreaksAt file at → IsDueOrGaveUp (back.Damaged at) fault)
+  pub due_of_reading : (fault : BackFault) (due : StartFault) → ((IsMade file → ⊥) → IsDueOrGaveUp back.NotMade fault)
+      → ((at : ℕ) → IsMade file → BreaksAt file at → IsDueOrGaveUp (back.Damaged at) fault)
       → ((shape : Shape) (history : List Answered) (gate : ℕ) → StandsAt file shape history gate → GaveUp fault) → (GivesUp due → ⊥) → StartCause due file secret → RefusedUnlessFailed due (Err (start_fault fault))
   due_of_reading fault NotMade unmade damaged whole some cause = due_fault back.NotMade fault (unmade cause)
   due_of_reading fault (Damaged at) unmade damaged whole some cause = due_fault (back.Damaged at) fault (damaged at cause.0 cause.1)
@@ -120,9 +129,11 @@ module _ (file : List ℕ) (secret : SecretView) where
       → ((other : Shape) (others : List Answered) (gate : ℕ) → StandsAt file other others gate → (shape ≡ other) × (history ≡ others)) → (GivesUp due → ⊥) → StartCause due file secret → HistoryCause due shape history secret
   due_of_history shape history NotMade made whole once some cause = made cause
   due_of_history shape history (Damaged at) made whole once some cause = whole at cause.0 cause.1
-  due_of_history shape history (OtherShape kept now) made whole once some cause = let same = once kept cause.0 cause.1.0 cause.1.1 in (sym same.0, cause.2.0, cause.2.1)
+  due_of_history shape history (OtherShape kept now) made whole once some cause =
+      let same = once kept cause.0 cause.1.0 cause.1.1 in (sym same.0, cause.2.0, cause.2.1)
   due_of_history shape history (Untrue place kept now) made whole once some cause =
-      let same = once secret.shape cause.0 cause.1.0 cause.1.1 in (same.0, subst (λ h. IsFirstUntrue (secret_table secret) h place kept now) (sym same.1) cause.2)
+      let same = once secret.shape cause.0 cause.1.0 cause.1.1 in
+      (same.0, subst (λ h. IsFirstUntrue (secret_table secret) h place kept now) (sym same.1) cause.2)
   due_of_history shape history (Illegal place) made whole once some cause =
       let same = once secret.shape cause.0 cause.1.0 cause.1.1 in (same.0, subst (λ h. IsFirstIllegal (secret_table secret) h place) (sym same.1) cause.2)
   due_of_history shape history Failed made whole once some cause = absurd (some tt)

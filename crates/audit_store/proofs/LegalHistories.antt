@@ -13,15 +13,18 @@ use Rattle.table_load.specs.Database.{secret_table}
 use Rattle.table_load.specs.SecretLists.{are_secrets}
 
 -- a legal history of the secrets of a table is possible
-pub legal_is_possible : (secret : SecretView) (history : List Answered) → LegalIsPossible → IsSecret secret → IsLegal (secret_table secret) history → IsPossibleHistory (secret_table secret).setting history
+pub legal_is_possible : (secret : SecretView) (history : List Answered) → LegalIsPossible → IsSecret secret → IsLegal (secret_table secret) history →
+    IsPossibleHistory (secret_table secret).setting history
 legal_is_possible secret history law is legal = law (secret_table secret) history (are_secrets secret is) legal
 
 module _ (table : Table) (list : List Answered) (k : ℕ) (legal : IsLegal table (take k list)) where
   -- a record more that fits, is true and was to be released
-  pub legal_more : (r : Answered) → LegalGrows → k < length list → length list ≤ 65536 → get_or list k r ≡ r → FitsShape table.setting.shape r.column r.rows → IsTrue table r → IsReleasedAfter table (take k list) r → IsLegal table (take (k + 1) list)
+  pub legal_more : (r : Answered) → LegalGrows → k < length list → length list ≤ 65536 → get_or list k r ≡ r → FitsShape table.setting.shape r.column r.rows →
+      IsTrue table r → IsReleasedAfter table (take k list) r → IsLegal table (take (k + 1) list)
   legal_more r law inside few here fits is_true released =
       let grown : take (k + 1) list ≡ take k list ++ r ∷ [] = take_more list k r inside ∙ ap (λ x. take k list ++ x ∷ []) here in
-      subst (λ h. IsLegal table h) (sym grown) (law table (take k list) r legal (omega (arith, inside, few, length-take k list)) (record { fits = fits; true_answer = is_true; released = released }))
+      subst (λ h. IsLegal table h) (sym grown)
+      (law table (take k list) r legal (omega (arith, inside, few, length-take k list)) (record { fits = fits; true_answer = is_true; released = released }))
 
   -- each of the records so far was to be released
   pub released_before : (i : ℕ) (r : Answered) → i < k → slice_get list i ≡ Some r → IsReleasedAfter table (take i list) r

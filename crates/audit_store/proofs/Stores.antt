@@ -14,7 +14,8 @@ use Rattle.table_load.specs.Database.{secret_table}
 abbrev pub store_of : SecretView → List Answered → JournalContents → StoreContents
 store_of secret history journal = record { secret = secret; history = history; journal = journal; usable = true }
 
-pub is_store : (secret : SecretView) (history : List Answered) (journal : JournalContents) → IsSecret secret → IsLegal (secret_table secret) history → journal.usable ≡ true → journal.shape ≡ secret.shape → length history ≡ journal.count
+pub is_store : (secret : SecretView) (history : List Answered) (journal : JournalContents) → IsSecret secret → IsLegal (secret_table secret) history
+    → journal.usable ≡ true → journal.shape ≡ secret.shape → length history ≡ journal.count
     → IsStore (store_of secret history journal)
 is_store secret history journal numbers legal usable shape counted = record {
   numbers = numbers;
@@ -25,7 +26,9 @@ is_store secret history journal numbers legal usable shape counted = record {
 }
 
 -- all records of the core were released
-pub all_released : (secret : SecretView) (core : Audited) (history : List Answered) (released : ℕ) → core ≡ record { setting = setting_of secret.shape; history = history } → released ≡ length history → (take released core.history ≡ history) × IsAuditedBy secret core released true
+pub all_released : (secret : SecretView) (core : Audited) (history : List Answered) (released : ℕ) →
+    core ≡ record { setting = setting_of secret.shape; history = history } → released ≡ length history →
+    (take released core.history ≡ history) × IsAuditedBy secret core released true
 all_released secret core history released core_is released_is =
     let same : core.history ≡ history = ap (λ (a : Audited). a.history) core_is in
     let long : released ≡ length core.history = released_is ∙ sym (ap length same) in (
@@ -34,11 +37,16 @@ all_released secret core history released core_is released_is =
     )
 
 -- while a store is usable the records of its core are its history
-pub core_is_history : (secret : SecretView) (core : Audited) (released : ℕ) (usable : Bool) (history : List Answered) → IsAuditedBy secret core released usable → usable ≡ true → take released core.history ≡ history → core.history ≡ history
-core_is_history secret core released usable history audited is_usable view = sym (ap (λ n. take n core.history) (audited.all is_usable) ∙ take-length core.history) ∙ view
+pub core_is_history : (secret : SecretView) (core : Audited) (released : ℕ) (usable : Bool) (history : List Answered) →
+    IsAuditedBy secret core released usable → usable ≡ true → take released core.history ≡ history → core.history ≡ history
+core_is_history secret core released usable history audited is_usable view =
+    sym (ap (λ n. take n core.history) (audited.all is_usable) ∙ take-length core.history) ∙ view
 
 -- the records that were released, and those that the core took after them
-pub released_and_more : (old new : List Answered) (released : ℕ) → released ≡ length old → take (length old) new ≡ old → take released old ++ take (length new - released) (drop released new) ≡ new
+pub released_and_more : (old new : List Answered) (released : ℕ) → released ≡ length old → take (length old) new ≡ old →
+    take released old ++ take (length new - released) (drop released new) ≡ new
 released_and_more old new released long begins =
     let more : take (length new - released) (drop released new) ≡ drop released new = take_all (length new - released) (drop released new) (omega (arith, length-drop released new)) in
-    ap (λ t. take released old ++ t) more ∙ ap (λ t. t ++ drop released new) (ap (λ n. take n old) long ∙ take-length old ∙ sym begins ∙ ap (λ n. take n new) (sym long)) ∙ take-append-drop released new
+    ap (λ t. take released old ++ t) more
+    ∙ ap (λ t. t ++ drop released new) (ap (λ n. take n old) long ∙ take-length old ∙ sym begins ∙ ap (λ n. take n new) (sym long))
+    ∙ take-append-drop released new

@@ -25,41 +25,54 @@ use Rattle.auditor_top.proofs.StepFaults.{not_both}
 
 -- what is audited, by parts that are equal
 pub same_audit : (schema other : List Column) (secret hidden : SecretView) (history past : List Answered) → schema ≡ other → secret ≡ hidden → history ≡ past
-    → (let a : Audit = record { schema = schema; shape = secret.shape; history = history } in a) ≡ record { schema = other; shape = hidden.shape; history = past }
+    →
+    (let a : Audit = record { schema = schema; shape = secret.shape; history = history } in a) ≡ record { schema = other; shape = hidden.shape; history = past }
 same_audit schema other secret hidden history past first second third =
     let made : List Column → SecretView → List Answered → Audit = λ c s h. record { schema = c; shape = s.shape; history = h } in
-    ap (λ (c : List Column). made c secret history) first ∙ ap (λ (s : SecretView). made other s history) second ∙ ap (λ (h : List Answered). made other hidden h) third
+    ap (λ (c : List Column). made c secret history) first ∙ ap (λ (s : SecretView). made other s history) second
+    ∙ ap (λ (h : List Answered). made other hidden h) third
 
 -- a file that is left as it was is what a crash may find before the first line
-pub untouched_report : (audit : Audit) (about : List Subject) (file before image sent : List ℕ) → IsUntouched file before image sent → SendsMeanwhile audit about file before image sent
-untouched_report audit about file before image sent same = record { same = same.1; front = subst (λ (bytes : List ℕ). SendsFront audit about before bytes) (sym same.0) (none_front audit about before) }
+pub untouched_report : (audit : Audit) (about : List Subject) (file before image sent : List ℕ) → IsUntouched file before image sent →
+    SendsMeanwhile audit about file before image sent
+untouched_report audit about file before image sent same =
+    record { same = same.1; front = subst (λ (bytes : List ℕ). SendsFront audit about before bytes) (sym same.0) (none_front audit about before) }
 
 -- ---- opening the files
 
 -- the files have no fault, so what kept them closed was a failed source or want of memory
-pub unopened_report : (fault : OpenFault) (columns : List Column) (meant : TableView) (base : Database) (history : List Answered) (sent : List ℕ) → SchemaCause (open_status fault) (Ok columns) → TableCause (open_status fault) (Ok meant)
+pub unopened_report : (fault : OpenFault) (columns : List Column) (meant : TableView) (base : Database) (history : List Answered) (sent : List ℕ)
+    → SchemaCause (open_status fault) (Ok columns) → TableCause (open_status fault) (Ok meant)
     → AuditEnds (open_status fault) base history sent sent
 unopened_report (opening.Schema file.Failed) columns meant base history sent schema table = refl
-unopened_report (opening.Schema file.NoMemory) columns meant base history sent schema table = none_front (audit_over base history) (subjects base.secret.shape) sent
+unopened_report (opening.Schema file.NoMemory) columns meant base history sent schema table =
+    none_front (audit_over base history) (subjects base.secret.shape) sent
 unopened_report (opening.Schema (file.Bad f)) columns meant base history sent schema table = absurd (not_both columns f schema)
 unopened_report (opening.Table file.Failed) columns meant base history sent schema table = refl
-unopened_report (opening.Table file.NoMemory) columns meant base history sent schema table = none_front (audit_over base history) (subjects base.secret.shape) sent
+unopened_report (opening.Table file.NoMemory) columns meant base history sent schema table =
+    none_front (audit_over base history) (subjects base.secret.shape) sent
 unopened_report (opening.Table (file.Bad f)) columns meant base history sent schema table = absurd (not_both meant f table)
 
 -- ---- starting the store
 
 -- a store that was to start, and wasn't, gave up
-pub unstarted_report : (f : StartFault) (base : Database) (history : List Answered) (before after : List ℕ) → StartsUnlessFailed (Err f) → after ≡ before → AuditEnds (start_status f) base history before after
+pub unstarted_report : (f : StartFault) (base : Database) (history : List Answered) (before after : List ℕ) → StartsUnlessFailed (Err f) → after ≡ before →
+    AuditEnds (start_status f) base history before after
 unstarted_report start.NotMade base history before after opens same = absurd opens
 unstarted_report (start.Damaged at) base history before after opens same = absurd opens
 unstarted_report (start.OtherShape kept now) base history before after opens same = absurd opens
 unstarted_report (start.Untrue place kept now) base history before after opens same = absurd opens
 unstarted_report (start.Illegal place) base history before after opens same = absurd opens
-unstarted_report start.Failed base history before after opens same = subst (λ (bytes : List ℕ). ReportsFront (audit_over base history) before bytes) (sym same) (none_front (audit_over base history) (subjects base.secret.shape) before)
-unstarted_report start.NoMemory base history before after opens same = subst (λ (bytes : List ℕ). ReportsFront (audit_over base history) before bytes) (sym same) (none_front (audit_over base history) (subjects base.secret.shape) before)
+unstarted_report start.Failed base history before after opens same =
+    subst (λ (bytes : List ℕ). ReportsFront (audit_over base history) before bytes) (sym same)
+    (none_front (audit_over base history) (subjects base.secret.shape) before)
+unstarted_report start.NoMemory base history before after opens same =
+    subst (λ (bytes : List ℕ). ReportsFront (audit_over base history) before bytes) (sym same)
+    (none_front (audit_over base history) (subjects base.secret.shape) before)
 
 -- each refusal has its cause
-pub unstarted_report_cause : (f : StartFault) (file : List ℕ) (secret : SecretView) → StartCause f file secret → FileCause (start_status f) command.Audit file secret
+pub unstarted_report_cause : (f : StartFault) (file : List ℕ) (secret : SecretView) → StartCause f file secret →
+    FileCause (start_status f) command.Audit file secret
 unstarted_report_cause start.NotMade file secret cause = cause
 unstarted_report_cause (start.Damaged at) file secret cause = cause
 unstarted_report_cause (start.OtherShape kept now) file secret cause = cause
@@ -71,26 +84,30 @@ unstarted_report_cause start.NoMemory file secret cause = tt
 -- ---- sending the report
 
 -- a report over a legal history has that cause
-pub report_cause : {X : Type 0} (ended : Result X AuditFault) (file : List ℕ) (secret : SecretView) → HoldsLegal file secret → FileCause (audit_status ended) command.Audit file secret
+pub report_cause : {X : Type 0} (ended : Result X AuditFault) (file : List ℕ) (secret : SecretView) → HoldsLegal file secret →
+    FileCause (audit_status ended) command.Audit file secret
 report_cause (Ok done) file secret legal = legal
 report_cause (Err report.Failed) file secret legal = tt
 report_cause (Err report.NoMemory) file secret legal = tt
 
 -- the ends of a report are those of the run
-pub report_ends : {X : Type 0} (ended : Result X AuditFault) (base : Database) (history : List Answered) (before after : List ℕ) → OnOk ended (Reports (audit_over base history) before after) → OnErr ended (ReportsFront (audit_over base history) before after)
+pub report_ends : {X : Type 0} (ended : Result X AuditFault) (base : Database) (history : List Answered) (before after : List ℕ)
+    → OnOk ended (Reports (audit_over base history) before after) → OnErr ended (ReportsFront (audit_over base history) before after)
     → AuditEnds (audit_status ended) base history before after
 report_ends (Ok done) base history before after all part = all
 report_ends (Err report.Failed) base history before after all part = part
 report_ends (Err report.NoMemory) base history before after all part = part
 
 -- the count of the bench rose where a send failed, and no other count changed
-pub report_faults : {X : Type 0} (ended : Result X AuditFault) (before : FaultCounts) (bench : ℕ) → (ended ≡ Err report.Failed → Rose before.bench bench) → (ended ≢ Err report.Failed → bench ≡ before.bench) → FaultCause (audit_status ended) before (record before { bench = bench })
+pub report_faults : {X : Type 0} (ended : Result X AuditFault) (before : FaultCounts) (bench : ℕ) → (ended ≡ Err report.Failed → Rose before.bench bench) →
+    (ended ≢ Err report.Failed → bench ≡ before.bench) → FaultCause (audit_status ended) before (record before { bench = bench })
 report_faults (Ok done) before bench rose same = ap (λ (n : ℕ). record before { bench = n }) (same (not_both done report.Failed))
 report_faults (Err report.Failed) before bench rose same = (rose refl, refl)
 report_faults (Err report.NoMemory) before bench rose same = ap (λ (n : ℕ). record before { bench = n }) (same (search rules))
 
 -- where nothing failed, it is done, or there was no memory
-pub report_wants : {X : Type 0} (ended : Result X AuditFault) (before after : FaultCounts) → FaultCause (audit_status ended) before after → NothingFailed before after → IsDoneOrWants (audit_status ended)
+pub report_wants : {X : Type 0} (ended : Result X AuditFault) (before after : FaultCounts) → FaultCause (audit_status ended) before after →
+    NothingFailed before after → IsDoneOrWants (audit_status ended)
 report_wants (Ok done) before after rose none = inl refl
 report_wants (Err report.Failed) before after rose none = absurd (none.bench rose.0)
 report_wants (Err report.NoMemory) before after rose none = inr refl

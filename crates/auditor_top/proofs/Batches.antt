@@ -7,7 +7,8 @@ use Rattle.auditor_top.specs.declared.words.Command.{Command}
 use Rattle.auditor_top.specs.declared.words.Command.TheVariants.{Init, Serve, Audit, Simulate, Drill}
 use Rattle.auditor_top.specs.Words.{auditor, number_of, serve_with, drill_with, command_with, command_in, unless_refused, command_of}
 
-named_batch : (init serve audit simulate : Bool) (batch : ℕ) → cond init (Some Init) (cond serve (Some (Serve 1)) (cond audit (Some Audit) (cond simulate (Some Simulate) None))) ≡ Some (Serve batch) → IsBatch batch
+named_batch : (init serve audit simulate : Bool) (batch : ℕ) →
+    cond init (Some Init) (cond serve (Some (Serve 1)) (cond audit (Some Audit) (cond simulate (Some Simulate) None))) ≡ Some (Serve batch) → IsBatch batch
 named_batch true serve audit simulate batch is = cc
 named_batch false true audit simulate batch is = let one : 1 ≡ batch = cc in (omega arith, omega arith)
 named_batch false false true simulate batch is = cc
@@ -37,12 +38,14 @@ no_batch true (Some n) batch is = drilled n batch (nat_lt n (2 ^ 32)) is
 no_batch false number batch is = cc
 
 batch_with : (word : List ℕ) (number given : Option (List ℕ)) (batch : ℕ) → command_with word number given ≡ Some (Serve batch) → IsBatch batch
-batch_with word None None batch is = named_batch (bytes_eq word (codes "init")) (bytes_eq word (codes "serve")) (bytes_eq word (codes "audit")) (bytes_eq word (codes "simulate")) batch is
+batch_with word None None batch is =
+    named_batch (bytes_eq word (codes "init")) (bytes_eq word (codes "serve")) (bytes_eq word (codes "audit")) (bytes_eq word (codes "simulate")) batch is
 batch_with word None (Some given) batch is = served_batch (bytes_eq word (codes "serve")) (number_of given) batch is
 batch_with word (Some number) None batch is = no_batch (bytes_eq word (codes "drill")) (number_of number) batch is
 batch_with word (Some number) (Some given) batch is = cc
 
-batch_after : (word number given : Option (List ℕ)) (batch : ℕ) → option_and_then (λ name. command_with name number given) word ≡ Some (Serve batch) → IsBatch batch
+batch_after : (word number given : Option (List ℕ)) (batch : ℕ) → option_and_then (λ name. command_with name number given) word ≡ Some (Serve batch) →
+    IsBatch batch
 batch_after None number given batch is = cc
 batch_after (Some word) number given batch is = batch_with word number given batch is
 

@@ -27,12 +27,14 @@ chosen false lines few = few
 short : (piece : List ℕ) → length (line_of piece) ≤ 1
 short piece = chosen (nat_lt 8192 (length piece)) (unless_empty (without_return piece)) (one_at_most (without_return piece))
 
-longer : (b : ℕ) (parts : List (List ℕ)) (most : ℕ) → 0 < length parts → length (flat_map line_of parts) ≤ most → length (flat_map line_of (onto_first b parts)) ≤ most + 1
+longer : (b : ℕ) (parts : List (List ℕ)) (most : ℕ) → 0 < length parts → length (flat_map line_of parts) ≤ most →
+    length (flat_map line_of (onto_first b parts)) ≤ most + 1
 longer b [] most some few = absurd (omega (arith, some))
 longer b (part ∷ parts) most some few =
     omega (arith, few, short (b ∷ part), length-append (line_of (b ∷ part)) (flat_map line_of parts), length-append (line_of part) (flat_map line_of parts))
 
-step : (feed : Bool) (b : ℕ) (parts : List (List ℕ)) (most : ℕ) → 0 < length parts → length (flat_map line_of parts) ≤ most → length (flat_map line_of (cond feed ([] ∷ parts) (onto_first b parts))) ≤ most + 1
+step : (feed : Bool) (b : ℕ) (parts : List (List ℕ)) (most : ℕ) → 0 < length parts → length (flat_map line_of parts) ≤ most →
+    length (flat_map line_of (cond feed ([] ∷ parts) (onto_first b parts))) ≤ most + 1
 step true b parts most some few = omega (arith, few)
 step false b parts most some few = longer b parts most some few
 
@@ -53,13 +55,16 @@ told table history (Ask take asked) replied is = (is.answer, ap (λ (r : Replied
 abbrev texts : List (Replied Answered) → List (List ℕ)
 texts replies = map (λ (r : Replied Answered). r.bytes) replies
 
-are_texts : (base : Database) (history : List Answered) (lines : List CountedLine) (replies : List (Replied Answered)) → AreReplies (IsDue base) history lines replies → AllByRecursion IsReplyText (texts replies)
+are_texts : (base : Database) (history : List Answered) (lines : List CountedLine) (replies : List (Replied Answered)) →
+    AreReplies (IsDue base) history lines replies → AllByRecursion IsReplyText (texts replies)
 are_texts base history [] [] due = tt
 are_texts base history [] (reply ∷ replies) due = absurd due
 are_texts base history (line ∷ lines) [] due = absurd due
-are_texts base history (line ∷ lines) (reply ∷ replies) due = (told _ history due.0.plan reply due.0.reply, are_texts base (history ++ option_to_list reply.added) lines replies due.1)
+are_texts base history (line ∷ lines) (reply ∷ replies) due =
+    (told _ history due.0.plan reply due.0.reply, are_texts base (history ++ option_to_list reply.added) lines replies due.1)
 
-as_many : (base : Database) (history : List Answered) (lines : List CountedLine) (replies : List (Replied Answered)) → AreReplies (IsDue base) history lines replies → length (texts replies) ≡ length lines
+as_many : (base : Database) (history : List Answered) (lines : List CountedLine) (replies : List (Replied Answered)) →
+    AreReplies (IsDue base) history lines replies → length (texts replies) ≡ length lines
 as_many base history [] [] due = refl
 as_many base history [] (reply ∷ replies) due = absurd due
 as_many base history (line ∷ lines) [] due = absurd due
@@ -71,7 +76,8 @@ joined (reply ∷ replies) = ap (λ (bytes : List ℕ). reply.bytes ++ bytes) (j
 
 -- ---- both
 
-pub few_lines : ((replies : List (List ℕ)) → AllByRecursion IsReplyText replies → length (lines_in (flat_map (λ reply. reply) replies)) ≡ length replies) → (number : ℕ) (sent : List ℕ) → length (drill_text number) ≤ 60000 → AnswersDrill number sent
+pub few_lines : ((replies : List (List ℕ)) → AllByRecursion IsReplyText replies → length (lines_in (flat_map (λ reply. reply) replies)) ≡ length replies)
+    → (number : ℕ) (sent : List ℕ) → length (drill_text number) ≤ 60000 → AnswersDrill number sent
     → length (lines_in sent) ≤ 65536
 few_lines law number sent most answers =
     let base = drill_base number in

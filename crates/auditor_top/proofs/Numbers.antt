@@ -21,7 +21,8 @@ some_digits word few digits some = cond-true _ _ _ (and_from _ _ (and_from _ _ (
 no_digits : (word : List ℕ) → (0 < length word → ⊥) → number_of word ≡ None
 no_digits word none = cond-false _ _ _ (and_left _ _ (and_left _ _ (lt-leb 1 (length word) (omega (arith, none)))))
 
-pub read_number : {E : Type 0} (word : List ℕ) (r : Result ℕ E) → ParsesUnsigned 64 10 word r → length word ≤ 10 → list_all is_ascii_digit word ≡ true → result_ok r ≡ number_of word
+pub read_number : {E : Type 0} (word : List ℕ) (r : Result ℕ E) → ParsesUnsigned 64 10 word r → length word ≤ 10 → list_all is_ascii_digit word ≡ true →
+    result_ok r ≡ number_of word
 read_number {E} word (Ok x) parsed few digits =
     let value = parse_digits (numerals_by_value _ tells_all_ascii_digits) {E = E} 64 word (Ok x) parsed (all_digits word ∙ digits) in
     ap Some value.1 ∙ sym (some_digits word few digits value.0.0)

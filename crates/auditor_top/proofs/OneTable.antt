@@ -25,7 +25,8 @@ pub same_ok : {X E : Type 0} (r : Result X E) (x y : X) → r ≡ Ok x → r ≡
 same_ok r x y is other = ap (λ s. unwrap_or (result_ok s) x) (sym is ∙ other)
 
 -- the files mean one table
-pub same_base : (schema table : List ℕ) (columns : List Column) (meant : TableView) (base : Database) → schema_of schema ≡ Ok columns → table_of columns table ≡ Ok meant → AreFilesOf schema table base → base ≡ base_of columns meant.public meant.secret
+pub same_base : (schema table : List ℕ) (columns : List Column) (meant : TableView) (base : Database) → schema_of schema ≡ Ok columns →
+    table_of columns table ≡ Ok meant → AreFilesOf schema table base → base ≡ base_of columns meant.public meant.secret
 same_base schema table columns meant base schema_is table_is files =
     let one : base.columns ≡ columns = same_ok (schema_of schema) base.columns columns files.schema_is schema_is in
     let view : TableView = record { public = base.public; secret = base.secret } in
@@ -33,20 +34,24 @@ same_base schema table columns meant base schema_is table_is files =
     ap (λ (cs : List Column). base_of cs base.public base.secret) one ∙ ap (λ (v : TableView). base_of columns v.public v.secret) two
 
 -- the same, by parts that are equal
-pub same_parts : (base : Database) (columns : List Column) (public other : PublicView) (secret hidden : SecretView) → base ≡ base_of columns public secret → other ≡ public → hidden ≡ secret → base ≡ base_of columns other hidden
-same_parts base columns public other secret hidden is same kept = is ∙ ap (λ (p : PublicView). base_of columns p secret) (sym same) ∙ ap (λ (s : SecretView). base_of columns other s) (sym kept)
+pub same_parts : (base : Database) (columns : List Column) (public other : PublicView) (secret hidden : SecretView) → base ≡ base_of columns public secret →
+    other ≡ public → hidden ≡ secret → base ≡ base_of columns other hidden
+same_parts base columns public other secret hidden is same kept =
+    is ∙ ap (λ (p : PublicView). base_of columns p secret) (sym same) ∙ ap (λ (s : SecretView). base_of columns other s) (sym kept)
 
 -- no group of lines has no replies
 none_due : (base : Database) (batch : ℕ) (history : List Answered) (lines : List CountedLine) → AreReplies (IsDue base) history (groups batch 0 lines) []
 none_due base batch history lines = subst (λ (ls : List CountedLine). AreReplies (IsDue base) history ls []) (sym (ap (λ n. take n lines) (zero-mul batch))) tt
 
 -- no line was answered
-pub nothing_served : (base : Database) (batch : ℕ) (history : List Answered) (input sent file : List ℕ) → StandsFor file base.secret.shape history → StandsForWhat file base (λ now. ServesSome base history batch (counted_lines input) now sent sent)
+pub nothing_served : (base : Database) (batch : ℕ) (history : List Answered) (input sent file : List ℕ) → StandsFor file base.secret.shape history →
+    StandsForWhat file base (λ now. ServesSome base history batch (counted_lines input) now sent sent)
 nothing_served base batch history input sent file stands =
     (history, record { count = 0; serves = record { replies = []; due = none_due base batch history (counted_lines input); history_is = sym (append-nil history); sent_is = sym (append-nil sent) } }, stands)
 
 -- a file that is left as it was is a stop before the first line
-pub untouched_stops : (base : Database) (batch : ℕ) (history : List Answered) (lines : List CountedLine) (file before image sent : List ℕ) → StandsFor file base.secret.shape history → IsUntouched file before image sent → StopsOver base batch history lines before image sent
+pub untouched_stops : (base : Database) (batch : ℕ) (history : List Answered) (lines : List CountedLine) (file before image sent : List ℕ) →
+    StandsFor file base.secret.shape history → IsUntouched file before image sent → StopsOver base batch history lines before image sent
 untouched_stops base batch history lines file before image sent stands same =
     let shape = base.secret.shape in (
       [],
@@ -55,7 +60,8 @@ untouched_stops base batch history lines file before image sent stands same =
         count = 0;
         replies = [];
         due = none_due base batch history lines;
-        stands_for = subst (λ (now : List Answered). StandsFor image shape now) (sym (append-nil history)) (subst (λ (f : List ℕ). StandsFor f shape history) (sym same.1) stands);
+        stands_for =
+            subst (λ (now : List Answered). StandsFor image shape now) (sym (append-nil history)) (subst (λ (f : List ℕ). StandsFor f shape history) (sym same.1) stands);
         begun = record { rest = []; is = sym (ap (λ (rs : List (Replied Answered)). bytes_of rs ++ []) (take-nil ((0 - 1) * batch))) };
         so_far = record { rest = []; is = refl };
       },

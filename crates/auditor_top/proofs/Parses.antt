@@ -20,7 +20,8 @@ use Rattle.auditor_top.specs.Words.{auditor, command_with, command_in, unless_re
 abbrev command_from : Option (List ℕ) → Option (List ℕ) → Option (List ℕ) → Option Command
 command_from word number batch = option_and_then (λ name. command_with name number batch) word
 
-pub values_are : (found : Found) (word number batch : Option (List ℕ)) → word ≡ first_value found (codes "command") → number ≡ first_value found (codes "number") → batch ≡ first_value found (codes "batch")
+pub values_are : (found : Found) (word number batch : Option (List ℕ)) → word ≡ first_value found (codes "command")
+    → number ≡ first_value found (codes "number") → batch ≡ first_value found (codes "batch")
     → command_from word number batch ≡ command_in (rows_of found)
 values_are found word number batch word_is number_is batch_is =
     let rows = rows_of found in
@@ -42,7 +43,8 @@ unfolding clap_on_literals
 is_free = refl
 
 -- a parse that succeeds gives the command
-pub parsed_is : (line : App) (words : List (List ℕ)) (m : ArgMatches) → line ≡ auditor → HasMatchesOf line words m → (is_simple_and_free line ≡ true → fault_of line words ≡ [])
+pub parsed_is : (line : App) (words : List (List ℕ)) (m : ArgMatches) → line ≡ auditor → HasMatchesOf line words m
+    → (is_simple_and_free line ≡ true → fault_of line words ≡ [])
     → command_of words ≡ command_in (rows_of (found_of m))
 unfolding command_of
 parsed_is line words m is has free =
@@ -55,13 +57,15 @@ refused_is : (kind : ErrorKind) (kinds : Kinds) (command : Option Command) → I
 refused_is kind [] command among = absurd among
 refused_is kind (k ∷ ks) command among = refl
 
-fault_is : (words : List (List ℕ)) (kind : ErrorKind) → (kind ≡ OutOfMemory) ⊎ IsAmong kind (fault_of auditor words) → word_fault kind ≡ Bad → command_of words ≡ None
+fault_is : (words : List (List ℕ)) (kind : ErrorKind) → (kind ≡ OutOfMemory) ⊎ IsAmong kind (fault_of auditor words) → word_fault kind ≡ Bad →
+    command_of words ≡ None
 unfolding command_of
 fault_is words kind (inl out) bad = let two : NoMemory ≡ Bad = sym (ap word_fault out) ∙ bad in cc
 fault_is words kind (inr among) bad = refused_is kind (fault_of auditor words) (command_in (matches_of auditor words)) among
 
 -- a parse that fails for another cause than memory has found no command
-pub failed_is : (line : App) (words : List (List ℕ)) (e : Error) → line ≡ auditor → (is_simple_and_free line ≡ true → HasKind (fault_of line words) e) → word_fault (kind_of e) ≡ Bad
+pub failed_is : (line : App) (words : List (List ℕ)) (e : Error) → line ≡ auditor → (is_simple_and_free line ≡ true → HasKind (fault_of line words) e)
+    → word_fault (kind_of e) ≡ Bad
     → command_of words ≡ None
 failed_is line words e is free bad =
     fault_is words (kind_of e) (subst (λ (a : App). HasKind (fault_of a words) e) is (free (ap is_simple_and_free is ∙ is_free))) bad
@@ -73,7 +77,8 @@ pub same_fault : {T : Type 0} (r : Result T WordFault) (fault : WordFault) → r
 same_fault r fault is bad = cc
 
 -- a command is answered where the words are one
-pub command_given : (command asked : Option Command) (r : Result Command WordFault) → command ≡ result_ok r → asked ≡ command → IfOk r (λ named. asked ≡ Some named)
+pub command_given : (command asked : Option Command) (r : Result Command WordFault) → command ≡ result_ok r → asked ≡ command →
+    IfOk r (λ named. asked ≡ Some named)
 command_given command asked (Ok named) part is = is ∙ part
 command_given command asked (Err fault) part is = tt
 

@@ -132,7 +132,8 @@ first_digit x xs number is =
     let digit = and_parts (nat_le 48 x) (nat_le x 57) (and_parts _ _ digits).0 in
     (leb-true 48 x digit.0, leb-true x 57 digit.1)
 
-in_next_word : (word : List ℕ) (batch : ℕ) → number_of word ≡ Some batch → command_of (codes "serve" ∷ codes "--batch" ∷ word ∷ []) ≡ serve_with (number_of word)
+in_next_word : (word : List ℕ) (batch : ℕ) → number_of word ≡ Some batch →
+    command_of (codes "serve" ∷ codes "--batch" ∷ word ∷ []) ≡ serve_with (number_of word)
 in_next_word [] batch is = cc
 in_next_word (x ∷ xs) batch is =
     let digit = first_digit x xs batch is in
@@ -142,10 +143,12 @@ in_next_word (x ∷ xs) batch is =
 is_served : (number : Option ℕ) (batch : ℕ) → number ≡ Some batch → IsBatch batch → serve_with number ≡ Some (Serve batch)
 is_served number batch is within = ap serve_with is ∙ cond-true _ _ _ (and_from _ _ (le-leb 1 batch within.0) (le-leb batch 64 within.1))
 
-pub batch_is : (word : List ℕ) (batch : ℕ) → number_of word ≡ Some batch → IsBatch batch → command_of (codes "serve" ∷ codes "--batch" ∷ word ∷ []) ≡ Some (Serve batch)
+pub batch_is : (word : List ℕ) (batch : ℕ) → number_of word ≡ Some batch → IsBatch batch →
+    command_of (codes "serve" ∷ codes "--batch" ∷ word ∷ []) ≡ Some (Serve batch)
 batch_is word batch is within = in_next_word word batch is ∙ is_served (number_of word) batch is within
 
-pub batch_in_one_is : (word : List ℕ) (batch : ℕ) → number_of word ≡ Some batch → IsBatch batch → command_of (codes "serve" ∷ (codes "--batch=" ++ word) ∷ []) ≡ Some (Serve batch)
+pub batch_in_one_is : (word : List ℕ) (batch : ℕ) → number_of word ≡ Some batch → IsBatch batch →
+    command_of (codes "serve" ∷ (codes "--batch=" ++ word) ∷ []) ≡ Some (Serve batch)
 batch_in_one_is word batch is within = in_one_word word ∙ is_served (number_of word) batch is within
 
 -- ---- `drill` with a number
@@ -197,7 +200,8 @@ with_number [] number is = cc
 with_number (x ∷ xs) number is =
     let digit = first_digit x xs number is in
     each_digit (λ (k : ℕ). command_of (codes "drill" ∷ (k ∷ xs) ∷ []) ≡ drill_with (number_of (k ∷ xs)))
-    (drill_48 xs) (drill_49 xs) (drill_50 xs) (drill_51 xs) (drill_52 xs) (drill_53 xs) (drill_54 xs) (drill_55 xs) (drill_56 xs) (drill_57 xs) x digit.0 digit.1
+    (drill_48 xs) (drill_49 xs) (drill_50 xs) (drill_51 xs) (drill_52 xs) (drill_53 xs) (drill_54 xs) (drill_55 xs) (drill_56 xs)
+    (drill_57 xs) x digit.0 digit.1
 
 is_drilled : (found : Option ℕ) (number : ℕ) → found ≡ Some number → number < 2 ^ 32 → drill_with found ≡ Some (Drill number)
 is_drilled found number is small = ap drill_with is ∙ cond-true _ _ _ (lt-ltb number (2 ^ 32) small)

@@ -28,13 +28,16 @@ use Rattle.auditor_top.proofs.OneTable.{same_ok}
 use Rattle.auditor_top.proofs.StepFaults.{not_both, same_counts}
 
 -- the files mean one schema
-pub same_columns : (schema table : List ℕ) (opened columns : List Column) (public : PublicView) → schema_of schema ≡ Ok opened → ArePublicFilesOf schema table columns public → opened ≡ columns
+pub same_columns : (schema table : List ℕ) (opened columns : List Column) (public : PublicView) → schema_of schema ≡ Ok opened →
+    ArePublicFilesOf schema table columns public → opened ≡ columns
 same_columns schema table opened columns public is files = same_ok (schema_of schema) opened columns is files.schema_is
 
 -- and one public part
-pub same_public_part : (schema table : List ℕ) (opened columns : List Column) (shown public : PublicView) → schema_of schema ≡ Ok opened → public_of opened table ≡ Ok shown → ArePublicFilesOf schema table columns public → shown ≡ public
+pub same_public_part : (schema table : List ℕ) (opened columns : List Column) (shown public : PublicView) → schema_of schema ≡ Ok opened →
+    public_of opened table ≡ Ok shown → ArePublicFilesOf schema table columns public → shown ≡ public
 same_public_part schema table opened columns shown public is also files =
-    same_ok (public_of columns table) shown public (subst (λ (cs : List Column). public_of cs table ≡ Ok shown) (same_columns schema table opened columns public is files) also) files.public_is
+    same_ok (public_of columns table) shown public
+    (subst (λ (cs : List Column). public_of cs table ≡ Ok shown) (same_columns schema table opened columns public is files) also) files.public_is
 
 -- ---- before the first line
 
@@ -43,11 +46,15 @@ pub none_begun : (columns : List Column) (public : PublicView) (lines : List Cou
 none_begun columns public lines = record { count = 0; are = tt }
 
 -- and nothing was sent
-pub no_verdict : (told : Type 0) (columns : List Column) (public : PublicView) (lines : List CountedLine) (file before image sent : List ℕ) → image ≡ file → sent ≡ before → SimulatesMeanwhile told columns public lines file before image sent
+pub no_verdict : (told : Type 0) (columns : List Column) (public : PublicView) (lines : List CountedLine) (file before image sent : List ℕ) → image ≡ file →
+    sent ≡ before → SimulatesMeanwhile told columns public lines file before image sent
 no_verdict told columns public lines file before image sent same none = (same, λ t. ([], none_begun columns public lines, (0, none ∙ sym (append-nil before))))
 
-module _ {B : Type 0} (bench : Ghosts B) (at : B) (only_now : (image bytes : List ℕ) → bench.since at (bench.moment at) image bytes → bench.leaves at image × (bytes ≡ bench.sent at)) (quiet : IsQuiet bench at) where
-  pub before_lines : (told : Type 0) (columns : List Column) (public : PublicView) (lines : List CountedLine) → LeavesOnly bench at at (SimulatesMeanwhile told columns public lines (bench.file at) (bench.sent at))
+module _ {B : Type 0} (bench : Ghosts B) (at : B)
+    (only_now : (image bytes : List ℕ) → bench.since at (bench.moment at) image bytes → bench.leaves at image × (bytes ≡ bench.sent at))
+    (quiet : IsQuiet bench at) where
+  pub before_lines : (told : Type 0) (columns : List Column) (public : PublicView) (lines : List CountedLine) →
+      LeavesOnly bench at at (SimulatesMeanwhile told columns public lines (bench.file at) (bench.sent at))
   before_lines told columns public lines = started bench at _ (λ image sent was.
       let now = only_now image sent was in
       no_verdict told columns public lines (bench.file at) (bench.sent at) image sent (quiet image now.0) now.1)
@@ -58,7 +65,8 @@ module _ {B : Type 0} (bench : Ghosts B) (at : B) (only_now : (image bytes : Lis
 -- ---- opening the files
 
 -- the files have no fault, so what kept them closed was a failed source or want of memory
-pub unopened_verdicts : (fault : OpenFault) (columns : List Column) (public : PublicView) (input left : List ℕ) → SchemaCause (open_status fault) (Ok columns) → TableCause (open_status fault) (Ok public) → SimulateEnds (open_status fault) columns public input left []
+pub unopened_verdicts : (fault : OpenFault) (columns : List Column) (public : PublicView) (input left : List ℕ) → SchemaCause (open_status fault) (Ok columns) →
+    TableCause (open_status fault) (Ok public) → SimulateEnds (open_status fault) columns public input left []
 unopened_verdicts (opening.Schema file.Failed) columns public input left schema table = refl
 unopened_verdicts (opening.Schema file.NoMemory) columns public input left schema table = none_begun columns public (counted_lines input)
 unopened_verdicts (opening.Schema (file.Bad f)) columns public input left schema table = absurd (not_both columns f schema)
@@ -77,7 +85,8 @@ unopened_sends (opening.Table (file.Bad f)) sent = sym (append-nil sent)
 -- ---- reading the transcript
 
 -- the ends of a simulation are those of the run
-pub simulation_ends : (ended : Result (Unit {0}) SimulationFault) (columns : List Column) (public : PublicView) (input left : List ℕ) (verdicts : List (Replied Answered)) → EndVerdicts ended columns public input left verdicts → SimulateEnds (simulation_status ended) columns public input left verdicts
+pub simulation_ends : (ended : Result (Unit {0}) SimulationFault) (columns : List Column) (public : PublicView) (input left : List ℕ) (verdicts : List (Replied Answered)) →
+    EndVerdicts ended columns public input left verdicts → SimulateEnds (simulation_status ended) columns public input left verdicts
 simulation_ends (Ok done) columns public input left verdicts are = are
 simulation_ends (Err verdict.Input) columns public input left verdicts are = are
 simulation_ends (Err verdict.Limit) columns public input left verdicts are = are
@@ -85,7 +94,8 @@ simulation_ends (Err (verdict.Disagrees line due)) columns public input left ver
 simulation_ends (Err verdict.Bench) columns public input left verdicts are = are
 simulation_ends (Err verdict.NoMemory) columns public input left verdicts are = are
 
-pub simulation_sends : (ended : Result (Unit {0}) SimulationFault) (verdicts : List (Replied Answered)) (before after : List ℕ) → EndSends ended verdicts before after → SimulateSends (simulation_status ended) verdicts before after
+pub simulation_sends : (ended : Result (Unit {0}) SimulationFault) (verdicts : List (Replied Answered)) (before after : List ℕ) →
+    EndSends ended verdicts before after → SimulateSends (simulation_status ended) verdicts before after
 simulation_sends (Ok done) verdicts before after sends = sends
 simulation_sends (Err verdict.Input) verdicts before after sends = sends
 simulation_sends (Err verdict.Limit) verdicts before after sends = sends
@@ -94,7 +104,8 @@ simulation_sends (Err verdict.Bench) verdicts before after sends = sends
 simulation_sends (Err verdict.NoMemory) verdicts before after sends = sends
 
 -- how much of the input there was, by the end
-pub simulation_reads : (ended : Result (Unit {0}) SimulationFault) (before after : List ℕ) → EndReads ended before after → InputCause (simulation_status ended) before after
+pub simulation_reads : (ended : Result (Unit {0}) SimulationFault) (before after : List ℕ) → EndReads ended before after →
+    InputCause (simulation_status ended) before after
 simulation_reads (Ok done) before after reads = reads
 simulation_reads (Err verdict.Input) before after reads = reads
 simulation_reads (Err verdict.Limit) before after reads = reads
@@ -103,22 +114,32 @@ simulation_reads (Err verdict.Bench) before after reads = tt
 simulation_reads (Err verdict.NoMemory) before after reads = tt
 
 -- the count of what failed rose, and no other changed
-pub simulation_faults : (ended : Result (Unit {0}) SimulationFault) (before : FaultCounts) (input bench : ℕ) → (ended ≡ Err verdict.Input → Rose before.input input) → (ended ≢ Err verdict.Input → input ≡ before.input)
+pub simulation_faults : (ended : Result (Unit {0}) SimulationFault) (before : FaultCounts) (input bench : ℕ)
+    → (ended ≡ Err verdict.Input → Rose before.input input) → (ended ≢ Err verdict.Input → input ≡ before.input)
     → (ended ≡ Err verdict.Bench → Rose before.bench bench) → (ended ≢ Err verdict.Bench → bench ≡ before.bench) → FaultCause (simulation_status ended) before (record before { input = input; bench = bench })
-simulation_faults (Ok done) before input bench input_rose input_same bench_rose bench_same = same_counts before input bench (input_same (not_both done verdict.Input)) (bench_same (not_both done verdict.Bench))
-simulation_faults (Err verdict.Input) before input bench input_rose input_same bench_rose bench_same = (input_rose refl, same_counts (record before { input = input }) input bench refl (bench_same (search rules)))
-simulation_faults (Err verdict.Bench) before input bench input_rose input_same bench_rose bench_same = (bench_rose refl, same_counts (record before { bench = bench }) input bench (input_same (search rules)) refl)
-simulation_faults (Err verdict.Limit) before input bench input_rose input_same bench_rose bench_same = same_counts before input bench (input_same (search rules)) (bench_same (search rules))
-simulation_faults (Err (verdict.Disagrees line due)) before input bench input_rose input_same bench_rose bench_same = same_counts before input bench (input_same (search rules)) (bench_same (search rules))
-simulation_faults (Err verdict.NoMemory) before input bench input_rose input_same bench_rose bench_same = same_counts before input bench (input_same (search rules)) (bench_same (search rules))
+simulation_faults (Ok done) before input bench input_rose input_same bench_rose bench_same =
+    same_counts before input bench (input_same (not_both done verdict.Input)) (bench_same (not_both done verdict.Bench))
+simulation_faults (Err verdict.Input) before input bench input_rose input_same bench_rose bench_same =
+    (input_rose refl, same_counts (record before { input = input }) input bench refl (bench_same (search rules)))
+simulation_faults (Err verdict.Bench) before input bench input_rose input_same bench_rose bench_same =
+    (bench_rose refl, same_counts (record before { bench = bench }) input bench (input_same (search rules)) refl)
+simulation_faults (Err verdict.Limit) before input bench input_rose input_same bench_rose bench_same =
+    same_counts before input bench (input_same (search rules)) (bench_same (search rules))
+simulation_faults (Err (verdict.Disagrees line due)) before input bench input_rose input_same bench_rose bench_same =
+    same_counts before input bench (input_same (search rules)) (bench_same (search rules))
+simulation_faults (Err verdict.NoMemory) before input bench input_rose input_same bench_rose bench_same =
+    same_counts before input bench (input_same (search rules)) (bench_same (search rules))
 
 -- where every reply agrees, the input is within its limit and nothing failed, it is done, or there was no memory
-pub simulation_wants : FirstLinesHaveVerdicts → (ended : Result (Unit {0}) SimulationFault) (columns : List Column) (public : PublicView) (input left : List ℕ) (verdicts others : List (Replied Answered)) (before after : FaultCounts) → EndVerdicts ended columns public input left verdicts → EndReads ended input left
+pub simulation_wants : FirstLinesHaveVerdicts
+    → (ended : Result (Unit {0}) SimulationFault) (columns : List Column) (public : PublicView) (input left : List ℕ) (verdicts others : List (Replied Answered)) (before after : FaultCounts)
+    → EndVerdicts ended columns public input left verdicts → EndReads ended input left
     → AreVerdicts columns public (counted_lines input) others → length input ≤ 2 ^ 30 → FaultCause (simulation_status ended) before after → NothingFailed before after → IsDoneOrWants (simulation_status ended)
 simulation_wants first (Ok done) columns public input left verdicts others before after are reads agree within rose none = inl refl
 simulation_wants first (Err verdict.Input) columns public input left verdicts others before after are reads agree within rose none = absurd (none.input rose.0)
 simulation_wants first (Err verdict.Bench) columns public input left verdicts others before after are reads agree within rose none = absurd (none.bench rose.0)
-simulation_wants first (Err verdict.Limit) columns public input left verdicts others before after are reads agree within rose none = absurd (omega (arith, reads, within))
+simulation_wants first (Err verdict.Limit) columns public input left verdicts others before after are reads agree within rose none =
+    absurd (omega (arith, reads, within))
 simulation_wants first (Err (verdict.Disagrees line due)) columns public input left verdicts others before after are reads agree within rose none =
     let begun = first columns public (counted_lines input) others line agree in
     absurd (are.none_with begun.0 begun.1)

@@ -31,29 +31,35 @@ pub not_both : {X E : Type 0} (x : X) (e : E) → Ok x ≡ Err e → ⊥
 not_both x e is = search rules
 
 -- counts of which one, or two, are as they were
-pub same_counts : (before : FaultCounts) (input bench : ℕ) → input ≡ before.input → bench ≡ before.bench → record before { input = input; bench = bench } ≡ before
+pub same_counts : (before : FaultCounts) (input bench : ℕ) → input ≡ before.input → bench ≡ before.bench →
+    record before { input = input; bench = bench } ≡ before
 same_counts before input bench is also = ap (λ (n : ℕ). record before { input = input; bench = n }) also ∙ ap (λ (n : ℕ). record before { input = n }) is
 
 -- what is said after counts that are the same
 pub moved : (status : Status) (before : FaultCounts) (schema later_schema table later_table input bench spare : ℕ) → later_schema ≡ schema → later_table ≡ table
     → FaultCause status before (counts schema table input bench spare) → FaultCause status before (counts later_schema later_table input bench spare)
 moved status before schema later_schema table later_table input bench spare is also cause =
-    subst (λ (s : ℕ). FaultCause status before (counts s later_table input bench spare)) (sym is) (subst (λ (t : ℕ). FaultCause status before (counts schema t input bench spare)) (sym also) cause)
+    subst (λ (s : ℕ). FaultCause status before (counts s later_table input bench spare)) (sym is)
+    (subst (λ (t : ℕ). FaultCause status before (counts schema t input bench spare)) (sym also) cause)
 
 -- ---- opening the files
 
 -- the files have no fault, so what kept them closed was a failed source or want of memory
-pub unopened_ends : (fault : OpenFault) (columns : List Column) (meant : TableView) (base : Database) (batch : ℕ) (history : List Answered) (at : Outside) → SchemaCause (open_status fault) (Ok columns) → TableCause (open_status fault) (Ok meant)
+pub unopened_ends : (fault : OpenFault) (columns : List Column) (meant : TableView) (base : Database) (batch : ℕ) (history : List Answered) (at : Outside)
+    → SchemaCause (open_status fault) (Ok columns) → TableCause (open_status fault) (Ok meant)
     → StandsFor at.file base.secret.shape history → ServeEnds batch (open_status fault) base history at at
 unopened_ends (opening.Schema file.Failed) columns meant base batch history at schema table stands = (refl, refl)
-unopened_ends (opening.Schema file.NoMemory) columns meant base batch history at schema table stands = nothing_served base batch history at.input at.sent at.file stands
+unopened_ends (opening.Schema file.NoMemory) columns meant base batch history at schema table stands =
+    nothing_served base batch history at.input at.sent at.file stands
 unopened_ends (opening.Schema (file.Bad f)) columns meant base batch history at schema table stands = absurd (not_both columns f schema)
 unopened_ends (opening.Table file.Failed) columns meant base batch history at schema table stands = (refl, refl)
-unopened_ends (opening.Table file.NoMemory) columns meant base batch history at schema table stands = nothing_served base batch history at.input at.sent at.file stands
+unopened_ends (opening.Table file.NoMemory) columns meant base batch history at schema table stands =
+    nothing_served base batch history at.input at.sent at.file stands
 unopened_ends (opening.Table (file.Bad f)) columns meant base batch history at schema table stands = absurd (not_both meant f table)
 
 -- where no source failed either, it was want of memory
-pub unopened_wants : {T : Type 0} (fault : OpenFault) (columns : List Column) (meant : T) (before after : FaultCounts) → SchemaCause (open_status fault) (Ok columns) → TableCause (open_status fault) (Ok meant)
+pub unopened_wants : {T : Type 0} (fault : OpenFault) (columns : List Column) (meant : T) (before after : FaultCounts)
+    → SchemaCause (open_status fault) (Ok columns) → TableCause (open_status fault) (Ok meant)
     → FaultCause (open_status fault) before after → NothingFailed before after → IsDoneOrWants (open_status fault)
 unopened_wants (opening.Schema file.Failed) columns meant before after schema table rose none = absurd (none.schema rose.0)
 unopened_wants (opening.Schema file.NoMemory) columns meant before after schema table rose none = inr refl
@@ -65,7 +71,8 @@ unopened_wants (opening.Table (file.Bad f)) columns meant before after schema ta
 -- ---- starting the store
 
 -- a store that was to start, and wasn't, gave up
-pub unstarted_ends : (f : StartFault) (base : Database) (batch : ℕ) (history : List Answered) (before after : Outside) → StartsUnlessFailed (Err f) → before.sent ≡ after.sent → StandsFor after.file base.secret.shape history
+pub unstarted_ends : (f : StartFault) (base : Database) (batch : ℕ) (history : List Answered) (before after : Outside) → StartsUnlessFailed (Err f)
+    → before.sent ≡ after.sent → StandsFor after.file base.secret.shape history
     → ServeEnds batch (start_status f) base history before after
 unstarted_ends start.NotMade base batch history before after opens same stands = absurd opens
 unstarted_ends (start.Damaged at) base batch history before after opens same stands = absurd opens
@@ -74,10 +81,13 @@ unstarted_ends (start.Untrue place kept now) base batch history before after ope
 unstarted_ends (start.Illegal place) base batch history before after opens same stands = absurd opens
 unstarted_ends start.Failed base batch history before after opens same stands = tt
 unstarted_ends start.NoMemory base batch history before after opens same stands =
-    subst (λ (sent : List ℕ). (now : List Answered) × ServesSome base history batch (counted_lines before.input) now before.sent sent × StandsFor after.file base.secret.shape now) same (nothing_served base batch history before.input before.sent after.file stands)
+    subst
+    (λ (sent : List ℕ). (now : List Answered) × ServesSome base history batch (counted_lines before.input) now before.sent sent × StandsFor after.file base.secret.shape now) same
+    (nothing_served base batch history before.input before.sent after.file stands)
 
 -- where the bench didn't fail either, it was want of memory
-pub unstarted_wants : (f : StartFault) (before after : FaultCounts) → StartsUnlessFailed (Err f) → FaultCause (start_status f) before after → NothingFailed before after → IsDoneOrWants (start_status f)
+pub unstarted_wants : (f : StartFault) (before after : FaultCounts) → StartsUnlessFailed (Err f) → FaultCause (start_status f) before after →
+    NothingFailed before after → IsDoneOrWants (start_status f)
 unstarted_wants start.NotMade before after opens rose none = absurd opens
 unstarted_wants (start.Damaged at) before after opens rose none = absurd opens
 unstarted_wants (start.OtherShape kept now) before after opens rose none = absurd opens
@@ -87,7 +97,8 @@ unstarted_wants start.Failed before after opens rose none = absurd (none.bench r
 unstarted_wants start.NoMemory before after opens rose none = inr refl
 
 -- a store that isn't started has its cause in the file
-pub unstarted_cause : (f : StartFault) (batch : ℕ) (file : List ℕ) (secret : SecretView) → StartCause f file secret → FileCause (start_status f) (Serve batch) file secret
+pub unstarted_cause : (f : StartFault) (batch : ℕ) (file : List ℕ) (secret : SecretView) → StartCause f file secret →
+    FileCause (start_status f) (Serve batch) file secret
 unstarted_cause start.NotMade batch file secret cause = cause
 unstarted_cause (start.Damaged at) batch file secret cause = cause
 unstarted_cause (start.OtherShape kept now) batch file secret cause = cause
@@ -97,7 +108,8 @@ unstarted_cause start.Failed batch file secret cause = tt
 unstarted_cause start.NoMemory batch file secret cause = tt
 
 -- the count of the bench rose where a call of it failed, and no other count changed
-pub unstarted_faults : {X : Type 0} (f : StartFault) (before : FaultCounts) (bench : ℕ) → (IsErrOf {T = X} (Err f) start.Failed → Rose before.bench bench) → ((IsErrOf {T = X} (Err f) start.Failed → ⊥) → bench ≡ before.bench)
+pub unstarted_faults : {X : Type 0} (f : StartFault) (before : FaultCounts) (bench : ℕ) → (IsErrOf {T = X} (Err f) start.Failed → Rose before.bench bench)
+    → ((IsErrOf {T = X} (Err f) start.Failed → ⊥) → bench ≡ before.bench)
     → FaultCause (start_status f) before (record before { bench = bench })
 unstarted_faults start.NotMade before bench rose same = same_counts before before.input bench refl (same (search rules))
 unstarted_faults (start.Damaged at) before bench rose same = same_counts before before.input bench refl (same (search rules))
@@ -123,7 +135,8 @@ unmade_faults make.Failed before bench rose same = (rose refl, refl)
 -- ---- answering lines
 
 -- a session over a legal history has that cause
-pub session_cause : {X : Type 0} (ended : Result X EndFault) (batch : ℕ) (file : List ℕ) (secret : SecretView) → HoldsLegal file secret → FileCause (session_status ended) (Serve batch) file secret
+pub session_cause : {X : Type 0} (ended : Result X EndFault) (batch : ℕ) (file : List ℕ) (secret : SecretView) → HoldsLegal file secret →
+    FileCause (session_status ended) (Serve batch) file secret
 session_cause (Ok done) batch file secret legal = legal
 session_cause (Err end.Input) batch file secret legal = legal
 session_cause (Err end.Bench) batch file secret legal = tt
@@ -131,7 +144,8 @@ session_cause (Err end.Limit) batch file secret legal = legal
 session_cause (Err end.NoMemory) batch file secret legal = tt
 
 -- the ends of a session are those of the run
-pub session_ends : {X : Type 0} (ended : Result X EndFault) (base : Database) (batch : ℕ) (history now : List Answered) (before after : Outside) → OnOk ended (Serves base history (counted_lines before.input) now before.sent after.sent)
+pub session_ends : {X : Type 0} (ended : Result X EndFault) (base : Database) (batch : ℕ) (history now : List Answered) (before after : Outside)
+    → OnOk ended (Serves base history (counted_lines before.input) now before.sent after.sent)
     → (ended ≡ Err end.Input → ServesWhole base history batch before.input after.input now before.sent after.sent) → (ended ≡ Err end.Limit → ServesLimited base history batch before.input now before.sent after.sent)
     → (ended ≡ Err end.NoMemory → ServesSome base history batch (counted_lines before.input) now before.sent after.sent) → (ended ≢ Err end.Bench → StandsFor after.file base.secret.shape now) → ServeEnds batch (session_status ended) base history before after
 session_ends (Ok done) base batch history now before after all whole limited some stands = (now, all, stands (not_both done end.Bench))
@@ -141,16 +155,23 @@ session_ends (Err end.Limit) base batch history now before after all whole limit
 session_ends (Err end.NoMemory) base batch history now before after all whole limited some stands = (now, some refl, stands (search rules))
 
 -- the count of what failed rose, and no other changed
-pub session_faults : {X : Type 0} (ended : Result X EndFault) (before : FaultCounts) (input bench : ℕ) → (ended ≡ Err end.Input → Rose before.input input) → (ended ≢ Err end.Input → input ≡ before.input)
+pub session_faults : {X : Type 0} (ended : Result X EndFault) (before : FaultCounts) (input bench : ℕ) → (ended ≡ Err end.Input → Rose before.input input)
+    → (ended ≢ Err end.Input → input ≡ before.input)
     → (ended ≡ Err end.Bench → Rose before.bench bench) → (ended ≢ Err end.Bench → bench ≡ before.bench) → FaultCause (session_status ended) before (record before { input = input; bench = bench })
-session_faults (Ok done) before input bench input_rose input_same bench_rose bench_same = same_counts before input bench (input_same (not_both done end.Input)) (bench_same (not_both done end.Bench))
-session_faults (Err end.Input) before input bench input_rose input_same bench_rose bench_same = (input_rose refl, same_counts (record before { input = input }) input bench refl (bench_same (search rules)))
-session_faults (Err end.Bench) before input bench input_rose input_same bench_rose bench_same = (bench_rose refl, same_counts (record before { bench = bench }) input bench (input_same (search rules)) refl)
-session_faults (Err end.Limit) before input bench input_rose input_same bench_rose bench_same = same_counts before input bench (input_same (search rules)) (bench_same (search rules))
-session_faults (Err end.NoMemory) before input bench input_rose input_same bench_rose bench_same = same_counts before input bench (input_same (search rules)) (bench_same (search rules))
+session_faults (Ok done) before input bench input_rose input_same bench_rose bench_same =
+    same_counts before input bench (input_same (not_both done end.Input)) (bench_same (not_both done end.Bench))
+session_faults (Err end.Input) before input bench input_rose input_same bench_rose bench_same =
+    (input_rose refl, same_counts (record before { input = input }) input bench refl (bench_same (search rules)))
+session_faults (Err end.Bench) before input bench input_rose input_same bench_rose bench_same =
+    (bench_rose refl, same_counts (record before { bench = bench }) input bench (input_same (search rules)) refl)
+session_faults (Err end.Limit) before input bench input_rose input_same bench_rose bench_same =
+    same_counts before input bench (input_same (search rules)) (bench_same (search rules))
+session_faults (Err end.NoMemory) before input bench input_rose input_same bench_rose bench_same =
+    same_counts before input bench (input_same (search rules)) (bench_same (search rules))
 
 -- how much of the input there was, by the end
-pub session_reads : {X : Type 0} (ended : Result X EndFault) (before after : List ℕ) → OnOk ended (after ≡ []) → OnOk ended (length before ≤ most_input) → (ended ≡ Err end.Input → length before ≤ most_input + length after)
+pub session_reads : {X : Type 0} (ended : Result X EndFault) (before after : List ℕ) → OnOk ended (after ≡ []) → OnOk ended (length before ≤ most_input)
+    → (ended ≡ Err end.Input → length before ≤ most_input + length after)
     → (ended ≡ Err end.Limit → most_input + length after < length before) → InputCause (session_status ended) before after
 session_reads (Ok done) before after read within failed limit = (read, within)
 session_reads (Err end.Input) before after read within failed limit = failed refl
@@ -159,7 +180,8 @@ session_reads (Err end.Limit) before after read within failed limit = limit refl
 session_reads (Err end.NoMemory) before after read within failed limit = tt
 
 -- where the input is within its limit and nothing failed, it is done, or there was no memory
-pub session_wants : {X : Type 0} (ended : Result X EndFault) (before after : FaultCounts) (input left : List ℕ) → FaultCause (session_status ended) before after → NothingFailed before after → InputCause (session_status ended) input left
+pub session_wants : {X : Type 0} (ended : Result X EndFault) (before after : FaultCounts) (input left : List ℕ) → FaultCause (session_status ended) before after
+    → NothingFailed before after → InputCause (session_status ended) input left
     → length input ≤ most_input → IsDoneOrWants (session_status ended)
 session_wants (Ok done) before after input left rose none cause within = inl refl
 session_wants (Err end.Input) before after input left rose none cause within = absurd (none.input rose.0)

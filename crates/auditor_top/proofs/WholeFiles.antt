@@ -11,7 +11,8 @@ use Rattle.table_load.specs.declared.faults.TableFault.TheVariants as table_faul
 use Rattle.auditor_top.specs.Reading.{ReadsAll}
 
 -- what judges all files above the limit alike judges what was read as it judges the whole file
-same_meaning : {Y : Type 0} (meaning : List ℕ → Y) (most : ℕ) (refused : Y) → ((bytes : List ℕ) → most < length bytes → meaning bytes ≡ refused) → (before after bytes : List ℕ) → ReadsAll most before after bytes → meaning bytes ≡ meaning before
+same_meaning : {Y : Type 0} (meaning : List ℕ → Y) (most : ℕ) (refused : Y) → ((bytes : List ℕ) → most < length bytes → meaning bytes ≡ refused) →
+    (before after bytes : List ℕ) → ReadsAll most before after bytes → meaning bytes ≡ meaning before
 same_meaning meaning most refused refuses before after bytes read = by_end read.split read.end
   where
     by_end : before ≡ bytes ++ after → (after ≡ []) ⊎ (most < length bytes) → meaning bytes ≡ meaning before
@@ -39,11 +40,13 @@ same_table columns before after bytes read = same_meaning (table_of columns) 167
 long_public : (columns : List Column) (bytes : List ℕ) → 16777216 < length bytes → public_of columns bytes ≡ Err table_fault.TooLong
 long_public columns bytes long = told _ _ _ (long_file _ bytes long)
 
-pub same_public : (columns : List Column) (before after bytes : List ℕ) → ReadsAll 16777216 before after bytes → public_of columns bytes ≡ public_of columns before
+pub same_public : (columns : List Column) (before after bytes : List ℕ) → ReadsAll 16777216 before after bytes →
+    public_of columns bytes ≡ public_of columns before
 same_public columns before after bytes read = same_meaning (public_of columns) 16777216 (Err table_fault.TooLong) (long_public columns) before after bytes read
 
 -- a fault that isn't want of memory is the table's own
-pub own_table_fault : {X : Type 0} (fault : TableFault) (meant : Result X TableFault) → (fault ≡ table_fault.NoMemory → ⊥) → UnlessMemory fault (meant ≡ Err fault) → meant ≡ Err fault
+pub own_table_fault : {X : Type 0} (fault : TableFault) (meant : Result X TableFault) → (fault ≡ table_fault.NoMemory → ⊥) →
+    UnlessMemory fault (meant ≡ Err fault) → meant ≡ Err fault
 own_table_fault table_fault.TooLong meant other is = is
 own_table_fault table_fault.Header meant other is = is
 own_table_fault (table_fault.Length line) meant other is = is

@@ -10,16 +10,19 @@ use Rattle.bench_core.specs.LogContents.{call_of, IsKept}
 use Rattle.audit_types.specs.ListLaws.{all-push, all-weaker}
 
 piece_stays : (from count : ℕ) (bytes more : List ℕ) → from + count ≤ length bytes → take count (drop from (bytes ++ more)) ≡ take count (drop from bytes)
-piece_stays from count bytes more le = ap (take count) (drop-append-le from bytes more (omega arith)) ∙ take-append-le count (drop from bytes) more (omega (arith, length-drop from bytes))
+piece_stays from count bytes more le =
+    ap (take count) (drop-append-le from bytes more (omega arith)) ∙ take-append-le count (drop from bytes) more (omega (arith, length-drop from bytes))
 
-call_stays : (pieces sent more rest : List ℕ) (p : Past) → IsKept (length pieces) (length sent) p → call_of (pieces ++ more) (sent ++ rest) p ≡ call_of pieces sent p
+call_stays : (pieces sent more rest : List ℕ) (p : Past) → IsKept (length pieces) (length sent) p →
+    call_of (pieces ++ more) (sent ++ rest) p ≡ call_of pieces sent p
 call_stays pieces sent more rest (past.Wrote at from count) le = ap (wrote at) (piece_stays from count pieces more le)
 call_stays pieces sent more rest (past.Unwritten at count) le = refl
 call_stays pieces sent more rest past.Synced le = refl
 call_stays pieces sent more rest (past.Sent from count) le = ap sending (piece_stays from count sent rest le)
 call_stays pieces sent more rest past.Other le = refl
 
-pub calls_stay : (pieces sent more rest : List ℕ) (all : List Past) → AllByRecursion (IsKept (length pieces) (length sent)) all → map (call_of (pieces ++ more) (sent ++ rest)) all ≡ map (call_of pieces sent) all
+pub calls_stay : (pieces sent more rest : List ℕ) (all : List Past) → AllByRecursion (IsKept (length pieces) (length sent)) all →
+    map (call_of (pieces ++ more) (sent ++ rest)) all ≡ map (call_of pieces sent) all
 calls_stay pieces sent more rest [] kept = refl
 calls_stay pieces sent more rest (p ∷ all) kept =
     let first = call_stays pieces sent more rest p kept.0 in
@@ -33,7 +36,8 @@ kept_more pieces sent more rest past.Synced a b le = tt
 kept_more pieces sent more rest (past.Sent from count) a b le = omega arith
 kept_more pieces sent more rest past.Other a b le = tt
 
-pub all_kept : (pieces sent more rest : ℕ) (all : List Past) (p : Past) → pieces ≤ more → sent ≤ rest → AllByRecursion (IsKept pieces sent) all → IsKept more rest p → AllByRecursion (IsKept more rest) (all ++ p ∷ [])
+pub all_kept : (pieces sent more rest : ℕ) (all : List Past) (p : Past) → pieces ≤ more → sent ≤ rest → AllByRecursion (IsKept pieces sent) all →
+    IsKept more rest p → AllByRecursion (IsKept more rest) (all ++ p ∷ [])
 all_kept pieces sent more rest all p a b kept is =
     all-push (IsKept more rest) all p (all-weaker (IsKept pieces sent) (IsKept more rest) (λ q. kept_more pieces sent more rest q a b) all kept) is
 
@@ -46,7 +50,8 @@ pub sent_grows : (pieces sent piece : List ℕ) (all : List Past) → AllByRecur
     → map (call_of pieces (sent ++ piece)) (all ++ past.Sent (length sent) (length piece) ∷ []) ≡ map (call_of pieces sent) all ++ sending piece ∷ []
 sent_grows pieces sent piece all kept =
     let stay : map (call_of pieces (sent ++ piece)) all ≡ map (call_of pieces sent) all = rw append-nil at (calls_stay pieces sent [] piece all kept) in
-    map_push (call_of pieces (sent ++ piece)) all (past.Sent (length sent) (length piece)) ∙ ap (λ t. t ++ call_of pieces (sent ++ piece) (past.Sent (length sent) (length piece)) ∷ []) stay
+    map_push (call_of pieces (sent ++ piece)) all (past.Sent (length sent) (length piece))
+    ∙ ap (λ t. t ++ call_of pieces (sent ++ piece) (past.Sent (length sent) (length piece)) ∷ []) stay
     ∙ ap (λ p. map (call_of pieces sent) all ++ sending p ∷ []) (piece_at_end sent piece)
 
 -- a piece joins those that were written
@@ -54,5 +59,6 @@ pub written_grows : (pieces sent piece : List ℕ) (at : ℕ) (all : List Past) 
     → map (call_of (pieces ++ piece) sent) (all ++ past.Wrote at (length pieces) (length piece) ∷ []) ≡ map (call_of pieces sent) all ++ wrote at piece ∷ []
 written_grows pieces sent piece at all kept =
     let stay : map (call_of (pieces ++ piece) sent) all ≡ map (call_of pieces sent) all = rw append-nil at (calls_stay pieces sent piece [] all kept) in
-    map_push (call_of (pieces ++ piece) sent) all (past.Wrote at (length pieces) (length piece)) ∙ ap (λ t. t ++ call_of (pieces ++ piece) sent (past.Wrote at (length pieces) (length piece)) ∷ []) stay
+    map_push (call_of (pieces ++ piece) sent) all (past.Wrote at (length pieces) (length piece))
+    ∙ ap (λ t. t ++ call_of (pieces ++ piece) sent (past.Wrote at (length pieces) (length piece)) ∷ []) stay
     ∙ ap (λ p. map (call_of pieces sent) all ++ wrote at p ∷ []) (piece_at_end pieces piece)

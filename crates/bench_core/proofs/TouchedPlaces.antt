@@ -16,16 +16,19 @@ same_test at place k other = grind (arith, nat_tests)
 this_test : (at place : ℕ) → at ≤ place → (nat_le at place && nat_lt place (place + 1)) ≡ true
 this_test at place le = grind (arith, nat_tests)
 
-pub touched_more : (old : List Bool) (at place : ℕ) (new : List Bool) → at ≤ place → place < length new → Touched old at place new → Touched old at (place + 1) (set new place true)
+pub touched_more : (old : List Bool) (at place : ℕ) (new : List Bool) → at ≤ place → place < length new → Touched old at place new →
+    Touched old at (place + 1) (set new place true)
 touched_more old at place new le lt so_far = record {
   flags = λ k. elim (cases_eq k place) [
-    | inl e ↦ ap (λ j. get_or (set new place true) j false) e ∙ get_or-set_same new place true false lt ∙ sym (ap (λ j. is_dirty old j || (nat_le at j && nat_lt j (place + 1))) e ∙ ap (λ b. is_dirty old place || b) (this_test at place le) ∙ or_right (is_dirty old place) true refl)
+    | inl e ↦ ap (λ j. get_or (set new place true) j false) e ∙ get_or-set_same new place true false lt
+        ∙ sym (ap (λ j. is_dirty old j || (nat_le at j && nat_lt j (place + 1))) e ∙ ap (λ b. is_dirty old place || b) (this_test at place le) ∙ or_right (is_dirty old place) true refl)
     | inr other ↦ get_or-set_other new place k true false other ∙ so_far.flags k ∙ ap (λ b. is_dirty old k || b) (same_test at place k other)
   ];
   long = length-set new place true ∙ so_far.long;
 }
 
-pub same_end : (at count end long k : ℕ) → k < long → (end ≡ at + count) ⊎ ((end ≡ long) × (long ≤ at + count)) → (nat_le at k && nat_lt k end) ≡ (nat_le at k && nat_lt k (at + count))
+pub same_end : (at count end long k : ℕ) → k < long → (end ≡ at + count) ⊎ ((end ≡ long) × (long ≤ at + count)) →
+    (nat_le at k && nat_lt k end) ≡ (nat_le at k && nat_lt k (at + count))
 same_end at count end long k lt (inl e) = ap (λ n. nat_le at k && nat_lt k n) e
 same_end at count end long k lt (inr e) = let e0 = e.0 in let e1 = e.1 in grind (arith, nat_tests)
 

@@ -32,14 +32,18 @@ pub time_still : (b : BenchContents) (P : List ℕ → List ℕ → Type 0) → 
 time_still b P = record { later = omega arith; nothing_else = λ t image sent le since. inl since; keeps = λ t image sent le since. since }
 
 -- a call on the file finds what it leaves, and nothing more sent
-pub time_unsent : (b : BenchContents) (c : Call) → ((image sent : List ℕ) → During (state_of b) c image sent → Found (after (state_of b) c) image sent) → (after (state_of b) c).sent ≡ (state_of b).sent
-    → Elapses (length b.past) (length (b.past ++ c ∷ [])) (found_since b) (Since (start b.first) (b.past ++ c ∷ [])) (Unsent (may_leave (passed b c)) (sent_of b))
+pub time_unsent : (b : BenchContents) (c : Call) → ((image sent : List ℕ) → During (state_of b) c image sent → Found (after (state_of b) c) image sent)
+    → (after (state_of b) c).sent ≡ (state_of b).sent
+    → Elapses (length b.past) (length (b.past ++ c ∷ [])) (found_since b) (Since (start b.first) (b.past ++ c ∷ []))
+    (Unsent (may_leave (passed b c)) (sent_of b))
 time_unsent b c found same =
-    time_passed b c (Unsent (may_leave (passed b c)) (sent_of b)) (λ image sent in_it. let f = found image sent in_it in (subst (λ (s : State). Leaves s image) (sym (passed_state b c)) f.0, f.1 ∙ same))
+    time_passed b c (Unsent (may_leave (passed b c)) (sent_of b))
+    (λ image sent in_it. let f = found image sent in_it in (subst (λ (s : State). Leaves s image) (sym (passed_state b c)) f.0, f.1 ∙ same))
 
 -- a send finds a front of its piece sent
 pub time_sending : (b : BenchContents) (piece whole : List ℕ) → ((sent : List ℕ) → AppendsFront (sent_of b) piece sent → AppendsFront (sent_of b) whole sent)
-    → Elapses (length b.past) (length (b.past ++ sending piece ∷ [])) (found_since b) (Since (start b.first) (b.past ++ sending piece ∷ [])) (Sending (may_leave (passed b (sending piece))) (sent_of b) whole)
+    → Elapses (length b.past) (length (b.past ++ sending piece ∷ [])) (found_since b) (Since (start b.first) (b.past ++ sending piece ∷ []))
+    (Sending (may_leave (passed b (sending piece))) (sent_of b) whole)
 time_sending b piece whole longer =
     time_passed b (sending piece) (Sending (may_leave (passed b (sending piece))) (sent_of b) whole)
     (λ image sent in_it. (subst (λ (s : State). Leaves s image) (sym (passed_state b (sending piece))) (record { no_shorter = in_it.0.no_shorter; no_longer = in_it.0.no_longer; same = in_it.0.same }), longer sent in_it.1))
@@ -48,7 +52,9 @@ pub same_images : (b : BenchContents) (image : List ℕ) → may_leave (passed b
 same_images b image left = subst (λ (s : State). Leaves s image) (passed_state b other) left
 
 pub sent_images : (b : BenchContents) (piece image : List ℕ) → may_leave (passed b (sending piece)) image → may_leave b image
-sent_images b piece image left = let after_it = subst (λ (s : State). Leaves s image) (passed_state b (sending piece)) left in record { no_shorter = after_it.no_shorter; no_longer = after_it.no_longer; same = after_it.same }
+sent_images b piece image left =
+    let after_it = subst (λ (s : State). Leaves s image) (passed_state b (sending piece)) left in
+    record { no_shorter = after_it.no_shorter; no_longer = after_it.no_longer; same = after_it.same }
 
 pub synced_file : (b : BenchContents) (image : List ℕ) → may_leave (passed b synced) image → image ≡ file_of b
 synced_file b image left = synced_quiet (state_of b) image (subst (λ (s : State). Leaves s image) (passed_state b synced) left)
@@ -60,7 +66,8 @@ synced_images b image left = subst (λ (f : List ℕ). may_leave b f) (sym (sync
 pub torn_same : (at count : ℕ) (file : List ℕ) → Torn at count file file
 torn_same at count file = record { before = refl; after = refl; no_shorter = omega arith; no_longer = omega arith }
 
-pub follows_write : (b : BenchContents) (at : ℕ) (piece : List ℕ) → at ≤ length (file_of b) → Follows (Torn at (length piece)) (may_leave b) (may_leave (passed b (wrote at piece)))
+pub follows_write : (b : BenchContents) (at : ℕ) (piece : List ℕ) → at ≤ length (file_of b) →
+    Follows (Torn at (length piece)) (may_leave b) (may_leave (passed b (wrote at piece)))
 follows_write b at piece inside image left =
     let s = state_of b in
     let file = written s.file at piece in
@@ -69,7 +76,8 @@ follows_write b at piece inside image left =
     let grown : length file ≤ max (length s.file) (at + length piece) = omega (arith, length-written s.file at piece inside) in
     (before_write s at (length piece) file image (always_sound b).long inside grown image_left, was_left s at (length piece) file image (always_sound b).long inside grown image_left, is_torn s at (length piece) file image (always_sound b).long inside grown image_left)
 
-pub follows_touch : (b : BenchContents) (at count : ℕ) → at ≤ length (file_of b) → Follows (Torn at count) (may_leave b) (may_leave (passed b (unwritten at count)))
+pub follows_touch : (b : BenchContents) (at count : ℕ) → at ≤ length (file_of b) →
+    Follows (Torn at count) (may_leave b) (may_leave (passed b (unwritten at count)))
 follows_touch b at count inside image left =
     let s = state_of b in
     let now = subst (λ (s : State). Leaves s image) (passed_state b (unwritten at count)) left in
@@ -81,11 +89,13 @@ pub follows_nothing : (b : BenchContents) (at count : ℕ) → Follows (Torn at 
 follows_nothing b at count image left = (image, left, torn_same at count image)
 
 -- a failed write touches its range, or nothing
-pub touched_or_not : (b : BenchContents) (at count : ℕ) (Q : BenchContents → Type 0) → Q (record (failed b) { past = b.past ++ unwritten at count ∷ [] }) → Q (failed b) → Q (failed_write b at count)
+pub touched_or_not : (b : BenchContents) (at count : ℕ) (Q : BenchContents → Type 0) → Q (record (failed b) { past = b.past ++ unwritten at count ∷ [] }) →
+    Q (failed b) → Q (failed_write b at count)
 touched_or_not b at count Q touched not = elim (cases_Bool (nat_lt b.calls b.room.calls)) [ inl e ↦ rw e touched | inr e ↦ rw e not ]
 
 -- a failed send sends a front, or nothing
-pub front_or_none : (b : BenchContents) (front : List ℕ) (Q : BenchContents → Type 0) → Q (record (failed b) { past = b.past ++ sending front ∷ [] }) → (front ≡ [] → Q (failed b)) → Q (failed_send b front)
+pub front_or_none : (b : BenchContents) (front : List ℕ) (Q : BenchContents → Type 0) → Q (record (failed b) { past = b.past ++ sending front ∷ [] }) →
+    (front ≡ [] → Q (failed b)) → Q (failed_send b front)
 front_or_none b [] Q some none = none refl
 front_or_none b (x ∷ front) Q some none = some
 

@@ -10,7 +10,8 @@ use Rattle.bench_core.specs.Bench.{Torn}
 use Rattle.bench_core.specs.Crash.{IsImage}
 use Rattle.bench_core.specs.Machine.{State, Leaves, in_range, dirtied}
 
-module _ (s : State) (at count : ℕ) (file image : List ℕ) (sound : length s.stable ≤ length s.file) (inside : at ≤ length s.file) (grown : length file ≤ max (length s.file) (at + count)) (left : IsImage s.stable (dirtied s.dirty at count) file image) where
+module _ (s : State) (at count : ℕ) (file image : List ℕ) (sound : length s.stable ≤ length s.file) (inside : at ≤ length s.file)
+    (grown : length file ≤ max (length s.file) (at + count)) (left : IsImage s.stable (dirtied s.dirty at count) file image) where
   cell : ℕ → ℕ
   cell k = cond (in_range at count k && nat_lt k (length s.stable)) (get_or s.stable k 0) (get_or image k 0)
 
@@ -64,10 +65,13 @@ module _ (s : State) (at count : ℕ) (file image : List ℕ) (sound : length s.
         let low : k < at = omega (arith, lt, length-take at image) in
         let there : k < min (length image) (length s.file) = omega (arith, lt, length-take at image, inside) in
         get_or-take at image k 0 low ∙ sym (cell-out k (below k low)) ∙ sym (reads k there) ∙ sym (get_or-take at before_write k 0 low));
-    after = same_number_lists (drop (at + count) image) (drop (at + count) before_write) (omega (arith, length-drop (at + count) image, length-drop (at + count) before_write, length-before, grown, left.no_longer))
+    after =
+        same_number_lists (drop (at + count) image) (drop (at + count) before_write)
+        (omega (arith, length-drop (at + count) image, length-drop (at + count) before_write, length-before, grown, left.no_longer))
         (λ k lt.
         let there : at + count + k < min (length image) (length s.file) = omega (arith, lt, length-drop (at + count) image, grown, left.no_longer) in
-        get_or-drop (at + count) image k 0 ∙ sym (cell-out (at + count + k) (above (at + count + k) (omega arith))) ∙ sym (reads (at + count + k) there) ∙ sym (get_or-drop (at + count) before_write k 0));
+        get_or-drop (at + count) image k 0 ∙ sym (cell-out (at + count + k) (above (at + count + k) (omega arith))) ∙ sym (reads (at + count + k) there)
+        ∙ sym (get_or-drop (at + count) before_write k 0));
     no_shorter = omega (arith, length-before);
     no_longer = omega (arith, length-before, grown, left.no_longer);
   }

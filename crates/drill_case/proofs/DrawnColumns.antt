@@ -10,9 +10,11 @@ use Rattle.drill_case.specs.Draws.{draw}
 use Rattle.drill_case.specs.Tables.{drill_columns, drawn, bands, ages, pays, bests}
 
 -- one row more has one number more
-pub grows : (number which rows d : ℕ) (of_draw : ℕ → ℕ) (old new : List ℤ) → old ≡ drawn number which of_draw rows → new ≡ old ++ pos (of_draw d) ∷ [] → d ≡ draw number (4 * rows + which) → new ≡ drawn number which of_draw (rows + 1)
+pub grows : (number which rows d : ℕ) (of_draw : ℕ → ℕ) (old new : List ℤ) → old ≡ drawn number which of_draw rows → new ≡ old ++ pos (of_draw d) ∷ [] →
+    d ≡ draw number (4 * rows + which) → new ≡ drawn number which of_draw (rows + 1)
 grows number which rows d of_draw old new had is at =
-    is ∙ (λ i. had i ++ pos (of_draw (at i)) ∷ []) ∙ sym (map-range_with_len_more (λ row. pos (of_draw (draw number (4 * row + which)))) 0 rows rows (omega arith))
+    is ∙ (λ i. had i ++ pos (of_draw (at i)) ∷ [])
+    ∙ sym (map-range_with_len_more (λ row. pos (of_draw (draw number (4 * row + which)))) 0 rows rows (omega arith))
 
 within : (f : ℕ → ℤ) → ((k : ℕ) → in_range (f k) ≡ true) → (start count : ℕ) → AllByRecursion (λ z. in_range z ≡ true) (map f (range_with_len start count))
 within f each start zero = tt
@@ -25,7 +27,8 @@ small n is = ap not (le-ltb 1000000000000 n (omega (arith, is)))
 are_numbers : (number which : ℕ) (of_draw : ℕ → ℕ) → ((d : ℕ) → of_draw d ≤ 100000) → (rows : ℕ) → AreNumbers rows (drawn number which of_draw rows)
 are_numbers number which of_draw least rows = record {
   one_each = length-map-range_with_len (λ row. pos (of_draw (draw number (4 * row + which)))) 0 rows;
-  within = within (λ row. pos (of_draw (draw number (4 * row + which)))) (λ row. small (of_draw (draw number (4 * row + which))) (least (draw number (4 * row + which)))) 0 rows;
+  within =
+      within (λ row. pos (of_draw (draw number (4 * row + which)))) (λ row. small (of_draw (draw number (4 * row + which))) (least (draw number (4 * row + which)))) 0 rows;
 }
 
 public_numbers : (number rows : ℕ) → AllByRecursion (AreNumbers rows) (bands number rows ∷ ages number rows ∷ [])
@@ -43,9 +46,11 @@ are_lists number rows some most =
       numbers = subst (λ (n : ℕ). AllByRecursion (AreNumbers n) (bands number rows ∷ ages number rows ∷ [])) (sym long) (public_numbers number rows);
     }
 
-pub lists_fit : (number rows : ℕ) (columns : List Column) (lists : List (List ℤ)) → 0 < rows → rows ≤ 1024 → columns ≡ drill_columns → lists ≡ bands number rows ∷ ages number rows ∷ [] → AreLists columns lists
+pub lists_fit : (number rows : ℕ) (columns : List Column) (lists : List (List ℤ)) → 0 < rows → rows ≤ 1024 → columns ≡ drill_columns →
+    lists ≡ bands number rows ∷ ages number rows ∷ [] → AreLists columns lists
 lists_fit number rows columns lists some most schema are =
-    subst (λ (cs : List Column). AreLists cs lists) (sym schema) (subst (λ (ls : List (List ℤ)). AreLists drill_columns ls) (sym are) (are_lists number rows some most))
+    subst (λ (cs : List Column). AreLists cs lists) (sym schema)
+    (subst (λ (ls : List (List ℤ)). AreLists drill_columns ls) (sym are) (are_lists number rows some most))
 
 -- the secret columns are numbers
 pub secrets_fit : (number rows : ℕ) (lists : List (List ℤ)) → lists ≡ pays number rows ∷ bests number rows ∷ [] → AllByRecursion (AreNumbers rows) lists

@@ -18,8 +18,10 @@ steps number place next state is at =
     ap next_state at ∙ sym (one_more number place) ∙ ap (state_after number) one
 
 -- four steps make the next four draws
-pub four_steps : (number place first second third fourth state : ℕ) → first ≡ next_state state → second ≡ next_state first → third ≡ next_state second → fourth ≡ next_state third → state ≡ state_after number place
-    → (fourth ≡ state_after number (place + 4)) × (◌≡◌ {A = List ℕ} (first / 2 ^ 33 ∷ second / 2 ^ 33 ∷ third / 2 ^ 33 ∷ fourth / 2 ^ 33 ∷ []) (draw number place ∷ draw number (place + 1) ∷ draw number (place + 2) ∷ draw number (place + 3) ∷ []))
+pub four_steps : (number place first second third fourth state : ℕ) → first ≡ next_state state → second ≡ next_state first → third ≡ next_state second
+    → fourth ≡ next_state third → state ≡ state_after number place
+    → (fourth ≡ state_after number (place + 4)) ×
+    (◌≡◌ {A = List ℕ} (first / 2 ^ 33 ∷ second / 2 ^ 33 ∷ third / 2 ^ 33 ∷ fourth / 2 ^ 33 ∷ []) (draw number place ∷ draw number (place + 1) ∷ draw number (place + 2) ∷ draw number (place + 3) ∷ []))
 four_steps number place first second third fourth state one two three four at =
     let a : first ≡ state_after number (place + 1) = one ∙ steps number place (place + 1) state refl at in
     let b : second ≡ state_after number (place + 2) = two ∙ steps number (place + 1) (place + 2) first (omega arith) a in

@@ -4,7 +4,8 @@ use Rattle.std.proofs.lemmas.List.{take_more, take_all}
 use Rattle.drill_case.specs.declared.kinds.ReplyKind.{ReplyKind}
 use Rattle.drill_case.specs.Tallies.{HasKind, HaveKinds}
 
-kinds-append : (lines more : List (List ℕ)) (kinds others : List ReplyKind) → HaveKinds lines kinds → HaveKinds more others → HaveKinds (lines ++ more) (kinds ++ others)
+kinds-append : (lines more : List (List ℕ)) (kinds others : List ReplyKind) → HaveKinds lines kinds → HaveKinds more others →
+    HaveKinds (lines ++ more) (kinds ++ others)
 kinds-append [] more [] others first second = second
 kinds-append [] more (kind ∷ kinds) others first second = absurd first
 kinds-append (line ∷ lines) more [] others first second = absurd first
@@ -18,7 +19,8 @@ as_many (line ∷ lines) [] are = absurd are
 as_many (line ∷ lines) (kind ∷ kinds) are = omega (arith, as_many lines kinds are.1)
 
 -- the next line has its kind
-pub one_more_kind : (lines : List (List ℕ)) (count : ℕ) (line : List ℕ) (kinds : List ReplyKind) (kind : ReplyKind) → (count < length lines) × (line ≡ get_or lines count line) → HaveKinds (take count lines) kinds → HasKind line kind
+pub one_more_kind : (lines : List (List ℕ)) (count : ℕ) (line : List ℕ) (kinds : List ReplyKind) (kind : ReplyKind)
+    → (count < length lines) × (line ≡ get_or lines count line) → HaveKinds (take count lines) kinds → HasKind line kind
     → HaveKinds (take (count + 1) lines) (kinds ++ kind ∷ [])
 one_more_kind lines count line kinds kind next are has =
     let front : take (count + 1) lines ≡ take count lines ++ line ∷ [] = take_more lines count line next.0 ∙ ap (λ (l : List ℕ). take count lines ++ l ∷ []) (sym next.1) in

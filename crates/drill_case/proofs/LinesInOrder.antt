@@ -14,4 +14,5 @@ pub one_line_more : (number count : ℕ) → first_lines number (count + 1) ≡ 
 one_line_more number count =
     let one : count + 1 ≡ suc count = omega arith in
     let last : flat_map (drill_line number) (count ∷ []) ≡ drill_line number count = append-nil (drill_line number count) in
-    ap (first_lines number) one ∙ ap (flat_map (drill_line number)) (range_more 0 count count (omega arith)) ∙ flat_map-append (drill_line number) (range_with_len 0 count) (count ∷ []) ∙ ap (λ (l : List ℕ). first_lines number count ++ l) last
+    ap (first_lines number) one ∙ ap (flat_map (drill_line number)) (range_more 0 count count (omega arith))
+    ∙ flat_map-append (drill_line number) (range_with_len 0 count) (count ∷ []) ∙ ap (λ (l : List ℕ). first_lines number count ++ l) last

@@ -31,7 +31,8 @@ feedless-digits_onto : (most n : ℕ) (bytes : List ℕ) → feedless bytes ≡ 
 feedless-digits_onto zero n bytes is = is
 feedless-digits_onto (suc most) n bytes is =
     let more = and_from _ _ (glyph_here (n % 10) (nat_lt (n % 10) 10)) is in
-    either (n / 10 == 0) (digit_glyph false (n % 10) ∷ bytes) (digits_onto most 10 false (n / 10) (digit_glyph false (n % 10) ∷ bytes)) more (feedless-digits_onto most (n / 10) (digit_glyph false (n % 10) ∷ bytes) more)
+    either (n / 10 == 0) (digit_glyph false (n % 10) ∷ bytes) (digits_onto most 10 false (n / 10) (digit_glyph false (n % 10) ∷ bytes)) more
+    (feedless-digits_onto most (n / 10) (digit_glyph false (n % 10) ∷ bytes) more)
 
 feedless-decimal : (n : ℕ) → feedless (decimal n) ≡ true
 unfolding digits
@@ -92,7 +93,8 @@ split_after [] rest is = refl
 split_after (b ∷ text) rest is =
     let parts = and_parts (not (is_feed b)) (feedless text) is in
     let same : is_feed b ≡ false = flipped (is_feed b) parts.0 in
-    ap (λ (feed : Bool). cond feed ([] ∷ slice_split is_feed (text ++ 10 ∷ rest)) (onto_first b (slice_split is_feed (text ++ 10 ∷ rest)))) same ∙ ap (onto_first b) (split_after text rest parts.1)
+    ap (λ (feed : Bool). cond feed ([] ∷ slice_split is_feed (text ++ 10 ∷ rest)) (onto_first b (slice_split is_feed (text ++ 10 ∷ rest)))) same
+    ∙ ap (onto_first b) (split_after text rest parts.1)
   where
     flipped : (x : Bool) → not x ≡ true → x ≡ false
     flipped true is = cc
@@ -104,7 +106,8 @@ one_more bytes rest line =
     let joined : bytes ++ rest ≡ text ++ 10 ∷ rest = ap (λ (l : List ℕ). l ++ rest) line.ends ∙ append_assoc text (10 ∷ []) rest in
     let some : (length text == 0) ≡ false = ne_eqb (length text) 0 (λ is. omega (arith, is, line.some)) in
     let parts = ap (slice_split is_feed) joined ∙ split_after text rest line.feedless in
-    ap (λ (ps : List (List ℕ)). length (filter (λ part. not (length part == 0)) ps)) parts ∙ ap (λ (empty : Bool). length (cond (not empty) (text ∷ lines_in rest) (lines_in rest))) some ∙ omega arith
+    ap (λ (ps : List (List ℕ)). length (filter (λ part. not (length part == 0)) ps)) parts
+    ∙ ap (λ (empty : Bool). length (cond (not empty) (text ∷ lines_in rest) (lines_in rest))) some ∙ omega arith
 
 pub lines_of_replies : (replies : List (List ℕ)) → AllByRecursion IsReplyText replies → length (lines_in (flat_map (λ reply. reply) replies)) ≡ length replies
 lines_of_replies [] are = refl

@@ -12,7 +12,8 @@ use Rattle.schema_json.specs.declared.faults.SchemaFault.TheVariants.{TooLong, N
 use Rattle.drill_case.specs.Tables.{drill_columns}
 
 abbrev schema_text : List ℕ
-schema_text = codes "{\"columns\":[{\"name\":\"band\",\"is\":\"number\"},{\"name\":\"age\",\"is\":\"number\"},{\"name\":\"pay\",\"is\":\"sum\"},{\"name\":\"best\",\"is\":\"max\"}]}"
+schema_text =
+    codes "{\"columns\":[{\"name\":\"band\",\"is\":\"number\"},{\"name\":\"age\",\"is\":\"number\"},{\"name\":\"pay\",\"is\":\"sum\"},{\"name\":\"best\",\"is\":\"max\"}]}"
 
 pub means : schema_of schema_text ≡ Ok drill_columns
 unfolding value_of column_of columns_of listed_items is_utf8 chars encode value punctuate lex content

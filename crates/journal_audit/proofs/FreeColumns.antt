@@ -22,4 +22,5 @@ same_n table history legal = all_by_place (λ r. r.rows.n ≡ table.setting.shap
 -- the sets of some of the records are over as many rows as those of all
 pub sets_same_n : (n : ℕ) (keeps : Answered → Bool) (records : List Answered) → AllByRecursion (λ r. r.rows.n ≡ n) records →
     AllByRecursion (λ (s : Rows). s.n ≡ n) (map (λ (r : Answered). r.rows) (filter keeps records))
-sets_same_n n keeps records all = all-map (λ (r : Answered). r.rows) (λ (s : Rows). s.n ≡ n) (filter keeps records) (all-filter (λ r. r.rows.n ≡ n) keeps records all)
+sets_same_n n keeps records all =
+    all-map (λ (r : Answered). r.rows) (λ (s : Rows). s.n ≡ n) (filter keeps records) (all-filter (λ r. r.rows.n ≡ n) keeps records all)

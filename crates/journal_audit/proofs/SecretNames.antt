@@ -18,7 +18,8 @@ pub record StandsAt (cs : List Column) (place : ℕ) (c : Column) : Type 0 where
 
 stands_at : (cs : List Column) (place : ℕ) (c : Column) → slice_get cs place ≡ Some c → StandsAt cs place c
 stands_at [] place c here = absurd (false≢true (ap is_some here))
-stands_at (d ∷ cs) zero c here = let same = same_Some d c here in record { here = here; others = cs; all = ap (λ x. x ∷ cs) same; one_more = ap (λ x. x ∷ []) same }
+stands_at (d ∷ cs) zero c here =
+    let same = same_Some d c here in record { here = here; others = cs; all = ap (λ x. x ∷ cs) same; one_more = ap (λ x. x ∷ []) same }
 stands_at (d ∷ cs) (suc place) c here =
     let rest = stands_at cs place c here in
     record { here = here; others = rest.others; all = ap (λ l. d ∷ l) rest.all; one_more = ap (λ n. take n (d ∷ cs)) (add-one (suc place)) ∙ ap (λ l. d ∷ l) (ap (λ n. take n cs) (sym (add-one place)) ∙ rest.one_more) }
@@ -30,8 +31,10 @@ pub record IsSecretAt (cs : List Column) (place column : ℕ) : Type 0 where
   pub secret : is_secret c.role ≡ true
   pub counted : column ≡ secret_count (take place cs)
 
-by_role : (cs : List Column) (place column : ℕ) (c : Column) → slice_get cs place ≡ Some c → (b : Bool) → is_secret c.role ≡ b → cond b (Some (secret_count (take place cs))) None ≡ Some column → IsSecretAt cs place column
-by_role cs place column c here true secret is = record { c = c; at = stands_at cs place c here; secret = secret; counted = sym (same_Some (secret_count (take place cs)) column is) }
+by_role : (cs : List Column) (place column : ℕ) (c : Column) → slice_get cs place ≡ Some c → (b : Bool) → is_secret c.role ≡ b →
+    cond b (Some (secret_count (take place cs))) None ≡ Some column → IsSecretAt cs place column
+by_role cs place column c here true secret is =
+    record { c = c; at = stands_at cs place c here; secret = secret; counted = sym (same_Some (secret_count (take place cs)) column is) }
 by_role cs place column c here false secret is = absurd (false≢true (ap is_some is))
 
 found : (cs : List Column) (place column : ℕ) (o : Option Column) → slice_get cs place ≡ o →

@@ -54,7 +54,8 @@ whole_record shape text rest r at is breaks =
     let set_same : set_in shape.rows bytes ≡ set_in shape.rows text = set_in_longer shape text rest (omega (arith, is.long)) in
     let good : IsGoodRecordByte shape bytes at = record {
       column = λ e. omega (arith, first, is.column, is.column_below);
-      no_padding = λ e. let last : get_or text at 0 ≡ get_or (set_in shape.rows text) (set_size shape.rows - 1) 0 = set_last shape text at some_bytes (omega (arith, e)) in omega (arith, same, last, is.set.no_padding);
+      no_padding =
+          λ e. let last : get_or text at 0 ≡ get_or (set_in shape.rows text) (set_size shape.rows - 1) 0 = set_last shape text at some_bytes (omega (arith, e)) in omega (arith, same, last, is.set.no_padding);
       some = λ e none. is.some (is.set.rows_are ∙ sym (ap (rows_in shape.rows) set_same) ∙ none);
     } in
     elim breaks.stops [
@@ -62,13 +63,16 @@ whole_record shape text rest r at is breaks =
       | inr bad ↦ bad.1 good
     ]
   where
-    set_last : (shape : Shape) (text : List ℕ) (at : ℕ) → 0 < set_size shape.rows → at + 1 ≡ record_size shape → get_or text at 0 ≡ get_or (set_in shape.rows text) (set_size shape.rows - 1) 0
+    set_last : (shape : Shape) (text : List ℕ) (at : ℕ) → 0 < set_size shape.rows → at + 1 ≡ record_size shape →
+        get_or text at 0 ≡ get_or (set_in shape.rows text) (set_size shape.rows - 1) 0
     set_last shape text at some_bytes e =
         let last : 9 + (set_size shape.rows - 1) ≡ at = omega (arith, e, some_bytes) in
-        sym (get_or-take (set_size shape.rows) (drop 9 text) (set_size shape.rows - 1) 0 (omega (arith, some_bytes)) ∙ get_or-drop 9 text (set_size shape.rows - 1) 0 ∙ ap (λ k. get_or text k 0) last)
+        sym
+        (get_or-take (set_size shape.rows) (drop 9 text) (set_size shape.rows - 1) 0 (omega (arith, some_bytes)) ∙ get_or-drop 9 text (set_size shape.rows - 1) 0 ∙ ap (λ k. get_or text k 0) last)
 
 -- after fewer records than stand there, none is broken
-whole_records : (shape : Shape) (a b x y : List ℕ) (list others : List Answered) (at : ℕ) → AreRecords shape a list → AreRecords shape b others → length others < length list → a ++ x ≡ b ++ y → RecordBreaks shape y at → ⊥
+whole_records : (shape : Shape) (a b x y : List ℕ) (list others : List Answered) (at : ℕ) → AreRecords shape a list → AreRecords shape b others →
+    length others < length list → a ++ x ≡ b ++ y → RecordBreaks shape y at → ⊥
 whole_records shape a b x y [] others at p q fewer e breaks = absurd (omega arith)
 whole_records shape a b x y (r ∷ list) [] at p q fewer e breaks =
     let parts : p.0 ++ (p.1 ++ x) ≡ y = sym (append_assoc p.0 p.1 x) ∙ ap (λ front. front ++ x) (sym p.2) ∙ e ∙ ap (λ front. front ++ y) q in
@@ -79,12 +83,14 @@ whole_records shape a b x y (r ∷ list) (s ∷ others) at p q fewer e breaks =
     whole_records shape p.1 q.1 x y list others at p.4 q.4 (omega arith) first.1 breaks
 
 -- a whole group isn't broken
-whole_group : (shape : Shape) (left : ℕ) (text rest : List ℕ) (list : List Answered) (at : ℕ) → IsGroup shape text list → length list ≤ left → GroupBreaks shape left (text ++ rest) at → ⊥
+whole_group : (shape : Shape) (left : ℕ) (text rest : List ℕ) (list : List Answered) (at : ℕ) → IsGroup shape text list → length list ≤ left →
+    GroupBreaks shape left (text ++ rest) at → ⊥
 whole_group shape left [] rest list at group few breaks = absurd group
 whole_group shape left (count ∷ bytes) rest list at group few (inl (at_is, bad)) = bad (group.1, group.2, omega (arith, group.0, few))
 whole_group shape left (count ∷ bytes) rest list at group few (inr b) =
     let counts : count ≡ b.count = heads count b.count (bytes ++ rest) (b.whole ++ b.part) b.bytes_are in
-    whole_records shape bytes b.whole rest b.part list b.list b.place group.3 b.records (omega (arith, b.fewer, counts, group.0)) (tails count b.count (bytes ++ rest) (b.whole ++ b.part) b.bytes_are) b.breaks
+    whole_records shape bytes b.whole rest b.part list b.list b.place group.3 b.records (omega (arith, b.fewer, counts, group.0))
+    (tails count b.count (bytes ++ rest) (b.whole ++ b.part) b.bytes_are) b.breaks
 
 -- two records that are broken within one group are one
 same_record_breaks : (shape : Shape) (left : ℕ) (bytes : List ℕ) (a b : ℕ) → BreaksInRecord shape left bytes a → BreaksInRecord shape left bytes b → a ≡ b
@@ -106,7 +112,8 @@ same_record_breaks shape left bytes a b p q =
         p.at_is ∙ ap (λ t. 1 + length t + p.place) same.text ∙ ap (λ k. 1 + length q.whole + k) place ∙ sym q.at_is
 
 not_a_count : (shape : Shape) (left : ℕ) (bytes : List ℕ) (a : ℕ) → CountBreaks left bytes → BreaksInRecord shape left bytes a → ⊥
-not_a_count shape left bytes a bad b = let broken : CountBreaks left (b.count ∷ (b.whole ++ b.part)) = subst (CountBreaks left) b.bytes_are bad in broken b.good_count
+not_a_count shape left bytes a bad b =
+    let broken : CountBreaks left (b.count ∷ (b.whole ++ b.part)) = subst (CountBreaks left) b.bytes_are bad in broken b.good_count
 
 -- one place breaks a group
 group_once : (shape : Shape) (left : ℕ) (bytes : List ℕ) (a b : ℕ) → GroupBreaks shape left bytes a → GroupBreaks shape left bytes b → a ≡ b

@@ -21,13 +21,15 @@ header_breaks_longer front rest at long breaks =
     let inside : at < length front = omega (arith, long, breaks.within) in
     header_breaks_up_to front (front ++ rest) at (same_front front rest at inside) inside breaks
 
-record_breaks_longer : (shape : Shape) (part rest : List ℕ) (place : ℕ) → place < length part → RecordBreaks shape part place → RecordBreaks shape (part ++ rest) place
+record_breaks_longer : (shape : Shape) (part rest : List ℕ) (place : ℕ) → place < length part → RecordBreaks shape part place →
+    RecordBreaks shape (part ++ rest) place
 record_breaks_longer shape part rest place inside breaks = record_breaks_up_to shape part (part ++ rest) place (same_front part rest place inside) inside breaks
 
 -- the most bytes of records, groups and their texts
 records_long : (shape : Shape) (bytes : List ℕ) (list : List Answered) → IsShape shape → AreRecords shape bytes list → length bytes ≤ 137 * length list
 records_long shape bytes [] shaped none = omega (arith, ap length none)
-records_long shape bytes (r ∷ list) shaped some = let rest = records_long shape some.1 list shaped some.4 in omega (arith, rest, ap length some.2, length-append some.0 some.1, some.3.long, shaped.at_most)
+records_long shape bytes (r ∷ list) shaped some =
+    let rest = records_long shape some.1 list shaped some.4 in omega (arith, rest, ap length some.2, length-append some.0 some.1, some.3.long, shaped.at_most)
 
 pub group_long : (shape : Shape) (text : List ℕ) (list : List Answered) → IsShape shape → IsGroup shape text list → length text + 1 ≤ 139 * length list
 group_long shape [] list shaped group = absurd group
@@ -44,14 +46,16 @@ texts_long shape (g ∷ gs) shaped whole =
 
 -- the gate of so many records is no farther
 pub gate_within : (file : List ℕ) (shape : Shape) (history : List Answered) (gate : ℕ) → StandsAt file shape history gate → gate ≤ 20 + 139 * length history
-gate_within file shape history gate stands = omega (arith, stands.gate_is, texts_long shape stands.groups stands.begins.shaped.valid stands.begins.whole, ap length stands.history_is)
+gate_within file shape history gate stands =
+    omega (arith, stands.gate_is, texts_long shape stands.groups stands.begins.shaped.valid stands.begins.whole, ap length stands.history_is)
 
 none_left : (left : ℕ) (rest : List ℕ) → left ≡ 0 → CountBreaks left rest
 none_left left [] none = tt
 none_left left (count ∷ rest) none = λ good. omega (arith, good.0, good.2, none)
 
 -- where the bytes are as many as the records that may still come could need, more of them change no break
-group_breaks_longer : (shape : Shape) (left : ℕ) (bytes rest : List ℕ) (at : ℕ) → IsShape shape → 139 * left ≤ length bytes → GroupBreaks shape left bytes at → GroupBreaks shape left (bytes ++ rest) at
+group_breaks_longer : (shape : Shape) (left : ℕ) (bytes rest : List ℕ) (at : ℕ) → IsShape shape → 139 * left ≤ length bytes → GroupBreaks shape left bytes at →
+    GroupBreaks shape left (bytes ++ rest) at
 group_breaks_longer shape left [] rest at shaped long (inl breaks) = inl (breaks.0, none_left left rest (omega (arith, long)))
 group_breaks_longer shape left (count ∷ bytes) rest at shaped long (inl breaks) = inl breaks
 group_breaks_longer shape left bytes rest at shaped long (inr b) =
@@ -75,20 +79,25 @@ group_breaks_longer shape left bytes rest at shaped long (inr b) =
       at_is = b.at_is;
     })
 
-begins_longer : (front rest : List ℕ) (shape : Shape) (groups : List Written) (behind : List ℕ) → Begins front shape groups behind → Begins (front ++ rest) shape groups (behind ++ rest)
+begins_longer : (front rest : List ℕ) (shape : Shape) (groups : List Written) (behind : List ℕ) → Begins front shape groups behind →
+    Begins (front ++ rest) shape groups (behind ++ rest)
 begins_longer front rest shape groups behind begins = record {
   shaped = begins.shaped;
   whole = begins.whole;
-  file_is = ap (λ l. l ++ rest) begins.file_is ∙ append_assoc (header shape) (texts groups ++ behind) rest ∙ ap (λ l. header shape ++ l) (append_assoc (texts groups) behind rest);
+  file_is =
+      ap (λ l. l ++ rest) begins.file_is ∙ append_assoc (header shape) (texts groups ++ behind) rest
+      ∙ ap (λ l. header shape ++ l) (append_assoc (texts groups) behind rest);
   few = begins.few;
 }
 
-stands_longer : (front rest : List ℕ) (shape : Shape) (history : List Answered) (gate : ℕ) → StandsAt front shape history gate → StandsAt (front ++ rest) shape history gate
+stands_longer : (front rest : List ℕ) (shape : Shape) (history : List Answered) (gate : ℕ) → StandsAt front shape history gate →
+    StandsAt (front ++ rest) shape history gate
 stands_longer front rest shape history gate stands = record {
   groups = stands.groups;
   behind = stands.behind ++ rest;
   begins = begins_longer front rest shape stands.groups stands.behind stands.begins;
-  ends = record { gate = stands.ends.gate; rest = stands.ends.rest ++ rest; bytes_are = ap (λ l. l ++ rest) stands.ends.bytes_are; closed = stands.ends.closed };
+  ends =
+      record { gate = stands.ends.gate; rest = stands.ends.rest ++ rest; bytes_are = ap (λ l. l ++ rest) stands.ends.bytes_are; closed = stands.ends.closed };
   history_is = stands.history_is;
   gate_is = stands.gate_is;
 }
@@ -122,10 +131,13 @@ module _ (file : List ℕ) where
 
   -- what breaks the first twenty bytes breaks the file
   pub header_of_front : (at : ℕ) → 20 ≤ length file → HeaderBreaks (take 20 file) at → HeaderBreaks file at
-  header_of_front at long breaks = subst (λ l. HeaderBreaks l at) (whole 20) (header_breaks_longer (take 20 file) (drop 20 file) at (omega (arith, long, length-take 20 file)) breaks)
+  header_of_front at long breaks =
+      subst (λ l. HeaderBreaks l at) (whole 20) (header_breaks_longer (take 20 file) (drop 20 file) at (omega (arith, long, length-take 20 file)) breaks)
 
-  pub stands_by_front : (shape : Shape) (history : List Answered) (gate : ℕ) → StandsAt (take most_bytes file) shape history gate → StandsAt file shape history gate
-  stands_by_front shape history gate stands = subst (λ l. StandsAt l shape history gate) (whole most_bytes) (stands_longer (take most_bytes file) (drop most_bytes file) shape history gate stands)
+  pub stands_by_front : (shape : Shape) (history : List Answered) (gate : ℕ) → StandsAt (take most_bytes file) shape history gate →
+      StandsAt file shape history gate
+  stands_by_front shape history gate stands =
+      subst (λ l. StandsAt l shape history gate) (whole most_bytes) (stands_longer (take most_bytes file) (drop most_bytes file) shape history gate stands)
 
   pub breaks_in_front : (at : ℕ) → BreaksAt (take most_bytes file) at → BreaksAt file at
   breaks_in_front at breaks =
@@ -135,5 +147,7 @@ module _ (file : List ℕ) where
       ]
     where
       longer : most_bytes ≤ length file → BreaksAt (take most_bytes file) at → BreaksAt (take most_bytes file ++ drop most_bytes file) at
-      longer long (inl front) = inl (header_breaks_longer (take most_bytes file) (drop most_bytes file) at (omega (arith, long, length-take most_bytes file)) front)
-      longer long (inr behind) = inr (breaks_behind_longer (take most_bytes file) (drop most_bytes file) at (omega (arith, long, length-take most_bytes file)) behind)
+      longer long (inl front) =
+          inl (header_breaks_longer (take most_bytes file) (drop most_bytes file) at (omega (arith, long, length-take most_bytes file)) front)
+      longer long (inr behind) =
+          inr (breaks_behind_longer (take most_bytes file) (drop most_bytes file) at (omega (arith, long, length-take most_bytes file)) behind)

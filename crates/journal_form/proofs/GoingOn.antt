@@ -65,7 +65,8 @@ record Completes (good : List ℕ → ℕ → Type 0) (size : ℕ) (bytes : List
   good_all : AreGood good (bytes ++ more)
   small : AreBytes more
 
-completed : (good : List ℕ → ℕ → Type 0) (size missing : ℕ) (bytes : List ℕ) → IsByFront good → GoesOnBelow good size → length bytes + missing ≡ size → AreGood good bytes → Completes good size bytes
+completed : (good : List ℕ → ℕ → Type 0) (size missing : ℕ) (bytes : List ℕ) → IsByFront good → GoesOnBelow good size → length bytes + missing ≡ size →
+    AreGood good bytes → Completes good size bytes
 completed good size zero bytes by_front goes long are =
     let same : bytes ≡ bytes ++ [] = sym (append-nil bytes) in
     record { more = []; long = omega (arith, long, ap length same); good_all = subst (AreGood good) same are; small = tt }
@@ -85,13 +86,15 @@ record GoodBefore (good : List ℕ → ℕ → Type 0) (bytes : List ℕ) (at : 
   long : length (take at bytes) ≡ at
   are : AreGood good (take at bytes)
 
-good_before : (good : List ℕ → ℕ → Type 0) (size : ℕ) (bytes : List ℕ) (at : ℕ) → IsByFront good → FirstBad (good bytes) size bytes at → GoodBefore good bytes at
+good_before : (good : List ℕ → ℕ → Type 0) (size : ℕ) (bytes : List ℕ) (at : ℕ) → IsByFront good → FirstBad (good bytes) size bytes at →
+    GoodBefore good bytes at
 good_before good size bytes at by_front breaks =
     let within : at ≤ length bytes = elim breaks.stops [ inl ended ↦ omega (arith, ended) | inr bad ↦ omega (arith, bad.0) ] in
     let size_is : length (take at bytes) ≡ at = omega (arith, length-take at bytes, within) in
     record {
       long = size_is;
-      are = λ k lt. by_front bytes (take at bytes) k (sym (take-take (k + 1) at bytes (omega (arith, lt, size_is)))) (breaks.before k (omega (arith, lt, size_is)));
+      are =
+          λ k lt. by_front bytes (take at bytes) k (sym (take-take (k + 1) at bytes (omega (arith, lt, size_is)))) (breaks.before k (omega (arith, lt, size_is)));
     }
 
 -- ---- a header
@@ -100,7 +103,8 @@ front_bytes : AreBytes front
 front_bytes = (omega arith, (omega arith, (omega arith, (omega arith, (omega arith, (omega arith, (omega arith, (omega arith, (omega arith, tt)))))))))
 
 -- the number of rows, and that of columns
-middle_goes_on : (bytes : List ℕ) → 9 ≤ length bytes → length bytes < 12 → AreGood IsGoodHeaderByte bytes → (b : ℕ) × (b < 256) × IsGoodHeaderByte (bytes ++ b ∷ []) (length bytes)
+middle_goes_on : (bytes : List ℕ) → 9 ≤ length bytes → length bytes < 12 → AreGood IsGoodHeaderByte bytes →
+    (b : ℕ) × (b < 256) × IsGoodHeaderByte (bytes ++ b ∷ []) (length bytes)
 middle_goes_on bytes from below are =
     let n = length bytes in
     let high : 10 ≤ n → (b : ℕ) → (get_or (bytes ++ b ∷ []) 9 0 ≡ get_or bytes 9 0) × (get_or bytes 9 0 ≤ 4) = λ more b. (get_or-append bytes (b ∷ []) 0 9 (omega (arith, more)), (are 9 (omega (arith, more))).rows_high refl) in
@@ -152,7 +156,8 @@ header_begins file at small breaks =
         record {
           groups = [];
           behind = 0 ∷ [];
-          begins = record { shaped = read.0; whole = tt; file_is = sym (append_assoc (take at file) whole.more (0 ∷ [])) ∙ ap (λ l. l ++ 0 ∷ []) read.1; few = omega arith };
+          begins =
+              record { shaped = read.0; whole = tt; file_is = sym (append_assoc (take at file) whole.more (0 ∷ [])) ∙ ap (λ l. l ++ 0 ∷ []) read.1; few = omega arith };
           ends = record { gate = 0; rest = []; bytes_are = refl; closed = λ e. omega (arith, e) };
           history_is = refl;
           gate_is = refl;
@@ -199,7 +204,8 @@ record_goes_on shape some_column some_row bytes short are =
     ]
 
 -- good bytes as many as a record has are a record
-record_of : (shape : Shape) (bytes : List ℕ) → 0 < shape.rows → length bytes ≡ record_size shape → AreGood (IsGoodRecordByte shape) bytes → (r : Answered) × IsRecord shape bytes r
+record_of : (shape : Shape) (bytes : List ℕ) → 0 < shape.rows → length bytes ≡ record_size shape → AreGood (IsGoodRecordByte shape) bytes →
+    (r : Answered) × IsRecord shape bytes r
 record_of shape bytes some_row long are =
     let n = shape.rows in
     let size = set_size n in
@@ -232,7 +238,8 @@ some_records shape some_column some_row (suc count) =
 
 records_append : (shape : Shape) (a b : List ℕ) (xs ys : List Answered) → AreRecords shape a xs → AreRecords shape b ys → AreRecords shape (a ++ b) (xs ++ ys)
 records_append shape a b [] ys none are = subst (λ front. AreRecords shape (front ++ b) ys) (sym none) are
-records_append shape a b (r ∷ xs) ys some are = (some.0, some.1 ++ b, ap (λ l. l ++ b) some.2 ∙ append_assoc some.0 some.1 b, some.3, records_append shape some.1 b xs ys some.4 are)
+records_append shape a b (r ∷ xs) ys some are =
+    (some.0, some.1 ++ b, ap (λ l. l ++ b) some.2 ∙ append_assoc some.0 some.1 b, some.3, records_append shape some.1 b xs ys some.4 are)
 
 -- ---- a group
 
@@ -244,7 +251,8 @@ record BeginsGroup (shape : Shape) (left : ℕ) (bytes : List ℕ) : Type 0 wher
   few : length list ≤ left
   small : AreBytes more
 
-group_begins : (shape : Shape) (left : ℕ) (bytes : List ℕ) (at : ℕ) → 0 < columns shape → 0 < shape.rows → 0 < left → GroupBreaks shape left bytes at → BeginsGroup shape left (take at bytes)
+group_begins : (shape : Shape) (left : ℕ) (bytes : List ℕ) (at : ℕ) → 0 < columns shape → 0 < shape.rows → 0 < left → GroupBreaks shape left bytes at →
+    BeginsGroup shape left (take at bytes)
 group_begins shape left bytes at some_column some_row room (inl count) =
     let one = some_records shape some_column some_row 1 in
     let whole : BeginsGroup shape left [] = record { more = 1 ∷ one.text; list = one.list; is = (sym one.as_many, omega arith, omega arith, one.are); few = omega (arith, one.as_many, room); small = (omega arith, one.small) } in
@@ -279,7 +287,8 @@ groups_push shape (h ∷ gs) g all is = (all.0, groups_push shape gs g all.1 is)
 texts_push : (gs : List Written) (g : Written) (behind : List ℕ) → texts (gs ++ g ∷ []) ++ behind ≡ texts gs ++ (1 ∷ (g.text ++ behind))
 texts_push gs g behind =
     let one : texts (g ∷ []) ≡ 1 ∷ g.text = flat_map-cons (λ (w : Written). 1 ∷ w.text) g [] ∙ append-nil (1 ∷ g.text) in
-    ap (λ l. l ++ behind) (flat_map-append (λ (w : Written). 1 ∷ w.text) gs (g ∷ []) ∙ ap (λ l. texts gs ++ l) one) ∙ append_assoc (texts gs) (1 ∷ g.text) behind
+    ap (λ l. l ++ behind) (flat_map-append (λ (w : Written). 1 ∷ w.text) gs (g ∷ []) ∙ ap (λ l. texts gs ++ l) one)
+    ∙ append_assoc (texts gs) (1 ∷ g.text) behind
 
 records_push : (gs : List Written) (g : Written) → length (records (gs ++ g ∷ [])) ≡ length (records gs) + length g.list
 records_push gs g =
@@ -287,7 +296,8 @@ records_push gs g =
     ap length (flat_map-append (λ (w : Written). w.list) gs (g ∷ []) ∙ ap (λ l. records gs ++ l) one) ∙ length-append (records gs) g.list
 
 -- whole groups and a closed gate
-closed_behind : (file : List ℕ) (shape : Shape) (groups : List Written) → Begins file shape groups (0 ∷ []) → (gate : ℕ) × StandsAt file shape (records groups) gate
+closed_behind : (file : List ℕ) (shape : Shape) (groups : List Written) → Begins file shape groups (0 ∷ []) →
+    (gate : ℕ) × StandsAt file shape (records groups) gate
 closed_behind file shape groups begins = (
   gate_behind groups,
   record {
@@ -320,7 +330,8 @@ end_begins file at b none at_is =
     }
 
 -- behind an open gate a group goes on from what isn't broken of it
-gate_begins : (file : List ℕ) (at : ℕ) (b : BreaksBehind file at) (group : List ℕ) (place : ℕ) → MayFollow b.shape b.groups → b.behind ≡ 1 ∷ group → GroupBreaks b.shape (most_records - length (records b.groups)) group place → at ≡ gate_behind b.groups + 1 + place
+gate_begins : (file : List ℕ) (at : ℕ) (b : BreaksBehind file at) (group : List ℕ) (place : ℕ) → MayFollow b.shape b.groups → b.behind ≡ 1 ∷ group
+    → GroupBreaks b.shape (most_records - length (records b.groups)) group place → at ≡ gate_behind b.groups + 1 + place
     → BeginsJournal (take at file)
 gate_begins file at b group place follow behind_is breaks at_is =
     let front = header b.shape in
@@ -341,7 +352,9 @@ gate_begins file at b group place follow behind_is breaks at_is =
       stands = closed_behind (take at file ++ (begun.more ++ 0 ∷ [])) b.shape (b.groups ++ last ∷ []) (record {
         shaped = b.begins.shaped;
         whole = groups_push b.shape b.groups last b.begins.whole begun.is;
-        file_is = ap (λ l. l ++ (begun.more ++ 0 ∷ [])) cut ∙ joined ∙ gate_between front (texts b.groups) (text ++ 0 ∷ []) ∙ ap (λ l. front ++ l) (sym (texts_push b.groups last (0 ∷ [])));
+        file_is =
+            ap (λ l. l ++ (begun.more ++ 0 ∷ [])) cut ∙ joined ∙ gate_between front (texts b.groups) (text ++ 0 ∷ [])
+            ∙ ap (λ l. front ++ l) (sym (texts_push b.groups last (0 ∷ [])));
         few = omega (arith, records_push b.groups last, begun.few, follow.1);
       });
     }

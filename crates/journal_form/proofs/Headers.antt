@@ -23,7 +23,8 @@ front_byte bytes k lt e = record {
 }
 
 -- a byte of the number of rows, or the number of columns
-pub middle_byte : (bytes : List ℕ) (k : ℕ) → 9 ≤ k → k < 12 → (k ≡ 9 → get_or bytes 9 0 ≤ 4) → (k ≡ 10 → (0 < rows_of_header bytes) × (rows_of_header bytes ≤ 1024)) → (k ≡ 11 → get_or bytes 11 0 ≤ 8) → IsGoodHeaderByte bytes k
+pub middle_byte : (bytes : List ℕ) (k : ℕ) → 9 ≤ k → k < 12 → (k ≡ 9 → get_or bytes 9 0 ≤ 4) →
+    (k ≡ 10 → (0 < rows_of_header bytes) × (rows_of_header bytes ≤ 1024)) → (k ≡ 11 → get_or bytes 11 0 ≤ 8) → IsGoodHeaderByte bytes k
 middle_byte bytes k from below high low few = record {
   front = λ lt. absurd (omega arith);
   rows_high = high;
@@ -34,7 +35,8 @@ middle_byte bytes k from below high low few = record {
 }
 
 -- the bytes before a place of the middle, where those of the front are good
-pub before_middle : (bytes : List ℕ) (at : ℕ) → ((k : ℕ) → k < 9 → IsGoodHeaderByte bytes k) → at ≤ 12 → (9 < at → get_or bytes 9 0 ≤ 4) → (10 < at → (0 < rows_of_header bytes) × (rows_of_header bytes ≤ 1024)) → (11 < at → get_or bytes 11 0 ≤ 8) → (k : ℕ) → k < at → IsGoodHeaderByte bytes k
+pub before_middle : (bytes : List ℕ) (at : ℕ) → ((k : ℕ) → k < 9 → IsGoodHeaderByte bytes k) → at ≤ 12 → (9 < at → get_or bytes 9 0 ≤ 4) →
+    (10 < at → (0 < rows_of_header bytes) × (rows_of_header bytes ≤ 1024)) → (11 < at → get_or bytes 11 0 ≤ 8) → (k : ℕ) → k < at → IsGoodHeaderByte bytes k
 before_middle bytes at front most high low few k lt =
     elim (cases_lt k 9) [
       | inl below ↦ front k below
@@ -42,7 +44,8 @@ before_middle bytes at front most high low few k lt =
     ]
 
 -- a kind byte
-pub kind_byte : (bytes : List ℕ) (k : ℕ) → 12 ≤ k → (k < 12 + get_or bytes 11 0 → (get_or bytes k 0 ≡ 1) ⊎ (get_or bytes k 0 ≡ 2)) → (12 + get_or bytes 11 0 ≤ k → get_or bytes k 0 ≡ 0) → IsGoodHeaderByte bytes k
+pub kind_byte : (bytes : List ℕ) (k : ℕ) → 12 ≤ k → (k < 12 + get_or bytes 11 0 → (get_or bytes k 0 ≡ 1) ⊎ (get_or bytes k 0 ≡ 2)) →
+    (12 + get_or bytes 11 0 ≤ k → get_or bytes k 0 ≡ 0) → IsGoodHeaderByte bytes k
 kind_byte bytes k from kind no_kind = record {
   front = λ lt. absurd (omega arith);
   rows_high = λ at. absurd (omega arith);
@@ -65,13 +68,17 @@ one_counted b (inl e) = rw e refl
 one_counted b (inr e) = rw e refl
 
 -- 1 or 2 for each column, and 0 after them
-pub are_kinds : (kinds : List ℕ) (columns : ℕ) → columns ≤ length kinds → ((k : ℕ) → k < columns → (get_or kinds k 0 ≡ 1) ⊎ (get_or kinds k 0 ≡ 2)) → ((k : ℕ) → k < length kinds → columns ≤ k → get_or kinds k 0 ≡ 0) → AreKinds kinds
+pub are_kinds : (kinds : List ℕ) (columns : ℕ) → columns ≤ length kinds → ((k : ℕ) → k < columns → (get_or kinds k 0 ≡ 1) ⊎ (get_or kinds k 0 ≡ 2)) →
+    ((k : ℕ) → k < length kinds → columns ≤ k → get_or kinds k 0 ≡ 0) → AreKinds kinds
 are_kinds [] columns le some none = tt
 are_kinds (b ∷ kinds) zero le some none = inr (none 0 (omega arith) (omega arith), all_zero kinds (λ k lt. none (suc k) (omega arith) (omega arith)))
-are_kinds (b ∷ kinds) (suc columns) le some none = inl (some 0 (omega arith), are_kinds kinds columns (omega arith) (λ k lt. some (suc k) (omega arith)) (λ k lt from. none (suc k) (omega arith) (omega arith)))
+are_kinds (b ∷ kinds) (suc columns) le some none =
+    inl
+    (some 0 (omega arith), are_kinds kinds columns (omega arith) (λ k lt. some (suc k) (omega arith)) (λ k lt from. none (suc k) (omega arith) (omega arith)))
 
 -- there are as many columns as kinds that aren't 0
-pub count_kinds : (kinds : List ℕ) (columns : ℕ) → columns ≤ length kinds → ((k : ℕ) → k < columns → (get_or kinds k 0 ≡ 1) ⊎ (get_or kinds k 0 ≡ 2)) → ((k : ℕ) → k < length kinds → columns ≤ k → get_or kinds k 0 ≡ 0) → count_by (λ b. nat_lt 0 b) kinds ≡ columns
+pub count_kinds : (kinds : List ℕ) (columns : ℕ) → columns ≤ length kinds → ((k : ℕ) → k < columns → (get_or kinds k 0 ≡ 1) ⊎ (get_or kinds k 0 ≡ 2)) →
+    ((k : ℕ) → k < length kinds → columns ≤ k → get_or kinds k 0 ≡ 0) → count_by (λ b. nat_lt 0 b) kinds ≡ columns
 count_kinds [] columns le some none = omega arith
 count_kinds (b ∷ kinds) zero le some none = none_counted (b ∷ kinds) (all_zero (b ∷ kinds) (λ k lt. none k lt (omega arith)))
 count_kinds (b ∷ kinds) (suc columns) le some none =
@@ -83,7 +90,8 @@ count_kinds (b ∷ kinds) (suc columns) le some none =
 kinds_before : (kinds : List ℕ) (k : ℕ) → AreKinds kinds → k < count_by (λ b. nat_lt 0 b) kinds → (get_or kinds k 0 ≡ 1) ⊎ (get_or kinds k 0 ≡ 2)
 kinds_before [] k are lt = absurd (omega arith)
 kinds_before (b ∷ kinds) zero (inl some) lt = some.0
-kinds_before (b ∷ kinds) (suc k) (inl some) lt = kinds_before kinds k some.1 (omega (arith, one_counted b some.0, sum_by-cons (λ x. cond (nat_lt 0 x) 1 0) b kinds))
+kinds_before (b ∷ kinds) (suc k) (inl some) lt =
+    kinds_before kinds k some.1 (omega (arith, one_counted b some.0, sum_by-cons (λ x. cond (nat_lt 0 x) 1 0) b kinds))
 kinds_before (b ∷ kinds) k (inr none) lt = absurd (omega (arith, none_counted (b ∷ kinds) none))
 
 zeros : (kinds : List ℕ) (k : ℕ) → AllByRecursion (λ b. b ≡ 0) kinds → get_or kinds k 0 ≡ 0
@@ -95,7 +103,8 @@ zeros (b ∷ kinds) (suc k) all = zeros kinds k all.1
 zeros_behind : (kinds : List ℕ) (k : ℕ) → AreKinds kinds → count_by (λ b. nat_lt 0 b) kinds ≤ k → get_or kinds k 0 ≡ 0
 zeros_behind [] k are le = refl
 zeros_behind (b ∷ kinds) zero (inl some) le = absurd (omega (arith, one_counted b some.0, sum_by-cons (λ x. cond (nat_lt 0 x) 1 0) b kinds))
-zeros_behind (b ∷ kinds) (suc k) (inl some) le = zeros_behind kinds k some.1 (omega (arith, one_counted b some.0, sum_by-cons (λ x. cond (nat_lt 0 x) 1 0) b kinds))
+zeros_behind (b ∷ kinds) (suc k) (inl some) le =
+    zeros_behind kinds k some.1 (omega (arith, one_counted b some.0, sum_by-cons (λ x. cond (nat_lt 0 x) 1 0) b kinds))
 zeros_behind (b ∷ kinds) k (inr none) le = zeros (b ∷ kinds) k none
 
 -- each byte of a shape's header is good, whatever stands after it
@@ -110,7 +119,8 @@ header_is_good shape rest k whole lt =
       rows_high = λ at. omega (arith, whole.valid.at_most);
       rows_low = λ at. (omega (arith, rows, whole.valid.some_rows), omega (arith, rows, whole.valid.at_most));
       columns = λ at. omega (arith, count_by-le-length (λ b. nat_lt 0 b) kinds, whole.eight);
-      kind = λ from below. elim (kinds_before kinds (k - 12) whole.valid.kinds (omega (arith, below))) [ inl one ↦ inl (kind_byte from ∙ one) | inr two ↦ inr (kind_byte from ∙ two) ];
+      kind =
+          λ from below. elim (kinds_before kinds (k - 12) whole.valid.kinds (omega (arith, below))) [ inl one ↦ inl (kind_byte from ∙ one) | inr two ↦ inr (kind_byte from ∙ two) ];
       no_kind = λ from. kind_byte (omega (arith, from)) ∙ zeros_behind kinds (k - 12) whole.valid.kinds (omega (arith, from));
     }
   where
@@ -123,7 +133,8 @@ shape_of bytes = record { rows = get_or bytes 9 0 * 256 + get_or bytes 10 0; kin
 
 module _ (bytes : List ℕ) (twenty : length bytes ≡ 20) (in_range : (k : ℕ) → get_or bytes k 0 < 256) (good : (k : ℕ) → k < 20 → IsGoodHeaderByte bytes k) where
   some_kind : (k : ℕ) → k < get_or bytes 11 0 → (get_or (drop 12 bytes) k 0 ≡ 1) ⊎ (get_or (drop 12 bytes) k 0 ≡ 2)
-  some_kind k lt = let few = (good 11 (omega arith)).columns refl in rw (get_or-drop 12 bytes k 0) ((good (12 + k) (omega arith)).kind (omega arith) (omega arith))
+  some_kind k lt =
+      let few = (good 11 (omega arith)).columns refl in rw (get_or-drop 12 bytes k 0) ((good (12 + k) (omega arith)).kind (omega arith) (omega arith))
 
   no_kind : (k : ℕ) → k < length (drop 12 bytes) → get_or bytes 11 0 ≤ k → get_or (drop 12 bytes) k 0 ≡ 0
   no_kind k lt from = rw (get_or-drop 12 bytes k 0) ((good (12 + k) (omega (arith, lt, length-drop 12 bytes, twenty))).no_kind (omega arith))
@@ -182,7 +193,8 @@ module _ (bytes : List ℕ) (twenty : length bytes ≡ 20) (in_range : (k : ℕ)
       cc
 
   -- twenty good bytes are the header of the shape that is read from them
-  pub header_is_read : let shape : Shape = record { rows = get_or bytes 9 0 * 256 + get_or bytes 10 0; kinds = get_or bytes 12 0 ∷ get_or bytes 13 0 ∷ get_or bytes 14 0 ∷ get_or bytes 15 0 ∷ get_or bytes 16 0 ∷ get_or bytes 17 0 ∷ get_or bytes 18 0 ∷ get_or bytes 19 0 ∷ [] } in IsWholeShape shape × (bytes ≡ header shape)
+  pub header_is_read : let shape : Shape =
+      record { rows = get_or bytes 9 0 * 256 + get_or bytes 10 0; kinds = get_or bytes 12 0 ∷ get_or bytes 13 0 ∷ get_or bytes 14 0 ∷ get_or bytes 15 0 ∷ get_or bytes 16 0 ∷ get_or bytes 17 0 ∷ get_or bytes 18 0 ∷ get_or bytes 19 0 ∷ [] } in IsWholeShape shape × (bytes ≡ header shape)
   header_is_read =
       let P : List ℕ → Type 0 = λ kinds. let shape : Shape = record { rows = get_or bytes 9 0 * 256 + get_or bytes 10 0; kinds = kinds } in IsWholeShape shape × (bytes ≡ header shape) in
       subst P kinds_are (whole_shape, is_header)

@@ -34,8 +34,10 @@ pub record SameRecords (a b x y : List ℕ) (list others : List Answered) : Type
   pub list_same : list ≡ others
   pub behind : x ≡ y
 
-pub same_records : (shape : Shape) (a b x y : List ℕ) (list others : List Answered) → length list ≡ length others → AreRecords shape a list → AreRecords shape b others → a ++ x ≡ b ++ y → SameRecords a b x y list others
-same_records shape a b x y [] [] long p q e = let text : a ≡ b = p ∙ sym q in record { text = text; list_same = refl; behind = (same_front a b x y (ap length text) e).1 }
+pub same_records : (shape : Shape) (a b x y : List ℕ) (list others : List Answered) → length list ≡ length others → AreRecords shape a list →
+    AreRecords shape b others → a ++ x ≡ b ++ y → SameRecords a b x y list others
+same_records shape a b x y [] [] long p q e =
+    let text : a ≡ b = p ∙ sym q in record { text = text; list_same = refl; behind = (same_front a b x y (ap length text) e).1 }
 same_records shape a b x y [] (s ∷ others) long p q e = absurd (omega arith)
 same_records shape a b x y (r ∷ list) [] long p q e = absurd (omega arith)
 same_records shape a b x y (r ∷ list) (s ∷ others) long p q e =
@@ -55,7 +57,8 @@ heads a b xs ys e = cc
 pub tails : (a b : ℕ) (xs ys : List ℕ) → a ∷ xs ≡ b ∷ ys → xs ≡ ys
 tails a b xs ys e = cc
 
-same_group : (shape : Shape) (text other more rest : List ℕ) (list others : List Answered) → IsGroup shape text list → IsGroup shape other others → text ++ more ≡ other ++ rest → SameRecords text other more rest list others
+same_group : (shape : Shape) (text other more rest : List ℕ) (list others : List Answered) → IsGroup shape text list → IsGroup shape other others →
+    text ++ more ≡ other ++ rest → SameRecords text other more rest list others
 same_group shape [] other more rest list others p q e = absurd p
 same_group shape (count ∷ bytes) [] more rest list others p q e = absurd q
 same_group shape (count ∷ bytes) (number ∷ body) more rest list others p q e =
@@ -63,7 +66,8 @@ same_group shape (count ∷ bytes) (number ∷ body) more rest list others p q e
     let same = same_records shape bytes body more rest list others (sym p.0 ∙ counts ∙ q.0) p.3 q.3 (tails count number (bytes ++ more) (body ++ rest) e) in
     record { text = ap (λ k. k ∷ bytes) counts ∙ ap (λ t. number ∷ t) same.text; list_same = same.list_same; behind = same.behind }
 
-pub no_begins : (shape : Shape) (text other more rest : List ℕ) (list others : List Answered) → IsGroup shape text list → IsGroup shape other others → text ++ more ≡ other ++ rest → (text ≡ other) × (list ≡ others)
+pub no_begins : (shape : Shape) (text other more rest : List ℕ) (list others : List Answered) → IsGroup shape text list → IsGroup shape other others →
+    text ++ more ≡ other ++ rest → (text ≡ other) × (list ≡ others)
 no_begins shape text other more rest list others p q e = let same = same_group shape text other more rest list others p q e in (same.text, same.list_same)
 
 -- groups that tell each other's bytes and records, and what stands after them
@@ -81,7 +85,8 @@ count_more before g gs = omega (arith, ap length (flat_map-cons (λ group. group
 
 -- after so many records no group stands here that the journal may still hold
 unfoldable pub NoGroup : Shape → ℕ → List ℕ → Type 0
-NoGroup shape before bytes = (text rest : List ℕ) (list : List Answered) → IsGroup shape text list → length list ≤ 65536 - before → bytes ≡ 1 ∷ (text ++ rest) → ⊥
+NoGroup shape before bytes =
+    (text rest : List ℕ) (list : List Answered) → IsGroup shape text list → length list ≤ 65536 - before → bytes ≡ 1 ∷ (text ++ rest) → ⊥
 
 -- a closed gate ends the groups
 pub closed_ends : (shape : Shape) (before : ℕ) (x : List ℕ) → IsClosed x → NoGroup shape before x
@@ -89,7 +94,8 @@ unfolding NoGroup
 closed_ends shape before x closed text rest list group few e = closed.closed (heads closed.gate 1 closed.rest (text ++ rest) (sym closed.bytes_are ∙ e))
 
 -- the bytes tell the groups up to a place where no more stand
-pub same_groups : (shape : Shape) (before : ℕ) (gs hs : List Written) (x y : List ℕ) → AreGroups shape gs → AreGroups shape hs → before + length (records gs) ≤ 65536 → before + length (records hs) ≤ 65536
+pub same_groups : (shape : Shape) (before : ℕ) (gs hs : List Written) (x y : List ℕ) → AreGroups shape gs → AreGroups shape hs
+    → before + length (records gs) ≤ 65536 → before + length (records hs) ≤ 65536
     → NoGroup shape (before + length (records gs)) x → NoGroup shape (before + length (records hs)) y → texts gs ++ x ≡ texts hs ++ y → SameGroups gs hs x y
 unfolding NoGroup
 same_groups shape before [] [] x y p q some few ends stops e = record { texts_same = refl; records_same = refl; behind = e }
@@ -104,8 +110,12 @@ same_groups shape before (g ∷ gs) (h ∷ hs) x y p q some few ends stops e =
     let at_h : before + length (records (h ∷ hs)) ≡ (before + length g.list) + length (records hs) = count_more before h hs ∙ ap (λ l. (before + length l) + length (records hs)) (sym first.list_same) in
     let rest = same_groups shape (before + length g.list) gs hs x y p.1 q.1 (omega (arith, some, at_g)) (omega (arith, few, at_h)) (subst (λ n. NoGroup shape n x) at_g ends) (subst (λ n. NoGroup shape n y) at_h stops) first.behind in
     record {
-      texts_same = flat_map-cons (λ group. 1 ∷ group.text) g gs ∙ ap (λ t. 1 ∷ (t ++ texts gs)) first.text ∙ ap (λ t. 1 ∷ (h.text ++ t)) rest.texts_same ∙ sym (flat_map-cons (λ group. 1 ∷ group.text) h hs);
-      records_same = flat_map-cons (λ group. group.list) g gs ∙ ap (λ t. t ++ records gs) first.list_same ∙ ap (λ t. h.list ++ t) rest.records_same ∙ sym (flat_map-cons (λ group. group.list) h hs);
+      texts_same =
+          flat_map-cons (λ group. 1 ∷ group.text) g gs ∙ ap (λ t. 1 ∷ (t ++ texts gs)) first.text ∙ ap (λ t. 1 ∷ (h.text ++ t)) rest.texts_same
+          ∙ sym (flat_map-cons (λ group. 1 ∷ group.text) h hs);
+      records_same =
+          flat_map-cons (λ group. group.list) g gs ∙ ap (λ t. t ++ records gs) first.list_same ∙ ap (λ t. h.list ++ t) rest.records_same
+          ∙ sym (flat_map-cons (λ group. group.list) h hs);
       behind = rest.behind;
     }
 
@@ -114,7 +124,8 @@ record SameHeader (shape other : Shape) (x y : List ℕ) : Type 0 where
   shape_same : shape ≡ other
   behind : x ≡ y
 
-same_header : (shape other : Shape) (x y : List ℕ) → IsWholeShape shape → IsWholeShape other → header shape ++ x ≡ header other ++ y → SameHeader shape other x y
+same_header : (shape other : Shape) (x y : List ℕ) → IsWholeShape shape → IsWholeShape other → header shape ++ x ≡ header other ++ y →
+    SameHeader shape other x y
 same_header shape other x y p q e =
     let high : shape.rows / 256 ≡ other.rows / 256 = cc in
     let low : shape.rows % 256 ≡ other.rows % 256 = cc in
@@ -127,7 +138,8 @@ same_header shape other x y p q e =
     }
 
 -- a journal's bytes tell its shape and groups, up to a place where no more stand
-pub same_begins : (file : List ℕ) (shape other : Shape) (gs hs : List Written) (x y : List ℕ) → Begins file shape gs x → Begins file other hs y → NoGroup shape (length (records gs)) x → NoGroup other (length (records hs)) y
+pub same_begins : (file : List ℕ) (shape other : Shape) (gs hs : List Written) (x y : List ℕ) → Begins file shape gs x → Begins file other hs y
+    → NoGroup shape (length (records gs)) x → NoGroup other (length (records hs)) y
     → (shape ≡ other) × SameGroups gs hs x y
 same_begins file shape other gs hs x y p q ends stops =
     let front = same_header shape other (texts gs ++ x) (texts hs ++ y) p.shaped q.shaped (sym p.file_is ∙ q.file_is) in
@@ -138,7 +150,8 @@ same_begins file shape other gs hs x y p q ends stops =
           (subst (λ n. NoGroup other n x) at_g (subst (λ s. NoGroup s (length (records gs)) x) front.shape_same ends)) (subst (λ n. NoGroup other n y) at_h stops) front.behind,
     )
 
-pub reads_once : (file : List ℕ) (shape other : Shape) (history others : List Answered) (gate place : ℕ) → StandsAt file shape history gate → StandsAt file other others place → (shape ≡ other) × (history ≡ others) × (gate ≡ place)
+pub reads_once : (file : List ℕ) (shape other : Shape) (history others : List Answered) (gate place : ℕ) → StandsAt file shape history gate →
+    StandsAt file other others place → (shape ≡ other) × (history ≡ others) × (gate ≡ place)
 reads_once file shape other history others gate place p q =
     let same = same_begins file shape other p.groups q.groups p.behind q.behind p.begins q.begins (closed_ends shape (length (records p.groups)) p.behind p.ends) (closed_ends other (length (records q.groups)) q.behind q.ends) in
     (same.0, p.history_is ∙ same.1.records_same ∙ sym q.history_is, p.gate_is ∙ ap (λ t. 20 + length t) same.1.texts_same ∙ sym q.gate_is)

@@ -16,7 +16,8 @@ pub text_behind : (out : List ℕ) (column : ℕ) (answer set : List ℕ) → ((
 text_behind out column answer set = append_assoc (out ++ column ∷ []) answer set ∙ append_assoc out (column ∷ []) (answer ++ set)
 
 -- the bytes that are written are the record
-pub record_written : (shape : Shape) (r : Answered) (set : List ℕ) → FitsShape shape r.column r.rows → FitsSigned w64 r.answer → IsSet r.rows.n set r.rows.list → IsRecord shape (r.column ∷ (to_be_bytes w64 (cast_unsigned w64 r.answer) ++ set)) r
+pub record_written : (shape : Shape) (r : Answered) (set : List ℕ) → FitsShape shape r.column r.rows → FitsSigned w64 r.answer →
+    IsSet r.rows.n set r.rows.list → IsRecord shape (r.column ∷ (to_be_bytes w64 (cast_unsigned w64 r.answer) ++ set)) r
 record_written shape r set fits in_range is_set =
     let same : IsSet shape.rows set r.rows.list = subst (λ n. IsSet n set r.rows.list) fits.same_n is_set in
     let front : take (set_size shape.rows) set ≡ set = ap (λ n. take n set) (sym same.long) ∙ take-length set in
@@ -31,7 +32,8 @@ record_written shape r set fits in_range is_set =
     }
 
 -- the bytes that are read are the record
-pub record_read : (shape : Shape) (bytes : List ℕ) (r : Answered) → record_size shape ≤ length bytes → get_or bytes 0 0 ≡ r.column → r.column < columns shape → r.answer ≡ cast_signed w64 (from_be_bytes w64 (take 8 (drop 1 bytes)))
+pub record_read : (shape : Shape) (bytes : List ℕ) (r : Answered) → record_size shape ≤ length bytes → get_or bytes 0 0 ≡ r.column → r.column < columns shape
+    → r.answer ≡ cast_signed w64 (from_be_bytes w64 (take 8 (drop 1 bytes)))
     → r.rows.n ≡ shape.rows → IsSet shape.rows (take (set_size shape.rows) (drop 9 bytes)) r.rows.list → r.rows.list ≢ [] → IsRecord shape (take (record_size shape) bytes) r
 record_read shape bytes r long column below answer same_n is_set some =
     let size = set_size shape.rows in
@@ -52,4 +54,5 @@ record_read shape bytes r long column below answer same_n is_set some =
 -- more bytes after a record leave its set
 pub set_in_longer : (shape : Shape) (text rest : List ℕ) → record_size shape ≤ length text → set_in shape.rows (text ++ rest) ≡ set_in shape.rows text
 set_in_longer shape text rest long =
-    ap (take (set_size shape.rows)) (drop-append-le 9 text rest (omega arith)) ∙ take-append-le (set_size shape.rows) (drop 9 text) rest (omega (arith, long, length-drop 9 text))
+    ap (take (set_size shape.rows)) (drop-append-le 9 text rest (omega arith))
+    ∙ take-append-le (set_size shape.rows) (drop 9 text) rest (omega (arith, long, length-drop 9 text))

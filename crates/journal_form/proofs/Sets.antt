@@ -36,7 +36,8 @@ in_next next now q count same = elim (cases_lt q count) [
 pub next_byte : (n : ℕ) (bytes before after : List ℕ) (count byte : ℕ) → byte ≡ get_or bytes count 0 → before ≡ rows_of_first n bytes count →
     after ≡ rows_that (λ r. has_row before r || ((r / 8 == count) && (bit_at byte (r % 8) == 1))) n → after ≡ rows_of_first n bytes (count + 1)
 next_byte n bytes before after count byte here so_far added = added ∙ rows_that_agree _ _ n (λ r l.
-    ap (λ b. b || ((r / 8 == count) && (bit_at byte (r % 8) == 1))) (ap (λ rows. has_row rows r) so_far ∙ has-rows_that (λ q. nat_lt (q / 8) count && holds_row bytes q) n r l)
+    ap (λ b. b || ((r / 8 == count) && (bit_at byte (r % 8) == 1)))
+    (ap (λ rows. has_row rows r) so_far ∙ has-rows_that (λ q. nat_lt (q / 8) count && holds_row bytes q) n r l)
     ∙ in_next (bit_at byte (r % 8) == 1) (holds_row bytes r) (r / 8) count (λ e. ap (λ x. bit_at x (r % 8) == 1) (here ∙ ap (λ k. get_or bytes k 0) (sym e))))
 
 -- all bytes have all rows
@@ -62,7 +63,8 @@ pub record IsByteOf (n : ℕ) (rows : List ℕ) (at byte : ℕ) : Type 0 where
   pub below : byte < 2 ^ (n - 8 * at)
 
 -- one byte more
-pub byte_more : (n : ℕ) (rows set : List ℕ) (count byte : ℕ) → length set ≡ count → ((k : ℕ) → k < count → IsByteOf n rows k (get_or set k 0)) → IsByteOf n rows count byte → (k : ℕ) → k < count + 1 → IsByteOf n rows k (get_or (set ++ byte ∷ []) k 0)
+pub byte_more : (n : ℕ) (rows set : List ℕ) (count byte : ℕ) → length set ≡ count → ((k : ℕ) → k < count → IsByteOf n rows k (get_or set k 0)) →
+    IsByteOf n rows count byte → (k : ℕ) → k < count + 1 → IsByteOf n rows k (get_or (set ++ byte ∷ []) k 0)
 byte_more n rows set count byte long before here =
     let P : ℕ → Type 0 = λ k. IsByteOf n rows k (get_or (set ++ byte ∷ []) k 0) in
     let seam : get_or (set ++ byte ∷ []) count 0 ≡ byte = ap (λ k. get_or (set ++ byte ∷ []) k 0) (sym long) ∙ get_or-append_seam set byte [] 0 in
@@ -70,7 +72,8 @@ byte_more n rows set count byte long before here =
     below_more P count (λ k lt. rw (get_or-append set (byte ∷ []) 0 k (omega arith)) (before k lt)) last
 
 -- bytes that each have the bits of the rows hold the rows
-pub set_is_whole : (n : ℕ) (rows set : List ℕ) → 0 < n → AreRows n rows → length set ≡ set_size n → ((k : ℕ) → k < set_size n → IsByteOf n rows k (get_or set k 0)) → IsSet n set rows
+pub set_is_whole : (n : ℕ) (rows set : List ℕ) → 0 < n → AreRows n rows → length set ≡ set_size n →
+    ((k : ℕ) → k < set_size n → IsByteOf n rows k (get_or set k 0)) → IsSet n set rows
 set_is_whole n rows set some are long bytes =
     let same : (r : ℕ) → r < n → holds_row set r ≡ has_row rows r = λ r lt.
     let place : 8 * (r / 8) + r % 8 ≡ r = omega arith in

@@ -22,9 +22,11 @@ good_header_byte a b k e h =
     record {
       front = λ below. sym this ∙ h.front below;
       rows_high = λ nine. let high = h.rows_high nine in omega (arith, high, at 9 (omega (arith, nine)));
-      rows_low = λ ten. let low = h.rows_low ten in let nine = at 9 (omega (arith, ten)) in let same = at 10 (omega (arith, ten)) in (omega (arith, low.0, nine, same), omega (arith, low.1, nine, same));
+      rows_low =
+          λ ten. let low = h.rows_low ten in let nine = at 9 (omega (arith, ten)) in let same = at 10 (omega (arith, ten)) in (omega (arith, low.0, nine, same), omega (arith, low.1, nine, same));
       columns = λ eleven. let few = h.columns eleven in omega (arith, few, at 11 (omega (arith, eleven)));
-      kind = λ from below. elim (h.kind from (omega (arith, below, at 11 (omega (arith, from))))) [ inl one ↦ inl (sym this ∙ one) | inr two ↦ inr (sym this ∙ two) ];
+      kind =
+          λ from below. elim (h.kind from (omega (arith, below, at 11 (omega (arith, from))))) [ inl one ↦ inl (sym this ∙ one) | inr two ↦ inr (sym this ∙ two) ];
       no_kind = λ from. sym this ∙ h.no_kind (omega (arith, from, at 11 (omega (arith, from))));
     }
 
@@ -42,10 +44,12 @@ good_record_byte shape a b k e h =
     }
 
 -- where each byte is judged by the bytes up to it, so is the first bad one
-first_bad_up_to : (good : List ℕ → ℕ → Type 0) (size : ℕ) (a b : List ℕ) (at : ℕ) → ((x y : List ℕ) (k : ℕ) → take (k + 1) x ≡ take (k + 1) y → good x k → good y k) → take (at + 1) a ≡ take (at + 1) b → at < length a
+first_bad_up_to : (good : List ℕ → ℕ → Type 0) (size : ℕ) (a b : List ℕ) (at : ℕ)
+    → ((x y : List ℕ) (k : ℕ) → take (k + 1) x ≡ take (k + 1) y → good x k → good y k) → take (at + 1) a ≡ take (at + 1) b → at < length a
     → FirstBad (good a) size a at → FirstBad (good b) size b at
 first_bad_up_to good size a b at judged e inside breaks = record {
-  before = λ k lt. judged a b k (sym (take-take (k + 1) (at + 1) a (omega (arith, lt))) ∙ ap (take (k + 1)) e ∙ take-take (k + 1) (at + 1) b (omega (arith, lt))) (breaks.before k lt);
+  before =
+      λ k lt. judged a b k (sym (take-take (k + 1) (at + 1) a (omega (arith, lt))) ∙ ap (take (k + 1)) e ∙ take-take (k + 1) (at + 1) b (omega (arith, lt))) (breaks.before k lt);
   within = breaks.within;
   stops = elim breaks.stops [
     | inl ended ↦ absurd (omega (arith, ended, inside))
@@ -56,7 +60,8 @@ first_bad_up_to good size a b at judged e inside breaks = record {
 pub header_breaks_up_to : (a b : List ℕ) (at : ℕ) → take (at + 1) a ≡ take (at + 1) b → at < length a → HeaderBreaks a at → HeaderBreaks b at
 header_breaks_up_to a b at = first_bad_up_to IsGoodHeaderByte 20 a b at good_header_byte
 
-pub record_breaks_up_to : (shape : Shape) (a b : List ℕ) (at : ℕ) → take (at + 1) a ≡ take (at + 1) b → at < length a → RecordBreaks shape a at → RecordBreaks shape b at
+pub record_breaks_up_to : (shape : Shape) (a b : List ℕ) (at : ℕ) → take (at + 1) a ≡ take (at + 1) b → at < length a → RecordBreaks shape a at →
+    RecordBreaks shape b at
 record_breaks_up_to shape a b at = first_bad_up_to (IsGoodRecordByte shape) (record_size shape) a b at (good_record_byte shape)
 
 -- bytes that follow a place leave the bytes up to it
@@ -71,9 +76,11 @@ cut_behind front part k at at_is = ap (λ n. take n (front ++ part)) at_is ∙ t
 cut_and_more : (front part more : List ℕ) (k at : ℕ) → at ≡ length front + k → take at (front ++ part) ++ more ≡ front ++ (take k part ++ more)
 cut_and_more front part more k at at_is = ap (λ l. l ++ more) (cut_behind front part k at at_is) ∙ append_assoc front (take k part) more
 
-group_breaks_up_to : (shape : Shape) (left : ℕ) (bytes more : List ℕ) (at : ℕ) → at < length bytes → GroupBreaks shape left bytes at → GroupBreaks shape left (take (at + 1) bytes ++ more) at
+group_breaks_up_to : (shape : Shape) (left : ℕ) (bytes more : List ℕ) (at : ℕ) → at < length bytes → GroupBreaks shape left bytes at →
+    GroupBreaks shape left (take (at + 1) bytes ++ more) at
 group_breaks_up_to shape left [] more at inside breaks = absurd (omega (arith, inside))
-group_breaks_up_to shape left (count ∷ rest) more at inside (inl (at_is, bad)) = inl (at_is, subst (λ k. CountBreaks left (take (k + 1) (count ∷ rest) ++ more)) (sym at_is) bad)
+group_breaks_up_to shape left (count ∷ rest) more at inside (inl (at_is, bad)) =
+    inl (at_is, subst (λ k. CountBreaks left (take (k + 1) (count ∷ rest) ++ more)) (sym at_is) bad)
 group_breaks_up_to shape left (count ∷ rest) more at inside (inr b) =
     let size : length (count ∷ rest) ≡ 1 + (length b.whole + length b.part) = ap length b.bytes_are ∙ omega (arith, length-append b.whole b.part) in
     let within : b.place < length b.part = omega (arith, inside, size, b.at_is) in
@@ -105,9 +112,12 @@ behind_up_to file more at inside b = elim b.breaks [
     front = header b.shape
 
     long : length file ≡ 20 + (length (texts b.groups) + length b.behind)
-    long = omega (arith, ap length b.begins.file_is, length-append front (texts b.groups ++ b.behind), length-append (texts b.groups) b.behind, b.begins.shaped.eight)
+    long =
+        omega
+        (arith, ap length b.begins.file_is, length-append front (texts b.groups ++ b.behind), length-append (texts b.groups) b.behind, b.begins.shaped.eight)
 
-    behind_gate : (group : List ℕ) (place : ℕ) → b.behind ≡ 1 ∷ group → GroupBreaks b.shape (most_records - length (records b.groups)) group place → at ≡ 20 + length (texts b.groups) + 1 + place → BreaksBehind (take (at + 1) file ++ more) at
+    behind_gate : (group : List ℕ) (place : ℕ) → b.behind ≡ 1 ∷ group → GroupBreaks b.shape (most_records - length (records b.groups)) group place →
+        at ≡ 20 + length (texts b.groups) + 1 + place → BreaksBehind (take (at + 1) file ++ more) at
     behind_gate group place behind_is breaks at_is =
         let before = front ++ (texts b.groups ++ 1 ∷ []) in
         let before_long : length before ≡ 21 + length (texts b.groups) = omega (arith, length-append front (texts b.groups ++ 1 ∷ []), length-append (texts b.groups) (1 ∷ []), b.begins.shaped.eight) in
@@ -120,10 +130,13 @@ behind_up_to file more at inside b = elim b.breaks [
           begins = record {
             shaped = b.begins.shaped;
             whole = b.begins.whole;
-            file_is = ap (λ l. take (at + 1) l ++ more) file_is ∙ cut_and_more before group more (place + 1) (at + 1) (omega (arith, at_is, before_long)) ∙ gate_between front (texts b.groups) (take (place + 1) group ++ more);
+            file_is =
+                ap (λ l. take (at + 1) l ++ more) file_is ∙ cut_and_more before group more (place + 1) (at + 1) (omega (arith, at_is, before_long))
+                ∙ gate_between front (texts b.groups) (take (place + 1) group ++ more);
             few = b.begins.few;
           };
-          breaks = inr (take (place + 1) group ++ more, place, refl, group_breaks_up_to b.shape (most_records - length (records b.groups)) group more place within breaks, at_is);
+          breaks =
+              inr (take (place + 1) group ++ more, place, refl, group_breaks_up_to b.shape (most_records - length (records b.groups)) group more place within breaks, at_is);
         }
 
 pub breaks_up_to : (file more : List ℕ) (at : ℕ) → at < length file → BreaksAt file at → BreaksAt (take (at + 1) file ++ more) at

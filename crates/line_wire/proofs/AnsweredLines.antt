@@ -22,31 +22,38 @@ pub written_by : (line : List ℕ) (d : Data) (o : Option Written) → value_of 
 written_by line d o is writes = ap (option_and_then question_in) is ∙ writes
 
 -- what is taken of the column that a question names is its request
-pub taken_is : (columns : List Column) (k : Take) (name text : List ℕ) (c : ℕ) (t : Tree) (r : Request) → IsTaken k c t r → secret_of columns name ≡ Some c → IsRequest columns (taken k name text) t r
+pub taken_is : (columns : List Column) (k : Take) (name text : List ℕ) (c : ℕ) (t : Tree) (r : Request) → IsTaken k c t r → secret_of columns name ≡ Some c →
+    IsRequest columns (taken k name text) t r
 taken_is columns take.Sum name text c t (request.Sum d p) is found = (found ∙ ap Some (sym is.0), is.1)
 taken_is columns take.Avg name text c t (request.Avg d p) is found = (found ∙ ap Some (sym is.0), is.1)
 taken_is columns take.Max name text c t (request.Max d p) is found = (found ∙ ap Some (sym is.0), is.1)
 taken_is columns k name text c t r is found = absurd is
 
 -- what is answered is what the line means
-pub found_of : (columns : List Column) (o : Option Written) (w : Written) (r : Result Request LineFault) → o ≡ Some w → Answers columns w r → IfOk r (Requests columns o)
+pub found_of : (columns : List Column) (o : Option Written) (w : Written) (r : Result Request LineFault) → o ≡ Some w → Answers columns w r →
+    IfOk r (Requests columns o)
 found_of columns o w (Ok q) writes a = record { question = w; tree = a.tree; writes = writes; good = a.good; means = a.means.means; is = a.is }
 found_of columns o w (Err f) writes a = tt
 
 -- what the line means is answered
-pub only_of : (columns : List Column) (o : Option Written) (w : Written) (r : Result Request LineFault) → o ≡ Some w → Answers columns w r → (v : Written) (t : Tree) → Asks columns o v t → Reads columns v t r
+pub only_of : (columns : List Column) (o : Option Written) (w : Written) (r : Result Request LineFault) → o ≡ Some w → Answers columns w r →
+    (v : Written) (t : Tree) → Asks columns o v t → Reads columns v t r
 only_of columns o w (Ok q) writes a v t asks =
     let same : w ≡ v = same_Some w v (sym writes ∙ asks.writes) in
     let tree : a.tree ≡ t = a.means.single t (subst (λ (u : Written). Means columns (text_of u) t) (sym same) asks.means) in
     subst (λ (u : Written). IsRequest columns u t q) same (subst (λ (x : Tree). IsRequest columns w x q) tree a.is)
 only_of columns o w (Err fault.Line) writes a v t asks = a
-only_of columns o w (Err fault.Column) writes a v t asks = none-some fault.Column (sym (ap (column_fault columns) (same_Some w v (sym writes ∙ asks.writes)) ∙ asks.good) ∙ a)
-only_of columns o w (Err fault.Kind) writes a v t asks = none-some fault.Kind (sym (ap (column_fault columns) (same_Some w v (sym writes ∙ asks.writes)) ∙ asks.good) ∙ a)
-only_of columns o w (Err (fault.Condition at)) writes a v t asks = a.1.nothing t (subst (λ (u : Written). Means columns (text_of u) t) (sym (same_Some w v (sym writes ∙ asks.writes))) asks.means)
+only_of columns o w (Err fault.Column) writes a v t asks =
+    none-some fault.Column (sym (ap (column_fault columns) (same_Some w v (sym writes ∙ asks.writes)) ∙ asks.good) ∙ a)
+only_of columns o w (Err fault.Kind) writes a v t asks =
+    none-some fault.Kind (sym (ap (column_fault columns) (same_Some w v (sym writes ∙ asks.writes)) ∙ asks.good) ∙ a)
+only_of columns o w (Err (fault.Condition at)) writes a v t asks =
+    a.1.nothing t (subst (λ (u : Written). Means columns (text_of u) t) (sym (same_Some w v (sym writes ∙ asks.writes))) asks.means)
 only_of columns o w (Err fault.NoMemory) writes a v t asks = tt
 
 -- a refusal is the first that holds
-pub fault_of : (columns : List Column) (o : Option Written) (w : Written) (r : Result Request LineFault) → o ≡ Some w → Answers columns w r → IfErr r (Refuses columns o)
+pub fault_of : (columns : List Column) (o : Option Written) (w : Written) (r : Result Request LineFault) → o ≡ Some w → Answers columns w r →
+    IfErr r (Refuses columns o)
 fault_of columns o w (Ok q) writes a = tt
 fault_of columns o w (Err fault.Line) writes a = absurd a
 fault_of columns o w (Err fault.Column) writes a = ap (option_and_then (column_fault columns)) writes ∙ a
@@ -62,7 +69,8 @@ nothing_asked columns o none v t asks = go (sym none ∙ asks.writes)
     go e = cc
 
 -- a line without a value asks nothing
-pub unread_only : (columns : List Column) (line : List ℕ) (f : LineFault) → HasNoValue line f → (v : Written) (t : Tree) → Asks columns (question_of line) v t → Reads columns v t (Err f)
+pub unread_only : (columns : List Column) (line : List ℕ) (f : LineFault) → HasNoValue line f → (v : Written) (t : Tree) → Asks columns (question_of line) v t →
+    Reads columns v t (Err f)
 unread_only columns line fault.Line none v t asks = nothing_asked columns (question_of line) (ap (option_and_then question_in) none) v t asks
 unread_only columns line fault.Column none v t asks = none
 unread_only columns line fault.Kind none v t asks = none

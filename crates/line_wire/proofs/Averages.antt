@@ -6,7 +6,8 @@ use Rattle.std.proofs.lemmas.Bool.{eqb-true, eq-eqb}
 use Rattle.std.proofs.lemmas.Nat.Gcd.{same_from_IsGcd}
 use Rattle.line_wire.specs.Reply.{IsAverage}
 
-pub is_average : (num : ℤ) (den g size : ℕ) → IsGcd size den g → size ≡ unsigned_abs num → size ≤ 1024 * 10 ^ 12 → 1 ≤ den → den ≤ 1024 → IsTrue (nat_eq g 1) ↔ IsAverage num den
+pub is_average : (num : ℤ) (den g size : ℕ) → IsGcd size den g → size ≡ unsigned_abs num → size ≤ 1024 * 10 ^ 12 → 1 ≤ den → den ≤ 1024 →
+    IsTrue (nat_eq g 1) ↔ IsAverage num den
 is_average num den g size divisor same within positive rows = (to, from)
   where
     at_num : (k : ℕ) → IsGcd size den k → IsGcd (unsigned_abs num) den k

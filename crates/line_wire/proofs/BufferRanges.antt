@@ -24,7 +24,8 @@ pub range-long : (bytes : List ℕ) (from end count : ℕ) → from ≤ end → 
 range-long bytes from end count ordered long = omega (arith, ordered, long, length-take (end - from) (drop from bytes))
 
 -- a range that ends later
-range-longer : (bytes : List ℕ) (start from count : ℕ) → start ≤ from → slice_range bytes start (from + count) ≡ slice_range bytes start from ++ take count (drop from bytes)
+range-longer : (bytes : List ℕ) (start from count : ℕ) → start ≤ from →
+    slice_range bytes start (from + count) ≡ slice_range bytes start from ++ take count (drop from bytes)
 range-longer bytes start from count ordered =
     let size : from + count - start ≡ (from - start) + count = omega arith in
     let here : start + (from - start) ≡ from = omega arith in
@@ -33,8 +34,10 @@ range-longer bytes start from count ordered =
     ∙ ap (λ (l : List ℕ). take (from - start) (drop start bytes) ++ take count l) (drop-drop (from - start) start bytes ∙ ap (λ (n : ℕ). drop n bytes) here)
 
 -- the front of a range is the front of all that stands there
-front-range : (bytes : List ℕ) (from end count few : ℕ) → from + count ≤ end → few ≤ count → take few (take count (slice_range bytes from end)) ≡ take few (drop from bytes)
-front-range bytes from end count few fits less = take-take few count (slice_range bytes from end) less ∙ take-take few (end - from) (drop from bytes) (omega arith)
+front-range : (bytes : List ℕ) (from end count few : ℕ) → from + count ≤ end → few ≤ count →
+    take few (take count (slice_range bytes from end)) ≡ take few (drop from bytes)
+front-range bytes from end count few fits less =
+    take-take few count (slice_range bytes from end) less ∙ take-take few (end - from) (drop from bytes) (omega arith)
 
 -- what there is room for
 pub take_room : (line piece : List ℕ) (most : ℕ) → length line ≤ most → line ++ take (min (length piece) (most - length line)) piece ≡ take most (line ++ piece)
@@ -55,7 +58,8 @@ unfolding kept
 kept-full = full-line 8193
 
 -- A line was moved up to what stands after it, and takes a piece of that.
-module _ (most : ℕ) (bytes moved : List ℕ) (start stop from end count : ℕ) (ordered : start ≤ stop) (before : stop ≤ from) (short : stop ≤ start + most) (fits : from + count ≤ end) (inside : end ≤ length bytes)
+module _ (most : ℕ) (bytes moved : List ℕ) (start stop from end count : ℕ) (ordered : start ≤ stop) (before : stop ≤ from) (short : stop ≤ start + most)
+    (fits : from + count ≤ end) (inside : end ≤ length bytes)
     (here : slice_range moved (from - (stop - start)) (from - (stop - start) + (stop - start)) ≡ slice_range bytes start stop)
     (behind : drop (from - (stop - start) + (stop - start)) moved ≡ drop (from - (stop - start) + (stop - start)) bytes) where
   place : from - (stop - start) + (stop - start) ≡ from
@@ -89,9 +93,11 @@ module _ (most : ℕ) (bytes moved : List ℕ) (start stop from end count : ℕ)
   pub rest-same : slice_range moved (from + count) end ≡ drop count (slice_range bytes from end)
   rest-same = range-later moved from end count fits ∙ ap (λ (l : List ℕ). drop count (take (end - from) l)) same_behind
 
-pub kept-grown : (bytes moved : List ℕ) (start stop from end count : ℕ) → start ≤ stop → stop ≤ from → stop ≤ start + 8193 → from + count ≤ end → end ≤ length bytes
+pub kept-grown : (bytes moved : List ℕ) (start stop from end count : ℕ) → start ≤ stop → stop ≤ from → stop ≤ start + 8193 → from + count ≤ end
+    → end ≤ length bytes
     → slice_range moved (from - (stop - start)) (from - (stop - start) + (stop - start)) ≡ slice_range bytes start stop
     → drop (from - (stop - start) + (stop - start)) moved ≡ drop (from - (stop - start) + (stop - start)) bytes
-    → slice_range moved (from - (stop - start)) (from + min count (8193 - (stop - start))) ≡ kept (slice_range bytes start stop ++ take count (slice_range bytes from end))
+    → slice_range moved (from - (stop - start)) (from + min count (8193 - (stop - start))) ≡ kept
+    (slice_range bytes start stop ++ take count (slice_range bytes from end))
 unfolding kept
 kept-grown = grown 8193

@@ -39,13 +39,15 @@ commaless-signed_decimal (negsuc n) small = (refl, commaless-decimal (suc n) (om
 front_len : (front rest : List ℕ) → IsCommaless front → position_or_len is_comma (front ++ 44 ∷ rest) ≡ length front
 front_len [] rest none = refl
 front_len (x ∷ front) rest none =
-    ap (λ (b : Bool). cond (not b) (1 + position_or_len is_comma (front ++ 44 ∷ rest)) 0) none.0 ∙ ap (λ (n : ℕ). 1 + n) (front_len front rest none.1) ∙ omega arith
+    ap (λ (b : Bool). cond (not b) (1 + position_or_len is_comma (front ++ 44 ∷ rest)) 0) none.0 ∙ ap (λ (n : ℕ). 1 + n) (front_len front rest none.1)
+    ∙ omega arith
 
 -- the first comma stands after a front that has none
 position_behind : (front rest : List ℕ) → IsCommaless front → position (λ b. b == 44) (front ++ 44 ∷ rest) ≡ Some (length front)
 position_behind front rest none =
     let inside : nat_lt (length front) (length (front ++ 44 ∷ rest)) ≡ true = lt-ltb (length front) (length (front ++ 44 ∷ rest)) (omega (arith, length-append front (44 ∷ rest))) in
-    ap (λ (n : ℕ). cond (nat_lt n (length (front ++ 44 ∷ rest))) (Some n) None) (front_len front rest none) ∙ ap (λ (b : Bool). cond b (Some (length front)) None) inside
+    ap (λ (n : ℕ). cond (nat_lt n (length (front ++ 44 ∷ rest))) (Some n) None) (front_len front rest none)
+    ∙ ap (λ (b : Bool). cond b (Some (length front)) None) inside
 
 -- the numerator with what stands before it, and what stands after the comma
 abbrev pub front_of : ℤ → List ℕ
@@ -71,20 +73,26 @@ same_parts a b r s first second is =
 
 -- the line of an average by its parts
 pub average_line : (line : List ℕ) (num : ℤ) (den : ℕ) → line ++ 10 ∷ [] ≡ average num den → line ≡ front_of num ++ 44 ∷ rest_of den (codes "}")
-average_line line num den is = append_cancel_right line (front_of num ++ 44 ∷ rest_of den (codes "}")) (10 ∷ []) (is ∙ average_parts num den ∙ sym (simp append_assoc))
+average_line line num den is =
+    append_cancel_right line (front_of num ++ 44 ∷ rest_of den (codes "}")) (10 ∷ []) (is ∙ average_parts num den ∙ sym (simp append_assoc))
 
 -- its first comma is there
-pub average_comma : (line : List ℕ) (num : ℤ) (den : ℕ) → unsigned_abs num < 2 ^ 63 → line ++ 10 ∷ [] ≡ average num den → position (λ b. b == 44) line ≡ Some (length (front_of num))
-average_comma line num den small is = ap (position (λ b. b == 44)) (average_line line num den is) ∙ position_behind (front_of num) (rest_of den (codes "}")) (commaless-front_of num small)
+pub average_comma : (line : List ℕ) (num : ℤ) (den : ℕ) → unsigned_abs num < 2 ^ 63 → line ++ 10 ∷ [] ≡ average num den →
+    position (λ b. b == 44) line ≡ Some (length (front_of num))
+average_comma line num den small is =
+    ap (position (λ b. b == 44)) (average_line line num den is) ∙ position_behind (front_of num) (rest_of den (codes "}")) (commaless-front_of num small)
 
 -- what stands before it
-pub average_front : (line : List ℕ) (num : ℤ) (den comma : ℕ) → unsigned_abs num < 2 ^ 63 → line ++ 10 ∷ [] ≡ average num den → position (λ b. b == 44) line ≡ Some comma → take comma line ≡ codes "{\"num\":" ++ (signed_decimal num ++ [])
+pub average_front : (line : List ℕ) (num : ℤ) (den comma : ℕ) → unsigned_abs num < 2 ^ 63 → line ++ 10 ∷ [] ≡ average num den →
+    position (λ b. b == 44) line ≡ Some comma → take comma line ≡ codes "{\"num\":" ++ (signed_decimal num ++ [])
 average_front line num den comma small is at =
     let place : comma ≡ length (front_of num) = same_Some comma (length (front_of num)) (sym at ∙ average_comma line num den small is) in
-    (λ i. take (place i) (average_line line num den is i)) ∙ take-append_seam (front_of num) (44 ∷ rest_of den (codes "}")) ∙ ap (λ (l : List ℕ). codes "{\"num\":" ++ l) (sym (append-nil (signed_decimal num)))
+    (λ i. take (place i) (average_line line num den is i))
+    ∙ take-append_seam (front_of num) (44 ∷ rest_of den (codes "}")) ∙ ap (λ (l : List ℕ). codes "{\"num\":" ++ l) (sym (append-nil (signed_decimal num)))
 
 -- what stands from it on
-pub average_rest : (line : List ℕ) (num : ℤ) (den comma : ℕ) → unsigned_abs num < 2 ^ 63 → line ++ 10 ∷ [] ≡ average num den → position (λ b. b == 44) line ≡ Some comma → drop comma line ≡ codes ",\"den\":" ++ (decimal den ++ codes "}")
+pub average_rest : (line : List ℕ) (num : ℤ) (den comma : ℕ) → unsigned_abs num < 2 ^ 63 → line ++ 10 ∷ [] ≡ average num den →
+    position (λ b. b == 44) line ≡ Some comma → drop comma line ≡ codes ",\"den\":" ++ (decimal den ++ codes "}")
 average_rest line num den comma small is at =
     let place : comma ≡ length (front_of num) = same_Some comma (length (front_of num)) (sym at ∙ average_comma line num den small is) in
     (λ i. drop (place i) (average_line line num den is i)) ∙ drop-append_seam (front_of num) (44 ∷ rest_of den (codes "}"))

@@ -24,13 +24,15 @@ pub record Turn {S : Type 0} (told : Type 0) (left : S → List ℕ) (faults : S
   pub once : old.ended ≡ true → (source ≡ first) × (now.ended ≡ true)
 
 -- bytes that were passed are no longer at hand
-pub grown_feed : (old now new : Cutter) → old.taken + length now.pending + length now.text ≤ now.taken + length old.pending → PassesFeed now new → new.taken ≡ now.taken → old.taken + length new.pending < new.taken + length old.pending
+pub grown_feed : (old now new : Cutter) → old.taken + length now.pending + length now.text ≤ now.taken + length old.pending → PassesFeed now new →
+    new.taken ≡ now.taken → old.taken + length new.pending < new.taken + length old.pending
 grown_feed old now new grown passes same =
     let size : length now.pending ≡ length passes.piece + suc (length new.pending) = ap (λ (l : List ℕ). length l) passes.split ∙ length-append passes.piece (10 ∷ new.pending) in
     omega (arith, grown, size, same)
 
 -- bytes that were passed without a line feed are at hand or in the line
-pub grown_none : (old now new : Cutter) → old.taken + length now.pending + length now.text ≤ now.taken + length old.pending → PassesNone now new → new.taken ≡ now.taken → old.taken + length new.pending + length new.text ≤ new.taken + length old.pending
+pub grown_none : (old now new : Cutter) → old.taken + length now.pending + length now.text ≤ now.taken + length old.pending → PassesNone now new →
+    new.taken ≡ now.taken → old.taken + length new.pending + length new.text ≤ new.taken + length old.pending
 grown_none old now new grown passes same =
     let size : length now.pending ≡ length passes.piece + length new.pending = ap (λ (l : List ℕ). length l) passes.split ∙ length-append passes.piece new.pending in
     let text : length new.text ≤ length now.text + length passes.piece = kept-le now.text passes.piece new.text passes.text in
@@ -51,10 +53,13 @@ advances_fed next.Long old new grown = grown
 advances_fed next.End old new grown = tt
 
 -- a last line took a byte
-pub advances_last : (answer : Option Next) (old now new : Cutter) → old.taken + length now.pending + length now.text ≤ now.taken + length old.pending → new.taken ≡ now.taken → new.pending ≡ now.pending
+pub advances_last : (answer : Option Next) (old now new : Cutter) → old.taken + length now.pending + length now.text ≤ now.taken + length old.pending
+    → new.taken ≡ now.taken → new.pending ≡ now.pending
     → MatchOption answer ((line_of now.text ≡ []) × (new.text ≡ [])) (λ n. Gives n new.text (line_of now.text)) → Advances old new (unwrap_or answer next.End)
-advances_last (Some next.Line) old now new grown taken pending gives = omega (arith, grown, taken, ap (λ (l : List ℕ). length l) pending, some_byte now.text (text new.text) gives)
-advances_last (Some next.Long) old now new grown taken pending gives = omega (arith, grown, taken, ap (λ (l : List ℕ). length l) pending, some_byte now.text long gives.0)
+advances_last (Some next.Line) old now new grown taken pending gives =
+    omega (arith, grown, taken, ap (λ (l : List ℕ). length l) pending, some_byte now.text (text new.text) gives)
+advances_last (Some next.Long) old now new grown taken pending gives =
+    omega (arith, grown, taken, ap (λ (l : List ℕ). length l) pending, some_byte now.text long gives.0)
 advances_last (Some next.End) old now new grown taken pending gives = absurd gives
 advances_last None old now new grown taken pending gives = tt
 
@@ -65,11 +70,16 @@ none_at_hand rest old now so_far passes dry =
     ap whole_lines (stop.split ∙ ap (λ l. stop.front ++ (l ++ [])) dry ∙ append-nil stop.front) ∙ stop.none
 
 -- what a turn without a read leaves at hand
-pub still_unread : {S : Type 0} (old now new : Cutter) (first source : S) → ((source ≡ first) × Reached (old.pending ++ []) now []) ⊎ (whole_lines (old.pending ++ []) ≡ []) → PassesNone now new → new.pending ≡ [] → whole_lines old.pending ≡ []
-still_unread old now new first source (inl here) passes dry = ap whole_lines (sym (append-nil old.pending)) ∙ none_at_hand (old.pending ++ []) now new here.1 passes dry
+pub still_unread : {S : Type 0} (old now new : Cutter) (first source : S) →
+    ((source ≡ first) × Reached (old.pending ++ []) now []) ⊎ (whole_lines (old.pending ++ []) ≡ []) → PassesNone now new → new.pending ≡ [] →
+    whole_lines old.pending ≡ []
+still_unread old now new first source (inl here) passes dry =
+    ap whole_lines (sym (append-nil old.pending)) ∙ none_at_hand (old.pending ++ []) now new here.1 passes dry
 still_unread old now new first source (inr none) passes dry = ap whole_lines (sym (append-nil old.pending)) ∙ none
 
-pub next_unread : {S : Type 0} (old now fed new : Cutter) (first source : S) → ((source ≡ first) × Reached (old.pending ++ []) now []) ⊎ (whole_lines (old.pending ++ []) ≡ []) → PassesFeed now fed → line_of fed.text ≡ [] → new.text ≡ [] → new.pending ≡ fed.pending
+pub next_unread : {S : Type 0} (old now fed new : Cutter) (first source : S)
+    → ((source ≡ first) × Reached (old.pending ++ []) now []) ⊎ (whole_lines (old.pending ++ []) ≡ []) → PassesFeed now fed → line_of fed.text ≡ []
+    → new.text ≡ [] → new.pending ≡ fed.pending
     → ((source ≡ first) × Reached (old.pending ++ []) new []) ⊎ (whole_lines (old.pending ++ []) ≡ [])
 next_unread old now fed new first source (inl here) passes none empty same = inl (here.0, to_next _ _ _ _ (to_feed _ _ _ _ here.1 passes) none empty same)
 next_unread old now fed new first source (inr none_whole) passes none empty same = inr none_whole

@@ -15,7 +15,9 @@ same_number front a b is = append_cancel_left front a b (append_cancel_right (fr
 
 -- which reply bytes are: the third one tells it, or the first ones of a denial's or a refusal's word
 abbrev mark : List ℕ → ℕ
-mark bytes = if slice_index bytes 2 == 100 then slice_index bytes 11 else (if slice_index bytes 2 == 114 then slice_index bytes 12 * 256 + slice_index bytes 13 else slice_index bytes 2)
+mark bytes =
+    if slice_index bytes 2 == 100 then slice_index bytes 11 else
+    (if slice_index bytes 2 == 114 then slice_index bytes 12 * 256 + slice_index bytes 13 else slice_index bytes 2)
 
 abbrev mark_of : Reply → ℕ
 mark_of (Count a) = 99
@@ -57,15 +59,20 @@ same_average a b c d low high small short is =
     )
 
 by_mark : (r s : Reply) → mark_of r ≡ mark_of s → IsInRange r → IsInRange s → reply_bytes r ≡ reply_bytes s → r ≡ s
-by_mark (Count a) (Count b) _ low high is = ap Count (decimal_injective a b (omega (arith, low)) (omega (arith, high)) (same_number (codes "{\"count\":") (decimal a) (decimal b) is))
+by_mark (Count a) (Count b) _ low high is =
+    ap Count (decimal_injective a b (omega (arith, low)) (omega (arith, high)) (same_number (codes "{\"count\":") (decimal a) (decimal b) is))
 by_mark (Count a) s marks _ _ _ = absurd (omega arith)
-by_mark (Sum a) (Sum b) _ low high is = ap Sum (signed_decimal_injective a b (mag_below a (omega (arith, low))) (mag_below b (omega (arith, high))) (same_number (codes "{\"sum\":") (signed_decimal a) (signed_decimal b) is))
+by_mark (Sum a) (Sum b) _ low high is =
+    ap Sum
+    (signed_decimal_injective a b (mag_below a (omega (arith, low))) (mag_below b (omega (arith, high))) (same_number (codes "{\"sum\":") (signed_decimal a) (signed_decimal b) is))
 by_mark (Sum a) s marks _ _ _ = absurd (omega arith)
 by_mark (Avg a c) (Avg b d) _ low high is =
     let parts : (a ≡ b) × (c ≡ d) = same_average a b c d (omega (arith, low.within)) (omega (arith, high.within)) (omega (arith, low.rows)) (omega (arith, high.rows)) is in
     (λ i. Avg (parts.0 i) (parts.1 i))
 by_mark (Avg a da) s marks _ _ _ = absurd (omega arith)
-by_mark (Max a) (Max b) _ low high is = ap Max (signed_decimal_injective a b (mag_below a (omega (arith, low))) (mag_below b (omega (arith, high))) (same_number (codes "{\"max\":") (signed_decimal a) (signed_decimal b) is))
+by_mark (Max a) (Max b) _ low high is =
+    ap Max
+    (signed_decimal_injective a b (mag_below a (omega (arith, low))) (mag_below b (omega (arith, high))) (same_number (codes "{\"max\":") (signed_decimal a) (signed_decimal b) is))
 by_mark (Max a) s marks _ _ _ = absurd (omega arith)
 by_mark Unsafe Unsafe _ _ _ _ = refl
 by_mark Unsafe s marks _ _ _ = absurd (omega arith)
@@ -79,7 +86,9 @@ by_mark Column Column _ _ _ _ = refl
 by_mark Column s marks _ _ _ = absurd (omega arith)
 by_mark Kind Kind _ _ _ _ = refl
 by_mark Kind s marks _ _ _ = absurd (omega arith)
-by_mark (Condition a) (Condition b) _ low high is = ap Condition (decimal_injective a b (omega (arith, low)) (omega (arith, high)) (same_number (codes "{\"refused\":\"where\",\"at\":") (decimal a) (decimal b) is))
+by_mark (Condition a) (Condition b) _ low high is =
+    ap Condition
+    (decimal_injective a b (omega (arith, low)) (omega (arith, high)) (same_number (codes "{\"refused\":\"where\",\"at\":") (decimal a) (decimal b) is))
 by_mark (Condition a) s marks _ _ _ = absurd (omega arith)
 by_mark Empty Empty _ _ _ _ = refl
 by_mark Empty s marks _ _ _ = absurd (omega arith)

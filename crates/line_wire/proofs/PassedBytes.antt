@@ -19,7 +19,8 @@ before_feed : (pending front : List ℕ) (count at : ℕ) → front ≡ take cou
 before_feed pending front count at is first =
     ap (λ (l : List ℕ). take at l) is ∙ take-take at count pending (omega (arith, first.inside, ap (λ (l : List ℕ). length l) is, length-take count pending))
 
-pub passes_feed : (old new : Cutter) (front rest : List ℕ) (count at : ℕ) → front ≡ take count old.pending → IsFirstFeed front at → rest ≡ drop at old.pending → new.pending ≡ drop 1 rest → new.text ≡ kept (old.text ++ take at old.pending) → PassesFeed old new
+pub passes_feed : (old new : Cutter) (front rest : List ℕ) (count at : ℕ) → front ≡ take count old.pending → IsFirstFeed front at → rest ≡ drop at old.pending →
+    new.pending ≡ drop 1 rest → new.text ≡ kept (old.text ++ take at old.pending) → PassesFeed old new
 passes_feed old new front rest count at is first given skipped shown =
     let behind : new.pending ≡ drop (at + 1) old.pending = skipped ∙ ap (λ (l : List ℕ). drop 1 l) given ∙ drop-drop 1 at old.pending in
     record {
@@ -29,7 +30,8 @@ passes_feed old new front rest count at is first given skipped shown =
       text = shown ∙ ap (λ (l : List ℕ). kept (old.text ++ l)) (sym (before_feed old.pending front count at is first));
     }
 
-pub passes_none : (old new : Cutter) (front : List ℕ) (count : ℕ) → front ≡ take count old.pending → IsFeedless front → new.pending ≡ drop count old.pending → new.text ≡ kept (old.text ++ take count old.pending) → PassesNone old new
+pub passes_none : (old new : Cutter) (front : List ℕ) (count : ℕ) → front ≡ take count old.pending → IsFeedless front → new.pending ≡ drop count old.pending →
+    new.text ≡ kept (old.text ++ take count old.pending) → PassesNone old new
 passes_none old new front count is feedless rest shown = record {
   piece = front;
   feedless = feedless;

@@ -21,13 +21,15 @@ value_in : (o : Option Data) (w : Written) → option_and_then question_in o ≡
 value_in None w is = absurd (nothing w is)
 value_in (Some d) w is = (d, refl, is)
 
-pub line_writes : (line : List ℕ) (j : Json) (r : Option Question) → IsUtf8 line → document line ≡ Some j → OnSome r (is_plain j ≡ true) → IfSome r (λ q. question_in_json j ≡ Some (written_of q)) → IfSome r (λ q. question_of line ≡ Some (written_of q))
+pub line_writes : (line : List ℕ) (j : Json) (r : Option Question) → IsUtf8 line → document line ≡ Some j → OnSome r (is_plain j ≡ true) →
+    IfSome r (λ q. question_in_json j ≡ Some (written_of q)) → IfSome r (λ q. question_of line ≡ Some (written_of q))
 line_writes line j None text is plain writes = tt
 line_writes line j (Some q) text is plain writes =
     let found = value_in (of_json j) (written_of q) writes in
     ap (option_and_then question_in) (value_of-read line found.0 text (read-plain line j is plain ∙ found.1)) ∙ found.2
 
-pub line_within : (line : List ℕ) (j : Json) (r : Option Question) → document line ≡ Some j → OnSome r (is_plain j ≡ true) → IfSome r (λ q. question_in_json j ≡ Some (written_of q)) → IfSome r (λ q. length (text_of (written_of q)) ≤ length line)
+pub line_within : (line : List ℕ) (j : Json) (r : Option Question) → document line ≡ Some j → OnSome r (is_plain j ≡ true) →
+    IfSome r (λ q. question_in_json j ≡ Some (written_of q)) → IfSome r (λ q. length (text_of (written_of q)) ≤ length line)
 line_within line j None is plain writes = tt
 line_within line j (Some q) is plain writes =
     let found = value_in (of_json j) (written_of q) writes in

@@ -31,7 +31,8 @@ abbrev is_text : json.Json → Bool
 is_text j = is_some (found.as_str j)
 
 -- what has another form keeps nothing
-never : {A B : Type 0} (h : A → B) (form : B → Bool) → ((a : A) → form (h a) ≡ false) → (o : Option (A × List Token)) (p : Option (B × List Token)) → Keeps form (json.parse_map h o) p
+never : {A B : Type 0} (h : A → B) (form : B → Bool) → ((a : A) → form (h a) ≡ false) → (o : Option (A × List Token)) (p : Option (B × List Token)) →
+    Keeps form (json.parse_map h o) p
 never h form other None p = tt
 never h form other (Some x) p = λ is. absurd (false≢true (sym (other x.0) ∙ is))
 
@@ -65,18 +66,22 @@ text_value (suc d) zero ts = one_text (inner_items d) (λ us. None) (inner_membe
 text_value (suc d) (suc e) ts = one_text (inner_items d) (inner_items e) (inner_members d) (inner_members e) ts
 
 -- the form of a whole says that of its part
-mapped : {A B : Type 0} (f : A → Bool) (g : B → Bool) (h : A → B) → ((a : A) → g (h a) ≡ true → f a ≡ true) → (o p : Option (A × List Token)) → Keeps f o p → Keeps g (json.parse_map h o) (json.parse_map h p)
+mapped : {A B : Type 0} (f : A → Bool) (g : B → Bool) (h : A → B) → ((a : A) → g (h a) ≡ true → f a ≡ true) → (o p : Option (A × List Token)) → Keeps f o p →
+    Keeps g (json.parse_map h o) (json.parse_map h p)
 mapped f g h part None p keeps = tt
 mapped f g h part (Some x) p keeps = λ is. ap (json.parse_map h) (keeps (part x.0 is))
 
 module _ (p q : json.Parse json.Json) (each : (ts : List Token) → Keeps is_text (p ts) (q ts)) where
   -- a key and its text, before members that are read alike
-  first : (k : List ℕ) (m n : json.Parse json.Members) → ((ts : List Token) → Keeps are_texts (m ts) (n ts)) → (o r : Option (json.Json × List Token)) → Keeps is_text o r
-      → Keeps are_texts (option_and_then (λ x. json.parse_map (json.member k x.0) (m x.1)) o) (option_and_then (λ x. json.parse_map (json.member k x.0) (n x.1)) r)
+  first : (k : List ℕ) (m n : json.Parse json.Members) → ((ts : List Token) → Keeps are_texts (m ts) (n ts)) → (o r : Option (json.Json × List Token))
+      → Keeps is_text o r
+      → Keeps are_texts (option_and_then (λ x. json.parse_map (json.member k x.0) (m x.1)) o)
+      (option_and_then (λ x. json.parse_map (json.member k x.0) (n x.1)) r)
   first k m n more None r keeps = tt
   first k m n more (Some x) r keeps = go (m x.1) (more x.1)
     where
-      go : (o : Option (json.Members × List Token)) → Keeps are_texts o (n x.1) → Keeps are_texts (json.parse_map (json.member k x.0) o) (option_and_then (λ y. json.parse_map (json.member k y.0) (n y.1)) r)
+      go : (o : Option (json.Members × List Token)) → Keeps are_texts o (n x.1) →
+          Keeps are_texts (json.parse_map (json.member k x.0) o) (option_and_then (λ y. json.parse_map (json.member k y.0) (n y.1)) r)
       go None same = tt
       go (Some y) same = λ is.
           let parts = and_parts (is_text_at k x.0) (are_texts y.0) is in
@@ -97,7 +102,8 @@ module _ (p q : json.Parse json.Json) (each : (ts : List Token) → Keeps is_tex
   text_members (suc turns) ts = turn (json.members p turns) (json.members q turns) (text_members turns) (json.read_key ts)
 
 -- an object of texts is read alike where its members are
-either_plain : (a b : json.Parse json.Items) (o p : json.Parse json.Members) → ((ts : List Token) → Keeps are_texts (o ts) (p ts)) → (ts : List Token) → Keeps is_plain (json.value_with a o ts) (json.value_with b p ts)
+either_plain : (a b : json.Parse json.Items) (o p : json.Parse json.Members) → ((ts : List Token) → Keeps are_texts (o ts) (p ts)) → (ts : List Token) →
+    Keeps is_plain (json.value_with a o ts) (json.value_with b p ts)
 either_plain a b o p both [] = tt
 either_plain a b o p both (Token.begin_object ∷ ts) = mapped are_texts is_plain json.object (λ ms is. is) (o ts) (p ts) (both ts)
 either_plain a b o p both (Token.end_object ∷ ts) = tt
@@ -113,7 +119,9 @@ either_plain a b o p both (Token.bad ∷ ts) = tt
 -- so at each depth of at least one
 plain_value : (d e : ℕ) (ts : List Token) → Keeps is_plain (json.value (suc d) ts) (json.value (suc e) ts)
 unfolding json.value
-plain_value d e ts = either_plain (inner_items d) (inner_items e) (inner_members d) (inner_members e) (λ rest. text_members (json.value d) (json.value e) (text_value d e) (length rest) rest) ts
+plain_value d e ts =
+    either_plain (inner_items d) (inner_items e) (inner_members d) (inner_members e)
+    (λ rest. text_members (json.value d) (json.value e) (text_value d e) (length rest) rest) ts
 
 none≢some : (j : json.Json) → None ≡ Some j → ⊥
 none≢some j e = cc
@@ -122,14 +130,16 @@ inner : (i j : json.Json) → Some i ≡ Some j → i ≡ j
 inner i j e = cc
 
 -- the value of a text is the last that stands there
-whole : (o p : Option (json.Json × List Token)) (j : json.Json) → Keeps is_plain o p → option_and_then (λ x. json.if_last x.0 x.1) o ≡ Some j → is_plain j ≡ true → option_and_then (λ x. json.if_last x.0 x.1) p ≡ Some j
+whole : (o p : Option (json.Json × List Token)) (j : json.Json) → Keeps is_plain o p → option_and_then (λ x. json.if_last x.0 x.1) o ≡ Some j →
+    is_plain j ≡ true → option_and_then (λ x. json.if_last x.0 x.1) p ≡ Some j
 whole None p j keeps is plain = absurd (none≢some j is)
 whole (Some (i, [])) p j keeps is plain = ap (option_and_then (λ x. json.if_last x.0 x.1)) (keeps (ap is_plain (inner i j is) ∙ plain)) ∙ is
 whole (Some (i, t ∷ ts)) p j keeps is plain = absurd (none≢some j is)
 
 -- what json reads as an object of texts, serde_json reads as its value
 pub read-plain : (text : List ℕ) (j : json.Json) → json.document text ≡ Some j → is_plain j ≡ true → read text ≡ of_json j
-read-plain text j is plain = ap (option_and_then of_json) (whole (json.value 128 (tokens text)) (json.value 127 (tokens text)) j (plain_value 127 126 (tokens text)) is plain)
+read-plain text j is plain =
+    ap (option_and_then of_json) (whole (json.value 128 (tokens text)) (json.value 127 (tokens text)) j (plain_value 127 126 (tokens text)) is plain)
 
 -- ---- what is found in it
 
@@ -165,7 +175,8 @@ text_or None before = before
 text_or (Some j) before = Some (string (text_in j))
 
 -- what is put at a key is found at that key alone
-one_put : (b : Bool) (k l : List ℕ) (j : json.Json) (before : Members) → bytes_eq l k ≡ b → get_member k (put l (string (text_in j)) before) ≡ text_or (cond b (Some j) None) (get_member k before)
+one_put : (b : Bool) (k l : List ℕ) (j : json.Json) (before : Members) → bytes_eq l k ≡ b →
+    get_member k (put l (string (text_in j)) before) ≡ text_or (cond b (Some j) None) (get_member k before)
 one_put true k l j before same =
     let is : l ≡ k = (bytes_eq-Decides l k).0 same in
     subst (λ m. get_member k (put m (string (text_in j)) before) ≡ Some (string (text_in j))) (sym is) (get_member-put k (string (text_in j)) before)
@@ -180,10 +191,12 @@ later (Some j) here before = refl
 get-gathered : (k : List ℕ) (ms : json.Members) (before : Members) → get_member k (gathered ms before) ≡ text_or (found.get_member k ms) (get_member k before)
 get-gathered k json.no_members before = refl
 get-gathered k (json.member l j ms) before =
-    get-gathered k ms (put l (string (text_in j)) before) ∙ ap (text_or (found.get_member k ms)) (one_put (bytes_eq l k) k l j before refl) ∙ sym (later (found.get_member k ms) _ _)
+    get-gathered k ms (put l (string (text_in j)) before) ∙ ap (text_or (found.get_member k ms)) (one_put (bytes_eq l k) k l j before refl)
+    ∙ sym (later (found.get_member k ms) _ _)
 
 -- a known key more
-known_put_at : (o : Ordering) (k l : List ℕ) (d e : Data) (ms : Members) → is_key k ≡ true → keys_are_known (member l e ms) ≡ true → keys_are_known (put k d ms) ≡ true
+known_put_at : (o : Ordering) (k l : List ℕ) (d e : Data) (ms : Members) → is_key k ≡ true → keys_are_known (member l e ms) ≡ true
+    → keys_are_known (put k d ms) ≡ true
     → keys_are_known (match_ordering o (member k d (member l e ms)) (member l d ms) (member l e (put k d ms))) ≡ true
 known_put_at Less k l d e ms key known rest = and_from _ _ key known
 known_put_at Equal k l d e ms key known rest = known
@@ -203,7 +216,8 @@ known_gathered (json.member k j ms) before is known =
 -- ---- the question that it writes
 
 -- what is found is a text
-found_text : (k : List ℕ) (ms : json.Members) → are_texts ms ≡ true → text_or (found.get_member k ms) None ≡ option_map string (option_and_then found.as_str (found.get_member k ms))
+found_text : (k : List ℕ) (ms : json.Members) → are_texts ms ≡ true →
+    text_or (found.get_member k ms) None ≡ option_map string (option_and_then found.as_str (found.get_member k ms))
 found_text k json.no_members is = refl
 found_text k (json.member l j ms) is =
     let parts = and_parts (is_text_at l j) (are_texts ms) is in
@@ -232,11 +246,13 @@ own_text None = refl
 own_text (Some s) = refl
 
 -- the question of a value by what is found in it
-written : (d : Data) (text word : List ℕ) (ask : Ask) (user column : Option (List ℕ)) → has_known_keys (as_object d) ≡ true → get (codes "user") d ≡ option_map string user → get (codes "where") d ≡ Some (string text)
+written : (d : Data) (text word : List ℕ) (ask : Ask) (user column : Option (List ℕ)) → has_known_keys (as_object d) ≡ true
+    → get (codes "user") d ≡ option_map string user → get (codes "where") d ≡ Some (string text)
     → get (codes "ask") d ≡ Some (string word) → ask_of word ≡ Some ask → get (codes "column") d ≡ option_map string column → question_in d ≡ with_column ask (option_map string column) text
 unfolding question_in
 written d text word ask user column known is_user is_where is_ask asks is_column =
-    ap (λ b. if b then asked_with (option_and_then as_str (get (codes "where") d)) (option_and_then ask_of (option_and_then as_str (get (codes "ask") d))) (get (codes "column") d) else None)
+    ap
+    (λ b. if b then asked_with (option_and_then as_str (get (codes "where") d)) (option_and_then ask_of (option_and_then as_str (get (codes "ask") d))) (get (codes "column") d) else None)
     (and_from _ _ known (ap may_be_text is_user ∙ is_string user))
     ∙ ap (λ o. asked_with (option_and_then as_str o) (option_and_then ask_of (option_and_then as_str (get (codes "ask") d))) (get (codes "column") d)) is_where
     ∙ ap (λ o. asked_with (Some text) (option_and_then ask_of (option_and_then as_str o)) (get (codes "column") d)) is_ask
@@ -244,7 +260,8 @@ written d text word ask user column known is_user is_where is_ask asks is_column
     ∙ ap (λ o. with_column ask o text) is_column
 
 -- an object of texts writes the question of the texts at its keys
-pub plain_writes : (j : json.Json) (text word : List ℕ) (ask : Ask) → is_plain j ≡ true → text_at (codes "where") j ≡ Some text → text_at (codes "ask") j ≡ Some word → ask_of word ≡ Some ask
+pub plain_writes : (j : json.Json) (text word : List ℕ) (ask : Ask) → is_plain j ≡ true → text_at (codes "where") j ≡ Some text
+    → text_at (codes "ask") j ≡ Some word → ask_of word ≡ Some ask
     → question_in_json j ≡ with_column ask (option_map string (text_at (codes "column") j)) text
 plain_writes json.null text word ask plain is_where is_ask asks = absurd (false≢true plain)
 plain_writes (json.boolean b) text word ask plain is_where is_ask asks = absurd (false≢true plain)
@@ -254,7 +271,8 @@ plain_writes (json.array js) text word ask plain is_where is_ask asks = absurd (
 plain_writes (json.object ms) text word ask plain is_where is_ask asks =
     let at = λ (k : List ℕ). get-gathered k ms no_members ∙ found_text k ms plain in
     ap (option_and_then question_in) (ap (option_map object) (of_texts ms no_members plain))
-    ∙ written (object (gathered ms no_members)) text word ask (text_at (codes "user") (json.object ms)) (text_at (codes "column") (json.object ms)) (known_gathered ms no_members plain refl)
+    ∙ written (object (gathered ms no_members)) text word ask (text_at (codes "user") (json.object ms)) (text_at (codes "column") (json.object ms))
+    (known_gathered ms no_members plain refl)
     (at (codes "user")) (at (codes "where") ∙ ap (option_map string) is_where) (at (codes "ask") ∙ ap (option_map string) is_ask) asks (at (codes "column"))
 
 renamed : (o : Option (Bor (List ℕ))) → option_map string (option_map (λ s. s.now) o) ≡ option_map (λ s. string s.now) o
@@ -262,8 +280,10 @@ renamed None = refl
 renamed (Some s) = refl
 
 -- what is made of these texts is its question
-pub plain_question_is : (j : json.Json) (text word : List ℕ) (ask : Ask) (name : Option (Bor (List ℕ))) (r : Option Question) → is_plain j ≡ true → text_at (codes "where") j ≡ Some text → text_at (codes "ask") j ≡ Some word → Some ask ≡ ask_of word
+pub plain_question_is : (j : json.Json) (text word : List ℕ) (ask : Ask) (name : Option (Bor (List ℕ))) (r : Option Question) → is_plain j ≡ true
+    → text_at (codes "where") j ≡ Some text → text_at (codes "ask") j ≡ Some word → Some ask ≡ ask_of word
     → text_at (codes "column") j ≡ option_map (λ s. s.now) name → option_map written_of r ≡ with_column ask (option_map (λ s. string s.now) name) text → IfSome r (λ question. question_in_json j ≡ Some (written_of question))
 plain_question_is j text word ask name None plain is_where is_ask asks is_name made = tt
 plain_question_is j text word ask name (Some question) plain is_where is_ask asks is_name made =
-    plain_writes j text word ask plain is_where is_ask (sym asks) ∙ ap (λ o. with_column ask (option_map string o) text) is_name ∙ ap (λ o. with_column ask o text) (renamed name) ∙ sym made
+    plain_writes j text word ask plain is_where is_ask (sym asks) ∙ ap (λ o. with_column ask (option_map string o) text) is_name
+    ∙ ap (λ o. with_column ask o text) (renamed name) ∙ sym made

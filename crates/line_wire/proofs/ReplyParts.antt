@@ -10,7 +10,8 @@ use Rattle.line_wire.specs.Reply.{IsReply, numbered}
 use Rattle.line_wire.specs.declared.reply.Reply.{Reply}
 
 -- what is left before an end that was taken off
-pub stripped : (whole piece end : List ℕ) (r : Option (Bor (List ℕ))) → MatchOption r ((front : List ℕ) → whole ≢ front ++ end) (λ x. whole ≡ x.now ++ end) → whole ≡ piece ++ end → option_map (λ x. x.now) r ≡ Some piece
+pub stripped : (whole piece end : List ℕ) (r : Option (Bor (List ℕ))) → MatchOption r ((front : List ℕ) → whole ≢ front ++ end) (λ x. whole ≡ x.now ++ end) →
+    whole ≡ piece ++ end → option_map (λ x. x.now) r ≡ Some piece
 stripped whole piece end None none is = absurd (none piece is)
 stripped whole piece end (Some x) before is = ap Some (append_cancel_right x.now piece end (sym before ∙ is))
 
@@ -20,7 +21,8 @@ mag_below (pos n) small = small
 mag_below (negsuc n) small = omega arith
 
 -- bytes are a line and its line feed where the line feed put aside leaves the line
-pub same_line : (line written bytes : List ℕ) (end : ℕ) (same : Bool) → written ≡ bytes ++ end ∷ [] → end ≡ 10 → same ≡ bytes_eq bytes line → IsTrue same ↔ (written ≡ line ++ 10 ∷ [])
+pub same_line : (line written bytes : List ℕ) (end : ℕ) (same : Bool) → written ≡ bytes ++ end ∷ [] → end ≡ 10 → same ≡ bytes_eq bytes line →
+    IsTrue same ↔ (written ≡ line ++ 10 ∷ [])
 same_line line written bytes end same ends feed tests = (to, from)
   where
     with_feed : written ≡ bytes ++ 10 ∷ []
@@ -55,7 +57,8 @@ if_none None holds = holds
 if_none (Some reply) holds = tt
 
 -- a reply that isn't confirmed
-pub unconfirmed : {P : Type 0} (r : Option Reply) (line : List ℕ) (s : Reply) → MatchOption r (IsReply line s → ⊥) (λ found. IsReply line found) → ((IsReply line s → ⊥) → P) → IfNone r P
+pub unconfirmed : {P : Type 0} (r : Option Reply) (line : List ℕ) (s : Reply) → MatchOption r (IsReply line s → ⊥) (λ found. IsReply line found) →
+    ((IsReply line s → ⊥) → P) → IfNone r P
 unconfirmed None line s wrong so = so wrong
 unconfirmed (Some reply) line s found so = tt
 

@@ -63,7 +63,8 @@ module _ (x y : ℤ) where
   least_with_new v (inr (inr (a, b))) = inr (ap Some (omega (arith, ints, clamps)), ap Some (omega (arith, ints, clamps)))
 
   -- one old answer more
-  alike_step : (has : Bool) (v : ℤ) (o p : Option ℤ) → LiesAlike x y v → AreAlike o p → AreAlike (cond has (Some (least_of v o)) o) (cond has (Some (least_of v p)) p)
+  alike_step : (has : Bool) (v : ℤ) (o p : Option ℤ) → LiesAlike x y v → AreAlike o p →
+      AreAlike (cond has (Some (least_of v o)) o) (cond has (Some (least_of v p)) p)
   unfolding AreAlike
   alike_step false v o p here alike = alike
   alike_step true v o p here (inl (same, lies)) = inl (ap (λ q. Some (least_of v q)) same, least_lies v o here lies)
@@ -103,7 +104,8 @@ module _ (x y : ℤ) where
     alike_bounds : (answers : List Answer) → AllByRecursion (λ a. LiesAlike x y a.value) answers → (r : ℕ) →
         AreAlike (upper_bound (answers ++ asked_x ∷ []) r) (upper_bound (answers ++ asked_y ∷ []) r)
     unfolding AreAlike
-    alike_bounds [] all r = elim (has_row rows r) as (λ b. AreAlike (cond b (Some x) None) (cond b (Some y) None)) [ true ↦ inr (refl, refl) | false ↦ inl (refl, λ u e. absurd cc) ]
+    alike_bounds [] all r =
+        elim (has_row rows r) as (λ b. AreAlike (cond b (Some x) None) (cond b (Some y) None)) [ true ↦ inr (refl, refl) | false ↦ inl (refl, λ u e. absurd cc) ]
     alike_bounds (a ∷ answers) all r = alike_step (has_row a.rows r) a.value _ _ all.0 (alike_bounds answers all.1 r)
 
     module _ (answers : List Answer) (all : AllByRecursion (λ a. LiesAlike x y a.value) answers) where

@@ -26,7 +26,8 @@ pub record IsLeastSoFar (all taken : List Answer) (least : ℤ) : Type 0 where
   pub low : AllByRecursion (λ b. least ≤ℤ b.value) taken
 
 -- one answer more
-pub least_step : (all taken : List Answer) (least : ℤ) (x : Answer) → IsOneOf x all → IsLeastSoFar all taken least → IsLeastSoFar all (taken ++ x ∷ []) (int_min least x.value)
+pub least_step : (all taken : List Answer) (least : ℤ) (x : Answer) → IsOneOf x all → IsLeastSoFar all taken least →
+    IsLeastSoFar all (taken ++ x ∷ []) (int_min least x.value)
 least_step all taken least x one h = record {
   one = elim (lesser least x.value) [
     | inl e ↦ (h.one.0, h.one.1, h.one.2 ∙ sym e)
@@ -82,8 +83,10 @@ from_around (a ∷ answers) x there = elim (here_or_later x a.value ((a.value +�
 to_around : (answers : List Answer) (x : ℤ) (a : Answer) → IsOneOf a answers → (a.value ≡ x) ⊎ (a.value +ℤ pos 1 ≡ x) → Contains (around answers) x
 to_around [] x a one is = absurd one
 to_around (b ∷ answers) x a (inl e) (inl is) = here x b.value ((b.value +ℤ pos 1) ∷ around answers) (ap (λ (y : Answer). y.value) e ∙ is)
-to_around (b ∷ answers) x a (inl e) (inr is) = later x b.value ((b.value +ℤ pos 1) ∷ around answers) (here x (b.value +ℤ pos 1) (around answers) (ap (λ (y : Answer). y.value +ℤ pos 1) e ∙ is))
-to_around (b ∷ answers) x a (inr among) is = later x b.value ((b.value +ℤ pos 1) ∷ around answers) (later x (b.value +ℤ pos 1) (around answers) (to_around answers x a among is))
+to_around (b ∷ answers) x a (inl e) (inr is) =
+    later x b.value ((b.value +ℤ pos 1) ∷ around answers) (here x (b.value +ℤ pos 1) (around answers) (ap (λ (y : Answer). y.value +ℤ pos 1) e ∙ is))
+to_around (b ∷ answers) x a (inr among) is =
+    later x b.value ((b.value +ℤ pos 1) ∷ around answers) (later x (b.value +ℤ pos 1) (around answers) (to_around answers x a among is))
 
 -- what stands below all is a candidate
 below_is_candidate : (answers : List Answer) (x : ℤ) → IsBelowAll answers x → IsCandidate answers x
@@ -91,7 +94,8 @@ below_is_candidate answers x (inl (e, f)) = rw (e, f) first
 below_is_candidate answers x (inr (a, one, low, e)) = rw e (below a one low)
 
 -- and no other is below all
-candidate_below : (answers : List Answer) (lowest : ℤ) (a : Answer) → IsOneOf a answers → AllByRecursion (λ b. a.value ≤ℤ b.value) answers → IsBelowAll answers lowest → lowest ≡ a.value -ℤ pos 1
+candidate_below : (answers : List Answer) (lowest : ℤ) (a : Answer) → IsOneOf a answers → AllByRecursion (λ b. a.value ≤ℤ b.value) answers →
+    IsBelowAll answers lowest → lowest ≡ a.value -ℤ pos 1
 candidate_below answers lowest a one low (inl (e, f)) = absurd (subst (IsOneOf a) e one)
 candidate_below answers lowest a one low (inr (b, other, least, e)) =
     let up = all_at (λ c. a.value ≤ℤ c.value) answers b low other in

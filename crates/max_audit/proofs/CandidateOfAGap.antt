@@ -28,7 +28,8 @@ data Place (answers : List Answer) (a : ℤ) : Type 0 where
 -- one answer more, below the number
 with_lower : (x : Answer) (answers : List Answer) (a : ℤ) → x.value <ℤ a → Place answers a → Place (x ∷ answers) a
 with_lower x answers a less (answered b one e) = answered b (inr one) e
-with_lower x answers a less (before_all all) = behind x (inl refl) less (inl (omega (arith, ints)), all_from _ answers (λ c one. inr (all_at (λ d. a <ℤ d.value) answers c all one)))
+with_lower x answers a less (before_all all) =
+    behind x (inl refl) less (inl (omega (arith, ints)), all_from _ answers (λ c one. inr (all_at (λ d. a <ℤ d.value) answers c all one)))
 with_lower x answers a less (behind b one under all) = by_lt_z b.value x.value
     (λ higher. behind x (inl refl) less (inl (omega (arith, ints)), all_from _ answers (λ c among. elim (all_at (λ d. (d.value ≤ℤ b.value) ⊎ (a <ℤ d.value)) answers c all among) [ inl low ↦ inl (omega (arith, ints)) | inr high ↦ inr high ])))
     (λ lower. behind b (inr one) under (inl lower, all))

@@ -212,7 +212,8 @@ top_of answers (r ∷ rows) some = elim (free_or_greatest (upper_bound answers) 
   | inr (t, b, there, is_b, most) ↦ (
     b,
     record {
-      under = λ q c among is. let found = most q among in let low = found.2 in let same = same_bound (upper_bound answers q) found.0 c found.1 is in omega (arith, ints);
+      under =
+          λ q c among is. let found = most q among in let low = found.2 in let same = same_bound (upper_bound answers q) found.0 c found.1 is in omega (arith, ints);
       row = t;
       there = there;
       high = subst (IsAtLeast b) (sym is_b) (omega (arith, ints));
@@ -272,7 +273,8 @@ module _ (n : ℕ) (answers : List Answer) (rows : List ℕ) (are : AreRows n ro
     }
 
   -- so is the row that is left of a stranded answer, below it
-  module _ (p : Answer) (stranded : IsStranded (extremes answers) answers rows p) (e : ℕ) (extreme : has_row (extremes answers p) e ≡ true) (in_set : has_row rows e ≡ true) where
+  module _ (p : Answer) (stranded : IsStranded (extremes answers) answers rows p) (e : ℕ) (extreme : has_row (extremes answers p) e ≡ true)
+      (in_set : has_row rows e ≡ true) where
     x : ℤ
     x = p.value -ℤ pos 1
 
@@ -302,7 +304,8 @@ module _ (n : ℕ) (answers : List Answer) (rows : List ℕ) (are : AreRows n ro
         }
 
   -- from the cases
-  from_cause : ((r : ℕ) × IsLone answers r) ⊎ (HasOneHighest (upper_bound answers) rows ⊎ HasStranded (extremes answers) answers rows) → (x : ℤ) × LeavesLoneRow (known_max n answers) rows x
+  from_cause : ((r : ℕ) × IsLone answers r) ⊎ (HasOneHighest (upper_bound answers) rows ⊎ HasStranded (extremes answers) answers rows) →
+      (x : ℤ) × LeavesLoneRow (known_max n answers) rows x
   from_cause (inl (r, lone)) = let top = top_of answers rows some in (top.0, lone_stays top.0 top.1 r lone)
   from_cause (inr (inl highest)) = let top = top_of answers rows some in (top.0, highest_is_lone top.0 top.1 highest)
   from_cause (inr (inr (p, stranded))) = elim (inside_or_all rows (extremes answers p)) [

@@ -32,7 +32,8 @@ extreme_row w answers a gives one some =
     (q, has-filter (λ r. is_bound (upper_bound answers r) a.value) a.rows q hit.1 (bound_is (upper_bound answers q) bound.0 a.value bound.1 same), reach ∙ value)
 
 -- a lone row has the value of its answer
-pub lone_value : (w : List ℤ) (answers : List Answer) (a : Answer) (r : ℕ) → Gives w answers → IsOneOf a answers → a.rows ≢ [] → extremes answers a ≡ r ∷ [] → number_at w r ≡ a.value
+pub lone_value : (w : List ℤ) (answers : List Answer) (a : Answer) (r : ℕ) → Gives w answers → IsOneOf a answers → a.rows ≢ [] → extremes answers a ≡ r ∷ [] →
+    number_at w r ≡ a.value
 lone_value w answers a r gives one some only =
     let hit = extreme_row w answers a gives one some in
     let there : has_row (r ∷ []) hit.0 ≡ true = ap (λ l. has_row l hit.0) (sym only) ∙ hit.1 in
@@ -40,7 +41,8 @@ lone_value w answers a r gives one some only =
     ap (number_at w) same ∙ hit.2
 
 -- so it is the same in all lists that agree
-pub lone_rows_are_fixed : (n : ℕ) (answers : List Answer) (i : ℕ) → AllByRecursion (λ b. b.rows ≢ []) answers → IsLone answers i → IsFixed (known_max n answers) i
+pub lone_rows_are_fixed : (n : ℕ) (answers : List Answer) (i : ℕ) → AllByRecursion (λ b. b.rows ≢ []) answers → IsLone answers i →
+    IsFixed (known_max n answers) i
 lone_rows_are_fixed n answers i some (a, one, only) = λ w v first second.
     lone_value v answers a i second.same one (all_at (λ b. b.rows ≢ []) answers a some one) only
     ∙ sym (lone_value w answers a i first.same one (all_at (λ b. b.rows ≢ []) answers a some one) only)

@@ -80,7 +80,8 @@ module _ (n : ℕ) (answers : List Answer) (well : IsWellFormed (known_max n ans
 
       lowered_below : (r : ℕ) → r < n → number_at (lowered_at (highest n answers) i) r ≤ℤ bound_or_zero (upper_bound answers r)
       lowered_below r h = elim (cases_eq r i) [
-        | inl e ↦ let at = ap (number_at (lowered_at (highest n answers) i)) e ∙ lowered_same in let top = number_at-highest n answers i i_below in let same = ap (λ q. bound_or_zero (upper_bound answers q)) e in omega (arith, ints)
+        | inl e ↦ let at = ap (number_at (lowered_at (highest n answers) i)) e
+            ∙ lowered_same in let top = number_at-highest n answers i i_below in let same = ap (λ q. bound_or_zero (upper_bound answers q)) e in omega (arith, ints)
         | inr apart ↦ same_is_below _ _ (lowered_other r apart ∙ number_at-highest n answers r h)
       ]
 

@@ -18,9 +18,11 @@ abbrev pub Gives : List ℤ → List Answer → Type 0
 Gives w answers = AllByRecursion (λ a. greatest_over w a.rows ≡ a.value) answers
 
 -- below the bound with one answer more
-below_step : (has : Bool) (o : Option ℤ) (value b x : ℤ) → (has ≡ true → x ≤ℤ value) → ((c : ℤ) → o ≡ Some c → x ≤ℤ c) → cond has (Some (least_of value o)) o ≡ Some b → x ≤ℤ b
+below_step : (has : Bool) (o : Option ℤ) (value b x : ℤ) → (has ≡ true → x ≤ℤ value) → ((c : ℤ) → o ≡ Some c → x ≤ℤ c) →
+    cond has (Some (least_of value o)) o ≡ Some b → x ≤ℤ b
 below_step true None value b x here later e = let same : value ≡ b = cc in let one = here refl in omega (arith, ints)
-below_step true (Some c) value b x here later e = let same : int_min value c ≡ b = cc in let one = here refl in let two = later c refl in omega (arith, ints, clamps)
+below_step true (Some c) value b x here later e =
+    let same : int_min value c ≡ b = cc in let one = here refl in let two = later c refl in omega (arith, ints, clamps)
 below_step false o value b x here later e = later b e
 
 -- a number is at most the bound of its row

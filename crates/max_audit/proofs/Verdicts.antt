@@ -9,7 +9,8 @@ use Rattle.max_audit.proofs.DangerousByExtremes.{dangerous_by_extremes}
 
 module _ (n : ℕ) (answers : List Answer) (known : Known) (is : known_max n answers ≡ known) (rows : List ℕ) where
   -- as the column has its answers and the set its rows, the law tells of them
-  pub danger_told : (m : ℕ) → IsWellFormed (known_max n answers) → AreRows m rows → m ≡ known.n → rows ≢ [] → IsDangerous known rows ↔ IsDangerousByExtremes answers rows
+  pub danger_told : (m : ℕ) → IsWellFormed (known_max n answers) → AreRows m rows → m ≡ known.n → rows ≢ [] →
+      IsDangerous known rows ↔ IsDangerousByExtremes answers rows
   danger_told m well are same some =
       subst (λ k. IsDangerous k rows ↔ IsDangerousByExtremes answers rows) is
       (dangerous_by_extremes n answers rows well (subst (λ k. AreRows k rows) (same ∙ sym (ap (λ k. k.n) is)) are) some)

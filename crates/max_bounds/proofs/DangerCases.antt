@@ -24,7 +24,8 @@ fewest_below count (b ∷ answers) a (inl same) = let is = ap count same in omeg
 fewest_below count (b ∷ answers) a (inr later) = let rest = fewest_below count answers a later in omega arith
 
 -- and one of them, where it is small
-fewest_reached : (count : Answer → ℕ) (answers : List Answer) → fewest_of (map count answers) < 65535 → (a : Answer) × IsOneOf a answers × (count a ≡ fewest_of (map count answers))
+fewest_reached : (count : Answer → ℕ) (answers : List Answer) → fewest_of (map count answers) < 65535 →
+    (a : Answer) × IsOneOf a answers × (count a ≡ fewest_of (map count answers))
 fewest_reached count [] small = absurd (omega arith)
 fewest_reached count (b ∷ answers) small = elim (cases_lt (fewest_of (map count answers)) (count b)) [
   | inl less ↦ let found = fewest_reached count answers (omega arith) in let is = found.2 in (found.0, inr found.1, omega arith)
@@ -126,7 +127,8 @@ module _ (answers : List Answer) (counts : List ℕ) (fewest : ℕ) (sets : List
         ]
 
     -- with more than one extreme row for each answer, one highest row or a stranded set decides
-    pub decides : (rows : List ℕ) → 1 < fewest → IsDangerousByExtremes answers rows → (HasOneHighest (upper_bound answers) rows → ⊥) → HasStranded (λ a. a.rows) sets rows
+    pub decides : (rows : List ℕ) → 1 < fewest → IsDangerousByExtremes answers rows → (HasOneHighest (upper_bound answers) rows → ⊥) →
+        HasStranded (λ a. a.rows) sets rows
     decides rows more danger not = elim danger.cause [
       | inl lone ↦ absurd (none_lone more lone.0 lone.1)
       | inr other ↦ elim other [ inl highest ↦ absurd (not highest) | inr stranded ↦ stranded_set rows stranded ]

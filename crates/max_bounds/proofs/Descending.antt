@@ -19,19 +19,22 @@ descends_after [] x rest h = h.0
 descends_after (y ∷ seen) x rest h = descends_after seen x rest h.1
 
 -- sets, cut around one of them
-pub answers_split : (least : List AnsweredMax) (i : ℕ) (x : AnsweredMax) → i < length least → x ≡ get_or least i x → answers_of least ≡ answers_of (take i least) ++ answer_of x ∷ answers_of (drop (suc i) least)
+pub answers_split : (least : List AnsweredMax) (i : ℕ) (x : AnsweredMax) → i < length least → x ≡ get_or least i x →
+    answers_of least ≡ answers_of (take i least) ++ answer_of x ∷ answers_of (drop (suc i) least)
 answers_split least i x within is =
     ap answers_of (split_at least i x within) ∙ map-append answer_of (take i least) _
     ∙ ap (λ z. answers_of (take i least) ++ answer_of z ∷ answers_of (drop (suc i) least)) (sym is)
 
 -- a set whose answer is not above a number
-low_at : (sets : List AnsweredMax) (j : ℕ) (d : AnsweredMax) (x : ℤ) → AllByRecursion (λ b. b.value ≤ℤ x) (answers_of sets) → j < length sets → (get_or sets j d).answer ≤ℤ x
+low_at : (sets : List AnsweredMax) (j : ℕ) (d : AnsweredMax) (x : ℤ) → AllByRecursion (λ b. b.value ≤ℤ x) (answers_of sets) → j < length sets →
+    (get_or sets j d).answer ≤ℤ x
 low_at [] j d x h within = absurd (omega (arith, within))
 low_at (y ∷ sets) zero d x h within = h.0
 low_at (y ∷ sets) (suc j) d x h within = low_at sets j d x h.1 (omega (arith, within))
 
 -- a later set's answer is not above an earlier one's
-later_is_low : (sets : List AnsweredMax) (i j : ℕ) (d : AnsweredMax) → Descend (answers_of sets) → i ≤ j → j < length sets → (get_or sets j d).answer ≤ℤ (get_or sets i d).answer
+later_is_low : (sets : List AnsweredMax) (i j : ℕ) (d : AnsweredMax) → Descend (answers_of sets) → i ≤ j → j < length sets →
+    (get_or sets j d).answer ≤ℤ (get_or sets i d).answer
 later_is_low [] i j d h order within = absurd (omega (arith, within))
 later_is_low (y ∷ sets) zero zero d h order within = omega (arith, ints)
 later_is_low (y ∷ sets) zero (suc j) d h order within = low_at sets j d y.answer h.0 (omega (arith, within))
@@ -40,49 +43,61 @@ later_is_low (y ∷ sets) (suc i) (suc j) d h order within = later_is_low sets i
 
 -- so those above a number come first
 pub above_come_first : (sets : List AnsweredMax) (x : ℤ) → Descend (answers_of sets) → IsPartitionedBy (λ s. int_lt x s.answer) sets
-above_come_first sets x h i j d order within above = let low = later_is_low sets i j d h order within in int_lt_above x (get_or sets j d).answer (get_or sets i d).answer above low
+above_come_first sets x h i j d order within above =
+    let low = later_is_low sets i j d h order within in int_lt_above x (get_or sets j d).answer (get_or sets i d).answer above low
   where
     int_lt_above : (x a b : ℤ) → int_lt x a ≡ true → a ≤ℤ b → int_lt x b ≡ true
     int_lt_above x a b above low = elim (int_lt x b) as (λ t. int_lt x b ≡ t → t ≡ true) [ true ↦ λ is. refl | false ↦ λ is. absurd (omega (arith, ints)) ] refl
 
 -- and a number's place is after them
-pub place_after : (sets : List AnsweredMax) (x : ℤ) (i : ℕ) → IsPartitionPoint (λ s. int_lt x s.answer ≡ true) (λ s. int_lt x s.answer ≡ false) sets i → IsPlaceOf x sets i
-place_after sets x i point = record { front = before sets i (λ k d first. point.0 k d (omega arith) first); rest = after sets i (λ k d late within. point.1 k d late within) }
+pub place_after : (sets : List AnsweredMax) (x : ℤ) (i : ℕ) → IsPartitionPoint (λ s. int_lt x s.answer ≡ true) (λ s. int_lt x s.answer ≡ false) sets i →
+    IsPlaceOf x sets i
+place_after sets x i point =
+    record { front = before sets i (λ k d first. point.0 k d (omega arith) first); rest = after sets i (λ k d late within. point.1 k d late within) }
   where
-    before : (sets : List AnsweredMax) (i : ℕ) → ((k : ℕ) (d : AnsweredMax) → k < i → int_lt x (get_or sets k d).answer ≡ true) → AllByRecursion (λ b. x ≤ℤ b.value) (answers_of (take i sets))
+    before : (sets : List AnsweredMax) (i : ℕ) → ((k : ℕ) (d : AnsweredMax) → k < i → int_lt x (get_or sets k d).answer ≡ true) →
+        AllByRecursion (λ b. x ≤ℤ b.value) (answers_of (take i sets))
     before [] zero above = tt
     before [] (suc i) above = tt
     before (y ∷ sets) zero above = tt
-    before (y ∷ sets) (suc i) above = (let here = above 0 y (omega arith) in omega (arith, ints, here), before sets i (λ k d first. above (suc k) d (omega (arith, first))))
+    before (y ∷ sets) (suc i) above =
+        (let here = above 0 y (omega arith) in omega (arith, ints, here), before sets i (λ k d first. above (suc k) d (omega (arith, first))))
 
-    after : (sets : List AnsweredMax) (i : ℕ) → ((k : ℕ) (d : AnsweredMax) → i ≤ k → k < length sets → int_lt x (get_or sets k d).answer ≡ false) → AllByRecursion (λ b. b.value ≤ℤ x) (answers_of (drop i sets))
+    after : (sets : List AnsweredMax) (i : ℕ) → ((k : ℕ) (d : AnsweredMax) → i ≤ k → k < length sets → int_lt x (get_or sets k d).answer ≡ false) →
+        AllByRecursion (λ b. b.value ≤ℤ x) (answers_of (drop i sets))
     after [] zero low = tt
     after [] (suc i) low = tt
-    after (y ∷ sets) zero low = (let here = low 0 y (omega arith) (omega arith) in omega (arith, ints, here), after sets zero (λ k d late within. low (suc k) d (omega arith) (omega (arith, within))))
+    after (y ∷ sets) zero low =
+        (let here = low 0 y (omega arith) (omega arith) in omega (arith, ints, here), after sets zero (λ k d late within. low (suc k) d (omega arith) (omega (arith, within))))
     after (y ∷ sets) (suc i) low = after sets i (λ k d late within. low (suc k) d (omega (arith, late)) (omega (arith, within)))
 
 -- a lowered set keeps its answer
 value_kept : (x : ℤ) (rows : List ℕ) (a : Answer) → (lowered_set x rows a).value ≡ a.value
-value_kept x rows a = elim (int_lt x a.value) as (λ b. (cond b (record { rows = outside rows a.rows; value = a.value }) a).value ≡ a.value) [ true ↦ refl | false ↦ refl ]
+value_kept x rows a =
+    elim (int_lt x a.value) as (λ b. (cond b (record { rows = outside rows a.rows; value = a.value }) a).value ≡ a.value) [ true ↦ refl | false ↦ refl ]
 
 -- so lowered sets descend as before
 pub lowered_descend : (x : ℤ) (rows : List ℕ) (sets : List Answer) → Descend sets → Descend (map (lowered_set x rows) sets)
 lowered_descend x rows [] h = tt
 lowered_descend x rows (a ∷ sets) h = (still sets h.0, lowered_descend x rows sets h.1)
   where
-    still : (l : List Answer) → AllByRecursion (λ b. b.value ≤ℤ a.value) l → AllByRecursion (λ b. b.value ≤ℤ (lowered_set x rows a).value) (map (lowered_set x rows) l)
+    still : (l : List Answer) → AllByRecursion (λ b. b.value ≤ℤ a.value) l →
+        AllByRecursion (λ b. b.value ≤ℤ (lowered_set x rows a).value) (map (lowered_set x rows) l)
     still [] low = tt
-    still (b ∷ l) low = (subst (λ v. (lowered_set x rows b).value ≤ℤ v) (sym (value_kept x rows a)) (subst (λ v. v ≤ℤ a.value) (sym (value_kept x rows b)) low.0), still l low.1)
+    still (b ∷ l) low =
+        (subst (λ v. (lowered_set x rows b).value ≤ℤ v) (sym (value_kept x rows a)) (subst (λ v. v ≤ℤ a.value) (sym (value_kept x rows b)) low.0), still l low.1)
 
 -- one more among sets
-pub answers_inserted : (least : List AnsweredMax) (i : ℕ) (y : AnsweredMax) → answers_of (take i least ++ y ∷ drop i least) ≡ take i (answers_of least) ++ answer_of y ∷ drop i (answers_of least)
+pub answers_inserted : (least : List AnsweredMax) (i : ℕ) (y : AnsweredMax) →
+    answers_of (take i least ++ y ∷ drop i least) ≡ take i (answers_of least) ++ answer_of y ∷ drop i (answers_of least)
 answers_inserted [] zero y = refl
 answers_inserted [] (suc i) y = refl
 answers_inserted (z ∷ least) zero y = refl
 answers_inserted (z ∷ least) (suc i) y = ap (λ l. answer_of z ∷ l) (answers_inserted least i y)
 
 -- at its place it leaves them descending
-pub inserted_descend : (least : List AnsweredMax) (place : ℕ) (y : AnsweredMax) → Descend (answers_of least) → IsPlaceOf y.answer least place → Descend (answers_of (take place least ++ y ∷ drop place least))
+pub inserted_descend : (least : List AnsweredMax) (place : ℕ) (y : AnsweredMax) → Descend (answers_of least) → IsPlaceOf y.answer least place →
+    Descend (answers_of (take place least ++ y ∷ drop place least))
 inserted_descend [] zero y h at = (tt, tt)
 inserted_descend [] (suc i) y h at = (tt, tt)
 inserted_descend (z ∷ least) zero y h at = (at.rest, h)

@@ -45,7 +45,8 @@ of_both n rows high r there = elim (cases_lt r n) [
 ]
 
 in_both : (n : ℕ) (rows high : List ℕ) (r : ℕ) → AreRows n rows → has_row rows r ≡ true → has_row high r ≡ true → has_row (intersection n rows high) r ≡ true
-in_both n rows high r are there here = has-rows_that (λ q. has_row rows q && has_row high q) n r (row_below n rows r are there) ∙ and_from (has_row rows r) (has_row high r) there here
+in_both n rows high r are there here =
+    has-rows_that (λ q. has_row rows q && has_row high q) n r (row_below n rows r are there) ∙ and_from (has_row rows r) (has_row high r) there here
 
 -- a test that only high rows pass passes the same rows among them
 narrow : (n : ℕ) (test : ℕ → Bool) (rows high : List ℕ) → AreRows n rows → ((r : ℕ) → r < n → test r ≡ true → has_row high r ≡ true) →
@@ -60,10 +61,14 @@ narrow n test rows high are covers = ascending_same 0 n n (filter test (intersec
 module _ (n : ℕ) (bound : ℕ → Option ℤ) (high : HighRows) (is : IsHigh n bound high) (rows : List ℕ) (are : AreRows n rows) where
   -- where an answer is not below the cut, what it does to the high rows is all
   pub same_at_least : (answer : ℤ) → high.cut ≤ℤ answer → rows_at_least bound answer (intersection n rows high.rows.list) ≡ rows_at_least bound answer rows
-  same_at_least answer low = narrow n (λ r. is_at_least answer (bound r)) rows high.rows.list are (λ r below passes. is.covers r below (lower_at_least (bound r) high.cut answer low passes))
+  same_at_least answer low =
+      narrow n (λ r. is_at_least answer (bound r)) rows high.rows.list are
+      (λ r below passes. is.covers r below (lower_at_least (bound r) high.cut answer low passes))
 
   pub same_above : (answer : ℤ) → high.cut ≤ℤ answer → rows_above bound answer (intersection n rows high.rows.list) ≡ rows_above bound answer rows
-  same_above answer low = narrow n (λ r. is_above answer (bound r)) rows high.rows.list are (λ r below passes. is.covers r below (above_at_least (bound r) high.cut answer low passes))
+  same_above answer low =
+      narrow n (λ r. is_above answer (bound r)) rows high.rows.list are
+      (λ r below passes. is.covers r below (above_at_least (bound r) high.cut answer low passes))
 
   -- a bound below the cut is below each that is not
   below_cut : (o p : Option ℤ) → is_at_least high.cut o ≡ false → is_at_least high.cut p ≡ true → IsBelowBound o p
@@ -125,7 +130,8 @@ high_stays n before after high x rows is settled = record {
   covers = λ r below reaches. is.covers r below (step r (has_row (rows_at_least before x rows) r) refl (sym (ap (is_at_least high.cut) (settled r)) ∙ reaches));
 }
   where
-    step : (r : ℕ) (b : Bool) → has_row (rows_at_least before x rows) r ≡ b → is_at_least high.cut (cond b (Some x) (before r)) ≡ true → is_at_least high.cut (before r) ≡ true
+    step : (r : ℕ) (b : Bool) → has_row (rows_at_least before x rows) r ≡ b → is_at_least high.cut (cond b (Some x) (before r)) ≡ true →
+        is_at_least high.cut (before r) ≡ true
     step r true there reaches = fallen (before r) high.cut x (filter-has (λ q. is_at_least x (before q)) rows r there).1 reaches
     step r false there reaches = reaches
 
@@ -143,7 +149,8 @@ all_inserted P (y ∷ xs) zero x all p = (p, all)
 all_inserted P (y ∷ xs) (suc i) x all p = (all.0, all_inserted P xs i x all.1 p)
 
 -- the high rows of a cut stay so without rows whose bounds are below it
-pub low_leave : (n : ℕ) (bound : ℕ → Option ℤ) (before after : HighRows) (answer : ℤ) (others rows : List ℕ) → after.rows.n ≡ before.rows.n → after.cut ≡ before.cut →
+pub low_leave : (n : ℕ) (bound : ℕ → Option ℤ) (before after : HighRows) (answer : ℤ) (others rows : List ℕ) → after.rows.n ≡ before.rows.n →
+    after.cut ≡ before.cut →
     after.rows.list ≡ intersection before.rows.n before.rows.list others → others ≡ complement n rows → answer <ℤ before.cut → AreLow bound answer rows → IsHigh n bound before → IsHigh n bound after
 low_leave n bound before after answer others rows same cut both are higher low is = record {
   same_n = same ∙ is.same_n;
@@ -152,7 +159,8 @@ low_leave n bound before after answer others rows same cut both are higher low i
       let there : has_row before.rows.list r ≡ true = is.covers r below high in
       let small : r < before.rows.n = omega (arith, is.same_n) in
       ap (λ l. has_row l r) both ∙ has-rows_that (λ q. has_row before.rows.list q && has_row others q) before.rows.n r small
-      ∙ ap (λ b. b && has_row others r) there ∙ ap (λ l. has_row l r) are ∙ has-rows_that (λ q. not (has_row rows q)) n r below ∙ gone r high (has_row rows r) refl;
+      ∙ ap (λ b. b && has_row others r) there ∙ ap (λ l. has_row l r) are ∙ has-rows_that (λ q. not (has_row rows q)) n r below
+      ∙ gone r high (has_row rows r) refl;
 }
   where
     gone : (r : ℕ) → is_at_least before.cut (bound r) ≡ true → (b : Bool) → has_row rows r ≡ b → not b ≡ true

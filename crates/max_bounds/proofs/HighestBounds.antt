@@ -33,7 +33,9 @@ below_or_not : (o p : Option ℤ) → o ≢ p → (IsBelowBound p o → ⊥) →
 below_or_not None None apart not = absurd (apart refl)
 below_or_not None (Some c) apart not = absurd (not tt)
 below_or_not (Some b) None apart not = tt
-below_or_not (Some b) (Some c) apart not = by_lt_z b c (λ less. less) (λ more. by_lt_z c b (λ above. absurd (not above)) (λ under. let same : b ≡ c = omega (arith, ints) in absurd (apart (ap Some same))))
+below_or_not (Some b) (Some c) apart not =
+    by_lt_z b c (λ less. less)
+    (λ more. by_lt_z c b (λ above. absurd (not above)) (λ under. let same : b ≡ c = omega (arith, ints) in absurd (apart (ap Some same))))
 
 -- two rows with the highest bound
 pub record AreTwo (bound : ℕ → Option ℤ) (seen : List ℕ) (highest : Option ℤ) : Type 0 where
@@ -119,7 +121,8 @@ module _ (bound : ℕ → Option ℤ) where
     -- a row with a lower one
     pub highest_below : bound q ≢ highest → (IsBelowBound highest (bound q) → ⊥) → IsHighest bound (seen ++ q ∷ []) highest alone
     highest_below apart not = record {
-      most = λ p there. elim (has-push seen q p there) [ inl front ↦ so_far.most p front | inr last ↦ inr (subst (λ o. IsBelowBound o highest) (ap bound last) below) ];
+      most =
+          λ p there. elim (has-push seen q p there) [ inl front ↦ so_far.most p front | inr last ↦ inr (subst (λ o. IsBelowBound o highest) (ap bound last) below) ];
       have = still alone so_far.have;
     }
       where
@@ -131,7 +134,8 @@ module _ (bound : ℕ → Option ℤ) where
           row = have.row;
           has = has-front seen q have.row have.has;
           is = have.is;
-          others = λ p there other. elim (has-push seen q p there) [ inl front ↦ have.others p front other | inr last ↦ subst (λ o. IsBelowBound o highest) (ap bound last) below ];
+          others =
+              λ p there other. elim (has-push seen q p there) [ inl front ↦ have.others p front other | inr last ↦ subst (λ o. IsBelowBound o highest) (ap bound last) below ];
         }
         still false have = record {
           one = have.one;
@@ -144,7 +148,8 @@ module _ (bound : ℕ → Option ℤ) where
         }
 
     -- a second row without a bound: then no row is above the others
-    pub two_free : (rows : List ℕ) → ((p : ℕ) → has_row (seen ++ q ∷ []) p ≡ true → has_row rows p ≡ true) → bound q ≡ highest → highest ≡ None → has_row seen q ≡ false →
+    pub two_free : (rows : List ℕ) → ((p : ℕ) → has_row (seen ++ q ∷ []) p ≡ true → has_row rows p ≡ true) → bound q ≡ highest → highest ≡ None →
+        has_row seen q ≡ false →
         HasOneHighest bound rows → ⊥
     two_free rows within same free fresh (r, there, alone') =
         let found = some_has seen highest alone so_far.have in

@@ -35,7 +35,8 @@ module _ (seen : List Answer) (rows : List ℕ) (x : Answer) where
   whole_below (Whole v) h matters b one whole = let short = none (left_of rows b) whole in let low = h.1 b one (omega arith) in omega (arith, ints)
 
   -- a stranded set stays so, with a set more that is not held whole, or is lower
-  stranded-push : (a : Answer) → IsStranded (λ b. b.rows) seen rows a → (left_of rows x ≡ [] → x.value <ℤ a.value) → IsStranded (λ b. b.rows) (seen ++ x ∷ []) rows a
+  stranded-push : (a : Answer) → IsStranded (λ b. b.rows) seen rows a → (left_of rows x ≡ [] → x.value <ℤ a.value) →
+      IsStranded (λ b. b.rows) (seen ++ x ∷ []) rows a
   stranded-push a h here = record {
     one = one_of_front seen x a h.one;
     one_left = h.one_left;
@@ -61,7 +62,8 @@ module _ (seen : List Answer) (rows : List ℕ) (x : Answer) where
     | inl front ↦ h b front
     | inr last ↦ subst (λ (y : Answer). 1 < length (left_of rows y)) last more
   ]
-  lost_more (AllButOne v) h more = ((h.0.0, stranded-push h.0.0 h.0.1 (λ whole. let short = none (left_of rows x) whole in absurd (omega arith)), h.0.2), most-push v h.1 (λ few. absurd (omega arith)))
+  lost_more (AllButOne v) h more =
+      ((h.0.0, stranded-push h.0.0 h.0.1 (λ whole. let short = none (left_of rows x) whole in absurd (omega arith)), h.0.2), most-push v h.1 (λ few. absurd (omega arith)))
   lost_more (Whole v) h more = ((h.0.0, one_of_front seen x h.0.0 h.0.1, h.0.2, h.0.3), most-push v h.1 (λ few. absurd (omega arith)))
 
   -- a set of which one row is left
@@ -93,7 +95,8 @@ matters_above (AllButOne v) low high less matters = omega (arith, ints)
 matters_above (Whole v) low high less matters = omega (arith, ints)
 
 -- sets with answers not above one that does not matter
-pub lost_after : (seen rest : List Answer) (rows : List ℕ) (top : ℤ) (lost : Lost) → IsLost seen rows lost → (Matters lost top → ⊥) → AllByRecursion (λ b. b.value ≤ℤ top) rest → IsLost (seen ++ rest) rows lost
+pub lost_after : (seen rest : List Answer) (rows : List ℕ) (top : ℤ) (lost : Lost) → IsLost seen rows lost → (Matters lost top → ⊥) →
+    AllByRecursion (λ b. b.value ≤ℤ top) rest → IsLost (seen ++ rest) rows lost
 lost_after seen [] rows top lost h not low = subst (λ l. IsLost l rows lost) (sym (append-nil seen)) h
 lost_after seen (x ∷ rest) rows top lost h not low =
     subst (λ l. IsLost l rows lost) (append_assoc seen (x ∷ []) rest)
@@ -120,7 +123,8 @@ pub within-none : (rows : List ℕ) (value : ℤ) → HasWithin [] rows value �
 within-none rows value (a, one, is) = one
 
 -- nor of more, where neither the sets before nor the last does
-pub within-push : (seen : List Answer) (x : Answer) (rows : List ℕ) (value : ℤ) → (HasWithin seen rows value → ⊥) → (IsWithin rows value x → ⊥) → HasWithin (seen ++ x ∷ []) rows value → ⊥
+pub within-push : (seen : List Answer) (x : Answer) (rows : List ℕ) (value : ℤ) → (HasWithin seen rows value → ⊥) → (IsWithin rows value x → ⊥) →
+    HasWithin (seen ++ x ∷ []) rows value → ⊥
 within-push seen x rows value before last (a, one, is) = elim (front_or_last seen x a one) [
   | inl front ↦ before (a, front, is)
   | inr same ↦ last (subst (IsWithin rows value) (sym same) is)

@@ -34,21 +34,26 @@ outside_is n set rows are = ascending_same 0 n n (intersection n rows (complemen
     ])
 
 -- so what a set has in common with the others is what is left of it
-pub left_is : (n m : ℕ) (rows set others after : List ℕ) → n ≡ m → AreRows n set → others ≡ complement m rows → after ≡ intersection n set others → after ≡ outside rows set
-left_is n m rows set others after same are flipped both = both ∙ ap (intersection n set) (flipped ∙ ap (λ k. complement k rows) (sym same)) ∙ outside_is n rows set are
+pub left_is : (n m : ℕ) (rows set others after : List ℕ) → n ≡ m → AreRows n set → others ≡ complement m rows → after ≡ intersection n set others →
+    after ≡ outside rows set
+left_is n m rows set others after same are flipped both =
+    both ∙ ap (intersection n set) (flipped ∙ ap (λ k. complement k rows) (sym same)) ∙ outside_is n rows set are
 
 -- a set with a higher answer loses them
-pub lowered : (n m : ℕ) (answer value : ℤ) (rows set others after : List ℕ) → n ≡ m → AreRows n set → others ≡ complement m rows → after ≡ intersection n set others → int_lt answer value ≡ true →
+pub lowered : (n m : ℕ) (answer value : ℤ) (rows set others after : List ℕ) → n ≡ m → AreRows n set → others ≡ complement m rows →
+    after ≡ intersection n set others → int_lt answer value ≡ true →
     record { rows = after; value = value } ≡ lowered_set answer rows (record { rows = set; value = value })
 lowered n m answer value rows set others after same are flipped both higher =
     let left = left_is n m rows set others after same are flipped both in
-    ap (λ l. record { rows = l; value = value }) left ∙ ap (λ b. cond b (record { rows = outside rows set; value = value }) (record { rows = set; value = value })) (sym higher)
+    ap (λ l. record { rows = l; value = value }) left
+    ∙ ap (λ b. cond b (record { rows = outside rows set; value = value }) (record { rows = set; value = value })) (sym higher)
 
 -- and no other
 pub kept : (answer : ℤ) (rows : List ℕ) (a : Answer) → int_lt answer a.value ≡ false → a ≡ lowered_set answer rows a
 kept answer rows a higher = ap (λ b. cond b (record { rows = outside rows a.rows; value = a.value }) a) (sym higher)
 
-module _ (answer : ℤ) (rows : List ℕ) (old least : List AnsweredMax) (i : ℕ) (x y : AnsweredMax) (within : i < length least) (was : i < length old) (here : drop i least ≡ drop i old)
+module _ (answer : ℤ) (rows : List ℕ) (old least : List AnsweredMax) (i : ℕ) (x y : AnsweredMax) (within : i < length least) (was : i < length old)
+    (here : drop i least ≡ drop i old)
     (is : x ≡ get_or least i x) (lowers : answer_of y ≡ lowered_set answer rows (answer_of x)) where
   -- the sets so far, with one more
   pub lowered_more : answers_of (take i least) ≡ map (lowered_set answer rows) (answers_of (take i old)) →

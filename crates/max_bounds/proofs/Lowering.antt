@@ -17,7 +17,8 @@ pub record IsLowering (answer : ℤ) (rows : List ℕ) (before : List (Option �
   pub lowered : (r : ℕ) → bound_with rest answer r (bound_at bounds r) ≡ bound_with rows answer r (bound_at before r)
 
 -- at first all is left to do
-pub lowering_begins : (answer : ℤ) (n : ℕ) (rows : List ℕ) (bounds : List (Option ℤ)) → length bounds ≡ 1024 → AreRows n rows → n ≤ 1024 → IsLowering answer rows bounds rows bounds
+pub lowering_begins : (answer : ℤ) (n : ℕ) (rows : List ℕ) (bounds : List (Option ℤ)) → length bounds ≡ 1024 → AreRows n rows → n ≤ 1024 →
+    IsLowering answer rows bounds rows bounds
 lowering_begins answer n rows bounds size are most = record { size = size; within = rows_within 0 n 1024 rows most are; lowered = λ r. refl }
 
 -- a bound that is lowered stays so
@@ -32,7 +33,8 @@ row_lowered : (a : ℤ) (q r : ℕ) (rest : List ℕ) (bounds : List (Option ℤ
 row_lowered a q r rest bounds below = elim (cases_eq q r) [
   | inl same ↦
       let at : bound_at (set bounds q (Some (least_of a (get_or bounds q None)))) r ≡ Some (least_of a (bound_at bounds r)) =
-      ap (bound_at (set bounds q (Some (least_of a (get_or bounds q None))))) (sym same) ∙ get_or-set_same bounds q (Some (least_of a (get_or bounds q None))) None below ∙ ap (λ k. Some (least_of a (get_or bounds k None))) same in
+      ap (bound_at (set bounds q (Some (least_of a (get_or bounds q None))))) (sym same)
+      ∙ get_or-set_same bounds q (Some (least_of a (get_or bounds q None))) None below ∙ ap (λ k. Some (least_of a (get_or bounds k None))) same in
       let here : (q == r) ≡ true = eq-eqb q r same in
       rw (at, here) (lowered_again a (bound_at bounds r) (has_row rest r))
   | inr apart ↦
@@ -51,7 +53,8 @@ lowering_step answer rows before q rest bounds h = record {
 }
 
 -- at the end the array has the bounds with the answer
-pub lowering_ends : (answer : ℤ) (rows : List ℕ) (before bounds : List (Option ℤ)) → IsLowering answer rows before [] bounds → (r : ℕ) → bound_at bounds r ≡ bound_with rows answer r (bound_at before r)
+pub lowering_ends : (answer : ℤ) (rows : List ℕ) (before bounds : List (Option ℤ)) → IsLowering answer rows before [] bounds → (r : ℕ) →
+    bound_at bounds r ≡ bound_with rows answer r (bound_at before r)
 lowering_ends answer rows before bounds h = h.lowered
 
 -- an array of bounds: that of each row in these answers

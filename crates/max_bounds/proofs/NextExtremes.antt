@@ -103,7 +103,8 @@ module _ (answers : List Answer) (rows : List ℕ) (x : ℤ) where
 
   module _ (n : ℕ) (are : AreRows n rows) where
     -- the extreme rows of a higher answer in the set are those of them that fall
-    inside : (a : Answer) → AreRows n a.rows → x <ℤ a.value → filter (has_row rows) (extremes answers a) ≡ falls_of (upper_bound answers) (rows_above (upper_bound answers) x rows) a
+    inside : (a : Answer) → AreRows n a.rows → x <ℤ a.value →
+        filter (has_row rows) (extremes answers a) ≡ falls_of (upper_bound answers) (rows_above (upper_bound answers) x rows) a
     inside a of_table less =
         let falling = rows_above (upper_bound answers) x rows in
         let test : ℕ → Bool = λ r. has_row a.rows r && is_bound (upper_bound answers r) a.value in
@@ -114,7 +115,8 @@ module _ (answers : List Answer) (rows : List ℕ) (x : ℤ) where
         (λ there.
         let one = filter-has (has_row rows) (extremes answers a) r there in
         let two = filter-has (λ q. is_bound (upper_bound answers q) a.value) a.rows r one.0 in
-        has-filter test falling r (has-filter (λ q. is_above x (upper_bound answers q)) rows r one.1 (above_it (upper_bound answers r) a.value x less two.1)) (and_from (has_row a.rows r) (is_bound (upper_bound answers r) a.value) two.0 two.1))
+        has-filter test falling r (has-filter (λ q. is_above x (upper_bound answers q)) rows r one.1 (above_it (upper_bound answers r) a.value x less two.1))
+        (and_from (has_row a.rows r) (is_bound (upper_bound answers r) a.value) two.0 two.1))
         (λ there.
         let one = filter-has test falling r there in
         let two = filter-has (λ q. is_above x (upper_bound answers q)) rows r one.0 in
@@ -157,7 +159,9 @@ module _ (answers : List Answer) (rows : List ℕ) (x : ℤ) where
 
   -- its value stays
   lowered_value : (e : Answer) → (lowered_set x rows e).value ≡ e.value
-  lowered_value e = by_lt_z x e.value (λ less. ap (λ (a : Answer). a.value) (lowered_higher e less)) (λ not. ap (λ (a : Answer). a.value) (lowered_other e (omega (arith, ints))))
+  lowered_value e =
+      by_lt_z x e.value (λ less. ap (λ (a : Answer). a.value) (lowered_higher e less))
+      (λ not. ap (λ (a : Answer). a.value) (lowered_other e (omega (arith, ints))))
 
   -- the extreme rows of an answer are lowered as its set is
   pub lowered_extremes : (a e : Answer) → IsOneOf a answers → a.value ≡ e.value → extremes answers a ≡ e.rows → extremes more a ≡ (lowered_set x rows e).rows
@@ -171,12 +175,15 @@ module _ (answers : List Answer) (rows : List ℕ) (x : ℤ) where
   lowered_fewer a e one same fewer r there = by_lt_z x e.value
       (λ less.
       let found = filter-has (λ q. not (has_row rows q)) e.rows r (ap (λ (b : Answer). has_row b.rows r) (sym (lowered_higher e less)) ∙ there) in
-      ap (λ l. has_row l r) (higher_loses answers rows x a one (omega (arith, ints))) ∙ has-filter (λ q. not (has_row rows q)) (extremes answers a) r (fewer r found.0) found.1)
+      ap (λ l. has_row l r) (higher_loses answers rows x a one (omega (arith, ints)))
+      ∙ has-filter (λ q. not (has_row rows q)) (extremes answers a) r (fewer r found.0) found.1)
       (λ not.
-      ap (λ l. has_row l r) (lower_keeps answers rows x a one (omega (arith, ints))) ∙ fewer r (ap (λ (b : Answer). has_row b.rows r) (sym (lowered_other e (omega (arith, ints)))) ∙ there))
+      ap (λ l. has_row l r) (lower_keeps answers rows x a one (omega (arith, ints)))
+      ∙ fewer r (ap (λ (b : Answer). has_row b.rows r) (sym (lowered_other e (omega (arith, ints)))) ∙ there))
 
   -- least sets stay so where the extreme rows do
-  pub least_same : (sets : List Answer) → ((a : Answer) → IsOneOf a answers → extremes more a ≡ extremes answers a) → AreLeast (extremes answers) answers sets → AreLeast (extremes more) answers sets
+  pub least_same : (sets : List Answer) → ((a : Answer) → IsOneOf a answers → extremes more a ≡ extremes answers a) → AreLeast (extremes answers) answers sets →
+      AreLeast (extremes more) answers sets
   least_same sets same h = record {
     each = λ e one. let found = h.each e one in (found.0, found.1, found.2, same found.0 found.1 ∙ found.3);
     covered = λ a one. let found = h.covered a one in (found.0, found.1, found.2, λ r there. ap (λ l. has_row l r) (same a one) ∙ found.3 r there);
@@ -245,4 +252,5 @@ module _ (answers : List Answer) (rows : List ℕ) (x : ℤ) where
           let found = h.each w within in
           let extreme : has_row (extremes more found.0) r ≡ true = ap (λ l. has_row l r) found.3 ∙ there in
           let bound = filter-has (λ q. is_bound (upper_bound more q) found.0.value) found.0.rows r extreme in
-          has-filter (λ q. is_bound (upper_bound more q) x) rows r (in_set w.rows r is.none_left there) (ap (is_bound (upper_bound more r)) (sym (found.2 ∙ is.same)) ∙ bound.1)
+          has-filter (λ q. is_bound (upper_bound more q) x) rows r (in_set w.rows r is.none_left there)
+          (ap (is_bound (upper_bound more r)) (sym (found.2 ∙ is.same)) ∙ bound.1)

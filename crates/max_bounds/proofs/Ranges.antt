@@ -11,7 +11,8 @@ use Rattle.max_bounds.specs.BoundLaws.{exact_bound}
 use Rattle.max_bounds.proofs.Walks.{has-push, filter-none}
 
 -- one row more
-pub range_more : (bound : ℕ → Option ℤ) (yielded : List ℕ) (r : ℕ) (range wider : Range) → IsRange bound yielded range → Widens range (bound r) wider → IsRange bound (yielded ++ r ∷ []) wider
+pub range_more : (bound : ℕ → Option ℤ) (yielded : List ℕ) (r : ℕ) (range wider : Range) → IsRange bound yielded range → Widens range (bound r) wider →
+    IsRange bound (yielded ++ r ∷ []) wider
 range_more bound yielded r range wider holds widens q b there is = elim (has-push yielded r q there) [
   | inl front ↦
       let within = holds q b front is in
@@ -24,7 +25,8 @@ range_more bound yielded r range wider holds widens q b there is = elim (has-pus
 ]
 
 -- an answer outside them is no bound of the rows
-pub falls-outside : (bound : ℕ → Option ℤ) (falling : List ℕ) (range : Range) (a : Answer) → IsRange bound falling range → (a.value <ℤ range.low) ⊎ (range.high <ℤ a.value) → falls_of bound falling a ≡ []
+pub falls-outside : (bound : ℕ → Option ℤ) (falling : List ℕ) (range : Range) (a : Answer) → IsRange bound falling range →
+    (a.value <ℤ range.low) ⊎ (range.high <ℤ a.value) → falls_of bound falling a ≡ []
 falls-outside bound falling range a holds beyond = filter-none (λ r. has_row a.rows r && is_bound (bound r) a.value) falling (λ r there.
     ap (λ b. has_row a.rows r && b) (no_bound r there) ∙ never (has_row a.rows r))
   where

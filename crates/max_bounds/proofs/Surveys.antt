@@ -34,7 +34,8 @@ counting_begins bound n rows answer are most = record {
 }
 
 -- the lone row with one row more
-lone_of-push : (seen : List ℕ) (q : ℕ) (only : Option ℕ) → ((length seen ≡ 0) × (only ≡ Some q)) ⊎ ((length seen ≢ 0) × (only ≡ None)) → only ≡ lone_of (seen ++ q ∷ [])
+lone_of-push : (seen : List ℕ) (q : ℕ) (only : Option ℕ) → ((length seen ≡ 0) × (only ≡ Some q)) ⊎ ((length seen ≢ 0) × (only ≡ None)) →
+    only ≡ lone_of (seen ++ q ∷ [])
 lone_of-push [] q only (inl (e, f)) = f
 lone_of-push [] q only (inr (e, f)) = absurd (e refl)
 lone_of-push (r ∷ []) q only (inl (e, f)) = absurd (omega arith)
@@ -48,7 +49,9 @@ pub counting_found : (bound : ℕ → Option ℤ) (rows : List ℕ) (answer : �
     ((count ≡ 0) × (next ≡ Some q)) ⊎ ((count ≢ 0) × (next ≡ None)) → IsCounting bound rows answer rest (count + 1) next
 counting_found bound rows answer q rest count only next h reaches first = record {
   seen = h.seen ++ q ∷ [];
-  together = append_assoc h.seen (q ∷ []) (reaching bound rest answer) ∙ ap (λ b. h.seen ++ cond b (q ∷ reaching bound rest answer) (reaching bound rest answer)) (sym reaches) ∙ h.together;
+  together =
+      append_assoc h.seen (q ∷ []) (reaching bound rest answer)
+      ∙ ap (λ b. h.seen ++ cond b (q ∷ reaching bound rest answer) (reaching bound rest answer)) (sym reaches) ∙ h.together;
   counted = let longer = length-append h.seen (q ∷ []) in omega (arith, h.counted);
   alone = lone_of-push h.seen q next (elim first [ inl (e, f) ↦ inl (sym h.counted ∙ e, f) | inr (e, f) ↦ inr (λ z. e (h.counted ∙ z), f) ]);
   within = h.within.1;

@@ -81,7 +81,8 @@ joined_if n test yielded later rows r are together = by_test (test r) refl
         ap (λ t. cond t (with_row n (filter test yielded) r) (filter test yielded)) is
         ∙ added_last n (filter test yielded) later r (subst (AreRows n) pushed (filter-ascends 0 n test (yielded ++ r ∷ []) front)) ∙ sym pushed
     by_test false is =
-        ap (λ t. cond t (with_row n (filter test yielded) r) (filter test yielded)) is ∙ sym (filter-push test yielded r false is ∙ append-nil (filter test yielded))
+        ap (λ t. cond t (with_row n (filter test yielded) r) (filter test yielded)) is
+        ∙ sym (filter-push test yielded r false is ∙ append-nil (filter test yielded))
 
 -- at the end of a walk all rows were seen
 pub walk_ends : (yielded left rows : List ℕ) → yielded ++ left ≡ rows → left ≡ [] → yielded ≡ rows
@@ -93,7 +94,8 @@ fresh n yielded left later rows r are together first =
     not_before 0 n yielded later r (subst (AreRows n) (sym (ap (λ xs. yielded ++ xs) (sym first) ∙ together)) are)
 
 -- a row that was seen is one of all
-pub seen_before : (yielded left later rows : List ℕ) (r q : ℕ) → yielded ++ left ≡ rows → left ≡ r ∷ later → has_row (yielded ++ r ∷ []) q ≡ true → has_row rows q ≡ true
+pub seen_before : (yielded left later rows : List ℕ) (r q : ℕ) → yielded ++ left ≡ rows → left ≡ r ∷ later → has_row (yielded ++ r ∷ []) q ≡ true →
+    has_row rows q ≡ true
 seen_before yielded left later rows r q together first there =
     subst (λ l. has_row l q ≡ true) (walk_more yielded left later rows r together first)
     (list_any-append (λ x. x == q) (yielded ++ r ∷ []) later ∙ or_left (has_row (yielded ++ r ∷ []) q) (has_row later q) there)
@@ -133,14 +135,16 @@ pub filter-shorter : (test : ℕ → Bool) (rows : List ℕ) (count : ℕ) → c
 filter-shorter test rows count is = let less = shorter test rows in omega arith
 
 -- a count of what passes, with a row that does
-pub counted-push : (test : ℕ → Bool) (rows : List ℕ) (r count : ℕ) → count ≡ length (filter test rows) → test r ≡ true → count + 1 ≡ length (filter test (rows ++ r ∷ []))
+pub counted-push : (test : ℕ → Bool) (rows : List ℕ) (r count : ℕ) → count ≡ length (filter test rows) → test r ≡ true →
+    count + 1 ≡ length (filter test (rows ++ r ∷ []))
 counted-push test rows r count is passes =
     let longer = length-append (filter test rows) (r ∷ []) in
     let more : length (filter test (rows ++ r ∷ [])) ≡ length (filter test rows ++ r ∷ []) = ap length (filter-push test rows r true passes) in
     omega arith
 
 -- and with one that does not
-pub counted-same : (test : ℕ → Bool) (rows : List ℕ) (r count : ℕ) → count ≡ length (filter test rows) → test r ≡ false → count ≡ length (filter test (rows ++ r ∷ []))
+pub counted-same : (test : ℕ → Bool) (rows : List ℕ) (r count : ℕ) → count ≡ length (filter test rows) → test r ≡ false →
+    count ≡ length (filter test (rows ++ r ∷ []))
 counted-same test rows r count is fails = is ∙ ap length (sym (append-nil (filter test rows)) ∙ sym (filter-push test rows r false fails))
 
 -- what passed so far is no more than what passes

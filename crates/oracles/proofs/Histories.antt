@@ -29,7 +29,9 @@ pub answers_of-own : (column : ℕ) (history : List Answered) (i : ℕ) (r : Ans
 answers_of-own column history i r l is own = answers_of-more column history i r l is ∙ ap (λ b. answers_of column (take i history) ++ answer_if b r) own
 
 -- a record of another column
-pub answers_of-other : (column : ℕ) (history : List Answered) (i : ℕ) (r : Answered) → i < length history → r ≡ get_or history i r → (r.column == column) ≡ false →
+pub answers_of-other : (column : ℕ) (history : List Answered) (i : ℕ) (r : Answered) → i < length history → r ≡ get_or history i r →
+    (r.column == column) ≡ false →
     answers_of column (take (i + 1) history) ≡ answers_of column (take i history)
 answers_of-other column history i r l is other =
-    answers_of-more column history i r l is ∙ ap (λ b. answers_of column (take i history) ++ answer_if b r) other ∙ append-nil (answers_of column (take i history))
+    answers_of-more column history i r l is ∙ ap (λ b. answers_of column (take i history) ++ answer_if b r) other
+    ∙ append-nil (answers_of column (take i history))

@@ -40,10 +40,12 @@ turn true false a b bound = refl
 turn false also a b bound = refl
 
 -- a bound with one answer more
-pub upper_bound-push : (answers : List Answer) (a : Answer) (r : ℕ) → upper_bound (answers ++ a ∷ []) r ≡ bound_with (has_row a.rows r) a.value (upper_bound answers r)
+pub upper_bound-push : (answers : List Answer) (a : Answer) (r : ℕ) →
+    upper_bound (answers ++ a ∷ []) r ≡ bound_with (has_row a.rows r) a.value (upper_bound answers r)
 upper_bound-push [] a r = refl
 upper_bound-push (b ∷ answers) a r =
-    ap (bound_with (has_row b.rows r) b.value) (upper_bound-push answers a r) ∙ turn (has_row b.rows r) (has_row a.rows r) b.value a.value (upper_bound answers r)
+    ap (bound_with (has_row b.rows r) b.value) (upper_bound-push answers a r)
+    ∙ turn (has_row b.rows r) (has_row a.rows r) b.value a.value (upper_bound answers r)
 
 module _ (column : ℕ) (history : List Answered) (i : ℕ) (r : Answered) (row : ℕ) (bound : Option ℤ)
     (l : i < length history) (is : r ≡ get_or history i r) (before : bound ≡ upper_bound (answers_of column (take i history)) row) where
@@ -55,7 +57,8 @@ module _ (column : ℕ) (history : List Answered) (i : ℕ) (r : Answered) (row 
       ∙ ap (λ answers. upper_bound answers row) (sym (answers_of-own column history i r l is own))
 
   -- a record of the column whose set has the row
-  pub bound-lowered : r.column ≡ column → has_row r.rows.list row ≡ true → Some (least_of r.answer bound) ≡ upper_bound (answers_of column (take (i + 1) history)) row
+  pub bound-lowered : r.column ≡ column → has_row r.rows.list row ≡ true →
+      Some (least_of r.answer bound) ≡ upper_bound (answers_of column (take (i + 1) history)) row
   bound-lowered own has = ap (λ b. bound_with b r.answer bound) (sym has) ∙ with_answer (eq-eqb r.column column own)
 
   -- one whose set has not
@@ -78,7 +81,9 @@ ascends-filter p low n (r ∷ rows) h = kept (p r) low n r (filter p rows) h.0 h
 
 -- the rows of a set that pass are a set
 pub filter-rows : (p : ℕ → Bool) (n : ℕ) (rows : List ℕ) → AreRows n rows → filter p rows ≡ rows_that (λ r. has_row rows r && p r) n
-filter-rows p n rows h = ascending_same 0 n n (filter p rows) (rows_that (λ r. has_row rows r && p r) n) (ascends-filter p 0 n rows h) (AreRows-rows_that (λ r. has_row rows r && p r) n) (λ r.
+filter-rows p n rows h =
+    ascending_same 0 n n (filter p rows) (rows_that (λ r. has_row rows r && p r) n) (ascends-filter p 0 n rows h)
+    (AreRows-rows_that (λ r. has_row rows r && p r) n) (λ r.
     has_filtered p rows r ∙ elim (cases_lt r n) [
       | inl l ↦ sym (has-rows_that (λ q. has_row rows q && p q) n r l)
       | inr l ↦ ap (λ b. b && p r) (none_above 0 n rows h r l) ∙ sym (has-rows_that_above (λ q. has_row rows q && p q) n r l)

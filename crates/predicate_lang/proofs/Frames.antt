@@ -16,7 +16,8 @@ pub length-frames_of : (os : List Opened) → length (frames_of os) ≡ length o
 length-frames_of os = length-reverse (map frame_of os) ∙ length-map os frame_of
 
 -- the innermost one and those around it
-pub frames_of_last : (os : List Opened) (o : Opened) → 0 < length os → frames_of os ≡ frame_of (get_or os (length os - 1) o) ∷ frames_of (take (length os - 1) os)
+pub frames_of_last : (os : List Opened) (o : Opened) → 0 < length os →
+    frames_of os ≡ frame_of (get_or os (length os - 1) o) ∷ frames_of (take (length os - 1) os)
 frames_of_last os o some =
     let all : take (length os - 1 + 1) os ≡ os = take_all (length os - 1 + 1) os (omega arith) in
     let front : take (length os - 1 + 1) os ≡ take (length os - 1) os ++ get_or os (length os - 1) o ∷ [] = take_more os (length os - 1) o (omega arith) in

@@ -15,14 +15,16 @@ pub take_passing : (p : ℕ → Bool) (xs : List ℕ) → take (length (take_whi
 take_passing p xs = ap (λ n. take n xs) (length-take (prefix_len p xs) xs) ∙ take_min (prefix_len p xs) xs
 
 -- a byte and those after it that pass a test
-pub take_front : (p : ℕ → Bool) (bytes : List ℕ) (at n : ℕ) → at < length bytes → n ≡ length (take_while p (drop (at + 1) bytes)) → take (at + 1 + n - at) (drop at bytes) ≡ get_or bytes at 0 ∷ take_while p (drop (at + 1) bytes)
+pub take_front : (p : ℕ → Bool) (bytes : List ℕ) (at n : ℕ) → at < length bytes → n ≡ length (take_while p (drop (at + 1) bytes)) →
+    take (at + 1 + n - at) (drop at bytes) ≡ get_or bytes at 0 ∷ take_while p (drop (at + 1) bytes)
 take_front p bytes at n inside is =
     let many : at + 1 + n - at ≡ suc n = omega arith in
     ap (λ k. take k (drop at bytes)) many ∙ ap (take (suc n)) (drop_more bytes at 0 inside) ∙ ap (λ k. get_or bytes at 0 ∷ take k (drop (at + 1) bytes)) is
     ∙ ap (λ xs. get_or bytes at 0 ∷ xs) (take_passing p (drop (at + 1) bytes))
 
 -- those after it alone
-pub take_behind : (p : ℕ → Bool) (bytes : List ℕ) (at n : ℕ) → n ≡ length (take_while p (drop (at + 1) bytes)) → take (at + 1 + n - (at + 1)) (drop (at + 1) bytes) ≡ take_while p (drop (at + 1) bytes)
+pub take_behind : (p : ℕ → Bool) (bytes : List ℕ) (at n : ℕ) → n ≡ length (take_while p (drop (at + 1) bytes)) →
+    take (at + 1 + n - (at + 1)) (drop (at + 1) bytes) ≡ take_while p (drop (at + 1) bytes)
 take_behind p bytes at n is =
     let many : at + 1 + n - (at + 1) ≡ n = omega arith in
     ap (λ k. take k (drop (at + 1) bytes)) (many ∙ is) ∙ take_passing p (drop (at + 1) bytes)
@@ -39,11 +41,14 @@ name_ascii [] = IsAscii-nil
 name_ascii (x ∷ xs) = go (is_name_byte x) refl (name_ascii xs)
   where
     go : (t : Bool) → is_name_byte x ≡ t → IsAscii (take_while is_name_byte xs) → IsAscii (take_while is_name_byte (x ∷ xs))
-    go true e rest = subst IsAscii (sym (take_while-cons is_name_byte x xs ∙ ap (λ t. cond t (x ∷ take_while is_name_byte xs) []) e)) (IsAscii-cons x (take_while is_name_byte xs) (name_byte_ascii x e) rest)
+    go true e rest =
+        subst IsAscii (sym (take_while-cons is_name_byte x xs ∙ ap (λ t. cond t (x ∷ take_while is_name_byte xs) []) e))
+        (IsAscii-cons x (take_while is_name_byte xs) (name_byte_ascii x e) rest)
     go false e rest = subst IsAscii (sym (take_while-cons is_name_byte x xs ∙ ap (λ t. cond t (x ∷ take_while is_name_byte xs) []) e)) IsAscii-nil
 
 -- a text may be cut after a name
-pub name_boundary : (text : List ℕ) (at n : ℕ) → IsUtf8 text → at < length text → is_ascii_alphabetic (get_or text at 0) ≡ true → n ≡ length (take_while is_name_byte (drop (at + 1) text)) → n ≤ length (drop (at + 1) text) → IsCharBoundary text (at + 1 + n)
+pub name_boundary : (text : List ℕ) (at n : ℕ) → IsUtf8 text → at < length text → is_ascii_alphabetic (get_or text at 0) ≡ true →
+    n ≡ length (take_while is_name_byte (drop (at + 1) text)) → n ≤ length (drop (at + 1) text) → IsCharBoundary text (at + 1 + n)
 name_boundary text at n utf8 inside letter is within =
     let from_there : IsUtf8 (drop at text) = IsUtf8-drop text at utf8 (IsCharBoundary-before_ascii text at inside (letter_ascii (get_or text at 0) letter)) in
     let word : take (at + 1 + n - at) (drop at text) ≡ get_or text at 0 ∷ take_while is_name_byte (drop (at + 1) text) = take_front is_name_byte text at n inside is in

@@ -45,11 +45,14 @@ all_from zero at bytes = from_none at
 all_from (suc t) at [] = from_none at
 all_from (suc t) at (b ∷ bytes) = at_blank t at bytes (is_blank b) (front_token b bytes) (λ n a. all_from t a (drop n bytes))
   where
-    at_front : (t at : ℕ) (bytes : List ℕ) (o : Option Front) → ((n a : ℕ) → AllFrom a (lex_from t a (drop n bytes))) → AllFrom at (lex_front at o (λ n. lex_from t (at + 1 + n) (drop n bytes)))
+    at_front : (t at : ℕ) (bytes : List ℕ) (o : Option Front) → ((n a : ℕ) → AllFrom a (lex_from t a (drop n bytes))) →
+        AllFrom at (lex_front at o (λ n. lex_from t (at + 1 + n) (drop n bytes)))
     at_front t at bytes None rest = from_stop at at (omega arith)
-    at_front t at bytes (Some f) rest = from_token at at f.token _ (omega arith) (from_lower (at + 1 + f.more) at _ (omega arith) (rest f.more (at + 1 + f.more)))
+    at_front t at bytes (Some f) rest =
+        from_token at at f.token _ (omega arith) (from_lower (at + 1 + f.more) at _ (omega arith) (rest f.more (at + 1 + f.more)))
 
-    at_blank : (t at : ℕ) (bytes : List ℕ) (blank : Bool) (o : Option Front) → ((n a : ℕ) → AllFrom a (lex_from t a (drop n bytes))) → AllFrom at (cond blank (lex_from t (at + 1) bytes) (lex_front at o (λ n. lex_from t (at + 1 + n) (drop n bytes))))
+    at_blank : (t at : ℕ) (bytes : List ℕ) (blank : Bool) (o : Option Front) → ((n a : ℕ) → AllFrom a (lex_from t a (drop n bytes))) →
+        AllFrom at (cond blank (lex_from t (at + 1) bytes) (lex_front at o (λ n. lex_from t (at + 1 + n) (drop n bytes))))
     at_blank t at bytes true o rest = from_lower (at + 1) at _ (omega arith) (rest 0 (at + 1))
     at_blank t at bytes false o rest = at_front t at bytes o rest
 
@@ -80,13 +83,18 @@ all_below : (n t at : ℕ) (bytes : List ℕ) → (0 < length bytes → at + len
 unfolding lex_from
 all_below n zero at bytes fits = below_none n
 all_below n (suc t) at [] fits = below_none n
-all_below n (suc t) at (b ∷ bytes) fits = at_blank n t at bytes (is_blank b) (front_token b bytes) (fits (omega arith)) (λ k. all_below n t (at + 1 + k) (drop k bytes) (λ some. (let whole : at + suc (length bytes) ≤ n = fits (omega arith) in omega (arith, whole, length-drop k bytes, some))))
+all_below n (suc t) at (b ∷ bytes) fits =
+    at_blank n t at bytes (is_blank b) (front_token b bytes) (fits (omega arith))
+    (λ k. all_below n t (at + 1 + k) (drop k bytes) (λ some. (let whole : at + suc (length bytes) ≤ n = fits (omega arith) in omega (arith, whole, length-drop k bytes, some))))
   where
-    at_front : (n t at : ℕ) (bytes : List ℕ) (o : Option Front) → at + suc (length bytes) ≤ n → ((k : ℕ) → AllBelow n (lex_from t (at + 1 + k) (drop k bytes))) → AllBelow n (lex_front at o (λ k. lex_from t (at + 1 + k) (drop k bytes)))
+    at_front : (n t at : ℕ) (bytes : List ℕ) (o : Option Front) → at + suc (length bytes) ≤ n →
+        ((k : ℕ) → AllBelow n (lex_from t (at + 1 + k) (drop k bytes))) → AllBelow n (lex_front at o (λ k. lex_from t (at + 1 + k) (drop k bytes)))
     at_front n t at bytes None fit rest = below_stop n at (omega arith)
     at_front n t at bytes (Some f) fit rest = below_token n at f.token _ (omega arith) (rest f.more)
 
-    at_blank : (n t at : ℕ) (bytes : List ℕ) (blank : Bool) (o : Option Front) → at + suc (length bytes) ≤ n → ((k : ℕ) → AllBelow n (lex_from t (at + 1 + k) (drop k bytes))) → AllBelow n (cond blank (lex_from t (at + 1) bytes) (lex_front at o (λ k. lex_from t (at + 1 + k) (drop k bytes))))
+    at_blank : (n t at : ℕ) (bytes : List ℕ) (blank : Bool) (o : Option Front) → at + suc (length bytes) ≤ n →
+        ((k : ℕ) → AllBelow n (lex_from t (at + 1 + k) (drop k bytes))) →
+        AllBelow n (cond blank (lex_from t (at + 1) bytes) (lex_front at o (λ k. lex_from t (at + 1 + k) (drop k bytes))))
     at_blank n t at bytes true o fit rest = let same : at + 1 + 0 ≡ at + 1 = omega arith in subst (λ (a : ℕ). AllBelow n (lex_from t a bytes)) same (rest 0)
     at_blank n t at bytes false o fit rest = at_front n t at bytes o fit rest
 
@@ -122,7 +130,8 @@ run-push columns front b t at runs =
     ∙ ap (run columns (t ∷ [])) runs
 
 -- and one token more
-pub more_read : (columns : List Column) (text : List ℕ) (from count : ℕ) (b : Build) (l : Lexeme) → HasRead columns text from count b → IsNext columns text from l → may_put columns b l.token ≡ true → HasRead columns text l.end (count + 1) (put b l.token)
+pub more_read : (columns : List Column) (text : List ℕ) (from count : ℕ) (b : Build) (l : Lexeme) → HasRead columns text from count b →
+    IsNext columns text from l → may_put columns b l.token ≡ true → HasRead columns text l.end (count + 1) (put b l.token)
 more_read columns text from count b l read next may =
     let p = placed next.token l.at in
     record {
@@ -145,10 +154,12 @@ followed-stop : (ps : List Placed) (more : Lexed) → (followed ps more).stop �
 followed-stop [] more = refl
 followed-stop (p ∷ ps) more = followed-stop ps more
 
-tokens_are : (columns : List Column) (text : List ℕ) (from count : ℕ) (b : Build) (read : HasRead columns text from count b) → (lexed text).tokens ≡ read.front ++ (lexed_from text from).tokens
+tokens_are : (columns : List Column) (text : List ℕ) (from count : ℕ) (b : Build) (read : HasRead columns text from count b) →
+    (lexed text).tokens ≡ read.front ++ (lexed_from text from).tokens
 tokens_are columns text from count b read = ap (λ (l : Lexed). l.tokens) read.is_front ∙ followed-tokens read.front (lexed_from text from)
 
-stop_is : (columns : List Column) (text : List ℕ) (from count : ℕ) (b : Build) → HasRead columns text from count b → (lexed text).stop ≡ (lexed_from text from).stop
+stop_is : (columns : List Column) (text : List ℕ) (from count : ℕ) (b : Build) → HasRead columns text from count b →
+    (lexed text).stop ≡ (lexed_from text from).stop
 stop_is columns text from count b read = ap (λ (l : Lexed). l.stop) read.is_front ∙ followed-stop read.front (lexed_from text from)
 
 -- a token is one of those that were read, or one of those to come
@@ -184,7 +195,8 @@ front_runs columns x y s h = go (run columns x (Some start)) (sym (run-append co
     go (Some r) e = refl
 
 -- so the tokens up to one that was read begin a predicate
-read_begin : (columns : List Column) (front rest : List Placed) (k : ℕ) (s : Build) → run columns (tokens_of front) (Some start) ≡ Some s → k < length front → BeginPredicate columns (tokens_of (take (k + 1) (front ++ rest)))
+read_begin : (columns : List Column) (front rest : List Placed) (k : ℕ) (s : Build) → run columns (tokens_of front) (Some start) ≡ Some s → k < length front →
+    BeginPredicate columns (tokens_of (take (k + 1) (front ++ rest)))
 read_begin columns front rest k s runs low =
     let split : tokens_of front ≡ tokens_of (take (k + 1) front) ++ tokens_of (drop (k + 1) front) = ap tokens_of (sym (take-append-drop (k + 1) front)) ∙ map-append (λ (p : Placed). p.token) (take (k + 1) front) (drop (k + 1) front) in
     let begin = goes_on_predicate columns (tokens_of (take (k + 1) front)) (front_runs columns (tokens_of (take (k + 1) front)) (tokens_of (drop (k + 1) front)) s (ap (λ ts. run columns ts (Some start)) (sym split) ∙ runs)) in
@@ -193,13 +205,18 @@ read_begin columns front rest k s runs low =
 -- ---- the least offset
 
 -- no offset below those to come is due
-pub none_before : (columns : List Column) (text : List ℕ) (from count n : ℕ) (b : Build) → HasRead columns text from count b → count ≤ 512 → n ≤ length text → AllFrom n (lexed_from text from) → (other : ℕ) → Refuses columns text other → n ≤ other
-none_before columns text from count n b read few within all other (unfit k p is none) = go (where_is read.front (lexed_from text from).tokens k p (ap (λ ps. slice_get ps k) (sym (tokens_are columns text from count b read)) ∙ is))
+pub none_before : (columns : List Column) (text : List ℕ) (from count n : ℕ) (b : Build) → HasRead columns text from count b → count ≤ 512 → n ≤ length text →
+    AllFrom n (lexed_from text from) → (other : ℕ) → Refuses columns text other → n ≤ other
+none_before columns text from count n b read few within all other (unfit k p is none) =
+    go (where_is read.front (lexed_from text from).tokens k p (ap (λ ps. slice_get ps k) (sym (tokens_are columns text from count b read)) ∙ is))
   where
     go : Where read.front (lexed_from text from).tokens k p → n ≤ p.at
-    go (among_read low) = absurd (none (subst (λ (ps : List Placed). BeginPredicate columns (tokens_of (take (k + 1) ps))) (sym (tokens_are columns text from count b read)) (read_begin columns read.front (lexed_from text from).tokens k (b) read.builds low)))
+    go (among_read low) =
+        absurd
+        (none (subst (λ (ps : List Placed). BeginPredicate columns (tokens_of (take (k + 1) ps))) (sym (tokens_are columns text from count b read)) (read_begin columns read.front (lexed_from text from).tokens k (b) read.builds low)))
     go (among_rest j here high) = all.tokens j p here
-none_before columns text from count n b read few within all other (too_many p is) = go (where_is read.front (lexed_from text from).tokens 512 p (ap (λ ps. slice_get ps 512) (sym (tokens_are columns text from count b read)) ∙ is))
+none_before columns text from count n b read few within all other (too_many p is) =
+    go (where_is read.front (lexed_from text from).tokens 512 p (ap (λ ps. slice_get ps 512) (sym (tokens_are columns text from count b read)) ∙ is))
   where
     go : Where read.front (lexed_from text from).tokens 512 p → n ≤ p.at
     go (among_read low) = let many : length read.front ≡ count = read.many in absurd (omega (arith, many, low, few))
@@ -211,18 +228,23 @@ none_before columns text from count n b read few within all other (unfinished wh
 next_all : (columns : List Column) (text : List ℕ) (from : ℕ) (l : Lexeme) → IsNext columns text from l → AllFrom l.at (lexed_from text from)
 next_all columns text from l next =
     let longer : l.at < l.end = next.longer in
-    subst (AllFrom l.at) (sym next.lexed) (from_token l.at l.at next.token (lexed_from text l.end) (omega arith) (from_lower l.end l.at (lexed_from text l.end) (omega (arith, longer)) (lexed_from_rises text l.end)))
+    subst (AllFrom l.at) (sym next.lexed)
+    (from_token l.at l.at next.token (lexed_from text l.end) (omega arith) (from_lower l.end l.at (lexed_from text l.end) (omega (arith, longer)) (lexed_from_rises text l.end)))
 
 -- the next token is the one after those that were read
-next_there : (columns : List Column) (text : List ℕ) (from count : ℕ) (b : Build) (l : Lexeme) (read : HasRead columns text from count b) (next : IsNext columns text from l) → (lexed text).tokens ≡ read.front ++ placed next.token l.at ∷ (lexed_from text l.end).tokens
+next_there : (columns : List Column) (text : List ℕ) (from count : ℕ) (b : Build) (l : Lexeme) (read : HasRead columns text from count b) (next : IsNext columns text from l) →
+    (lexed text).tokens ≡ read.front ++ placed next.token l.at ∷ (lexed_from text l.end).tokens
 next_there columns text from count b l read next = tokens_are columns text from count b read ∙ ap (λ (m : Lexed). read.front ++ m.tokens) next.lexed
 
-next_at : (columns : List Column) (text : List ℕ) (from count : ℕ) (b : Build) (l : Lexeme) (read : HasRead columns text from count b) (next : IsNext columns text from l) → slice_get (lexed text).tokens count ≡ Some (placed next.token l.at)
+next_at : (columns : List Column) (text : List ℕ) (from count : ℕ) (b : Build) (l : Lexeme) (read : HasRead columns text from count b) (next : IsNext columns text from l) →
+    slice_get (lexed text).tokens count ≡ Some (placed next.token l.at)
 next_at columns text from count b l read next =
-    ap (slice_get (lexed text).tokens) (sym read.many) ∙ ap (λ ps. slice_get ps (length read.front)) (next_there columns text from count b l read next) ∙ there read.front (lexed_from text l.end).tokens (placed next.token l.at)
+    ap (slice_get (lexed text).tokens) (sym read.many) ∙ ap (λ ps. slice_get ps (length read.front)) (next_there columns text from count b l read next)
+    ∙ there read.front (lexed_from text l.end).tokens (placed next.token l.at)
 
 -- a token that may not stand there is refused
-pub unfit_there : (columns : List Column) (text : List ℕ) (from count : ℕ) (b : Build) (l : Lexeme) → HasRead columns text from count b → count ≤ 512 → IsNext columns text from l → may_put columns b l.token ≡ false → IsPlace columns text l.at
+pub unfit_there : (columns : List Column) (text : List ℕ) (from count : ℕ) (b : Build) (l : Lexeme) → HasRead columns text from count b → count ≤ 512 →
+    IsNext columns text from l → may_put columns b l.token ≡ false → IsPlace columns text l.at
 unfit_there columns text from count b l read few next may =
     let p = placed next.token l.at in
     let up_to : take (count + 1) (lexed text).tokens ≡ read.front ++ p ∷ [] = ap (λ n. take (n + 1) (lexed text).tokens) (sym read.many) ∙ ap (take (length read.front + 1)) (next_there columns text from count b l read next) ∙ taken read.front (lexed_from text l.end).tokens p in
@@ -234,12 +256,14 @@ unfit_there columns text from count b l read few next may =
     let inside : l.end ≤ length text = next.within in
     let longer : l.at < l.end = next.longer in
     record {
-      refuses = unfit count p (next_at columns text from count b l read next) (λ begin. false≢true (sym (ap is_some stopped) ∙ begins_runs columns (tokens_of (take (count + 1) (lexed text).tokens)) begin));
+      refuses =
+          unfit count p (next_at columns text from count b l read next) (λ begin. false≢true (sym (ap is_some stopped) ∙ begins_runs columns (tokens_of (take (count + 1) (lexed text).tokens)) begin));
       least = none_before columns text from count l.at b read few (omega (arith, inside, longer)) (next_all columns text from l next);
     }
 
 -- token 513 is refused, whatever it is
-pub too_many_there : (columns : List Column) (text : List ℕ) (from count : ℕ) (b : Build) (l : Lexeme) → HasRead columns text from count b → count ≡ 512 → IsNext columns text from l → IsPlace columns text l.at
+pub too_many_there : (columns : List Column) (text : List ℕ) (from count : ℕ) (b : Build) (l : Lexeme) → HasRead columns text from count b → count ≡ 512 →
+    IsNext columns text from l → IsPlace columns text l.at
 too_many_there columns text from count b l read full next =
     let inside : l.end ≤ length text = next.within in
     let longer : l.at < l.end = next.longer in
@@ -249,7 +273,8 @@ too_many_there columns text from count b l read full next =
     }
 
 -- an offset at which no token begins is refused
-pub no_token_there : (columns : List Column) (text : List ℕ) (from count n : ℕ) (b : Build) → HasRead columns text from count b → count ≤ 512 → lexed_from text from ≡ no_tokens (Some n) → n < length text → IsPlace columns text n
+pub no_token_there : (columns : List Column) (text : List ℕ) (from count n : ℕ) (b : Build) → HasRead columns text from count b → count ≤ 512 →
+    lexed_from text from ≡ no_tokens (Some n) → n < length text → IsPlace columns text n
 no_token_there columns text from count n b read few none inside =
     record {
       refuses = no_token n (stop_is columns text from count b read ∙ ap (λ (l : Lexed). l.stop) none);
@@ -257,11 +282,14 @@ no_token_there columns text from count n b read few none inside =
     }
 
 -- at the end the tokens are those that were read
-all_read : (columns : List Column) (text : List ℕ) (from count : ℕ) (b : Build) (read : HasRead columns text from count b) → lexed_from text from ≡ no_tokens None → (lexed text).tokens ≡ read.front
-all_read columns text from count b read none = tokens_are columns text from count b read ∙ ap (λ (l : Lexed). read.front ++ l.tokens) none ∙ append-nil read.front
+all_read : (columns : List Column) (text : List ℕ) (from count : ℕ) (b : Build) (read : HasRead columns text from count b) →
+    lexed_from text from ≡ no_tokens None → (lexed text).tokens ≡ read.front
+all_read columns text from count b read none =
+    tokens_are columns text from count b read ∙ ap (λ (l : Lexed). read.front ++ l.tokens) none ∙ append-nil read.front
 
 -- an end before a predicate is complete is refused
-pub unfinished_there : (columns : List Column) (text : List ℕ) (from count : ℕ) (b : Build) → HasRead columns text from count b → count ≤ 512 → lexed_from text from ≡ no_tokens None → built b ≡ None → IsPlace columns text (length text)
+pub unfinished_there : (columns : List Column) (text : List ℕ) (from count : ℕ) (b : Build) → HasRead columns text from count b → count ≤ 512 →
+    lexed_from text from ≡ no_tokens None → built b ≡ None → IsPlace columns text (length text)
 unfinished_there columns text from count b read few none no_tree =
     record {
       refuses = unfinished (stop_is columns text from count b read ∙ ap (λ (l : Lexed). l.stop) none)
@@ -270,7 +298,8 @@ unfinished_there columns text from count b read few none no_tree =
     }
 
 -- and what is complete there means the tree that was built
-pub finished_there : (columns : List Column) (text : List ℕ) (from count : ℕ) (b : Build) (t : Tree) → HasRead columns text from count b → count ≤ 512 → lexed_from text from ≡ no_tokens None → built b ≡ Some t → Means columns text t
+pub finished_there : (columns : List Column) (text : List ℕ) (from count : ℕ) (b : Build) (t : Tree) → HasRead columns text from count b → count ≤ 512 →
+    lexed_from text from ≡ no_tokens None → built b ≡ Some t → Means columns text t
 finished_there columns text from count b t read few none is_tree =
     let are = all_read columns text from count b read none in
     let runs : run columns (tokens_of (lexed text).tokens) (Some start) ≡ Some b = ap (λ ps. run columns (tokens_of ps) (Some start)) are ∙ read.builds in
@@ -279,7 +308,8 @@ finished_there columns text from count b t read few none is_tree =
     record {
       whole = stop_is columns text from count b read ∙ ap (λ (l : Lexed). l.stop) none;
       few = omega (arith, many, long, few);
-      writes = built_written columns (tokens_of (lexed text).tokens) b.frames b.ors b.ands b.stand t (so_far columns (tokens_of (lexed text).tokens) b runs) is_tree;
+      writes =
+          built_written columns (tokens_of (lexed text).tokens) b.frames b.ors b.ands b.stand t (so_far columns (tokens_of (lexed text).tokens) b runs) is_tree;
     }
 
 too_short : (ps : List Placed) (k : ℕ) (p : Placed) → length ps ≤ k → slice_get ps k ≡ Some p → ⊥

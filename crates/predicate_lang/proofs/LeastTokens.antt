@@ -136,7 +136,8 @@ module _ (columns : List Column) where
       light : total w (bracketed (is_or_and t) (print_tokens columns t)) ≤ total w us
 
     -- a comparison
-    least_compare : (room : ℕ) (n : List ℕ) (c : ℕ) (o : Op) (l : Literal) → place_of n columns ≡ Some c → has_operator (role_at columns c) o ≡ true → is_of_role (role_at columns c) l ≡ true → LeastInAnd room (name n ∷ operator o ∷ value l ∷ []) (compared c o l)
+    least_compare : (room : ℕ) (n : List ℕ) (c : ℕ) (o : Op) (l : Literal) → place_of n columns ≡ Some c → has_operator (role_at columns c) o ≡ true →
+        is_of_role (role_at columns c) l ≡ true → LeastInAnd room (name n ∷ operator o ∷ value l ∷ []) (compared c o l)
     least_compare room n c o l place takes of_role =
         let name_is : n ≡ column_name columns c = named columns n c place in
         let found : place_of (column_name columns c) columns ≡ Some c = ap (λ m. place_of m columns) (sym name_is) ∙ place in
@@ -144,7 +145,9 @@ module _ (columns : List Column) where
         record { alone = conj (unit way); in_or_writes = unit way; writes = way; light = omega (arith, ap (λ m. w (name m)) name_is) }
 
     -- a list
-    least_one_of : (room : ℕ) (n : List ℕ) (c : ℕ) (l : Literal) (ls : List Literal) → place_of n columns ≡ Some c → list_all (is_of_role (role_at columns c)) (l ∷ ls) ≡ true → LeastInAnd room (name n ∷ in_word ∷ open_bracket ∷ value l ∷ more_literals ls) (among c (l ∷ ls))
+    least_one_of : (room : ℕ) (n : List ℕ) (c : ℕ) (l : Literal) (ls : List Literal) → place_of n columns ≡ Some c →
+        list_all (is_of_role (role_at columns c)) (l ∷ ls) ≡ true →
+        LeastInAnd room (name n ∷ in_word ∷ open_bracket ∷ value l ∷ more_literals ls) (among c (l ∷ ls))
     least_one_of room n c l ls place of_role =
         let name_is : n ≡ column_name columns c = named columns n c place in
         let found : place_of (column_name columns c) columns ≡ Some c = ap (λ m. place_of m columns) (sym name_is) ∙ place in
@@ -153,17 +156,22 @@ module _ (columns : List Column) where
 
     mutual
       pub least_alone : (room : ℕ) (us : List Token) (t : Tree) → Disjunction columns room us t → LeastAlone room us t
-      least_alone room us t (conj c) = let part = least_in_or room us t c in record { writes = part.alone; light = omega (arith, part.light, total-bracketed w (is_or t) (print_tokens columns t)) }
+      least_alone room us t (conj c) =
+          let part = least_in_or room us t c in
+          record { writes = part.alone; light = omega (arith, part.light, total-bracketed w (is_or t) (print_tokens columns t)) }
       least_alone room us t (or_conj {ts = xs} {us = ys} {p = p} {q = q} d c) =
           let left = least_alone room xs p d in
           let right = least_in_or room ys q c in
           record {
             writes = or_conj left.writes right.writes;
-            light = omega (arith, left.light, right.light, total-append w (print_tokens columns p) (or_word ∷ bracketed (is_or q) (print_tokens columns q)), total-append w xs (or_word ∷ ys));
+            light =
+                omega (arith, left.light, right.light, total-append w (print_tokens columns p) (or_word ∷ bracketed (is_or q) (print_tokens columns q)), total-append w xs (or_word ∷ ys));
           }
 
       least_in_or : (room : ℕ) (us : List Token) (t : Tree) → Conjunction columns room us t → LeastInOr room us t
-      least_in_or room us t (unit u) = let part = least_in_and room us t u in record { alone = part.alone; writes = part.in_or_writes; light = omega (arith, part.light, total-both w t (print_tokens columns t)) }
+      least_in_or room us t (unit u) =
+          let part = least_in_and room us t u in
+          record { alone = part.alone; writes = part.in_or_writes; light = omega (arith, part.light, total-both w t (print_tokens columns t)) }
       least_in_or room us t (and_unit {ts = xs} {us = ys} {p = p} {q = q} c u) =
           let left = least_in_or room xs p c in
           let right = least_in_and room ys q u in
@@ -171,7 +179,8 @@ module _ (columns : List Column) where
           record {
             alone = conj way;
             writes = way;
-            light = omega (arith, left.light, right.light, total-append w (bracketed (is_or p) (print_tokens columns p)) (and_word ∷ bracketed (is_or_and q) (print_tokens columns q)), total-append w xs (and_word ∷ ys));
+            light =
+                omega (arith, left.light, right.light, total-append w (bracketed (is_or p) (print_tokens columns p)) (and_word ∷ bracketed (is_or_and q) (print_tokens columns q)), total-append w xs (and_word ∷ ys));
           }
 
       least_in_and : (room : ℕ) (us : List Token) (t : Tree) → Operand columns room us t → LeastInAnd room us t

@@ -14,25 +14,33 @@ use Rattle.predicate_lang.proofs.Lexed.{lexed_from_token, lexed_from_no_token}
 
 pub front_of_letter : (b : ℕ) (bytes : List ℕ) → is_ascii_alphabetic b ≡ true → front_token b bytes ≡ word_front b bytes
 unfolding front_token
-front_of_letter b bytes h = ap (λ t. cond t (word_front b bytes) (cond (is_ascii_digit b || (b == 45)) (number_front b bytes) (cond (b == 39) (text_front (quoted false bytes)) (mark_front b bytes)))) h
+front_of_letter b bytes h =
+    ap
+    (λ t. cond t (word_front b bytes) (cond (is_ascii_digit b || (b == 45)) (number_front b bytes) (cond (b == 39) (text_front (quoted false bytes)) (mark_front b bytes)))) h
 
-pub front_of_number : (b : ℕ) (bytes : List ℕ) → is_ascii_alphabetic b ≡ false → (is_ascii_digit b || (b == 45)) ≡ true → front_token b bytes ≡ number_front b bytes
+pub front_of_number : (b : ℕ) (bytes : List ℕ) → is_ascii_alphabetic b ≡ false → (is_ascii_digit b || (b == 45)) ≡ true →
+    front_token b bytes ≡ number_front b bytes
 unfolding front_token
 front_of_number b bytes h i =
-    ap (λ t. cond t (word_front b bytes) (cond (is_ascii_digit b || (b == 45)) (number_front b bytes) (cond (b == 39) (text_front (quoted false bytes)) (mark_front b bytes)))) h
+    ap
+    (λ t. cond t (word_front b bytes) (cond (is_ascii_digit b || (b == 45)) (number_front b bytes) (cond (b == 39) (text_front (quoted false bytes)) (mark_front b bytes)))) h
     ∙ ap (λ t. cond t (number_front b bytes) (cond (b == 39) (text_front (quoted false bytes)) (mark_front b bytes))) i
 
-pub front_of_quote : (b : ℕ) (bytes : List ℕ) → is_ascii_alphabetic b ≡ false → (is_ascii_digit b || (b == 45)) ≡ false → (b == 39) ≡ true → front_token b bytes ≡ text_front (quoted false bytes)
+pub front_of_quote : (b : ℕ) (bytes : List ℕ) → is_ascii_alphabetic b ≡ false → (is_ascii_digit b || (b == 45)) ≡ false → (b == 39) ≡ true →
+    front_token b bytes ≡ text_front (quoted false bytes)
 unfolding front_token
 front_of_quote b bytes h i j =
-    ap (λ t. cond t (word_front b bytes) (cond (is_ascii_digit b || (b == 45)) (number_front b bytes) (cond (b == 39) (text_front (quoted false bytes)) (mark_front b bytes)))) h
+    ap
+    (λ t. cond t (word_front b bytes) (cond (is_ascii_digit b || (b == 45)) (number_front b bytes) (cond (b == 39) (text_front (quoted false bytes)) (mark_front b bytes)))) h
     ∙ ap (λ t. cond t (number_front b bytes) (cond (b == 39) (text_front (quoted false bytes)) (mark_front b bytes))) i
     ∙ ap (λ t. cond t (text_front (quoted false bytes)) (mark_front b bytes)) j
 
-pub front_of_mark : (b : ℕ) (bytes : List ℕ) → is_ascii_alphabetic b ≡ false → (is_ascii_digit b || (b == 45)) ≡ false → (b == 39) ≡ false → front_token b bytes ≡ mark_front b bytes
+pub front_of_mark : (b : ℕ) (bytes : List ℕ) → is_ascii_alphabetic b ≡ false → (is_ascii_digit b || (b == 45)) ≡ false → (b == 39) ≡ false →
+    front_token b bytes ≡ mark_front b bytes
 unfolding front_token
 front_of_mark b bytes h i j =
-    ap (λ t. cond t (word_front b bytes) (cond (is_ascii_digit b || (b == 45)) (number_front b bytes) (cond (b == 39) (text_front (quoted false bytes)) (mark_front b bytes)))) h
+    ap
+    (λ t. cond t (word_front b bytes) (cond (is_ascii_digit b || (b == 45)) (number_front b bytes) (cond (b == 39) (text_front (quoted false bytes)) (mark_front b bytes)))) h
     ∙ ap (λ t. cond t (number_front b bytes) (cond (b == 39) (text_front (quoted false bytes)) (mark_front b bytes))) i
     ∙ ap (λ t. cond t (text_front (quoted false bytes)) (mark_front b bytes)) j
 
@@ -50,10 +58,12 @@ pub record IsFirst (text : List ℕ) (from at : ℕ) : Type 0 where
   pub solid : is_blank (get_or text at 0) ≡ false
   pub same : lexed_from text at ≡ lexed_from text from
 
-pub next_is : (columns : List Column) (text : List ℕ) (from at : ℕ) (l : Lexeme) → IsFirst text from at → lexeme columns at (front_token (get_or text at 0) (drop (at + 1) text)) ≡ Some l → l.end ≤ length text → IsNext columns text from l
+pub next_is : (columns : List Column) (text : List ℕ) (from at : ℕ) (l : Lexeme) → IsFirst text from at →
+    lexeme columns at (front_token (get_or text at 0) (drop (at + 1) text)) ≡ Some l → l.end ≤ length text → IsNext columns text from l
 next_is columns text from at l first is within = go (front_token (get_or text at 0) (drop (at + 1) text)) refl is
   where
-    here : (f : Front) → front_token (get_or text at 0) (drop (at + 1) text) ≡ Some f → at + 1 + f.more ≤ length text → IsNext columns text from (record { token = seen columns f.token; at = at; end = at + 1 + f.more })
+    here : (f : Front) → front_token (get_or text at 0) (drop (at + 1) text) ≡ Some f → at + 1 + f.more ≤ length text →
+        IsNext columns text from (record { token = seen columns f.token; at = at; end = at + 1 + f.more })
     here f e fits = record {
       token = f.token;
       is_seen = refl;
@@ -70,7 +80,8 @@ next_is columns text from at l first is within = go (front_token (get_or text at
         let fits : at + 1 + f.more ≤ length text = omega (arith, ap (λ (x : Lexeme). x.end) same, within) in
         subst (IsNext columns text from) same (here f e fits)
 
-pub none_is : (columns : List Column) (text : List ℕ) (from at : ℕ) → IsFirst text from at → lexeme columns at (front_token (get_or text at 0) (drop (at + 1) text)) ≡ None → lexed_from text from ≡ no_tokens (Some at)
+pub none_is : (columns : List Column) (text : List ℕ) (from at : ℕ) → IsFirst text from at →
+    lexeme columns at (front_token (get_or text at 0) (drop (at + 1) text)) ≡ None → lexed_from text from ≡ no_tokens (Some at)
 none_is columns text from at first is = go (front_token (get_or text at 0) (drop (at + 1) text)) refl is
   where
     go : (o : Option Front) → front_token (get_or text at 0) (drop (at + 1) text) ≡ o → lexeme columns at o ≡ None → lexed_from text from ≡ no_tokens (Some at)
@@ -78,7 +89,8 @@ none_is columns text from at first is = go (front_token (get_or text at 0) (drop
     go (Some f) e h = absurd cc
 
 -- a mark with how many bytes follow its first one is the token there
-pub mark_is : (columns : List Column) (at : ℕ) (o : Option Front) (t : Token) (n : ℕ) → seen_front columns o ≡ Some (t, n) → lexeme columns at o ≡ Some (record { token = t; at = at; end = at + 1 + n })
+pub mark_is : (columns : List Column) (at : ℕ) (o : Option Front) (t : Token) (n : ℕ) → seen_front columns o ≡ Some (t, n) →
+    lexeme columns at o ≡ Some (record { token = t; at = at; end = at + 1 + n })
 mark_is columns at None t n h = absurd cc
 mark_is columns at (Some f) t n h = ap (λ (m : Option (Token × ℕ)). option_map (λ (p : Token × ℕ). record { token = p.0; at = at; end = at + 1 + p.1 }) m) h
 
@@ -87,7 +99,9 @@ no_mark_is columns at None h = refl
 no_mark_is columns at (Some f) h = absurd cc
 
 -- the offset of a refusal is where no token begins
-pub refused_is : (columns : List Column) (text : List ℕ) (from at n : ℕ) → IsFirst text from at → (lexeme columns at (front_token (get_or text at 0) (drop (at + 1) text)) ≡ None) × (n ≡ at) → (lexed_from text from ≡ no_tokens (Some n)) × (from ≤ n) × (n < length text)
+pub refused_is : (columns : List Column) (text : List ℕ) (from at n : ℕ) → IsFirst text from at →
+    (lexeme columns at (front_token (get_or text at 0) (drop (at + 1) text)) ≡ None) × (n ≡ at) →
+    (lexed_from text from ≡ no_tokens (Some n)) × (from ≤ n) × (n < length text)
 refused_is columns text from at n first is =
     let here : n ≡ at = is.1 in
     let behind : from ≤ at = first.behind in

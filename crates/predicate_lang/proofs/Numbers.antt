@@ -12,7 +12,8 @@ decimal_after_grows [] n = omega arith
 decimal_after_grows (b ∷ bytes) n = omega (arith, decimal_after_grows bytes (10 * n + (b - 48)))
 
 -- a number that is too large at some digit stays too large
-pub too_large : (digits : List ℕ) (i v d : ℕ) → i < length digits → d ≡ get_or digits i 0 → decimal_after v (drop i digits) ≡ decimal_after 0 digits → 10 ^ 12 < 10 * v + (d - 48) → within_most (decimal_after 0 digits) ≡ None
+pub too_large : (digits : List ℕ) (i v d : ℕ) → i < length digits → d ≡ get_or digits i 0 → decimal_after v (drop i digits) ≡ decimal_after 0 digits →
+    10 ^ 12 < 10 * v + (d - 48) → within_most (decimal_after 0 digits) ≡ None
 too_large digits i v d inside is same large =
     let next : decimal_after v (drop i digits) ≡ decimal_after (10 * v + (d - 48)) (drop (i + 1) digits) = ap (decimal_after v) (drop_more digits i 0 inside) ∙ ap (λ b. decimal_after (10 * v + (b - 48)) (drop (i + 1) digits)) (sym is) in
     let grows : 10 * v + (d - 48) ≤ decimal_after 0 digits = omega (arith, decimal_after_grows (drop (i + 1) digits) (10 * v + (d - 48)), next, same) in

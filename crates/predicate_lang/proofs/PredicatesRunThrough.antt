@@ -37,8 +37,11 @@ role_public (Some role.Max) l h = h
 role_public None l h = h
 
 -- after a whole operand where no `not` waits for it
-plain_whole : (fs : List Frame) (ors ands : Option Tree) (t : Tree) → is_under_not fs ≡ false → whole fs ors ands t ≡ build fs ors None (behind (add_and ands t))
-plain_whole fs ors ands t plain = ap (λ gs. build gs ors None (behind (add_and ands (negated fs t)))) (without_nots_bracket fs plain) ∙ ap (λ u. build fs ors None (behind (add_and ands u))) (negated_bracket fs t plain)
+plain_whole : (fs : List Frame) (ors ands : Option Tree) (t : Tree) → is_under_not fs ≡ false →
+    whole fs ors ands t ≡ build fs ors None (behind (add_and ands t))
+plain_whole fs ors ands t plain =
+    ap (λ gs. build gs ors None (behind (add_and ands (negated fs t)))) (without_nots_bracket fs plain)
+    ∙ ap (λ u. build fs ors None (behind (add_and ands u))) (negated_bracket fs t plain)
 
 module _ (columns : List Column) where
   -- after a whole disjunction
@@ -49,7 +52,8 @@ module _ (columns : List Column) where
     adds : add_or ors last ≡ t
 
   -- a comparison after the name of a column
-  runs_compare : (fs : List Frame) (ors ands : Option Tree) (c : ℕ) (o : Op) (l : Literal) → has_operator (role_at columns c) o ≡ true → is_of_role (role_at columns c) l ≡ true
+  runs_compare : (fs : List Frame) (ors ands : Option Tree) (c : ℕ) (o : Op) (l : Literal) → has_operator (role_at columns c) o ≡ true
+      → is_of_role (role_at columns c) l ≡ true
       → run columns (operator o ∷ value l ∷ []) (step columns (build fs ors ands at_operand) (ColumnToken (Some c))) ≡ Some (whole fs ors ands (compared c o l))
   runs_compare fs ors ands c o l takes of_role =
       ap (λ b. run columns (operator o ∷ value l ∷ []) (cond b (Some (build fs ors ands (at_name c))) None)) (role_public (role_at columns c) l of_role)
@@ -68,10 +72,12 @@ module _ (columns : List Column) where
 
   -- a list after the name of a column
   runs_one_of : (fs : List Frame) (ors ands : Option Tree) (c : ℕ) (l : Literal) (ls : List Literal) → list_all (is_of_role (role_at columns c)) (l ∷ ls) ≡ true
-      → run columns (in_word ∷ open_bracket ∷ value l ∷ more_literals ls) (step columns (build fs ors ands at_operand) (ColumnToken (Some c))) ≡ Some (whole fs ors ands (among c (l ∷ ls)))
+      → run columns (in_word ∷ open_bracket ∷ value l ∷ more_literals ls) (step columns (build fs ors ands at_operand) (ColumnToken (Some c))) ≡ Some
+      (whole fs ors ands (among c (l ∷ ls)))
   runs_one_of fs ors ands c l ls of_role =
       let tests = and_parts (is_of_role (role_at columns c) l) (list_all (is_of_role (role_at columns c)) ls) of_role in
-      ap (λ b. run columns (in_word ∷ open_bracket ∷ value l ∷ more_literals ls) (cond b (Some (build fs ors ands (at_name c))) None)) (role_public (role_at columns c) l tests.0)
+      ap (λ b. run columns (in_word ∷ open_bracket ∷ value l ∷ more_literals ls) (cond b (Some (build fs ors ands (at_name c))) None))
+      (role_public (role_at columns c) l tests.0)
       ∙ ap (λ b. run columns (more_literals ls) (cond b (Some (build fs ors ands (at_literal c (l ∷ [])))) None)) tests.0
       ∙ runs_more fs ors ands c (l ∷ []) ls tests.1
 
@@ -81,7 +87,8 @@ module _ (columns : List Column) where
 
   mutual
     -- a disjunction after an open bracket, or at the begin
-    runs_all : (room : ℕ) (ts : List Token) (t : Tree) (d : Disjunction columns room ts t) (fs : List Frame) → is_under_not fs ≡ false → length fs + room ≤ 64 → Behind fs t (run columns ts (Some (build fs None None at_operand)))
+    runs_all : (room : ℕ) (ts : List Token) (t : Tree) (d : Disjunction columns room ts t) (fs : List Frame) → is_under_not fs ≡ false → length fs + room ≤ 64 →
+        Behind fs t (run columns ts (Some (build fs None None at_operand)))
     runs_all room ts t (conj c) fs plain deep = record { ors = None; last = t; is = runs_conj room ts t c fs None plain deep; adds = refl }
     runs_all room ts t (or_conj {ts = xs} {us = ys} {p = p} {q = q} d c) fs plain deep =
         let front = runs_all room xs p d fs plain deep in
@@ -97,7 +104,8 @@ module _ (columns : List Column) where
         }
 
     -- a conjunction there, or after an `or`
-    runs_conj : (room : ℕ) (ts : List Token) (t : Tree) (c : Conjunction columns room ts t) (fs : List Frame) (ors : Option Tree) → is_under_not fs ≡ false → length fs + room ≤ 64
+    runs_conj : (room : ℕ) (ts : List Token) (t : Tree) (c : Conjunction columns room ts t) (fs : List Frame) (ors : Option Tree) → is_under_not fs ≡ false
+        → length fs + room ≤ 64
         → run columns ts (Some (build fs ors None at_operand)) ≡ Some (build fs ors None (behind t))
     runs_conj room ts t (unit u) fs ors plain deep = runs_unit room ts t u fs ors None deep ∙ ap Some (plain_whole fs ors None t plain)
     runs_conj room ts t (and_unit {ts = xs} {us = ys} {p = p} {q = q} c u) fs ors plain deep =
@@ -111,7 +119,8 @@ module _ (columns : List Column) where
         → run columns ts (Some (build fs ors ands at_operand)) ≡ Some (whole fs ors ands t)
     runs_unit room ts t all fs ors ands deep = refl
     runs_unit room ts t (not_unit {room = less} {ts = xs} {p = p} u) fs ors ands deep =
-        ap (run columns xs) (opens fs (build (a_not ∷ fs) ors ands at_operand) (omega (arith, deep))) ∙ runs_unit less xs p u (a_not ∷ fs) ors ands (omega (arith, deep))
+        ap (run columns xs) (opens fs (build (a_not ∷ fs) ors ands at_operand) (omega (arith, deep)))
+        ∙ runs_unit less xs p u (a_not ∷ fs) ors ands (omega (arith, deep))
     runs_unit room ts t (in_brackets {room = less} {ts = xs} d) fs ors ands deep =
         let inner = runs_all less xs t d (a_bracket ors ands ∷ fs) refl (omega (arith, deep)) in
         ap (run columns (xs ++ close_bracket ∷ [])) (opens fs (build (a_bracket ors ands ∷ fs) None None at_operand) (omega (arith, deep)))
@@ -119,9 +128,11 @@ module _ (columns : List Column) where
         ∙ ap (run columns (close_bracket ∷ [])) inner.is
         ∙ ap (λ u. Some (whole fs ors ands u)) inner.adds
     runs_unit room ts t (compare {c = c} {o = o} {l = l} place takes of_role) fs ors ands deep =
-        ap (λ p. run columns (operator o ∷ value l ∷ []) (step columns (build fs ors ands at_operand) (ColumnToken p))) place ∙ runs_compare fs ors ands c o l takes of_role
+        ap (λ p. run columns (operator o ∷ value l ∷ []) (step columns (build fs ors ands at_operand) (ColumnToken p))) place
+        ∙ runs_compare fs ors ands c o l takes of_role
     runs_unit room ts t (one_of {c = c} {l = l} {ls = ls} place of_role) fs ors ands deep =
-        ap (λ p. run columns (in_word ∷ open_bracket ∷ value l ∷ more_literals ls) (step columns (build fs ors ands at_operand) (ColumnToken p))) place ∙ runs_one_of fs ors ands c l ls of_role
+        ap (λ p. run columns (in_word ∷ open_bracket ∷ value l ∷ more_literals ls) (step columns (build fs ors ands at_operand) (ColumnToken p))) place
+        ∙ runs_one_of fs ors ands c l ls of_role
 
   -- the machine stands after this tree, and nothing is open
   pub record StandsBehind (t : Tree) (s : Option Build) : Type 0 where
@@ -131,7 +142,9 @@ module _ (columns : List Column) where
 
   -- what writes a tree is run through to its end, and builds the tree
   pub runs_predicate : (tokens : List Token) (t : Tree) → Writes columns tokens t → StandsBehind t (run columns tokens (Some start))
-  runs_predicate tokens t writes = let whole_run = runs_all most_depth tokens t writes [] refl (omega arith) in record { last = build [] whole_run.ors None (behind whole_run.last); is = whole_run.is; built_is = ap Some whole_run.adds }
+  runs_predicate tokens t writes =
+      let whole_run = runs_all most_depth tokens t writes [] refl (omega arith) in
+      record { last = build [] whole_run.ors None (behind whole_run.last); is = whole_run.is; built_is = ap Some whole_run.adds }
 
   -- so a predicate leaves nothing open or wanting
   pub predicate_completes : (tokens : List Token) → IsPredicate columns tokens → is_complete (run columns tokens (Some start)) ≡ true

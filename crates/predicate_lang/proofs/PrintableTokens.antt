@@ -77,7 +77,8 @@ list_all-take_while p [] = refl
 list_all-take_while p (x ∷ xs) = go (p x) refl (list_all-take_while p xs)
   where
     go : (t : Bool) → p x ≡ t → list_all p (take_while p xs) ≡ true → list_all p (take_while p (x ∷ xs)) ≡ true
-    go true e rest = ap (list_all p) (take_while-cons p x xs ∙ ap (λ t. cond t (x ∷ take_while p xs) []) e) ∙ ap (λ t. t && list_all p (take_while p xs)) e ∙ rest
+    go true e rest =
+        ap (list_all p) (take_while-cons p x xs ∙ ap (λ t. cond t (x ∷ take_while p xs) []) e) ∙ ap (λ t. t && list_all p (take_while p xs)) e ∙ rest
     go false e rest = ap (list_all p) (take_while-cons p x xs ∙ ap (λ t. cond t (x ∷ take_while p xs) []) e)
 
 -- no more are taken than there are
@@ -90,12 +91,16 @@ length-take_while p (x ∷ xs) = go (p x) refl (length-take_while p xs)
     go false e rest = omega (arith, ap (length {A = ℕ}) (take_while-cons p x xs ∙ ap (λ t. cond t (x ∷ take_while p xs) []) e))
 
 -- a word is printed as it stands, and is a name if it is no keyword
-word_facts : (b : ℕ) (bytes : List ℕ) → is_ascii_alphabetic b ≡ true → list_all is_name_byte bytes ≡ true → (is_printable (word_token (b ∷ bytes)) ≡ true) × (token_text (word_token (b ∷ bytes)) ≡ b ∷ bytes)
+word_facts : (b : ℕ) (bytes : List ℕ) → is_ascii_alphabetic b ≡ true → list_all is_name_byte bytes ≡ true →
+    (is_printable (word_token (b ∷ bytes)) ≡ true) × (token_text (word_token (b ∷ bytes)) ≡ b ∷ bytes)
 word_facts b bytes letter rest =
-    go (bytes_eq (b ∷ bytes) (codes "and")) (bytes_eq (b ∷ bytes) (codes "or")) (bytes_eq (b ∷ bytes) (codes "not")) (bytes_eq (b ∷ bytes) (codes "all")) (bytes_eq (b ∷ bytes) (codes "in")) refl
-    (bytes_eq-Decides (b ∷ bytes) (codes "and")).0 (bytes_eq-Decides (b ∷ bytes) (codes "or")).0 (bytes_eq-Decides (b ∷ bytes) (codes "not")).0 (bytes_eq-Decides (b ∷ bytes) (codes "all")).0 (bytes_eq-Decides (b ∷ bytes) (codes "in")).0
+    go (bytes_eq (b ∷ bytes) (codes "and")) (bytes_eq (b ∷ bytes) (codes "or")) (bytes_eq (b ∷ bytes) (codes "not")) (bytes_eq (b ∷ bytes) (codes "all"))
+    (bytes_eq (b ∷ bytes) (codes "in")) refl
+    (bytes_eq-Decides (b ∷ bytes) (codes "and")).0 (bytes_eq-Decides (b ∷ bytes) (codes "or")).0 (bytes_eq-Decides (b ∷ bytes) (codes "not")).0
+    (bytes_eq-Decides (b ∷ bytes) (codes "all")).0 (bytes_eq-Decides (b ∷ bytes) (codes "in")).0
   where
-    go : (p q r s t : Bool) → is_keyword (b ∷ bytes) ≡ (p || q || r || s || t) → (p ≡ true → (b ∷ bytes) ≡ codes "and") → (q ≡ true → (b ∷ bytes) ≡ codes "or") → (r ≡ true → (b ∷ bytes) ≡ codes "not") → (s ≡ true → (b ∷ bytes) ≡ codes "all") → (t ≡ true → (b ∷ bytes) ≡ codes "in")
+    go : (p q r s t : Bool) → is_keyword (b ∷ bytes) ≡ (p || q || r || s || t) → (p ≡ true → (b ∷ bytes) ≡ codes "and") → (q ≡ true → (b ∷ bytes) ≡ codes "or")
+        → (r ≡ true → (b ∷ bytes) ≡ codes "not") → (s ≡ true → (b ∷ bytes) ≡ codes "all") → (t ≡ true → (b ∷ bytes) ≡ codes "in")
         → (is_printable (cond p and_word (cond q or_word (cond r not_word (cond s all_word (cond t in_word (name (b ∷ bytes))))))) ≡ true)
         × (token_text (cond p and_word (cond q or_word (cond r not_word (cond s all_word (cond t in_word (name (b ∷ bytes))))))) ≡ b ∷ bytes)
     go true q r s t k f g h i j = (refl, sym (f refl))
@@ -103,7 +108,8 @@ word_facts b bytes letter rest =
     go false false true s t k f g h i j = (refl, sym (h refl))
     go false false false true t k f g h i j = (refl, sym (i refl))
     go false false false false true k f g h i j = (refl, sym (j refl))
-    go false false false false false k f g h i j = (ap (λ x. x && (list_all is_name_byte bytes && not (is_keyword (b ∷ bytes)))) letter ∙ ap (λ x. x && not (is_keyword (b ∷ bytes))) rest ∙ ap not k, refl)
+    go false false false false false k f g h i j =
+        (ap (λ x. x && (list_all is_name_byte bytes && not (is_keyword (b ∷ bytes)))) letter ∙ ap (λ x. x && not (is_keyword (b ∷ bytes))) rest ∙ ap not k, refl)
 
 -- ---- numbers
 
@@ -112,8 +118,10 @@ pub decimals : IsNumeralModel (λ ds. list_all is_ascii_digit ds ≡ true) (deci
 decimals = numerals_by_fold _ (search rules) decimal_after (search rules)
 
 -- no digits write a number shorter
-shortest : (ds : List ℕ) → list_all is_ascii_digit ds ≡ true → 0 < length ds → decimal_after 0 ds ≤ most_number → length (decimal (decimal_after 0 ds)) ≤ length ds
-shortest ds digits some small = length-decimal-le (length ds) (decimal_after 0 ds) some (digits_value_short decimals ds (length ds) digits (omega arith)) (omega arith)
+shortest : (ds : List ℕ) → list_all is_ascii_digit ds ≡ true → 0 < length ds → decimal_after 0 ds ≤ most_number →
+    length (decimal (decimal_after 0 ds)) ≤ length ds
+shortest ds digits some small =
+    length-decimal-le (length ds) (decimal_after 0 ds) some (digits_value_short decimals ds (length ds) digits (omega arith)) (omega arith)
 
 -- a number that is not too great
 within_is : (n v : ℕ) → within_most n ≡ Some v → (v ≡ n) × (n ≤ most_number)
@@ -141,28 +149,36 @@ number_is minus (d ∷ ds) z h = go (within_most (decimal_after 0 (d ∷ ds))) r
         record { is = sym same ∙ ap (signed minus) found.0; small = found.1; some = omega arith }
 
 -- with a minus sign or none
-signed_facts : (minus : Bool) (v k : ℕ) → v ≤ most_number → length (decimal v) ≤ k → (nat_le (size (signed minus v)) most_number ≡ true) × (length (signed_decimal (signed minus v)) ≤ cond minus (suc k) k)
+signed_facts : (minus : Bool) (v k : ℕ) → v ≤ most_number → length (decimal v) ≤ k →
+    (nat_le (size (signed minus v)) most_number ≡ true) × (length (signed_decimal (signed minus v)) ≤ cond minus (suc k) k)
 signed_facts false v k small short = (le-leb v most_number small, short)
 signed_facts true zero k small short = (le-leb 0 most_number small, omega arith)
 signed_facts true (suc v) k small short = (le-leb (suc v) most_number small, omega arith)
 
 -- a number that was read can be printed, and no shorter
-number_facts : (minus : Bool) (ds : List ℕ) (z : ℤ) → list_all is_ascii_digit ds ≡ true → IsNumber minus ds z → (nat_le (size z) most_number ≡ true) × (length (signed_decimal z) ≤ cond minus (suc (length ds)) (length ds))
+number_facts : (minus : Bool) (ds : List ℕ) (z : ℤ) → list_all is_ascii_digit ds ≡ true → IsNumber minus ds z →
+    (nat_le (size z) most_number ≡ true) × (length (signed_decimal z) ≤ cond minus (suc (length ds)) (length ds))
 number_facts minus ds z digits is =
     subst (λ (y : ℤ). (nat_le (size y) most_number ≡ true) × (length (signed_decimal y) ≤ cond minus (suc (length ds)) (length ds))) (sym is.is)
     (signed_facts minus (decimal_after 0 ds) (length ds) is.small (shortest ds digits is.some is.small))
 
 -- so can one at the front
-number_front_facts : (b : ℕ) (bytes : List ℕ) (z : ℤ) → (is_ascii_digit b || (b == 45)) ≡ true → number_at b bytes ≡ Some z → (nat_le (size z) most_number ≡ true) × (length (signed_decimal z) ≤ 1 + length (take_while is_ascii_digit bytes))
+number_front_facts : (b : ℕ) (bytes : List ℕ) (z : ℤ) → (is_ascii_digit b || (b == 45)) ≡ true → number_at b bytes ≡ Some z →
+    (nat_le (size z) most_number ≡ true) × (length (signed_decimal z) ≤ 1 + length (take_while is_ascii_digit bytes))
 number_front_facts b bytes z begins h = go (b == 45) (is_ascii_digit b) refl refl begins h
   where
     digits : list_all is_ascii_digit (take_while is_ascii_digit bytes) ≡ true
     digits = list_all-take_while is_ascii_digit bytes
 
-    go : (s t : Bool) → (b == 45) ≡ s → is_ascii_digit b ≡ t → (t || s) ≡ true → cond s (number_of true (take_while is_ascii_digit bytes)) (number_of false (b ∷ take_while is_ascii_digit bytes)) ≡ Some z
+    go : (s t : Bool) → (b == 45) ≡ s → is_ascii_digit b ≡ t → (t || s) ≡ true
+        → cond s (number_of true (take_while is_ascii_digit bytes)) (number_of false (b ∷ take_while is_ascii_digit bytes)) ≡ Some z
         → (nat_le (size z) most_number ≡ true) × (length (signed_decimal z) ≤ 1 + length (take_while is_ascii_digit bytes))
-    go true t e f i j = let facts = number_facts true (take_while is_ascii_digit bytes) z digits (number_is true (take_while is_ascii_digit bytes) z j) in (facts.0, omega (arith, facts.1))
-    go false true e f i j = let facts = number_facts false (b ∷ take_while is_ascii_digit bytes) z (ap (λ t. t && list_all is_ascii_digit (take_while is_ascii_digit bytes)) f ∙ digits) (number_is false (b ∷ take_while is_ascii_digit bytes) z j) in (facts.0, omega (arith, facts.1))
+    go true t e f i j =
+        let facts = number_facts true (take_while is_ascii_digit bytes) z digits (number_is true (take_while is_ascii_digit bytes) z j) in
+        (facts.0, omega (arith, facts.1))
+    go false true e f i j =
+        let facts = number_facts false (b ∷ take_while is_ascii_digit bytes) z (ap (λ t. t && list_all is_ascii_digit (take_while is_ascii_digit bytes)) f ∙ digits) (number_is false (b ∷ take_while is_ascii_digit bytes) z j) in
+        (facts.0, omega (arith, facts.1))
     go false false e f i j = absurd cc
 
 -- ---- all kinds
@@ -222,7 +238,8 @@ lexed_printable zero at bytes = record { short = omega arith; printable = refl }
 lexed_printable (suc turns) at [] = record { short = omega arith; printable = refl }
 lexed_printable (suc turns) at (b ∷ bytes) = go (is_blank b) (lexed_printable turns (at + 1) bytes) (λ n. lexed_printable turns (at + 1 + n) (drop n bytes))
   where
-    token : (o : Option Front) → front_token b bytes ≡ o → ((n : ℕ) → ArePrintable (tokens_of (lex_from turns (at + 1 + n) (drop n bytes)).tokens) (length (drop n bytes)))
+    token : (o : Option Front) → front_token b bytes ≡ o
+        → ((n : ℕ) → ArePrintable (tokens_of (lex_from turns (at + 1 + n) (drop n bytes)).tokens) (length (drop n bytes)))
         → ArePrintable (tokens_of (lex_front at o (λ n. lex_from turns (at + 1 + n) (drop n bytes))).tokens) (suc (length bytes))
     token None e rest = record { short = omega arith; printable = refl }
     token (Some f) e rest =
@@ -234,8 +251,11 @@ lexed_printable (suc turns) at (b ∷ bytes) = go (is_blank b) (lexed_printable 
           printable = omega (arith, more.printable, none);
         }
 
-    go : (t : Bool) → ArePrintable (tokens_of (lex_from turns (at + 1) bytes).tokens) (length bytes) → ((n : ℕ) → ArePrintable (tokens_of (lex_from turns (at + 1 + n) (drop n bytes)).tokens) (length (drop n bytes)))
-        → ArePrintable (tokens_of (cond t (lex_from turns (at + 1) bytes) (lex_front at (front_token b bytes) (λ n. lex_from turns (at + 1 + n) (drop n bytes)))).tokens) (suc (length bytes))
+    go : (t : Bool) → ArePrintable (tokens_of (lex_from turns (at + 1) bytes).tokens) (length bytes)
+        → ((n : ℕ) → ArePrintable (tokens_of (lex_from turns (at + 1 + n) (drop n bytes)).tokens) (length (drop n bytes)))
+        → ArePrintable
+        (tokens_of (cond t (lex_from turns (at + 1) bytes) (lex_front at (front_token b bytes) (λ n. lex_from turns (at + 1 + n) (drop n bytes)))).tokens)
+        (suc (length bytes))
     go true blank rest = record { short = omega (arith, blank.short); printable = blank.printable }
     go false blank rest = token (front_token b bytes) refl rest
 

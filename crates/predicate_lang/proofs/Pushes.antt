@@ -4,7 +4,8 @@ use Rattle.std.specs.Prelude.{Result, Ok, Err, OnOk}
 use Rattle.std.specs.Result.{is_ok}
 
 -- after a last push
-pub pushed : {A E : Type 0} (r : Result A E) (new old bytes whole : List ℕ) → new ≡ cond (is_ok r) (old ++ bytes) old → old ++ bytes ≡ whole → OnOk r (new ≡ whole)
+pub pushed : {A E : Type 0} (r : Result A E) (new old bytes whole : List ℕ) → new ≡ cond (is_ok r) (old ++ bytes) old → old ++ bytes ≡ whole →
+    OnOk r (new ≡ whole)
 pushed (Ok u) new old bytes whole h e = h ∙ e
 pushed (Err f) new old bytes whole h e = tt
 

@@ -26,7 +26,9 @@ with_plain b bytes p q plain is h =
     let one : 1 + p.bytes ≡ suc p.bytes = omega arith in
     let twice : doubled (b ∷ p.text) ≡ b ∷ doubled p.text = ap (λ t. cond t (39 ∷ 39 ∷ doubled p.text) (b ∷ doubled p.text)) plain in
     subst (IsQuoted (b ∷ bytes)) same (record {
-      whole = ap (λ xs. b ∷ xs) is.whole ∙ ap (λ xs. xs ++ 39 ∷ drop p.bytes bytes) (sym twice) ∙ ap (λ n. doubled (b ∷ p.text) ++ 39 ∷ drop n (b ∷ bytes)) (sym one);
+      whole =
+          ap (λ xs. b ∷ xs) is.whole ∙ ap (λ xs. xs ++ 39 ∷ drop p.bytes bytes) (sym twice)
+          ∙ ap (λ n. doubled (b ∷ p.text) ++ 39 ∷ drop n (b ∷ bytes)) (sym one);
       many = omega (arith, is.many, ap (length {A = ℕ}) twice);
     })
 
@@ -52,20 +54,24 @@ quoted_flag false [] q h = absurd cc
 quoted_flag true [] q h = closed_here [] q h
 quoted_flag false (b ∷ bytes) q h = go (b == 39) refl h (quoted_flag true bytes q) (quoted_flag false bytes)
   where
-    plain : (o : Option Quoted) → quoted false bytes ≡ o → (b == 39) ≡ false → with_front (b ∷ []) 1 o ≡ Some q → ((p : Quoted) → quoted false bytes ≡ Some p → IsQuoted bytes p) → IsQuoted (b ∷ bytes) q
+    plain : (o : Option Quoted) → quoted false bytes ≡ o → (b == 39) ≡ false → with_front (b ∷ []) 1 o ≡ Some q →
+        ((p : Quoted) → quoted false bytes ≡ Some p → IsQuoted bytes p) → IsQuoted (b ∷ bytes) q
     plain None e solid i rest = absurd cc
     plain (Some p) e solid i rest = with_plain b bytes p q solid (rest p e) i
 
-    go : (t : Bool) → (b == 39) ≡ t → cond t (quoted true bytes) (with_front (b ∷ []) 1 (quoted false bytes)) ≡ Some q → (quoted true bytes ≡ Some q → IsQuoted (39 ∷ bytes) q) → ((p : Quoted) → quoted false bytes ≡ Some p → IsQuoted bytes p) → IsQuoted (b ∷ bytes) q
+    go : (t : Bool) → (b == 39) ≡ t → cond t (quoted true bytes) (with_front (b ∷ []) 1 (quoted false bytes)) ≡ Some q →
+        (quoted true bytes ≡ Some q → IsQuoted (39 ∷ bytes) q) → ((p : Quoted) → quoted false bytes ≡ Some p → IsQuoted bytes p) → IsQuoted (b ∷ bytes) q
     go true e i behind rest = subst (λ x. IsQuoted (x ∷ bytes) q) (sym (eqb-true b 39 e)) (behind i)
     go false e i behind rest = plain (quoted false bytes) refl e i rest
 quoted_flag true (b ∷ bytes) q h = go (b == 39) refl h (quoted_flag false bytes)
   where
-    twice : (o : Option Quoted) → quoted false bytes ≡ o → with_front (39 ∷ []) 2 o ≡ Some q → ((p : Quoted) → quoted false bytes ≡ Some p → IsQuoted bytes p) → IsQuoted (39 ∷ 39 ∷ bytes) q
+    twice : (o : Option Quoted) → quoted false bytes ≡ o → with_front (39 ∷ []) 2 o ≡ Some q → ((p : Quoted) → quoted false bytes ≡ Some p → IsQuoted bytes p) →
+        IsQuoted (39 ∷ 39 ∷ bytes) q
     twice None e i rest = absurd cc
     twice (Some p) e i rest = with_quote bytes p q (rest p e) i
 
-    go : (t : Bool) → (b == 39) ≡ t → cond t (with_front (39 ∷ []) 2 (quoted false bytes)) (Some (record { text = []; bytes = 1 })) ≡ Some q → ((p : Quoted) → quoted false bytes ≡ Some p → IsQuoted bytes p) → IsQuoted (39 ∷ b ∷ bytes) q
+    go : (t : Bool) → (b == 39) ≡ t → cond t (with_front (39 ∷ []) 2 (quoted false bytes)) (Some (record { text = []; bytes = 1 })) ≡ Some q →
+        ((p : Quoted) → quoted false bytes ≡ Some p → IsQuoted bytes p) → IsQuoted (39 ∷ b ∷ bytes) q
     go true e i rest = subst (λ x. IsQuoted (39 ∷ x ∷ bytes) q) (sym (eqb-true b 39 e)) (twice (quoted false bytes) refl i rest)
     go false e i rest = closed_here (b ∷ bytes) q i
 
@@ -80,7 +86,8 @@ cut_before : (xs ys : List ℕ) → IsUtf8 (xs ++ 39 ∷ ys) → IsUtf8 xs
 cut_before xs ys utf8 =
     let inside : length xs < length (xs ++ 39 ∷ ys) = omega (arith, length-append xs (39 ∷ ys)) in
     let here : get_or (xs ++ 39 ∷ ys) (length xs) 0 ≡ 39 = ap (λ n. get_or (xs ++ 39 ∷ ys) n 0) (omega arith) ∙ get_or-append-add xs (39 ∷ ys) 0 0 in
-    subst IsUtf8 (take_at xs (39 ∷ ys) (length xs) refl) (IsUtf8-take (xs ++ 39 ∷ ys) (length xs) utf8 (IsCharBoundary-before_ascii (xs ++ 39 ∷ ys) (length xs) inside (omega (arith, here))))
+    subst IsUtf8 (take_at xs (39 ∷ ys) (length xs) refl)
+    (IsUtf8-take (xs ++ 39 ∷ ys) (length xs) utf8 (IsCharBoundary-before_ascii (xs ++ 39 ∷ ys) (length xs) inside (omega (arith, here))))
 
 -- what stands after a quote
 pub cut_behind : (xs ys : List ℕ) → IsUtf8 (xs ++ 39 ∷ ys) → IsUtf8 ys
@@ -96,7 +103,8 @@ undoubled : (t xs : List ℕ) → IsUtf8 (xs ++ doubled t) → IsUtf8 (xs ++ t)
 undoubled [] xs utf8 = utf8
 undoubled (b ∷ t) xs utf8 = go (b == 39) refl utf8 (undoubled t (xs ++ b ∷ [])) (undoubled t [])
   where
-    go : (r : Bool) → (b == 39) ≡ r → IsUtf8 (xs ++ cond r (39 ∷ 39 ∷ doubled t) (b ∷ doubled t)) → (IsUtf8 ((xs ++ b ∷ []) ++ doubled t) → IsUtf8 ((xs ++ b ∷ []) ++ t)) → (IsUtf8 (doubled t) → IsUtf8 t) → IsUtf8 (xs ++ b ∷ t)
+    go : (r : Bool) → (b == 39) ≡ r → IsUtf8 (xs ++ cond r (39 ∷ 39 ∷ doubled t) (b ∷ doubled t)) →
+        (IsUtf8 ((xs ++ b ∷ []) ++ doubled t) → IsUtf8 ((xs ++ b ∷ []) ++ t)) → (IsUtf8 (doubled t) → IsUtf8 t) → IsUtf8 (xs ++ b ∷ t)
     go false e u behind rest = subst IsUtf8 (append_assoc xs (b ∷ []) t) (behind (subst IsUtf8 (sym (append_assoc xs (b ∷ []) (doubled t))) u))
     go true e u behind rest =
         let front : IsUtf8 (xs ++ 39 ∷ []) = cut_before (xs ++ 39 ∷ []) (doubled t) (subst IsUtf8 (sym (append_assoc xs (39 ∷ []) (39 ∷ doubled t))) u) in
@@ -126,7 +134,8 @@ doubled-append : (xs ys : List ℕ) → doubled (xs ++ ys) ≡ doubled xs ++ dou
 doubled-append [] ys = refl
 doubled-append (b ∷ xs) ys = go (b == 39) (doubled-append xs ys)
   where
-    go : (t : Bool) → doubled (xs ++ ys) ≡ doubled xs ++ doubled ys → cond t (39 ∷ 39 ∷ doubled (xs ++ ys)) (b ∷ doubled (xs ++ ys)) ≡ cond t (39 ∷ 39 ∷ doubled xs) (b ∷ doubled xs) ++ doubled ys
+    go : (t : Bool) → doubled (xs ++ ys) ≡ doubled xs ++ doubled ys →
+        cond t (39 ∷ 39 ∷ doubled (xs ++ ys)) (b ∷ doubled (xs ++ ys)) ≡ cond t (39 ∷ 39 ∷ doubled xs) (b ∷ doubled xs) ++ doubled ys
     go true e = ap (λ zs. 39 ∷ 39 ∷ zs) e
     go false e = ap (λ zs. b ∷ zs) e
 
@@ -141,7 +150,8 @@ pub split_nowhere : (text : List ℕ) → IsSplitOnceResult 39 text None → dou
 split_nowhere text h = doubled_plain text (split_parts 39 text None h (omega arith))
 
 -- what is written at a quote, and what is left
-pub next_quote : (text old front out rest : List ℕ) (x : Bor (List ℕ) × Bor (List ℕ)) → IsSplitOnceResult 39 rest (Some x) → old ++ doubled rest ≡ text → front ≡ old ++ x.0.now → out ≡ front ++ (39 ∷ 39 ∷ []) → IsUtf8 rest
+pub next_quote : (text old front out rest : List ℕ) (x : Bor (List ℕ) × Bor (List ℕ)) → IsSplitOnceResult 39 rest (Some x) → old ++ doubled rest ≡ text
+    → front ≡ old ++ x.0.now → out ≡ front ++ (39 ∷ 39 ∷ []) → IsUtf8 rest
     → IsUtf8 x.1.now × (out ++ doubled x.1.now ≡ text)
 next_quote text old front out rest x h same first second utf8 =
     let parts : (rest ≡ x.0.now ++ (39 ∷ x.1.now)) × ((i : ℕ) → i < length x.0.now → get_or x.0.now i 0 ≢ 39) = split_parts 39 rest (Some x) h (omega arith) in (
@@ -151,7 +161,8 @@ next_quote text old front out rest x h same first second utf8 =
     )
 
 -- with the closing quote the whole text stands there
-pub last_quote : (old start out end text rest : List ℕ) → start ≡ old ++ 39 ∷ [] → out ++ doubled rest ≡ start ++ doubled text → end ≡ out ++ rest → doubled rest ≡ rest → end ++ 39 ∷ [] ≡ old ++ 39 ∷ (doubled text ++ 39 ∷ [])
+pub last_quote : (old start out end text rest : List ℕ) → start ≡ old ++ 39 ∷ [] → out ++ doubled rest ≡ start ++ doubled text → end ≡ out ++ rest →
+    doubled rest ≡ rest → end ++ 39 ∷ [] ≡ old ++ 39 ∷ (doubled text ++ 39 ∷ [])
 last_quote old start out end text rest first same last plain =
     ap (λ xs. xs ++ 39 ∷ []) (last ∙ ap (λ xs. out ++ xs) (sym plain) ∙ same ∙ ap (λ xs. xs ++ doubled text) first ∙ append_assoc old (39 ∷ []) (doubled text))
     ∙ append_assoc old (39 ∷ doubled text) (39 ∷ [])

@@ -31,7 +31,8 @@ is_stop [] = true
 is_stop (b ∷ bytes) = (b == 32) || ((b == 41) || (b == 44))
 
 -- what holds before each of these holds before all
-stop_cases : (P : List ℕ → Type 0) → P [] → ((r : List ℕ) → P (32 ∷ r)) → ((r : List ℕ) → P (41 ∷ r)) → ((r : List ℕ) → P (44 ∷ r)) → (rest : List ℕ) → is_stop rest ≡ true → P rest
+stop_cases : (P : List ℕ → Type 0) → P [] → ((r : List ℕ) → P (32 ∷ r)) → ((r : List ℕ) → P (41 ∷ r)) → ((r : List ℕ) → P (44 ∷ r)) → (rest : List ℕ) →
+    is_stop rest ≡ true → P rest
 stop_cases P end space bracket mark [] h = end
 stop_cases P end space bracket mark (b ∷ r) h = go (b == 32) (b == 41) (b == 44) refl refl refl h
   where
@@ -54,7 +55,8 @@ take_while-append : (p : ℕ → Bool) (bytes rest : List ℕ) → list_all p by
 take_while-append p [] rest all stop = stop
 take_while-append p (b ∷ bytes) rest all stop = go (p b) refl all (λ more. take_while-append p bytes rest more stop)
   where
-    go : (t : Bool) → p b ≡ t → (t && list_all p bytes) ≡ true → (list_all p bytes ≡ true → take_while p (bytes ++ rest) ≡ bytes) → take_while p (b ∷ (bytes ++ rest)) ≡ b ∷ bytes
+    go : (t : Bool) → p b ≡ t → (t && list_all p bytes) ≡ true → (list_all p bytes ≡ true → take_while p (bytes ++ rest) ≡ bytes) →
+        take_while p (b ∷ (bytes ++ rest)) ≡ b ∷ bytes
     go true e i more = take_while-cons p b (bytes ++ rest) ∙ ap (λ t. cond t (b ∷ take_while p (bytes ++ rest)) []) e ∙ ap (λ xs. b ∷ xs) (more i)
     go false e i more = absurd cc
 
@@ -69,7 +71,8 @@ record IsReadBefore (t : Token) (rest : List ℕ) : Type 0 where
   front : front_token first (more ++ rest) ≡ Some (record { token = t; more = length more })
 
 -- a word
-word_read : (b : ℕ) (bytes rest : List ℕ) → is_ascii_alphabetic b ≡ true → list_all is_name_byte bytes ≡ true → is_stop rest ≡ true → front_token b (bytes ++ rest) ≡ Some (record { token = word_token (b ∷ bytes); more = length bytes })
+word_read : (b : ℕ) (bytes rest : List ℕ) → is_ascii_alphabetic b ≡ true → list_all is_name_byte bytes ≡ true → is_stop rest ≡ true →
+    front_token b (bytes ++ rest) ≡ Some (record { token = word_token (b ∷ bytes); more = length bytes })
 word_read b bytes rest letter all stop =
     front_of_letter b (bytes ++ rest) letter
     ∙ ap (λ xs. taking (length xs) (Some (word_token (b ∷ xs)))) (take_while-append is_name_byte bytes rest all (name_stops rest stop))
@@ -90,7 +93,8 @@ digit_no_minus b h = grind (arith, nat_tests)
 name_token : (w : List ℕ) → is_keyword w ≡ false → word_token w ≡ name w
 name_token w h = go (bytes_eq w (codes "and")) (bytes_eq w (codes "or")) (bytes_eq w (codes "not")) (bytes_eq w (codes "all")) (bytes_eq w (codes "in")) h
   where
-    go : (p q r s t : Bool) → (p || q || r || s || t) ≡ false → cond p and_word (cond q or_word (cond r not_word (cond s all_word (cond t in_word (name w))))) ≡ name w
+    go : (p q r s t : Bool) → (p || q || r || s || t) ≡ false →
+        cond p and_word (cond q or_word (cond r not_word (cond s all_word (cond t in_word (name w))))) ≡ name w
     go true q r s t e = absurd cc
     go false true r s t e = absurd cc
     go false false true s t e = absurd cc
@@ -103,7 +107,8 @@ name_read : (n rest : List ℕ) → is_name n ≡ true → is_stop rest ≡ true
 name_read [] rest h stop = absurd cc
 name_read (b ∷ bytes) rest h stop = go (is_ascii_alphabetic b) (list_all is_name_byte bytes) (is_keyword (b ∷ bytes)) refl refl refl h
   where
-    go : (x y z : Bool) → is_ascii_alphabetic b ≡ x → list_all is_name_byte bytes ≡ y → is_keyword (b ∷ bytes) ≡ z → (x && (y && not z)) ≡ true → IsReadBefore (name (b ∷ bytes)) rest
+    go : (x y z : Bool) → is_ascii_alphabetic b ≡ x → list_all is_name_byte bytes ≡ y → is_keyword (b ∷ bytes) ≡ z → (x && (y && not z)) ≡ true →
+        IsReadBefore (name (b ∷ bytes)) rest
     go true true false e f g i = record {
       first = b;
       more = bytes;
@@ -125,7 +130,8 @@ number_of_digits minus (d ∷ ds) n some is small =
 -- a number that is not below zero
 plain_number_read : (n : ℕ) (ds rest : List ℕ) → decimal n ≡ ds → n ≤ most_number → is_stop rest ≡ true → IsReadBefore (value (literal.Number (pos n))) rest
 plain_number_read n [] rest is small stop = absurd (omega (arith, decimal_nonempty n (omega arith), ap (length {A = ℕ}) is))
-plain_number_read n (d ∷ ds) rest is small stop = go (is_ascii_digit d) (list_all is_ascii_digit ds) refl refl (ap (list_all is_ascii_digit) (sym is) ∙ digits_decimal decimals n (omega arith))
+plain_number_read n (d ∷ ds) rest is small stop =
+    go (is_ascii_digit d) (list_all is_ascii_digit ds) refl refl (ap (list_all is_ascii_digit) (sym is) ∙ digits_decimal decimals n (omega arith))
   where
     means : decimal_after 0 (d ∷ ds) ≡ n
     means = ap (decimal_after 0) (sym is) ∙ digits_value-decimal decimals n (omega arith)
@@ -137,7 +143,8 @@ plain_number_read n (d ∷ ds) rest is small stop = go (is_ascii_digit d) (list_
       is = is;
       solid = digit_solid d e;
       front = front_of_number d (ds ++ rest) (digit_no_letter d e) (ap (λ t. t || (d == 45)) e)
-          ∙ ap (λ xs. taking (length xs) (number_token (cond (d == 45) (number_of true xs) (number_of false (d ∷ xs))))) (take_while-append is_ascii_digit ds rest f (digits_stop rest stop))
+          ∙ ap (λ xs. taking (length xs) (number_token (cond (d == 45) (number_of true xs) (number_of false (d ∷ xs)))))
+          (take_while-append is_ascii_digit ds rest f (digits_stop rest stop))
           ∙ ap (λ t. taking (length ds) (number_token (cond t (number_of true ds) (number_of false (d ∷ ds))))) (digit_no_minus d e)
           ∙ ap (λ o. taking (length ds) (number_token o)) (number_of_digits false (d ∷ ds) n (omega arith) means small);
     }
@@ -152,7 +159,8 @@ minus_number_read n rest small stop = record {
   is = refl;
   solid = refl;
   front = front_of_number 45 (decimal (suc n) ++ rest) refl refl
-      ∙ ap (λ xs. taking (length xs) (number_token (number_of true xs))) (take_while-append is_ascii_digit (decimal (suc n)) rest (digits_decimal decimals (suc n) (omega arith)) (digits_stop rest stop))
+      ∙ ap (λ xs. taking (length xs) (number_token (number_of true xs)))
+      (take_while-append is_ascii_digit (decimal (suc n)) rest (digits_decimal decimals (suc n) (omega arith)) (digits_stop rest stop))
       ∙ ap (λ o. taking (length (decimal (suc n))) (number_token o)) (number_of_digits true (decimal (suc n)) (suc n) (decimal_nonempty (suc n) (omega arith)) (digits_value-decimal decimals (suc n) (omega arith)) small);
 }
 
@@ -179,9 +187,14 @@ quoted_doubled (b ∷ t) rest stop = go (b == 39) refl (quoted_doubled t rest st
     two = omega arith
 
     go : (r : Bool) → (b == 39) ≡ r → quoted false (doubled t ++ 39 ∷ rest) ≡ Some (record { text = t; bytes = length (doubled t) + 1 })
-        → quoted false (cond r (39 ∷ 39 ∷ doubled t) (b ∷ doubled t) ++ 39 ∷ rest) ≡ Some (record { text = b ∷ t; bytes = length (cond r (39 ∷ 39 ∷ doubled t) (b ∷ doubled t)) + 1 })
-    go true e more = ap (with_front (39 ∷ []) 2) more ∙ ap (λ n. Some (record { text = 39 ∷ t; bytes = n })) two ∙ ap (λ c. Some (record { text = c ∷ t; bytes = suc (suc (length (doubled t))) + 1 })) (sym (eqb-true b 39 e))
-    go false e more = ap (λ r. cond r (quoted true (doubled t ++ 39 ∷ rest)) (with_front (b ∷ []) 1 (quoted false (doubled t ++ 39 ∷ rest)))) e ∙ ap (with_front (b ∷ []) 1) more ∙ ap (λ n. Some (record { text = b ∷ t; bytes = n })) one
+        → quoted false (cond r (39 ∷ 39 ∷ doubled t) (b ∷ doubled t) ++ 39 ∷ rest) ≡ Some
+        (record { text = b ∷ t; bytes = length (cond r (39 ∷ 39 ∷ doubled t) (b ∷ doubled t)) + 1 })
+    go true e more =
+        ap (with_front (39 ∷ []) 2) more ∙ ap (λ n. Some (record { text = 39 ∷ t; bytes = n })) two
+        ∙ ap (λ c. Some (record { text = c ∷ t; bytes = suc (suc (length (doubled t))) + 1 })) (sym (eqb-true b 39 e))
+    go false e more =
+        ap (λ r. cond r (quoted true (doubled t ++ 39 ∷ rest)) (with_front (b ∷ []) 1 (quoted false (doubled t ++ 39 ∷ rest)))) e
+        ∙ ap (with_front (b ∷ []) 1) more ∙ ap (λ n. Some (record { text = b ∷ t; bytes = n })) one
 
 -- a text
 text_read : (t rest : List ℕ) → is_stop rest ≡ true → IsReadBefore (value (literal.Text t)) rest
@@ -190,7 +203,9 @@ text_read t rest stop = record {
   more = doubled t ++ 39 ∷ [];
   is = refl;
   solid = refl;
-  front = front_of_quote 39 ((doubled t ++ 39 ∷ []) ++ rest) refl refl refl ∙ ap (λ xs. text_front (quoted false xs)) (append_assoc (doubled t) (39 ∷ []) rest) ∙ ap text_front (quoted_doubled t rest stop)
+  front =
+      front_of_quote 39 ((doubled t ++ 39 ∷ []) ++ rest) refl refl refl ∙ ap (λ xs. text_front (quoted false xs)) (append_assoc (doubled t) (39 ∷ []) rest)
+      ∙ ap text_front (quoted_doubled t rest stop)
       ∙ ap (λ n. Some (record { token = value (literal.Text t); more = n })) (sym (length-append (doubled t) (39 ∷ [])));
 }
 
@@ -223,10 +238,13 @@ operator_read op.Gt rest stop = record {
 
 -- each token that can be printed is read again, after an opening bracket whatever follows
 token_read : (t : Token) (rest : List ℕ) → is_printable t ≡ true → (opens t || is_stop rest) ≡ true → IsReadBefore t rest
-token_read and_word rest fit stop = record { first = 97; more = 110 ∷ 100 ∷ []; is = refl; solid = refl; front = word_read 97 (110 ∷ 100 ∷ []) rest refl refl stop }
+token_read and_word rest fit stop =
+    record { first = 97; more = 110 ∷ 100 ∷ []; is = refl; solid = refl; front = word_read 97 (110 ∷ 100 ∷ []) rest refl refl stop }
 token_read or_word rest fit stop = record { first = 111; more = 114 ∷ []; is = refl; solid = refl; front = word_read 111 (114 ∷ []) rest refl refl stop }
-token_read not_word rest fit stop = record { first = 110; more = 111 ∷ 116 ∷ []; is = refl; solid = refl; front = word_read 110 (111 ∷ 116 ∷ []) rest refl refl stop }
-token_read all_word rest fit stop = record { first = 97; more = 108 ∷ 108 ∷ []; is = refl; solid = refl; front = word_read 97 (108 ∷ 108 ∷ []) rest refl refl stop }
+token_read not_word rest fit stop =
+    record { first = 110; more = 111 ∷ 116 ∷ []; is = refl; solid = refl; front = word_read 110 (111 ∷ 116 ∷ []) rest refl refl stop }
+token_read all_word rest fit stop =
+    record { first = 97; more = 108 ∷ 108 ∷ []; is = refl; solid = refl; front = word_read 97 (108 ∷ 108 ∷ []) rest refl refl stop }
 token_read in_word rest fit stop = record { first = 105; more = 110 ∷ []; is = refl; solid = refl; front = word_read 105 (110 ∷ []) rest refl refl stop }
 token_read (name n) rest fit stop = name_read n rest fit stop
 token_read (value (literal.Number z)) rest fit stop = number_read z rest (leb-true (size z) most_number fit) stop
@@ -247,16 +265,19 @@ with_one : (t : Token) (ts : List Token) (at : ℕ) (l : Lexed) → LexesAs l ts
 with_one t ts at l h = record { tokens = ap (λ us. t ∷ us) h.tokens; stop = h.stop }
 
 -- a token, and then what stands after it
-lex_token : (t : Token) (rest : List ℕ) (turns at : ℕ) (read : IsReadBefore t rest) → lex_from (suc turns) at (token_text t ++ rest) ≡ with_token t at (lex_from turns (at + 1 + length read.more) rest)
+lex_token : (t : Token) (rest : List ℕ) (turns at : ℕ) (read : IsReadBefore t rest) →
+    lex_from (suc turns) at (token_text t ++ rest) ≡ with_token t at (lex_from turns (at + 1 + length read.more) rest)
 unfolding lex_from
 lex_token t rest turns at read =
     ap (λ xs. lex_from (suc turns) at (xs ++ rest)) read.is
-    ∙ ap (λ b. cond b (lex_from turns (at + 1) (read.more ++ rest)) (lex_front at (front_token read.first (read.more ++ rest)) (λ n. lex_from turns (at + 1 + n) (drop n (read.more ++ rest))))) read.solid
+    ∙ ap
+    (λ b. cond b (lex_from turns (at + 1) (read.more ++ rest)) (lex_front at (front_token read.first (read.more ++ rest)) (λ n. lex_from turns (at + 1 + n) (drop n (read.more ++ rest))))) read.solid
     ∙ ap (λ o. lex_front at o (λ n. lex_from turns (at + 1 + n) (drop n (read.more ++ rest)))) read.front
     ∙ ap (λ xs. with_token t at (lex_from turns (at + 1 + length read.more) xs)) (drop_at read.more rest (length read.more) refl)
 
 -- a space is passed over
-behind_gap : (g : Bool) (s : List ℕ) (ts : List Token) (turns at : ℕ) → length (cond g [] (32 ∷ []) ++ s) < turns → ((k a : ℕ) → length s < k → LexesAs (lex_from k a s) ts) → LexesAs (lex_from turns at (cond g [] (32 ∷ []) ++ s)) ts
+behind_gap : (g : Bool) (s : List ℕ) (ts : List Token) (turns at : ℕ) → length (cond g [] (32 ∷ []) ++ s) < turns →
+    ((k a : ℕ) → length s < k → LexesAs (lex_from k a s) ts) → LexesAs (lex_from turns at (cond g [] (32 ∷ []) ++ s)) ts
 unfolding lex_from
 behind_gap true s ts turns at enough rest = rest turns at enough
 behind_gap false s ts zero at enough rest = absurd (omega arith)
@@ -296,7 +317,8 @@ printable_first true n h = (refl, omega arith)
 printable_first false n h = absurd (omega arith)
 
 -- the tokens of a text, from one on
-lexed_after : (t : Token) (ts : List Token) (turns at : ℕ) → total unprintable (t ∷ ts) ≡ 0 → length (spaced_after t ts) < turns → LexesAs (lex_from turns at (spaced_after t ts)) (t ∷ ts)
+lexed_after : (t : Token) (ts : List Token) (turns at : ℕ) → total unprintable (t ∷ ts) ≡ 0 → length (spaced_after t ts) < turns →
+    LexesAs (lex_from turns at (spaced_after t ts)) (t ∷ ts)
 lexed_after t ts zero at fit enough = absurd (omega arith)
 lexed_after t [] (suc turns) at fit enough =
     let read : IsReadBefore t [] = token_read t [] (printable_first (is_printable t) (total unprintable []) fit).0 (or_right (opens t) true refl) in

@@ -33,7 +33,8 @@ length-spaced_after : (t : Token) (ts : List Token) → length (spaced_after t t
 length-spaced_after t [] = omega arith
 length-spaced_after t (u ∷ ts) =
     let gap : List ℕ = cond (opens t || closes u) [] (32 ∷ []) in
-    omega (arith, length-append (token_text t) (gap ++ spaced_after u ts), length-append gap (spaced_after u ts), length-gap (opens t || closes u), length-spaced_after u ts)
+    omega
+    (arith, length-append (token_text t) (gap ++ spaced_after u ts), length-append gap (spaced_after u ts), length-gap (opens t || closes u), length-spaced_after u ts)
 
 -- spaces stand only between two tokens
 length-spaced : (ts : List Token) → length (spaced ts) ≤ total printed_length ts + (length ts - 1)
@@ -51,17 +52,20 @@ module _ (columns : List Column) where
     -- by the tests that the rules make of each comparison and list
     all_fit : (room : ℕ) (ts : List Token) (t : Tree) → Disjunction columns room ts t → fits columns t ≡ true
     all_fit room ts t (conj c) = conj_fits room ts t c
-    all_fit room ts t (or_conj {ts = xs} {us = ys} {p = p} {q = q} d c) = and_from (fits columns p) (fits columns q) (all_fit room xs p d) (conj_fits room ys q c)
+    all_fit room ts t (or_conj {ts = xs} {us = ys} {p = p} {q = q} d c) =
+        and_from (fits columns p) (fits columns q) (all_fit room xs p d) (conj_fits room ys q c)
 
     conj_fits : (room : ℕ) (ts : List Token) (t : Tree) → Conjunction columns room ts t → fits columns t ≡ true
     conj_fits room ts t (unit u) = unit_fits room ts t u
-    conj_fits room ts t (and_unit {ts = xs} {us = ys} {p = p} {q = q} c u) = and_from (fits columns p) (fits columns q) (conj_fits room xs p c) (unit_fits room ys q u)
+    conj_fits room ts t (and_unit {ts = xs} {us = ys} {p = p} {q = q} c u) =
+        and_from (fits columns p) (fits columns q) (conj_fits room xs p c) (unit_fits room ys q u)
 
     unit_fits : (room : ℕ) (ts : List Token) (t : Tree) → Operand columns room ts t → fits columns t ≡ true
     unit_fits room ts t all = refl
     unit_fits room ts t (not_unit {room = less} {ts = xs} {p = p} u) = unit_fits less xs p u
     unit_fits room ts t (in_brackets {room = less} {ts = xs} d) = all_fit less xs t d
-    unit_fits room ts t (compare {c = c} {o = o} {l = l} place takes of_role) = and_from (has_operator (role_at columns c) o) (is_of_role (role_at columns c) l) takes of_role
+    unit_fits room ts t (compare {c = c} {o = o} {l = l} place takes of_role) =
+        and_from (has_operator (role_at columns c) o) (is_of_role (role_at columns c) l) takes of_role
     unit_fits room ts t (one_of place of_role) = of_role
 
   -- and so does a tree that a text means
@@ -71,7 +75,8 @@ module _ (columns : List Column) where
 -- ---- what is printed
 
 -- how the tokens that are printed compare with those that were read
-least : (columns : List Column) (text : List ℕ) (t : Tree) (w : Token → ℕ) → Means columns text t → total w (print_tokens columns t) ≤ total w (tokens_of (lexed text).tokens)
+least : (columns : List Column) (text : List ℕ) (t : Tree) (w : Token → ℕ) → Means columns text t →
+    total w (print_tokens columns t) ≤ total w (tokens_of (lexed text).tokens)
 least columns text t w means =
     let best : LeastAlone columns w most_depth (tokens_of (lexed text).tokens) t = least_alone columns w most_depth (tokens_of (lexed text).tokens) t means.writes in
     best.light
@@ -79,7 +84,8 @@ least columns text t w means =
 -- no more tokens
 fewer : (columns : List Column) (text : List ℕ) (t : Tree) → Means columns text t → length (print_tokens columns t) ≤ 512
 fewer columns text t means =
-    omega (arith, least columns text t count_one means, total-one (print_tokens columns t), total-one (tokens_of (lexed text).tokens), length-tokens_of (lexed text).tokens, means.few)
+    omega
+    (arith, least columns text t count_one means, total-one (print_tokens columns t), total-one (tokens_of (lexed text).tokens), length-tokens_of (lexed text).tokens, means.few)
 
 -- each part of the tree has a token of its own
 height_tokens : (columns : List Column) (t : Tree) → height t ≤ length (print_tokens columns t)
@@ -95,7 +101,8 @@ height_tokens columns (both p q) =
       length-append (bracketed (is_or p) (print_tokens columns p)) (and_word ∷ bracketed (is_or_and q) (print_tokens columns q)),
     )
 height_tokens columns (either p q) =
-    omega (arith, height_tokens columns p, height_tokens columns q, length-bracketed (is_or q) (print_tokens columns q), length-append (print_tokens columns p) (or_word ∷ bracketed (is_or q) (print_tokens columns q)))
+    omega
+    (arith, height_tokens columns p, height_tokens columns q, length-bracketed (is_or q) (print_tokens columns q), length-append (print_tokens columns p) (or_word ∷ bracketed (is_or q) (print_tokens columns q)))
 height_tokens columns (compared c o l) = omega arith
 height_tokens columns (among c ls) = omega arith
 
@@ -105,7 +112,9 @@ means_shallow columns text t means = omega (arith, height_tokens columns t, fewe
 
 -- each of which can be printed
 printable : (columns : List Column) (text : List ℕ) (t : Tree) → Means columns text t → total unprintable (print_tokens columns t) ≡ 0
-printable columns text t means = let source : ArePrintable (tokens_of (lexed text).tokens) (length text) = tokens_printable text in omega (arith, least columns text t unprintable means, source.printable)
+printable columns text t means =
+    let source : ArePrintable (tokens_of (lexed text).tokens) (length text) = tokens_printable text in
+    omega (arith, least columns text t unprintable means, source.printable)
 
 -- what is printed means the tree
 pub printed_means : (columns : List Column) (text : List ℕ) (t : Tree) → Means columns text t → Means columns (printed columns t) t

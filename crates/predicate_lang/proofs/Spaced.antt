@@ -115,7 +115,8 @@ spaced-list_tokens l ls = spaced_list l ls
 tree_part : (columns : List Column) (t : Tree) → fits columns t ≡ true → IsPart (print_tokens columns t)
 tree_part columns all_rows fit = one_part all_word refl refl
 tree_part columns (negation p) fit =
-    join_part (not_word ∷ []) (bracketed (is_or_and p) (print_tokens columns p)) (one_part not_word refl refl) (bracketed_part (is_or_and p) (print_tokens columns p) (tree_part columns p fit))
+    join_part (not_word ∷ []) (bracketed (is_or_and p) (print_tokens columns p)) (one_part not_word refl refl)
+    (bracketed_part (is_or_and p) (print_tokens columns p) (tree_part columns p fit))
 tree_part columns (both p q) fit =
     join_part (bracketed (is_or p) (print_tokens columns p)) (and_word ∷ bracketed (is_or_and q) (print_tokens columns q))
     (bracketed_part (is_or p) (print_tokens columns p) (tree_part columns p (and_parts (fits columns p) (fits columns q) fit).0))
@@ -138,26 +139,32 @@ abbrev pub part_text : List Column → Bool → Tree → List ℕ
 part_text columns b t = cond b (codes "(") [] ++ (printed columns t ++ cond b (codes ")") [])
 
 -- how a `not` is printed
-pub printed-negation : (columns : List Column) (p : Tree) → fits columns p ≡ true → printed columns (negation p) ≡ codes "not " ++ part_text columns (is_or_and p) p
+pub printed-negation : (columns : List Column) (p : Tree) → fits columns p ≡ true →
+    printed columns (negation p) ≡ codes "not " ++ part_text columns (is_or_and p) p
 printed-negation columns p fit =
     let part = tree_part columns p fit in
-    spaced-join (not_word ∷ []) (bracketed (is_or_and p) (print_tokens columns p)) (one_part not_word refl refl) (bracketed_part (is_or_and p) (print_tokens columns p) part)
+    spaced-join (not_word ∷ []) (bracketed (is_or_and p) (print_tokens columns p)) (one_part not_word refl refl)
+    (bracketed_part (is_or_and p) (print_tokens columns p) part)
     ∙ ap (λ xs. codes "not " ++ xs) (spaced-bracketed (is_or_and p) (print_tokens columns p) part)
 
 -- how an `and` is printed
-pub printed-both : (columns : List Column) (p q : Tree) → fits columns (both p q) ≡ true → printed columns (both p q) ≡ part_text columns (is_or p) p ++ (codes " and " ++ part_text columns (is_or_and q) q)
+pub printed-both : (columns : List Column) (p q : Tree) → fits columns (both p q) ≡ true →
+    printed columns (both p q) ≡ part_text columns (is_or p) p ++ (codes " and " ++ part_text columns (is_or_and q) q)
 printed-both columns p q fit =
     let left = tree_part columns p (and_parts (fits columns p) (fits columns q) fit).0 in
     let right = tree_part columns q (and_parts (fits columns p) (fits columns q) fit).1 in
     let behind = bracketed_part (is_or_and q) (print_tokens columns q) right in
     spaced-join (bracketed (is_or p) (print_tokens columns p)) (and_word ∷ bracketed (is_or_and q) (print_tokens columns q))
-    (bracketed_part (is_or p) (print_tokens columns p) left) (join_part (and_word ∷ []) (bracketed (is_or_and q) (print_tokens columns q)) (one_part and_word refl refl) behind)
-    ∙ ap (λ xs. spaced (bracketed (is_or p) (print_tokens columns p)) ++ 32 ∷ xs) (spaced-join (and_word ∷ []) (bracketed (is_or_and q) (print_tokens columns q)) (one_part and_word refl refl) behind)
+    (bracketed_part (is_or p) (print_tokens columns p) left)
+    (join_part (and_word ∷ []) (bracketed (is_or_and q) (print_tokens columns q)) (one_part and_word refl refl) behind)
+    ∙ ap (λ xs. spaced (bracketed (is_or p) (print_tokens columns p)) ++ 32 ∷ xs)
+    (spaced-join (and_word ∷ []) (bracketed (is_or_and q) (print_tokens columns q)) (one_part and_word refl refl) behind)
     ∙ ap (λ xs. xs ++ (codes " and " ++ spaced (bracketed (is_or_and q) (print_tokens columns q)))) (spaced-bracketed (is_or p) (print_tokens columns p) left)
     ∙ ap (λ xs. part_text columns (is_or p) p ++ (codes " and " ++ xs)) (spaced-bracketed (is_or_and q) (print_tokens columns q) right)
 
 -- how an `or` is printed
-pub printed-either : (columns : List Column) (p q : Tree) → fits columns (either p q) ≡ true → printed columns (either p q) ≡ printed columns p ++ (codes " or " ++ part_text columns (is_or q) q)
+pub printed-either : (columns : List Column) (p q : Tree) → fits columns (either p q) ≡ true →
+    printed columns (either p q) ≡ printed columns p ++ (codes " or " ++ part_text columns (is_or q) q)
 printed-either columns p q fit =
     let left = tree_part columns p (and_parts (fits columns p) (fits columns q) fit).0 in
     let right = tree_part columns q (and_parts (fits columns p) (fits columns q) fit).1 in
@@ -168,9 +175,12 @@ printed-either columns p q fit =
     ∙ ap (λ xs. printed columns p ++ (codes " or " ++ xs)) (spaced-bracketed (is_or q) (print_tokens columns q) right)
 
 -- with the closing bracket the whole list stands there
-pub last_literal : (old start out : List ℕ) (ls rest : List Literal) (first : Literal) (i : ℕ) → 1 ≤ length ls → first ≡ get_or ls 0 first → rest ≡ drop 1 ls → length rest ≤ i → start ≡ old ++ literal_text first → out ++ list_rest (drop i rest) ≡ start ++ list_rest rest
+pub last_literal : (old start out : List ℕ) (ls rest : List Literal) (first : Literal) (i : ℕ) → 1 ≤ length ls → first ≡ get_or ls 0 first → rest ≡ drop 1 ls
+    → length rest ≤ i → start ≡ old ++ literal_text first → out ++ list_rest (drop i rest) ≡ start ++ list_rest rest
     → out ++ 41 ∷ [] ≡ old ++ spaced (list_tokens ls)
 last_literal old start out [] rest first i some is behind past begun same = absurd (omega arith)
 last_literal old start out (l ∷ ls) rest first i some is behind past begun same =
-    ap (λ xs. out ++ list_rest xs) (sym (drop_all i rest past)) ∙ same ∙ ap (λ xs. xs ++ list_rest rest) begun ∙ append_assoc old (literal_text first) (list_rest rest)
-    ∙ ap (λ x. old ++ (literal_text x ++ list_rest rest)) is ∙ ap (λ xs. old ++ (literal_text l ++ list_rest xs)) behind ∙ ap (λ xs. old ++ xs) (sym (spaced-list_tokens l ls))
+    ap (λ xs. out ++ list_rest xs) (sym (drop_all i rest past)) ∙ same ∙ ap (λ xs. xs ++ list_rest rest) begun
+    ∙ append_assoc old (literal_text first) (list_rest rest)
+    ∙ ap (λ x. old ++ (literal_text x ++ list_rest rest)) is ∙ ap (λ xs. old ++ (literal_text l ++ list_rest xs)) behind
+    ∙ ap (λ xs. old ++ xs) (sym (spaced-list_tokens l ls))

@@ -45,9 +45,13 @@ behind_passing : (p : ℕ → Bool) → ((b : ℕ) → p b ≡ true → b < 128)
 behind_passing p low [] utf8 = utf8
 behind_passing p low (b ∷ bytes) utf8 = go (p b) refl (behind_passing p low bytes)
   where
-    go : (t : Bool) → p b ≡ t → (IsUtf8 bytes → IsUtf8 (drop (length (take_while p bytes)) bytes)) → IsUtf8 (drop (length (take_while p (b ∷ bytes))) (b ∷ bytes))
-    go true e rest = subst (λ xs. IsUtf8 (drop (length xs) (b ∷ bytes))) (sym (take_while-cons p b bytes ∙ ap (λ t. cond t (b ∷ take_while p bytes) []) e)) (rest (behind_ascii b bytes (low b e) utf8))
-    go false e rest = subst (λ xs. IsUtf8 (drop (length xs) (b ∷ bytes))) (sym (take_while-cons p b bytes ∙ ap (λ t. cond t (b ∷ take_while p bytes) []) e)) utf8
+    go : (t : Bool) → p b ≡ t → (IsUtf8 bytes → IsUtf8 (drop (length (take_while p bytes)) bytes)) →
+        IsUtf8 (drop (length (take_while p (b ∷ bytes))) (b ∷ bytes))
+    go true e rest =
+        subst (λ xs. IsUtf8 (drop (length xs) (b ∷ bytes))) (sym (take_while-cons p b bytes ∙ ap (λ t. cond t (b ∷ take_while p bytes) []) e))
+        (rest (behind_ascii b bytes (low b e) utf8))
+    go false e rest =
+        subst (λ xs. IsUtf8 (drop (length xs) (b ∷ bytes))) (sym (take_while-cons p b bytes ∙ ap (λ t. cond t (b ∷ take_while p bytes) []) e)) utf8
 
 digit_ascii : (b : ℕ) → is_ascii_digit b ≡ true → b < 128
 digit_ascii b h = grind (arith, nat_tests)
@@ -111,13 +115,16 @@ lexed_texts zero at bytes utf8 = tt
 lexed_texts (suc turns) at [] utf8 = tt
 lexed_texts (suc turns) at (b ∷ bytes) utf8 = go (is_blank b) refl (lexed_texts turns (at + 1) bytes) (λ n. lexed_texts turns (at + 1 + n) (drop n bytes))
   where
-    token : (o : Option Front) → front_token b bytes ≡ o → ((n : ℕ) → IsUtf8 (drop n bytes) → AreTextTokens (tokens_of (lex_from turns (at + 1 + n) (drop n bytes)).tokens))
+    token : (o : Option Front) → front_token b bytes ≡ o
+        → ((n : ℕ) → IsUtf8 (drop n bytes) → AreTextTokens (tokens_of (lex_from turns (at + 1 + n) (drop n bytes)).tokens))
         → AreTextTokens (tokens_of (lex_front at o (λ n. lex_from turns (at + 1 + n) (drop n bytes))).tokens)
     token None e rest = tt
     token (Some f) e rest = let is = front_is_text b bytes f utf8 (front_kind b bytes f e) in (is.0, rest f.more is.1)
 
-    go : (t : Bool) → is_blank b ≡ t → (IsUtf8 bytes → AreTextTokens (tokens_of (lex_from turns (at + 1) bytes).tokens)) → ((n : ℕ) → IsUtf8 (drop n bytes) → AreTextTokens (tokens_of (lex_from turns (at + 1 + n) (drop n bytes)).tokens))
-        → AreTextTokens (tokens_of (cond t (lex_from turns (at + 1) bytes) (lex_front at (front_token b bytes) (λ n. lex_from turns (at + 1 + n) (drop n bytes)))).tokens)
+    go : (t : Bool) → is_blank b ≡ t → (IsUtf8 bytes → AreTextTokens (tokens_of (lex_from turns (at + 1) bytes).tokens))
+        → ((n : ℕ) → IsUtf8 (drop n bytes) → AreTextTokens (tokens_of (lex_from turns (at + 1 + n) (drop n bytes)).tokens))
+        → AreTextTokens
+        (tokens_of (cond t (lex_from turns (at + 1) bytes) (lex_front at (front_token b bytes) (λ n. lex_from turns (at + 1 + n) (drop n bytes)))).tokens)
     go true e blank rest = blank (behind_ascii b bytes (blank_ascii b e) utf8)
     go false e blank rest = token (front_token b bytes) refl rest
 
@@ -140,11 +147,13 @@ module _ (columns : List Column) where
     -- each text of the tree is one of the tokens
     all_texts : (room : ℕ) (ts : List Token) (t : Tree) → Disjunction columns room ts t → AreTextTokens ts → AreTexts t
     all_texts room ts t (conj c) texts = conj_texts room ts t c texts
-    all_texts room ts t (or_conj {ts = xs} {us = ys} {p = p} {q = q} d c) texts = (all_texts room xs p d (front_texts xs (or_word ∷ ys) texts), conj_texts room ys q c (back_texts xs (or_word ∷ ys) texts).1)
+    all_texts room ts t (or_conj {ts = xs} {us = ys} {p = p} {q = q} d c) texts =
+        (all_texts room xs p d (front_texts xs (or_word ∷ ys) texts), conj_texts room ys q c (back_texts xs (or_word ∷ ys) texts).1)
 
     conj_texts : (room : ℕ) (ts : List Token) (t : Tree) → Conjunction columns room ts t → AreTextTokens ts → AreTexts t
     conj_texts room ts t (unit u) texts = unit_texts room ts t u texts
-    conj_texts room ts t (and_unit {ts = xs} {us = ys} {p = p} {q = q} c u) texts = (conj_texts room xs p c (front_texts xs (and_word ∷ ys) texts), unit_texts room ys q u (back_texts xs (and_word ∷ ys) texts).1)
+    conj_texts room ts t (and_unit {ts = xs} {us = ys} {p = p} {q = q} c u) texts =
+        (conj_texts room xs p c (front_texts xs (and_word ∷ ys) texts), unit_texts room ys q u (back_texts xs (and_word ∷ ys) texts).1)
 
     unit_texts : (room : ℕ) (ts : List Token) (t : Tree) → Operand columns room ts t → AreTextTokens ts → AreTexts t
     unit_texts room ts t all texts = tt

@@ -33,17 +33,21 @@ pub record IsMark (b : ℕ) (bytes : List ℕ) (f : Front) : Type 0 where
   pub behind : (f.more ≡ 0) ⊎ ((f.more ≡ 1) × (is_equals_next bytes ≡ true))
 
 pub data Kind (b : ℕ) (bytes : List ℕ) (f : Front) : Type 0 where
-  a_word : is_ascii_alphabetic b ≡ true → f ≡ record { token = word_token (b ∷ take_while is_name_byte bytes); more = length (take_while is_name_byte bytes) } → Kind b bytes f
-  a_number : (is_ascii_digit b || (b == 45)) ≡ true → (z : ℤ) → number_at b bytes ≡ Some z → f ≡ record { token = value (literal.Number z); more = length (take_while is_ascii_digit bytes) } → Kind b bytes f
+  a_word : is_ascii_alphabetic b ≡ true → f ≡ record { token = word_token (b ∷ take_while is_name_byte bytes); more = length (take_while is_name_byte bytes) } →
+      Kind b bytes f
+  a_number : (is_ascii_digit b || (b == 45)) ≡ true → (z : ℤ) → number_at b bytes ≡ Some z →
+      f ≡ record { token = value (literal.Number z); more = length (take_while is_ascii_digit bytes) } → Kind b bytes f
   a_text : b ≡ 39 → (q : Quoted) → quoted false bytes ≡ Some q → f ≡ record { token = value (literal.Text q.text); more = q.bytes } → Kind b bytes f
   a_mark : IsMark b bytes f → Kind b bytes f
 
-is_one : (b k : ℕ) (bytes : List ℕ) (f : Front) (t : Token) → (b == k) ≡ true → k < 128 → is_mark t ≡ true → length (token_text t) ≤ 1 → Some (record { token = t; more = 0 }) ≡ Some f → IsMark b bytes f
+is_one : (b k : ℕ) (bytes : List ℕ) (f : Front) (t : Token) → (b == k) ≡ true → k < 128 → is_mark t ≡ true → length (token_text t) ≤ 1 →
+    Some (record { token = t; more = 0 }) ≡ Some f → IsMark b bytes f
 is_one b k bytes f t is low marks short h =
     let same : record { token = t; more = 0 } ≡ f = cc in
     subst (IsMark b bytes) same (record { ascii = omega (arith, eqb-true b k is); marks = marks; short = omega arith; behind = inl refl })
 
-is_two : (b k : ℕ) (bytes : List ℕ) (f : Front) (t : Token) → (b == k) ≡ true → k < 128 → is_mark t ≡ true → length (token_text t) ≤ 2 → is_equals_next bytes ≡ true → Some (record { token = t; more = 1 }) ≡ Some f → IsMark b bytes f
+is_two : (b k : ℕ) (bytes : List ℕ) (f : Front) (t : Token) → (b == k) ≡ true → k < 128 → is_mark t ≡ true → length (token_text t) ≤ 2 →
+    is_equals_next bytes ≡ true → Some (record { token = t; more = 1 }) ≡ Some f → IsMark b bytes f
 is_two b k bytes f t is low marks short next h =
     let same : record { token = t; more = 1 } ≡ f = cc in
     subst (IsMark b bytes) same (record { ascii = omega (arith, eqb-true b k is); marks = marks; short = omega arith; behind = inr (refl, next) })
@@ -60,31 +64,42 @@ mark_front_is b bytes f h = eq (b == 61) refl h
     closing true e i = is_one b 41 bytes f close_bracket e (omega arith) refl (omega arith) i
     closing false e i = comma_mark (b == 44) refl i
 
-    opening : (t : Bool) → (b == 40) ≡ t → cond t (taking 0 (Some open_bracket)) (cond (b == 41) (taking 0 (Some close_bracket)) (cond (b == 44) (taking 0 (Some comma)) None)) ≡ Some f → IsMark b bytes f
+    opening : (t : Bool) → (b == 40) ≡ t →
+        cond t (taking 0 (Some open_bracket)) (cond (b == 41) (taking 0 (Some close_bracket)) (cond (b == 44) (taking 0 (Some comma)) None)) ≡ Some f →
+        IsMark b bytes f
     opening true e i = is_one b 40 bytes f open_bracket e (omega arith) refl (omega arith) i
     opening false e i = closing (b == 41) refl i
 
-    gt : (t n : Bool) → (b == 62) ≡ t → is_equals_next bytes ≡ n → cond t (cond n (taking 1 (Some (operator op.Ge))) (taking 0 (Some (operator op.Gt)))) (cond (b == 40) (taking 0 (Some open_bracket)) (cond (b == 41) (taking 0 (Some close_bracket)) (cond (b == 44) (taking 0 (Some comma)) None))) ≡ Some f → IsMark b bytes f
+    gt : (t n : Bool) → (b == 62) ≡ t → is_equals_next bytes ≡ n →
+        cond t (cond n (taking 1 (Some (operator op.Ge))) (taking 0 (Some (operator op.Gt)))) (cond (b == 40) (taking 0 (Some open_bracket)) (cond (b == 41) (taking 0 (Some close_bracket)) (cond (b == 44) (taking 0 (Some comma)) None))) ≡ Some f →
+        IsMark b bytes f
     gt true true e n i = is_two b 62 bytes f (operator op.Ge) e (omega arith) refl (omega arith) n i
     gt true false e n i = is_one b 62 bytes f (operator op.Gt) e (omega arith) refl (omega arith) i
     gt false x e n i = opening (b == 40) refl i
 
-    lt : (t n : Bool) → (b == 60) ≡ t → is_equals_next bytes ≡ n → cond t (cond n (taking 1 (Some (operator op.Le))) (taking 0 (Some (operator op.Lt)))) (cond (b == 62) (cond (is_equals_next bytes) (taking 1 (Some (operator op.Ge))) (taking 0 (Some (operator op.Gt)))) (cond (b == 40) (taking 0 (Some open_bracket)) (cond (b == 41) (taking 0 (Some close_bracket)) (cond (b == 44) (taking 0 (Some comma)) None)))) ≡ Some f → IsMark b bytes f
+    lt : (t n : Bool) → (b == 60) ≡ t → is_equals_next bytes ≡ n →
+        cond t (cond n (taking 1 (Some (operator op.Le))) (taking 0 (Some (operator op.Lt)))) (cond (b == 62) (cond (is_equals_next bytes) (taking 1 (Some (operator op.Ge))) (taking 0 (Some (operator op.Gt)))) (cond (b == 40) (taking 0 (Some open_bracket)) (cond (b == 41) (taking 0 (Some close_bracket)) (cond (b == 44) (taking 0 (Some comma)) None)))) ≡ Some f →
+        IsMark b bytes f
     lt true true e n i = is_two b 60 bytes f (operator op.Le) e (omega arith) refl (omega arith) n i
     lt true false e n i = is_one b 60 bytes f (operator op.Lt) e (omega arith) refl (omega arith) i
     lt false x e n i = gt (b == 62) (is_equals_next bytes) refl refl i
 
-    ne : (t n : Bool) → (b == 33) ≡ t → is_equals_next bytes ≡ n → cond t (cond n (taking 1 (Some (operator op.Ne))) None) (cond (b == 60) (cond (is_equals_next bytes) (taking 1 (Some (operator op.Le))) (taking 0 (Some (operator op.Lt)))) (cond (b == 62) (cond (is_equals_next bytes) (taking 1 (Some (operator op.Ge))) (taking 0 (Some (operator op.Gt)))) (cond (b == 40) (taking 0 (Some open_bracket)) (cond (b == 41) (taking 0 (Some close_bracket)) (cond (b == 44) (taking 0 (Some comma)) None))))) ≡ Some f → IsMark b bytes f
+    ne : (t n : Bool) → (b == 33) ≡ t → is_equals_next bytes ≡ n →
+        cond t (cond n (taking 1 (Some (operator op.Ne))) None) (cond (b == 60) (cond (is_equals_next bytes) (taking 1 (Some (operator op.Le))) (taking 0 (Some (operator op.Lt)))) (cond (b == 62) (cond (is_equals_next bytes) (taking 1 (Some (operator op.Ge))) (taking 0 (Some (operator op.Gt)))) (cond (b == 40) (taking 0 (Some open_bracket)) (cond (b == 41) (taking 0 (Some close_bracket)) (cond (b == 44) (taking 0 (Some comma)) None))))) ≡ Some f →
+        IsMark b bytes f
     ne true true e n i = is_two b 33 bytes f (operator op.Ne) e (omega arith) refl (omega arith) n i
     ne true false e n i = absurd cc
     ne false x e n i = lt (b == 60) (is_equals_next bytes) refl refl i
 
-    eq : (t : Bool) → (b == 61) ≡ t → cond t (taking 0 (Some (operator op.Eq))) (cond (b == 33) (cond (is_equals_next bytes) (taking 1 (Some (operator op.Ne))) None) (cond (b == 60) (cond (is_equals_next bytes) (taking 1 (Some (operator op.Le))) (taking 0 (Some (operator op.Lt)))) (cond (b == 62) (cond (is_equals_next bytes) (taking 1 (Some (operator op.Ge))) (taking 0 (Some (operator op.Gt)))) (cond (b == 40) (taking 0 (Some open_bracket)) (cond (b == 41) (taking 0 (Some close_bracket)) (cond (b == 44) (taking 0 (Some comma)) None)))))) ≡ Some f → IsMark b bytes f
+    eq : (t : Bool) → (b == 61) ≡ t →
+        cond t (taking 0 (Some (operator op.Eq))) (cond (b == 33) (cond (is_equals_next bytes) (taking 1 (Some (operator op.Ne))) None) (cond (b == 60) (cond (is_equals_next bytes) (taking 1 (Some (operator op.Le))) (taking 0 (Some (operator op.Lt)))) (cond (b == 62) (cond (is_equals_next bytes) (taking 1 (Some (operator op.Ge))) (taking 0 (Some (operator op.Gt)))) (cond (b == 40) (taking 0 (Some open_bracket)) (cond (b == 41) (taking 0 (Some close_bracket)) (cond (b == 44) (taking 0 (Some comma)) None)))))) ≡ Some f →
+        IsMark b bytes f
     eq true e i = is_one b 61 bytes f (operator op.Eq) e (omega arith) refl (omega arith) i
     eq false e i = ne (b == 33) (is_equals_next bytes) refl refl i
 
 -- a number at the front
-number_kind : (b : ℕ) (bytes : List ℕ) (f : Front) → (is_ascii_digit b || (b == 45)) ≡ true → (o : Option ℤ) → number_at b bytes ≡ o → taking (length (take_while is_ascii_digit bytes)) (number_token o) ≡ Some f → Kind b bytes f
+number_kind : (b : ℕ) (bytes : List ℕ) (f : Front) → (is_ascii_digit b || (b == 45)) ≡ true → (o : Option ℤ) → number_at b bytes ≡ o →
+    taking (length (take_while is_ascii_digit bytes)) (number_token o) ≡ Some f → Kind b bytes f
 number_kind b bytes f begins None is h = absurd cc
 number_kind b bytes f begins (Some z) is h = a_number begins z is cc
 

@@ -26,7 +26,8 @@ in_schema columns c f none h = go (slice_get columns c) refl h
 -- the column of a comparison that fits
 pub compared_inside : (columns : List Column) (t : Tree) (c : ℕ) (o : Op) (l : Literal) → t ≡ compared c o l → fits columns t ≡ true → c < length columns
 compared_inside columns t c o l is fit =
-    in_schema columns c (λ r. has_operator r o) refl (and_parts (has_operator (role_at columns c) o) (is_of_role (role_at columns c) l) (ap (fits columns) (sym is) ∙ fit)).0
+    in_schema columns c (λ r. has_operator r o) refl
+    (and_parts (has_operator (role_at columns c) o) (is_of_role (role_at columns c) l) (ap (fits columns) (sym is) ∙ fit)).0
 
 -- the column of an `in` that fits
 pub among_inside : (columns : List Column) (t : Tree) (c : ℕ) (ls : List Literal) → t ≡ among c ls → fits columns t ≡ true → c < length columns
@@ -42,7 +43,8 @@ fits_some columns t c ls is fit = (and_parts (has_literals ls) (list_all (is_of_
 -- ---- the parts
 
 -- a part with its brackets, and what follows it
-part_written : (columns : List Column) (p : Tree) (b c : Bool) (old one two rest : List ℕ) → c ≡ b → one ≡ old ++ cond c (codes "(") [] → two ≡ one ++ printed columns p → (two ++ cond c (codes ")") []) ++ rest ≡ old ++ (part_text columns b p ++ rest)
+part_written : (columns : List Column) (p : Tree) (b c : Bool) (old one two rest : List ℕ) → c ≡ b →
+    one ≡ old ++ cond c (codes "(") [] → two ≡ one ++ printed columns p → (two ++ cond c (codes ")") []) ++ rest ≡ old ++ (part_text columns b p ++ rest)
 part_written columns p b c old one two rest is first second =
     append_assoc two (cond c (codes ")") []) rest ∙ behind_push one two (printed columns p) (cond c (codes ")") [] ++ rest) second
     ∙ behind_push old one (cond c (codes "(") []) (printed columns p ++ (cond c (codes ")") [] ++ rest)) first
@@ -51,9 +53,11 @@ part_written columns p b c old one two rest is first second =
     ∙ ap (λ x. old ++ (part_text columns x p ++ rest)) is
 
 -- a part with its brackets at the end
-last_part : (columns : List Column) (p : Tree) (b c : Bool) (old one two : List ℕ) → c ≡ b → one ≡ old ++ cond c (codes "(") [] → two ≡ one ++ printed columns p → two ++ cond c (codes ")") [] ≡ old ++ part_text columns b p
+last_part : (columns : List Column) (p : Tree) (b c : Bool) (old one two : List ℕ) → c ≡ b →
+    one ≡ old ++ cond c (codes "(") [] → two ≡ one ++ printed columns p → two ++ cond c (codes ")") [] ≡ old ++ part_text columns b p
 last_part columns p b c old one two is first second =
-    behind_push one two (printed columns p) (cond c (codes ")") []) second ∙ behind_push old one (cond c (codes "(") []) (printed columns p ++ cond c (codes ")") []) first
+    behind_push one two (printed columns p)
+    (cond c (codes ")") []) second ∙ behind_push old one (cond c (codes "(") []) (printed columns p ++ cond c (codes ")") []) first
     ∙ ap (λ x. old ++ part_text columns x p) is
 
 -- a `not` that is written piece by piece
@@ -64,7 +68,8 @@ negation_written columns t p c old one two three is fit told first second third 
     ∙ ap (λ xs. old ++ xs) (sym (printed-negation columns p (ap (fits columns) (sym is) ∙ fit)) ∙ ap (printed columns) (sym is))
 
 -- an `and` that is written piece by piece
-pub both_written : (columns : List Column) (t p q : Tree) (b c : Bool) (old one two three four five six : List ℕ) → t ≡ both p q → fits columns t ≡ true → b ≡ is_or p → c ≡ is_or_and q
+pub both_written : (columns : List Column) (t p q : Tree) (b c : Bool) (old one two three four five six : List ℕ) → t ≡ both p q → fits columns t ≡ true
+    → b ≡ is_or p → c ≡ is_or_and q
     → one ≡ old ++ cond b (codes "(") [] → two ≡ one ++ printed columns p → three ≡ two ++ cond b (codes ")") [] → four ≡ three ++ codes " and "
     → five ≡ four ++ cond c (codes "(") [] → six ≡ five ++ printed columns q → six ++ cond c (codes ")") [] ≡ old ++ printed columns t
 both_written columns t p q b c old one two three four five six is fit left right first second third fourth fifth sixth =
@@ -82,9 +87,12 @@ either_written columns t p q c old one two three four is fit right first second 
     ∙ ap (λ xs. old ++ xs) (sym (printed-either columns p q (ap (fits columns) (sym is) ∙ fit)) ∙ ap (printed columns) (sym is))
 
 -- an `in` that is written piece by piece
-pub among_written : (columns : List Column) (t : Tree) (c : ℕ) (ls : List Literal) (found old one two three : List ℕ) → t ≡ among c ls → has_literals ls ≡ true → Some found ≡ name_at columns c
+pub among_written : (columns : List Column) (t : Tree) (c : ℕ) (ls : List Literal) (found old one two three : List ℕ) → t ≡ among c ls → has_literals ls ≡ true
+    → Some found ≡ name_at columns c
     → one ≡ old ++ found → two ≡ one ++ codes " in (" → three ≡ two ++ spaced (list_tokens ls) → three ≡ old ++ printed columns t
 among_written columns t c [] found old one two three is some named first second third = absurd cc
 among_written columns t c (l ∷ ls) found old one two three is some named first second third =
-    third ∙ behind_push one two (codes " in (") (spaced (list_tokens (l ∷ ls))) second ∙ behind_push old one found (codes " in (" ++ spaced (list_tokens (l ∷ ls))) first
-    ∙ ap (λ (n : Option (List ℕ)). old ++ (unwrap_or n [] ++ (codes " in (" ++ spaced (list_tokens (l ∷ ls))))) named ∙ ap (λ x. old ++ printed columns x) (sym is)
+    third
+    ∙ behind_push one two (codes " in (") (spaced (list_tokens (l ∷ ls))) second ∙ behind_push old one found (codes " in (" ++ spaced (list_tokens (l ∷ ls))) first
+    ∙ ap
+    (λ (n : Option (List ℕ)). old ++ (unwrap_or n [] ++ (codes " in (" ++ spaced (list_tokens (l ∷ ls))))) named ∙ ap (λ x. old ++ printed columns x) (sym is)

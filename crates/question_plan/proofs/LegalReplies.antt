@@ -38,7 +38,8 @@ module _ (grows : LegalGrows) (places : PlacesAreColumns) (base : Database) (is_
     where
       by : (place : Option ℕ) → option_and_then (secret_place base.columns) place ≡ Some column → column < columns base.secret.shape
       by None found = absurd (cc)
-      by (Some place) found = subst (λ s. column < columns s) (sym is_base.shape) ((places base.columns place column is_base.schema found).has.below base.public.rows)
+      by (Some place) found =
+          subst (λ s. column < columns s) (sym is_base.shape) ((places base.columns place column is_base.schema found).has.below base.public.rows)
 
   -- the column of a request is one of the table
   abbrev TakesColumnBelow : Request → Type 0
@@ -48,32 +49,41 @@ module _ (grows : LegalGrows) (places : PlacesAreColumns) (base : Database) (is_
   TakesColumnBelow (request.Max c p) = c < columns base.secret.shape
 
   -- a question of such a column over the rows of a condition fits the shape
-  question_fits : (t take : Take) (column : ℕ) (rows : List ℕ) (asked : Asked) → column < columns base.secret.shape → AreRows base.public.rows rows → question_over t column base.public.rows rows ≡ Ask take asked → FitsShape base.secret.shape asked.column asked.rows
+  question_fits : (t take : Take) (column : ℕ) (rows : List ℕ) (asked : Asked) → column < columns base.secret.shape → AreRows base.public.rows rows →
+      question_over t column base.public.rows rows ≡ Ask take asked → FitsShape base.secret.shape asked.column asked.rows
   question_fits t take column [] asked below are is = absurd (cc)
   question_fits t take column (row ∷ rows) asked below are is =
       let same : record { column = column; rows = record { n = base.public.rows; list = row ∷ rows } } ≡ asked = cc in
       subst (λ (a : Asked). FitsShape base.secret.shape a.column a.rows) same
       (record { column_below = below; same_n = ap (λ s. s.rows) (sym is_base.shape); are_rows = are; some = λ (e : row ∷ rows ≡ []). cc })
 
-  request_fits : (r : Request) (take : Take) (asked : Asked) → TakesColumnBelow r → plan_of base.public r ≡ Ask take asked → FitsShape base.secret.shape asked.column asked.rows
+  request_fits : (r : Request) (take : Take) (asked : Asked) → TakesColumnBelow r → plan_of base.public r ≡ Ask take asked →
+      FitsShape base.secret.shape asked.column asked.rows
   request_fits (request.Count p) take asked below is = absurd (cc)
-  request_fits (request.Sum c p) take asked below is = question_fits Sum take c (meaning base.public (tree_of p)) asked below (AreRows-rows_that _ base.public.rows) is
-  request_fits (request.Avg c p) take asked below is = question_fits Avg take c (meaning base.public (tree_of p)) asked below (AreRows-rows_that _ base.public.rows) is
-  request_fits (request.Max c p) take asked below is = question_fits Max take c (meaning base.public (tree_of p)) asked below (AreRows-rows_that _ base.public.rows) is
+  request_fits (request.Sum c p) take asked below is =
+      question_fits Sum take c (meaning base.public (tree_of p)) asked below (AreRows-rows_that _ base.public.rows) is
+  request_fits (request.Avg c p) take asked below is =
+      question_fits Avg take c (meaning base.public (tree_of p)) asked below (AreRows-rows_that _ base.public.rows) is
+  request_fits (request.Max c p) take asked below is =
+      question_fits Max take c (meaning base.public (tree_of p)) asked below (AreRows-rows_that _ base.public.rows) is
 
   -- an outcome's record keeps the history legal
-  outcome_keeps : (history : List Answered) (asked : Asked) (outcome : Outcome) → FitsShape base.secret.shape asked.column asked.rows → IsLegal (secret_table base.secret) history → IsOutcome (secret_table base.secret) history asked outcome
+  outcome_keeps : (history : List Answered) (asked : Asked) (outcome : Outcome) → FitsShape base.secret.shape asked.column asked.rows
+      → IsLegal (secret_table base.secret) history → IsOutcome (secret_table base.secret) history asked outcome
       → IsLegal (secret_table base.secret) (history ++ option_to_list (record_of asked outcome))
   outcome_keeps history asked Full fit legal due = subst (IsLegal (secret_table base.secret)) (sym (append-nil history)) legal
   outcome_keeps history asked (Denied verdict) fit legal due = subst (IsLegal (secret_table base.secret)) (sym (append-nil history)) legal
   outcome_keeps history asked (Answer answer) fit legal due =
-      grows (secret_table base.secret) history (record { column = asked.column; rows = asked.rows; answer = answer }) legal due.0 (record { fits = fit; true_answer = due.2; released = due.1 })
+      grows (secret_table base.secret) history (record { column = asked.column; rows = asked.rows; answer = answer }) legal due.0
+      (record { fits = fit; true_answer = due.2; released = due.1 })
 
   -- a reply that makes no record does
-  only_keeps : (history : List Answered) (replied : Replied Answered) (added : Option Answered) → replied.added ≡ added → IsLegal (secret_table base.secret) (history ++ option_to_list added) → IsLegal (secret_table base.secret) (history ++ option_to_list replied.added)
+  only_keeps : (history : List Answered) (replied : Replied Answered) (added : Option Answered) → replied.added ≡ added →
+      IsLegal (secret_table base.secret) (history ++ option_to_list added) → IsLegal (secret_table base.secret) (history ++ option_to_list replied.added)
   only_keeps history replied added is legal = subst (λ (a : Option Answered). IsLegal (secret_table base.secret) (history ++ option_to_list a)) (sym is) legal
 
-  nothing_keeps : (history : List Answered) (replied : Replied Answered) → replied.added ≡ None → IsLegal (secret_table base.secret) history → IsLegal (secret_table base.secret) (history ++ option_to_list replied.added)
+  nothing_keeps : (history : List Answered) (replied : Replied Answered) → replied.added ≡ None → IsLegal (secret_table base.secret) history →
+      IsLegal (secret_table base.secret) (history ++ option_to_list replied.added)
   nothing_keeps history replied none legal = only_keeps history replied None none (subst (IsLegal (secret_table base.secret)) (sym (append-nil history)) legal)
 
   -- the column of a request that a question means
@@ -85,25 +95,33 @@ module _ (grows : LegalGrows) (places : PlacesAreColumns) (base : Database) (is_
   taken_below question t r means = absurd means
 
   -- a question that a line comes to fits the shape
-  plan_fits : (line : CountedLine) (take : Take) (asked : Asked) → IsPlan base.columns base.public line (Ask take asked) → FitsShape base.secret.shape asked.column asked.rows
+  plan_fits : (line : CountedLine) (take : Take) (asked : Asked) → IsPlan base.columns base.public line (Ask take asked) →
+      FitsShape base.secret.shape asked.column asked.rows
   plan_fits long take asked is = absurd (cc)
   plan_fits (text line) take asked (inl refused) = never_asks refused.fault take asked refused.told
   plan_fits (text line) take asked (inr requested) =
-      request_fits requested.request take asked (taken_below requested.requests.question requested.requests.tree requested.request requested.requests.is) (sym requested.plan_is)
+      request_fits requested.request take asked (taken_below requested.requests.question requested.requests.tree requested.request requested.requests.is)
+      (sym requested.plan_is)
 
   -- so does the reply of a plan
-  reply_keeps : (plan : Plan) (history : List Answered) (replied : Replied Answered) → ((take : Take) (asked : Asked) → plan ≡ Ask take asked → FitsShape base.secret.shape asked.column asked.rows) → IsLegal (secret_table base.secret) history
+  reply_keeps : (plan : Plan) (history : List Answered) (replied : Replied Answered)
+      → ((take : Take) (asked : Asked) → plan ≡ Ask take asked → FitsShape base.secret.shape asked.column asked.rows)
+      → IsLegal (secret_table base.secret) history
       → IsReplyOf (secret_table base.secret) history plan replied → IsLegal (secret_table base.secret) (history ++ option_to_list replied.added)
   reply_keeps (Ready answer) history replied fit legal reply = nothing_keeps history replied (ap (λ (r : Replied Answered). r.added) reply) legal
   reply_keeps (Ask take asked) history replied fit legal reply =
-      only_keeps history replied (record_of asked reply.outcome) (ap (λ (r : Replied Answered). r.added) reply.replied_is) (outcome_keeps history asked reply.outcome (fit take asked refl) legal reply.due)
+      only_keeps history replied (record_of asked reply.outcome) (ap (λ (r : Replied Answered). r.added) reply.replied_is)
+      (outcome_keeps history asked reply.outcome (fit take asked refl) legal reply.due)
 
-  due_keeps : (history : List Answered) (line : CountedLine) (replied : Replied Answered) → IsLegal (secret_table base.secret) history → IsDue base history line replied → IsLegal (secret_table base.secret) (history ++ option_to_list replied.added)
+  due_keeps : (history : List Answered) (line : CountedLine) (replied : Replied Answered) → IsLegal (secret_table base.secret) history →
+      IsDue base history line replied → IsLegal (secret_table base.secret) (history ++ option_to_list replied.added)
   due_keeps history line replied legal due =
-      reply_keeps due.plan history replied (λ take asked is. plan_fits line take asked (subst (λ (p : Plan). IsPlan base.columns base.public line p) is due.planned)) legal due.reply
+      reply_keeps due.plan history replied
+      (λ take asked is. plan_fits line take asked (subst (λ (p : Plan). IsPlan base.columns base.public line p) is due.planned)) legal due.reply
 
   -- and those to all lines
-  pub replies_keep : (history : List Answered) (lines : List CountedLine) (replies : List (Replied Answered)) → IsLegal (secret_table base.secret) history → AreReplies (IsDue base) history lines replies → IsLegal (secret_table base.secret) (history ++ records_of replies)
+  pub replies_keep : (history : List Answered) (lines : List CountedLine) (replies : List (Replied Answered)) → IsLegal (secret_table base.secret) history →
+      AreReplies (IsDue base) history lines replies → IsLegal (secret_table base.secret) (history ++ records_of replies)
   replies_keep history [] [] legal are = subst (IsLegal (secret_table base.secret)) (sym (append-nil history)) legal
   replies_keep history [] (reply ∷ replies) legal are = absurd are
   replies_keep history (line ∷ lines) [] legal are = absurd are

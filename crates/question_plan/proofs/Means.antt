@@ -13,7 +13,8 @@ use Rattle.line_wire.specs.Reply.{IsAverage}
 use Rattle.question_plan.specs.Replies.{IsMean}
 
 -- the divisor as the code has it
-pub gcd_of : (a b c sum : ℤ) (size g : ℕ) → a ≡ sum → b ≡ pos size → c ≡ pos g → IsGcd (unsigned_abs a) (unsigned_abs b) g → IsGcd (unsigned_abs sum) size (unsigned_abs c)
+pub gcd_of : (a b c sum : ℤ) (size g : ℕ) → a ≡ sum → b ≡ pos size → c ≡ pos g → IsGcd (unsigned_abs a) (unsigned_abs b) g →
+    IsGcd (unsigned_abs sum) size (unsigned_abs c)
 gcd_of a b c sum size g first second third common =
     subst (λ (z : ℤ). IsGcd (unsigned_abs sum) size (unsigned_abs z)) (sym third)
     (subst (λ (z : ℤ). IsGcd (unsigned_abs sum) (unsigned_abs z) g) second (subst (λ (z : ℤ). IsGcd (unsigned_abs z) (unsigned_abs b) g) first common))
@@ -57,7 +58,8 @@ module _ (sum : ℤ) (size g : ℕ) (some : 0 < size) (common : IsGcd (unsigned_
   lowest =
       let scaled = scaled_gcd g divisor_some (suc (size / g)) (unsigned_abs (int_div sum (pos g))) (size / g) (omega arith) in
       let here : IsGcd (unsigned_abs sum) size (g * scaled.0) = subst (λ (m : ℕ). IsGcd m size (g * scaled.0)) (sym abs_is) (subst (λ (m : ℕ). IsGcd (g * unsigned_abs (int_div sum (pos g))) m (g * scaled.0)) (sym size_is) scaled.2) in
-      subst (λ (k : ℕ). IsGcd (unsigned_abs (int_div sum (pos g))) (size / g) k) (one scaled.0 (same_from_IsGcd (unsigned_abs sum) size g (g * scaled.0) common here)) scaled.1
+      subst (λ (k : ℕ). IsGcd (unsigned_abs (int_div sum (pos g))) (size / g) k)
+      (one scaled.0 (same_from_IsGcd (unsigned_abs sum) size g (g * scaled.0) common here)) scaled.1
 
   pub mean : IsMean sum size (int_div sum (pos g)) (size / g)
   mean = record {

@@ -42,10 +42,12 @@ cancel_ℤ (negsuc a) (negsuc b) s some same =
 cancel_ℤ (pos a) (negsuc b) s some same = absurd (opposites (a * s) (suc b * s) (some_product b s some) same)
 cancel_ℤ (negsuc a) (pos b) s some same = absurd (opposites (b * s) (suc a * s) (some_product a s some) (sym same))
 
-module _ (sum : ℤ) (size : ℕ) (some : 0 < size) (num other : ℤ) (den divisor : ℕ) (first : IsMean sum size num den) (second : IsMean sum size other divisor) where
+module _ (sum : ℤ) (size : ℕ) (some : 0 < size) (num other : ℤ) (den divisor : ℕ) (first : IsMean sum size num den)
+    (second : IsMean sum size other divisor) where
   -- both fractions are the same
   across : unsigned_abs num * divisor ≡ unsigned_abs other * den
-  across = cancel (unsigned_abs num * divisor) (unsigned_abs other * den) size some (omega (arith, ap (λ (m : ℕ). m * divisor) one, ap (λ (m : ℕ). m * den) two))
+  across =
+      cancel (unsigned_abs num * divisor) (unsigned_abs other * den) size some (omega (arith, ap (λ (m : ℕ). m * divisor) one, ap (λ (m : ℕ). m * den) two))
     where
       one : unsigned_abs num * size ≡ unsigned_abs sum * den
       one = sym (unsigned_abs-mul num (pos size)) ∙ ap unsigned_abs first.same ∙ unsigned_abs-mul sum (pos den)

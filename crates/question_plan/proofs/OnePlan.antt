@@ -45,7 +45,8 @@ never_asks fault.Kind take asked is = absurd cc
 never_asks (fault.Condition at) take asked is = absurd cc
 never_asks fault.NoMemory take asked is = absurd cc
 
-pub asked_some : (columns : List Column) (public : PublicView) (line : CountedLine) (take : Take) (asked : Asked) → IsPlan columns public line (Ask take asked) → 0 < length asked.rows.list
+pub asked_some : (columns : List Column) (public : PublicView) (line : CountedLine) (take : Take) (asked : Asked) →
+    IsPlan columns public line (Ask take asked) → 0 < length asked.rows.list
 asked_some columns public long take asked is = absurd (cc)
 asked_some columns public (text line) take asked (inl refused) = never_asks refused.fault take asked refused.told
 asked_some columns public (text line) take asked (inr requested) = request_some public requested.request take asked (sym requested.plan_is)
@@ -53,7 +54,8 @@ asked_some columns public (text line) take asked (inr requested) = request_some 
 -- ---- requests that one question means
 
 module _ (columns : List Column) (public : PublicView) where
-  over_same : (take : Take) (column other : ℕ) (t u : Tree) → column ≡ other → t ≡ u → question_over take column public.rows (meaning public t) ≡ question_over take other public.rows (meaning public u)
+  over_same : (take : Take) (column other : ℕ) (t u : Tree) → column ≡ other → t ≡ u →
+      question_over take column public.rows (meaning public t) ≡ question_over take other public.rows (meaning public u)
   over_same take column other t u one tree =
       ap (λ (c : ℕ). question_over take c public.rows (meaning public t)) one ∙ ap (λ (v : Tree). question_over take other public.rows (meaning public v)) tree
 
@@ -61,13 +63,17 @@ module _ (columns : List Column) (public : PublicView) where
   some_same x y o first second = let both : Some x ≡ Some y = sym first ∙ second in cc
 
   requests_same : (w : Written) (t : Tree) (r q : Request) → IsRequest columns w t r → IsRequest columns w t q → plan_of public r ≡ plan_of public q
-  requests_same (counted condition) t (request.Count p) (request.Count q) r_is q_is = ap (λ (u : Tree). Ready (reply.Count (length (meaning public u)))) (r_is ∙ sym q_is)
+  requests_same (counted condition) t (request.Count p) (request.Count q) r_is q_is =
+      ap (λ (u : Tree). Ready (reply.Count (length (meaning public u)))) (r_is ∙ sym q_is)
   requests_same (counted condition) t (request.Count p) q r_is q_is = absurd q_is
-  requests_same (taken Sum name condition) t (request.Sum c p) (request.Sum d q) r_is q_is = over_same Sum c d (tree_of p) (tree_of q) (some_same c d (secret_of columns name) r_is.0 q_is.0) (r_is.1 ∙ sym q_is.1)
+  requests_same (taken Sum name condition) t (request.Sum c p) (request.Sum d q) r_is q_is =
+      over_same Sum c d (tree_of p) (tree_of q) (some_same c d (secret_of columns name) r_is.0 q_is.0) (r_is.1 ∙ sym q_is.1)
   requests_same (taken Sum name condition) t (request.Sum c p) q r_is q_is = absurd q_is
-  requests_same (taken Avg name condition) t (request.Avg c p) (request.Avg d q) r_is q_is = over_same Avg c d (tree_of p) (tree_of q) (some_same c d (secret_of columns name) r_is.0 q_is.0) (r_is.1 ∙ sym q_is.1)
+  requests_same (taken Avg name condition) t (request.Avg c p) (request.Avg d q) r_is q_is =
+      over_same Avg c d (tree_of p) (tree_of q) (some_same c d (secret_of columns name) r_is.0 q_is.0) (r_is.1 ∙ sym q_is.1)
   requests_same (taken Avg name condition) t (request.Avg c p) q r_is q_is = absurd q_is
-  requests_same (taken Max name condition) t (request.Max c p) (request.Max d q) r_is q_is = over_same Max c d (tree_of p) (tree_of q) (some_same c d (secret_of columns name) r_is.0 q_is.0) (r_is.1 ∙ sym q_is.1)
+  requests_same (taken Max name condition) t (request.Max c p) (request.Max d q) r_is q_is =
+      over_same Max c d (tree_of p) (tree_of q) (some_same c d (secret_of columns name) r_is.0 q_is.0) (r_is.1 ∙ sym q_is.1)
   requests_same (taken Max name condition) t (request.Max c p) q r_is q_is = absurd q_is
   requests_same question t r q r_is q_is = absurd r_is
 
@@ -126,7 +132,8 @@ module _ (columns : List Column) (o : Option Written) where
   asked_or_refused meanings fault.Column a r refuses is asks = good_column fault.Column asks.question refuses asks.writes asks.good
   asked_or_refused meanings fault.Kind a r refuses is asks = good_column fault.Kind asks.question refuses asks.writes asks.good
   asked_or_refused meanings (fault.Condition at) a r refuses is asks =
-      meanings.none columns (text_of refuses.question) asks.tree at (subst (λ (w : Written). Means columns (text_of w) asks.tree) (same_Some asks.question refuses.question (sym asks.writes ∙ refuses.writes)) asks.means) refuses.place.refuses
+      meanings.none columns (text_of refuses.question) asks.tree at
+      (subst (λ (w : Written). Means columns (text_of w) asks.tree) (same_Some asks.question refuses.question (sym asks.writes ∙ refuses.writes)) asks.means) refuses.place.refuses
   asked_or_refused meanings fault.NoMemory a r refuses is asks = cc
 
 -- ---- lines
@@ -142,7 +149,11 @@ module _ (meanings : OneMeaning) (columns : List Column) (public : PublicView) w
 
   pub one_plan : (line : CountedLine) (p q : Plan) → IsPlan columns public line p → IsPlan columns public line q → p ≡ q
   one_plan long p q first second = first ∙ sym second
-  one_plan (text line) p q (inl first) (inl second) = one_fault columns (question_of line) first.fault second.fault p q first.refuses second.refuses first.told second.told
-  one_plan (text line) p q (inl first) (inr second) = absurd (asked_or_refused columns (question_of line) meanings first.fault p second.request first.refuses first.told second.requests)
-  one_plan (text line) p q (inr first) (inl second) = absurd (asked_or_refused columns (question_of line) meanings second.fault q first.request second.refuses second.told first.requests)
-  one_plan (text line) p q (inr first) (inr second) = first.plan_is ∙ one_request (question_of line) first.request second.request first.requests second.requests ∙ sym second.plan_is
+  one_plan (text line) p q (inl first) (inl second) =
+      one_fault columns (question_of line) first.fault second.fault p q first.refuses second.refuses first.told second.told
+  one_plan (text line) p q (inl first) (inr second) =
+      absurd (asked_or_refused columns (question_of line) meanings first.fault p second.request first.refuses first.told second.requests)
+  one_plan (text line) p q (inr first) (inl second) =
+      absurd (asked_or_refused columns (question_of line) meanings second.fault q first.request second.refuses second.told first.requests)
+  one_plan (text line) p q (inr first) (inr second) =
+      first.plan_is ∙ one_request (question_of line) first.request second.request first.requests second.requests ∙ sym second.plan_is

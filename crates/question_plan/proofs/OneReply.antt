@@ -81,26 +81,31 @@ told_once Avg size a b told first second =
 told_once Max size a b told first second = let both : reply.Max a ≡ reply.Max b = sym first ∙ second in cc
 
 -- two replies that tell one denial, or that the history is full
-one_denial : (take : Take) (asked : Asked) (size : ℕ) (v : Verdict) (a b : Reply) → TellsOutcome take size (Denied v) a → TellsOutcome take size (Denied v) b → a ≡ b
+one_denial : (take : Take) (asked : Asked) (size : ℕ) (v : Verdict) (a b : Reply) → TellsOutcome take size (Denied v) a → TellsOutcome take size (Denied v) b →
+    a ≡ b
 one_denial take asked size Released a b first second = absurd first
 one_denial take asked size DeniedUnsafe a b first second = first ∙ sym second
 one_denial take asked size DeniedWide a b first second = first ∙ sym second
 
-module _ (forms : NarrowOrWide) (table twin : Table) (same : twin.setting ≡ table.setting) (history : List Answered) (take : Take) (asked : Asked) (some : 0 < length asked.rows.list) where
+module _ (forms : NarrowOrWide) (table twin : Table) (same : twin.setting ≡ table.setting) (history : List Answered) (take : Take) (asked : Asked)
+    (some : 0 < length asked.rows.list) where
   rows : List ℕ
   rows = asked.rows.list
 
   -- the decision of the twin is that of the table
-  one_verdict : (v w : Verdict) → IsDecision (known_of table.setting history asked.column) asked.rows.list v → IsDecision (known_of twin.setting history asked.column) asked.rows.list w → v ≡ w
+  one_verdict : (v w : Verdict) → IsDecision (known_of table.setting history asked.column) asked.rows.list v →
+      IsDecision (known_of twin.setting history asked.column) asked.rows.list w → v ≡ w
   one_verdict v w first second =
-      one_decision forms (known_of table.setting history asked.column) asked.rows.list v w first (subst (λ (s : Setting). IsDecision (known_of s history asked.column) asked.rows.list w) same second)
+      one_decision forms (known_of table.setting history asked.column) asked.rows.list v w first
+      (subst (λ (s : Setting). IsDecision (known_of s history asked.column) asked.rows.list w) same second)
 
   -- a reply that makes no record, by two names
   same_only : (answer other : Reply) (a b : Replied Answered) → answer ≡ other → a ≡ only answer → b ≡ only other → a ≡ b
   same_only answer other a b is first second = first ∙ ap (λ (r : Reply). only r) is ∙ sym second
 
   -- what becomes of a question over both
-  outcomes_alike : (x y : Outcome) (answer other : Reply) (a b : Replied Answered) → IsOutcome table history asked x → IsOutcome twin history asked y → TellsOutcome take (length asked.rows.list) x answer → TellsOutcome take (length asked.rows.list) y other
+  outcomes_alike : (x y : Outcome) (answer other : Reply) (a b : Replied Answered) → IsOutcome table history asked x → IsOutcome twin history asked y
+      → TellsOutcome take (length asked.rows.list) x answer → TellsOutcome take (length asked.rows.list) y other
       → a ≡ record { bytes = reply_bytes answer; added = record_of asked x } → b ≡ record { bytes = reply_bytes other; added = record_of asked y } → (a ≡ b) ⊎ AreAnswersAlike table twin a b
   outcomes_alike Full Full answer other a b first second tells told a_is b_is = inl (same_only answer other a b (tells ∙ sym told) a_is b_is)
   outcomes_alike Full (Denied w) answer other a b first second tells told a_is b_is = absurd (omega (arith, first, second.0))
@@ -109,7 +114,8 @@ module _ (forms : NarrowOrWide) (table twin : Table) (same : twin.setting ≡ ta
   outcomes_alike (Answer x) Full answer other a b first second tells told a_is b_is = absurd (omega (arith, first.0, second))
   outcomes_alike (Denied v) (Denied w) answer other a b first second tells told a_is b_is =
       let one = one_verdict v w first.2 second.2 in
-      inl (same_only answer other a b (one_denial take asked (length asked.rows.list) v answer other tells (subst (λ (u : Verdict). TellsOutcome take (length asked.rows.list) (Denied u) other) (sym one) told)) a_is b_is)
+      inl
+      (same_only answer other a b (one_denial take asked (length asked.rows.list) v answer other tells (subst (λ (u : Verdict). TellsOutcome take (length asked.rows.list) (Denied u) other) (sym one) told)) a_is b_is)
   outcomes_alike (Denied v) (Answer y) answer other a b first second tells told a_is b_is = absurd (first.1 (one_verdict v Released first.2 second.1))
   outcomes_alike (Answer x) (Denied w) answer other a b first second tells told a_is b_is = absurd (second.1 (sym (one_verdict Released w first.1 second.2)))
   outcomes_alike (Answer x) (Answer y) answer other a b first second tells told a_is b_is = inr (record {
@@ -121,13 +127,16 @@ module _ (forms : NarrowOrWide) (table twin : Table) (same : twin.setting ≡ ta
   })
 
 -- what a plan comes to over both
-replies_alike : NarrowOrWide → (plan : Plan) (table twin : Table) → twin.setting ≡ table.setting → (history : List Answered) (a b : Replied Answered) → ((take : Take) (asked : Asked) → plan ≡ Ask take asked → 0 < length asked.rows.list)
+replies_alike : NarrowOrWide → (plan : Plan) (table twin : Table) → twin.setting ≡ table.setting → (history : List Answered) (a b : Replied Answered)
+    → ((take : Take) (asked : Asked) → plan ≡ Ask take asked → 0 < length asked.rows.list)
     → IsReplyOf table history plan a → IsReplyOf twin history plan b → (a ≡ b) ⊎ AreAnswersAlike table twin a b
 replies_alike forms (Ready answer) table twin same history a b some first second = inl (first ∙ sym second)
 replies_alike forms (Ask take asked) table twin same history a b some first second =
-    outcomes_alike forms table twin same history take asked (some take asked refl) first.outcome second.outcome first.answer second.answer a b first.due second.due first.tells second.tells first.replied_is second.replied_is
+    outcomes_alike forms table twin same history take asked
+    (some take asked refl) first.outcome second.outcome first.answer second.answer a b first.due second.due first.tells second.tells first.replied_is second.replied_is
 
-pub due_alike : NarrowOrWide → OneMeaning → (columns : List Column) (public : PublicView) (secret twin : SecretView) → twin.shape ≡ secret.shape → (history : List Answered) (line : CountedLine) (a b : Replied Answered)
+pub due_alike : NarrowOrWide → OneMeaning → (columns : List Column) (public : PublicView) (secret twin : SecretView) → twin.shape ≡ secret.shape
+    → (history : List Answered) (line : CountedLine) (a b : Replied Answered)
     → IsDue (base_of columns public secret) history line a → IsDue (base_of columns public twin) history line b → (a ≡ b) ⊎ AreAnswersAlike (secret_table secret) (secret_table twin) a b
 due_alike forms meanings columns public secret twin same history line a b first second =
     replies_alike forms first.plan (secret_table secret) (secret_table twin) (ap setting_of same) history a b
@@ -144,7 +153,9 @@ equal_answers table twin a b alike value =
 
 pub one_due : NarrowOrWide → OneMeaning → OneReplyIsDue
 one_due forms meanings base history line a b first second =
-    ⊎_elim (λ same. same) (λ alike. equal_answers (secret_table base.secret) (secret_table base.secret) a b alike (alike.first.is_true ∙ sym alike.second.is_true)) (due_alike forms meanings base.columns base.public base.secret base.secret refl history line a b first second)
+    ⊎_elim (λ same. same)
+    (λ alike. equal_answers (secret_table base.secret) (secret_table base.secret) a b alike (alike.first.is_true ∙ sym alike.second.is_true))
+    (due_alike forms meanings base.columns base.public base.secret base.secret refl history line a b first second)
 
 pub decided_alike : NarrowOrWide → OneMeaning → DecidedAlike
 decided_alike forms meanings base twin history line a b twins first second =

@@ -26,12 +26,15 @@ use Rattle.question_plan.proofs.Means.{some_mean}
 
 -- how large the answers over secrets are
 abbrev pub SumsAreSmall : Type 0
-SumsAreSmall = (s : SecretView) (column : ℕ) (rows : List ℕ) → IsSecret s → column < columns s.shape → AreRows s.shape.rows rows → unsigned_abs (sum_over (list_of s.lists column) rows) ≤ 1024 * 10 ^ 12
+SumsAreSmall =
+    (s : SecretView) (column : ℕ) (rows : List ℕ) → IsSecret s → column < columns s.shape → AreRows s.shape.rows rows → unsigned_abs (sum_over (list_of s.lists column) rows) ≤ 1024 * 10 ^ 12
 
 abbrev pub MaximaAreSmall : Type 0
-MaximaAreSmall = (s : SecretView) (column : ℕ) (rows : List ℕ) → IsSecret s → column < columns s.shape → AreRows s.shape.rows rows → rows ≢ [] → unsigned_abs (greatest_over (list_of s.lists column) rows) ≤ 10 ^ 12
+MaximaAreSmall =
+    (s : SecretView) (column : ℕ) (rows : List ℕ) → IsSecret s → column < columns s.shape → AreRows s.shape.rows rows → rows ≢ [] → unsigned_abs (greatest_over (list_of s.lists column) rows) ≤ 10 ^ 12
 
-module _ (sums : SumsAreSmall) (maxima : MaximaAreSmall) (secret : SecretView) (is : IsSecret secret) (take : Take) (asked : Asked) (fits : FitsShape secret.shape asked.column asked.rows) (own_kind : kind_at secret.shape asked.column ≡ kind_for take) where
+module _ (sums : SumsAreSmall) (maxima : MaximaAreSmall) (secret : SecretView) (is : IsSecret secret) (take : Take) (asked : Asked)
+    (fits : FitsShape secret.shape asked.column asked.rows) (own_kind : kind_at secret.shape asked.column ≡ kind_for take) where
   rows_are : AreRows secret.shape.rows asked.rows.list
   rows_are = subst (λ (n : ℕ). AreRows n asked.rows.list) fits.same_n fits.are_rows
 
@@ -41,7 +44,9 @@ module _ (sums : SumsAreSmall) (maxima : MaximaAreSmall) (secret : SecretView) (
   truth_small Max = maxima secret asked.column asked.rows.list is fits.column_below rows_are fits.some
 
   answer_small : (z : ℤ) → z ≡ truth (kind_at secret.shape asked.column) (list_of secret.lists asked.column) asked.rows.list → unsigned_abs z ≤ most_of take
-  answer_small z is_true = subst (λ (y : ℤ). unsigned_abs y ≤ most_of take) (sym (is_true ∙ ap (λ (k : Kind). truth k (list_of secret.lists asked.column) asked.rows.list) own_kind)) (truth_small take)
+  answer_small z is_true =
+      subst (λ (y : ℤ). unsigned_abs y ≤ most_of take) (sym (is_true ∙ ap (λ (k : Kind). truth k (list_of secret.lists asked.column) asked.rows.list) own_kind))
+      (truth_small take)
 
   can_be_told : (history : List Answered) (outcome : Outcome) → IsOutcome (secret_table secret) history asked outcome → CanBeTold take outcome
   can_be_told history Full due = tt
@@ -49,7 +54,8 @@ module _ (sums : SumsAreSmall) (maxima : MaximaAreSmall) (secret : SecretView) (
   can_be_told history (Answer z) due = answer_small z due.2
 
 pub outcomes_can_be_told : SumsAreSmall → MaximaAreSmall → OutcomesCanBeTold
-outcomes_can_be_told sums maxima secret history take asked outcome is askable due = can_be_told sums maxima secret is take asked askable.fits askable.own_kind history outcome due
+outcomes_can_be_told sums maxima secret history take asked outcome is askable due =
+    can_be_told sums maxima secret is take asked askable.fits askable.own_kind history outcome due
 
 -- each outcome has a reply that tells it
 some_telling : (take : Take) (size : ℕ) (answer : ℤ) → 0 < size → (told : Reply) × Tells take size answer told

@@ -17,7 +17,8 @@ use Rattle.question_plan.specs.Replies.{plan_of, question_over}
 use Rattle.question_plan.specs.Plans.{CanBeServed, condition_of}
 
 module _ (schema : List Column) (public : PublicView) where
-  question_served : (take : Take) (column : ℕ) (rows : List ℕ) → HasSecret schema column (kind_for take) → AreRows public.rows rows → CanBeServed (shape_of schema public.rows) (question_over take column public.rows rows)
+  question_served : (take : Take) (column : ℕ) (rows : List ℕ) → HasSecret schema column (kind_for take) → AreRows public.rows rows →
+      CanBeServed (shape_of schema public.rows) (question_over take column public.rows rows)
   question_served take column [] has are = tt
   question_served take column (row ∷ rows) has are = record {
     fits = record { column_below = has.below public.rows; same_n = refl; are_rows = are; some = λ (e : row ∷ rows ≡ []). cc };

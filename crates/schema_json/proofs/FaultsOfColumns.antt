@@ -28,7 +28,8 @@ from_public : (cs : List Column) (b : Bool) → has_public cs ≡ b → checked 
 from_public cs b e = ap (λ x. checked (if x then Some cs else None)) e
 
 -- with a public column the names are tested next
-from_good : (cs : List Column) → has_public cs ≡ true → checked (with_public cs) ≡ (if not (has_good_names cs) then Err BadName else (if repeats cs then Err Repeated else (if too_many cs then Err TooMany else Ok cs)))
+from_good : (cs : List Column) → has_public cs ≡ true →
+    checked (with_public cs) ≡ (if not (has_good_names cs) then Err BadName else (if repeats cs then Err Repeated else (if too_many cs then Err TooMany else Ok cs)))
 from_good cs e = from_public cs true e
 
 -- columns that are all secret are no schema
@@ -40,42 +41,59 @@ some_public : (es : Entries) → list_any (λ c. not (is_secret c.1)) es ≡ tru
 some_public es some = sym (public_of_entries es) ∙ some
 
 -- a bad name is the fault of columns of which some are public
-pub checked_bad : (es : Entries) → list_any (λ c. not (is_secret c.1)) es ≡ true → list_all (λ c. is_good_name (string_bytes c.0)) es ≡ false → checked (with_public (map column_of_entry es)) ≡ Err BadName
+pub checked_bad : (es : Entries) → list_any (λ c. not (is_secret c.1)) es ≡ true → list_all (λ c. is_good_name (string_bytes c.0)) es ≡ false →
+    checked (with_public (map column_of_entry es)) ≡ Err BadName
 checked_bad es some bad =
     from_good (map column_of_entry es) (some_public es some)
-    ∙ ap (λ b. if not b then Err BadName else (if repeats (map column_of_entry es) then Err Repeated else (if too_many (map column_of_entry es) then Err TooMany else Ok (map column_of_entry es)))) (sym (good_of_entries es) ∙ bad)
+    ∙ ap
+    (λ b. if not b then Err BadName else (if repeats (map column_of_entry es) then Err Repeated else (if too_many (map column_of_entry es) then Err TooMany else Ok (map column_of_entry es))))
+    (sym (good_of_entries es) ∙ bad)
 
 -- with good names the repeated ones are looked for next
 past_good : (es : Entries) → list_any (λ c. not (is_secret c.1)) es ≡ true → list_all (λ c. is_good_name (string_bytes c.0)) es ≡ true
-    → checked (with_public (map column_of_entry es)) ≡ (if repeats (map column_of_entry es) then Err Repeated else (if too_many (map column_of_entry es) then Err TooMany else Ok (map column_of_entry es)))
+    → checked (with_public (map column_of_entry es)) ≡
+    (if repeats (map column_of_entry es) then Err Repeated else (if too_many (map column_of_entry es) then Err TooMany else Ok (map column_of_entry es)))
 past_good es some good =
     from_good (map column_of_entry es) (some_public es some)
-    ∙ ap (λ b. if not b then Err BadName else (if repeats (map column_of_entry es) then Err Repeated else (if too_many (map column_of_entry es) then Err TooMany else Ok (map column_of_entry es)))) (sym (good_of_entries es) ∙ good)
+    ∙ ap
+    (λ b. if not b then Err BadName else (if repeats (map column_of_entry es) then Err Repeated else (if too_many (map column_of_entry es) then Err TooMany else Ok (map column_of_entry es))))
+    (sym (good_of_entries es) ∙ good)
 
 -- a repeated name is the fault of columns whose names are good
-pub checked_again : (es : Entries) → list_any (λ c. not (is_secret c.1)) es ≡ true → list_all (λ c. is_good_name (string_bytes c.0)) es ≡ true → repeats (map column_of_entry es) ≡ true
+pub checked_again : (es : Entries) → list_any (λ c. not (is_secret c.1)) es ≡ true → list_all (λ c. is_good_name (string_bytes c.0)) es ≡ true
+    → repeats (map column_of_entry es) ≡ true
     → checked (with_public (map column_of_entry es)) ≡ Err Repeated
-checked_again es some good again = past_good es some good ∙ ap (λ b. if b then Err Repeated else (if too_many (map column_of_entry es) then Err TooMany else Ok (map column_of_entry es))) again
+checked_again es some good again =
+    past_good es some good
+    ∙ ap (λ b. if b then Err Repeated else (if too_many (map column_of_entry es) then Err TooMany else Ok (map column_of_entry es))) again
 
 -- with names that come once the columns are counted next
-past_once : (es : Entries) → list_any (λ c. not (is_secret c.1)) es ≡ true → list_all (λ c. is_good_name (string_bytes c.0)) es ≡ true → repeats (map column_of_entry es) ≡ false
+past_once : (es : Entries) → list_any (λ c. not (is_secret c.1)) es ≡ true → list_all (λ c. is_good_name (string_bytes c.0)) es ≡ true
+    → repeats (map column_of_entry es) ≡ false
     → checked (with_public (map column_of_entry es)) ≡ (if too_many (map column_of_entry es) then Err TooMany else Ok (map column_of_entry es))
-past_once es some good once = past_good es some good ∙ ap (λ b. if b then Err Repeated else (if too_many (map column_of_entry es) then Err TooMany else Ok (map column_of_entry es))) once
+past_once es some good once =
+    past_good es some good ∙ ap (λ b. if b then Err Repeated else (if too_many (map column_of_entry es) then Err TooMany else Ok (map column_of_entry es))) once
 
 -- too many columns are the fault of columns whose names are good and come once
-pub checked_many : (es : Entries) → list_any (λ c. not (is_secret c.1)) es ≡ true → list_all (λ c. is_good_name (string_bytes c.0)) es ≡ true → repeats (map column_of_entry es) ≡ false
+pub checked_many : (es : Entries) → list_any (λ c. not (is_secret c.1)) es ≡ true → list_all (λ c. is_good_name (string_bytes c.0)) es ≡ true
+    → repeats (map column_of_entry es) ≡ false
     → (nat_lt 32 (length es) || nat_lt 8 (count_by (λ c. is_secret c.1) es)) ≡ true → checked (with_public (map column_of_entry es)) ≡ Err TooMany
-checked_many es some good once many = past_once es some good once ∙ ap (λ b. if b then Err TooMany else Ok (map column_of_entry es)) (sym (many_of_entries es) ∙ many)
+checked_many es some good once many =
+    past_once es some good once ∙ ap (λ b. if b then Err TooMany else Ok (map column_of_entry es)) (sym (many_of_entries es) ∙ many)
 
 -- columns that pass every test are meant
-pub checked_fine : (es : Entries) → list_any (λ c. not (is_secret c.1)) es ≡ true → list_all (λ c. is_good_name (string_bytes c.0)) es ≡ true → repeats (map column_of_entry es) ≡ false
+pub checked_fine : (es : Entries) → list_any (λ c. not (is_secret c.1)) es ≡ true → list_all (λ c. is_good_name (string_bytes c.0)) es ≡ true
+    → repeats (map column_of_entry es) ≡ false
     → (nat_lt 32 (length es) || nat_lt 8 (count_by (λ c. is_secret c.1) es)) ≡ false → checked (with_public (map column_of_entry es)) ≡ Ok (map column_of_entry es)
-checked_fine es some good once few = past_once es some good once ∙ ap (λ b. if b then Err TooMany else Ok (map column_of_entry es)) (sym (many_of_entries es) ∙ few)
+checked_fine es some good once few =
+    past_once es some good once ∙ ap (λ b. if b then Err TooMany else Ok (map column_of_entry es)) (sym (many_of_entries es) ∙ few)
 
 -- columns that pass every test are those of a schema
-pub are_columns : (es : Entries) → list_any (λ c. not (is_secret c.1)) es ≡ true → list_all (λ c. is_good_name (string_bytes c.0)) es ≡ true → repeats (map column_of_entry es) ≡ false
+pub are_columns : (es : Entries) → list_any (λ c. not (is_secret c.1)) es ≡ true → list_all (λ c. is_good_name (string_bytes c.0)) es ≡ true
+    → repeats (map column_of_entry es) ≡ false
     → (nat_lt 32 (length es) || nat_lt 8 (count_by (λ c. is_secret c.1) es)) ≡ false → AreColumns (map column_of_entry es)
-are_columns es some good once few = record { public = some_public es some; good = sym (good_of_entries es) ∙ good; once = once; within = sym (many_of_entries es) ∙ few }
+are_columns es some good once few =
+    record { public = some_public es some; good = sym (good_of_entries es) ∙ good; once = once; within = sym (many_of_entries es) ∙ few }
 
 -- a fault of the map of the columns is their first fault
 pub maps_fault : (f : SchemaFault) (es : Entries) → list_any (λ c. not (is_secret c.1)) es ≡ true → list_all (λ c. is_good_name (string_bytes c.0)) es ≡ true
@@ -99,6 +117,7 @@ gathers_fault BadName o h = absurd h
 gathers_fault TooMany o h = absurd h
 
 -- what is meant after the first tests is what the bytes mean
-pub reads_along : (r : Result SchemaView SchemaFault) (bytes : List ℕ) (m : Result (List Column) SchemaFault) → schema_of bytes ≡ m → ReadsColumns r m → ReadsSchema r bytes
+pub reads_along : (r : Result SchemaView SchemaFault) (bytes : List ℕ) (m : Result (List Column) SchemaFault) → schema_of bytes ≡ m → ReadsColumns r m →
+    ReadsSchema r bytes
 reads_along (Ok schema) bytes m e h = e ∙ h
 reads_along (Err f) bytes m e h = fault_along f m (schema_of bytes) e h

@@ -33,11 +33,15 @@ schema_long bytes long = chain bytes ∙ ap (λ b. chain_of b (value_of bytes) (
 
 -- bytes that are no JSON have that fault, unless they are too long
 pub schema_no_value : (bytes : List ℕ) → nat_lt most_schema (length bytes) ≡ false → value_of bytes ≡ None → schema_of bytes ≡ Err NotJson
-schema_no_value bytes short none = chain bytes ∙ ap (λ b. chain_of b (value_of bytes) (option_and_then columns_of (value_of bytes))) short ∙ ap (λ v. chain_of false v (option_and_then columns_of v)) none
+schema_no_value bytes short none =
+    chain bytes ∙ ap (λ b. chain_of b (value_of bytes) (option_and_then columns_of (value_of bytes))) short
+    ∙ ap (λ v. chain_of false v (option_and_then columns_of v)) none
 
 -- of bytes that are JSON the value is tested
 pub schema_value : (bytes : List ℕ) (d : Data) → nat_lt most_schema (length bytes) ≡ false → value_of bytes ≡ Some d → schema_of bytes ≡ checked (columns_of d)
-schema_value bytes d short some = chain bytes ∙ ap (λ b. chain_of b (value_of bytes) (option_and_then columns_of (value_of bytes))) short ∙ ap (λ v. chain_of false v (option_and_then columns_of v)) some ∙ chain_after d (columns_of d)
+schema_value bytes d short some =
+    chain bytes ∙ ap (λ b. chain_of b (value_of bytes) (option_and_then columns_of (value_of bytes))) short
+    ∙ ap (λ v. chain_of false v (option_and_then columns_of v)) some ∙ chain_after d (columns_of d)
 
 -- a fault of memory or the one that is meant
 pub fault_along : (f : SchemaFault) (a b : Result (List Column) SchemaFault) → b ≡ a → IsFaultOf f a → IsFaultOf f b
@@ -48,7 +52,8 @@ pub public_of_entries : (es : List (String Global × Role)) → list_any (λ c. 
 public_of_entries [] = refl
 public_of_entries (e ∷ es) = by (is_public e.1) (public_of_entries es)
   where
-    by : (b : Bool) → list_any (λ c. not (is_secret c.1)) es ≡ has_public (map column_of_entry es) → (not (not b) || list_any (λ c. not (is_secret c.1)) es) ≡ (b || has_public (map column_of_entry es))
+    by : (b : Bool) → list_any (λ c. not (is_secret c.1)) es ≡ has_public (map column_of_entry es) →
+        (not (not b) || list_any (λ c. not (is_secret c.1)) es) ≡ (b || has_public (map column_of_entry es))
     by true h = refl
     by false h = h
 
@@ -62,11 +67,13 @@ secrets_filtered : (es : List (String Global × Role)) → length (filter (λ c.
 secrets_filtered [] = refl
 secrets_filtered (e ∷ es) = by (is_secret e.1) (secrets_filtered es)
   where
-    by : (b : Bool) → length (filter (λ c. is_secret c.1) es) ≡ secret_count (map column_of_entry es) → length (cond b (e ∷ filter (λ c. is_secret c.1) es) (filter (λ c. is_secret c.1) es)) ≡ length (cond b (column_of_entry e ∷ filter (λ c. is_secret c.role) (map column_of_entry es)) (filter (λ c. is_secret c.role) (map column_of_entry es)))
+    by : (b : Bool) → length (filter (λ c. is_secret c.1) es) ≡ secret_count (map column_of_entry es) →
+        length (cond b (e ∷ filter (λ c. is_secret c.1) es) (filter (λ c. is_secret c.1) es)) ≡ length (cond b (column_of_entry e ∷ filter (λ c. is_secret c.role) (map column_of_entry es)) (filter (λ c. is_secret c.role) (map column_of_entry es)))
     by true h = ap suc h
     by false h = h
 
 -- the code's test of the numbers of columns
-pub many_of_entries : (es : List (String Global × Role)) → (nat_lt 32 (length es) || nat_lt 8 (count_by (λ c. is_secret c.1) es)) ≡ too_many (map column_of_entry es)
+pub many_of_entries : (es : List (String Global × Role)) →
+    (nat_lt 32 (length es) || nat_lt 8 (count_by (λ c. is_secret c.1) es)) ≡ too_many (map column_of_entry es)
 many_of_entries es = ap (λ n. nat_lt 32 n || nat_lt 8 (count_by (λ c. is_secret c.1) es)) (sym (length-map es column_of_entry))
     ∙ ap (λ n. nat_lt 32 (length (map column_of_entry es)) || nat_lt 8 n) (sym (length-filter (λ c. is_secret c.1) es) ∙ secrets_filtered es)

@@ -41,7 +41,8 @@ repeats_push (d ∷ cs) c =
     ∙ shuffle (list_any (λ later. has_name later.name d) cs) (has_name c.name d) (repeats cs) (list_any (has_name c.name) cs)
 
 -- a look-up among the entries says whether a column has the name
-pub looked_up : (name : List ℕ) (es : List (String Global × Role)) → list_any (has_name name) (columns_of_entries es) ≡ is_some (lookup (λ k. bytes_eq name (string_bytes k)) es)
+pub looked_up : (name : List ℕ) (es : List (String Global × Role)) →
+    list_any (has_name name) (columns_of_entries es) ≡ is_some (lookup (λ k. bytes_eq name (string_bytes k)) es)
 looked_up name [] = refl
 looked_up name (e ∷ es) = by (bytes_eq name (string_bytes e.0)) _ _ (looked_up name es)
   where
@@ -50,11 +51,15 @@ looked_up name (e ∷ es) = by (bytes_eq name (string_bytes e.0)) _ _ (looked_up
     by false x o h = h
 
 -- one entry more repeats a name where the entries did, or a look-up finds its name
-pub repeats_more : (es : List (String Global × Role)) (e : String Global × Role) → repeats (columns_of_entries (es ++ e ∷ [])) ≡ repeats (columns_of_entries es) || is_some (lookup (λ k. bytes_eq (string_bytes e.0) (string_bytes k)) es)
-repeats_more es e = ap repeats (map-append column_of_entry es (e ∷ [])) ∙ repeats_push (columns_of_entries es) (column_of_entry e) ∙ ap (λ b. repeats (columns_of_entries es) || b) (looked_up (string_bytes e.0) es)
+pub repeats_more : (es : List (String Global × Role)) (e : String Global × Role) →
+    repeats (columns_of_entries (es ++ e ∷ [])) ≡ repeats (columns_of_entries es) || is_some (lookup (λ k. bytes_eq (string_bytes e.0) (string_bytes k)) es)
+repeats_more es e =
+    ap repeats (map-append column_of_entry es (e ∷ [])) ∙ repeats_push (columns_of_entries es) (column_of_entry e)
+    ∙ ap (λ b. repeats (columns_of_entries es) || b) (looked_up (string_bytes e.0) es)
 
 -- as many columns stand before a name as keys
-prefix_of_key : (name : List ℕ) (es : List (String Global × Role)) → prefix_len (λ c. not (has_name name c)) (columns_of_entries es) ≡ prefix_len (λ k. not (bytes_eq name (string_bytes k))) (keys_of es)
+prefix_of_key : (name : List ℕ) (es : List (String Global × Role)) →
+    prefix_len (λ c. not (has_name name c)) (columns_of_entries es) ≡ prefix_len (λ k. not (bytes_eq name (string_bytes k))) (keys_of es)
 prefix_of_key name [] = refl
 prefix_of_key name (e ∷ es) = by (bytes_eq name (string_bytes e.0)) _ _ (prefix_of_key name es)
   where
@@ -63,10 +68,13 @@ prefix_of_key name (e ∷ es) = by (bytes_eq name (string_bytes e.0)) _ _ (prefi
     by false m n h = ap (λ k. 1 + k) h
 
 -- the place of a name is that of its key
-pub place_of_key : (name : List ℕ) (es : List (String Global × Role)) → place_of name (columns_of_entries es) ≡ position (λ k. bytes_eq name (string_bytes k)) (keys_of es)
+pub place_of_key : (name : List ℕ) (es : List (String Global × Role)) →
+    place_of name (columns_of_entries es) ≡ position (λ k. bytes_eq name (string_bytes k)) (keys_of es)
 place_of_key name es =
     ap (λ n. cond (nat_lt n (length (columns_of_entries es))) (Some n) None) (prefix_of_key name es)
-    ∙ ap (λ n. cond (nat_lt (prefix_len (λ k. not (bytes_eq name (string_bytes k))) (keys_of es)) n) (Some (prefix_len (λ k. not (bytes_eq name (string_bytes k))) (keys_of es))) None) (length-map es column_of_entry ∙ sym (length-map es (λ e. e.0)))
+    ∙ ap
+    (λ n. cond (nat_lt (prefix_len (λ k. not (bytes_eq name (string_bytes k))) (keys_of es)) n) (Some (prefix_len (λ k. not (bytes_eq name (string_bytes k))) (keys_of es))) None)
+    (length-map es column_of_entry ∙ sym (length-map es (λ e. e.0)))
 
 -- what some column of a front passes, some column of the whole passes
 any_front : (test : Column → Bool) (xs ys : List Column) → list_any test xs ≡ true → list_any test (xs ++ ys) ≡ true
@@ -82,12 +90,14 @@ pub repeats_front : (cs ds : List Column) → repeats cs ≡ true → repeats (c
 repeats_front [] ds h = absurd (false≢true h)
 repeats_front (c ∷ cs) ds h = by (list_any (λ later. has_name later.name c) cs) (any_front (λ later. has_name later.name c) cs ds) (repeats_front cs ds) h
   where
-    by : (b : Bool) → (b ≡ true → list_any (λ later. has_name later.name c) (cs ++ ds) ≡ true) → (repeats cs ≡ true → repeats (cs ++ ds) ≡ true) → (b || repeats cs) ≡ true → (list_any (λ later. has_name later.name c) (cs ++ ds) || repeats (cs ++ ds)) ≡ true
+    by : (b : Bool) → (b ≡ true → list_any (λ later. has_name later.name c) (cs ++ ds) ≡ true) → (repeats cs ≡ true → repeats (cs ++ ds) ≡ true) →
+        (b || repeats cs) ≡ true → (list_any (λ later. has_name later.name c) (cs ++ ds) || repeats (cs ++ ds)) ≡ true
     by true f g e = ap (λ b. b || repeats (cs ++ ds)) (f refl)
     by false f g e = or_right (list_any (λ later. has_name later.name c) (cs ++ ds)) (repeats (cs ++ ds)) (g e)
 
 -- the names of a front of the columns, with one more that a look-up found, come twice in the whole
-pub repeats_whole : (es all : List (String Global × Role)) (rest : List (String Global × Role)) (e : String Global × Role) (r : Role) → repeats (columns_of_entries es) ≡ false → Some r ≡ lookup (λ k. bytes_eq (string_bytes e.0) (string_bytes k)) es
+pub repeats_whole : (es all : List (String Global × Role)) (rest : List (String Global × Role)) (e : String Global × Role) (r : Role)
+    → repeats (columns_of_entries es) ≡ false → Some r ≡ lookup (λ k. bytes_eq (string_bytes e.0) (string_bytes k)) es
     → es ++ e ∷ rest ≡ all → repeats (columns_of_entries all) ≡ true
 repeats_whole es all rest e r none found whole =
     let more : repeats (columns_of_entries (es ++ e ∷ [])) ≡ true = repeats_more es e ∙ rw none (ap is_some (sym found)) in
@@ -96,5 +106,6 @@ repeats_whole es all rest e r none found whole =
     ∙ repeats_front (columns_of_entries (es ++ e ∷ [])) (columns_of_entries rest) more
 
 -- one entry more whose name a look-up does not find repeats none
-pub repeats_not : (es : List (String Global × Role)) (e : String Global × Role) → repeats (columns_of_entries es) ≡ false → None ≡ lookup (λ k. bytes_eq (string_bytes e.0) (string_bytes k)) es → repeats (columns_of_entries (es ++ e ∷ [])) ≡ false
+pub repeats_not : (es : List (String Global × Role)) (e : String Global × Role) → repeats (columns_of_entries es) ≡ false →
+    None ≡ lookup (λ k. bytes_eq (string_bytes e.0) (string_bytes k)) es → repeats (columns_of_entries (es ++ e ∷ [])) ≡ false
 repeats_not es e none found = repeats_more es e ∙ rw none (ap is_some (sym found))

@@ -23,7 +23,8 @@ secrets_suc (c ∷ cs) (suc k) r is =
     omega (arith, a, b, more)
 
 -- one column more is counted where it is secret
-pub secrets_more : (cs : List Column) (k : ℕ) (r : Role) → Some r ≡ role_at cs k → secret_count (take (k + 1) cs) ≡ secret_count (take k cs) + cond (is_secret r) 1 0
+pub secrets_more : (cs : List Column) (k : ℕ) (r : Role) → Some r ≡ role_at cs k →
+    secret_count (take (k + 1) cs) ≡ secret_count (take k cs) + cond (is_secret r) 1 0
 secrets_more cs k r is = ap (λ n. secret_count (take n cs)) (add-one k) ∙ secrets_suc cs k r is
 
 -- the place of a column among the secret ones, by how many secret ones stand before it
@@ -46,12 +47,14 @@ place_missing (Some c) r n is public =
     sym (ap (λ b. cond b (Some n) None) (ap is_secret role_is ∙ public))
 
 -- the place of a column, said of the column that is found
-place_is : (cs : List Column) (k : ℕ) (o : Option Column) → option_and_then (λ c. cond (is_secret c.role) (Some (secret_count (take k cs))) None) o ≡ place_in o (secret_count (take k cs))
+place_is : (cs : List Column) (k : ℕ) (o : Option Column) →
+    option_and_then (λ c. cond (is_secret c.role) (Some (secret_count (take k cs))) None) o ≡ place_in o (secret_count (take k cs))
 place_is cs k None = refl
 place_is cs k (Some c) = refl
 
 -- the place of a secret column is the number of secret columns before it
-pub found_secret : (cs : List Column) (k : ℕ) (r : Role) (n : ℕ) → Some r ≡ role_at cs k → is_secret r ≡ true → n ≡ secret_count (take k cs) → Some n ≡ secret_place cs k
+pub found_secret : (cs : List Column) (k : ℕ) (r : Role) (n : ℕ) → Some r ≡ role_at cs k → is_secret r ≡ true → n ≡ secret_count (take k cs) →
+    Some n ≡ secret_place cs k
 found_secret cs k r n is secret counted = place_found (slice_get cs k) r n (secret_count (take k cs)) is secret counted ∙ sym (place_is cs k (slice_get cs k))
 
 -- a public column has no place among the secret ones

@@ -47,7 +47,8 @@ kinds_step c m n bytes h = by c.role
 -- as many bytes as secret columns
 pub kinds_count : (cs : List Column) → length (kind_bytes cs) ≡ secret_count cs
 kinds_count [] = refl
-kinds_count (c ∷ cs) = kinds_step c 0 (secret_count cs) (kind_bytes cs) (kinds_count cs) ∙ sym (filtered c (filter (λ d. is_secret d.role) cs) (is_secret c.role))
+kinds_count (c ∷ cs) =
+    kinds_step c 0 (secret_count cs) (kind_bytes cs) (kinds_count cs) ∙ sym (filtered c (filter (λ d. is_secret d.role) cs) (is_secret c.role))
 
 -- a front of the columns has no more kind bytes than all
 taken_count : (cs : List Column) (k : ℕ) → length (kind_bytes (take k cs)) ≤ length (kind_bytes cs)
@@ -100,13 +101,15 @@ pub record Written (cs : List Column) (k at : ℕ) (kinds : List ℕ) : Type 0 w
   pub kinds_are : kinds ≡ take 8 (kind_bytes (take k cs) ++ replicate 8 0)
 
 -- a public column changes no byte
-pub keeps : (cs : List Column) (k : ℕ) (r : Role) (at : ℕ) (kinds : List ℕ) → Some r ≡ role_at cs k → byte_of r ≡ [] → Written cs k at kinds → Written cs (k + 1) at kinds
+pub keeps : (cs : List Column) (k : ℕ) (r : Role) (at : ℕ) (kinds : List ℕ) → Some r ≡ role_at cs k → byte_of r ≡ [] → Written cs k at kinds →
+    Written cs (k + 1) at kinds
 keeps cs k r at kinds is none w =
     let e = kinds_more cs k r is ∙ ap (λ xs. kind_bytes (take k cs) ++ xs) none ∙ append-nil (kind_bytes (take k cs)) in
     record { at_is = w.at_is ∙ sym (ap length e); kinds_are = w.kinds_are ∙ ap (λ xs. take 8 (xs ++ replicate 8 0)) (sym e) }
 
 -- a secret column writes its byte at the first free place
-pub puts : (cs : List Column) (k : ℕ) (r : Role) (b at : ℕ) (kinds : List ℕ) → AreColumns cs → Some r ≡ role_at cs k → is_secret r ≡ true → byte_of r ≡ b ∷ [] → Written cs k at kinds → Written cs (k + 1) (at + 1) (set kinds at b)
+pub puts : (cs : List Column) (k : ℕ) (r : Role) (b at : ℕ) (kinds : List ℕ) → AreColumns cs → Some r ≡ role_at cs k → is_secret r ≡ true → byte_of r ≡ b ∷ [] →
+    Written cs k at kinds → Written cs (k + 1) (at + 1) (set kinds at b)
 puts cs k r b at kinds are is secret one w =
     let e = kinds_more cs k r is ∙ ap (λ xs. kind_bytes (take k cs) ++ xs) one in
     let longer = ap length e in

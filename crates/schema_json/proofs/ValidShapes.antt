@@ -51,17 +51,21 @@ none_counted (suc m) zero = refl
 none_counted (suc m) (suc n) = none_counted m n
 
 -- a kind byte counts
-counted_before : (r : Role) (bytes : List ℕ) (m n : ℕ) → ((k : ℕ) → length bytes ≤ k → count_by (λ b. nat_lt 0 b) (take k (bytes ++ replicate n 0)) ≡ length bytes)
+counted_before : (r : Role) (bytes : List ℕ) (m n : ℕ)
+    → ((k : ℕ) → length bytes ≤ k → count_by (λ b. nat_lt 0 b) (take k (bytes ++ replicate n 0)) ≡ length bytes)
     → length (kind_byte_and r bytes) ≤ m → count_by (λ b. nat_lt 0 b) (take m (kind_byte_and r bytes ++ replicate n 0)) ≡ length (kind_byte_and r bytes)
 counted_before role.Text bytes m n later fits = later m fits
 counted_before role.Number bytes m n later fits = later m fits
 counted_before role.Sum bytes zero n later fits = absurd (omega (arith, fits))
-counted_before role.Sum bytes (suc m) n later fits = sum_by-cons (λ b. cond (nat_lt 0 b) 1 0) 1 (take m (bytes ++ replicate n 0)) ∙ ap (λ n. 1 + n) (later m (omega (arith, fits))) ∙ one-add (length bytes)
+counted_before role.Sum bytes (suc m) n later fits =
+    sum_by-cons (λ b. cond (nat_lt 0 b) 1 0) 1 (take m (bytes ++ replicate n 0)) ∙ ap (λ n. 1 + n) (later m (omega (arith, fits))) ∙ one-add (length bytes)
 counted_before role.Max bytes zero n later fits = absurd (omega (arith, fits))
-counted_before role.Max bytes (suc m) n later fits = sum_by-cons (λ b. cond (nat_lt 0 b) 1 0) 2 (take m (bytes ++ replicate n 0)) ∙ ap (λ n. 1 + n) (later m (omega (arith, fits))) ∙ one-add (length bytes)
+counted_before role.Max bytes (suc m) n later fits =
+    sum_by-cons (λ b. cond (nat_lt 0 b) 1 0) 2 (take m (bytes ++ replicate n 0)) ∙ ap (λ n. 1 + n) (later m (omega (arith, fits))) ∙ one-add (length bytes)
 
 -- the bytes count the secret columns, where there is room for them
-counted : (cs : List Column) (m n : ℕ) → length (kind_bytes cs) ≤ m → count_by (λ b. nat_lt 0 b) (take m (kind_bytes cs ++ replicate n 0)) ≡ length (kind_bytes cs)
+counted : (cs : List Column) (m n : ℕ) → length (kind_bytes cs) ≤ m →
+    count_by (λ b. nat_lt 0 b) (take m (kind_bytes cs ++ replicate n 0)) ≡ length (kind_bytes cs)
 counted [] m n fits = none_counted m n
 counted (c ∷ cs) m n fits = counted_before c.role (kind_bytes cs) m n (λ k. counted cs k n) fits
 
@@ -91,7 +95,8 @@ pub secret_place_below : (cs : List Column) (place k : ℕ) → secret_place cs 
 secret_place_below [] place k is = absurd (cc)
 secret_place_below (c ∷ cs) zero k is = below_first (is_secret c.role) c (filter (λ d. is_secret d.role) cs) k is
 secret_place_below (c ∷ cs) (suc place) k is =
-    below_later (is_secret c.role) (slice_get cs place) c (filter (λ d. is_secret d.role) (take place cs)) (filter (λ d. is_secret d.role) cs) k (secret_place_below cs place) is
+    below_later (is_secret c.role) (slice_get cs place) c (filter (λ d. is_secret d.role) (take place cs)) (filter (λ d. is_secret d.role) cs) k
+    (secret_place_below cs place) is
 
 -- the role that the byte at place k names is this one
 abbrev Named : Option Role → List ℕ → ℕ → Type 0
@@ -105,8 +110,10 @@ named_first role.Sum bytes k is = ap (λ j. Some (role_of_kind (kind_of_byte (ge
 named_first role.Max bytes k is = ap (λ j. Some (role_of_kind (kind_of_byte (get_or (2 ∷ bytes) j 0)))) (ap (λ o. unwrap_or o 0) is)
 
 -- a byte before the others moves each place by one
-named_one_more : (b : Bool) (found : Option Role) (byte n k : ℕ) (bytes : List ℕ) → ((m : ℕ) → cond b (Some n) None ≡ Some m → Named found bytes m) → cond b (Some (suc n)) None ≡ Some k → Named found (byte ∷ bytes) k
-named_one_more true found byte n k bytes earlier is = earlier n refl ∙ ap (λ j. Some (role_of_kind (kind_of_byte (get_or (byte ∷ bytes) j 0)))) (ap (λ o. unwrap_or o 0) is)
+named_one_more : (b : Bool) (found : Option Role) (byte n k : ℕ) (bytes : List ℕ) → ((m : ℕ) → cond b (Some n) None ≡ Some m → Named found bytes m) →
+    cond b (Some (suc n)) None ≡ Some k → Named found (byte ∷ bytes) k
+named_one_more true found byte n k bytes earlier is =
+    earlier n refl ∙ ap (λ j. Some (role_of_kind (kind_of_byte (get_or (byte ∷ bytes) j 0)))) (ap (λ o. unwrap_or o 0) is)
 named_one_more false found byte n k bytes earlier is = absurd (cc)
 
 -- the same, of the column that is found
@@ -116,7 +123,8 @@ named_behind None byte n k bytes earlier is = absurd (cc)
 named_behind (Some d) byte n k bytes earlier is = named_one_more (is_secret d.role) (Some d.role) byte n k bytes earlier is
 
 -- bytes before the others move each place by as many secret columns
-named_later : (r : Role) (o : Option Column) (c : Column) (front : List Column) (k : ℕ) (bytes : List ℕ) → ((m : ℕ) → place_after o (length front) ≡ Some m → Named (option_map (λ d. d.role) o) bytes m)
+named_later : (r : Role) (o : Option Column) (c : Column) (front : List Column) (k : ℕ) (bytes : List ℕ)
+    → ((m : ℕ) → place_after o (length front) ≡ Some m → Named (option_map (λ d. d.role) o) bytes m)
     → place_after o (length (cond (is_secret r) (c ∷ front) front)) ≡ Some k → Named (option_map (λ d. d.role) o) (kind_byte_and r bytes) k
 named_later role.Text o c front k bytes earlier is = earlier k is
 named_later role.Number o c front k bytes earlier is = earlier k is
@@ -139,12 +147,14 @@ pub shape_counts : (cs : List Column) (rows : ℕ) → AreColumns cs → columns
 shape_counts cs rows are = counted cs 8 8 (omega (arith, at_most_eight cs are, kinds_count cs)) ∙ kinds_count cs
 
 -- the kind of a secret column in the shape is the one that its role names
-pub shape_names : (cs : List Column) (rows : ℕ) → AreColumns cs → (place k : ℕ) → secret_place cs place ≡ Some k → role_at cs place ≡ Some (role_of_kind (kind_at (shape_of cs rows) k))
+pub shape_names : (cs : List Column) (rows : ℕ) → AreColumns cs → (place k : ℕ) → secret_place cs place ≡ Some k →
+    role_at cs place ≡ Some (role_of_kind (kind_at (shape_of cs rows) k))
 shape_names cs rows are place k is =
     let below = secret_place_below cs place k is in
     let within : k < length (kind_bytes cs) = omega (arith, below, kinds_count cs) in
     let room : k < 8 = omega (arith, below, at_most_eight cs are) in
-    named cs place k is ∙ ap (λ b. Some (role_of_kind (kind_of_byte b))) (sym (get_or-take 8 (kind_bytes cs ++ replicate 8 0) k 0 room ∙ get_or-append (kind_bytes cs) (replicate 8 0) 0 k within))
+    named cs place k is
+    ∙ ap (λ b. Some (role_of_kind (kind_of_byte b))) (sym (get_or-take 8 (kind_bytes cs ++ replicate 8 0) k 0 room ∙ get_or-append (kind_bytes cs) (replicate 8 0) 0 k within))
 
 -- a secret column's place among the secret ones is that of a column of its kind, in each table
 pub secret_is_of : (cs : List Column) (place k : ℕ) → AreColumns cs → secret_place cs place ≡ Some k → IsSecretOf cs (role_at cs place) k

@@ -42,7 +42,8 @@ module _ (value : ℕ → Ordering) (order : List ℕ) where
   abbrev EndsAt : (Ordering → Bool) → ℕ → Type 0
   EndsAt test at = IsPartitionPoint (λ r. test (value r) ≡ true) (λ r. test (value r) ≡ false) order at
 
-  equal_between : (below within : ℕ) → below ≤ within → within ≤ length order → EndsAt is_lt below → EndsAt is_le within → IsRange (λ r. is_eq (value r)) order below within
+  equal_between : (below within : ℕ) → below ≤ within → within ≤ length order → EndsAt is_lt below → EndsAt is_le within →
+      IsRange (λ r. is_eq (value r)) order below within
   equal_between below within le inside less up = record {
     before = λ k d low high. less-eq _ (less.0 k d low high);
     inside = λ k d low high. between-eq _ (less.1 k d low (omega arith)) (up.0 k d (omega arith) high);
@@ -56,7 +57,8 @@ module _ (value : ℕ → Ordering) (order : List ℕ) where
     after = λ k d low high. ends.1 k d low high;
   }
 
-  last_range : (test other : Ordering → Bool) (at : ℕ) → ((o : Ordering) → other o ≡ not (test o)) → EndsAt test at → IsRange (λ r. other (value r)) order at (length order)
+  last_range : (test other : Ordering → Bool) (at : ℕ) → ((o : Ordering) → other o ≡ not (test o)) → EndsAt test at →
+      IsRange (λ r. other (value r)) order at (length order)
   last_range test other at opposite ends = record {
     before = λ k d low high. opposite _ ∙ ap not (ends.0 k d low high);
     inside = λ k d low high. opposite _ ∙ ap not (ends.1 k d low high);
@@ -76,5 +78,6 @@ module _ (value : ℕ → Ordering) (order : List ℕ) where
     | inr high ↦ high
   ]
 
-  pub equal_range : (below within : ℕ) → below ≤ length order → within ≤ length order → EndsAt is_lt below → EndsAt is_le within → IsRange (λ r. is_eq (value r)) order below within
+  pub equal_range : (below within : ℕ) → below ≤ length order → within ≤ length order → EndsAt is_lt below → EndsAt is_le within →
+      IsRange (λ r. is_eq (value r)) order below within
   equal_range below within inside up_inside less up = equal_between below within (ends_ascend below within inside up_inside less up) up_inside less up

@@ -12,7 +12,8 @@ use Rattle.predicate_lang.specs.declared.trees.Literal.TheVariants as literal
 use Rattle.set_index.specs.Asked.{is_kept, are_kept, fits_public}
 
 -- a column with a role that takes a literal holds what the literal is
-kept : (r : Option Role) (cells : Cells) (l : Literal) → ((found : Role) → r ≡ Some found → HoldsRole found cells) → is_of_role r l ≡ true → is_kept cells l ≡ true
+kept : (r : Option Role) (cells : Cells) (l : Literal) → ((found : Role) → r ≡ Some found → HoldsRole found cells) → is_of_role r l ≡ true →
+    is_kept cells l ≡ true
 kept None cells l holds is = absurd (false≢true is)
 kept (Some found) cells l holds is = of found cells l (holds found refl) is
   where
@@ -28,14 +29,24 @@ kept (Some found) cells l holds is = of found cells l (holds found refl) is
     of role.Sum cells l holds is = absurd (false≢true is)
     of role.Max cells l holds is = absurd (false≢true is)
 
-all_kept : (r : Option Role) (cells : Cells) (ls : List Literal) → ((found : Role) → r ≡ Some found → HoldsRole found cells) → list_all (is_of_role r) ls ≡ true → are_kept cells ls ≡ true
+all_kept : (r : Option Role) (cells : Cells) (ls : List Literal) → ((found : Role) → r ≡ Some found → HoldsRole found cells) →
+    list_all (is_of_role r) ls ≡ true → are_kept cells ls ≡ true
 all_kept r cells [] holds are = refl
-all_kept r cells (l ∷ ls) holds are = and_from (is_kept cells l) (are_kept cells ls) (kept r cells l holds (and_parts (is_of_role r l) (list_all (is_of_role r) ls) are).0) (all_kept r cells ls holds (and_parts (is_of_role r l) (list_all (is_of_role r) ls) are).1)
+all_kept r cells (l ∷ ls) holds are =
+    and_from (is_kept cells l) (are_kept cells ls) (kept r cells l holds (and_parts (is_of_role r l) (list_all (is_of_role r) ls) are).0)
+    (all_kept r cells ls holds (and_parts (is_of_role r l) (list_all (is_of_role r) ls) are).1)
 
 pub fits_over : (columns : List Column) (p : PublicView) (t : Tree) → FitsSchema columns p → fits columns t ≡ true → fits_public p t ≡ true
 fits_over columns p all_rows over fit = refl
 fits_over columns p (negation t) over fit = fits_over columns p t over fit
-fits_over columns p (both t u) over fit = and_from (fits_public p t) (fits_public p u) (fits_over columns p t over (and_parts (fits columns t) (fits columns u) fit).0) (fits_over columns p u over (and_parts (fits columns t) (fits columns u) fit).1)
-fits_over columns p (either t u) over fit = and_from (fits_public p t) (fits_public p u) (fits_over columns p t over (and_parts (fits columns t) (fits columns u) fit).0) (fits_over columns p u over (and_parts (fits columns t) (fits columns u) fit).1)
-fits_over columns p (compared place o l) over fit = kept (role_at columns place) (cells_at p place) l (over place) (and_parts (has_operator (role_at columns place) o) (is_of_role (role_at columns place) l) fit).1
-fits_over columns p (among place ls) over fit = all_kept (role_at columns place) (cells_at p place) ls (over place) (and_parts (has_literals ls) (list_all (is_of_role (role_at columns place)) ls) fit).1
+fits_over columns p (both t u) over fit =
+    and_from (fits_public p t) (fits_public p u) (fits_over columns p t over (and_parts (fits columns t) (fits columns u) fit).0)
+    (fits_over columns p u over (and_parts (fits columns t) (fits columns u) fit).1)
+fits_over columns p (either t u) over fit =
+    and_from (fits_public p t) (fits_public p u) (fits_over columns p t over (and_parts (fits columns t) (fits columns u) fit).0)
+    (fits_over columns p u over (and_parts (fits columns t) (fits columns u) fit).1)
+fits_over columns p (compared place o l) over fit =
+    kept (role_at columns place) (cells_at p place) l (over place)
+    (and_parts (has_operator (role_at columns place) o) (is_of_role (role_at columns place) l) fit).1
+fits_over columns p (among place ls) over fit =
+    all_kept (role_at columns place) (cells_at p place) ls (over place) (and_parts (has_literals ls) (list_all (is_of_role (role_at columns place)) ls) fit).1

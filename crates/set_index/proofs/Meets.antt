@@ -72,40 +72,50 @@ answers-int Gt x y = sym (int_lt-tests x y ∙ is_gt-cond (int_lt x y) (int_lt y
 answers-int Ge x y = sym (int_le-not x y ∙ is_ge-cond (int_lt x y) (int_lt y x))
 
 -- a column of numbers
-meets-numbers : (p : PublicView) (place n : ℕ) (o : Op) (number : ℤ) (list : List ℤ) (rows : List ℕ) → cells_at p place ≡ numbers list → n ≡ p.rows → rows ≡ rows_that (λ r. answers o (int_cmp (get_or list r (pos 0)) number)) n → rows ≡ meets p place o (Number number)
+meets-numbers : (p : PublicView) (place n : ℕ) (o : Op) (number : ℤ) (list : List ℤ) (rows : List ℕ) → cells_at p place ≡ numbers list → n ≡ p.rows →
+    rows ≡ rows_that (λ r. answers o (int_cmp (get_or list r (pos 0)) number)) n → rows ≡ meets p place o (Number number)
 meets-numbers p place n o number list rows is same met =
     met ∙ ap (rows_that (λ r. answers o (int_cmp (get_or list r (pos 0)) number))) same
-    ∙ rows_that_agree (λ r. answers o (int_cmp (get_or list r (pos 0)) number)) (λ r. compares o (get_or (numbers_of (cells_at p place)) r (pos 0)) number) p.rows
+    ∙ rows_that_agree (λ r. answers o (int_cmp (get_or list r (pos 0)) number))
+    (λ r. compares o (get_or (numbers_of (cells_at p place)) r (pos 0)) number) p.rows
     (λ r low. answers-int o (get_or list r (pos 0)) number ∙ ap (λ (cells : Cells). compares o (get_or (numbers_of cells) r (pos 0)) number) (sym is))
 
 -- as a search finds them in an order
-pub numbers_found : (p : PublicView) (place n : ℕ) (o : Op) (number : ℤ) (list : List ℤ) (searched order rows : List ℕ) (from to : ℕ) → cells_at p place ≡ numbers list → n ≡ p.rows → searched ≡ order →
+pub numbers_found : (p : PublicView) (place n : ℕ) (o : Op) (number : ℤ) (list : List ℤ) (searched order rows : List ℕ) (from to : ℕ) →
+    cells_at p place ≡ numbers list → n ≡ p.rows → searched ≡ order →
     IsRange (λ r. answers o (int_cmp (get_or list r (pos 0)) number)) searched from to → ((test : ℕ → Bool) → IsRange test order from to → rows ≡ rows_that test n) → rows ≡ meets p place o (Number number)
 numbers_found p place n o number list searched order rows from to is same it range met =
-    meets-numbers p place n o number list rows is same (met _ (subst (λ xs. IsRange (λ r. answers o (int_cmp (get_or list r (pos 0)) number)) xs from to) it range))
+    meets-numbers p place n o number list rows is same
+    (met _ (subst (λ xs. IsRange (λ r. answers o (int_cmp (get_or list r (pos 0)) number)) xs from to) it range))
 
 -- the numbers that are not equal
-pub numbers_unequal : (p : PublicView) (place n : ℕ) (number : ℤ) (old new : List ℕ) → old ≡ meets p place Eq (Number number) → n ≡ p.rows → new ≡ complement n old → new ≡ meets p place Ne (Number number)
+pub numbers_unequal : (p : PublicView) (place n : ℕ) (number : ℤ) (old new : List ℕ) → old ≡ meets p place Eq (Number number) → n ≡ p.rows →
+    new ≡ complement n old → new ≡ meets p place Ne (Number number)
 numbers_unequal p place n number old new met same flipped =
-    flipped ∙ ap (λ m. complement m old) same ∙ ap (complement p.rows) met ∙ complement_of p.rows (λ r. compares Eq (get_or (numbers_of (cells_at p place)) r (pos 0)) number)
+    flipped ∙ ap (λ m. complement m old) same ∙ ap (complement p.rows) met
+    ∙ complement_of p.rows (λ r. compares Eq (get_or (numbers_of (cells_at p place)) r (pos 0)) number)
 
 -- a column of texts
-meets-texts : (p : PublicView) (place n : ℕ) (text : List ℕ) (list : List (List ℕ)) (rows : List ℕ) → cells_at p place ≡ texts list → n ≡ p.rows → rows ≡ rows_that (λ r. is_eq (slice_cmp nat_cmp (get_or list r []) text)) n → rows ≡ meets p place Eq (Text text)
+meets-texts : (p : PublicView) (place n : ℕ) (text : List ℕ) (list : List (List ℕ)) (rows : List ℕ) → cells_at p place ≡ texts list → n ≡ p.rows →
+    rows ≡ rows_that (λ r. is_eq (slice_cmp nat_cmp (get_or list r []) text)) n → rows ≡ meets p place Eq (Text text)
 meets-texts p place n text list rows is same met =
     met ∙ ap (rows_that (λ r. is_eq (slice_cmp nat_cmp (get_or list r []) text))) same
     ∙ rows_that_agree (λ r. is_eq (slice_cmp nat_cmp (get_or list r []) text)) (λ r. compares_text Eq (get_or (texts_of (cells_at p place)) r []) text) p.rows
     (λ r low. sym (texts_ties (get_or list r []) text) ∙ ap (λ (cells : Cells). compares_text Eq (get_or (texts_of cells) r []) text) (sym is))
 
 -- as a search finds them in an order
-pub texts_found : (p : PublicView) (place n : ℕ) (text : List ℕ) (list : List (List ℕ)) (searched order rows : List ℕ) (from to : ℕ) → cells_at p place ≡ texts list → n ≡ p.rows → searched ≡ order →
+pub texts_found : (p : PublicView) (place n : ℕ) (text : List ℕ) (list : List (List ℕ)) (searched order rows : List ℕ) (from to : ℕ) →
+    cells_at p place ≡ texts list → n ≡ p.rows → searched ≡ order →
     IsRange (λ r. is_eq (slice_cmp nat_cmp (get_or list r []) text)) searched from to → ((test : ℕ → Bool) → IsRange test order from to → rows ≡ rows_that test n) → rows ≡ meets p place Eq (Text text)
 texts_found p place n text list searched order rows from to is same it range met =
     meets-texts p place n text list rows is same (met _ (subst (λ xs. IsRange (λ r. is_eq (slice_cmp nat_cmp (get_or list r []) text)) xs from to) it range))
 
 -- the texts that are not equal
-pub texts_unequal : (p : PublicView) (place n : ℕ) (text old new : List ℕ) → old ≡ meets p place Eq (Text text) → n ≡ p.rows → new ≡ complement n old → new ≡ meets p place Ne (Text text)
+pub texts_unequal : (p : PublicView) (place n : ℕ) (text old new : List ℕ) → old ≡ meets p place Eq (Text text) → n ≡ p.rows → new ≡ complement n old →
+    new ≡ meets p place Ne (Text text)
 texts_unequal p place n text old new met same flipped =
-    flipped ∙ ap (λ m. complement m old) same ∙ ap (complement p.rows) met ∙ complement_of p.rows (λ r. compares_text Eq (get_or (texts_of (cells_at p place)) r []) text)
+    flipped ∙ ap (λ m. complement m old) same ∙ ap (complement p.rows) met
+    ∙ complement_of p.rows (λ r. compares_text Eq (get_or (texts_of (cells_at p place)) r []) text)
 
 -- whether it asks for an order
 abbrev pub IsOrdered : Op → Type 0
@@ -119,4 +129,6 @@ never o x y (inr (inr (inr is))) = ap (λ q. compares_text q x y) is
 
 -- texts have no order
 pub meets_none : (p : PublicView) (place : ℕ) (o : Op) (text rows : List ℕ) → IsOrdered o → rows ≡ [] → rows ≡ meets p place o (Text text)
-meets_none p place o text rows is none = none ∙ sym (rows_that_none (λ r. compares_text o (get_or (texts_of (cells_at p place)) r []) text) p.rows (λ r low. never o (get_or (texts_of (cells_at p place)) r []) text is))
+meets_none p place o text rows is none =
+    none
+    ∙ sym (rows_that_none (λ r. compares_text o (get_or (texts_of (cells_at p place)) r []) text) p.rows (λ r low. never o (get_or (texts_of (cells_at p place)) r []) text is))

@@ -29,7 +29,8 @@ part order from to = take (to - from) (drop from order)
 has-take : (order : List ℕ) (from to r : ℕ) → from ≤ to → has_row (take to order) r ≡ (has_row (take from order) r || has_row (part order from to) r)
 has-take order from to r le =
     let split : from + (to - from) ≡ to = omega arith in
-    ap (λ k. has_row (take k order) r) (sym split) ∙ ap (λ xs. has_row xs r) (take-add from (to - from) order) ∙ list_any-append (λ x. x == r) (take from order) (part order from to)
+    ap (λ k. has_row (take k order) r) (sym split) ∙ ap (λ xs. has_row xs r) (take-add from (to - from) order)
+    ∙ list_any-append (λ x. x == r) (take from order) (part order from to)
 
 -- all rows are the first ones and the rest
 has-order : (order : List ℕ) (to r : ℕ) → has_row order r ≡ (has_row (take to order) r || has_row (drop to order) r)
@@ -55,31 +56,37 @@ after_fails test order from to r range =
     ap test (get_or-drop to order k 0) ∙ range.after (to + k) 0 (omega arith) (omega (arith, length-drop to order)))
 
 -- one of three places holds a row, and says how it is tested
-walked_row : (t front mid back : Bool) → (front || mid) || back ≡ true → (front ≡ true → t ≡ false) → (mid ≡ true → t ≡ true) → (back ≡ true → t ≡ false) → mid ≡ t
+walked_row : (t front mid back : Bool) → (front || mid) || back ≡ true → (front ≡ true → t ≡ false) → (mid ≡ true → t ≡ true) → (back ≡ true → t ≡ false) →
+    mid ≡ t
 walked_row t front true back one f m b = sym (m refl)
 walked_row t true false back one f m b = sym (f refl)
 walked_row t false false true one f m b = sym (b refl)
 walked_row t false false false one f m b = absurd (false≢true one)
 
-left_row : (t front mid back : Bool) → (front || mid) || back ≡ true → (front ≡ true → t ≡ false) → (mid ≡ true → t ≡ true) → (back ≡ true → t ≡ false) → (not front && (front || mid)) ≡ t
+left_row : (t front mid back : Bool) → (front || mid) || back ≡ true → (front ≡ true → t ≡ false) → (mid ≡ true → t ≡ true) → (back ≡ true → t ≡ false) →
+    (not front && (front || mid)) ≡ t
 left_row t true mid back one f m b = sym (f refl)
 left_row t false true back one f m b = sym (m refl)
 left_row t false false true one f m b = sym (b refl)
 left_row t false false false one f m b = absurd (false≢true one)
 
-one_of : (n : ℕ) (order : List ℕ) (from to r : ℕ) → IsPermutation (rows_that (λ q. true) n) order → from ≤ to → r < n → ((has_row (take from order) r || has_row (part order from to) r) || has_row (drop to order) r) ≡ true
+one_of : (n : ℕ) (order : List ℕ) (from to r : ℕ) → IsPermutation (rows_that (λ q. true) n) order → from ≤ to → r < n →
+    ((has_row (take from order) r || has_row (part order from to) r) || has_row (drop to order) r) ≡ true
 one_of n order from to r once le low =
-    ap (λ b. b || has_row (drop to order) r) (sym (has-take order from to r le)) ∙ sym (has-order order to r) ∙ sym (list_any-IsPermutation (λ x. x == r) (rows_that (λ q. true) n) order once) ∙ has-rows_that (λ q. true) n r low
+    ap (λ b. b || has_row (drop to order) r) (sym (has-take order from to r le)) ∙ sym (has-order order to r)
+    ∙ sym (list_any-IsPermutation (λ x. x == r) (rows_that (λ q. true) n) order once) ∙ has-rows_that (λ q. true) n r low
 
 -- a walk over the part finds them
-pub range_walked : (n : ℕ) (order : List ℕ) (from to : ℕ) (test : ℕ → Bool) → IsPermutation (rows_that (λ q. true) n) order → from ≤ to → IsRange test order from to → union n [] (part order from to) ≡ rows_that test n
+pub range_walked : (n : ℕ) (order : List ℕ) (from to : ℕ) (test : ℕ → Bool) → IsPermutation (rows_that (λ q. true) n) order → from ≤ to →
+    IsRange test order from to → union n [] (part order from to) ≡ rows_that test n
 range_walked n order from to test once le range =
     rows_that_agree (has_row (part order from to)) test n (λ r low.
     walked_row (test r) (has_row (take from order) r) (has_row (part order from to) r) (has_row (drop to order) r) (one_of n order from to r once le low)
     (before_fails test order from to r range) (inside_passes test order from to r range) (after_fails test order from to r range))
 
 -- and so do the first rows of the greater count without those of the smaller
-pub range_left : (n : ℕ) (order : List ℕ) (from to : ℕ) (test : ℕ → Bool) → IsPermutation (rows_that (λ q. true) n) order → from ≤ to → IsRange test order from to → intersection n (complement n (first_rows n order from)) (first_rows n order to) ≡ rows_that test n
+pub range_left : (n : ℕ) (order : List ℕ) (from to : ℕ) (test : ℕ → Bool) → IsPermutation (rows_that (λ q. true) n) order → from ≤ to →
+    IsRange test order from to → intersection n (complement n (first_rows n order from)) (first_rows n order to) ≡ rows_that test n
 range_left n order from to test once le range =
     ap (λ xs. intersection n xs (first_rows n order to)) (complement_of n (has_row (take from order)))
     ∙ both_of n (λ r. not (has_row (take from order) r)) (has_row (take to order))
@@ -100,9 +107,11 @@ first_more n order from to le =
     ap (λ b. b || has_row (part order from to) r) (has-rows_that (has_row (take from order)) n r low) ∙ sym (has-take order from to r le))
 
 -- where the rows that pass are the first ones
-pub range_first : (n : ℕ) (order : List ℕ) (to : ℕ) (test : ℕ → Bool) → IsPermutation (rows_that (λ q. true) n) order → IsRange test order 0 to → first_rows n order to ≡ rows_that test n
+pub range_first : (n : ℕ) (order : List ℕ) (to : ℕ) (test : ℕ → Bool) → IsPermutation (rows_that (λ q. true) n) order → IsRange test order 0 to →
+    first_rows n order to ≡ rows_that test n
 range_first n order to test once range =
-    sym (first_more n order 0 to (omega arith)) ∙ ap (λ xs. union n xs (part order 0 to)) (first_none n order) ∙ range_walked n order 0 to test once (omega arith) range
+    sym (first_more n order 0 to (omega arith)) ∙ ap (λ xs. union n xs (part order 0 to)) (first_none n order)
+    ∙ range_walked n order 0 to test once (omega arith) range
 
 rest_passes : (test : ℕ → Bool) (order : List ℕ) (from r : ℕ) → IsRange test order from (length order) → has_row (drop from order) r ≡ true → test r ≡ true
 rest_passes test order from r range =
@@ -115,7 +124,8 @@ rest_row t false true one f b = sym (b refl)
 rest_row t false false one f b = absurd (false≢true one)
 
 -- and where they are all but the first ones
-pub range_rest : (n : ℕ) (order : List ℕ) (from : ℕ) (test : ℕ → Bool) → IsPermutation (rows_that (λ q. true) n) order → IsRange test order from (length order) → complement n (first_rows n order from) ≡ rows_that test n
+pub range_rest : (n : ℕ) (order : List ℕ) (from : ℕ) (test : ℕ → Bool) → IsPermutation (rows_that (λ q. true) n) order →
+    IsRange test order from (length order) → complement n (first_rows n order from) ≡ rows_that test n
 range_rest n order from test once range =
     complement_of n (has_row (take from order))
     ∙ rows_that_agree (λ r. not (has_row (take from order) r)) test n (λ r low.
@@ -132,7 +142,8 @@ joined false true c d e = refl
 joined false false c d e = e
 
 -- a step of a walk over a list
-pub added_more : (n : ℕ) (old list : List ℕ) (i row : ℕ) → i < length list → row ≡ get_or list i 0 → with_row n (union n old (take i list)) row ≡ union n old (take (i + 1) list)
+pub added_more : (n : ℕ) (old list : List ℕ) (i row : ℕ) → i < length list → row ≡ get_or list i 0 →
+    with_row n (union n old (take i list)) row ≡ union n old (take (i + 1) list)
 added_more n old list i row low is =
     rows_that_agree (λ r. has_row (union n old (take i list)) r || (r == row)) (λ r. has_row old r || has_row (take (i + 1) list) r) n (λ r below.
     ap (λ b. b || (r == row)) (has-rows_that (λ q. has_row old q || has_row (take i list) q) n r below)
@@ -153,10 +164,14 @@ added_none n old are =
 all_below : (n : ℕ) → All (λ r. r < n) (rows_that (λ r. true) n)
 unfolding rows_that
 all_below zero = All-nil (λ r. r < 0)
-all_below (suc n) = All-push (λ r. r < suc n) (rows_that (λ r. true) n) n (All-weaker (λ r. r < n) (λ r. r < suc n) (λ r low. omega arith) (rows_that (λ r. true) n) (all_below n)) (omega arith)
+all_below (suc n) =
+    All-push (λ r. r < suc n) (rows_that (λ r. true) n) n
+    (All-weaker (λ r. r < n) (λ r. r < suc n) (λ r low. omega arith) (rows_that (λ r. true) n) (all_below n)) (omega arith)
 
 pub part_below : (n : ℕ) (order : List ℕ) (from to : ℕ) → IsPermutation (rows_that (λ r. true) n) order → All (λ r. r < n) (part order from to)
-part_below n order from to once = All-take (λ r. r < n) (to - from) (drop from order) (All-drop (λ r. r < n) from order (All-permutation (λ r. r < n) (rows_that (λ r. true) n) order once (all_below n)))
+part_below n order from to once =
+    All-take (λ r. r < n) (to - from) (drop from order)
+    (All-drop (λ r. r < n) from order (All-permutation (λ r. r < n) (rows_that (λ r. true) n) order once (all_below n)))
 
 pub first_are_rows : (n : ℕ) (order : List ℕ) (count : ℕ) → AreRows n (first_rows n order count)
 first_are_rows n order count = AreRows-rows_that (has_row (take count order)) n
@@ -168,7 +183,8 @@ abbrev pub Hold : ℕ → List ℕ → List Rows → Type 0
 Hold n order marks = (k : ℕ) (d : Rows) → k < length marks → get_or marks k d ≡ record { n = n; list = first_rows n order (16 * k) }
 
 -- one set more
-pub hold_more : (n : ℕ) (order : List ℕ) (marks new : List Rows) (mark : Rows) (k : ℕ) → Hold n order marks → length marks ≡ k → mark ≡ record { n = n; list = first_rows n order (16 * k) } → new ≡ marks ++ mark ∷ [] → Hold n order new
+pub hold_more : (n : ℕ) (order : List ℕ) (marks new : List Rows) (mark : Rows) (k : ℕ) → Hold n order marks → length marks ≡ k →
+    mark ≡ record { n = n; list = first_rows n order (16 * k) } → new ≡ marks ++ mark ∷ [] → Hold n order new
 hold_more n order marks new mark k held long is more j d low = elim (cases_lt j (length marks)) [
   | inl l ↦ ap (λ xs. get_or xs j d) more ∙ get_or_append_left marks (mark ∷ []) d j l ∙ held j d l
   | inr h ↦
@@ -177,7 +193,8 @@ hold_more n order marks new mark k held long is more j d low = elim (cases_lt j 
 ]
 
 -- the first of the sets
-pub hold_first : (n : ℕ) (order : List ℕ) (new : List Rows) (mark : Rows) → mark ≡ record { n = n; list = first_rows n order 0 } → new ≡ mark ∷ [] → Hold n order new
+pub hold_first : (n : ℕ) (order : List ℕ) (new : List Rows) (mark : Rows) → mark ≡ record { n = n; list = first_rows n order 0 } → new ≡ mark ∷ [] →
+    Hold n order new
 hold_first n order new mark is one = hold_more n order [] new mark 0 (λ k d low. absurd (omega arith)) refl is one
 
 abbrev set_with : ℕ → List ℕ → Rows

@@ -29,7 +29,8 @@ ascending_sorted low n (r ∷ []) h k d from high = absurd (omega arith)
 ascending_sorted low n (r ∷ q ∷ rows) h zero d from high = ap is_lt (sym (nat_cmp_is q r Greater (omega (arith, h.2.0))))
 ascending_sorted low n (r ∷ q ∷ rows) h (suc k) d from high =
     let next : suc (k + 1) ≡ suc k + 1 = omega arith in
-    subst (λ m. is_lt (nat_cmp (get_or (r ∷ q ∷ rows) m d) (get_or (q ∷ rows) k d)) ≡ false) next (ascending_sorted (r + 1) n (q ∷ rows) h.2 k d (omega arith) (omega arith))
+    subst (λ m. is_lt (nat_cmp (get_or (r ∷ q ∷ rows) m d) (get_or (q ∷ rows) k d)) ≡ false) next
+    (ascending_sorted (r + 1) n (q ∷ rows) h.2 k d (omega arith) (omega arith))
 
 less_falls : (o u : Ordering) → ordering_index o ≤ ordering_index u → is_lt u ≡ true → is_lt o ≡ true
 less_falls Less u le h = refl
@@ -70,7 +71,8 @@ module _ {K : Type 0} {R : K → K → Ordering} (o : IsTotalOrder R) (key : ℕ
       by_row (R (key next) (key x)) (nat_cmp next x) (sorted k d low high)
       (λ same.
       let back : R (key x) (key next) ≡ Equal = o.antisymm (key x) (key next) ∙ ap ordering_reverse same in
-      ties_stay_sorted (λ r s. is_lt (nat_cmp r s)) is_less (ranks_by nat_cmp_total (λ r. r)) is_an_order_of_values xs ys up stable k d high (rw (same, back) refl))
+      ties_stay_sorted (λ r s. is_lt (nat_cmp r s)) is_less (ranks_by nat_cmp_total (λ r. r)) is_an_order_of_values xs ys up stable k d high
+      (rw (same, back) refl))
 
   rises : (x : K) (xs : List ℕ) → IsSortedBy comes_before xs → IsNonDecreasingBy (λ r. ordering_index (R (key r) x)) xs
   rises x xs sorted = searchable_from_sorted o key xs x (λ k d low high. lesser _ _ (sorted k d low high))

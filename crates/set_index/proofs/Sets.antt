@@ -24,11 +24,15 @@ complement_none n = refl
 
 -- the rows that pass both
 pub both_of : (n : ℕ) (f g : ℕ → Bool) → intersection n (rows_that f n) (rows_that g n) ≡ rows_that (λ r. f r && g r) n
-both_of n f g = rows_that_agree (λ r. has_row (rows_that f n) r && has_row (rows_that g n) r) (λ r. f r && g r) n (λ r low. ap (λ b. b && has_row (rows_that g n) r) (has-rows_that f n r low) ∙ ap (λ b. f r && b) (has-rows_that g n r low))
+both_of n f g =
+    rows_that_agree (λ r. has_row (rows_that f n) r && has_row (rows_that g n) r) (λ r. f r && g r) n
+    (λ r low. ap (λ b. b && has_row (rows_that g n) r) (has-rows_that f n r low) ∙ ap (λ b. f r && b) (has-rows_that g n r low))
 
 -- the rows that pass one of them
 pub either_of : (n : ℕ) (f g : ℕ → Bool) → union n (rows_that f n) (rows_that g n) ≡ rows_that (λ r. f r || g r) n
-either_of n f g = rows_that_agree (λ r. has_row (rows_that f n) r || has_row (rows_that g n) r) (λ r. f r || g r) n (λ r low. ap (λ b. b || has_row (rows_that g n) r) (has-rows_that f n r low) ∙ ap (λ b. f r || b) (has-rows_that g n r low))
+either_of n f g =
+    rows_that_agree (λ r. has_row (rows_that f n) r || has_row (rows_that g n) r) (λ r. f r || g r) n
+    (λ r low. ap (λ b. b || has_row (rows_that g n) r) (has-rows_that f n r low) ∙ ap (λ b. f r || b) (has-rows_that g n r low))
 
 -- ---- the rows below a place that pass
 
@@ -62,17 +66,21 @@ at_same k r b c fails same = elim (cases_eq r k) [
 ]
 
 pub passing_below_passed : (n k : ℕ) (f : ℕ → Bool) → f k ≡ false → passing_below k f n ≡ passing_below (k + 1) f n
-passing_below_passed n k f fails = rows_that_agree (λ r. nat_lt r k && f r) (λ r. nat_lt r (k + 1) && f r) n (λ r low. at_same k r (f k) (f r) fails (λ e. ap f e))
+passing_below_passed n k f fails =
+    rows_that_agree (λ r. nat_lt r k && f r) (λ r. nat_lt r (k + 1) && f r) n (λ r low. at_same k r (f k) (f r) fails (λ e. ap f e))
 
 -- one row more is looked at, and is there where it passes
-pub passing_below_more : (n k : ℕ) (f : ℕ → Bool) (b : Bool) → f k ≡ b → cond b (with_row n (passing_below k f n) k) (passing_below k f n) ≡ passing_below (k + 1) f n
+pub passing_below_more : (n k : ℕ) (f : ℕ → Bool) (b : Bool) → f k ≡ b →
+    cond b (with_row n (passing_below k f n) k) (passing_below k f n) ≡ passing_below (k + 1) f n
 passing_below_more n k f true e = passing_below_added n k f e
 passing_below_more n k f false e = passing_below_passed n k f e
 
 -- a step of a walk over the rows
-pub walked_more : (n m k : ℕ) (f : ℕ → Bool) (b : Bool) (old new : List ℕ) → old ≡ passing_below k f n → m ≡ n → f k ≡ b → new ≡ cond b (with_row m old k) old → new ≡ passing_below (k + 1) f n
+pub walked_more : (n m k : ℕ) (f : ℕ → Bool) (b : Bool) (old new : List ℕ) → old ≡ passing_below k f n → m ≡ n → f k ≡ b → new ≡ cond b (with_row m old k) old →
+    new ≡ passing_below (k + 1) f n
 walked_more n m k f b old new passed same is added =
-    added ∙ ap (λ rows. cond b (with_row m rows k) rows) passed ∙ ap (λ i. cond b (with_row i (passing_below k f n) k) (passing_below k f n)) same ∙ passing_below_more n k f b is
+    added ∙ ap (λ rows. cond b (with_row m rows k) rows) passed ∙ ap (λ i. cond b (with_row i (passing_below k f n) k) (passing_below k f n)) same
+    ∙ passing_below_more n k f b is
 
 -- its end
 pub walked_all : (n k : ℕ) (f : ℕ → Bool) (rows : List ℕ) → rows ≡ passing_below k f n → k ≡ n → rows ≡ rows_that f n
@@ -95,22 +103,29 @@ any_more f (k ∷ ls) l = go (f k) (any_more f ls l)
     go true rest = refl
     go false rest = rest
 
-pub met_more : (p : PublicView) (place m i : ℕ) (ls : List Literal) (l : Literal) (old one new : List ℕ) → i < length ls → l ≡ get_or ls i l → m ≡ p.rows → old ≡ meets_any p place (take i ls) → one ≡ meets p place Eq l → new ≡ union m old one → new ≡ meets_any p place (take (i + 1) ls)
+pub met_more : (p : PublicView) (place m i : ℕ) (ls : List Literal) (l : Literal) (old one new : List ℕ) → i < length ls → l ≡ get_or ls i l → m ≡ p.rows →
+    old ≡ meets_any p place (take i ls) → one ≡ meets p place Eq l → new ≡ union m old one → new ≡ meets_any p place (take (i + 1) ls)
 met_more p place m i ls l old one new inside is same met here added =
     added ∙ ap (λ n. union n old one) same ∙ ap (λ rows. union p.rows rows one) met ∙ ap (union p.rows (meets_any p place (take i ls))) here
     ∙ either_of p.rows (λ r. list_any (compares_cell (row_at p r) place Eq) (take i ls)) (λ r. compares_cell (row_at p r) place Eq l)
-    ∙ rows_that_agree (λ r. list_any (compares_cell (row_at p r) place Eq) (take i ls) || compares_cell (row_at p r) place Eq l) (λ r. list_any (compares_cell (row_at p r) place Eq) (take (i + 1) ls)) p.rows
+    ∙ rows_that_agree (λ r. list_any (compares_cell (row_at p r) place Eq) (take i ls) || compares_cell (row_at p r) place Eq l)
+    (λ r. list_any (compares_cell (row_at p r) place Eq) (take (i + 1) ls)) p.rows
     (λ r low. any_more (compares_cell (row_at p r) place Eq) (take i ls) l ∙ ap (λ ks. list_any (compares_cell (row_at p r) place Eq) ks) (sym (take_more ls i l inside ∙ ap (λ k. take i ls ++ k ∷ []) (sym is))))
 
 -- ---- what the parts mean, the whole means
 
 pub not_meant : (p : PublicView) (t : Tree) (m : ℕ) (old new : List ℕ) → old ≡ meaning p t → m ≡ p.rows → new ≡ complement m old → new ≡ meaning p (negation t)
-not_meant p t m old new meant same flipped = flipped ∙ ap (λ n. complement n old) same ∙ ap (complement p.rows) meant ∙ complement_of p.rows (λ r. satisfies (row_at p r) t)
+not_meant p t m old new meant same flipped =
+    flipped ∙ ap (λ n. complement n old) same ∙ ap (complement p.rows) meant ∙ complement_of p.rows (λ r. satisfies (row_at p r) t)
 
-pub both_meant : (p : PublicView) (t u : Tree) (m : ℕ) (left right new : List ℕ) → left ≡ meaning p t → right ≡ meaning p u → m ≡ p.rows → new ≡ intersection m left right → new ≡ meaning p (both t u)
+pub both_meant : (p : PublicView) (t u : Tree) (m : ℕ) (left right new : List ℕ) → left ≡ meaning p t → right ≡ meaning p u → m ≡ p.rows →
+    new ≡ intersection m left right → new ≡ meaning p (both t u)
 both_meant p t u m left right new first second same joined =
-    joined ∙ ap (λ n. intersection n left right) same ∙ ap (λ xs. intersection p.rows xs right) first ∙ ap (intersection p.rows (meaning p t)) second ∙ both_of p.rows (λ r. satisfies (row_at p r) t) (λ r. satisfies (row_at p r) u)
+    joined ∙ ap (λ n. intersection n left right) same ∙ ap (λ xs. intersection p.rows xs right) first ∙ ap (intersection p.rows (meaning p t)) second
+    ∙ both_of p.rows (λ r. satisfies (row_at p r) t) (λ r. satisfies (row_at p r) u)
 
-pub either_meant : (p : PublicView) (t u : Tree) (m : ℕ) (left right new : List ℕ) → left ≡ meaning p t → right ≡ meaning p u → m ≡ p.rows → new ≡ union m left right → new ≡ meaning p (either t u)
+pub either_meant : (p : PublicView) (t u : Tree) (m : ℕ) (left right new : List ℕ) → left ≡ meaning p t → right ≡ meaning p u → m ≡ p.rows →
+    new ≡ union m left right → new ≡ meaning p (either t u)
 either_meant p t u m left right new first second same joined =
-    joined ∙ ap (λ n. union n left right) same ∙ ap (λ xs. union p.rows xs right) first ∙ ap (union p.rows (meaning p t)) second ∙ either_of p.rows (λ r. satisfies (row_at p r) t) (λ r. satisfies (row_at p r) u)
+    joined ∙ ap (λ n. union n left right) same ∙ ap (λ xs. union p.rows xs right) first ∙ ap (union p.rows (meaning p t)) second
+    ∙ either_of p.rows (λ r. satisfies (row_at p r) t) (λ r. satisfies (row_at p r) u)

@@ -22,7 +22,8 @@ abbrev Reads : Type 0
 Reads = ByteRecordsIntoIter (Bor (List ℕ))
 
 -- a read from memory fails for want of memory alone
-pub of_memory : (a b : Reads) (read : Result Row Error) → is_flexible a.rdr ≡ true → RowStep (λ (s : Bor (List ℕ)). Some s.now) a.rdr b.rdr b.left (Some read) → IfErr read (λ error. IsOfMemory (error_kind error))
+pub of_memory : (a b : Reads) (read : Result Row Error) → is_flexible a.rdr ≡ true → RowStep (λ (s : Bor (List ℕ)). Some s.now) a.rdr b.rdr b.left (Some read) →
+    IfErr read (λ error. IsOfMemory (error_kind error))
 of_memory a b (Ok row) flexible step = tt
 of_memory a b (Err error) flexible step = only_memory {R = Bor (List ℕ)} (λ s. Some s.now) a.rdr b.rdr error.kind flexible step
 
@@ -39,7 +40,8 @@ unless_memory NoRows P Q f h = f h
 unless_memory NoMemory P Q f h = tt
 
 -- the fault of a record is the first one of the data
-next_bad : (roles : List Role) (rows : List Fields) (n : ℕ) (r : Fields) (rest : List Fields) (fault : TableFault) → n ≡ length rows → n ≤ 1024 → records_fault roles 2 rows ≡ None → next_fault roles n r ≡ Some fault
+next_bad : (roles : List Role) (rows : List Fields) (n : ℕ) (r : Fields) (rest : List Fields) (fault : TableFault) → n ≡ length rows → n ≤ 1024
+    → records_fault roles 2 rows ≡ None → next_fault roles n r ≡ Some fault
     → data_fault roles (rows ++ r ∷ rest) ≡ Some fault
 next_bad roles rows n r rest fault same few good bad =
     elim (cases_eq n 1024) [
@@ -55,7 +57,8 @@ next_bad roles rows n r rest fault same few good bad =
 next_good : (roles : List Role) (n : ℕ) (r : Fields) → n ≤ 1024 → next_fault roles n r ≡ None → (n < 1024) × (record_fault roles (n + 2) r ≡ None)
 next_good roles n r few good =
     elim (cases_eq n 1024) [
-      | inl full ↦ let none : Some TooManyRows ≡ None = sym (ap (λ b. if b then Some TooManyRows else record_fault roles (n + 2) r) (eq-eqb n 1024 full)) ∙ good in absurd cc
+      | inl full ↦ let none : Some TooManyRows ≡ None = sym (ap (λ b. if b then Some TooManyRows else record_fault roles (n + 2) r) (eq-eqb n 1024 full))
+          ∙ good in absurd cc
       | inr less ↦ (omega (arith, less, few), sym (ap (λ b. if b then Some TooManyRows else record_fault roles (n + 2) r) (ne_eqb n 1024 less)) ∙ good)
     ]
 
@@ -85,6 +88,7 @@ added_row columns bytes roles rows a b (Ok row) more opened step still good few 
     let longer : map fields_of more ≡ map fields_of rows ++ fields_of row ∷ [] = ap (map fields_of) adds.0 ∙ map-append fields_of rows (row ∷ []) in
     record {
       opened = rw longer (opened_more columns bytes (map fields_of rows) a b row opened step still);
-      good = rw longer (good_more roles (map fields_of rows) (fields_of row) good (ap (λ k. record_fault roles (k + 2) (fields_of row)) (length-map rows fields_of) ∙ next.1));
+      good =
+          rw longer (good_more roles (map fields_of rows) (fields_of row) good (ap (λ k. record_fault roles (k + 2) (fields_of row)) (length-map rows fields_of) ∙ next.1));
       at_most = omega (arith, ap length adds.0, length-append rows (row ∷ []), next.0);
     }

@@ -38,11 +38,13 @@ cells_step which k cs place r rows within is =
 
 -- the secret columns from a place of the schema on
 pub secrets_step : (k : ℕ) (cs : List Column) (place : ℕ) (r : Role) (rows : List Fields) → place < length cs → Some r ≡ role_at cs place
-    → secrets_from k (drop place cs) rows ≡ cond (is_secret r) (number_column k rows ∷ secrets_from (k + 1) (drop (place + 1) cs) rows) (secrets_from (k + 1) (drop (place + 1) cs) rows)
+    → secrets_from k (drop place cs) rows ≡ cond (is_secret r) (number_column k rows ∷ secrets_from (k + 1) (drop (place + 1) cs) rows)
+    (secrets_from (k + 1) (drop (place + 1) cs) rows)
 secrets_step k cs place r rows within is =
     let h = here cs place within in
     ap (λ columns. secrets_from k columns rows) h.from_here
-    ∙ ap (λ x. cond (is_secret x) (number_column k rows ∷ secrets_from (k + 1) (drop (place + 1) cs) rows) (secrets_from (k + 1) (drop (place + 1) cs) rows)) (sym (role_is cs place h r is))
+    ∙ ap (λ x. cond (is_secret x) (number_column k rows ∷ secrets_from (k + 1) (drop (place + 1) cs) rows) (secrets_from (k + 1) (drop (place + 1) cs) rows))
+    (sym (role_is cs place h r is))
 
 -- a file with all columns has the schema's
 all_columns : (cs : List Column) → file_columns file.All cs ≡ cs
@@ -60,7 +62,8 @@ pub all_roles_from : (k : ℕ) (cs : List Column) → drop k (roles_of (file_col
 all_roles_from k cs = ap (λ columns. drop k (roles_of columns)) (all_columns cs) ∙ drop-roles k cs
 
 -- the same, by the role at the place
-pub role_of_all : (cs : List Column) (place : ℕ) (r : Role) → place < length cs → Some r ≡ role_at cs place → drop place (roles_of (file_columns file.All cs)) ≡ r ∷ roles_of (drop (place + 1) cs)
+pub role_of_all : (cs : List Column) (place : ℕ) (r : Role) → place < length cs → Some r ≡ role_at cs place →
+    drop place (roles_of (file_columns file.All cs)) ≡ r ∷ roles_of (drop (place + 1) cs)
 role_of_all cs place r within is =
     let h = here cs place within in
     all_roles_from place cs ∙ ap roles_of h.from_here ∙ ap (λ x. x ∷ roles_of (drop (place + 1) cs)) (sym (role_is cs place h r is))
@@ -78,13 +81,16 @@ number_in_range None number = absurd (cc)
 number_in_range (Some z) number = number
 
 -- the numbers of such fields are in range
-all_in_range : (r : Role) (k : ℕ) (rows : List Fields) → has_numbers r ≡ true → AllByRecursion (HasCell r k) rows → AllByRecursion (λ z. in_range z ≡ true) (number_column k rows)
+all_in_range : (r : Role) (k : ℕ) (rows : List Fields) → has_numbers r ≡ true → AllByRecursion (HasCell r k) rows →
+    AllByRecursion (λ z. in_range z ≡ true) (number_column k rows)
 all_in_range r k [] numeric all = tt
 all_in_range r k (fields ∷ rows) numeric all = (number_in_range (number_in (field_of k fields)) (all.0.number numeric), all_in_range r k rows numeric all.1)
 
 -- a column whose fields are numbers is one of numbers in range
-pub numbers_are : (r : Role) (k : ℕ) (rows : List Fields) → has_numbers r ≡ true → AllByRecursion (HasCell r k) rows → AreNumbers (length rows) (number_column k rows)
-numbers_are r k rows numeric all = record { one_each = length-map rows (λ fields. number_of_field (field_of k fields)); within = all_in_range r k rows numeric all }
+pub numbers_are : (r : Role) (k : ℕ) (rows : List Fields) → has_numbers r ≡ true → AllByRecursion (HasCell r k) rows →
+    AreNumbers (length rows) (number_column k rows)
+numbers_are r k rows numeric all =
+    record { one_each = length-map rows (λ fields. number_of_field (field_of k fields)); within = all_in_range r k rows numeric all }
 
 -- what everybody may see of a column has a cell for each row
 cells_are : (r : Role) (k : ℕ) (rows : List Fields) → (is_public r ≡ true → AllByRecursion (HasCell r k) rows) → AreCells (length rows) (cells_of r k rows)
@@ -94,16 +100,19 @@ cells_are role.Sum k rows all = tt
 cells_are role.Max k rows all = tt
 
 -- a column that is in the file has the next role
-roles_in : (which : FileColumns) (c : Column) (cs : List Column) (r : Role) (b : Bool) → is_in_file which r ≡ b → b ≡ true → roles_of (cond (is_in_file which r) (c ∷ file_columns which cs) (file_columns which cs)) ≡ c.role ∷ roles_of (file_columns which cs)
+roles_in : (which : FileColumns) (c : Column) (cs : List Column) (r : Role) (b : Bool) → is_in_file which r ≡ b → b ≡ true →
+    roles_of (cond (is_in_file which r) (c ∷ file_columns which cs) (file_columns which cs)) ≡ c.role ∷ roles_of (file_columns which cs)
 roles_in which c cs r b is in_file = ap (λ x. roles_of (cond x (c ∷ file_columns which cs) (file_columns which cs))) (is ∙ in_file)
 
 -- after the next column of the file the later roles are left
-next_roles : (which : FileColumns) (roles : List Role) (k : ℕ) (c : Column) (cs : List Column) (b : Bool) → drop k roles ≡ roles_of (cond b (c ∷ file_columns which cs) (file_columns which cs)) → drop (cond b (k + 1) k) roles ≡ roles_of (file_columns which cs)
+next_roles : (which : FileColumns) (roles : List Role) (k : ℕ) (c : Column) (cs : List Column) (b : Bool) →
+    drop k roles ≡ roles_of (cond b (c ∷ file_columns which cs) (file_columns which cs)) → drop (cond b (k + 1) k) roles ≡ roles_of (file_columns which cs)
 next_roles which roles k c cs true at_k = drop_tail roles k c.role (roles_of (file_columns which cs)) at_k
 next_roles which roles k c cs false at_k = at_k
 
 -- the public columns of a file without a fault have a cell for each row
-pub all_cells_are : (which : FileColumns) (roles : List Role) (rows : List Fields) (k : ℕ) (cs : List Column) → records_fault roles 2 rows ≡ None → drop k roles ≡ roles_of (file_columns which cs)
+pub all_cells_are : (which : FileColumns) (roles : List Role) (rows : List Fields) (k : ℕ) (cs : List Column) → records_fault roles 2 rows ≡ None
+    → drop k roles ≡ roles_of (file_columns which cs)
     → AllByRecursion (AreCells (length rows)) (cells_from which k cs rows)
 all_cells_are which roles rows k [] good at_k = tt
 all_cells_are which roles rows k (c ∷ cs) good at_k = (
@@ -112,12 +121,14 @@ all_cells_are which roles rows k (c ∷ cs) good at_k = (
 )
 
 -- a list joins the others where its column is secret
-secret_of : (b : Bool) (list : List ℤ) (lists : Secrets) (n : ℕ) → (b ≡ true → AreNumbers n list) → AllByRecursion (AreNumbers n) lists → AllByRecursion (AreNumbers n) (cond b (list ∷ lists) lists)
+secret_of : (b : Bool) (list : List ℤ) (lists : Secrets) (n : ℕ) → (b ≡ true → AreNumbers n list) → AllByRecursion (AreNumbers n) lists →
+    AllByRecursion (AreNumbers n) (cond b (list ∷ lists) lists)
 secret_of true list lists n first others = (first refl, others)
 secret_of false list lists n first others = others
 
 -- the secret columns of a file without a fault have a number in range for each row
-pub all_secrets_are : (roles : List Role) (rows : List Fields) (k : ℕ) (cs : List Column) → records_fault roles 2 rows ≡ None → drop k roles ≡ roles_of cs → AllByRecursion (AreNumbers (length rows)) (secrets_from k cs rows)
+pub all_secrets_are : (roles : List Role) (rows : List Fields) (k : ℕ) (cs : List Column) → records_fault roles 2 rows ≡ None → drop k roles ≡ roles_of cs →
+    AllByRecursion (AreNumbers (length rows)) (secrets_from k cs rows)
 all_secrets_are roles rows k [] good at_k = tt
 all_secrets_are roles rows k (c ∷ cs) good at_k =
     secret_of (is_secret c.role) (number_column k rows) (secrets_from (k + 1) cs rows) (length rows)
@@ -125,11 +136,13 @@ all_secrets_are roles rows k (c ∷ cs) good at_k =
     (all_secrets_are roles rows (k + 1) cs good (drop_tail roles k c.role (roles_of cs) at_k))
 
 -- a list that is there or not counts as its column does
-counted : (b : Bool) (list : List ℤ) (lists : Secrets) (c : Column) (cs : List Column) → length lists ≡ length cs → length (cond b (list ∷ lists) lists) ≡ length (cond b (c ∷ cs) cs)
+counted : (b : Bool) (list : List ℤ) (lists : Secrets) (c : Column) (cs : List Column) → length lists ≡ length cs →
+    length (cond b (list ∷ lists) lists) ≡ length (cond b (c ∷ cs) cs)
 counted true list lists c cs same = ap (λ n. suc n) same
 counted false list lists c cs same = same
 
 -- there is a list for each secret column
 pub secrets_counted : (k : ℕ) (cs : List Column) (rows : List Fields) → length (secrets_from k cs rows) ≡ secret_count cs
 secrets_counted k [] rows = refl
-secrets_counted k (c ∷ cs) rows = counted (is_secret c.role) (number_column k rows) (secrets_from (k + 1) cs rows) c (filter (λ d. is_secret d.role) cs) (secrets_counted (k + 1) cs rows)
+secrets_counted k (c ∷ cs) rows =
+    counted (is_secret c.role) (number_column k rows) (secrets_from (k + 1) cs rows) c (filter (λ d. is_secret d.role) cs) (secrets_counted (k + 1) cs rows)

@@ -30,12 +30,14 @@ pub drop_here : {X : Type 0} (xs : List X) (k : ℕ) (d : X) → k < length xs �
 drop_here xs k d within = drop-cons xs k d within ∙ ap (λ n. get_or xs k d ∷ drop n xs) (sym (add-one k))
 
 -- the fields from a place on are texts where the one there is and the later ones are
-pub texts_from : (fields : List (List ℕ)) (k : ℕ) → k < length fields → list_all is_utf8 (drop k fields) ≡ (is_utf8 (get_or fields k []) && list_all is_utf8 (drop (k + 1) fields))
+pub texts_from : (fields : List (List ℕ)) (k : ℕ) → k < length fields →
+    list_all is_utf8 (drop k fields) ≡ (is_utf8 (get_or fields k []) && list_all is_utf8 (drop (k + 1) fields))
 texts_from fields k within = ap (list_all is_utf8) (drop_here fields k [] within)
 
 -- the first fault of the fields from a place on is that of the one there, or of the later ones
 pub cells_fault_from : (line k : ℕ) (roles : List Role) (fields : List (List ℕ)) (role : Role) → k < length roles → k < length fields
-    → cells_fault line k (drop k roles) (drop k fields) ≡ option_or (cell_fault (get_or roles k role) line k (get_or fields k [])) (cells_fault line (k + 1) (drop (k + 1) roles) (drop (k + 1) fields))
+    → cells_fault line k (drop k roles) (drop k fields) ≡ option_or (cell_fault (get_or roles k role) line k (get_or fields k []))
+    (cells_fault line (k + 1) (drop (k + 1) roles) (drop (k + 1) fields))
 cells_fault_from line k roles fields role in_roles in_fields =
     ap (λ rs. cells_fault line k rs (drop k fields)) (drop_here roles k role in_roles)
     ∙ ap (cells_fault line k (get_or roles k role ∷ drop (k + 1) roles)) (drop_here fields k [] in_fields)

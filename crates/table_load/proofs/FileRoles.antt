@@ -27,10 +27,12 @@ few_roles which cs are = omega (arith, not_more which cs, ltb-false 32 (length c
 
 -- the columns of the file from a place of the schema on
 columns_from : (which : FileColumns) (cs : List Column) (place : ℕ) (h : Here cs place) (r : Role) → Some r ≡ role_at cs place
-    → file_columns which (drop place cs) ≡ cond (is_in_file which r) (h.column ∷ file_columns which (drop (place + 1) cs)) (file_columns which (drop (place + 1) cs))
+    → file_columns which (drop place cs) ≡ cond (is_in_file which r) (h.column ∷ file_columns which (drop (place + 1) cs))
+    (file_columns which (drop (place + 1) cs))
 columns_from which cs place h r is =
     ap (file_columns which) h.from_here
-    ∙ ap (λ x. cond (is_in_file which x) (h.column ∷ file_columns which (drop (place + 1) cs)) (file_columns which (drop (place + 1) cs))) (sym (role_is cs place h r is))
+    ∙ ap (λ x. cond (is_in_file which x) (h.column ∷ file_columns which (drop (place + 1) cs)) (file_columns which (drop (place + 1) cs)))
+    (sym (role_is cs place h r is))
 
 -- a column that is in the file
 pub roles_with : (which : FileColumns) (cs : List Column) (place : ℕ) (r : Role) → place < length cs → Some r ≡ role_at cs place → is_in_file which r ≡ true
@@ -42,7 +44,8 @@ roles_with which cs place r within is in_file =
     ∙ ap (λ x. x ∷ roles_of (file_columns which (drop (place + 1) cs))) (sym (role_is cs place h r is))
 
 -- a column that is not in the file
-pub columns_without : (which : FileColumns) (cs : List Column) (place : ℕ) (r : Role) → place < length cs → Some r ≡ role_at cs place → is_in_file which r ≡ false
+pub columns_without : (which : FileColumns) (cs : List Column) (place : ℕ) (r : Role) → place < length cs → Some r ≡ role_at cs place
+    → is_in_file which r ≡ false
     → file_columns which (drop place cs) ≡ file_columns which (drop (place + 1) cs)
 columns_without which cs place r within is not_in_file =
     let h = here cs place within in
@@ -57,7 +60,8 @@ columns_with which cs place h r is in_file =
     ∙ ap (λ b. cond b (h.column ∷ file_columns which (drop (place + 1) cs)) (file_columns which (drop (place + 1) cs))) in_file
 
 -- no field is left for a column
-pub no_name_left : (which : FileColumns) (cs : List Column) (place : ℕ) (r : Role) (fields : Fields) (k : ℕ) → place < length cs → Some r ≡ role_at cs place → is_in_file which r ≡ true → length fields ≤ k
+pub no_name_left : (which : FileColumns) (cs : List Column) (place : ℕ) (r : Role) (fields : Fields) (k : ℕ) → place < length cs → Some r ≡ role_at cs place
+    → is_in_file which r ≡ true → length fields ≤ k
     → names_are (drop k fields) (file_columns which (drop place cs)) ≡ false
 no_name_left which cs place r fields k within is in_file past =
     ap (names_are (drop k fields)) (columns_with which cs place (here cs place within) r is in_file) ∙ none fields k past _ _
@@ -69,14 +73,17 @@ no_name_left which cs place r fields k within is in_file past =
     none (f ∷ fields) (suc k) past c later = none fields k (omega (arith, past)) c later
 
 -- the field is the column's name, and the later ones are the later names
-pub names_from : (which : FileColumns) (cs : List Column) (place : ℕ) (r : Role) (name : List ℕ) (fields : Fields) (k : ℕ) → place < length cs → k < length fields
+pub names_from : (which : FileColumns) (cs : List Column) (place : ℕ) (r : Role) (name : List ℕ) (fields : Fields) (k : ℕ) → place < length cs
+    → k < length fields
     → Some r ≡ role_at cs place → is_in_file which r ≡ true → Some name ≡ name_at cs place
-    → names_are (drop k fields) (file_columns which (drop place cs)) ≡ (bytes_eq (get_or fields k []) name && names_are (drop (k + 1) fields) (file_columns which (drop (place + 1) cs)))
+    → names_are (drop k fields) (file_columns which (drop place cs)) ≡
+    (bytes_eq (get_or fields k []) name && names_are (drop (k + 1) fields) (file_columns which (drop (place + 1) cs)))
 names_from which cs place r name fields k within in_fields is in_file named =
     let h = here cs place within in
     ap (names_are (drop k fields)) (columns_with which cs place h r is in_file)
     ∙ ap (λ fs. names_are fs (h.column ∷ file_columns which (drop (place + 1) cs))) (drop_here fields k [] in_fields)
-    ∙ ap (λ n. bytes_eq (get_or fields k []) n && names_are (drop (k + 1) fields) (file_columns which (drop (place + 1) cs))) (sym (name_is cs place h name named))
+    ∙ ap (λ n. bytes_eq (get_or fields k []) n && names_are (drop (k + 1) fields) (file_columns which (drop (place + 1) cs)))
+    (sym (name_is cs place h name named))
 
 -- after the last column no field may be left
 pub names_end : (fields : Fields) (k : ℕ) → k ≤ length fields → names_are (drop k fields) [] ≡ (k == length fields)

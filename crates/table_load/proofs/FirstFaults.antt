@@ -16,7 +16,8 @@ none_first None b is = (refl, is)
 none_first (Some fault) b is = absurd (cc)
 
 -- records without a fault before others
-pub good-append : (roles : List Role) (line : ℕ) (xs ys : List Fields) → records_fault roles line xs ≡ None → records_fault roles line (xs ++ ys) ≡ records_fault roles (length xs + line) ys
+pub good-append : (roles : List Role) (line : ℕ) (xs ys : List Fields) → records_fault roles line xs ≡ None →
+    records_fault roles line (xs ++ ys) ≡ records_fault roles (length xs + line) ys
 good-append roles line [] ys good = ap (λ n. records_fault roles n ys) (omega arith)
 good-append roles line (x ∷ xs) ys good =
     let parts = none_first (record_fault roles line x) (records_fault roles (line + 1) xs) good in
@@ -25,7 +26,8 @@ good-append roles line (x ∷ xs) ys good =
     ∙ ap (λ n. records_fault roles n ys) (omega arith)
 
 -- a record without a fault joins those before it
-pub good_more : (roles : List Role) (rows : List Fields) (r : Fields) → records_fault roles 2 rows ≡ None → record_fault roles (length rows + 2) r ≡ None → records_fault roles 2 (rows ++ r ∷ []) ≡ None
+pub good_more : (roles : List Role) (rows : List Fields) (r : Fields) → records_fault roles 2 rows ≡ None → record_fault roles (length rows + 2) r ≡ None →
+    records_fault roles 2 (rows ++ r ∷ []) ≡ None
 good_more roles rows r good fine = good-append roles 2 rows (r ∷ []) good ∙ ap (λ fault. option_or fault None) fine
 
 -- the first so many of records that have so many in front
@@ -40,23 +42,29 @@ take_one zero r rest some = absurd (omega (arith, some))
 take_one (suc k) r rest some = (k, refl)
 
 -- the first record with a fault, among the first 1,024
-pub bad_row : (roles : List Role) (rows : List Fields) (r : Fields) (rest : List Fields) (fault : TableFault) → length rows < 1024 → records_fault roles 2 rows ≡ None → record_fault roles (length rows + 2) r ≡ Some fault
+pub bad_row : (roles : List Role) (rows : List Fields) (r : Fields) (rest : List Fields) (fault : TableFault) → length rows < 1024
+    → records_fault roles 2 rows ≡ None → record_fault roles (length rows + 2) r ≡ Some fault
     → data_fault roles (rows ++ r ∷ rest) ≡ Some fault
 bad_row roles rows r rest fault few good bad =
     let one = take_one (1024 - length rows) r rest (omega (arith, few)) in
-    ap (λ rs. option_or (records_fault roles 2 rs) (count_fault (rows ++ r ∷ rest))) (take_front 1024 rows (r ∷ rest) (omega (arith, few)) ∙ ap (λ rs. rows ++ rs) one.1)
-    ∙ ap (λ f. option_or f (count_fault (rows ++ r ∷ rest))) (good-append roles 2 rows (r ∷ take one.0 rest) good ∙ ap (λ f. option_or f (records_fault roles (length rows + 2 + 1) (take one.0 rest))) bad)
+    ap (λ rs. option_or (records_fault roles 2 rs) (count_fault (rows ++ r ∷ rest)))
+    (take_front 1024 rows (r ∷ rest) (omega (arith, few)) ∙ ap (λ rs. rows ++ rs) one.1)
+    ∙ ap (λ f. option_or f (count_fault (rows ++ r ∷ rest)))
+    (good-append roles 2 rows (r ∷ take one.0 rest) good ∙ ap (λ f. option_or f (records_fault roles (length rows + 2 + 1) (take one.0 rest))) bad)
 
 -- a record after 1,024 is one too many
 count_many : (rows : List Fields) (r : Fields) (rest : List Fields) → length rows ≡ 1024 → count_fault (rows ++ r ∷ rest) ≡ Some TooManyRows
 count_many [] r rest full = absurd (omega (arith, full))
-count_many (x ∷ rows) r rest full = ap (λ b. cond b (Some TooManyRows) None) (lt-ltb 1024 (length (x ∷ (rows ++ r ∷ rest))) (omega (arith, full, length-append rows (r ∷ rest))))
+count_many (x ∷ rows) r rest full =
+    ap (λ b. cond b (Some TooManyRows) None) (lt-ltb 1024 (length (x ∷ (rows ++ r ∷ rest))) (omega (arith, full, length-append rows (r ∷ rest))))
 
 -- one record after 1,024 without a fault
-pub many_rows : (roles : List Role) (rows : List Fields) (r : Fields) (rest : List Fields) → length rows ≡ 1024 → records_fault roles 2 rows ≡ None → data_fault roles (rows ++ r ∷ rest) ≡ Some TooManyRows
+pub many_rows : (roles : List Role) (rows : List Fields) (r : Fields) (rest : List Fields) → length rows ≡ 1024 → records_fault roles 2 rows ≡ None →
+    data_fault roles (rows ++ r ∷ rest) ≡ Some TooManyRows
 many_rows roles rows r rest full good =
     let none : 1024 - length rows ≡ 0 = omega (arith, full) in
-    ap (λ rs. option_or (records_fault roles 2 rs) (count_fault (rows ++ r ∷ rest))) (take_front 1024 rows (r ∷ rest) (omega (arith, full)) ∙ ap (λ k. rows ++ take k (r ∷ rest)) none ∙ append-nil rows)
+    ap (λ rs. option_or (records_fault roles 2 rs) (count_fault (rows ++ r ∷ rest)))
+    (take_front 1024 rows (r ∷ rest) (omega (arith, full)) ∙ ap (λ k. rows ++ take k (r ∷ rest)) none ∙ append-nil rows)
     ∙ ap (λ f. option_or f (count_fault (rows ++ r ∷ rest))) good
     ∙ count_many rows r rest full
 
@@ -66,16 +74,19 @@ count_fine [] some few = absurd (omega (arith, some))
 count_fine (x ∷ rows) some few = ap (λ b. cond b (Some TooManyRows) None) (le-ltb 1024 (length (x ∷ rows)) few)
 
 -- 1 to 1,024 records without a fault
-pub good_rows : (roles : List Role) (rows : List Fields) → 0 < length rows → length rows ≤ 1024 → records_fault roles 2 rows ≡ None → data_fault roles rows ≡ None
+pub good_rows : (roles : List Role) (rows : List Fields) → 0 < length rows → length rows ≤ 1024 → records_fault roles 2 rows ≡ None →
+    data_fault roles rows ≡ None
 good_rows roles rows some few good =
     ap (λ rs. option_or (records_fault roles 2 rs) (count_fault rows)) (take_all 1024 rows few)
     ∙ ap (λ f. option_or f (count_fault rows)) good
     ∙ count_fine rows some few
 
 -- a file that is short enough is judged by its records
-pub short_file : (columns : List Column) (bytes : List ℕ) (rs : List Fields) → length bytes ≤ 16777216 → records_of bytes ≡ rs → file_fault columns bytes ≡ header_fault columns rs
+pub short_file : (columns : List Column) (bytes : List ℕ) (rs : List Fields) → length bytes ≤ 16777216 → records_of bytes ≡ rs →
+    file_fault columns bytes ≡ header_fault columns rs
 unfolding file_fault
-short_file columns bytes rs short is = ap (λ b. if b then Some TooLong else header_fault columns (records_of bytes)) (le-ltb 16777216 (length bytes) short) ∙ ap (header_fault columns) is
+short_file columns bytes rs short is =
+    ap (λ b. if b then Some TooLong else header_fault columns (records_of bytes)) (le-ltb 16777216 (length bytes) short) ∙ ap (header_fault columns) is
 
 -- a file that is too long
 pub long_file : (columns : List Column) (bytes : List ℕ) → 16777216 < length bytes → file_fault columns bytes ≡ Some TooLong
@@ -83,7 +94,8 @@ unfolding file_fault
 long_file columns bytes long = ap (λ b. if b then Some TooLong else header_fault columns (records_of bytes)) (lt-ltb 16777216 (length bytes) long)
 
 -- after a good header the data records are judged
-pub good_header : (columns : List Column) (h : Fields) (rs : List Fields) → names_are h columns ≡ true → header_fault columns (h ∷ rs) ≡ data_fault (roles_of columns) rs
+pub good_header : (columns : List Column) (h : Fields) (rs : List Fields) → names_are h columns ≡ true →
+    header_fault columns (h ∷ rs) ≡ data_fault (roles_of columns) rs
 good_header columns h rs good = ap (λ b. if not b then Some Header else data_fault (roles_of columns) rs) good
 
 -- a header with other names

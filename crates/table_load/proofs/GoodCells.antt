@@ -34,8 +34,10 @@ fine_number line column None is = absurd (cc)
 fine_number line column (Some z) is = in_range_from line column z (in_range z) is
 
 -- a field without a fault spells a number in range where its role wants one
-fine_cell : (role : Role) (line column : ℕ) (field : List ℕ) → cell_fault role line column field ≡ None → has_numbers role ≡ true → is_number (number_in field) ≡ true
-fine_cell role line column field fine numeric = fine_number line column (number_in field) (sym (ap (λ b. cond b (number_fault line column (number_in field)) None) numeric) ∙ fine)
+fine_cell : (role : Role) (line column : ℕ) (field : List ℕ) → cell_fault role line column field ≡ None → has_numbers role ≡ true →
+    is_number (number_in field) ≡ true
+fine_cell role line column field fine numeric =
+    fine_number line column (number_in field) (sym (ap (λ b. cond b (number_fault line column (number_in field)) None) numeric) ∙ fine)
 
 -- the first of the roles, if there is one
 head_or : Role → List Role → Role
@@ -43,7 +45,8 @@ head_or r [] = r
 head_or r (x ∷ xs) = x
 
 -- fields without a fault have the cell at each place
-cells_hold : (line column : ℕ) (roles : List Role) (fields : Fields) (k : ℕ) (role : Role) (rest : List Role) → length fields ≡ length roles → cells_fault line column roles fields ≡ None → drop k roles ≡ role ∷ rest → HasCell role k fields
+cells_hold : (line column : ℕ) (roles : List Role) (fields : Fields) (k : ℕ) (role : Role) (rest : List Role) → length fields ≡ length roles →
+    cells_fault line column roles fields ≡ None → drop k roles ≡ role ∷ rest → HasCell role k fields
 unfolding head_or
 cells_hold line column [] fields zero role rest same fine at_k = absurd (cc)
 cells_hold line column [] fields (suc k) role rest same fine at_k = absurd (cc)
@@ -69,18 +72,22 @@ fine_parts roles line fields true false same fine = absurd (cc)
 fine_parts roles line fields false b same fine = absurd (cc)
 
 -- a record without a fault has the cell of a column
-record_holds : (roles : List Role) (line : ℕ) (fields : Fields) (k : ℕ) (role : Role) (rest : List Role) → record_fault roles line fields ≡ None → drop k roles ≡ role ∷ rest → HasCell role k fields
+record_holds : (roles : List Role) (line : ℕ) (fields : Fields) (k : ℕ) (role : Role) (rest : List Role) → record_fault roles line fields ≡ None →
+    drop k roles ≡ role ∷ rest → HasCell role k fields
 record_holds roles line fields k role rest fine at_k =
     let parts = fine_parts roles line fields (length fields == length roles) (list_all is_utf8 fields) refl fine in
     cells_hold line 0 roles fields k role rest parts.same parts.cells at_k
 
 -- records without a fault have the cells of a column
-pub records_hold : (roles : List Role) (line : ℕ) (rows : List Fields) (k : ℕ) (role : Role) (rest : List Role) → records_fault roles line rows ≡ None → drop k roles ≡ role ∷ rest → AllByRecursion (HasCell role k) rows
+pub records_hold : (roles : List Role) (line : ℕ) (rows : List Fields) (k : ℕ) (role : Role) (rest : List Role) → records_fault roles line rows ≡ None →
+    drop k roles ≡ role ∷ rest → AllByRecursion (HasCell role k) rows
 records_hold roles line [] k role rest good at_k = tt
 records_hold roles line (r ∷ rows) k role rest good at_k =
     let parts = none_first (record_fault roles line r) (records_fault roles (line + 1) rows) good in
     (record_holds roles line r k role rest parts.0 at_k, records_hold roles (line + 1) rows k role rest parts.1 at_k)
 
 -- what all records have, the one at a place has
-pub record_has : (P : Fields → Type 0) (rows : List Row) (i : ℕ) (row : Row) → AllByRecursion P (map fields_of rows) → i < length rows → row ≡ get_or rows i row → P (fields_of row)
-record_has P rows i row all within is = subst (λ r. P (fields_of r)) (sym is) (all-get_or (λ r. P (fields_of r)) rows i row (all-unmap fields_of P rows all) within)
+pub record_has : (P : Fields → Type 0) (rows : List Row) (i : ℕ) (row : Row) → AllByRecursion P (map fields_of rows) → i < length rows →
+    row ≡ get_or rows i row → P (fields_of row)
+record_has P rows i row all within is =
+    subst (λ r. P (fields_of r)) (sym is) (all-get_or (λ r. P (fields_of r)) rows i row (all-unmap fields_of P rows all) within)

@@ -93,7 +93,8 @@ has_parts schema bytes t is =
     }
 
 -- such a secret part has a number in range for each row of each of its columns
-pub secret_is : (schema : List Column) (t : TableView) → HasParts schema t → ((rows : ℕ) → 0 < rows → rows ≤ 1024 → IsShape (shape_of schema rows)) → ((rows : ℕ) → columns (shape_of schema rows) ≡ secret_count schema) → IsSecret t.secret
+pub secret_is : (schema : List Column) (t : TableView) → HasParts schema t → ((rows : ℕ) → 0 < rows → rows ≤ 1024 → IsShape (shape_of schema rows)) →
+    ((rows : ℕ) → columns (shape_of schema rows) ≡ secret_count schema) → IsSecret t.secret
 secret_is schema t parts valid counts =
     let n = length parts.rows in
     subst IsSecret parts.secret (record {

@@ -24,7 +24,9 @@ abbrev Reads : Type 0
 Reads = ByteRecordsIntoIter (Bor (List ℕ))
 
 -- a read that gives a record leaves the reader after it
-pub read_more : (bytes : List ℕ) (rows : List Fields) (a b : Reads) (row : Row) → HasRead bytes rows a → RowStep (λ (s : Bor (List ℕ)). Some s.now) a.rdr b.rdr b.left (Some (Ok row)) → is_flexible b.rdr ≡ is_flexible a.rdr → HasRead bytes (rows ++ fields_of row ∷ []) b
+pub read_more : (bytes : List ℕ) (rows : List Fields) (a b : Reads) (row : Row) → HasRead bytes rows a →
+    RowStep (λ (s : Bor (List ℕ)). Some s.now) a.rdr b.rdr b.left (Some (Ok row)) → is_flexible b.rdr ≡ is_flexible a.rdr →
+    HasRead bytes (rows ++ fields_of row ∷ []) b
 read_more bytes rows a b row has step still =
     let more = rows-more (λ (s : Bor (List ℕ)). Some s.now) a.rdr b.rdr (fields_of row) default_config state.StartRecord (strip_bom bytes) has.left rows has.as_usual has.source has.reached step.0 in
     record {
@@ -39,12 +41,15 @@ read_more bytes rows a b row has step still =
     }
 
 -- a read that gives none has read them all
-pub read_all : (bytes : List ℕ) (rows : List Fields) (a b : Reads) → HasRead bytes rows a → RowStep (λ (s : Bor (List ℕ)). Some s.now) a.rdr b.rdr b.left None → records_of bytes ≡ rows
+pub read_all : (bytes : List ℕ) (rows : List Fields) (a b : Reads) → HasRead bytes rows a → RowStep (λ (s : Bor (List ℕ)). Some s.now) a.rdr b.rdr b.left None →
+    records_of bytes ≡ rows
 read_all bytes rows a b has step =
-    all_of_records bytes rows a.rdr.state has.left has.reached (rows-end (λ (s : Bor (List ℕ)). Some s.now) a.rdr b.rdr [] default_config has.left has.as_usual has.source step)
+    all_of_records bytes rows a.rdr.state has.left has.reached
+    (rows-end (λ (s : Bor (List ℕ)). Some s.now) a.rdr b.rdr [] default_config has.left has.as_usual has.source step)
 
 -- a reader of records of any length that reads no text fails for want of memory alone
-pub only_memory : {R : Type 0} (remaining : R → Option (List ℕ)) (a b : Reader R) (why : ErrorKind) → is_flexible a ≡ true → ExplainsRead remaining a b false why → IsOfMemory why
+pub only_memory : {R : Type 0} (remaining : R → Option (List ℕ)) (a b : Reader R) (why : ErrorKind) → is_flexible a ≡ true →
+    ExplainsRead remaining a b false why → IsOfMemory why
 only_memory remaining a b (kind.Io e) flexible explains = tt
 only_memory remaining a b kind.OutOfMemory flexible explains = tt
 only_memory remaining a b (kind.Utf8 at e) flexible explains = false≢true explains.0
@@ -57,7 +62,8 @@ pub read_front : (bytes : List ℕ) (rows : List Fields) (a : Reads) → HasRead
 read_front bytes rows a has = front_of_records bytes rows a.rdr.state has.left has.reached
 
 -- what an opened file with a record more is judged by: the records so far, that one, and some others
-pub judged : (columns : List Column) (bytes : List ℕ) (rows : List Fields) (a b : Reads) (row : Row) → HasOpened columns bytes rows a → RowStep (λ (s : Bor (List ℕ)). Some s.now) a.rdr b.rdr b.left (Some (Ok row)) → is_flexible b.rdr ≡ is_flexible a.rdr
+pub judged : (columns : List Column) (bytes : List ℕ) (rows : List Fields) (a b : Reads) (row : Row) → HasOpened columns bytes rows a
+    → RowStep (λ (s : Bor (List ℕ)). Some s.now) a.rdr b.rdr b.left (Some (Ok row)) → is_flexible b.rdr ≡ is_flexible a.rdr
     → (rest : List Fields) × (file_fault columns bytes ≡ data_fault (roles_of columns) (rows ++ fields_of row ∷ rest))
 judged columns bytes rows a b row opened step still =
     let front = read_front bytes (opened.header ∷ (rows ++ fields_of row ∷ [])) b (read_more bytes (opened.header ∷ rows) a b row opened.read step still) in (
@@ -67,21 +73,25 @@ judged columns bytes rows a b row opened step still =
     )
 
 -- a record more of an opened file
-pub opened_more : (columns : List Column) (bytes : List ℕ) (rows : List Fields) (a b : Reads) (row : Row) → HasOpened columns bytes rows a → RowStep (λ (s : Bor (List ℕ)). Some s.now) a.rdr b.rdr b.left (Some (Ok row)) → is_flexible b.rdr ≡ is_flexible a.rdr
+pub opened_more : (columns : List Column) (bytes : List ℕ) (rows : List Fields) (a b : Reads) (row : Row) → HasOpened columns bytes rows a
+    → RowStep (λ (s : Bor (List ℕ)). Some s.now) a.rdr b.rdr b.left (Some (Ok row)) → is_flexible b.rdr ≡ is_flexible a.rdr
     → HasOpened columns bytes (rows ++ fields_of row ∷ []) b
 opened_more columns bytes rows a b row opened step still =
     record { short = opened.short; header = opened.header; named = opened.named; read = read_more bytes (opened.header ∷ rows) a b row opened.read step still }
 
 -- an opened file of which no record is left has the records so far
-pub all_read : (columns : List Column) (bytes : List ℕ) (rows : List Fields) (a b : Reads) (opened : HasOpened columns bytes rows a) → RowStep (λ (s : Bor (List ℕ)). Some s.now) a.rdr b.rdr b.left None
+pub all_read : (columns : List Column) (bytes : List ℕ) (rows : List Fields) (a b : Reads) (opened : HasOpened columns bytes rows a)
+    → RowStep (λ (s : Bor (List ℕ)). Some s.now) a.rdr b.rdr b.left None
     → records_of bytes ≡ opened.header ∷ rows
 all_read columns bytes rows a b opened step = read_all bytes (opened.header ∷ rows) a b opened.read step
 
 -- it is judged by them
-pub judged_all : (columns : List Column) (bytes : List ℕ) (rows : List Fields) (a b : Reads) → HasOpened columns bytes rows a → RowStep (λ (s : Bor (List ℕ)). Some s.now) a.rdr b.rdr b.left None
+pub judged_all : (columns : List Column) (bytes : List ℕ) (rows : List Fields) (a b : Reads) → HasOpened columns bytes rows a
+    → RowStep (λ (s : Bor (List ℕ)). Some s.now) a.rdr b.rdr b.left None
     → file_fault columns bytes ≡ data_fault (roles_of columns) rows
 judged_all columns bytes rows a b opened step =
-    short_file columns bytes (opened.header ∷ rows) opened.short (all_read columns bytes rows a b opened step) ∙ good_header columns opened.header rows opened.named
+    short_file columns bytes (opened.header ∷ rows) opened.short (all_read columns bytes rows a b opened step)
+    ∙ good_header columns opened.header rows opened.named
 
 -- a fault of the file is answered, whichever it is
 pub fault_answered : (fault : TableFault) (P : Type 0) → P → UnlessMemory fault P

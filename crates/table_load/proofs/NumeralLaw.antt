@@ -13,7 +13,8 @@ record Front (field : List ℕ) : Type 0 where
   field_is : field ≡ replicate spaces 32 ++ after_spaces field
 
 -- one byte more in front
-front_step : (b : ℕ) (bytes : List ℕ) (s : Bool) → is_space b ≡ s → Front bytes → (n : ℕ) × (b ∷ bytes ≡ replicate n 32 ++ cond s (after_spaces bytes) (b ∷ bytes))
+front_step : (b : ℕ) (bytes : List ℕ) (s : Bool) → is_space b ≡ s → Front bytes →
+    (n : ℕ) × (b ∷ bytes ≡ replicate n 32 ++ cond s (after_spaces bytes) (b ∷ bytes))
 front_step b bytes true is more = (suc more.spaces, ap (λ x. x ∷ bytes) (eqb-true b 32 is) ∙ ap (λ xs. 32 ∷ xs) more.field_is)
 front_step b bytes false is more = (0, refl)
 
@@ -69,11 +70,13 @@ tail_number-spaces n zero = refl
 tail_number-spaces n (suc k) = ap (λ b. cond b (Some n) None) (all_spaces k)
 
 -- digits and then spaces make a number
-tail_number-digits : (n : ℕ) (digits : List ℕ) (k : ℕ) → list_all is_ascii_digit digits ≡ true → tail_number n (digits ++ replicate k 32) ≡ Some (decimal_after n digits)
+tail_number-digits : (n : ℕ) (digits : List ℕ) (k : ℕ) → list_all is_ascii_digit digits ≡ true →
+    tail_number n (digits ++ replicate k 32) ≡ Some (decimal_after n digits)
 tail_number-digits n [] k are = tail_number-spaces n k
 tail_number-digits n (b ∷ digits) k are =
     let parts = and_parts (is_ascii_digit b) (list_all is_ascii_digit digits) are in
-    ap (λ d. cond d (tail_number (10 * n + (b - 48)) (digits ++ replicate k 32)) (cond (list_all is_space (b ∷ (digits ++ replicate k 32))) (Some n) None)) parts.0
+    ap
+    (λ d. cond d (tail_number (10 * n + (b - 48)) (digits ++ replicate k 32)) (cond (list_all is_space (b ∷ (digits ++ replicate k 32))) (Some n) None)) parts.0
     ∙ tail_number-digits (10 * n + (b - 48)) digits k parts.1
 
 -- digits, at least one, and then spaces, of this number
@@ -99,7 +102,8 @@ digits_of [] m is = absurd (cc)
 digits_of (b ∷ bytes) m is = digits_step b bytes m (is_ascii_digit b) refl is
 
 -- some digits and then spaces are read as their number
-digits_number-digits : (b : ℕ) (digits : List ℕ) (k : ℕ) → list_all is_ascii_digit (b ∷ digits) ≡ true → digits_number (b ∷ (digits ++ replicate k 32)) ≡ Some (decimal_after 0 (b ∷ digits))
+digits_number-digits : (b : ℕ) (digits : List ℕ) (k : ℕ) → list_all is_ascii_digit (b ∷ digits) ≡ true →
+    digits_number (b ∷ (digits ++ replicate k 32)) ≡ Some (decimal_after 0 (b ∷ digits))
 digits_number-digits b digits k are =
     let parts = and_parts (is_ascii_digit b) (list_all is_ascii_digit digits) are in
     ap (λ d. cond d (tail_number 0 (b ∷ (digits ++ replicate k 32))) None) parts.0 ∙ tail_number-digits 0 (b ∷ digits) k are
@@ -202,7 +206,9 @@ signed_number-signed none (d ∷ digits) after some are =
     let digit = (and_parts (is_ascii_digit d) (list_all is_ascii_digit digits) are).0 in
     let rest = digits ++ replicate after 32 in
     ap (λ s. signed_number (cond s (after_spaces rest) (d ∷ rest))) (not_digit d 32 digit refl)
-    ∙ ap (λ m. cond m (option_sign true (digits_number rest)) (cond (d == 43) (option_sign false (digits_number rest)) (option_sign false (digits_number (d ∷ rest))))) (not_digit d 45 digit refl)
+    ∙ ap
+    (λ m. cond m (option_sign true (digits_number rest)) (cond (d == 43) (option_sign false (digits_number rest)) (option_sign false (digits_number (d ∷ rest)))))
+    (not_digit d 45 digit refl)
     ∙ ap (λ p. cond p (option_sign false (digits_number rest)) (option_sign false (digits_number (d ∷ rest)))) (not_digit d 43 digit refl)
     ∙ ap (option_sign false) (digits_number-digits d digits after are)
 

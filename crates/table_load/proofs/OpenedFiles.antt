@@ -19,7 +19,8 @@ abbrev Reads : Type 0
 Reads = ByteRecordsIntoIter (Bor (List ℕ))
 
 -- the first read from memory fails for want of memory alone
-pub first_of_memory : (a b : Reads) (first : Option (Result Row Error)) → is_flexible a.rdr ≡ true → RowStep (λ (s : Bor (List ℕ)). Some s.now) a.rdr b.rdr b.left first → IfSome first (λ read. IfErr read (λ error. IsOfMemory (error_kind error)))
+pub first_of_memory : (a b : Reads) (first : Option (Result Row Error)) → is_flexible a.rdr ≡ true →
+    RowStep (λ (s : Bor (List ℕ)). Some s.now) a.rdr b.rdr b.left first → IfSome first (λ read. IfErr read (λ error. IsOfMemory (error_kind error)))
 first_of_memory a b None flexible step = tt
 first_of_memory a b (Some read) flexible step = of_memory a b read flexible step
 
@@ -28,7 +29,8 @@ pub opened_first : (columns : List Column) (bytes : List ℕ) (a b : Reads) (fir
     → length bytes ≤ 16777216 → HasRead bytes [] a → RowStep (λ (s : Bor (List ℕ)). Some s.now) a.rdr b.rdr b.left first → FlexibleStep a.rdr b.rdr first → ChecksHeader (Ok tt) columns first → HasOpened columns bytes [] b
 opened_first columns bytes a b None short has step still checks = absurd checks
 opened_first columns bytes a b (Some (Err error)) short has step still checks = absurd checks
-opened_first columns bytes a b (Some (Ok row)) short has step still checks = record { short = short; header = fields_of row; named = checks; read = read_more bytes [] a b row has step still }
+opened_first columns bytes a b (Some (Ok row)) short has step still checks =
+    record { short = short; header = fields_of row; named = checks; read = read_more bytes [] a b row has step still }
 
 -- a fault of the front is the file's
 pub fault_first : (columns : List Column) (bytes : List ℕ) (a b : Reads) (first : Option (Result Row Error)) (fault : TableFault)

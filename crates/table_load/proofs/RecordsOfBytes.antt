@@ -20,7 +20,8 @@ rests_end c true = refl
 rests_end c false = refl
 
 -- the same, of a byte in a field
-rests_field : (c : ℕ) (a b : Bool) → Rests (if a then (st.StartField, act.EndField) else (if b then (after_end default_config.terminator c, act.EndRecord) else (st.InField, act.Copy)))
+rests_field : (c : ℕ) (a b : Bool) →
+    Rests (if a then (st.StartField, act.EndField) else (if b then (after_end default_config.terminator c, act.EndRecord) else (st.InField, act.Copy)))
 rests_field c true b = λ h. absurd (false≢true h)
 rests_field c false true = λ h. rests_end c (c == 13)
 rests_field c false false = λ h. absurd (false≢true h)
@@ -81,14 +82,20 @@ longer (Some p) n h = (omega (arith, h.0), h.1)
 
 -- a read that goes on after one byte leaves less than there was
 short_step : (s : State) (f : List (List ℕ)) (p : List ℕ) (c : ℕ) (rest : List ℕ)
-    → IsShort (next_record default_config (step default_config s c).0 (fields_after (step default_config s c).1 f p) (field_after (step default_config s c).1 c p) rest) (length rest)
+    → IsShort
+    (next_record default_config (step default_config s c).0 (fields_after (step default_config s c).1 f p) (field_after (step default_config s c).1 c p) rest)
+    (length rest)
     → IsShort (next_record default_config s f p (c ∷ rest)) (length rest)
 unfolding next_record
 short_step s f p c rest = by (is_end (step default_config s c).1) (rests s c)
   where
     by : (b : Bool) → (b ≡ true → ends_at_end (step default_config s c).0 ≡ false)
-        → IsShort (next_record default_config (step default_config s c).0 (fields_after (step default_config s c).1 f p) (field_after (step default_config s c).1 c p) rest) (length rest)
-        → IsShort (if b then Some (fields_after (step default_config s c).1 f p, (step default_config s c).0, rest) else next_record default_config (step default_config s c).0 (fields_after (step default_config s c).1 f p) (field_after (step default_config s c).1 c p) rest) (length rest)
+        → IsShort
+        (next_record default_config (step default_config s c).0 (fields_after (step default_config s c).1 f p) (field_after (step default_config s c).1 c p) rest)
+        (length rest)
+        → IsShort
+        (if b then Some (fields_after (step default_config s c).1 f p, (step default_config s c).0, rest) else next_record default_config (step default_config s c).0 (fields_after (step default_config s c).1 f p) (field_after (step default_config s c).1 c p) rest)
+        (length rest)
     by true r h = (omega arith, r refl)
     by false r h = h
 
@@ -100,20 +107,26 @@ short s f p [] = by (ends_at_end s)
     by : (b : Bool) → IsShort (if b then Some (f ++ (p ∷ []), st.StartRecord, []) else None) 0
     by true = (omega arith, refl)
     by false = tt
-short s f p (c ∷ rest) = longer _ (length rest) (short_step s f p c rest (short (step default_config s c).0 (fields_after (step default_config s c).1 f p) (field_after (step default_config s c).1 c p) rest))
+short s f p (c ∷ rest) =
+    longer _ (length rest)
+    (short_step s f p c rest (short (step default_config s c).0 (fields_after (step default_config s c).1 f p) (field_after (step default_config s c).1 c p) rest))
 
 -- a read of some bytes leaves fewer
 short_more : (s : State) (f : List (List ℕ)) (p : List ℕ) (c : ℕ) (rest : List ℕ) → IsShort (next_record default_config s f p (c ∷ rest)) (length rest)
-short_more s f p c rest = short_step s f p c rest (short (step default_config s c).0 (fields_after (step default_config s c).1 f p) (field_after (step default_config s c).1 c p) rest)
+short_more s f p c rest =
+    short_step s f p c rest
+    (short (step default_config s c).0 (fields_after (step default_config s c).1 f p) (field_after (step default_config s c).1 c p) rest)
 
 -- a read that gave a record, where none had begun, took at least one byte
-took : (s : State) (xs : List ℕ) (p : Read) → ends_at_end s ≡ false → next_record default_config s [] [] xs ≡ Some p → (length p.2 < length xs) × (ends_at_end p.1 ≡ false)
+took : (s : State) (xs : List ℕ) (p : Read) → ends_at_end s ≡ false → next_record default_config s [] [] xs ≡ Some p →
+    (length p.2 < length xs) × (ends_at_end p.1 ≡ false)
 unfolding next_record
 took s [] p fresh is = absurd (false≢true (ap is_some (sym (ap (λ b. if b then Some ([] ++ ([] ∷ []), st.StartRecord, []) else None) fresh) ∙ is)))
 took s (c ∷ rest) p fresh is = let h = subst (λ o. IsShort o (length rest)) is (short_more s [] [] c rest) in (omega (arith, h.0), h.1)
 
 -- records that were reached stand at the front of all, and what follows them is read from there
-reached_front : (rows : List (List (List ℕ))) (n : ℕ) (s : State) (xs : List ℕ) (s2 : State) (ys : List ℕ) → ends_at_end s ≡ false → length xs < n → Reached default_config s xs rows s2 ys
+reached_front : (rows : List (List (List ℕ))) (n : ℕ) (s : State) (xs : List ℕ) (s2 : State) (ys : List ℕ) → ends_at_end s ≡ false → length xs < n
+    → Reached default_config s xs rows s2 ys
     → (m : ℕ) × (0 < m) × (records_from default_config n s xs ≡ rows ++ records_from default_config m s2 ys)
 unfolding Reached records_from
 reached_front rows zero s xs s2 ys fresh short_of reached = absurd (omega (arith, short_of))
@@ -137,14 +150,16 @@ none_left zero s ys some none = absurd (omega (arith, some))
 none_left (suc m) s ys some none = ap (records_next (records_from default_config m)) none
 
 -- the records that were reached, and the others
-pub front_of_records : (bytes : List ℕ) (rows : List (List (List ℕ))) (s2 : State) (ys : List ℕ) → Reached default_config st.StartRecord (strip_bom bytes) rows s2 ys
+pub front_of_records : (bytes : List ℕ) (rows : List (List (List ℕ))) (s2 : State) (ys : List ℕ)
+    → Reached default_config st.StartRecord (strip_bom bytes) rows s2 ys
     → (rest : List (List (List ℕ))) × (records_of bytes ≡ rows ++ rest)
 front_of_records bytes rows s2 ys reached =
     let front = reached_front rows (length (strip_bom bytes) + 1) st.StartRecord (strip_bom bytes) s2 ys refl (omega arith) reached in
     (records_from default_config front.0 s2 ys, front.2)
 
 -- all the records, where none is left
-pub all_of_records : (bytes : List ℕ) (rows : List (List (List ℕ))) (s2 : State) (ys : List ℕ) → Reached default_config st.StartRecord (strip_bom bytes) rows s2 ys → next_record default_config s2 [] [] ys ≡ None
+pub all_of_records : (bytes : List ℕ) (rows : List (List (List ℕ))) (s2 : State) (ys : List ℕ)
+    → Reached default_config st.StartRecord (strip_bom bytes) rows s2 ys → next_record default_config s2 [] [] ys ≡ None
     → records_of bytes ≡ rows
 all_of_records bytes rows s2 ys reached none =
     let front = reached_front rows (length (strip_bom bytes) + 1) st.StartRecord (strip_bom bytes) s2 ys refl (omega arith) reached in

@@ -9,11 +9,13 @@ use Rattle.audit_types.specs.declared.shapes.Shape.{Shape}
 use Rattle.table_load.specs.Kept.{AreBlocks}
 
 -- a column's list, as contracts see it
-pub listed : (lists : List (Vec ℤ Global)) (column : ℕ) (v : Vec ℤ Global) (list : List ℤ) → column < length lists → v ≡ get_or lists column v → list ≡ v.items → get_or (map (λ w. w.items) lists) column [] ≡ list
+pub listed : (lists : List (Vec ℤ Global)) (column : ℕ) (v : Vec ℤ Global) (list : List ℤ) → column < length lists → v ≡ get_or lists column v →
+    list ≡ v.items → get_or (map (λ w. w.items) lists) column [] ≡ list
 listed lists column v list within is items = get_or-map (λ (w : Vec ℤ Global). w.items) lists column v [] within ∙ ap (λ w. w.items) (sym is) ∙ sym items
 
 -- the blocks of a column are those of its list
-pub column_blocks : (kind other : Kind) (n m : ℕ) (list same blocks : List ℤ) → kind ≡ other → n ≡ m → list ≡ same → AreBlocks kind n list blocks → AreBlocks other m same blocks
+pub column_blocks : (kind other : Kind) (n m : ℕ) (list same blocks : List ℤ) → kind ≡ other → n ≡ m → list ≡ same → AreBlocks kind n list blocks →
+    AreBlocks other m same blocks
 column_blocks kind other n m list same blocks k e l are =
     subst (λ x. AreBlocks x m same blocks) k (subst (λ x. AreBlocks kind x same blocks) e (subst (λ x. AreBlocks kind n x blocks) l are))
 

@@ -21,7 +21,8 @@ abbrev pub rows_left : ℕ → List ℕ → ℕ → List ℕ
 rows_left n rows block = rows_that (λ r. has_row rows r && not (r / 64 == block)) n
 
 -- what passes is what passes a second test too, and what doesn't
-sum_split : (w : List ℤ) (p q : ℕ → Bool) (n : ℕ) → sum_over w (rows_that p n) ≡ sum_over w (rows_that (λ r. p r && q r) n) +ℤ sum_over w (rows_that (λ r. p r && not (q r)) n)
+sum_split : (w : List ℤ) (p q : ℕ → Bool) (n : ℕ) →
+    sum_over w (rows_that p n) ≡ sum_over w (rows_that (λ r. p r && q r) n) +ℤ sum_over w (rows_that (λ r. p r && not (q r)) n)
 unfolding rows_that
 sum_split w p q zero = omega (arith, ints)
 sum_split w p q (suc n) =
@@ -53,8 +54,10 @@ greatest_split f a p q (suc n) =
     joined a (rows_that p n) (cond (p n) (n ∷ []) [])
     ∙ ap (λ z. fold int_max z (map f (cond (p n) (n ∷ []) []))) (greatest_split f a p q n)
     ∙ one (p n) (q n) (fold int_max a (map f (rows_that (λ r. p r && q r) n))) (map f (rows_that (λ r. p r && not (q r)) n))
-    ∙ sym (ap (λ z. fold int_max z (map f (rows_that (λ r. p r && not (q r)) n ++ cond (p n && not (q n)) (n ∷ []) []))) (joined a (rows_that (λ r. p r && q r) n) (cond (p n && q n) (n ∷ []) []))
-    ∙ joined (fold int_max (fold int_max a (map f (rows_that (λ r. p r && q r) n))) (map f (cond (p n && q n) (n ∷ []) []))) (rows_that (λ r. p r && not (q r)) n) (cond (p n && not (q n)) (n ∷ []) []))
+    ∙ sym
+    (ap (λ z. fold int_max z (map f (rows_that (λ r. p r && not (q r)) n ++ cond (p n && not (q n)) (n ∷ []) []))) (joined a (rows_that (λ r. p r && q r) n) (cond (p n && q n) (n ∷ []) []))
+    ∙ joined (fold int_max (fold int_max a (map f (rows_that (λ r. p r && q r) n))) (map f (cond (p n && q n) (n ∷ []) [])))
+    (rows_that (λ r. p r && not (q r)) n) (cond (p n && not (q n)) (n ∷ []) []))
   where
     joined : (b : ℤ) (xs ys : List ℕ) → fold int_max b (map f (xs ++ ys)) ≡ fold int_max (fold int_max b (map f xs)) (map f ys)
     joined b xs ys = ap (fold int_max b) (map-append f xs ys) ∙ fold-append int_max b (map f xs) (map f ys)
@@ -66,7 +69,8 @@ greatest_split f a p q (suc n) =
     one false d z l = refl
 
 -- where a set has a block, its rows in the block are the block's
-block_is : (n : ℕ) (rows : List ℕ) (block : ℕ) → ((r : ℕ) → r / 64 ≡ block → has_row rows r ≡ true) → rows_that (λ r. has_row rows r && (r / 64 == block)) n ≡ block_rows n block
+block_is : (n : ℕ) (rows : List ℕ) (block : ℕ) → ((r : ℕ) → r / 64 ≡ block → has_row rows r ≡ true) →
+    rows_that (λ r. has_row rows r && (r / 64 == block)) n ≡ block_rows n block
 block_is n rows block whole = rows_that_agree _ _ n (λ r l. elim (cases_eq (r / 64) block) [
   | inl here ↦ ap (λ b. b && (r / 64 == block)) (whole r here)
   | inr other ↦ rw (ne_eqb (r / 64) block other) (none (has_row rows r))
@@ -84,7 +88,8 @@ module _ (n : ℕ) (w : List ℤ) (rows : List ℕ) (block : ℕ) (are : AreRows
       ∙ ap (λ l. sum_over w l +ℤ sum_over w (rows_left n rows block)) (block_is n rows block whole)
 
   -- and so is the greatest number
-  pub greatest_taken : (a : ℤ) → fold int_max a (map (number_at w) rows) ≡ fold int_max (fold int_max a (map (number_at w) (block_rows n block))) (map (number_at w) (rows_left n rows block))
+  pub greatest_taken : (a : ℤ) →
+      fold int_max a (map (number_at w) rows) ≡ fold int_max (fold int_max a (map (number_at w) (block_rows n block))) (map (number_at w) (rows_left n rows block))
   greatest_taken a =
       ap (λ l. fold int_max a (map (number_at w) l)) (sym (rows-again n rows are)) ∙ greatest_split (number_at w) a (has_row rows) (λ r. r / 64 == block) n
       ∙ ap (λ l. fold int_max (fold int_max a (map (number_at w) l)) (map (number_at w) (rows_left n rows block))) (block_is n rows block whole)
@@ -113,7 +118,8 @@ none_below n block = rows_that_none _ n (λ r l. elim (cases_eq (r / 64) block) 
 ])
 
 -- and with the next row they are those below the one after it
-pub next_below : (n block row : ℕ) (rows : List ℕ) → 64 * block ≤ row → row < 64 * block + 64 → rows ≡ rows_below n block row → with_row n rows row ≡ rows_below n block (row + 1)
+pub next_below : (n block row : ℕ) (rows : List ℕ) → 64 * block ≤ row → row < 64 * block + 64 → rows ≡ rows_below n block row →
+    with_row n rows row ≡ rows_below n block (row + 1)
 next_below n block row rows from to are = rows_that_agree _ _ n (λ r l.
     ap (λ b. b || (r == row)) (ap (λ xs. has_row xs r) are ∙ has-rows_that (λ q. (q / 64 == block) && nat_lt q row) n r l) ∙ elim (cases_eq r row) [
       | inl same ↦
@@ -150,7 +156,8 @@ block_within n rows block are whole = elim (cases_lt (64 * block + 63) n) [
 ]
 
 -- the sum over a block is small
-pub block_small : (n : ℕ) (w blocks : List ℤ) (block : ℕ) → n ≤ 1024 → AreNumbers n w → AreBlocks Sum n w blocks → 64 * block + 64 ≤ n → unsigned_abs (get_or blocks block (pos 0)) ≤ 1024 * 10 ^ 12
+pub block_small : (n : ℕ) (w blocks : List ℤ) (block : ℕ) → n ≤ 1024 → AreNumbers n w → AreBlocks Sum n w blocks → 64 * block + 64 ≤ n →
+    unsigned_abs (get_or blocks block (pos 0)) ≤ 1024 * 10 ^ 12
 block_small n w blocks block most are sums whole =
     let rows = AreRows-rows_that (λ r. r / 64 == block) n in
     let small = sum_small n 0 w (block_rows n block) are rows in
@@ -165,7 +172,8 @@ rows_small n w rows most numbers are =
     let few = length-rows n rows are in
     omega (arith, small, few)
 
-module _ (n : ℕ) (w : List ℤ) (rows after : List ℕ) (block : ℕ) (value : ℤ) (are : AreRows n rows) (whole : (r : ℕ) → r / 64 ≡ block → has_row rows r ≡ true) (left : after ≡ rows_left n rows block) where
+module _ (n : ℕ) (w : List ℤ) (rows after : List ℕ) (block : ℕ) (value : ℤ) (are : AreRows n rows)
+    (whole : (r : ℕ) → r / 64 ≡ block → has_row rows r ≡ true) (left : after ≡ rows_left n rows block) where
   -- the sum so far takes a block's
   pub sum_step : (sum : ℤ) → value ≡ sum_over w (block_rows n block) → (sum +ℤ value) +ℤ sum_over w after ≡ sum +ℤ sum_over w rows
   sum_step sum is =
@@ -174,7 +182,8 @@ module _ (n : ℕ) (w : List ℤ) (rows after : List ℕ) (block : ℕ) (value :
       omega (arith, ints, taken, rest, is)
 
   -- the greatest number so far takes a block's
-  pub greatest_step : (a : ℤ) → value ≡ greatest_over w (block_rows n block) → fold int_max (int_max a value) (map (number_at w) after) ≡ fold int_max a (map (number_at w) rows)
+  pub greatest_step : (a : ℤ) → value ≡ greatest_over w (block_rows n block) →
+      fold int_max (int_max a value) (map (number_at w) after) ≡ fold int_max a (map (number_at w) rows)
   greatest_step a is =
       ap (λ l. fold int_max (int_max a value) (map (number_at w) l)) left
       ∙ ap (λ z. fold int_max z (map (number_at w) (rows_left n rows block)))

@@ -9,8 +9,10 @@ use Rattle.line_wire.specs.declared.lines.Next.{Next}
 use Rattle.line_wire.specs.declared.lines.Next.TheVariants as next
 use Rattle.transcript_sim.specs.Steps.{GivesLine}
 
-module _ {P : Type 0} (source : Ghosts P) (old new : Cutter) (before after : P) (given : Next) (one : OneLineIsRead) (answer : source.told → Answers given (old.pending ++ source.left before) new (source.left after))
-    (counted : source.told → Counts given (counted_lines (old.pending ++ source.left before)) new.text (counted_lines (new.pending ++ source.left after))) (advances : Advances old new given) where
+module _ {P : Type 0} (source : Ghosts P) (old new : Cutter) (before after : P) (given : Next) (one : OneLineIsRead)
+    (answer : source.told → Answers given (old.pending ++ source.left before) new (source.left after))
+    (counted : source.told → Counts given (counted_lines (old.pending ++ source.left before)) new.text (counted_lines (new.pending ++ source.left after)))
+    (advances : Advances old new given) where
   -- a line with a text
   pub gave_text : given ≡ next.Line → source.faults after ≡ source.faults before → GivesLine source old new before after (text new.text)
   gave_text is steady = record {

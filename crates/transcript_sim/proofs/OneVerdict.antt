@@ -26,16 +26,20 @@ LineIsOneReply = (line : List ℕ) (a b : Reply) → IsReply line a → IsReply 
 
 module _ (replies : LineIsOneReply) (plans : OnePlanIsMade) (judgements : OneJudgementIsMade) (answers : OneAnswerIsTold) where
   -- a plan calls for one reply
-  one_call : (setting : Setting) (history : List Answered) (plan : Plan) (a b : Expected) → CallsFor setting history plan a → CallsFor setting history plan b → a ≡ b
+  one_call : (setting : Setting) (history : List Answered) (plan : Plan) (a b : Expected) → CallsFor setting history plan a → CallsFor setting history plan b →
+      a ≡ b
   one_call setting history (Ready answer) a b first second = first ∙ sym second
   one_call setting history (Ask take asked) a b (inl first) (inl second) = first.1 ∙ sym second.1
   one_call setting history (Ask take asked) a b (inl first) (inr second) = absurd (omega (arith, first.0, second.room))
   one_call setting history (Ask take asked) a b (inr first) (inl second) = absurd (omega (arith, second.0, first.room))
   one_call setting history (Ask take asked) a b (inr first) (inr second) =
-      first.expected_is ∙ ap (λ (v : Verdict). called_by take asked v) (judgements setting history asked.column asked.rows.list first.verdict second.verdict first.judged second.judged) ∙ sym second.expected_is
+      first.expected_is
+      ∙ ap (λ (v : Verdict). called_by take asked v) (judgements setting history asked.column asked.rows.list first.verdict second.verdict first.judged second.judged)
+      ∙ sym second.expected_is
 
   -- so does a question
-  pub one_expected : (columns : List Column) (public : PublicView) (history : List Answered) (line : CountedLine) (a b : Expected) → Expects columns public history line a → Expects columns public history line b → a ≡ b
+  pub one_expected : (columns : List Column) (public : PublicView) (history : List Answered) (line : CountedLine) (a b : Expected) →
+      Expects columns public history line a → Expects columns public history line b → a ≡ b
   one_expected columns public history line a b first second =
       let setting = setting_of (shape_of columns public.rows) in
       one_call setting history first.plan a b first.calls
@@ -66,16 +70,19 @@ module _ (replies : LineIsOneReply) (plans : OnePlanIsMade) (judgements : OneJud
         let made : List ℕ → Option Answered → Replied Answered = λ bytes added. record { bytes = bytes; added = added } in
         ap (λ (l : List ℕ). made l a.added) bytes ∙ ap (λ (r : Option Answered). made b.bytes r) added
 
-    pub same_verdicts : (lines : List CountedLine) (verdicts others : List (Replied Answered)) → AreVerdicts columns public lines verdicts → AreVerdicts columns public lines others → verdicts ≡ others
+    pub same_verdicts : (lines : List CountedLine) (verdicts others : List (Replied Answered)) → AreVerdicts columns public lines verdicts →
+        AreVerdicts columns public lines others → verdicts ≡ others
     same_verdicts lines verdicts others first second = same_replies (IsVerdict columns public) one_verdict [] (exchanges lines) verdicts others first second
 
 module _ (columns : List Column) (public : PublicView) where
   -- the verdict on a question doesn't wait for its reply
-  before_reply : (history : List Answered) (question shown : CountedLine) (out : Replied Answered) → IsVerdict columns public history (record { question = question; shown = Some shown }) out
+  before_reply : (history : List Answered) (question shown : CountedLine) (out : Replied Answered)
+      → IsVerdict columns public history (record { question = question; shown = Some shown }) out
       → IsVerdict columns public history (record { question = question; shown = None }) (record { bytes = out.bytes; added = None })
   before_reply history question shown out is = record { expected = is.expected; expects = is.expects; bytes_are = is.bytes_are; taken = refl }
 
-  first_verdicts : (count : ℕ) (history : List Answered) (lines : List CountedLine) (verdicts : List (Replied Answered)) → AreReplies (IsVerdict columns public) history (exchanges lines) verdicts
+  first_verdicts : (count : ℕ) (history : List Answered) (lines : List CountedLine) (verdicts : List (Replied Answered))
+      → AreReplies (IsVerdict columns public) history (exchanges lines) verdicts
       → (first : List (Replied Answered)) × AreReplies (IsVerdict columns public) history (exchanges (take count lines)) first
   first_verdicts zero history lines verdicts are = ([], tt)
   first_verdicts (suc count) history [] verdicts are = ([], tt)
@@ -83,11 +90,13 @@ module _ (columns : List Column) (public : PublicView) where
   first_verdicts (suc zero) history (question ∷ []) (out ∷ verdicts) are = (out ∷ [], (are.0, tt))
   first_verdicts (suc (suc count)) history (question ∷ []) (out ∷ verdicts) are = (out ∷ [], (are.0, tt))
   first_verdicts (suc count) history (question ∷ shown ∷ lines) [] are = absurd are
-  first_verdicts (suc zero) history (question ∷ shown ∷ lines) (out ∷ verdicts) are = (record { bytes = out.bytes; added = None } ∷ [], (before_reply history question shown out are.0, tt))
+  first_verdicts (suc zero) history (question ∷ shown ∷ lines) (out ∷ verdicts) are =
+      (record { bytes = out.bytes; added = None } ∷ [], (before_reply history question shown out are.0, tt))
   first_verdicts (suc (suc count)) history (question ∷ shown ∷ lines) (out ∷ verdicts) are =
       let rest = first_verdicts count (history ++ option_to_list out.added) lines verdicts are.1 in
       (out ∷ rest.0, (are.0, rest.1))
 
   -- the first lines of a transcript have verdicts
-  pub first_lines : (lines : List CountedLine) (verdicts : List (Replied Answered)) (count : ℕ) → AreVerdicts columns public lines verdicts → (first : List (Replied Answered)) × AreVerdicts columns public (take count lines) first
+  pub first_lines : (lines : List CountedLine) (verdicts : List (Replied Answered)) (count : ℕ) → AreVerdicts columns public lines verdicts →
+      (first : List (Replied Answered)) × AreVerdicts columns public (take count lines) first
   first_lines lines verdicts count are = first_verdicts count [] lines verdicts are

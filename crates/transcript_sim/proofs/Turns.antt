@@ -29,7 +29,8 @@ use Rattle.transcript_sim.proofs.Exchanges.{exchanges-append}
 use Rattle.transcript_sim.proofs.SoFar.{SoFar, sent_for, with_record, ends, bytes-push, records-push, reads_now, counts_now, question_sent, question_unsent}
 
 -- before a question: whole exchanges were read, every reply agreed, and the core has the answers that were shown
-pub record Turn {P B : Type 0} (source : SourceGhosts P) (bench : Ghosts B) (columns : List Column) (public : PublicView) (first_source : P) (first : B) (cutter : Cutter) (from : P) (at : B) (core : Audited) (line : ℕ) : Type 0 where
+pub record Turn {P B : Type 0} (source : SourceGhosts P) (bench : Ghosts B) (columns : List Column) (public : PublicView) (first_source : P) (first : B)
+    (cutter : Cutter) (from : P) (at : B) (core : Audited) (line : ℕ) : Type 0 where
   pub lines : List CountedLine
   pub verdicts : List (Replied Answered)
   pub so_far : SoFar source bench columns public first_source first cutter from at lines verdicts
@@ -39,7 +40,8 @@ pub record Turn {P B : Type 0} (source : SourceGhosts P) (bench : Ghosts B) (col
   pub setting : core.setting ≡ setting_of (shape_of columns public.rows)
 
 -- before a reply: the verdict on its question was sent
-pub record Half {P B : Type 0} (source : SourceGhosts P) (bench : Ghosts B) (columns : List Column) (public : PublicView) (first_source : P) (first : B) (cutter : Cutter) (from : P) (at : B) (core : Audited) (line : ℕ) (expected : Expected) : Type 0 where
+pub record Half {P B : Type 0} (source : SourceGhosts P) (bench : Ghosts B) (columns : List Column) (public : PublicView) (first_source : P) (first : B)
+    (cutter : Cutter) (from : P) (at : B) (core : Audited) (line : ℕ) (expected : Expected) : Type 0 where
   pub lines : List CountedLine
   pub verdicts : List (Replied Answered)
   pub question : CountedLine
@@ -51,8 +53,10 @@ pub record Half {P B : Type 0} (source : SourceGhosts P) (bench : Ghosts B) (col
   pub history : core.history ≡ records_of verdicts
   pub setting : core.setting ≡ setting_of (shape_of columns public.rows)
 
-module _ {P B : Type 0} (source : SourceGhosts P) (bench : Ghosts B) (columns : List Column) (public : PublicView) (first_source : P) (first : B) (more_read : MoreLinesAreRead) (cutter : Cutter) (from : P) (at : B) (core : Audited) (line : ℕ) (expected : Expected)
-    (half : Half source bench columns public first_source first cutter from at core line expected) (new : Cutter) (after : P) (shown : CountedLine) (gives : GivesLine source cutter new from after shown) (cuts : Cuts source cutter new from after) where
+module _ {P B : Type 0} (source : SourceGhosts P) (bench : Ghosts B) (columns : List Column) (public : PublicView) (first_source : P) (first : B)
+    (more_read : MoreLinesAreRead) (cutter : Cutter) (from : P) (at : B) (core : Audited) (line : ℕ) (expected : Expected)
+    (half : Half source bench columns public first_source first cutter from at core line expected) (new : Cutter) (after : P) (shown : CountedLine)
+    (gives : GivesLine source cutter new from after shown) (cuts : Cuts source cutter new from after) where
   abbrev asked : List CountedLine
   asked = half.lines ++ half.question ∷ []
 
@@ -61,30 +65,37 @@ module _ {P B : Type 0} (source : SourceGhosts P) (bench : Ghosts B) (columns : 
 
   -- the exchange of the question and this line, after the others
   exchanges_are : exchanges whole ≡ exchanges half.lines ++ record { question = half.question; shown = Some shown } ∷ []
-  exchanges_are = ap exchanges (append_assoc half.lines (half.question ∷ []) (shown ∷ [])) ∙ exchanges-append half.lines (half.question ∷ shown ∷ []) (length half.verdicts) half.even
+  exchanges_are =
+      ap exchanges (append_assoc half.lines (half.question ∷ []) (shown ∷ []))
+      ∙ exchanges-append half.lines (half.question ∷ shown ∷ []) (length half.verdicts) half.even
 
   many : length whole ≡ length half.lines + 2
   many = omega (arith, length-append asked (shown ∷ []), length-append half.lines (half.question ∷ []))
 
   -- it agrees
-  pub agreed : (added : Option Answered) → AgreesWith shown expected added → (core_now : Audited) → core_now.history ≡ core.history ++ option_to_list added → core_now.setting ≡ core.setting
+  pub agreed : (added : Option Answered) → AgreesWith shown expected added → (core_now : Audited) → core_now.history ≡ core.history ++ option_to_list added
+      → core_now.setting ≡ core.setting
       → Turn source bench columns public first_source first new after at core_now line
   agreed added agrees core_now history_now setting_now = record {
     lines = whole;
     verdicts = verdicts_now;
     so_far = record {
-      reads = reads_now source bench columns public first_source first more_read cutter from at asked (half.verdicts ++ sent_for expected ∷ []) half.so_far new after shown gives cuts;
+      reads =
+          reads_now source bench columns public first_source first more_read cutter from at asked (half.verdicts ++ sent_for expected ∷ []) half.so_far new after shown gives cuts;
       are = subst (λ (es : List Exchange). AreReplies (IsVerdict columns public) [] es verdicts_now) (sym exchanges_are)
           (replies-append (IsVerdict columns public) [] (exchanges half.lines) (exchange ∷ []) half.verdicts (with_record expected added ∷ []) half.before (verdict, tt));
-      sent = λ told. half.so_far.sent told ∙ ap (λ (l : List ℕ). bench.sent first ++ l) (bytes-push half.verdicts (sent_for expected) ∙ sym (bytes-push half.verdicts (with_record expected added)));
+      sent =
+          λ told. half.so_far.sent told ∙ ap (λ (l : List ℕ). bench.sent first ++ l) (bytes-push half.verdicts (sent_for expected) ∙ sym (bytes-push half.verdicts (with_record expected added)));
       file = half.so_far.file;
       crash = half.so_far.crash;
       moments = half.so_far.moments;
-      ticks = λ told. omega (arith, half.so_far.ticks told, length-append half.verdicts (sent_for expected ∷ []), length-append half.verdicts (with_record expected added ∷ []));
+      ticks =
+          λ told. omega (arith, half.so_far.ticks told, length-append half.verdicts (sent_for expected ∷ []), length-append half.verdicts (with_record expected added ∷ []));
       same = cuts.same;
       taken = λ told. cuts.taken told ∙ half.so_far.taken told;
       within = cuts.within;
-      counts = counts_now source bench columns public first_source first more_read cutter from at asked (half.verdicts ++ sent_for expected ∷ []) half.so_far new after shown gives cuts;
+      counts =
+          counts_now source bench columns public first_source first more_read cutter from at asked (half.verdicts ++ sent_for expected ∷ []) half.so_far new after shown gives cuts;
       source_steady = gives.steady ∙ half.so_far.source_steady;
       bench_steady = half.so_far.bench_steady;
     };
@@ -107,7 +118,8 @@ module _ {P B : Type 0} (source : SourceGhosts P) (bench : Ghosts B) (columns : 
   module _ (called : OneReplyIsCalledFor) (due : OneVerdictIsDue) (not_agreed : (added : Option Answered) → AgreesWith shown expected added → ⊥) where
     none_with : (more : List (Replied Answered)) → AreVerdicts columns public whole more → ⊥
     none_with more are =
-        none_behind (IsVerdict columns public) (due columns public) [] (exchanges half.lines) (record { question = half.question; shown = Some shown }) half.verdicts half.before
+        none_behind (IsVerdict columns public) (due columns public) [] (exchanges half.lines)
+        (record { question = half.question; shown = Some shown }) half.verdicts half.before
         (λ out is. not_agreed out.added
         (subst (λ (x : Expected). AgreesWith shown x out.added) (called columns public (records_of half.verdicts) half.question is.expected expected is.expects half.expects) is.taken)) more
         (subst (λ (es : List Exchange). AreReplies (IsVerdict columns public) [] es more) exchanges_are are)
@@ -117,13 +129,17 @@ module _ {P B : Type 0} (source : SourceGhosts P) (bench : Ghosts B) (columns : 
       behind = counted_lines (new.pending ++ source.left after)
 
       abbrev reads : ReadsLines (source.left first_source) (new.pending ++ source.left after) new.ended whole
-      reads = reads_now source bench columns public first_source first more_read cutter from at asked (half.verdicts ++ sent_for expected ∷ []) half.so_far new after shown gives cuts t
+      reads =
+          reads_now source bench columns public first_source first more_read cutter from at asked
+          (half.verdicts ++ sent_for expected ∷ []) half.so_far new after shown gives cuts t
 
       all_are : counted_lines (source.left first_source) ≡ whole ++ behind
       all_are = reads.counted
 
       first_are : take line (counted_lines (source.left first_source)) ≡ whole
-      first_are = ap (λ (n : ℕ). take n (counted_lines (source.left first_source))) (omega (arith, many, half.line_is)) ∙ ap (λ (ls : List CountedLine). take (length whole) ls) all_are ∙ take-append_seam whole behind
+      first_are =
+          ap (λ (n : ℕ). take n (counted_lines (source.left first_source))) (omega (arith, many, half.line_is))
+          ∙ ap (λ (ls : List CountedLine). take (length whole) ls) all_are ∙ take-append_seam whole behind
 
       asked_are : take (line - 1) (counted_lines (source.left first_source)) ≡ asked
       asked_are =
@@ -145,33 +161,45 @@ module _ {P B : Type 0} (source : SourceGhosts P) (bench : Ghosts B) (columns : 
         read = reads.read;
         behind = new.pending ++ source.left after;
         split = reads.split;
-        short = omega (arith, ap (λ (l : List ℕ). length l) reads.split, length-append reads.read (new.pending ++ source.left after), length-append new.pending (source.left after), cuts.within, cuts.taken t, half.so_far.taken t);
-        inside = ⊎_elim (λ (is : IsRead reads.read whole). inl (omega (arith, many, half.line_is, ap (λ (ls : List CountedLine). length ls) (sym (ap whole_lines (append-nil reads.read)) ∙ is [] ∙ append-nil whole)))) (λ over. inr over.1) reads.whole;
+        short =
+            omega (arith, ap (λ (l : List ℕ). length l) reads.split, length-append reads.read (new.pending ++ source.left after), length-append new.pending (source.left after), cuts.within, cuts.taken t, half.so_far.taken t);
+        inside =
+            ⊎_elim (λ (is : IsRead reads.read whole). inl (omega (arith, many, half.line_is, ap (λ (ls : List CountedLine). length ls) (sym (ap whole_lines (append-nil reads.read)) ∙ is [] ∙ append-nil whole)))) (λ over. inr over.1) reads.whole;
       }
 
     pub disagreed : Simulates source bench columns public first_source after first at (Err (fault.Disagrees line (due_of expected)))
-    disagreed = ends source bench columns public first_source first more_read cutter from at asked (half.verdicts ++ sent_for expected ∷ []) half.so_far after (Err (fault.Disagrees line (due_of expected))) (search rules)
+    disagreed =
+        ends source bench columns public first_source first more_read cutter from at asked (half.verdicts ++ sent_for expected ∷ []) half.so_far after
+        (Err (fault.Disagrees line (due_of expected))) (search rules)
         disagrees_at half.so_far.sent (λ t told. tt) within_limit cuts.later (λ is. absurd (search rules)) (λ is. absurd (search rules)) (λ other. gives.steady)
 
 -- ---- a question, and the sending of its verdict
 
-module _ {P B : Type 0} (source : SourceGhosts P) (bench : Ghosts B) (columns : List Column) (public : PublicView) (first_source : P) (first : B) (more_read : MoreLinesAreRead) (cutter : Cutter) (from : P) (at : B) (core : Audited) (line : ℕ)
-    (turn : Turn source bench columns public first_source first cutter from at core line) (new : Cutter) (after : P) (expected : Expected) (question : GivesQuestion source cutter new from after columns public core.history expected)
-    (cuts : Cuts source cutter new from after) (due : Due) (due_is : due ≡ due_of expected) (sending : B) (file : bench.file sending ≡ bench.file at) (crash : (image : List ℕ) → bench.leaves sending image → bench.leaves at image)
+module _ {P B : Type 0} (source : SourceGhosts P) (bench : Ghosts B) (columns : List Column) (public : PublicView) (first_source : P) (first : B)
+    (more_read : MoreLinesAreRead) (cutter : Cutter) (from : P) (at : B) (core : Audited) (line : ℕ)
+    (turn : Turn source bench columns public first_source first cutter from at core line) (new : Cutter) (after : P) (expected : Expected)
+    (question : GivesQuestion source cutter new from after columns public core.history expected)
+    (cuts : Cuts source cutter new from after) (due : Due) (due_is : due ≡ due_of expected) (sending : B) (file : bench.file sending ≡ bench.file at)
+    (crash : (image : List ℕ) → bench.leaves sending image → bench.leaves at image)
     (time : Elapses (bench.moment at) (bench.moment sending) (bench.since at) (bench.since sending) (Sending (bench.leaves sending) (bench.sent at) (verdict_bytes due))) where
   expects : Expects columns public (records_of turn.verdicts) question.line expected
   expects = subst (λ (h : List Answered). Expects columns public h question.line expected) turn.history question.expects
 
   time_of_due : Elapses (bench.moment at) (bench.moment sending) (bench.since at) (bench.since sending) (Sending (bench.leaves sending) (bench.sent at) (verdict_bytes (due_of expected)))
-  time_of_due = subst (λ (d : Due). Elapses (bench.moment at) (bench.moment sending) (bench.since at) (bench.since sending) (Sending (bench.leaves sending) (bench.sent at) (verdict_bytes d))) due_is time
+  time_of_due =
+      subst
+      (λ (d : Due). Elapses (bench.moment at) (bench.moment sending) (bench.since at) (bench.since sending) (Sending (bench.leaves sending) (bench.sent at) (verdict_bytes d))) due_is time
 
   -- it was sent
-  pub asked_half : (bench.told → bench.sent sending ≡ bench.sent at ++ verdict_bytes due) → (bench.told → bench.moment sending ≡ bench.moment at + 1) → bench.faults sending ≡ bench.faults at → Half source bench columns public first_source first new after sending core (line + 2) expected
+  pub asked_half : (bench.told → bench.sent sending ≡ bench.sent at ++ verdict_bytes due) → (bench.told → bench.moment sending ≡ bench.moment at + 1) →
+      bench.faults sending ≡ bench.faults at → Half source bench columns public first_source first new after sending core (line + 2) expected
   asked_half all ticks still = record {
     lines = turn.lines;
     verdicts = turn.verdicts;
     question = question.line;
-    so_far = question_sent source bench columns public first_source first more_read cutter from at turn.lines turn.verdicts turn.so_far new after question.line question.gives cuts (length turn.verdicts) turn.even expected expects sending file crash time_of_due
+    so_far =
+        question_sent source bench columns public first_source first more_read cutter from at turn.lines turn.verdicts turn.so_far new after question.line question.gives cuts
+        (length turn.verdicts) turn.even expected expects sending file crash time_of_due
         (λ told. subst (λ (d : Due). bench.sent sending ≡ bench.sent at ++ verdict_bytes d) due_is (all told)) ticks question.gives.steady still;
     before = turn.so_far.are;
     expects = expects;
@@ -182,7 +210,11 @@ module _ {P B : Type 0} (source : SourceGhosts P) (bench : Ghosts B) (columns : 
   }
 
   -- it couldn't be
-  pub asked_unsent : (bench.told → AppendsFront (bench.sent at) (verdict_bytes due) (bench.sent sending)) → Rose (bench.faults at) (bench.faults sending) → bench.last_failed sending ≡ true → bench.faults at ≤ bench.faults sending
+  pub asked_unsent : (bench.told → AppendsFront (bench.sent at) (verdict_bytes due) (bench.sent sending)) → Rose (bench.faults at) (bench.faults sending)
+      → bench.last_failed sending ≡ true → bench.faults at ≤ bench.faults sending
       → Simulates source bench columns public first_source after first sending (Err fault.Bench)
-  asked_unsent part rose last later = question_unsent source bench columns public first_source first more_read cutter from at turn.lines turn.verdicts turn.so_far new after question.line question.gives cuts (length turn.verdicts) turn.even expected expects sending
-      file crash time_of_due (λ told. subst (λ (d : Due). AppendsFront (bench.sent at) (verdict_bytes d) (bench.sent sending)) due_is (part told)) question.gives.steady rose last later
+  asked_unsent part rose last later =
+      question_unsent source bench columns public first_source first more_read cutter from at turn.lines turn.verdicts turn.so_far new after question.line question.gives cuts
+      (length turn.verdicts) turn.even expected expects sending
+      file crash time_of_due
+      (λ told. subst (λ (d : Due). AppendsFront (bench.sent at) (verdict_bytes d) (bench.sent sending)) due_is (part told)) question.gives.steady rose last later

@@ -33,7 +33,8 @@ sum_begins w n rows are few most = record {
 size_of_sum : (a b : ℤ) (x y : ℕ) → unsigned_abs a ≤ x → unsigned_abs b ≤ y → unsigned_abs (a +ℤ b) ≤ x + y
 size_of_sum a b x y p q = omega (arith, ints)
 
-pub sum_step : (w : List ℤ) (rows : List ℕ) (q : ℕ) (rest : List ℕ) (sum : ℤ) → IsSmall w → IsSumSoFar w rows (q ∷ rest) sum → IsSumSoFar w rows rest (sum +ℤ number_at w q)
+pub sum_step : (w : List ℤ) (rows : List ℕ) (q : ℕ) (rest : List ℕ) (sum : ℤ) → IsSmall w → IsSumSoFar w rows (q ∷ rest) sum →
+    IsSumSoFar w rows rest (sum +ℤ number_at w q)
 sum_step w rows q rest sum small h = record {
   within = h.within.1;
   total = let whole = h.total in omega (arith, ints);
@@ -45,7 +46,8 @@ sum_step w rows q rest sum small h = record {
 }
 
 -- the next sum is far within 128 bits
-pub sum_fits : (w : List ℤ) (rows : List ℕ) (q : ℕ) (rest : List ℕ) (sum : ℤ) → IsSmall w → IsSumSoFar w rows (q ∷ rest) sum → unsigned_abs (sum +ℤ number_at w q) ≤ 2 ^ 122
+pub sum_fits : (w : List ℤ) (rows : List ℕ) (q : ℕ) (rest : List ℕ) (sum : ℤ) → IsSmall w → IsSumSoFar w rows (q ∷ rest) sum →
+    unsigned_abs (sum +ℤ number_at w q) ≤ 2 ^ 122
 sum_fits w rows q rest sum small h = let next = (sum_step w rows q rest sum small h).size in omega arith
 
 -- what the machine's sum stands for
@@ -55,7 +57,8 @@ next_is sum x fits small =
     ∙ to_z-of_z w128 (sum +ℤ x) (fits_signed_from_abs w128 (sum +ℤ x) (omega arith))
 
 -- what is true over all sets is true over each
-pub zero_at : (w : List ℤ) (sets : List Rows) (k : ℕ) (set : Rows) → k < length sets → set ≡ get_or sets k set → HasZeroSums w (lists_of sets) → sum_over w set.list ≡ pos 0
+pub zero_at : (w : List ℤ) (sets : List Rows) (k : ℕ) (set : Rows) → k < length sets → set ≡ get_or sets k set → HasZeroSums w (lists_of sets) →
+    sum_over w set.list ≡ pos 0
 zero_at w [] k set within e all = absurd (omega arith)
 zero_at w (s ∷ sets) zero set within e all = ap (λ (x : Rows). sum_over w x.list) e ∙ all.0
 zero_at w (s ∷ sets) (suc k) set within e all = zero_at w sets k set (omega arith) e all.1

@@ -10,7 +10,8 @@ use Rattle.line_wire.specs.declared.question.Ask.TheVariants.{Count, Of}
 use Rattle.line_wire.specs.declared.question.Take.{Take}
 use Rattle.line_wire.proofs.Texts.Content.{AtMost, AtMost-and_then, either}
 
-either_value : (o : Ordering) (a b c : Option Data) (n : ℕ) → AtMost longest n a → AtMost longest n b → AtMost longest n c → AtMost longest n (match_ordering o a b c)
+either_value : (o : Ordering) (a b c : Option Data) (n : ℕ) → AtMost longest n a → AtMost longest n b → AtMost longest n c →
+    AtMost longest n (match_ordering o a b c)
 either_value Less a b c n p q r = p
 either_value Equal a b c n p q r = q
 either_value Greater a b c n p q r = r
@@ -41,7 +42,8 @@ length-as_str (object ms) n short = tt
 abbrev condition_len : Written → ℕ
 condition_len w = length (text_of w)
 
-taken_text : (take : Take) (name : Option (List ℕ)) (text : List ℕ) (n : ℕ) → length text ≤ n → AtMost condition_len n (option_map (λ c. taken take c text) name)
+taken_text : (take : Take) (name : Option (List ℕ)) (text : List ℕ) (n : ℕ) → length text ≤ n →
+    AtMost condition_len n (option_map (λ c. taken take c text) name)
 taken_text take None text n short = tt
 taken_text take (Some name) text n short = short
 
@@ -50,7 +52,8 @@ with_column_text Count None text n short = short
 with_column_text Count (Some d) text n short = tt
 with_column_text (Of take) column text n short = taken_text take (option_and_then as_str column) text n short
 
-asked_text : (text : Option (List ℕ)) (ask : Option Ask) (column : Option Data) (n : ℕ) → AtMost length n text → AtMost condition_len n (asked_with text ask column)
+asked_text : (text : Option (List ℕ)) (ask : Option Ask) (column : Option Data) (n : ℕ) → AtMost length n text →
+    AtMost condition_len n (asked_with text ask column)
 asked_text None ask column n short = tt
 asked_text (Some text) None column n short = tt
 asked_text (Some text) (Some ask) column n short = with_column_text ask column text n short

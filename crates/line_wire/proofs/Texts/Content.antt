@@ -11,11 +11,13 @@ AtMost size n None = ⊤
 AtMost size n (Some a) = size a ≤ n
 
 -- the size of one thing bounds that of what is made of it
-pub AtMost-map : {A B : Type 0} (f : A → ℕ) (g : B → ℕ) (m n : ℕ) (h : A → B) → ((a : A) → f a ≤ m → g (h a) ≤ n) → (o : Option A) → AtMost f m o → AtMost g n (option_map h o)
+pub AtMost-map : {A B : Type 0} (f : A → ℕ) (g : B → ℕ) (m n : ℕ) (h : A → B) → ((a : A) → f a ≤ m → g (h a) ≤ n) → (o : Option A) → AtMost f m o →
+    AtMost g n (option_map h o)
 AtMost-map f g m n h k None x = tt
 AtMost-map f g m n h k (Some a) x = k a x
 
-pub AtMost-and_then : {A B : Type 0} (f : A → ℕ) (g : B → ℕ) (m n : ℕ) (h : A → Option B) → ((a : A) → f a ≤ m → AtMost g n (h a)) → (o : Option A) → AtMost f m o → AtMost g n (option_and_then h o)
+pub AtMost-and_then : {A B : Type 0} (f : A → ℕ) (g : B → ℕ) (m n : ℕ) (h : A → Option B) → ((a : A) → f a ≤ m → AtMost g n (h a)) → (o : Option A) →
+    AtMost f m o → AtMost g n (option_and_then h o)
 AtMost-and_then f g m n h k None x = tt
 AtMost-and_then f g m n h k (Some a) x = k a x
 
@@ -51,7 +53,8 @@ content-le plain (x ∷ xs) =
 content-le after_backslash [] = tt
 content-le after_backslash (x ∷ xs) =
     let n = length (x ∷ xs) in
-    either length n (x == 117) _ _ (more n _ _ (content-le after_u xs) (omega arith)) (any_number n _ (short_escape x) (λ c. longer n _ (c ∷ []) _ (content-le plain xs) (omega arith)))
+    either length n (x == 117) _ _ (more n _ _ (content-le after_u xs) (omega arith))
+    (any_number n _ (short_escape x) (λ c. longer n _ (c ∷ []) _ (content-le plain xs) (omega arith)))
 content-le after_u [] = tt
 content-le after_u (a ∷ []) = tt
 content-le after_u (a ∷ b ∷ []) = tt

@@ -32,11 +32,13 @@ IsShort size n (Some p) = (size p.0 ≤ n) × (longest_text p.1 ≤ n)
 abbrev ParsesShort : {A : Type 0} → (A → ℕ) → ℕ → Parse A → Type 0
 ParsesShort size n parse = (ts : List Token) → longest_text ts ≤ n → IsShort size n (parse ts)
 
-mapped : {A B : Type 0} (f : A → ℕ) (g : B → ℕ) (n : ℕ) (h : A → B) → ((a : A) → f a ≤ n → g (h a) ≤ n) → (o : Option (A × List Token)) → IsShort f n o → IsShort g n (parse_map h o)
+mapped : {A B : Type 0} (f : A → ℕ) (g : B → ℕ) (n : ℕ) (h : A → B) → ((a : A) → f a ≤ n → g (h a) ≤ n) → (o : Option (A × List Token)) → IsShort f n o →
+    IsShort g n (parse_map h o)
 mapped f g n h step None short = tt
 mapped f g n h step (Some p) short = (step p.0 short.0, short.1)
 
-and_more : {B : Type 0} (g : B → ℕ) (n : ℕ) (h : Json → B → B) → ((j : Json) (b : B) → longest j ≤ n → g b ≤ n → g (h j b) ≤ n) → (more : Parse B) → ParsesShort g n more
+and_more : {B : Type 0} (g : B → ℕ) (n : ℕ) (h : Json → B → B) → ((j : Json) (b : B) → longest j ≤ n → g b ≤ n → g (h j b) ≤ n) → (more : Parse B)
+    → ParsesShort g n more
     → (o : Option (Json × List Token)) → IsShort longest n o → IsShort g n (option_and_then (λ q. parse_map (h q.0) (more q.1)) o)
 and_more g n h step more again None short = tt
 and_more g n h step more again (Some q) short = mapped g g n (h q.0) (λ b small. step q.0 b short.0 small) _ (again q.1 short.1)
@@ -79,7 +81,8 @@ a_key n (Token.null ∷ ts) short = tt
 a_key n (Token.bad ∷ ts) short = tt
 
 module _ (n : ℕ) (p : Parse Json) (short_value : ParsesShort longest n p) where
-  item_turn : (more : Parse Items) → ParsesShort items_longest n more → (ts : List Token) → longest_text ts ≤ n → (o : Option (List Token)) → IsRestShort n o → IsShort items_longest n (items_step p more ts o)
+  item_turn : (more : Parse Items) → ParsesShort items_longest n more → (ts : List Token) → longest_text ts ≤ n → (o : Option (List Token)) → IsRestShort n o →
+      IsShort items_longest n (items_step p more ts o)
   unfolding IsRestShort
   item_turn more again ts short (Some r) rest = (omega arith, rest)
   item_turn more again ts short None rest = and_more items_longest n item (λ j b one all. omega arith) more again (p ts) (short_value ts short)
@@ -89,21 +92,26 @@ module _ (n : ℕ) (p : Parse Json) (short_value : ParsesShort longest n p) wher
   short_items zero ts short = tt
   short_items (suc turns) ts short = item_turn (items p turns) (short_items turns) ts short (after_end_array ts) (after_end n ts short)
 
-  member_turn : (more : Parse Members) → ParsesShort members_longest n more → (o : Option (Option (List ℕ) × List Token)) → IsShort key_len n o → IsShort members_longest n (option_and_then (λ q. members_step p more q.0 q.1) o)
+  member_turn : (more : Parse Members) → ParsesShort members_longest n more → (o : Option (Option (List ℕ) × List Token)) → IsShort key_len n o →
+      IsShort members_longest n (option_and_then (λ q. members_step p more q.0 q.1) o)
   member_turn more again None short = tt
   member_turn more again (Some (None, ts)) short = (omega arith, short.1)
-  member_turn more again (Some (Some k, ts)) short = and_more members_longest n (member k) (λ j b one all. omega arith) more again (p ts) (short_value ts short.1)
+  member_turn more again (Some (Some k, ts)) short =
+      and_more members_longest n (member k) (λ j b one all. omega arith) more again (p ts) (short_value ts short.1)
 
   short_members : (turns : ℕ) → ParsesShort members_longest n (members p turns)
   unfolding members
   short_members zero ts short = tt
   short_members (suc turns) ts short = member_turn (members p turns) (short_members turns) (read_key ts) (a_key n ts short)
 
-one_level : (n : ℕ) (a : Parse Items) (o : Parse Members) → ParsesShort items_longest n a → ParsesShort members_longest n o → ParsesShort longest n (value_with a o)
+one_level : (n : ℕ) (a : Parse Items) (o : Parse Members) → ParsesShort items_longest n a → ParsesShort members_longest n o →
+    ParsesShort longest n (value_with a o)
 one_level n a o items_short members_short [] short = tt
-one_level n a o items_short members_short (Token.begin_object ∷ ts) short = mapped members_longest longest n object (λ ms small. small) _ (members_short ts (omega arith))
+one_level n a o items_short members_short (Token.begin_object ∷ ts) short =
+    mapped members_longest longest n object (λ ms small. small) _ (members_short ts (omega arith))
 one_level n a o items_short members_short (Token.end_object ∷ ts) short = tt
-one_level n a o items_short members_short (Token.begin_array ∷ ts) short = mapped items_longest longest n array (λ js small. small) _ (items_short ts (omega arith))
+one_level n a o items_short members_short (Token.begin_array ∷ ts) short =
+    mapped items_longest longest n array (λ js small. small) _ (items_short ts (omega arith))
 one_level n a o items_short members_short (Token.end_array ∷ ts) short = tt
 one_level n a o items_short members_short (Token.key s ∷ ts) short = tt
 one_level n a o items_short members_short (Token.string s ∷ ts) short = (omega arith, omega arith)
@@ -117,4 +125,5 @@ unfolding value
 short_value n zero = one_level n (λ ts. None) (λ ts. None) (λ ts short. tt) (λ ts short. tt)
 short_value n (suc depth) =
     one_level n (λ ts. items (value depth) (length ts) ts) (λ ts. members (value depth) (length ts) ts)
-    (λ ts short. short_items n (value depth) (short_value n depth) (length ts) ts short) (λ ts short. short_members n (value depth) (short_value n depth) (length ts) ts short)
+    (λ ts short. short_items n (value depth) (short_value n depth) (length ts) ts short)
+    (λ ts short. short_members n (value depth) (short_value n depth) (length ts) ts short)

@@ -59,14 +59,16 @@ literal_text name k t none = either_token _ k bad none (omega arith)
 word_text : (t : List ℕ) → text_len (word t) ≤ 0
 unfolding word
 word_text t =
-    either_token (head t == 116) _ _ (literal_text ascii.true_text (boolean true) t (omega arith)) (either_token (head t == 102) _ _ (literal_text ascii.false_text (boolean false) t (omega arith))
+    either_token (head t == 116) _ _ (literal_text ascii.true_text (boolean true) t (omega arith))
+    (either_token (head t == 102) _ _ (literal_text ascii.false_text (boolean false) t (omega arith))
     (either_token (head t == 110) _ _ (literal_text ascii.null_text null t (omega arith)) (number_text t (after_number t))))
 
 string_text : (o : Option (List ℕ)) (n : ℕ) → AtMost length n o → text_len (string_token o) ≤ n
 string_text None n within = omega arith
 string_text (Some s) n within = within
 
-byte_text : (m : Mode) (c : Class) (x : ℕ) (xs : List ℕ) (k : Mode → List Lexeme) (n : ℕ) → suc (length xs) ≤ n → ((next : Mode) → longest_lexeme (k next) ≤ n) → longest_lexeme (lex_byte m c x xs k) ≤ n
+byte_text : (m : Mode) (c : Class) (x : ℕ) (xs : List ℕ) (k : Mode → List Lexeme) (n : ℕ) → suc (length xs) ≤ n →
+    ((next : Mode) → longest_lexeme (k next) ≤ n) → longest_lexeme (lex_byte m c x xs k) ≤ n
 byte_text between quote x xs k n room rest = omega (arith, string_text (content plain xs) (length xs) (content-le plain xs), rest in_string)
 byte_text between backslash x xs k n room rest = omega (arith, rest in_word)
 byte_text between operator x xs k n room rest = omega (arith, operator_text x, rest between)
@@ -91,11 +93,13 @@ lex_text m (x ∷ xs) n room = byte_text m (class x) x xs (λ next. lex next xs)
 
 -- ---- commas and colons
 
-allowed_text : (b : Bool) (t : Token) (k : Place → List Token) (next : Place) (n : ℕ) → text_len t ≤ n → ((p : Place) → longest_text (k p) ≤ n) → longest_text (if_allowed b t k next) ≤ n
+allowed_text : (b : Bool) (t : Token) (k : Place → List Token) (next : Place) (n : ℕ) → text_len t ≤ n → ((p : Place) → longest_text (k p) ≤ n) →
+    longest_text (if_allowed b t k next) ≤ n
 allowed_text true t k next n here rest = omega (arith, here, rest next)
 allowed_text false t k next n here rest = omega arith
 
-placed_text : (p : Place) (t : Token) (before_colon : Bool) (k : Place → List Token) (n : ℕ) → text_len t ≤ n → ((q : Place) → longest_text (k q) ≤ n) → longest_text (place_token p t before_colon k) ≤ n
+placed_text : (p : Place) (t : Token) (before_colon : Bool) (k : Place → List Token) (n : ℕ) → text_len t ≤ n → ((q : Place) → longest_text (k q) ≤ n) →
+    longest_text (place_token p t before_colon k) ≤ n
 placed_text p begin_object c k n here rest = allowed_text (may_begin p) begin_object k fresh n here rest
 placed_text p end_object c k n here rest = allowed_text (may_close p) end_object k after_value n here rest
 placed_text p begin_array c k n here rest = allowed_text (may_begin p) begin_array k fresh n here rest
@@ -114,7 +118,8 @@ punctuate_text fresh [] n room = omega arith
 punctuate_text after_value [] n room = omega arith
 punctuate_text after_comma [] n room = omega arith
 punctuate_text after_key [] n room = omega arith
-punctuate_text p (token t ∷ ls) n room = placed_text p t (begins_colon ls) (λ next. punctuate next ls) n (omega arith) (λ next. punctuate_text next ls n (omega arith))
+punctuate_text p (token t ∷ ls) n room =
+    placed_text p t (begins_colon ls) (λ next. punctuate next ls) n (omega arith) (λ next. punctuate_text next ls n (omega arith))
 punctuate_text fresh (comma ∷ ls) n room = omega arith
 punctuate_text after_value (comma ∷ ls) n room = punctuate_text after_comma ls n (omega arith)
 punctuate_text after_comma (comma ∷ ls) n room = omega arith

@@ -71,4 +71,5 @@ pub returns-clause-done : goal.returns-clause-done
 returns-clause-done g c = λ told.
     let holds = c.in_ok-write_at.ensures.written told in
     let gate_holds = subst (λ f. Holds f c.args.gate (1 ∷ []) (g.B.Bench.file c.write_at-2.new.self)) c.sync.ensures.file (c.in_ok-write_at-2.ensures.written told) in
-    c.sync-2.ensures.file ∙ opened c.args.gate c.args.group.now (g.B.Bench.file c.args.bench.now) (g.B.Bench.sent c.args.bench.now) (c.requires.gate told) _ _ holds gate_holds
+    c.sync-2.ensures.file
+    ∙ opened c.args.gate c.args.group.now (g.B.Bench.file c.args.bench.now) (g.B.Bench.sent c.args.bench.now) (c.requires.gate told) _ _ holds gate_holds

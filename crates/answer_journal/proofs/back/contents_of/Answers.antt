@@ -11,7 +11,8 @@ pub returns-clause-ok : goal.returns-clause-ok
 returns-clause-ok g c = λ told.
     let file = g.B.Bench.file c.args.bench.now in
     let front : c.deref.result.now ≡ take most_bytes file = c.deref.ensures.value ∙ c.in_ok-bytes.ensures.bytes told in
-    IfOk-weaker c.read_all.result (λ (j : Contents). StandsAt c.deref.result.now j.shape j.list.items j.gate) (λ (j : Contents). StandsAt file j.shape j.list.items j.gate)
+    IfOk-weaker c.read_all.result (λ (j : Contents). StandsAt c.deref.result.now j.shape j.list.items j.gate)
+    (λ (j : Contents). StandsAt file j.shape j.list.items j.gate)
     (λ j stands. c.the_front_tells.ensures.stands file j.shape j.list.items j.gate (subst (λ (l : List ℕ). StandsAt l j.shape j.list.items j.gate) front stands)) c.read_all.ensures.ok
 
 pub returns-clause-err : goal.returns-clause-err

@@ -9,5 +9,6 @@ returns-clause-bytes g c = λ told.
     let buf = c.read_at.new.buf in
     let long : length buf ≡ c.in_ok-bytes.bytes.len = c.read_at.auto.buf ∙ c.deref_mut.ensures.len in
     let size : c.in_ok-bytes.bytes.len ≡ min (length file) most_bytes = c.in_ok-bytes.ensures.len ∙ c.min.ensures ∙ ap (λ n. min n most_bytes) (c.in_ok-length.ensures.length told) in
-    front_read file (g.B.Bench.file c.length.new.self) c.truncate.new.self.items buf (drop (length buf) c.in_ok-bytes.bytes.items) c.in_ok-bytes.bytes.len c.in_ok-count.count
+    front_read file (g.B.Bench.file c.length.new.self) c.truncate.new.self.items buf
+    (drop (length buf) c.in_ok-bytes.bytes.items) c.in_ok-bytes.bytes.len c.in_ok-count.count
     c.length.ensures.file long size (c.in_ok-count.ensures.count told) (c.in_ok-count.ensures.bytes told) c.truncate.ensures.items

@@ -22,4 +22,6 @@ returns-clause-done g c = λ told.
     let shape = c.args.shape.now in
     let closed = c.requires.closed told in
     let shaped : IsWholeShape shape = c.write_header.ensures.whole in
-    on_ok_weaker c.append_bytes.result (λ is. opened file shape shaped closed.0 closed.1 (g.B.Bench.file c.append_bytes.new.bench) (is ∙ ap (λ group. appended 0 group file) (header_behind shape c.write_header.new.out shaped.eight c.write_header.ensures.bytes))) (c.append_bytes.ensures.done told)
+    on_ok_weaker c.append_bytes.result
+    (λ is. opened file shape shaped closed.0 closed.1 (g.B.Bench.file c.append_bytes.new.bench) (is ∙ ap (λ group. appended 0 group file) (header_behind shape c.write_header.new.out shaped.eight c.write_header.ensures.bytes)))
+    (c.append_bytes.ensures.done told)

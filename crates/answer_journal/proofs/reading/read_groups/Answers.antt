@@ -9,7 +9,8 @@ pub loop-gate-init : goal.loop-gate-init
 loop-gate-init c = rw c.new-list.ensures.items (read_none c.args.bytes.now c.args.shape c.requires.shape c.requires.header)
 
 pub returns-then-bytes-gate-ne1-clause-ok : goal.returns-then-bytes-gate-ne1-clause-ok
-returns-then-bytes-gate-ne1-clause-ok c = read_ends c.args.bytes.now c.args.shape c.loop-gate.list.items c.loop-gate.gate c.loop-gate.invariant c.loop-gate-test.true c.if-bytes-gate-ne1.true
+returns-then-bytes-gate-ne1-clause-ok c =
+    read_ends c.args.bytes.now c.args.shape c.loop-gate.list.items c.loop-gate.gate c.loop-gate.invariant c.loop-gate-test.true c.if-bytes-gate-ne1.true
 
 pub loop-gate-preserved : goal.loop-gate-preserved
 loop-gate-preserved c =
@@ -19,7 +20,8 @@ loop-gate-preserved c =
     let more = c.in-Ok.group.list.items in
     let extended : c.extend_from_slice.new.self.items ≡ list ++ more = search rules in
     let read = rw (take_rest bytes (gate + 1)) at c.in-Ok.ensures.ok in
-    rw extended (read_more bytes c.args.shape list gate c.loop-gate.invariant c.in-Ok.group.size more c.loop-gate-test.true c.if-bytes-gate-ne1.false read.0 (omega (arith, read.1)) read.2)
+    rw extended
+    (read_more bytes c.args.shape list gate c.loop-gate.invariant c.in-Ok.group.size more c.loop-gate-test.true c.if-bytes-gate-ne1.false read.0 (omega (arith, read.1)) read.2)
 
 pub returns-in-Err-Breaks-clause-err : goal.returns-in-Err-Breaks-clause-err
 returns-in-Err-Breaks-clause-err c =
@@ -32,4 +34,5 @@ returns-in-Err-Breaks-clause-err c =
     (c.requires.made, inr (subst (λ (k : ℕ). BreaksBehind bytes k) (ap (λ k. gate + 1 + k) (sym c.in-Err-Breaks.at-is)) broken))
 
 pub returns-clause-err : goal.returns-clause-err
-returns-clause-err c = (c.requires.made, inr (breaks_at_end c.args.bytes.now c.args.shape c.loop-gate.list.items c.loop-gate.gate c.loop-gate.invariant c.loop-gate-test.false))
+returns-clause-err c =
+    (c.requires.made, inr (breaks_at_end c.args.bytes.now c.args.shape c.loop-gate.list.items c.loop-gate.gate c.loop-gate.invariant c.loop-gate-test.false))

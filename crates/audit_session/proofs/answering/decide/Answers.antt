@@ -20,7 +20,8 @@ outcomes_of-requires-clause-few g c =
 pub outcomes_of-requires-clause-fit : goal.outcomes_of-requires-clause-fit
 outcomes_of-requires-clause-fit g c =
     let asked : c.deref.result.now ≡ questions_of c.args.group.now.plans.items = c.deref.ensures.value ∙ c.requires.questions in
-    subst (λ (l : List Asked). All (λ (a : Asked). FitsShape c.args.store.now.secret.shape a.column a.rows) l) (sym asked) (questions_fit c.args.store.now.secret.shape c.args.group.now.plans.items c.requires.served)
+    subst (λ (l : List Asked). All (λ (a : Asked). FitsShape c.args.store.now.secret.shape a.column a.rows) l) (sym asked)
+    (questions_fit c.args.store.now.secret.shape c.args.group.now.plans.items c.requires.served)
 
 pub returns-in_err-outcomes-clause-moments : goal.returns-in_err-outcomes-clause-moments
 returns-in_err-outcomes-clause-moments g c = λ told quiet.
@@ -40,7 +41,8 @@ tell_all-requires-clause-can g c =
     let asked : c.deref.result.now ≡ questions_of plans = c.deref.ensures.value ∙ c.requires.questions in
     let due = subst (λ (l : List Asked). AreOutcomes (secret_table store.secret) store.history l c.in_ok-outcomes.outcomes.items) asked c.in_ok-outcomes.ensures.outcomes in
     let can : CanAllBeTold plans c.in_ok-outcomes.outcomes.items = can_all c.told_outcomes.ensures.can store.secret c.requires.is.numbers store.history plans c.in_ok-outcomes.outcomes.items c.requires.served due in
-    subst (λ (os : List Outcome). CanAllBeTold c.deref-2.result.now os) (sym c.deref-3.ensures.value) (subst (λ (ps : List Plan). CanAllBeTold ps c.in_ok-outcomes.outcomes.items) (sym c.deref-2.ensures.value) can)
+    subst (λ (os : List Outcome). CanAllBeTold c.deref-2.result.now os) (sym c.deref-3.ensures.value)
+    (subst (λ (ps : List Plan). CanAllBeTold ps c.in_ok-outcomes.outcomes.items) (sym c.deref-2.ensures.value) can)
 
 pub returns-clause-decides : goal.returns-clause-decides
 returns-clause-decides g c =
@@ -60,5 +62,6 @@ returns-clause-moments g c = λ told quiet.
     let store = c.args.store.now in
     let plans = c.args.group.now.plans.items in
     let asked : c.deref.result.now ≡ questions_of plans = c.deref.ensures.value ∙ c.requires.questions in
-    while_kept g.B.Bench c.args.bench.now c.outcomes_of.new.bench store.secret store.history plans c.told_outcomes.ensures.can c.told_outcomes.ensures.some c.requires.is.numbers c.requires.served (g.B.Bench.sent c.args.bench.now)
+    while_kept g.B.Bench c.args.bench.now c.outcomes_of.new.bench store.secret store.history plans c.told_outcomes.ensures.can c.told_outcomes.ensures.some c.requires.is.numbers c.requires.served
+    (g.B.Bench.sent c.args.bench.now)
     (subst (λ (l : List Asked). Keeps g.B.Bench c.args.bench.now c.outcomes_of.new.bench store.secret store.history l (g.B.Bench.sent c.args.bench.now)) asked (c.in_ok-outcomes.ensures.any_moment told quiet (search rules)))

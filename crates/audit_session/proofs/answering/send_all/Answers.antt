@@ -5,9 +5,11 @@ use Rattle.audit_session.proofs.answering.send_all.Goals as goal
 pub returns-in_err-send_reply-clause-moments : goal.returns-in_err-send_reply-clause-moments
 returns-in_err-send_reply-clause-moments g c =
     let e = c.in_err-send_reply.ensures in
-    next_moments c.args.replies.now c.loop-reply.reply-index _ c.loop-reply-test.true (get_or_default c.args.replies.now c.loop-reply.reply-index _ _ c.loop-reply-test.true) g.B.Bench c.args.bench.now c.loop-reply.bench c.send_reply.new.bench c.loop-reply.invariant e.file e.crash e.time
+    next_moments c.args.replies.now c.loop-reply.reply-index _ c.loop-reply-test.true
+    (get_or_default c.args.replies.now c.loop-reply.reply-index _ _ c.loop-reply-test.true) g.B.Bench c.args.bench.now c.loop-reply.bench c.send_reply.new.bench c.loop-reply.invariant e.file e.crash e.time
 
 pub loop-reply-preserved : goal.loop-reply-preserved
 loop-reply-preserved g c =
     let e = c.in_ok-send_reply.ensures in
-    next_sent c.args.replies.now c.loop-reply.reply-index _ c.loop-reply-test.true (get_or_default c.args.replies.now c.loop-reply.reply-index _ _ c.loop-reply-test.true) g.B.Bench c.args.bench.now c.loop-reply.bench c.send_reply.new.bench c.loop-reply.invariant e.file e.crash e.time e.all e.ticks e.cause.steady
+    next_sent c.args.replies.now c.loop-reply.reply-index _ c.loop-reply-test.true
+    (get_or_default c.args.replies.now c.loop-reply.reply-index _ _ c.loop-reply-test.true) g.B.Bench c.args.bench.now c.loop-reply.bench c.send_reply.new.bench c.loop-reply.invariant e.file e.crash e.time e.all e.ticks e.cause.steady

@@ -31,7 +31,9 @@ returns-in_err-plan-clause-limit g c = λ t is.
     let now = c.next_plan.new.lines in
     let left = g.P.Source.left c.next_plan.new.source in
     cut_short g.P.Source c.args.schema.now.columns c.args.index.now c.args.batch c.args.lines.now c.loop-alloc.lines c.args.source.now c.loop-alloc.source group.plans.items group.asked.items c.loop-alloc.invariant.gathering
-    (now.pending ++ left) t (λ ended none. not_over (c.loop-alloc.lines.pending ++ g.P.Source.left c.loop-alloc.source) now.pending left (e.limit t here) (e.over here).1 none) room (e.limit t here)
+    (now.pending ++ left) t
+    (λ ended none. not_over (c.loop-alloc.lines.pending ++ g.P.Source.left c.loop-alloc.source) now.pending left (e.limit t here) (e.over here).1 none) room
+    (e.limit t here)
 
 pub loop-alloc-preserved : goal.loop-alloc-preserved
 loop-alloc-preserved g c =
@@ -48,7 +50,8 @@ loop-alloc-preserved g c =
     now from plan next room takes e.same e.taken e.within (λ ended. (e.once ended).1) (e.steady (search rules)) in
     let AllGathered : List Plan → List Asked → Type 0 = λ plans asked. Gathering g.P.Source c.args.schema.now.columns c.args.index.now c.args.batch c.args.lines.now now c.args.source.now from plans asked in
     record {
-      gathering = subst (λ (asked : List Asked). AllGathered c.add.new.self.plans.items asked) (sym added.asked) (subst (λ (plans : List Plan). AllGathered plans (group.asked.items ++ question_in plan)) (sym added.plans) one);
+      gathering =
+          subst (λ (asked : List Asked). AllGathered c.add.new.self.plans.items asked) (sym added.asked) (subst (λ (plans : List Plan). AllGathered plans (group.asked.items ++ question_in plan)) (sym added.plans) one);
       many = search rules;
       room = added.room ∙ c.loop-alloc.invariant.room;
     }
@@ -58,5 +61,6 @@ returns-in-None-clause-gathers g c =
     let rest = c.loop-alloc.lines.pending ++ g.P.Source.left c.loop-alloc.source in
     let now = c.next_plan.new.lines in
     let left = now.pending ++ g.P.Source.left c.next_plan.new.source in
-    gathers_last g.P.Source.told c.args.schema.now.columns c.args.index.now (c.args.lines.now.pending ++ g.P.Source.left c.args.source.now) rest left c.loop-alloc.lines.ended c.loop-alloc.group.plans.items c.loop-alloc.invariant.gathering.gathers
+    gathers_last g.P.Source.told c.args.schema.now.columns c.args.index.now
+    (c.args.lines.now.pending ++ g.P.Source.left c.args.source.now) rest left c.loop-alloc.lines.ended c.loop-alloc.group.plans.items c.loop-alloc.invariant.gathering.gathers
     (subst (λ (o : Option Plan). GivesNext g.P.Source.told c.args.schema.now.columns c.args.index.now rest left now.ended o) c.in-None.is c.in_ok-plan.ensures.next)

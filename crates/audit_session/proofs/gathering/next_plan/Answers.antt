@@ -14,8 +14,10 @@ returns-in_ok-plan_line-in-Line-clause-next g c =
       c.in_ok-plan_line-in-Line.ensures.served,
       record {
         lines = text new.text ∷ [];
-        planned = (subst (λ (shown : List ℕ). IsPlan c.args.schema.now.columns c.args.index.now (text shown) c.in_ok-plan_line-in-Line.field-0) c.text.ensures c.in_ok-plan_line-in-Line.ensures.planned, tt);
-        reads = λ t. reads_one rest (new.pending ++ left) new.ended (text new.text) (takes_text given rest new left (c.in_ok-next.ensures.answer t) c.in-Line.is)
+        planned =
+            (subst (λ (shown : List ℕ). IsPlan c.args.schema.now.columns c.args.index.now (text shown) c.in_ok-plan_line-in-Line.field-0) c.text.ensures c.in_ok-plan_line-in-Line.ensures.planned, tt);
+        reads =
+            λ t. reads_one rest (new.pending ++ left) new.ended (text new.text) (takes_text given rest new left (c.in_ok-next.ensures.answer t) c.in-Line.is)
             (counts_text given (counted_lines rest) new.text (counted_lines (new.pending ++ left)) (c.in_ok-next.ensures.counted t) c.in-Line.is);
       },
     )

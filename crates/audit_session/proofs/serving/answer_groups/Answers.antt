@@ -17,7 +17,8 @@ given more = Ok more
 
 pub loop-more-init : goal.loop-more-init
 loop-more-init g c = record {
-  served = nothing_served g.P.Source g.B.Bench c.args.schema.now.columns c.args.index.now c.args.batch c.args.lines.now c.args.store.now c.args.source.now c.args.bench.now c.requires.fresh c.requires.usable c.requires.is c.requires.stands
+  served =
+      nothing_served g.P.Source g.B.Bench c.args.schema.now.columns c.args.index.now c.args.batch c.args.lines.now c.args.store.now c.args.source.now c.args.bench.now c.requires.fresh c.requires.usable c.requires.is c.requires.stands
       (λ image bytes was. g.met.B.Bench.only_now c.args.bench.now image bytes was);
   room = c.requires.room;
 }
@@ -40,7 +41,8 @@ returns-in_err-more-clause-ends g c = λ t u.
     (λ is. served_whole g.P.Source g.B.Bench c.args.schema.now.columns c.args.index.now c.args.batch c.loop-more.lines c.args.store.now c.loop-more.store c.args.source.now c.loop-more.source c.args.bench.now c.loop-more.bench s t u left
     (λ ended none. (e.once ended).1 is) (e.input t is))
     (λ is. served_limited g.P.Source g.B.Bench c.args.schema.now.columns c.args.index.now c.args.batch c.loop-more.lines c.args.store.now c.loop-more.store c.args.source.now c.loop-more.source c.args.bench.now c.loop-more.bench s t u (now.pending ++ left)
-    (λ ended none. cut_not_over c.args.batch rest now.pending left (e.limit t is) (e.over is).1 none) (e.limit t is) now.pending left now.taken refl (e.over is).0 (e.taken t ∙ s.taken t))
+    (λ ended none. cut_not_over c.args.batch rest now.pending left (e.limit t is) (e.over is).1 none) (e.limit t is) now.pending left now.taken refl
+    (e.over is).0 (e.taken t ∙ s.taken t))
     (λ is. some_served g.P.Source g.B.Bench c.args.schema.now.columns c.args.index.now c.args.batch c.loop-more.lines c.args.store.now c.loop-more.store c.args.source.now c.loop-more.source c.args.bench.now c.loop-more.bench s t u))
 
 pub returns-in_err-more-clause-reads : goal.returns-in_err-more-clause-reads
@@ -63,12 +65,15 @@ returns-in_err-answer-clause-ends g c = λ t u.
     let left = g.P.Source.left c.gather.new.source in
     let before = g.B.Bench.sent c.args.bench.now in
     let some = some_served g.P.Source g.B.Bench c.args.schema.now.columns c.args.index.now c.args.batch c.loop-more.lines c.args.store.now c.loop-more.store c.args.source.now c.loop-more.source c.args.bench.now c.loop-more.bench c.loop-more.invariant.served t u in
-    subst (λ (r : Result (Unit {0}) EndFault). Ends c.args.batch r base c.args.store.now.history input left c.answer.new.store.history before (g.B.Bench.sent c.answer.new.bench)) (sym same)
+    subst
+    (λ (r : Result (Unit {0}) EndFault). Ends c.args.batch r base c.args.store.now.history input left c.answer.new.store.history before (g.B.Bench.sent c.answer.new.bench))
+    (sym same)
     (ends_by {X = Unit {0}} c.args.batch base c.args.store.now.history input left c.answer.new.store.history before (g.B.Bench.sent c.answer.new.bench) fault
     (λ is. absurd (e.others.0 is)) (λ is. absurd (e.others.1 is))
     (λ is.
     let still = e.no_memory is in
-    subst (λ (h : List Answered). ServesSome base c.args.store.now.history c.args.batch (counted_lines input) h before (g.B.Bench.sent c.answer.new.bench)) (sym still.1)
+    subst (λ (h : List Answered). ServesSome base c.args.store.now.history c.args.batch (counted_lines input) h before (g.B.Bench.sent c.answer.new.bench))
+    (sym still.1)
     (subst (λ b. ServesSome base c.args.store.now.history c.args.batch (counted_lines input) c.loop-more.store.history before (g.B.Bench.sent b)) (sym still.0) some)))
 
 pub returns-in_err-answer-clause-moments : goal.returns-in_err-answer-clause-moments
@@ -78,8 +83,10 @@ returns-in_err-answer-clause-moments g c = λ u quiet.
     let plans = c.gather.new.group.plans.items in
     let rest = now.pending ++ g.P.Source.left c.gather.new.source in
     turn_moments g.P.Source g.B.Bench c.args.schema.now.columns c.args.index.now c.args.batch c.loop-more.lines c.args.store.now c.loop-more.store c.args.source.now c.loop-more.source c.args.bench.now c.loop-more.bench c.loop-more.invariant.served
-    now (not c.in_ok-more.more || now.ended) c.gather.new.source plans e.gathers e.most c.requires.batch.0 (λ ended. still_ended c.in_ok-more.more now.ended (e.once ended).0) c.answer.new.bench
-    (whole_or_last {E = EndFault} g.P.Source.told c.args.batch c.in_ok-more.more plans rest e.whole e.last) u quiet (c.in_err-answer.ensures.moments u (c.loop-more.invariant.served.quiet u quiet))
+    now (not c.in_ok-more.more || now.ended) c.gather.new.source plans e.gathers e.most c.requires.batch.0
+    (λ ended. still_ended c.in_ok-more.more now.ended (e.once ended).0) c.answer.new.bench
+    (whole_or_last {E = EndFault} g.P.Source.told c.args.batch c.in_ok-more.more plans rest e.whole e.last) u quiet
+    (c.in_err-answer.ensures.moments u (c.loop-more.invariant.served.quiet u quiet))
 
 pub returns-then-not-more-clause-ends : goal.returns-then-not-more-clause-ends
 returns-then-not-more-clause-ends g c = λ t u.
@@ -88,7 +95,8 @@ returns-then-not-more-clause-ends g c = λ t u.
     let plans = c.gather.new.group.plans.items in
     let more_is : c.in_ok-more.more ≡ false = search rules in
     all_served g.P.Source g.B.Bench c.args.schema.now.columns c.args.index.now c.args.batch c.loop-more.lines c.args.store.now c.loop-more.store c.args.source.now c.loop-more.source c.args.bench.now c.loop-more.bench c.loop-more.invariant.served
-    now (not c.in_ok-more.more || now.ended) c.gather.new.source plans e.gathers e.most c.requires.batch.0 (λ ended. still_ended c.in_ok-more.more now.ended (e.once ended).0) c.answer.new.store.history c.answer.new.bench c.in_ok-answer.ensures.answers
+    now (not c.in_ok-more.more || now.ended) c.gather.new.source plans e.gathers e.most c.requires.batch.0
+    (λ ended. still_ended c.in_ok-more.more now.ended (e.once ended).0) c.answer.new.store.history c.answer.new.bench c.in_ok-answer.ensures.answers
     t u (ap counted_lines (e.last t (ap given more_is))) c.answer.new.store.history refl
 
 pub returns-then-not-more-clause-rests : goal.returns-then-not-more-clause-rests
@@ -104,7 +112,8 @@ returns-then-not-more-clause-calls g c = λ t u.
     let plans = c.gather.new.group.plans.items in
     let more_is : c.in_ok-more.more ≡ false = search rules in
     all_calls g.P.Source g.B.Bench c.args.schema.now.columns c.args.index.now c.args.batch c.loop-more.lines c.args.store.now c.loop-more.store c.args.source.now c.loop-more.source c.args.bench.now c.loop-more.bench c.loop-more.invariant.served
-    now (not c.in_ok-more.more || now.ended) c.gather.new.source plans e.gathers e.most c.requires.batch.0 (λ ended. still_ended c.in_ok-more.more now.ended (e.once ended).0) c.answer.new.store.history c.answer.new.bench c.in_ok-answer.ensures.answers
+    now (not c.in_ok-more.more || now.ended) c.gather.new.source plans e.gathers e.most c.requires.batch.0
+    (λ ended. still_ended c.in_ok-more.more now.ended (e.once ended).0) c.answer.new.store.history c.answer.new.bench c.in_ok-answer.ensures.answers
     t u (ap counted_lines (e.last t (ap given more_is)))
 
 pub returns-then-not-more-clause-moments : goal.returns-then-not-more-clause-moments
@@ -114,8 +123,10 @@ returns-then-not-more-clause-moments g c = λ u quiet.
     let plans = c.gather.new.group.plans.items in
     let rest = now.pending ++ g.P.Source.left c.gather.new.source in
     turn_moments g.P.Source g.B.Bench c.args.schema.now.columns c.args.index.now c.args.batch c.loop-more.lines c.args.store.now c.loop-more.store c.args.source.now c.loop-more.source c.args.bench.now c.loop-more.bench c.loop-more.invariant.served
-    now (not c.in_ok-more.more || now.ended) c.gather.new.source plans e.gathers e.most c.requires.batch.0 (λ ended. still_ended c.in_ok-more.more now.ended (e.once ended).0) c.answer.new.bench
-    (whole_or_last {E = EndFault} g.P.Source.told c.args.batch c.in_ok-more.more plans rest e.whole e.last) u quiet (c.in_ok-answer.ensures.moments u (c.loop-more.invariant.served.quiet u quiet))
+    now (not c.in_ok-more.more || now.ended) c.gather.new.source plans e.gathers e.most c.requires.batch.0
+    (λ ended. still_ended c.in_ok-more.more now.ended (e.once ended).0) c.answer.new.bench
+    (whole_or_last {E = EndFault} g.P.Source.told c.args.batch c.in_ok-more.more plans rest e.whole e.last) u quiet
+    (c.in_ok-answer.ensures.moments u (c.loop-more.invariant.served.quiet u quiet))
 
 pub loop-more-preserved : goal.loop-more-preserved
 loop-more-preserved g c =
@@ -127,8 +138,10 @@ loop-more-preserved g c =
     let steady = e.steady (search rules) in
     let bench_steady = a.steady (search rules) in
     record {
-      served = next_turn g.P.Source g.B.Bench c.args.schema.now.columns c.args.index.now c.args.batch c.loop-more.lines c.args.store.now c.loop-more.store c.args.source.now c.loop-more.source c.args.bench.now c.loop-more.bench c.loop-more.invariant.served
-          now (not c.in_ok-more.more || now.ended) c.gather.new.source plans e.gathers e.most c.requires.batch.0 (λ ended. still_ended c.in_ok-more.more now.ended (e.once ended).0) c.answer.new.store.history c.answer.new.bench a.answers
+      served =
+          next_turn g.P.Source g.B.Bench c.args.schema.now.columns c.args.index.now c.args.batch c.loop-more.lines c.args.store.now c.loop-more.store c.args.source.now c.loop-more.source c.args.bench.now c.loop-more.bench c.loop-more.invariant.served
+          now (not c.in_ok-more.more || now.ended) c.gather.new.source plans e.gathers e.most c.requires.batch.0
+          (λ ended. still_ended c.in_ok-more.more now.ended (e.once ended).0) c.answer.new.store.history c.answer.new.bench a.answers
           c.answer.new.store refl (ap (λ (b : Bool). not b || now.ended) more_is) (e.whole (ap given more_is)) e.same e.taken e.within steady a.stands a.secret a.is bench_steady a.moments;
       room = a.room ∙ e.room ∙ c.loop-more.invariant.room;
     }

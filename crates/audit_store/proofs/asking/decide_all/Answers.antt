@@ -22,7 +22,8 @@ loop-question-preserved c =
     let first = option_to_list (record_of asked outcome) in
     record {
       same_setting = c.in_ok-outcome.ensures.setting ∙ i.same_setting;
-      so_far = rw (take_more c.args.asked.now place asked c.loop-question-test.true, ← c.question-item.is, c.push_reserved.ensures.items) (outcomes_more table history questions outcomes asked outcome i.so_far decided);
+      so_far =
+          rw (take_more c.args.asked.now place asked c.loop-question-test.true, ← c.question-item.is, c.push_reserved.ensures.items) (outcomes_more table history questions outcomes asked outcome i.so_far decided);
       history = rw (take_more c.args.asked.now place asked c.loop-question-test.true, ← c.question-item.is, c.push_reserved.ensures.items)
           (c.in_ok-outcome.ensures.history ∙ ap (λ t. t ++ first) i.history ∙ append_assoc history made first ∙ ap (λ t. history ++ t) (sym more));
       legal = c.in_ok-outcome.ensures.legal;

@@ -50,6 +50,8 @@ loop-place-preserved c =
     let fits : FitsShape c.args.secret.now.shape r.column r.rows = subst (λ (x : Answered). FitsShape c.args.secret.now.shape x.column x.rows) here (c.requires.fit place r inside) in
     record {
       same_setting = ap (λ (a : Audited). a.setting) c.in-Ok-take.ensures.ok ∙ ap (λ (a : Audited). a.setting) c.is_released.ensures.same ∙ i.same_setting;
-      so_far = ap (λ (a : Audited). a.history) c.in-Ok-take.ensures.ok ∙ ap (λ (a : Audited). a.history ++ r ∷ []) c.is_released.ensures.same ∙ ap (λ h. h ++ r ∷ []) i.so_far ∙ sym (take_more list place r inside ∙ ap (λ x. take place list ++ x ∷ []) here);
+      so_far =
+          ap (λ (a : Audited). a.history) c.in-Ok-take.ensures.ok ∙ ap (λ (a : Audited). a.history ++ r ∷ []) c.is_released.ensures.same
+          ∙ ap (λ h. h ++ r ∷ []) i.so_far ∙ sym (take_more list place r inside ∙ ap (λ x. take place list ++ x ∷ []) here);
       legal = legal_more table list place i.legal r c.released_records.ensures inside c.requires.few here fits is_true released;
     }

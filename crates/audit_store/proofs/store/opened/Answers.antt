@@ -27,4 +27,5 @@ returns-in-Ok-clause-due c = λ due some cause.
 
 pub returns-in-Err-clause-opens : goal.returns-in-Err-clause-opens
 returns-in-Err-clause-opens c = λ same legal.
-    legal_has_no_cause c.args.journal.shape c.args.list.now c.args.secret c.in-Err.fault same legal (subst (λ (s : Shape). HistoryCause c.in-Err.fault s c.args.list.now c.args.secret) (sym same) c.in-Err.ensures.err)
+    legal_has_no_cause c.args.journal.shape c.args.list.now c.args.secret c.in-Err.fault same legal
+    (subst (λ (s : Shape). HistoryCause c.in-Err.fault s c.args.list.now c.args.secret) (sym same) c.in-Err.ensures.err)

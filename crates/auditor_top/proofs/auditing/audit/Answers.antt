@@ -45,7 +45,8 @@ returns-in-Err-clause-any_moment g c = λ ptold told quiet base history over.
     started g.B.Bench c.args.bench.now _
     (λ image sent was.
     let now = g.met.B.Bench.only_now c.args.bench.now image sent was in
-    untouched_report (audit_over base history) (subjects base.secret.shape) (g.B.Bench.file c.args.bench.now) (g.B.Bench.sent c.args.bench.now) image sent (now.1, quiet image now.0))
+    untouched_report (audit_over base history) (subjects base.secret.shape) (g.B.Bench.file c.args.bench.now) (g.B.Bench.sent c.args.bench.now) image sent
+    (now.1, quiet image now.0))
 
 -- ---- the store wasn't started
 
@@ -140,7 +141,8 @@ returns-clause-calls g c = λ ptold told done base files.
     let opened = c.in-Ok.opened in
     let same = same_base _ _ opened.schema.columns (table_view opened.table) base (c.in-Ok.ensures.schema_is ptold) (c.in-Ok.ensures.table_is ptold) files in
     let secret : c.in-Ok-start.store.secret ≡ base.secret = c.in-Ok-start.ensures.store.0 ∙ sym (ap (λ (b : Database). b.secret) same) in
-    report_done c.audit.result (sym c.ended.ensures ∙ done) (c.audit.ensures.ticks told) ∙ ap (λ (n : ℕ). n + length (subjects c.in-Ok-start.store.secret.shape)) (c.in-Ok-start.ensures.ticks told)
+    report_done c.audit.result (sym c.ended.ensures ∙ done) (c.audit.ensures.ticks told)
+    ∙ ap (λ (n : ℕ). n + length (subjects c.in-Ok-start.store.secret.shape)) (c.in-Ok-start.ensures.ticks told)
     ∙ ap (λ (s : SecretView). g.B.Bench.moment c.args.bench.now + 2 + length (subjects s.shape)) secret
 
 pub returns-clause-complete : goal.returns-clause-complete

@@ -2,4 +2,5 @@ use Rattle.auditor_top.proofs.PlainWords.{init_is, serve_is, audit_is, simulate_
 use Rattle.auditor_top.proofs.laws.plain_words.Goals as goal
 
 pub returns : goal.returns
-returns c = record { init = init_is; serve = serve_is; audit = audit_is; simulate = simulate_is; batch = batch_is; batch_in_one_word = batch_in_one_is; drill = drill_is }
+returns c =
+    record { init = init_is; serve = serve_is; audit = audit_is; simulate = simulate_is; batch = batch_is; batch_in_one_word = batch_in_one_is; drill = drill_is }

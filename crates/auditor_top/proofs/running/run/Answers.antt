@@ -33,7 +33,8 @@ returns-in-Err-NoMemory-clause-any_moment g c = λ ptold itold told batch asked 
     started g.B.Bench c.args.bench.now _
     (λ image sent was.
     let now = g.met.B.Bench.only_now c.args.bench.now image sent was in
-    untouched_stops base batch history (counted_lines (g.I.Source.left c.args.input.now)) (g.B.Bench.file c.args.bench.now) (g.B.Bench.sent c.args.bench.now) image sent over.stands (now.1, quiet image now.0))
+    untouched_stops base batch history (counted_lines (g.I.Source.left c.args.input.now)) (g.B.Bench.file c.args.bench.now)
+    (g.B.Bench.sent c.args.bench.now) image sent over.stands (now.1, quiet image now.0))
 
 pub returns-in-Err-NoMemory-clause-undisclosed : goal.returns-in-Err-NoMemory-clause-undisclosed
 returns-in-Err-NoMemory-clause-undisclosed g c = λ ptold told batch asked quiet base history over image sent now was stands.
@@ -47,19 +48,22 @@ returns-in-Err-NoMemory-clause-lives g c = λ ptold itold told batch asked quiet
     let before = g.B.Bench.sent c.args.bench.now in
     let stops : StopsOver base batch history (counted_lines input) before image (before ++ sent) = (returns-in-Err-NoMemory-clause-any_moment g c ptold itold told batch asked quiet base history over).each image (before ++ sent) was in
     let same : stops.0 ≡ sent = sym (append_cancel_left before sent stops.0 stops.1) in
-    c.lives.ensures.longer (g.P.Source.left c.args.schema.now) (g.P.Source.left c.args.table.now) image base runs history (record { batch = batch; input = input; last = now; sent = sent }) over.files life
+    c.lives.ensures.longer (g.P.Source.left c.args.schema.now) (g.P.Source.left c.args.table.now) image base runs history
+    (record { batch = batch; input = input; last = now; sent = sent }) over.files life
     (c.read_words.ensures.batch batch asked) stands
     (subst (λ (bytes : List ℕ). Stop (IsDue base) (stands_over base) batch history (counted_lines input) image bytes) same stops.2)
 
 pub returns-in-Err-NoMemory-clause-audited : goal.returns-in-Err-NoMemory-clause-audited
-returns-in-Err-NoMemory-clause-audited g c = λ ptold told asked base history over. none_front (audit_over base history) (subjects base.secret.shape) (g.B.Bench.sent c.args.bench.now)
+returns-in-Err-NoMemory-clause-audited g c =
+    λ ptold told asked base history over. none_front (audit_over base history) (subjects base.secret.shape) (g.B.Bench.sent c.args.bench.now)
 
 pub returns-in-Err-NoMemory-clause-auditing : goal.returns-in-Err-NoMemory-clause-auditing
 returns-in-Err-NoMemory-clause-auditing g c = λ ptold told asked quiet base history over.
     started g.B.Bench c.args.bench.now _
     (λ image sent was.
     let now = g.met.B.Bench.only_now c.args.bench.now image sent was in
-    untouched_report (audit_over base history) (subjects base.secret.shape) (g.B.Bench.file c.args.bench.now) (g.B.Bench.sent c.args.bench.now) image sent (now.1, quiet image now.0))
+    untouched_report (audit_over base history) (subjects base.secret.shape) (g.B.Bench.file c.args.bench.now) (g.B.Bench.sent c.args.bench.now) image sent
+    (now.1, quiet image now.0))
 
 pub returns-in-Err-NoMemory-clause-simulated : goal.returns-in-Err-NoMemory-clause-simulated
 returns-in-Err-NoMemory-clause-simulated g c = λ ptold itold asked columns public files.
@@ -67,17 +71,20 @@ returns-in-Err-NoMemory-clause-simulated g c = λ ptold itold asked columns publ
 
 pub returns-in-Err-NoMemory-clause-simulating : goal.returns-in-Err-NoMemory-clause-simulating
 returns-in-Err-NoMemory-clause-simulating g c = λ ptold told asked quiet columns public files.
-    before_lines g.B.Bench c.args.bench.now (λ image sent was. g.met.B.Bench.only_now c.args.bench.now image sent was) quiet g.I.Source.told columns public (counted_lines (g.I.Source.left c.args.input.now))
+    before_lines g.B.Bench c.args.bench.now (λ image sent was. g.met.B.Bench.only_now c.args.bench.now image sent was) quiet g.I.Source.told columns public
+    (counted_lines (g.I.Source.left c.args.input.now))
 
 pub returns-in-Err-NoMemory-clause-undisturbed : goal.returns-in-Err-NoMemory-clause-undisturbed
-returns-in-Err-NoMemory-clause-undisturbed g c = λ told asked quiet. still_file g.B.Bench c.args.bench.now (λ image sent was. g.met.B.Bench.only_now c.args.bench.now image sent was) quiet
+returns-in-Err-NoMemory-clause-undisturbed g c =
+    λ told asked quiet. still_file g.B.Bench c.args.bench.now (λ image sent was. g.met.B.Bench.only_now c.args.bench.now image sent was) quiet
 
 -- ---- `init`
 
 pub returns-in-Ok-Init-clause-file : goal.returns-in-Ok-Init-clause-file
 returns-in-Ok-Init-clause-file g c = λ ptold told command asked base files.
     let is = one_command _ Init command (c.in-Ok-Init.ensures.command ∙ ap (λ (k : Command). Some k) c.in-Ok-Init.field-0-is) asked in
-    subst (λ (named : Command). FileCause c.init.result named (g.B.Bench.file c.args.bench.now) base.secret) is (c.init.ensures.file_cause ptold told base files)
+    subst (λ (named : Command). FileCause c.init.result named (g.B.Bench.file c.args.bench.now) base.secret) is
+    (c.init.ensures.file_cause ptold told base files)
 
 pub returns-in-Ok-Init-clause-makes : goal.returns-in-Ok-Init-clause-makes
 returns-in-Ok-Init-clause-makes g c = λ ptold told asked base files absent none.
@@ -96,12 +103,14 @@ returns-in-Ok-Serve-clause-later g c = c.serve.ensures.later (g.B.Bench.faults c
 
 pub returns-in-Ok-Serve-clause-words : goal.returns-in-Ok-Serve-clause-words
 returns-in-Ok-Serve-clause-words g c =
-    subst (λ (asked : Option Command). WordCause c.serve.result asked) (sym (c.in-Ok-Serve.ensures.command ∙ ap (λ (k : Command). Some k) c.in-Ok-Serve.field-0-is)) c.serve.ensures.word_cause
+    subst (λ (asked : Option Command). WordCause c.serve.result asked)
+    (sym (c.in-Ok-Serve.ensures.command ∙ ap (λ (k : Command). Some k) c.in-Ok-Serve.field-0-is)) c.serve.ensures.word_cause
 
 pub returns-in-Ok-Serve-clause-file : goal.returns-in-Ok-Serve-clause-file
 returns-in-Ok-Serve-clause-file g c = λ ptold told command asked base files.
     let is = one_command _ (Serve c.in-Ok-Serve.batch) command (c.in-Ok-Serve.ensures.command ∙ ap (λ (k : Command). Some k) c.in-Ok-Serve.field-0-is) asked in
-    subst (λ (named : Command). FileCause c.serve.result named (g.B.Bench.file c.args.bench.now) base.secret) is (c.serve.ensures.file_cause ptold told base files)
+    subst (λ (named : Command). FileCause c.serve.result named (g.B.Bench.file c.args.bench.now) base.secret) is
+    (c.serve.ensures.file_cause ptold told base files)
 
 pub returns-in-Ok-Serve-clause-served : goal.returns-in-Ok-Serve-clause-served
 returns-in-Ok-Serve-clause-served g c = λ ptold itold told batch asked base history over.
@@ -114,13 +123,15 @@ pub returns-in-Ok-Serve-clause-any_moment : goal.returns-in-Ok-Serve-clause-any_
 returns-in-Ok-Serve-clause-any_moment g c = λ ptold itold told batch asked quiet base history over.
     let lines = counted_lines (g.I.Source.left c.args.input.now) in
     let is = one_batch _ c.in-Ok-Serve.batch batch (c.in-Ok-Serve.ensures.command ∙ ap (λ (k : Command). Some k) c.in-Ok-Serve.field-0-is) asked in
-    subst (λ (n : ℕ). LeavesOnly g.B.Bench c.args.bench.now c.serve.new.bench (StopsOver base n history lines (g.B.Bench.sent c.args.bench.now))) is (c.serve.ensures.any_moment ptold itold told quiet base history over)
+    subst (λ (n : ℕ). LeavesOnly g.B.Bench c.args.bench.now c.serve.new.bench (StopsOver base n history lines (g.B.Bench.sent c.args.bench.now))) is
+    (c.serve.ensures.any_moment ptold itold told quiet base history over)
 
 pub returns-in-Ok-Serve-clause-serve_calls : goal.returns-in-Ok-Serve-clause-serve_calls
 returns-in-Ok-Serve-clause-serve_calls g c = λ ptold itold told batch asked done base history over.
     let lines = counted_lines (g.I.Source.left c.args.input.now) in
     let is = one_batch _ c.in-Ok-Serve.batch batch (c.in-Ok-Serve.ensures.command ∙ ap (λ (k : Command). Some k) c.in-Ok-Serve.field-0-is) asked in
-    subst (λ (n : ℕ). TakesCalls base history n lines (g.B.Bench.moment c.args.bench.now + 2) (g.B.Bench.moment c.serve.new.bench)) is (c.serve.ensures.calls ptold itold told done base history over)
+    subst (λ (n : ℕ). TakesCalls base history n lines (g.B.Bench.moment c.args.bench.now + 2) (g.B.Bench.moment c.serve.new.bench)) is
+    (c.serve.ensures.calls ptold itold told done base history over)
 
 pub returns-in-Ok-Serve-clause-undisclosed : goal.returns-in-Ok-Serve-clause-undisclosed
 returns-in-Ok-Serve-clause-undisclosed g c = λ ptold told batch asked quiet base history over. c.serve.ensures.undisclosed ptold told quiet base history over
@@ -134,7 +145,8 @@ returns-in-Ok-Serve-clause-complete g c = λ ptold itold told batch asked base h
 
 pub returns-in-Ok-Serve-clause-no_lines : goal.returns-in-Ok-Serve-clause-no_lines
 returns-in-Ok-Serve-clause-no_lines g c = λ command asked none.
-    not_false reads_lines (Serve c.in-Ok-Serve.batch) command (one_command _ (Serve c.in-Ok-Serve.batch) command (c.in-Ok-Serve.ensures.command ∙ ap (λ (k : Command). Some k) c.in-Ok-Serve.field-0-is) asked) refl none
+    not_false reads_lines (Serve c.in-Ok-Serve.batch) command
+    (one_command _ (Serve c.in-Ok-Serve.batch) command (c.in-Ok-Serve.ensures.command ∙ ap (λ (k : Command). Some k) c.in-Ok-Serve.field-0-is) asked) refl none
 
 pub returns-in-Ok-Serve-clause-lives : goal.returns-in-Ok-Serve-clause-lives
 returns-in-Ok-Serve-clause-lives g c = λ ptold itold told batch asked quiet base history over runs life image sent now was stands.
@@ -142,7 +154,8 @@ returns-in-Ok-Serve-clause-lives g c = λ ptold itold told batch asked quiet bas
     let before = g.B.Bench.sent c.args.bench.now in
     let stops : StopsOver base batch history (counted_lines input) before image (before ++ sent) = (returns-in-Ok-Serve-clause-any_moment g c ptold itold told batch asked quiet base history over).each image (before ++ sent) was in
     let same : stops.0 ≡ sent = sym (append_cancel_left before sent stops.0 stops.1) in
-    c.lives.ensures.longer (g.P.Source.left c.args.schema.now) (g.P.Source.left c.args.table.now) image base runs history (record { batch = batch; input = input; last = now; sent = sent }) over.files life
+    c.lives.ensures.longer (g.P.Source.left c.args.schema.now) (g.P.Source.left c.args.table.now) image base runs history
+    (record { batch = batch; input = input; last = now; sent = sent }) over.files life
     (c.read_words.ensures.batch batch asked) stands
     (subst (λ (bytes : List ℕ). Stop (IsDue base) (stands_over base) batch history (counted_lines input) image bytes) same stops.2)
 
@@ -151,7 +164,8 @@ returns-in-Ok-Serve-clause-lives g c = λ ptold itold told batch asked quiet bas
 pub returns-in-Ok-Audit-clause-file : goal.returns-in-Ok-Audit-clause-file
 returns-in-Ok-Audit-clause-file g c = λ ptold told command asked base files.
     let is = one_command _ Audit command (c.in-Ok-Audit.ensures.command ∙ ap (λ (k : Command). Some k) c.in-Ok-Audit.field-0-is) asked in
-    subst (λ (named : Command). FileCause c.audit.result named (g.B.Bench.file c.args.bench.now) base.secret) is (c.audit.ensures.file_cause ptold told base files)
+    subst (λ (named : Command). FileCause c.audit.result named (g.B.Bench.file c.args.bench.now) base.secret) is
+    (c.audit.ensures.file_cause ptold told base files)
 
 pub returns-in-Ok-Audit-clause-audits : goal.returns-in-Ok-Audit-clause-audits
 returns-in-Ok-Audit-clause-audits g c = λ ptold told asked base history over none.
@@ -168,21 +182,25 @@ returns-in-Ok-Audit-clause-input_last g c = λ is. absurd (false≢true (subst (
 pub returns-in-Ok-Simulate-clause-file : goal.returns-in-Ok-Simulate-clause-file
 returns-in-Ok-Simulate-clause-file g c = λ ptold told command asked base files.
     let is = one_command _ Simulate command (c.in-Ok-Simulate.ensures.command ∙ ap (λ (k : Command). Some k) c.in-Ok-Simulate.field-0-is) asked in
-    subst (λ (named : Command). FileCause c.simulate.result named (g.B.Bench.file c.args.bench.now) base.secret) is (c.simulate.ensures.file_cause (g.B.Bench.file c.args.bench.now) base.secret)
+    subst (λ (named : Command). FileCause c.simulate.result named (g.B.Bench.file c.args.bench.now) base.secret) is
+    (c.simulate.ensures.file_cause (g.B.Bench.file c.args.bench.now) base.secret)
 
 pub returns-in-Ok-Simulate-clause-table : goal.returns-in-Ok-Simulate-clause-table
 returns-in-Ok-Simulate-clause-table g c = λ ptold command asked reads columns is.
-    not_false reads_secrets command Simulate (one_command _ command Simulate asked (c.in-Ok-Simulate.ensures.command ∙ ap (λ (k : Command). Some k) c.in-Ok-Simulate.field-0-is)) reads refl
+    not_false reads_secrets command Simulate
+    (one_command _ command Simulate asked (c.in-Ok-Simulate.ensures.command ∙ ap (λ (k : Command). Some k) c.in-Ok-Simulate.field-0-is)) reads refl
 
 pub returns-in-Ok-Simulate-clause-no_lines : goal.returns-in-Ok-Simulate-clause-no_lines
 returns-in-Ok-Simulate-clause-no_lines g c = λ command asked none.
-    not_false reads_lines Simulate command (one_command _ Simulate command (c.in-Ok-Simulate.ensures.command ∙ ap (λ (k : Command). Some k) c.in-Ok-Simulate.field-0-is) asked) refl none
+    not_false reads_lines Simulate command
+    (one_command _ Simulate command (c.in-Ok-Simulate.ensures.command ∙ ap (λ (k : Command). Some k) c.in-Ok-Simulate.field-0-is) asked) refl none
 
 pub returns-in-Ok-Simulate-clause-later : goal.returns-in-Ok-Simulate-clause-later
 returns-in-Ok-Simulate-clause-later g c = c.simulate.ensures.later (g.B.Bench.faults c.args.spare.now)
 
 pub returns-in-Ok-Simulate-clause-simulating : goal.returns-in-Ok-Simulate-clause-simulating
-returns-in-Ok-Simulate-clause-simulating g c = λ ptold told asked quiet columns public files. c.simulate.ensures.any_moment ptold told quiet columns public files
+returns-in-Ok-Simulate-clause-simulating g c =
+    λ ptold told asked quiet columns public files. c.simulate.ensures.any_moment ptold told quiet columns public files
 
 pub returns-in-Ok-Simulate-clause-simulates : goal.returns-in-Ok-Simulate-clause-simulates
 returns-in-Ok-Simulate-clause-simulates g c = λ ptold itold asked columns public files verdicts agree within none.
@@ -192,22 +210,29 @@ returns-in-Ok-Simulate-clause-simulates g c = λ ptold itold asked columns publi
 
 pub returns-in-Ok-Drill-clause-words : goal.returns-in-Ok-Drill-clause-words
 returns-in-Ok-Drill-clause-words g c =
-    subst (λ (asked : Option Command). WordCause c.drill.result asked) (sym (c.in-Ok-Drill.ensures.command ∙ ap (λ (k : Command). Some k) c.in-Ok-Drill.field-0-is)) c.drill.ensures.word_cause
+    subst (λ (asked : Option Command). WordCause c.drill.result asked)
+    (sym (c.in-Ok-Drill.ensures.command ∙ ap (λ (k : Command). Some k) c.in-Ok-Drill.field-0-is)) c.drill.ensures.word_cause
 
 pub returns-in-Ok-Drill-clause-file : goal.returns-in-Ok-Drill-clause-file
 returns-in-Ok-Drill-clause-file g c = λ ptold told command asked base files.
     let is = one_command _ (Drill c.in-Ok-Drill.number) command (c.in-Ok-Drill.ensures.command ∙ ap (λ (k : Command). Some k) c.in-Ok-Drill.field-0-is) asked in
-    subst (λ (named : Command). FileCause c.drill.result named (g.B.Bench.file c.args.bench.now) base.secret) is (c.drill.ensures.file_cause (g.B.Bench.file c.args.bench.now) base.secret)
+    subst (λ (named : Command). FileCause c.drill.result named (g.B.Bench.file c.args.bench.now) base.secret) is
+    (c.drill.ensures.file_cause (g.B.Bench.file c.args.bench.now) base.secret)
 
 pub returns-in-Ok-Drill-clause-faults : goal.returns-in-Ok-Drill-clause-faults
-returns-in-Ok-Drill-clause-faults g c = c.drill.ensures.faults (g.P.Source.faults c.args.schema.now) (g.P.Source.faults c.args.table.now) (g.I.Source.faults c.args.input.now) (g.B.Bench.faults c.args.spare.now)
+returns-in-Ok-Drill-clause-faults g c =
+    c.drill.ensures.faults (g.P.Source.faults c.args.schema.now) (g.P.Source.faults c.args.table.now) (g.I.Source.faults c.args.input.now)
+    (g.B.Bench.faults c.args.spare.now)
 
 pub returns-in-Ok-Drill-clause-later : goal.returns-in-Ok-Drill-clause-later
-returns-in-Ok-Drill-clause-later g c = c.drill.ensures.later (g.P.Source.faults c.args.schema.now) (g.P.Source.faults c.args.table.now) (g.I.Source.faults c.args.input.now) (g.B.Bench.faults c.args.spare.now)
+returns-in-Ok-Drill-clause-later g c =
+    c.drill.ensures.later (g.P.Source.faults c.args.schema.now) (g.P.Source.faults c.args.table.now) (g.I.Source.faults c.args.input.now)
+    (g.B.Bench.faults c.args.spare.now)
 
 pub returns-in-Ok-Drill-clause-drills : goal.returns-in-Ok-Drill-clause-drills
 returns-in-Ok-Drill-clause-drills g c = λ number asked none.
-    c.drill.ensures.complete (g.P.Source.faults c.args.schema.now) (g.P.Source.faults c.args.table.now) (g.I.Source.faults c.args.input.now) (g.B.Bench.faults c.args.spare.now) none
+    c.drill.ensures.complete (g.P.Source.faults c.args.schema.now) (g.P.Source.faults c.args.table.now) (g.I.Source.faults c.args.input.now)
+    (g.B.Bench.faults c.args.spare.now) none
 
 pub returns-in-Ok-Drill-clause-drilled : goal.returns-in-Ok-Drill-clause-drilled
 returns-in-Ok-Drill-clause-drilled g c = λ told number asked.
@@ -216,16 +241,20 @@ returns-in-Ok-Drill-clause-drilled g c = λ told number asked.
 
 pub returns-in-Ok-Drill-clause-schema : goal.returns-in-Ok-Drill-clause-schema
 returns-in-Ok-Drill-clause-schema g c = λ ptold command asked reads.
-    not_false reads_files command (Drill c.in-Ok-Drill.number) (one_command _ command (Drill c.in-Ok-Drill.number) asked (c.in-Ok-Drill.ensures.command ∙ ap (λ (k : Command). Some k) c.in-Ok-Drill.field-0-is)) reads refl
+    not_false reads_files command (Drill c.in-Ok-Drill.number)
+    (one_command _ command (Drill c.in-Ok-Drill.number) asked (c.in-Ok-Drill.ensures.command ∙ ap (λ (k : Command). Some k) c.in-Ok-Drill.field-0-is)) reads refl
 
 pub returns-in-Ok-Drill-clause-table : goal.returns-in-Ok-Drill-clause-table
 returns-in-Ok-Drill-clause-table g c = λ ptold command asked reads columns schema.
-    not_false reads_secrets command (Drill c.in-Ok-Drill.number) (one_command _ command (Drill c.in-Ok-Drill.number) asked (c.in-Ok-Drill.ensures.command ∙ ap (λ (k : Command). Some k) c.in-Ok-Drill.field-0-is)) reads refl
+    not_false reads_secrets command (Drill c.in-Ok-Drill.number)
+    (one_command _ command (Drill c.in-Ok-Drill.number) asked (c.in-Ok-Drill.ensures.command ∙ ap (λ (k : Command). Some k) c.in-Ok-Drill.field-0-is)) reads refl
 
 pub returns-in-Ok-Drill-clause-input : goal.returns-in-Ok-Drill-clause-input
 returns-in-Ok-Drill-clause-input g c = λ itold command asked reads.
-    not_false reads_lines command (Drill c.in-Ok-Drill.number) (one_command _ command (Drill c.in-Ok-Drill.number) asked (c.in-Ok-Drill.ensures.command ∙ ap (λ (k : Command). Some k) c.in-Ok-Drill.field-0-is)) reads refl
+    not_false reads_lines command (Drill c.in-Ok-Drill.number)
+    (one_command _ command (Drill c.in-Ok-Drill.number) asked (c.in-Ok-Drill.ensures.command ∙ ap (λ (k : Command). Some k) c.in-Ok-Drill.field-0-is)) reads refl
 
 pub returns-in-Ok-Drill-clause-nothing_began : goal.returns-in-Ok-Drill-clause-nothing_began
 returns-in-Ok-Drill-clause-nothing_began g c = λ ptold told command asked opens quiet none.
-    not_false opens_journal command (Drill c.in-Ok-Drill.number) (one_command _ command (Drill c.in-Ok-Drill.number) asked (c.in-Ok-Drill.ensures.command ∙ ap (λ (k : Command). Some k) c.in-Ok-Drill.field-0-is)) opens refl
+    not_false opens_journal command (Drill c.in-Ok-Drill.number)
+    (one_command _ command (Drill c.in-Ok-Drill.number) asked (c.in-Ok-Drill.ensures.command ∙ ap (λ (k : Command). Some k) c.in-Ok-Drill.field-0-is)) opens refl

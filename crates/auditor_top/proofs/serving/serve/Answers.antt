@@ -47,7 +47,8 @@ returns-in-Err-clause-any_moment g c = λ ptold itold told quiet base history ov
     started g.B.Bench c.args.bench.now _
     (λ image sent was.
     let now = g.met.B.Bench.only_now c.args.bench.now image sent was in
-    untouched_stops base c.args.batch history (counted_lines (g.I.Source.left c.args.input.now)) (g.B.Bench.file c.args.bench.now) (g.B.Bench.sent c.args.bench.now) image sent over.stands (now.1, quiet image now.0))
+    untouched_stops base c.args.batch history (counted_lines (g.I.Source.left c.args.input.now)) (g.B.Bench.file c.args.bench.now)
+    (g.B.Bench.sent c.args.bench.now) image sent over.stands (now.1, quiet image now.0))
 
 pub returns-in-Err-clause-undisclosed : goal.returns-in-Err-clause-undisclosed
 returns-in-Err-clause-undisclosed g c = λ ptold told quiet base history over image sent now was stands.
@@ -66,7 +67,8 @@ returns-in-Err-new-clause-any_moment g c = λ ptold itold told quiet base histor
     started g.B.Bench c.args.bench.now _
     (λ image sent was.
     let now = g.met.B.Bench.only_now c.args.bench.now image sent was in
-    untouched_stops base c.args.batch history (counted_lines (g.I.Source.left c.args.input.now)) (g.B.Bench.file c.args.bench.now) (g.B.Bench.sent c.args.bench.now) image sent over.stands (now.1, quiet image now.0))
+    untouched_stops base c.args.batch history (counted_lines (g.I.Source.left c.args.input.now)) (g.B.Bench.file c.args.bench.now)
+    (g.B.Bench.sent c.args.bench.now) image sent over.stands (now.1, quiet image now.0))
 
 pub returns-in-Err-new-clause-undisclosed : goal.returns-in-Err-new-clause-undisclosed
 returns-in-Err-new-clause-undisclosed g c = λ ptold told quiet base history over image sent now was stands.
@@ -169,7 +171,8 @@ returns-clause-ends g c = λ ptold itold told base history over.
     let stands : (c.serve.result ≢ Err end.Bench → StandsFor after.file now.secret.shape later.history) = λ fine. subst (λ (s : SecretView). StandsFor after.file s.shape later.history) c.serve.ensures.secret (c.serve.ensures.stands told fine) in
     let ends = session_ends c.serve.result seen batch now.history later.history (record { input = input; sent = g.B.Bench.sent c.start.new.bench; file = file }) after
     (c.serve.ensures.done itold told) (c.serve.ensures.input_end itold told) (c.serve.ensures.limit_end itold told) (c.serve.ensures.memory_end itold told) stands in
-    subst (λ (status : Status). ServeEnds batch status base history (record { input = input; sent = g.B.Bench.sent c.args.bench.now; file = file }) after) (sym c.ended.ensures)
+    subst (λ (status : Status). ServeEnds batch status base history (record { input = input; sent = g.B.Bench.sent c.args.bench.now; file = file }) after)
+    (sym c.ended.ensures)
     (subst (λ (b : Database). ServeEnds batch (session_status c.serve.result) b history (record { input = input; sent = g.B.Bench.sent c.args.bench.now; file = file }) after) (sym is)
     (subst (λ (h : List Answered). ServeEnds batch (session_status c.serve.result) seen h (record { input = input; sent = g.B.Bench.sent c.args.bench.now; file = file }) after) past
     (subst (λ (sent : List ℕ). ServeEnds batch (session_status c.serve.result) seen now.history (record { input = input; sent = sent; file = file }) after) c.start.ensures.sent ends)))

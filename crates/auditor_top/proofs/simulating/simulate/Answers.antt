@@ -31,10 +31,12 @@ returns-in-Err-clause-verdicts g c = λ ptold itold columns public files.
 
 pub returns-in-Err-clause-any_moment : goal.returns-in-Err-clause-any_moment
 returns-in-Err-clause-any_moment g c = λ ptold told quiet columns public files.
-    before_lines g.B.Bench c.args.bench.now (λ image sent was. g.met.B.Bench.only_now c.args.bench.now image sent was) quiet g.I.Source.told columns public (counted_lines (g.I.Source.left c.args.input.now))
+    before_lines g.B.Bench c.args.bench.now (λ image sent was. g.met.B.Bench.only_now c.args.bench.now image sent was) quiet g.I.Source.told columns public
+    (counted_lines (g.I.Source.left c.args.input.now))
 
 pub returns-in-Err-clause-untouched : goal.returns-in-Err-clause-untouched
-returns-in-Err-clause-untouched g c = λ told quiet. still_file g.B.Bench c.args.bench.now (λ image sent was. g.met.B.Bench.only_now c.args.bench.now image sent was) quiet
+returns-in-Err-clause-untouched g c =
+    λ told quiet. still_file g.B.Bench c.args.bench.now (λ image sent was. g.met.B.Bench.only_now c.args.bench.now image sent was) quiet
 
 pub returns-in-Err-clause-complete : goal.returns-in-Err-clause-complete
 returns-in-Err-clause-complete g c = λ ptold itold columns public files verdicts agree within spare none.
@@ -45,7 +47,8 @@ returns-in-Err-clause-complete g c = λ ptold itold columns public files verdict
     let bench = g.B.Bench.faults c.args.bench.now in
     let before = counts (g.P.Source.faults c.args.schema.now) (g.P.Source.faults c.args.table.now) read bench spare in
     let after = counts (g.P.Source.faults c.open_public.new.schema) (g.P.Source.faults c.open_public.new.table) read bench spare in
-    subst (λ (status : Status). IsDoneOrWants status) (sym c.from.ensures) (unopened_wants fault columns public before after schema table (c.in-Err.ensures.faults read bench spare) none)
+    subst (λ (status : Status). IsDoneOrWants status) (sym c.from.ensures)
+    (unopened_wants fault columns public before after schema table (c.in-Err.ensures.faults read bench spare) none)
 
 -- ---- no memory for the index
 
@@ -55,10 +58,12 @@ returns-in-Err-new-clause-verdicts g c = λ ptold itold columns public files.
 
 pub returns-in-Err-new-clause-any_moment : goal.returns-in-Err-new-clause-any_moment
 returns-in-Err-new-clause-any_moment g c = λ ptold told quiet columns public files.
-    before_lines g.B.Bench c.args.bench.now (λ image sent was. g.met.B.Bench.only_now c.args.bench.now image sent was) quiet g.I.Source.told columns public (counted_lines (g.I.Source.left c.args.input.now))
+    before_lines g.B.Bench c.args.bench.now (λ image sent was. g.met.B.Bench.only_now c.args.bench.now image sent was) quiet g.I.Source.told columns public
+    (counted_lines (g.I.Source.left c.args.input.now))
 
 pub returns-in-Err-new-clause-untouched : goal.returns-in-Err-new-clause-untouched
-returns-in-Err-new-clause-untouched g c = λ told quiet. still_file g.B.Bench c.args.bench.now (λ image sent was. g.met.B.Bench.only_now c.args.bench.now image sent was) quiet
+returns-in-Err-new-clause-untouched g c =
+    λ told quiet. still_file g.B.Bench c.args.bench.now (λ image sent was. g.met.B.Bench.only_now c.args.bench.now image sent was) quiet
 
 -- ---- the transcript was read
 

@@ -17,7 +17,8 @@ returns-in_err-matches-clause-bad c = λ is.
     let same : map string_bytes c.as_slice.result.now ≡ map string_bytes c.args.words.now.items = search rules in
     let told = err_from_is_err_and c.from_residual-in_err-matches.result c.from_residual-in_err-matches.ensures.1 in
     let bad = sym told.2 ∙ same_fault c.from_residual-in_err-matches.result told.0 told.1 is in
-    ap command_of (sym same) ∙ failed_is (app_of c.in_ok-line.line) (map string_bytes c.as_slice.result.now) c.in_err-matches.field-0.0 c.in_ok-line.ensures c.in_err-matches.ensures.kinds bad
+    ap command_of (sym same)
+    ∙ failed_is (app_of c.in_ok-line.line) (map string_bytes c.as_slice.result.now) c.in_err-matches.field-0.0 c.in_ok-line.ensures c.in_err-matches.ensures.kinds bad
 
 pub returns-clause-command : goal.returns-clause-command
 returns-clause-command c =

@@ -14,7 +14,8 @@ loop-place-preserved c =
       | then-count-left w ↦ omega (arith, w.end-is, w.if-count-left.true)
       | else-count-left w ↦ omega (arith, w.end-is)
     ] in
-    touched_more c.args.dirty.now c.args.at c.loop-place.place c.loop-place.dirty c.loop-place.auto.place (omega (arith, c.loop-place.auto.dirty, c.loop-place-test.true)) c.loop-place.invariant
+    touched_more c.args.dirty.now c.args.at c.loop-place.place c.loop-place.dirty c.loop-place.auto.place
+    (omega (arith, c.loop-place.auto.dirty, c.loop-place-test.true)) c.loop-place.invariant
 
 pub returns-clause-touched : goal.returns-clause-touched
 returns-clause-touched c = λ k lt.
@@ -29,4 +30,5 @@ returns-clause-touched c = λ k lt.
       | then-count-left w ↦ omega (arith, w.end-is, c.loop-place.auto.place-end, c.loop-place-test.false)
       | else-count-left w ↦ omega (arith, w.end-is, c.loop-place.auto.place-end, c.loop-place-test.false, c.requires)
     ] in
-    c.loop-place.invariant.flags k ∙ ap (λ place. is_dirty old k || (nat_le at k && nat_lt k place)) ended ∙ ap (λ b. is_dirty old k || b) (same_end at c.args.count end (length old) k lt which)
+    c.loop-place.invariant.flags k ∙ ap (λ place. is_dirty old k || (nat_le at k && nat_lt k place)) ended
+    ∙ ap (λ b. is_dirty old k || b) (same_end at c.args.count end (length old) k lt which)

@@ -28,7 +28,8 @@ loop-line-preserved c =
     let kind = c.kind_of.result in
     record {
       kinds = had.kinds ++ kind ∷ [];
-      are = subst (λ (n : ℕ). HaveKinds (take n lines) (had.kinds ++ kind ∷ [])) (sym (length_push c.loop-line.yielded c.in-Some.line)) (one_more_kind lines (length c.loop-line.yielded) c.in-Some.line.now had.kinds kind next had.are c.kind_of.ensures);
+      are =
+          subst (λ (n : ℕ). HaveKinds (take n lines) (had.kinds ++ kind ∷ [])) (sym (length_push c.loop-line.yielded c.in-Some.line)) (one_more_kind lines (length c.loop-line.yielded) c.in-Some.line.now had.kinds kind next had.are c.kind_of.ensures);
       counts = c.count.ensures.counted had.kinds had.counts;
     }
 

@@ -16,4 +16,5 @@ new-secret-requires-clause-numbers c =
     let drawn = c.in_ok-drawn.ensures in
     let lists = ap (map (λ (v : Vec ℤ Global). v.items)) c.in_ok-lists-2.ensures.items ∙ (λ i. drawn.pays i ∷ drawn.bests i ∷ []) in
     let same : c.row_count.result ≡ c.shape.result.rows = c.row_count.ensures.rows ∙ sym c.row_count-2.ensures.rows ∙ sym (ap (λ (s : Shape). s.rows) c.shape.ensures.shape) in
-    subst (λ (n : ℕ). AllByRecursion (AreNumbers n) (map (λ (v : Vec ℤ Global). v.items) c.in_ok-lists-2.lists.items)) same (secrets_fit c.args.number c.row_count.result _ lists)
+    subst (λ (n : ℕ). AllByRecursion (AreNumbers n) (map (λ (v : Vec ℤ Global). v.items) c.in_ok-lists-2.lists.items)) same
+    (secrets_fit c.args.number c.row_count.result _ lists)

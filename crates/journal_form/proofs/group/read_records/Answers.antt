@@ -22,5 +22,6 @@ loop-preserved c =
       inside = omega (arith, ok.0, length-drop c.loop.at bytes, c.size_of_record-size.ensures, c.loop.invariant.inside);
       small = omega (arith, c.size_of_record-size.ensures, c.requires.valid.at_most);
       counted = ap length pushed ∙ length-append c.loop.list.items (c.in-Ok.answered ∷ []) ∙ ap (λ n. n + 1) c.loop.invariant.counted;
-      so_far = rw (pushed, c.size_of_record-size.ensures) (records_read c.args.shape.now bytes c.loop.at _ c.loop.list.items c.in-Ok.answered c.loop.invariant.inside c.loop.invariant.so_far ok.1);
+      so_far =
+          rw (pushed, c.size_of_record-size.ensures) (records_read c.args.shape.now bytes c.loop.at _ c.loop.list.items c.in-Ok.answered c.loop.invariant.inside c.loop.invariant.so_far ok.1);
     }

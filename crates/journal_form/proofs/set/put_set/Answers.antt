@@ -28,6 +28,7 @@ returns c =
     on_ok c.extend_from_slice.result _ (λ ok. (
       take size c.loop-at.bytes,
       c.extend_from_slice.ensures.items ∙ ap (λ b. cond b (c.args.out.now.items ++ take size c.loop-at.bytes) c.args.out.now.items) ok,
-      set_is_whole c.args.rows.now.n c.args.rows.now.list (take size c.loop-at.bytes) c.n.ensures.some c.n.ensures.are_rows (length-take-le size c.loop-at.bytes fits ∙ is)
+      set_is_whole c.args.rows.now.n c.args.rows.now.list (take size c.loop-at.bytes) c.n.ensures.some c.n.ensures.are_rows
+          (length-take-le size c.loop-at.bytes fits ∙ is)
           (λ k lt. subst (IsByteOf c.args.rows.now.n c.args.rows.now.list k) (sym (get_or-take size c.loop-at.bytes k 0 (omega arith))) (c.loop-at.invariant.so_far k (omega arith))),
     ))

@@ -18,9 +18,12 @@ add_byte-requires-clause-below c =
 pub loop-at-preserved : goal.loop-at-preserved
 loop-at-preserved c = record {
   same_n = c.add_byte.ensures.n ∙ c.loop-at.invariant.same_n;
-  so_far = next_byte c.args.n c.args.bytes.now c.loop-at.rows.list c.add_byte.new.self.list c.loop-at.at (get_or c.args.bytes.now c.loop-at.at 0) refl c.loop-at.invariant.so_far
+  so_far =
+      next_byte c.args.n c.args.bytes.now c.loop-at.rows.list c.add_byte.new.self.list c.loop-at.at
+      (get_or c.args.bytes.now c.loop-at.at 0) refl c.loop-at.invariant.so_far
       (c.add_byte.ensures.added ∙ ap (rows_that (λ r. has_row c.loop-at.rows.list r || ((r / 8 == c.loop-at.at) && (bit_at (get_or c.args.bytes.now c.loop-at.at 0) (r % 8) == 1)))) c.loop-at.invariant.same_n);
 }
 
 pub returns : goal.returns
-returns c = record { n = c.loop-at.invariant.same_n; rows = c.loop-at.invariant.so_far ∙ all_bytes c.args.n c.loop-at.at c.args.bytes.now (omega (arith, c.requires.long)) }
+returns c =
+    record { n = c.loop-at.invariant.same_n; rows = c.loop-at.invariant.so_far ∙ all_bytes c.args.n c.loop-at.at c.args.bytes.now (omega (arith, c.requires.long)) }

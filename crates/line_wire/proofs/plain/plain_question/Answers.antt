@@ -10,4 +10,5 @@ returns-clause-writes c =
     let text : text_at (codes "where") j ≡ Some c.in_ok-text.text.now = search rules in
     let word : text_at (codes "ask") j ≡ Some c.in_ok-word.word.now = search rules in
     let column : text_at (codes "column") j ≡ option_map (λ s. s.now) c.and_then-3.result = search rules in
-    plain_question_is j c.in_ok-text.text.now c.in_ok-word.word.now c.in_ok-ask.ask c.and_then-3.result c.with_name.result (search rules) text word (search rules) column c.with_name.ensures
+    plain_question_is j c.in_ok-text.text.now c.in_ok-word.word.now c.in_ok-ask.ask c.and_then-3.result c.with_name.result (search rules) text word
+    (search rules) column c.with_name.ensures

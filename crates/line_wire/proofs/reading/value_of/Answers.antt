@@ -11,4 +11,5 @@ pub returns-in-Ok-clause-texts : goal.returns-in-Ok-clause-texts
 returns-in-Ok-clause-texts c = longest-read c.args.line.now _ c.in-Ok.ensures.ok.1
 
 pub returns-else-is_memory-clause-fault : goal.returns-else-is_memory-clause-fault
-returns-else-is_memory-clause-fault c = value_of-none c.args.line.now (c.in-Err.ensures.err (λ m. false≢true (sym c.if-is_memory.false ∙ c.is_memory.ensures.1 m)))
+returns-else-is_memory-clause-fault c =
+    value_of-none c.args.line.now (c.in-Err.ensures.err (λ m. false≢true (sym c.if-is_memory.false ∙ c.is_memory.ensures.1 m)))

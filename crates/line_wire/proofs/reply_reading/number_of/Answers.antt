@@ -12,4 +12,5 @@ returns-in-Ok c = λ number small is.
     c.ok.ensures.value ∙ ap result_ok read
 
 pub returns-in-Err : goal.returns-in-Err
-returns-in-Err c = λ number small is. absurd (c.in-Err.ensures.cases.0 (IsUtf8-from_ascii c.args.piece.now (subst (λ (bytes : List ℕ). IsAscii bytes) (sym is) (IsAscii-signed number (mag_below number small)))))
+returns-in-Err c =
+    λ number small is. absurd (c.in-Err.ensures.cases.0 (IsUtf8-from_ascii c.args.piece.now (subst (λ (bytes : List ℕ). IsAscii bytes) (sym is) (IsAscii-signed number (mag_below number small)))))

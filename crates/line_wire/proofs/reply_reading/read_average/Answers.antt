@@ -11,7 +11,8 @@ use Rattle.line_wire.proofs.reply_reading.read_average.Goals as goal
 
 pub returns-in_err-comma-clause-none : goal.returns-in_err-comma-clause-none
 returns-in_err-comma-clause-none c = if_none c.from_residual.result (λ num den reply.
-    missed c.first_comma.result _ c.in_err-comma.was (c.first_comma.ensures ∙ average_comma c.args.line.now num den (omega (arith, reply.range.within)) reply.bytes))
+    missed c.first_comma.result _ c.in_err-comma.was
+    (c.first_comma.ensures ∙ average_comma c.args.line.now num den (omega (arith, reply.range.within)) reply.bytes))
 
 pub returns-in_err-num-clause-none : goal.returns-in_err-num-clause-none
 returns-in_err-num-clause-none c = if_none c.from_residual-in_err-num.result (λ num den reply.
@@ -29,4 +30,5 @@ returns-clause-none c = unconfirmed c.confirmed.result c.args.line.now _ c.confi
     let at : position (λ b. b == 44) c.args.line.now ≡ Some c.in_ok-comma.comma = sym c.first_comma.ensures ∙ c.in_ok-comma.was in
     let same_num : num ≡ c.in_ok-num.num = same_value c.number_between.result num c.in_ok-num.num (c.number_between.ensures num (omega (arith, reply.range.within)) (average_front c.args.line.now num den c.in_ok-comma.comma (omega (arith, reply.range.within)) reply.bytes at)) c.in_ok-num.was in
     let same_den : den ≡ c.in_ok-den.den = same_value c.size_between.result den c.in_ok-den.den (c.size_between.ensures den (omega (arith, reply.range.rows)) (take_rest c.args.line.now c.in_ok-comma.comma ∙ average_rest c.args.line.now num den c.in_ok-comma.comma (omega (arith, reply.range.within)) reply.bytes at)) c.in_ok-den.was in
-    wrong (simp to_z-of_z (subst (λ (n : ℕ). IsReply c.args.line.now (Avg c.in_ok-num.num n)) same_den (subst (λ (z : ℤ). IsReply c.args.line.now (Avg z den)) same_num reply))))
+    wrong
+    (simp to_z-of_z (subst (λ (n : ℕ). IsReply c.args.line.now (Avg c.in_ok-num.num n)) same_den (subst (λ (z : ℤ). IsReply c.args.line.now (Avg z den)) same_num reply))))

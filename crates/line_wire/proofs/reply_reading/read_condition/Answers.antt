@@ -6,7 +6,8 @@ use Rattle.line_wire.proofs.reply_reading.read_condition.Goals as goal
 
 pub returns-in_err-at-clause-none : goal.returns-in_err-at-clause-none
 returns-in_err-at-clause-none c = if_none c.from_residual.result (λ at reply.
-    missed c.size_between.result at c.in_err-at.was (c.size_between.ensures at (omega (arith, reply.range)) (numbered_line c.args.line.now (codes "{\"refused\":\"where\",\"at\":") (decimal at) reply.bytes)))
+    missed c.size_between.result at c.in_err-at.was
+    (c.size_between.ensures at (omega (arith, reply.range)) (numbered_line c.args.line.now (codes "{\"refused\":\"where\",\"at\":") (decimal at) reply.bytes)))
 
 pub returns-clause-none : goal.returns-clause-none
 returns-clause-none c = unconfirmed c.confirmed.result c.args.line.now _ c.confirmed.ensures (λ wrong at reply.

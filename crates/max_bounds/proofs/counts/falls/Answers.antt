@@ -31,13 +31,15 @@ overflow_add-count c =
 
 pub loop-row-preserved-then-is_extreme : goal.loop-row-preserved-then-is_extreme
 loop-row-preserved-then-is_extreme c = record {
-  together = walk_more c.loop-row.yielded c.loop-row.row-iterator c.next.new.self c.args.falling.now.list c.in-Some.row c.loop-row.invariant.together c.in-Some.ensures.steps;
+  together =
+      walk_more c.loop-row.yielded c.loop-row.row-iterator c.next.new.self c.args.falling.now.list c.in-Some.row c.loop-row.invariant.together c.in-Some.ensures.steps;
   counted = counted-push _ c.loop-row.yielded c.in-Some.row c.loop-row.count c.loop-row.invariant.counted (sym c.is_extreme.ensures ∙ c.if-is_extreme.true);
 }
 
 pub loop-row-preserved : goal.loop-row-preserved
 loop-row-preserved c = record {
-  together = walk_more c.loop-row.yielded c.loop-row.row-iterator c.next.new.self c.args.falling.now.list c.in-Some.row c.loop-row.invariant.together c.in-Some.ensures.steps;
+  together =
+      walk_more c.loop-row.yielded c.loop-row.row-iterator c.next.new.self c.args.falling.now.list c.in-Some.row c.loop-row.invariant.together c.in-Some.ensures.steps;
   counted = counted-same _ c.loop-row.yielded c.in-Some.row c.loop-row.count c.loop-row.invariant.counted (sym c.is_extreme.ensures ∙ c.if-is_extreme.false);
 }
 

@@ -12,7 +12,8 @@ overflow_sub-counts c =
     let k = c.loop-k.k in
     let count : Answer → ℕ = λ a. length (reaching (bound_at c.args.upper.now) a.rows a.value) in
     let few : length (falls_of (bound_at c.args.upper.now) c.args.falling.now.list (answer_of c.index-pairs-k.result)) ≤ length (reaching (bound_at c.args.upper.now) c.index-pairs-k.result.rows.list c.index-pairs-k.result.answer) =
-    all_at (λ a. length (falls_of (bound_at c.args.upper.now) c.args.falling.now.list a) ≤ length (reaching (bound_at c.args.upper.now) a.rows a.value)) (answers_of c.args.pairs.now)
+    all_at (λ a. length (falls_of (bound_at c.args.upper.now) c.args.falling.now.list a) ≤ length (reaching (bound_at c.args.upper.now) a.rows a.value))
+    (answers_of c.args.pairs.now)
     (answer_of c.index-pairs-k.result) c.requires.few (one_here c.args.pairs.now k c.index-pairs-k.result c.loop-k-test.true c.index-pairs-k.is) in
     let long : length c.args.counts.now ≡ length c.args.pairs.now = ap length c.requires.counted ∙ lengths_same count c.args.pairs.now in
     let same : get_or c.loop-k.counts k 0 ≡ get_or c.args.counts.now k 0 = same_here c.loop-k.counts c.args.counts.now k 0 (omega (arith, c.loop-k.auto.counts)) (omega arith) c.loop-k.invariant.left in
@@ -31,7 +32,9 @@ loop-k-preserved c =
     let here : get_or c.loop-k.counts k 0 ≡ count (answer_of c.index-pairs-k.result) =
     same ∙ ap (λ l. get_or l k 0) c.requires.counted ∙ value_here c.args.pairs.now k c.index-pairs-k.result c.loop-k-test.true c.index-pairs-k.is count in
     record {
-      done = value_more c.args.pairs.now k c.index-pairs-k.result c.loop-k-test.true c.index-pairs-k.is after c.loop-k.counts (get_or c.loop-k.counts k 0 - c.falls.result) within
+      done =
+          value_more c.args.pairs.now k c.index-pairs-k.result c.loop-k-test.true c.index-pairs-k.is after c.loop-k.counts
+          (get_or c.loop-k.counts k 0 - c.falls.result) within
           c.loop-k.invariant.done (ap (λ x. x - c.falls.result) here ∙ ap (λ x. count (answer_of c.index-pairs-k.result) - x) c.falls.ensures);
       left = set_after c.loop-k.counts c.args.counts.now k 0 _ within (omega arith) c.loop-k.invariant.left;
     }

@@ -14,7 +14,8 @@ loop-row-init c =
 
 pub loop-row-preserved-then-eq : goal.loop-row-preserved-then-eq
 loop-row-preserved-then-eq c =
-    counting_found (bound_at c.args.bounds.now) c.args.rows.now.list (to_z w128 (of_z w128 c.args.answer)) c.in-Some.row c.next.new.self c.loop-row.count c.loop-row.lone c.if-count-eq0.lone
+    counting_found (bound_at c.args.bounds.now) c.args.rows.now.list
+    (to_z w128 (of_z w128 c.args.answer)) c.in-Some.row c.next.new.self c.loop-row.count c.loop-row.lone c.if-count-eq0.lone
     (rw c.in-Some.ensures.steps at c.loop-row.invariant)
     (sym (is_bound-option_eq _ (to_z w128 (of_z w128 c.args.answer))) ∙ sym c.eq.ensures ∙ c.if-eq.true)
     (elim c.if-count-eq0.branch [
@@ -24,7 +25,8 @@ loop-row-preserved-then-eq c =
 
 pub loop-row-preserved : goal.loop-row-preserved
 loop-row-preserved c =
-    counting_passed (bound_at c.args.bounds.now) c.args.rows.now.list (to_z w128 (of_z w128 c.args.answer)) c.in-Some.row c.next.new.self c.loop-row.count c.loop-row.lone
+    counting_passed (bound_at c.args.bounds.now) c.args.rows.now.list
+    (to_z w128 (of_z w128 c.args.answer)) c.in-Some.row c.next.new.self c.loop-row.count c.loop-row.lone
     (rw c.in-Some.ensures.steps at c.loop-row.invariant)
     (sym (is_bound-option_eq _ (to_z w128 (of_z w128 c.args.answer))) ∙ sym c.eq.ensures ∙ c.if-eq.false)
 

@@ -7,5 +7,6 @@ use Rattle.max_bounds.proofs.high_rows.lower_high.Given as goal
 abbrev pub invariant-loop-kept : goal.invariant-loop-kept
 invariant-loop-kept l = record {
   same_n : AllByRecursion (λ h. h.rows.n ≡ l.rows.n) l.high;
-  stay : (bound : ℕ → Option ℤ) → AreLow bound l.answer l.rows.list → AllByRecursion (IsHigh l.rows.n bound) l.fn.high → AllByRecursion (IsHigh l.rows.n bound) l.high;
+  stay : (bound : ℕ → Option ℤ) → AreLow bound l.answer l.rows.list → AllByRecursion (IsHigh l.rows.n bound) l.fn.high →
+      AllByRecursion (IsHigh l.rows.n bound) l.high;
 }

@@ -21,7 +21,8 @@ insert_high-requires-clause-high c =
     let P = IsHigh c.args.rows.now.n (bound_at c.args.upper.now) in
     let renewed : AllByRecursion (IsHigh c.args.rows.now.n (bound_at c.args.upper.now)) c.if-not-affected.high.items = elim c.if-not-affected.branch [
       | then-not-affected w ↦
-          subst (AllByRecursion P) (sym (ap (λ (v : Vec HighRows Global). v.items) w.high-is ∙ with_items_is c.args.high.now w.lower_high.new.high (w.lower_high.auto.high ∙ w.deref_mut.ensures.len)))
+          subst (AllByRecursion P)
+          (sym (ap (λ (v : Vec HighRows Global). v.items) w.high-is ∙ with_items_is c.args.high.now w.lower_high.new.high (w.lower_high.auto.high ∙ w.deref_mut.ensures.len)))
           (w.lower_high.ensures (bound_at c.args.upper.now) low (subst (AllByRecursion P) (sym w.deref_mut.ensures.value) c.requires.high))
       | else-not-affected w ↦ subst (λ (v : Vec HighRows Global). AllByRecursion P v.items) (sym w.high-is) c.requires.high
     ] in

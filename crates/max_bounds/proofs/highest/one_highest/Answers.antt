@@ -29,8 +29,11 @@ loop-row-preserved-then-eq c =
     let seen : List ℕ = c.in-Some.first ∷ c.loop-row.yielded in
     let q = c.in-Some-row.row in
     record {
-      together = walk_more seen c.loop-row.row-iterator c.next-in-loop-row.new.self c.args.rows.now.list q c.loop-row.invariant.together c.in-Some-row.ensures.steps;
-      highest = highest_equal (bound_at c.args.upper.now) seen c.loop-row.highest c.loop-row.alone q c.loop-row.invariant.highest (equal_bounds _ _ (sym c.eq.ensures ∙ c.if-eq.true))
+      together =
+          walk_more seen c.loop-row.row-iterator c.next-in-loop-row.new.self c.args.rows.now.list q c.loop-row.invariant.together c.in-Some-row.ensures.steps;
+      highest =
+          highest_equal (bound_at c.args.upper.now) seen c.loop-row.highest c.loop-row.alone q c.loop-row.invariant.highest
+          (equal_bounds _ _ (sym c.eq.ensures ∙ c.if-eq.true))
           (fresh c.args.rows.now.n seen c.loop-row.row-iterator c.next-in-loop-row.new.self c.args.rows.now.list q c.n.ensures.are_rows c.loop-row.invariant.together c.in-Some-row.ensures.steps);
     }
 
@@ -39,8 +42,10 @@ loop-row-preserved-then-is_higher c =
     let seen : List ℕ = c.in-Some.first ∷ c.loop-row.yielded in
     let q = c.in-Some-row.row in
     record {
-      together = walk_more seen c.loop-row.row-iterator c.next-in-loop-row.new.self c.args.rows.now.list q c.loop-row.invariant.together c.in-Some-row.ensures.steps;
-      highest = highest_above (bound_at c.args.upper.now) seen c.loop-row.highest c.loop-row.alone q c.loop-row.invariant.highest (c.is_higher.ensures.0 c.if-is_higher.true);
+      together =
+          walk_more seen c.loop-row.row-iterator c.next-in-loop-row.new.self c.args.rows.now.list q c.loop-row.invariant.together c.in-Some-row.ensures.steps;
+      highest =
+          highest_above (bound_at c.args.upper.now) seen c.loop-row.highest c.loop-row.alone q c.loop-row.invariant.highest (c.is_higher.ensures.0 c.if-is_higher.true);
     }
 
 pub loop-row-preserved : goal.loop-row-preserved
@@ -48,7 +53,10 @@ loop-row-preserved c =
     let seen : List ℕ = c.in-Some.first ∷ c.loop-row.yielded in
     let q = c.in-Some-row.row in
     record {
-      together = walk_more seen c.loop-row.row-iterator c.next-in-loop-row.new.self c.args.rows.now.list q c.loop-row.invariant.together c.in-Some-row.ensures.steps;
-      highest = highest_below (bound_at c.args.upper.now) seen c.loop-row.highest c.loop-row.alone q c.loop-row.invariant.highest (other_bounds _ _ (sym c.eq.ensures ∙ c.if-eq.false))
+      together =
+          walk_more seen c.loop-row.row-iterator c.next-in-loop-row.new.self c.args.rows.now.list q c.loop-row.invariant.together c.in-Some-row.ensures.steps;
+      highest =
+          highest_below (bound_at c.args.upper.now) seen c.loop-row.highest c.loop-row.alone q c.loop-row.invariant.highest
+          (other_bounds _ _ (sym c.eq.ensures ∙ c.if-eq.false))
           (λ above. true≢false (sym (c.is_higher.ensures.1 above) ∙ c.if-is_higher.false));
     }

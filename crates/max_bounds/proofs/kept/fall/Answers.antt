@@ -22,7 +22,9 @@ returns-then-is_empty-clause-tells c =
     let none : rows_above (upper_bound answers) x rows ≡ [] = ap (λ u. rows_above u x rows) (sym (fun_ext c.requires.bounds)) ∙ sym c.requires.falling ∙ c.is_empty.ensures.0 c.if-is_empty.true in
     let same = none_falls answers rows x none in
     record {
-      counted = c.requires.told.counted ∙ map_agree (λ a. length (extremes answers a)) (λ a. length (extremes (and_answer answers rows x) a)) answers (λ a one. ap length (sym (same a one)));
+      counted =
+          c.requires.told.counted
+          ∙ map_agree (λ a. length (extremes answers a)) (λ a. length (extremes (and_answer answers rows x) a)) answers (λ a one. ap length (sym (same a one)));
       fewest_is = c.requires.told.fewest_is;
       are_least = least_same answers rows x (answers_of c.args.least.now) same c.requires.told.are_least;
     }
@@ -44,7 +46,8 @@ lower_counts-requires-clause-few c =
     let few : AllByRecursion (λ a. length (falls_of (upper_bound answers) (rows_above (upper_bound answers) x rows) a) ≤ length (extremes answers a)) answers =
     all_from (λ a. length (falls_of (upper_bound answers) (rows_above (upper_bound answers) x rows) a) ≤ length (extremes answers a)) answers
     (λ a one. (next_count answers rows x n c.n.ensures.are_rows a one (all_at (λ b. AreRows n b.rows) answers a c.requires.are_rows one)).1) in
-    subst (λ l. AllByRecursion (λ a. length (falls_of (bound_at c.args.upper.now) l a) ≤ length (reaching (bound_at c.args.upper.now) a.rows a.value)) answers) (sym c.requires.falling)
+    subst (λ l. AllByRecursion (λ a. length (falls_of (bound_at c.args.upper.now) l a) ≤ length (reaching (bound_at c.args.upper.now) a.rows a.value)) answers)
+    (sym c.requires.falling)
     (subst (λ u. AllByRecursion (λ a. length (falls_of u (rows_above u x rows) a) ≤ length (reaching u a.rows a.value)) answers) (sym (fun_ext c.requires.bounds)) few)
 
 pub returns-clause-tells : goal.returns-clause-tells
@@ -57,13 +60,17 @@ returns-clause-tells c =
     let same = to_z-of_z w64 x fits in
     record {
       counted = c.lower_counts.ensures.lowered
-          ∙ ap (λ l. map (λ (a : Answer). length (reaching (bound_at c.args.upper.now) a.rows a.value) - length (falls_of (bound_at c.args.upper.now) l a)) answers) c.requires.falling
+          ∙ ap
+          (λ l. map (λ (a : Answer). length (reaching (bound_at c.args.upper.now) a.rows a.value) - length (falls_of (bound_at c.args.upper.now) l a)) answers) c.requires.falling
           ∙ ap (λ u. map (λ (a : Answer). length (reaching u a.rows a.value) - length (falls_of u (rows_above u x rows) a)) answers) (fun_ext c.requires.bounds)
-          ∙ map_agree (λ a. length (extremes answers a) - length (falls_of (upper_bound answers) (rows_above (upper_bound answers) x rows) a)) (λ a. length (extremes (and_answer answers rows x) a)) answers
+          ∙ map_agree (λ a. length (extremes answers a) - length (falls_of (upper_bound answers) (rows_above (upper_bound answers) x rows) a))
+          (λ a. length (extremes (and_answer answers rows x) a)) answers
           (λ a one. (next_count answers rows x n c.n.ensures.are_rows a one (all_at (λ b. AreRows n b.rows) answers a c.requires.are_rows one)).0);
       fewest_is = c.fewest.ensures;
-      are_least = subst (AreLeast (extremes (and_answer answers rows x)) answers) (sym (c.lower_sets.ensures.lowered ∙ ap (λ a. map (lowered_set a rows) (answers_of c.args.least.now)) same)) (least_lowered answers rows x (answers_of c.args.least.now) c.requires.told.are_least);
+      are_least =
+          subst (AreLeast (extremes (and_answer answers rows x)) answers) (sym (c.lower_sets.ensures.lowered ∙ ap (λ a. map (lowered_set a rows) (answers_of c.args.least.now)) same)) (least_lowered answers rows x (answers_of c.args.least.now) c.requires.told.are_least);
     }
 
 pub returns-clause-descend : goal.returns-clause-descend
-returns-clause-descend c = subst Descend (sym c.lower_sets.ensures.lowered) (lowered_descend _ c.args.latest.now.rows.list (answers_of c.args.least.now) c.requires.descend)
+returns-clause-descend c =
+    subst Descend (sym c.lower_sets.ensures.lowered) (lowered_descend _ c.args.latest.now.rows.list (answers_of c.args.least.now) c.requires.descend)

@@ -20,7 +20,8 @@ returns-then-not-has_within-clause-descend c =
     let place = c.place_of-place.result in
     let set : AnsweredMax = record { rows = c.args.own.now; answer = to_z w64 (of_z w64 c.args.latest.now.answer) } in
     let items_are : c.insert.new.self.items ≡ insert least place set = c.insert.ensures.items ∙ ap (λ b. cond b (insert least place set) least) (c.insert.ensures.succeeds c.requires.room) in
-    subst (λ l. Descend (answers_of l)) (sym items_are) (inserted_descend least place set c.requires.descend (subst (λ l. IsPlaceOf (to_z w64 (of_z w64 c.args.latest.now.answer)) l place) c.deref-then-not-has_within.ensures.value c.place_of-place.ensures.place))
+    subst (λ l. Descend (answers_of l)) (sym items_are)
+    (inserted_descend least place set c.requires.descend (subst (λ l. IsPlaceOf (to_z w64 (of_z w64 c.args.latest.now.answer)) l place) c.deref-then-not-has_within.ensures.value c.place_of-place.ensures.place))
 
 pub returns-then-not-has_within-clause-tells : goal.returns-then-not-has_within-clause-tells
 returns-then-not-has_within-clause-tells c =

@@ -38,9 +38,13 @@ loop-row-preserved c =
       together = more;
       extremes_n = c.add_if.ensures.n ∙ c.loop-row.invariant.extremes_n;
       falling_n = c.add_if-in-loop-row.ensures.n ∙ c.loop-row.invariant.falling_n;
-      extremes = joined n c.loop-row.extremes.n (λ r. is_at_least answer (bound r)) c.loop-row.yielded c.next.new.self rows c.loop-row.extremes.list _ c.in-Some.row c.is_at_least.result
+      extremes =
+          joined n c.loop-row.extremes.n
+          (λ r. is_at_least answer (bound r)) c.loop-row.yielded c.next.new.self rows c.loop-row.extremes.list _ c.in-Some.row c.is_at_least.result
           c.n-n.ensures.are_rows more c.loop-row.invariant.extremes_n c.loop-row.invariant.extremes c.is_at_least.ensures c.add_if.ensures.added;
-      falling = joined n c.loop-row.falling.n (λ r. is_above answer (bound r)) c.loop-row.yielded c.next.new.self rows c.loop-row.falling.list _ c.in-Some.row c.is_above.result
+      falling =
+          joined n c.loop-row.falling.n
+          (λ r. is_above answer (bound r)) c.loop-row.yielded c.next.new.self rows c.loop-row.falling.list _ c.in-Some.row c.is_above.result
           c.n-n.ensures.are_rows more c.loop-row.invariant.falling_n c.loop-row.invariant.falling c.is_above.ensures c.add_if-in-loop-row.ensures.added;
     }
 
@@ -59,9 +63,11 @@ returns c =
 pub returns-then-are_settled-clause-extremes : goal.returns-then-are_settled-clause-extremes
 returns-then-are_settled-clause-extremes c =
     let same : to_z w64 (of_z w64 c.args.answer) ≡ c.args.answer = to_z-of_z w64 c.args.answer c.ranges.answer in
-    all_reach (bound_at c.args.upper.now) c.args.answer c.args.rows.now.list (subst (λ a. AreSettled (bound_at c.args.upper.now) a c.args.rows.now.list) same (c.are_settled.ensures c.if-are_settled.true))
+    all_reach (bound_at c.args.upper.now) c.args.answer c.args.rows.now.list
+    (subst (λ a. AreSettled (bound_at c.args.upper.now) a c.args.rows.now.list) same (c.are_settled.ensures c.if-are_settled.true))
 
 pub returns-then-are_settled-clause-falling : goal.returns-then-are_settled-clause-falling
 returns-then-are_settled-clause-falling c =
     let same : to_z w64 (of_z w64 c.args.answer) ≡ c.args.answer = to_z-of_z w64 c.args.answer c.ranges.answer in
-    c.new.ensures.empty ∙ none_above (bound_at c.args.upper.now) c.args.answer c.args.rows.now.list (subst (λ a. AreSettled (bound_at c.args.upper.now) a c.args.rows.now.list) same (c.are_settled.ensures c.if-are_settled.true))
+    c.new.ensures.empty
+    ∙ none_above (bound_at c.args.upper.now) c.args.answer c.args.rows.now.list (subst (λ a. AreSettled (bound_at c.args.upper.now) a c.args.rows.now.list) same (c.are_settled.ensures c.if-are_settled.true))

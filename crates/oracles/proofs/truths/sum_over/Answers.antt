@@ -29,7 +29,8 @@ loop-row-preserved c =
     let sum = within (to_z w64 c.loop-row.sum-bits) (10 ^ 12 * length c.loop-row.yielded) c.loop-row.invariant.small in
     let number = within (number_at c.args.numbers.now c.in-Some.row) (10 ^ 12) (number_small c.args.numbers.now c.in-Some.row c.requires.in_range) in
     record {
-      together = walk_more c.loop-row.yielded c.loop-row.row-iterator c.next.new.self c.args.rows.now.list c.in-Some.row c.loop-row.invariant.together c.in-Some.ensures.steps;
+      together =
+          walk_more c.loop-row.yielded c.loop-row.row-iterator c.next.new.self c.args.rows.now.list c.in-Some.row c.loop-row.invariant.together c.in-Some.ensures.steps;
       sum = omega (arith, ints, c.loop-row.invariant.sum, ap (sum_over c.args.numbers.now) c.in-Some.ensures.steps);
       small = size_within (to_z w64 (of_z w64 (to_z w64 c.loop-row.sum-bits +ℤ to_z w64 (of_z w64 (get_or c.args.numbers.now c.in-Some.row (pos 0))))))
           (10 ^ 12 * length (c.loop-row.yielded ++ c.in-Some.row ∷ [])) (omega (arith, ints)) (omega (arith, ints));

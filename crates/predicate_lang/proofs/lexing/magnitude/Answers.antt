@@ -3,4 +3,5 @@ use Rattle.predicate_lang.proofs.Numbers.{too_large}
 use Rattle.predicate_lang.proofs.lexing.magnitude.Goals as goal
 
 pub returns-then-value-gt-MOST : goal.returns-then-value-gt-MOST
-returns-then-value-gt-MOST c = sym (too_large c.args.digits.now c.loop-digit.digit-index c.loop-digit.value _ (omega arith) refl c.loop-digit.invariant.same (omega arith))
+returns-then-value-gt-MOST c =
+    sym (too_large c.args.digits.now c.loop-digit.digit-index c.loop-digit.value _ (omega arith) refl c.loop-digit.invariant.same (omega arith))

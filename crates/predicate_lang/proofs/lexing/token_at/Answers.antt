@@ -12,7 +12,8 @@ pub returns-then-is_ascii_alphabetic-clause-exact :
     goal.returns-then-is_ascii_alphabetic-clause-exact
 returns-then-is_ascii_alphabetic-clause-exact c =
     let letter = rw c.as_bytes-bytes.ensures.value at c.if-is_ascii_alphabetic.ensures.value in
-    ap (lexeme c.args.schema.now.columns c.args.at) (front_of_letter (get_or c.args.text.now c.args.at 0) (drop (c.args.at + 1) c.args.text.now) (sym letter)) ∙ c.word.ensures.exact
+    ap (lexeme c.args.schema.now.columns c.args.at) (front_of_letter (get_or c.args.text.now c.args.at 0) (drop (c.args.at + 1) c.args.text.now) (sym letter))
+    ∙ c.word.ensures.exact
 
 pub returns-then-is_ascii_digit-clause-exact : goal.returns-then-is_ascii_digit-clause-exact
 returns-then-is_ascii_digit-clause-exact c =

@@ -29,7 +29,8 @@ returns-in_ok-write_pred-in-Not t c =
     let is : tree_of c.args.pred.now ≡ negation (tree_of c.in-Not.p.value) = ap tree_of c.in-Not.is ∙ ap tree_of (sym (rolls-Not c.in-Not.p)) ∙ fold-roll-Pred Tree tree_step _ in
     let told = c.is_or_and-inside.ensures ∙ ap is_or_and (ap tree_of c.deref.ensures) in
     let inner = c.in_ok-write_pred-in-Not.ensures ∙ ap (λ u. string_bytes c.lead.new.out ++ printed c.args.schema.now.columns u) (ap tree_of c.deref-in-Not.ensures) in
-    then_ok c.close.result _ _ c.close.ensures (λ last. last ∙ negation_written c.args.schema.now.columns (tree_of c.args.pred.now) (tree_of c.in-Not.p.value) c.is_or_and-inside.result
+    then_ok c.close.result _ _ c.close.ensures
+    (λ last. last ∙ negation_written c.args.schema.now.columns (tree_of c.args.pred.now) (tree_of c.in-Not.p.value) c.is_or_and-inside.result
     (string_bytes c.args.out.now) (string_bytes c.args.out.now ++ codes "not ") (string_bytes c.lead.new.out) (string_bytes c.write_pred.new.out)
     is c.requires.fitting told refl c.in_ok-lead-in-Not.ensures inner)
 
@@ -40,8 +41,10 @@ returns-in_ok-write_pred-in-And-2 t c =
     let right = c.is_or_and-right.ensures ∙ ap is_or_and (ap tree_of c.deref-in-And-2.ensures) in
     let first = c.in_ok-write_pred-in-And.ensures ∙ ap (λ u. string_bytes c.open.new.out ++ printed c.args.schema.now.columns u) (ap tree_of c.deref-in-And-3.ensures) in
     let second = c.in_ok-write_pred-in-And-2.ensures ∙ ap (λ u. string_bytes c.lead-in-And.new.out ++ printed c.args.schema.now.columns u) (ap tree_of c.deref-in-And-4.ensures) in
-    then_ok c.close-in-And-2.result _ _ c.close-in-And-2.ensures (λ last. last ∙ both_written c.args.schema.now.columns (tree_of c.args.pred.now) (tree_of c.in-And.p.value) (tree_of c.in-And.q.value) c.is_or-left.result c.is_or_and-right.result
-    (string_bytes c.args.out.now) (string_bytes c.open.new.out) (string_bytes c.write_pred-in-And.new.out) (string_bytes c.close-in-And.new.out) (string_bytes c.close-in-And.new.out ++ codes " and ") (string_bytes c.lead-in-And.new.out) (string_bytes c.write_pred-in-And-2.new.out)
+    then_ok c.close-in-And-2.result _ _ c.close-in-And-2.ensures
+    (λ last. last ∙ both_written c.args.schema.now.columns (tree_of c.args.pred.now) (tree_of c.in-And.p.value) (tree_of c.in-And.q.value) c.is_or-left.result c.is_or_and-right.result
+    (string_bytes c.args.out.now) (string_bytes c.open.new.out) (string_bytes c.write_pred-in-And.new.out) (string_bytes c.close-in-And.new.out)
+    (string_bytes c.close-in-And.new.out ++ codes " and ") (string_bytes c.lead-in-And.new.out) (string_bytes c.write_pred-in-And-2.new.out)
     is c.requires.fitting left right c.in_ok-open-in-And.ensures first c.in_ok-close-in-And.ensures refl c.in_ok-lead-in-And.ensures second)
 
 pub returns-in_ok-write_pred-in-Or-2 : goal.returns-in_ok-write_pred-in-Or-2
@@ -50,17 +53,21 @@ returns-in_ok-write_pred-in-Or-2 t c =
     let right = c.is_or-right.ensures ∙ ap is_or (ap tree_of c.deref-in-Or.ensures) in
     let first = c.in_ok-write_pred-in-Or.ensures ∙ ap (λ u. string_bytes c.args.out.now ++ printed c.args.schema.now.columns u) (ap tree_of c.deref-in-Or-2.ensures) in
     let second = c.in_ok-write_pred-in-Or-2.ensures ∙ ap (λ u. string_bytes c.lead-in-Or.new.out ++ printed c.args.schema.now.columns u) (ap tree_of c.deref-in-Or-3.ensures) in
-    then_ok c.close-in-Or.result _ _ c.close-in-Or.ensures (λ last. last ∙ either_written c.args.schema.now.columns (tree_of c.args.pred.now) (tree_of c.in-Or.p.value) (tree_of c.in-Or.q.value) c.is_or-right.result
-    (string_bytes c.args.out.now) (string_bytes c.write_pred-in-Or.new.out) (string_bytes c.write_pred-in-Or.new.out ++ codes " or ") (string_bytes c.lead-in-Or.new.out) (string_bytes c.write_pred-in-Or-2.new.out)
+    then_ok c.close-in-Or.result _ _ c.close-in-Or.ensures
+    (λ last. last ∙ either_written c.args.schema.now.columns (tree_of c.args.pred.now) (tree_of c.in-Or.p.value) (tree_of c.in-Or.q.value) c.is_or-right.result
+    (string_bytes c.args.out.now) (string_bytes c.write_pred-in-Or.new.out) (string_bytes c.write_pred-in-Or.new.out ++ codes " or ")
+    (string_bytes c.lead-in-Or.new.out) (string_bytes c.write_pred-in-Or-2.new.out)
     is c.requires.fitting right first refl c.in_ok-lead-in-Or.ensures second)
 
 pub returns-in-Compare : goal.returns-in-Compare
 returns-in-Compare t c =
     let is : tree_of c.args.pred.now ≡ compared c.in-Compare.column c.in-Compare.op c.in-Compare.literal = ap tree_of c.in-Compare.is ∙ ap tree_of (sym (rolls-Compare c.in-Compare.column c.in-Compare.op c.in-Compare.literal)) ∙ fold-roll-Pred Tree tree_step _ in
-    then_ok c.write_compare.result _ _ c.write_compare.ensures (λ last. last ∙ ap (λ x. string_bytes c.args.out.now ++ printed c.args.schema.now.columns x) (sym is))
+    then_ok c.write_compare.result _ _ c.write_compare.ensures
+    (λ last. last ∙ ap (λ x. string_bytes c.args.out.now ++ printed c.args.schema.now.columns x) (sym is))
 
 pub returns-in-Within : goal.returns-in-Within
 returns-in-Within t c =
     let is : tree_of c.args.pred.now ≡ among c.in-Within.column c.in-Within.literals = ap tree_of c.in-Within.is ∙ ap tree_of (sym (rolls-Within c.in-Within.column c.in-Within.literals)) ∙ fold-roll-Pred Tree tree_step _ in
     let items : c.as_slice.result.now ≡ c.in-Within.literals = c.as_slice.ensures.value ∙ c.literals.view_is in
-    then_ok c.write_within.result _ _ c.write_within.ensures (λ last. last ∙ ap (λ ls. string_bytes c.args.out.now ++ printed c.args.schema.now.columns (among c.in-Within.column ls)) items ∙ ap (λ x. string_bytes c.args.out.now ++ printed c.args.schema.now.columns x) (sym is))
+    then_ok c.write_within.result _ _ c.write_within.ensures
+    (λ last. last ∙ ap (λ ls. string_bytes c.args.out.now ++ printed c.args.schema.now.columns (among c.in-Within.column ls)) items ∙ ap (λ x. string_bytes c.args.out.now ++ printed c.args.schema.now.columns x) (sym is))

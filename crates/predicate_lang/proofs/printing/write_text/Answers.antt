@@ -7,7 +7,10 @@ use lib.Utf8.{encode}
 use Rattle.predicate_lang.proofs.printing.write_text.Goals as goal
 
 pub quotes-preserved : goal.quotes-preserved
-quotes-preserved c = next_quote (string_bytes c.push.new.self ++ doubled c.args.text.now) (string_bytes c.quotes.out) (string_bytes c.push_str.new.self) (string_bytes c.push_str-in-Some.new.self) c.quotes.rest.now (c.in-Some.front, c.in-Some.behind) c.in-Some.ensures.cases c.quotes.invariant.1 c.in_ok-push_str.ensures.bytes c.in_ok-push_str-2.ensures.bytes c.quotes.invariant.0
+quotes-preserved c =
+    next_quote (string_bytes c.push.new.self ++ doubled c.args.text.now) (string_bytes c.quotes.out) (string_bytes c.push_str.new.self)
+    (string_bytes c.push_str-in-Some.new.self) c.quotes.rest.now
+    (c.in-Some.front, c.in-Some.behind) c.in-Some.ensures.cases c.quotes.invariant.1 c.in_ok-push_str.ensures.bytes c.in_ok-push_str-2.ensures.bytes c.quotes.invariant.0
 
 pub returns : goal.returns
 unfolding encode

@@ -7,6 +7,7 @@ use Rattle.predicate_lang.proofs.printing.write_within.Goals as goal
 
 pub returns : goal.returns
 returns c =
-    then_ok c.write_literals.result _ _ c.write_literals.ensures (λ last. among_written c.args.schema.now.columns (among c.args.column c.args.literals.now) c.args.column c.args.literals.now c.name.result.now
+    then_ok c.write_literals.result _ _ c.write_literals.ensures
+    (λ last. among_written c.args.schema.now.columns (among c.args.column c.args.literals.now) c.args.column c.args.literals.now c.name.result.now
     (string_bytes c.args.out.now) (string_bytes c.push_str.new.self) (string_bytes c.push_str-2.new.self) (string_bytes c.write_literals.new.out)
     refl c.requires.some c.name.ensures c.in_ok-push_str.ensures.bytes c.in_ok-push_str-2.ensures.bytes last)

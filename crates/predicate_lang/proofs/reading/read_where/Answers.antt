@@ -12,7 +12,8 @@ use Rattle.predicate_lang.proofs.TextsRead.{means_texts}
 use Rattle.predicate_lang.proofs.reading.read_where.Goals as goal
 
 -- what holds of each predicate that the text means holds of what is read
-read_as : (columns : List Column) (text : List ℕ) (r : Result Pred WhereFault) (P : Pred → Type 0) → Ends columns text r → ((p : Pred) → Means columns text (tree_of p) → P p) → IfOk r P
+read_as : (columns : List Column) (text : List ℕ) (r : Result Pred WhereFault) (P : Pred → Type 0) → Ends columns text r →
+    ((p : Pred) → Means columns text (tree_of p) → P p) → IfOk r P
 read_as columns text (Ok p) P ends holds = holds p ends
 read_as columns text (Err fault) P ends holds = tt
 
@@ -33,12 +34,15 @@ returns-clause-within c = refused_as c.args.schema.now.columns c.args.text.now c
 
 pub returns-clause-fitting : goal.returns-clause-fitting
 returns-clause-fitting c =
-    read_as c.args.schema.now.columns c.args.text.now c.take_tokens.result (λ p. fits c.args.schema.now.columns (tree_of p) ≡ true) c.take_tokens.ensures (λ p. means_fits c.args.schema.now.columns c.args.text.now (tree_of p))
+    read_as c.args.schema.now.columns c.args.text.now c.take_tokens.result (λ p. fits c.args.schema.now.columns (tree_of p) ≡ true) c.take_tokens.ensures
+    (λ p. means_fits c.args.schema.now.columns c.args.text.now (tree_of p))
 
 pub returns-clause-shallow : goal.returns-clause-shallow
 returns-clause-shallow c =
-    read_as c.args.schema.now.columns c.args.text.now c.take_tokens.result (λ p. height (tree_of p) ≤ 512) c.take_tokens.ensures (λ p. means_shallow c.args.schema.now.columns c.args.text.now (tree_of p))
+    read_as c.args.schema.now.columns c.args.text.now c.take_tokens.result (λ p. height (tree_of p) ≤ 512) c.take_tokens.ensures
+    (λ p. means_shallow c.args.schema.now.columns c.args.text.now (tree_of p))
 
 pub returns-clause-texts : goal.returns-clause-texts
 returns-clause-texts c =
-    read_as c.args.schema.now.columns c.args.text.now c.take_tokens.result (λ p. AreTexts (tree_of p)) c.take_tokens.ensures (λ p. means_texts c.args.schema.now.columns c.args.text.now (tree_of p) c.utf8.text)
+    read_as c.args.schema.now.columns c.args.text.now c.take_tokens.result (λ p. AreTexts (tree_of p)) c.take_tokens.ensures
+    (λ p. means_texts c.args.schema.now.columns c.args.text.now (tree_of p) c.utf8.text)

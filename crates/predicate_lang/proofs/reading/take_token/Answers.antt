@@ -11,7 +11,8 @@ use Rattle.predicate_lang.proofs.reading.take_token.Goals as goal
 pub returns-then-count-eq-MOST_TOKENS : goal.returns-then-count-eq-MOST_TOKENS
 returns-then-count-eq-MOST_TOKENS c =
     let next : IsNext c.args.schema.now.columns c.args.text.now c.args.from c.in-Ok-Some.field-0-0 = rw c.in-Ok-Some.field-0-is at c.in-Ok-Some.ensures in
-    too_many_there c.args.schema.now.columns c.args.text.now c.args.from c.args.count (build_of c.args.state.now) c.in-Ok-Some.field-0-0 c.requires.read c.if-count-eq-MOST_TOKENS.true next
+    too_many_there c.args.schema.now.columns c.args.text.now c.args.from c.args.count
+    (build_of c.args.state.now) c.in-Ok-Some.field-0-0 c.requires.read c.if-count-eq-MOST_TOKENS.true next
 
 pub returns-in-Ok : goal.returns-in-Ok
 returns-in-Ok c =
@@ -29,18 +30,21 @@ returns-in-Ok c =
 pub returns-in-Err-put : goal.returns-in-Err-put
 returns-in-Err-put c =
     let next : IsNext c.args.schema.now.columns c.args.text.now c.args.from c.in-Ok-Some.field-0-0 = rw c.in-Ok-Some.field-0-is at c.in-Ok-Some.ensures in
-    refused_put c.args.schema.now.columns c.args.text.now _ (put (build_of c.args.state.now) c.in-Ok-Some.field-0-0.token) c.in-Ok-Some.field-0-0.at c.in-Err-put.fault _ c.in-Err-put.ensures
+    refused_put c.args.schema.now.columns c.args.text.now _
+    (put (build_of c.args.state.now) c.in-Ok-Some.field-0-0.token) c.in-Ok-Some.field-0-0.at c.in-Err-put.fault _ c.in-Err-put.ensures
     (unfit_there c.args.schema.now.columns c.args.text.now c.args.from c.args.count (build_of c.args.state.now) c.in-Ok-Some.field-0-0 c.requires.read c.requires.few next)
 
 pub returns-in-Ok-finish : goal.returns-in-Ok-finish
 returns-in-Ok-finish c =
     let end : lexed_from c.args.text.now c.args.from ≡ no_tokens None = rw c.in-Ok-None.field-0-is at c.in-Ok-None.ensures in
-    finished_there c.args.schema.now.columns c.args.text.now c.args.from c.args.count (build_of c.args.state.now) _ c.requires.read c.requires.few end c.in-Ok-finish.ensures
+    finished_there c.args.schema.now.columns c.args.text.now c.args.from c.args.count
+    (build_of c.args.state.now) _ c.requires.read c.requires.few end c.in-Ok-finish.ensures
 
 pub returns-in-Err-finish : goal.returns-in-Err-finish
 returns-in-Err-finish c =
     let end : lexed_from c.args.text.now c.args.from ≡ no_tokens None = rw c.in-Ok-None.field-0-is at c.in-Ok-None.ensures in
-    refused_finish c.args.schema.now.columns c.args.text.now (built (build_of c.args.state.now)) (length c.args.text.now) c.in-Err-finish.fault c.in-Err-finish.ensures
+    refused_finish c.args.schema.now.columns c.args.text.now (built (build_of c.args.state.now))
+    (length c.args.text.now) c.in-Err-finish.fault c.in-Err-finish.ensures
     (unfinished_there c.args.schema.now.columns c.args.text.now c.args.from c.args.count (build_of c.args.state.now) c.requires.read c.requires.few end)
 
 pub returns-in-Err : goal.returns-in-Err

@@ -25,4 +25,5 @@ returns-clause-in_range c =
     let sum : to_z w64 (of_z w64 c.args.sum) ≡ c.args.sum = to_z-of_z w64 c.args.sum c.ranges.sum in
     let is = to_z-of_z w64 c.quotient.result num ∙ c.quotient.ensures ∙ ap (λ (z : ℤ). int_div z (pos c.divisor_of-divisor.result)) sum in
     let divisor = subst (λ (z : ℤ). IsGcd (unsigned_abs z) c.args.size c.divisor_of-divisor.result) sum c.divisor_of-divisor.ensures.divisor in
-    subst (λ (z : ℤ). IsAverage z (c.args.size / c.divisor_of-divisor.result)) (sym is) (in_range c.args.sum c.args.size c.divisor_of-divisor.result c.requires.some divisor c.requires.at_most c.requires.small)
+    subst (λ (z : ℤ). IsAverage z (c.args.size / c.divisor_of-divisor.result)) (sym is)
+    (in_range c.args.sum c.args.size c.divisor_of-divisor.result c.requires.some divisor c.requires.at_most c.requires.small)

@@ -11,7 +11,8 @@ use Rattle.set_index.proofs.asking.numbers_where.Goals as goal
 pub returns-in-Ne-clause-rows : goal.returns-in-Ne-clause-rows
 returns-in-Ne-clause-rows c =
     let back : to_z w64 (of_z w64 c.args.number) ≡ c.args.number = search rules in
-    numbers_unequal c.args.index.now c.args.column _ c.args.number _ _ (rw back at c.numbers_equal-rows.ensures.rows) c.numbers_equal-rows.ensures.n c.flip.ensures.others
+    numbers_unequal c.args.index.now c.args.column _ c.args.number _ _
+    (rw back at c.numbers_equal-rows.ensures.rows) c.numbers_equal-rows.ensures.n c.flip.ensures.others
     ∙ ap (λ o. meets c.args.index.now c.args.column o (Number c.args.number)) (sym c.in-Ne.is)
 
 pub returns-in-Lt-clause-rows : goal.returns-in-Lt-clause-rows
@@ -33,7 +34,8 @@ returns-in-Le-clause-rows c =
 pub returns-in-Gt-clause-rows : goal.returns-in-Gt-clause-rows
 returns-in-Gt-clause-rows c =
     let back : to_z w64 (of_z w64 c.args.number) ≡ c.args.number = search rules in
-    numbers_found c.args.index.now c.args.column _ Gt c.args.number c.numbers_of-list.result.now c.order-order.result.now c.sorted-sorted.result.now.order _ c.within_number-in-Gt.result (length c.order-order.result.now)
+    numbers_found c.args.index.now c.args.column _ Gt c.args.number c.numbers_of-list.result.now c.order-order.result.now c.sorted-sorted.result.now.order _ c.within_number-in-Gt.result
+    (length c.order-order.result.now)
     (ap (λ (p : PublicView). cells_at p c.args.column) (sym c.public.ensures) ∙ c.numbers_of-list.ensures) c.sorted-sorted.ensures.rows c.order-order.ensures.order
     (greater_range (λ r. int_cmp (slice_index_or c.numbers_of-list.result.now r (pos 0)) c.args.number) c.order-order.result.now _ (rw back at c.within_number-in-Gt.ensures.point)) c.range-in-Gt.ensures.rows
     ∙ ap (λ o. meets c.args.index.now c.args.column o (Number c.args.number)) (sym c.in-Gt.is)
@@ -41,7 +43,8 @@ returns-in-Gt-clause-rows c =
 pub returns-in-Ge-clause-rows : goal.returns-in-Ge-clause-rows
 returns-in-Ge-clause-rows c =
     let back : to_z w64 (of_z w64 c.args.number) ≡ c.args.number = search rules in
-    numbers_found c.args.index.now c.args.column _ Ge c.args.number c.numbers_of-list.result.now c.order-order.result.now c.sorted-sorted.result.now.order _ c.below_number-in-Ge.result (length c.order-order.result.now)
+    numbers_found c.args.index.now c.args.column _ Ge c.args.number c.numbers_of-list.result.now c.order-order.result.now c.sorted-sorted.result.now.order _ c.below_number-in-Ge.result
+    (length c.order-order.result.now)
     (ap (λ (p : PublicView). cells_at p c.args.column) (sym c.public.ensures) ∙ c.numbers_of-list.ensures) c.sorted-sorted.ensures.rows c.order-order.ensures.order
     (at_least_range (λ r. int_cmp (slice_index_or c.numbers_of-list.result.now r (pos 0)) c.args.number) c.order-order.result.now _ (rw back at c.below_number-in-Ge.ensures.point)) c.range-in-Ge.ensures.rows
     ∙ ap (λ o. meets c.args.index.now c.args.column o (Number c.args.number)) (sym c.in-Ge.is)

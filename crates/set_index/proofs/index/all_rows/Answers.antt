@@ -14,4 +14,6 @@ pub loop-row-preserved : goal.loop-row-preserved
 loop-row-preserved c = c.in_ok-push.ensures.items ∙ ap (λ xs. xs ++ c.loop-row.row ∷ []) c.loop-row.invariant ∙ sym (rows_that_more (λ r. true) c.loop-row.row)
 
 pub returns-clause-ascending : goal.returns-clause-ascending
-returns-clause-ascending c = subst (IsSorted nat_cmp) (sym c.loop-row.invariant) (ascending_sorted 0 c.loop-row.row (rows_that (λ r. true) c.loop-row.row) (AreRows-rows_that (λ r. true) c.loop-row.row))
+returns-clause-ascending c =
+    subst (IsSorted nat_cmp) (sym c.loop-row.invariant)
+    (ascending_sorted 0 c.loop-row.row (rows_that (λ r. true) c.loop-row.row) (AreRows-rows_that (λ r. true) c.loop-row.row))

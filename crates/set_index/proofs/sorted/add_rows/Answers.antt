@@ -7,7 +7,8 @@ pub loop-row-init : goal.loop-row-init
 loop-row-init c = record { n = refl; added = sym (added_none _ _ c.requires.are_rows) }
 
 pub add-requires : goal.add-requires
-add-requires c = subst (λ n. get_or c.args.list.now c.loop-row.row-index 0 < n) (sym c.loop-row.invariant.n) (c.requires.below c.loop-row.row-index 0 c.loop-row-test.true)
+add-requires c =
+    subst (λ n. get_or c.args.list.now c.loop-row.row-index 0 < n) (sym c.loop-row.invariant.n) (c.requires.below c.loop-row.row-index 0 c.loop-row-test.true)
 
 pub loop-row-preserved : goal.loop-row-preserved
 loop-row-preserved c = record {
@@ -19,4 +20,5 @@ loop-row-preserved c = record {
 }
 
 pub returns-clause-added : goal.returns-clause-added
-returns-clause-added c = c.loop-row.invariant.added ∙ ap (union c.args.rows.now.n c.args.rows.now.list) (take_all c.loop-row.row-index c.args.list.now (omega arith))
+returns-clause-added c =
+    c.loop-row.invariant.added ∙ ap (union c.args.rows.now.n c.args.rows.now.list) (take_all c.loop-row.row-index c.args.list.now (omega arith))

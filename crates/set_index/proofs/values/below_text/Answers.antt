@@ -8,5 +8,7 @@ use Rattle.set_index.proofs.values.below_text.Goals as goal
 
 pub returns-clause-point : goal.returns-clause-point
 returns-clause-point c =
-    IsPartitionPoint-from_clause (λ r. is_lt (slice_cmp nat_cmp (slice_index_or (map (λ t. t.items) c.args.list.now) r []) c.args.text.now)) _ _ c.partition_point.ensures.partitioned
-    (smaller_first nat_list_cmp_total (λ r. slice_index_or (map (λ t. t.items) c.args.list.now) r []) c.args.text.now c.args.rows.now c.requires) (λ a r q k. search rules)
+    IsPartitionPoint-from_clause
+    (λ r. is_lt (slice_cmp nat_cmp (slice_index_or (map (λ t. t.items) c.args.list.now) r []) c.args.text.now)) _ _ c.partition_point.ensures.partitioned
+    (smaller_first nat_list_cmp_total (λ r. slice_index_or (map (λ t. t.items) c.args.list.now) r []) c.args.text.now c.args.rows.now c.requires)
+    (λ a r q k. search rules)

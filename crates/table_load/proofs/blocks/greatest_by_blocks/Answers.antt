@@ -28,8 +28,10 @@ loop-block-preserved c =
             same_n = n;
             are = are;
             greatest = ap (λ z. fold int_max z (map (number_at c.args.list.now) c.take_block.new.self.list)) greatest
-                ∙ greatest_step c.args.rows.now.n c.args.list.now c.loop-block.left.list c.take_block.new.self.list c.loop-block.block (get_or c.args.blocks.now c.loop-block.block (pos 0))
-                c.loop-block.invariant.are whole (left ∙ ap (λ b. cond b (rows_left c.args.rows.now.n c.loop-block.left.list c.loop-block.block) c.loop-block.left.list) w.if-take_block.true)
+                ∙ greatest_step c.args.rows.now.n c.args.list.now c.loop-block.left.list c.take_block.new.self.list c.loop-block.block
+                (get_or c.args.blocks.now c.loop-block.block (pos 0))
+                c.loop-block.invariant.are whole
+                (left ∙ ap (λ b. cond b (rows_left c.args.rows.now.n c.loop-block.left.list c.loop-block.block) c.loop-block.left.list) w.if-take_block.true)
                 (to_z w64 c.loop-block.greatest-bits) (c.requires.blocks c.loop-block.block within)
                 ∙ c.loop-block.invariant.greatest;
           }

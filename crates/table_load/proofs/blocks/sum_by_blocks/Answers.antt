@@ -29,7 +29,8 @@ loop-block-preserved c =
           block_small c.args.rows.now.n c.args.list.now c.args.blocks.now c.loop-block.block c.n-n.ensures.at_most c.requires.numbers c.requires.blocks within in
           let was = c.loop-block.invariant.small in
           let step = sum_step c.args.rows.now.n c.args.list.now c.loop-block.left.list c.take_block.new.self.list c.loop-block.block (get_or c.args.blocks.now c.loop-block.block (pos 0))
-          c.loop-block.invariant.are whole (left ∙ ap (λ b. cond b (rows_left c.args.rows.now.n c.loop-block.left.list c.loop-block.block) c.loop-block.left.list) w.if-take_block.true)
+          c.loop-block.invariant.are whole
+          (left ∙ ap (λ b. cond b (rows_left c.args.rows.now.n c.loop-block.left.list c.loop-block.block) c.loop-block.left.list) w.if-take_block.true)
           (to_z w64 c.loop-block.sum-bits) (c.requires.blocks c.loop-block.block within) in
           let total = c.loop-block.invariant.total in
           record { same_n = n; are = are; total = omega (arith, ints, step, total, small, was); small = omega (arith, ints, small, was) }
@@ -39,7 +40,9 @@ loop-block-preserved c =
           record {
             same_n = n;
             are = are;
-            total = ap (λ z. z +ℤ sum_over c.args.list.now c.take_block.new.self.list) w.sum-is ∙ ap (λ l. to_z w64 c.loop-block.sum-bits +ℤ sum_over c.args.list.now l) kept ∙ c.loop-block.invariant.total;
+            total =
+                ap (λ z. z +ℤ sum_over c.args.list.now c.take_block.new.self.list) w.sum-is
+                ∙ ap (λ l. to_z w64 c.loop-block.sum-bits +ℤ sum_over c.args.list.now l) kept ∙ c.loop-block.invariant.total;
             small = omega (arith, ints, was);
           }
     ]

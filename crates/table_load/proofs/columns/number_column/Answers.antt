@@ -10,11 +10,13 @@ use Rattle.table_load.proofs.GoodCells.{record_has}
 use Rattle.table_load.proofs.columns.number_column.Goals as goal
 
 pub field-requires : goal.field-requires
-field-requires c = (record_has (HasCell c.args.role c.args.k) c.args.rows.now c.loop-row.row-index c.row-item.result c.requires.cells (omega arith) c.row-item.is).within
+field-requires c =
+    (record_has (HasCell c.args.role c.args.k) c.args.rows.now c.loop-row.row-index c.row-item.result c.requires.cells (omega arith) c.row-item.is).within
 
 pub number_of-requires : goal.number_of-requires
 number_of-requires c =
-    rw c.field.ensures ((record_has (HasCell c.args.role c.args.k) c.args.rows.now c.loop-row.row-index c.row-item.result c.requires.cells (omega arith) c.row-item.is).number c.requires.numeric)
+    rw c.field.ensures
+    ((record_has (HasCell c.args.role c.args.k) c.args.rows.now c.loop-row.row-index c.row-item.result c.requires.cells (omega arith) c.row-item.is).number c.requires.numeric)
 
 pub loop-row-preserved : goal.loop-row-preserved
 loop-row-preserved c =

@@ -29,7 +29,8 @@ loop-place-preserved c =
     let pushed : is_ok c.push.result ≡ true = c.is_err.ensures.negation ∙ ap not c.if-is_err.false in
     let items = rw pushed at c.push.ensures.items in
     let more : map cells_kept c.push.new.self.items ≡ map cells_kept c.loop-place.columns.items ++ cells_of role k rows ∷ [] =
-    ap (map cells_kept) items ∙ map-append cells_kept c.loop-place.columns.items (c.in-Ok.column ∷ []) ∙ ap (λ x. map cells_kept c.loop-place.columns.items ++ x ∷ []) c.in-Ok.ensures in
+    ap (map cells_kept) items ∙ map-append cells_kept c.loop-place.columns.items (c.in-Ok.column ∷ [])
+    ∙ ap (λ x. map cells_kept c.loop-place.columns.items ++ x ∷ []) c.in-Ok.ensures in
     let step = c.loop-place.invariant.columns ∙ ap (λ xs. map cells_kept c.loop-place.columns.items ++ xs) (cells_step c.args.which k cs place role rows within c.role-role.ensures) in
     elim c.if-has.branch [
       | then-has w ↦
@@ -41,7 +42,8 @@ loop-place-preserved c =
                 ∙ ap (λ b. map cells_kept c.loop-place.columns.items ++ cells_of role k rows ∷ cells_from c.args.which (cond b (k + 1) k) (drop (place + 1) cs) rows) in_file
                 ∙ sym (append_assoc (map cells_kept c.loop-place.columns.items) (cells_of role k rows ∷ []) rest)
                 );
-            roles = rw w.k-is (drop_tail (roles_of (file_columns c.args.which cs)) k role _ (c.loop-place.invariant.roles ∙ roles_with c.args.which cs place role within c.role-role.ensures in_file));
+            roles =
+                rw w.k-is (drop_tail (roles_of (file_columns c.args.which cs)) k role _ (c.loop-place.invariant.roles ∙ roles_with c.args.which cs place role within c.role-role.ensures in_file));
             at_most = omega (arith, w.k-is, c.loop-place.invariant.at_most);
           }
       | else-has w ↦
@@ -50,7 +52,8 @@ loop-place-preserved c =
           record {
             columns = rw (w.k-is, more) (
                 step
-                ∙ ap (λ b. map cells_kept c.loop-place.columns.items ++ cells_of role k rows ∷ cells_from c.args.which (cond b (k + 1) k) (drop (place + 1) cs) rows) not_in_file
+                ∙ ap
+                (λ b. map cells_kept c.loop-place.columns.items ++ cells_of role k rows ∷ cells_from c.args.which (cond b (k + 1) k) (drop (place + 1) cs) rows) not_in_file
                 ∙ sym (append_assoc (map cells_kept c.loop-place.columns.items) (cells_of role k rows ∷ []) rest)
                 );
             roles = rw w.k-is (c.loop-place.invariant.roles ∙ ap roles_of (columns_without c.args.which cs place role within c.role-role.ensures not_in_file));

@@ -14,7 +14,8 @@ pub number_column-requires-clause-cells : goal.number_column-requires-clause-cel
 number_column-requires-clause-cells c =
     let cs = c.args.schema.now.columns in
     let within : c.loop-place.place < length cs = omega (arith, c.count-place-end.ensures.count) in
-    records_hold _ 2 (map fields_of c.args.rows.now) c.loop-place.place c.role-role.result (roles_of (drop (c.loop-place.place + 1) cs)) c.requires (role_of_all cs c.loop-place.place c.role-role.result within c.role-role.ensures)
+    records_hold _ 2 (map fields_of c.args.rows.now) c.loop-place.place c.role-role.result (roles_of (drop (c.loop-place.place + 1) cs)) c.requires
+    (role_of_all cs c.loop-place.place c.role-role.result within c.role-role.ensures)
 
 pub loop-place-preserved : goal.loop-place-preserved
 loop-place-preserved c =
@@ -32,7 +33,8 @@ loop-place-preserved c =
           let pushed : is_ok w.push.result ≡ true = w.is_err.ensures.negation ∙ ap not w.if-is_err.false in
           let items = rw pushed at w.push.ensures.items in
           let more : map (λ (v : Vec ℤ Global). v.items) w.push.new.self.items ≡ old ++ number_column place rows ∷ [] =
-          ap (map (λ (v : Vec ℤ Global). v.items)) items ∙ map-append (λ (v : Vec ℤ Global). v.items) c.loop-place.lists.items (w.in-Ok.list ∷ []) ∙ ap (λ x. old ++ x ∷ []) w.in-Ok.ensures in
+          ap (map (λ (v : Vec ℤ Global). v.items)) items ∙ map-append (λ (v : Vec ℤ Global). v.items) c.loop-place.lists.items (w.in-Ok.list ∷ [])
+          ∙ ap (λ x. old ++ x ∷ []) w.in-Ok.ensures in
           rw (w.lists-is, more) (
           step
           ∙ ap (λ b. old ++ cond b (number_column place rows ∷ rest) rest) secret

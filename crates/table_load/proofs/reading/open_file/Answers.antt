@@ -15,10 +15,14 @@ pub returns-in-Ok : goal.returns-in-Ok
 returns-in-Ok c =
     let has = c.records_of-records.ensures in
     let steps = c.next.ensures.steps has.turns has.plain in
-    opened_first (file_columns c.args.which c.args.schema.now.columns) c.args.bytes.now c.records_of-records.result c.next.new.self c.next.result c.if-bytes-gt-MOST_TABLE.false has (steps.0 has.ready) steps.3 c.in-Ok.ensures
+    opened_first
+    (file_columns c.args.which c.args.schema.now.columns) c.args.bytes.now c.records_of-records.result c.next.new.self c.next.result c.if-bytes-gt-MOST_TABLE.false has
+    (steps.0 has.ready) steps.3 c.in-Ok.ensures
 
 pub returns : goal.returns
 returns c =
     let has = c.records_of-records.ensures in
     let steps = c.next.ensures.steps has.turns has.plain in
-    fault_first (file_columns c.args.which c.args.schema.now.columns) c.args.bytes.now c.records_of-records.result c.next.new.self c.next.result c.in-Err.fault c.if-bytes-gt-MOST_TABLE.false has (steps.0 has.ready) steps.3 c.in-Err.ensures
+    fault_first
+    (file_columns c.args.which c.args.schema.now.columns) c.args.bytes.now c.records_of-records.result c.next.new.self c.next.result c.in-Err.fault c.if-bytes-gt-MOST_TABLE.false has
+    (steps.0 has.ready) steps.3 c.in-Err.ensures

@@ -19,7 +19,8 @@ returns-in-Err-add_row c =
     let opened = c.loop-row.invariant.opened in
     let step = rw c.in-Some.is at ((c.next.ensures.steps opened.read.turns opened.read.plain).0 opened.read.ready) in
     let still = rw c.in-Some.is at (c.next.ensures.steps opened.read.turns opened.read.plain).3 in
-    fault_of_row (file_columns c.args.which c.args.schema.now.columns) c.args.bytes.now c.args.roles.now c.loop-row.rows.items c.loop-row.row-iterator c.next.new.self c.in-Some.row c.in-Err-add_row.fault c.add_row.new.rows.items
+    fault_of_row
+    (file_columns c.args.which c.args.schema.now.columns) c.args.bytes.now c.args.roles.now c.loop-row.rows.items c.loop-row.row-iterator c.next.new.self c.in-Some.row c.in-Err-add_row.fault c.add_row.new.rows.items
     opened step still c.requires.roles c.loop-row.invariant.good c.loop-row.invariant.at_most c.in-Err-add_row.ensures
 
 pub loop-row-preserved : goal.loop-row-preserved
@@ -37,7 +38,8 @@ returns-then-is_empty c =
     let step = rw c.in-None.is at ((c.next.ensures.steps opened.read.turns opened.read.plain).0 opened.read.ready) in
     let rows = map fields_of c.loop-row.rows.items in
     let none : length rows ≡ 0 = omega (arith, length-map c.loop-row.rows.items fields_of, eqb-true (vec_len c.loop-row.rows) 0 (sym c.is_empty.ensures ∙ c.if-is_empty.true)) in
-    judged_all (file_columns c.args.which c.args.schema.now.columns) c.args.bytes.now rows c.loop-row.row-iterator c.next.new.self opened step ∙ no_rows _ rows none
+    judged_all (file_columns c.args.which c.args.schema.now.columns) c.args.bytes.now rows c.loop-row.row-iterator c.next.new.self opened step
+    ∙ no_rows _ rows none
 
 pub returns : goal.returns
 returns c =

@@ -24,7 +24,8 @@ loop-row-preserved c =
     let most : c.max-greatest.result ≡ int_max (to_z w64 c.loop-row.greatest-bits) (number_at c.args.list.now c.in-Some.row) =
     c.max-greatest.ensures.value ∙ ap (int_max (to_z w64 c.loop-row.greatest-bits)) number in
     record {
-      together = walk_more c.loop-row.yielded c.loop-row.row-iterator c.next.new.self c.args.rows.now.list c.in-Some.row c.loop-row.invariant.together c.in-Some.ensures.steps;
+      together =
+          walk_more c.loop-row.yielded c.loop-row.row-iterator c.next.new.self c.args.rows.now.list c.in-Some.row c.loop-row.invariant.together c.in-Some.ensures.steps;
       greatest = ap (λ z. fold int_max z (map (number_at c.args.list.now) c.next.new.self)) (fits ∙ most)
           ∙ sym (ap (λ rows. fold int_max (to_z w64 c.loop-row.greatest-bits) (map (number_at c.args.list.now) rows)) c.in-Some.ensures.steps)
           ∙ c.loop-row.invariant.greatest;

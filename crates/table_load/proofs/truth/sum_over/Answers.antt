@@ -30,7 +30,8 @@ loop-row-preserved c =
     omega (arith, length-rows c.args.rows.now.n c.args.rows.now.list c.n-n.ensures.are_rows, ap length c.loop-row.invariant.together, length-append c.loop-row.yielded c.loop-row.row-iterator) in
     let first = ap (sum_over c.args.list.now) c.in-Some.ensures.steps in
     record {
-      together = walk_more c.loop-row.yielded c.loop-row.row-iterator c.next.new.self c.args.rows.now.list c.in-Some.row c.loop-row.invariant.together c.in-Some.ensures.steps;
+      together =
+          walk_more c.loop-row.yielded c.loop-row.row-iterator c.next.new.self c.args.rows.now.list c.in-Some.row c.loop-row.invariant.together c.in-Some.ensures.steps;
       total = omega (arith, ints, first, c.loop-row.invariant.total);
       small = omega (arith, ints, length-append c.loop-row.yielded (c.in-Some.row ∷ []));
     }

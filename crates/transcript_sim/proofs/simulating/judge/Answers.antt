@@ -21,7 +21,8 @@ pub loop-scratch-init : goal.loop-scratch-init
 loop-scratch-init g c = record {
   lines = [];
   verdicts = [];
-  so_far = nothing_yet g.P.Source g.B.Bench c.args.schema.now.columns c.args.index.now c.args.source.now c.args.bench.now c.lines_in_turn.ensures.none c.args.lines.now c.requires.fresh (λ image bytes was. g.met.B.Bench.only_now c.args.bench.now image bytes was);
+  so_far =
+      nothing_yet g.P.Source g.B.Bench c.args.schema.now.columns c.args.index.now c.args.source.now c.args.bench.now c.lines_in_turn.ensures.none c.args.lines.now c.requires.fresh (λ image bytes was. g.met.B.Bench.only_now c.args.bench.now image bytes was);
   even = refl;
   line_is = refl;
   history = c.requires.nothing;
@@ -34,7 +35,9 @@ pub returns-in_err-expected : goal.returns-in_err-expected
 returns-in_err-expected g c =
     let why = c.in_err-expected.field-0.0 in
     let same : c.from_residual.result ≡ ended_by why = search rules in
-    subst (λ (r : Result (Unit {0}) SimulationFault). Simulates g.P.Source g.B.Bench c.args.schema.now.columns c.args.index.now c.args.source.now c.next_question.new.source c.args.bench.now c.loop-scratch.bench r) (sym same)
+    subst
+    (λ (r : Result (Unit {0}) SimulationFault). Simulates g.P.Source g.B.Bench c.args.schema.now.columns c.args.index.now c.args.source.now c.next_question.new.source c.args.bench.now c.loop-scratch.bench r)
+    (sym same)
     (cut_short g.P.Source g.B.Bench c.args.schema.now.columns c.args.index.now c.args.source.now c.args.bench.now c.lines_in_turn.ensures.more c.loop-scratch.lines c.loop-scratch.source c.loop-scratch.bench c.loop-scratch.invariant.lines c.loop-scratch.invariant.verdicts c.loop-scratch.invariant.so_far c.next_question.new.lines c.next_question.new.source why c.in_err-expected.ensures.short c.in_err-expected.ensures.cuts)
 
 pub returns : goal.returns
@@ -47,7 +50,9 @@ returns-in_err-send_verdict g c =
     let sent = c.in_err-send_verdict.ensures in
     let same : c.from_residual-in_err-send_verdict.result ≡ ended_by fault.Bench = search rules in
     let question = subst (λ (o : Option Expected). AsksNext g.P.Source c.loop-scratch.lines c.next_question.new.lines c.loop-scratch.source c.next_question.new.source c.args.schema.now.columns c.args.index.now c.loop-scratch.core.history o) c.in-Some.is c.in_ok-expected.ensures.asks in
-    subst (λ (r : Result (Unit {0}) SimulationFault). Simulates g.P.Source g.B.Bench c.args.schema.now.columns c.args.index.now c.args.source.now c.next_question.new.source c.args.bench.now c.send_verdict.new.bench r) (sym same)
+    subst
+    (λ (r : Result (Unit {0}) SimulationFault). Simulates g.P.Source g.B.Bench c.args.schema.now.columns c.args.index.now c.args.source.now c.next_question.new.source c.args.bench.now c.send_verdict.new.bench r)
+    (sym same)
     (asked_unsent g.P.Source g.B.Bench c.args.schema.now.columns c.args.index.now c.args.source.now c.args.bench.now c.lines_in_turn.ensures.more c.loop-scratch.lines c.loop-scratch.source c.loop-scratch.bench c.loop-scratch.core c.loop-scratch.line c.loop-scratch.invariant c.next_question.new.lines c.next_question.new.source c.in-Some.expected question
     c.in_ok-expected.ensures.cuts c.due-due.result c.due-due.ensures c.send_verdict.new.bench sent.file sent.crash sent.time sent.part sent.cause.failed sent.last_call sent.cause.later)
 
@@ -64,7 +69,9 @@ returns-in_err-due g c =
     c.in_ok-expected.ensures.cuts c.due-due.result c.due-due.ensures c.send_verdict.new.bench sent.file sent.crash sent.time sent.all sent.ticks sent.cause.steady in
     let why = c.in_err-due.field-0.0 in
     let same : c.from_residual-in_err-due.result ≡ ended_by why = search rules in
-    subst (λ (r : Result (Unit {0}) SimulationFault). Simulates g.P.Source g.B.Bench columns public c.args.source.now c.next_shown.new.source c.args.bench.now c.send_verdict.new.bench r) (sym same)
+    subst
+    (λ (r : Result (Unit {0}) SimulationFault). Simulates g.P.Source g.B.Bench columns public c.args.source.now c.next_shown.new.source c.args.bench.now c.send_verdict.new.bench r)
+    (sym same)
     (cut_short g.P.Source g.B.Bench c.args.schema.now.columns c.args.index.now c.args.source.now c.args.bench.now c.lines_in_turn.ensures.more c.next_question.new.lines c.next_question.new.source c.send_verdict.new.bench (half.lines ++ half.question ∷ []) (half.verdicts ++ sent_for expected ∷ []) half.so_far c.next_shown.new.lines c.next_shown.new.source why c.in_err-due.ensures.short c.in_err-due.ensures.cuts)
 
 pub returns-in-None : goal.returns-in-None
@@ -77,7 +84,9 @@ returns-in-None g c =
     let half = asked_half g.P.Source g.B.Bench c.args.schema.now.columns c.args.index.now c.args.source.now c.args.bench.now c.lines_in_turn.ensures.more c.loop-scratch.lines c.loop-scratch.source c.loop-scratch.bench c.loop-scratch.core c.loop-scratch.line c.loop-scratch.invariant c.next_question.new.lines c.next_question.new.source expected question
     c.in_ok-expected.ensures.cuts c.due-due.result c.due-due.ensures c.send_verdict.new.bench sent.file sent.crash sent.time sent.all sent.ticks sent.cause.steady in
     let none = subst (λ (o : Option Shown). ShowsNext g.P.Source c.next_question.new.lines c.next_shown.new.lines c.next_question.new.source c.next_shown.new.source expected o) c.in-None.is c.in_ok-due.ensures.shows in
-    all_read g.P.Source g.B.Bench c.args.schema.now.columns c.args.index.now c.args.source.now c.args.bench.now c.lines_in_turn.ensures.more c.next_question.new.lines c.next_question.new.source c.send_verdict.new.bench (half.lines ++ half.question ∷ []) (half.verdicts ++ sent_for expected ∷ []) half.so_far c.next_shown.new.lines c.next_shown.new.source none c.in_ok-due.ensures.cuts
+    all_read g.P.Source g.B.Bench c.args.schema.now.columns c.args.index.now c.args.source.now c.args.bench.now c.lines_in_turn.ensures.more c.next_question.new.lines c.next_question.new.source c.send_verdict.new.bench
+    (half.lines ++ half.question ∷ [])
+    (half.verdicts ++ sent_for expected ∷ []) half.so_far c.next_shown.new.lines c.next_shown.new.source none c.in_ok-due.ensures.cuts
 
 pub returns-in-Some-Disagrees : goal.returns-in-Some-Disagrees
 returns-in-Some-Disagrees g c =
@@ -90,7 +99,9 @@ returns-in-Some-Disagrees g c =
     c.in_ok-expected.ensures.cuts c.due-due.result c.due-due.ensures c.send_verdict.new.bench sent.file sent.crash sent.time sent.all sent.ticks sent.cause.steady in
     let shows = subst (λ (o : Option Shown). ShowsNext g.P.Source c.next_question.new.lines c.next_shown.new.lines c.next_question.new.source c.next_shown.new.source expected o) c.in-Some-Disagrees.is c.in_ok-due.ensures.shows in
     let not_agreed = subst (λ (s : Shown). ComesTo shows.line expected s) c.in-Some-Disagrees.field-0-is shows.comes_to in
-    subst (λ (d : Due). Simulates g.P.Source g.B.Bench columns public c.args.source.now c.next_shown.new.source c.args.bench.now c.send_verdict.new.bench (ended_by (fault.Disagrees (c.loop-scratch.line + 2) d))) (sym c.due-due.ensures)
+    subst
+    (λ (d : Due). Simulates g.P.Source g.B.Bench columns public c.args.source.now c.next_shown.new.source c.args.bench.now c.send_verdict.new.bench (ended_by (fault.Disagrees (c.loop-scratch.line + 2) d)))
+    (sym c.due-due.ensures)
     (disagreed g.P.Source g.B.Bench c.args.schema.now.columns c.args.index.now c.args.source.now c.args.bench.now c.lines_in_turn.ensures.more c.next_question.new.lines c.next_question.new.source c.send_verdict.new.bench c.loop-scratch.core (c.loop-scratch.line + 2) expected half c.next_shown.new.lines c.next_shown.new.source shows.line shows.gives c.in_ok-due.ensures.cuts c.one_verdict.ensures.called c.one_verdict.ensures.due not_agreed)
 
 pub loop-scratch-preserved : goal.loop-scratch-preserved
@@ -137,5 +148,7 @@ returns-in_err-take-in-Some-Agrees-Some g c =
     c.in_ok-expected.ensures.cuts c.due-due.result c.due-due.ensures c.send_verdict.new.bench sent.file sent.crash sent.time sent.all sent.ticks sent.cause.steady in
     let shows = subst (λ (o : Option Shown). ShowsNext g.P.Source c.next_question.new.lines c.next_shown.new.lines c.next_question.new.source c.next_shown.new.source expected o) c.in-Some-Agrees-Some.is c.in_ok-due.ensures.shows in
     let same : c.from_residual-in_err-take-in-Some-Agrees-Some.result ≡ ended_by fault.NoMemory = search rules in
-    subst (λ (r : Result (Unit {0}) SimulationFault). Simulates g.P.Source g.B.Bench columns public c.args.source.now c.next_shown.new.source c.args.bench.now c.send_verdict.new.bench r) (sym same)
+    subst
+    (λ (r : Result (Unit {0}) SimulationFault). Simulates g.P.Source g.B.Bench columns public c.args.source.now c.next_shown.new.source c.args.bench.now c.send_verdict.new.bench r)
+    (sym same)
     (wants_memory g.P.Source g.B.Bench c.args.schema.now.columns c.args.index.now c.args.source.now c.args.bench.now c.lines_in_turn.ensures.more c.next_question.new.lines c.next_question.new.source c.send_verdict.new.bench (half.lines ++ half.question ∷ []) (half.verdicts ++ sent_for expected ∷ []) half.so_far c.next_shown.new.source shows.gives.steady)

@@ -15,7 +15,9 @@ returns-in_err-lines-clause-verdicts g c = λ t.
     let input = g.P.Source.left c.args.source.now in
     let sent = g.B.Bench.sent c.args.bench.now in
     let same : c.from_residual.result ≡ ended_by fault.NoMemory = search rules in
-    subst (λ (r : Result (Unit {0}) SimulationFault). (verdicts : List (Replied Answered)) × EndVerdicts r c.args.schema.now.columns c.args.index.now input input verdicts × (g.B.Bench.told → EndSends r verdicts sent sent)) (sym same)
+    subst
+    (λ (r : Result (Unit {0}) SimulationFault). (verdicts : List (Replied Answered)) × EndVerdicts r c.args.schema.now.columns c.args.index.now input input verdicts × (g.B.Bench.told → EndSends r verdicts sent sent))
+    (sym same)
     ([], record { count = 0; are = tt }, λ u. sym (append-nil sent))
 
 pub returns-in_err-core-clause-verdicts : goal.returns-in_err-core-clause-verdicts
@@ -23,5 +25,7 @@ returns-in_err-core-clause-verdicts g c = λ t.
     let input = g.P.Source.left c.args.source.now in
     let sent = g.B.Bench.sent c.args.bench.now in
     let same : c.from_residual-in_err-core.result ≡ ended_by fault.NoMemory = search rules in
-    subst (λ (r : Result (Unit {0}) SimulationFault). (verdicts : List (Replied Answered)) × EndVerdicts r c.args.schema.now.columns c.args.index.now input input verdicts × (g.B.Bench.told → EndSends r verdicts sent sent)) (sym same)
+    subst
+    (λ (r : Result (Unit {0}) SimulationFault). (verdicts : List (Replied Answered)) × EndVerdicts r c.args.schema.now.columns c.args.index.now input input verdicts × (g.B.Bench.told → EndSends r verdicts sent sent))
+    (sym same)
     ([], record { count = 0; are = tt }, λ u. sym (append-nil sent))

@@ -13,7 +13,8 @@ returns-in_err-append_bytes-clause-any_moment g c = λ history told stands count
     let gate : c.self.inside.gate ≡ c.args.self.now.gate = ap (λ (j : JournalContents). j.gate) c.self.view_is in
     let here = subst (λ (k : ℕ). StandsAt file shape history k) (sym gate) stands in
     let room : length history + length list ≤ 65536 = omega (arith, counted, c.requires.few) in
-    at_every_moment file c.bytes-bytes.result.now shape c.args.ready.now.shape history list c.self.inside.gate here c.bytes-bytes.ensures c.requires.shape room g.B.Bench c.args.bench.now c.append_bytes.new.bench sent (c.append_bytes.ensures.any_moment told quiet)
+    at_every_moment file c.bytes-bytes.result.now shape c.args.ready.now.shape history list c.self.inside.gate here c.bytes-bytes.ensures c.requires.shape room g.B.Bench c.args.bench.now c.append_bytes.new.bench sent
+    (c.append_bytes.ensures.any_moment told quiet)
 
 pub returns-clause-any_moment : goal.returns-clause-any_moment
 returns-clause-any_moment g c = λ history told stands counted quiet.
@@ -24,7 +25,8 @@ returns-clause-any_moment g c = λ history told stands counted quiet.
     let gate : c.self.inside.gate ≡ c.args.self.now.gate = ap (λ (j : JournalContents). j.gate) c.self.view_is in
     let here = subst (λ (k : ℕ). StandsAt file shape history k) (sym gate) stands in
     let room : length history + length list ≤ 65536 = omega (arith, counted, c.requires.few) in
-    at_every_moment file c.bytes-bytes.result.now shape c.args.ready.now.shape history list c.self.inside.gate here c.bytes-bytes.ensures c.requires.shape room g.B.Bench c.args.bench.now c.append_bytes.new.bench sent (c.append_bytes.ensures.any_moment told quiet)
+    at_every_moment file c.bytes-bytes.result.now shape c.args.ready.now.shape history list c.self.inside.gate here c.bytes-bytes.ensures c.requires.shape room g.B.Bench c.args.bench.now c.append_bytes.new.bench sent
+    (c.append_bytes.ensures.any_moment told quiet)
 
 pub returns-clause-done : goal.returns-clause-done
 returns-clause-done g c = λ history told stands counted.
@@ -34,7 +36,8 @@ returns-clause-done g c = λ history told stands counted.
     let here = subst (λ (j : JournalContents). StandsAt file j.shape history j.gate) (sym c.self.view_is) stands in
     let same : c.args.ready.now.shape ≡ c.self.inside.shape = c.requires.shape ∙ ap (λ (j : JournalContents). j.shape) (sym c.self.view_is) in
     let room : length history + length list ≤ 65536 = omega (arith, counted, c.requires.few) in
-    at_end file c.bytes-bytes.result.now c.self.inside.shape c.args.ready.now.shape history list c.self.inside.gate here c.bytes-bytes.ensures same room new (c.in_ok-append_bytes.ensures.done told)
+    at_end file c.bytes-bytes.result.now c.self.inside.shape c.args.ready.now.shape history list c.self.inside.gate here c.bytes-bytes.ensures same room new
+    (c.in_ok-append_bytes.ensures.done told)
 
 pub invariant_of-self-2 : goal.invariant_of-self-2
 invariant_of-self-2 g c =

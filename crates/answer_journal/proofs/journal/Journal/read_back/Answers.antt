@@ -13,14 +13,16 @@ ending_at-requires g c =
     let contents = c.in-Ok.contents in
     let long : c.len-count.result ≡ length contents.list.items = search rules in
     let some = c.in-Ok.ensures.journal in
-    subst (λ (n : ℕ). IsJournal (record { shape = contents.shape; count = n; gate = contents.gate; usable = true })) (sym long) (is_journal some.0 contents.shape contents.list.items contents.gate some.1 (c.bytes_of_records.ensures.gate some.0 contents.shape contents.list.items contents.gate some.1))
+    subst (λ (n : ℕ). IsJournal (record { shape = contents.shape; count = n; gate = contents.gate; usable = true })) (sym long)
+    (is_journal some.0 contents.shape contents.list.items contents.gate some.1 (c.bytes_of_records.ensures.gate some.0 contents.shape contents.list.items contents.gate some.1))
 
 pub returns-in-Ok-clause-fit : goal.returns-in-Ok-clause-fit
 returns-in-Ok-clause-fit g c =
     let contents = c.in-Ok.contents in
     let same : c.ending_at.result.shape ≡ contents.shape = search rules in
     let some = c.in-Ok.ensures.journal in
-    subst (λ (shape : Shape). All (λ (r : Answered). FitsShape shape r.column r.rows) contents.list.items) (sym same) (history_fits some.0 contents.shape contents.list.items contents.gate some.1)
+    subst (λ (shape : Shape). All (λ (r : Answered). FitsShape shape r.column r.rows) contents.list.items) (sym same)
+    (history_fits some.0 contents.shape contents.list.items contents.gate some.1)
 
 pub returns-in-Ok-clause-damaged_only : goal.returns-in-Ok-clause-damaged_only
 returns-in-Ok-clause-damaged_only g c = λ at told made breaks.
@@ -34,7 +36,9 @@ returns-in-Ok-clause-whole g c = λ shape history gate told stands.
     (ap (λ (j : JournalContents). j.shape) c.ending_at.ensures ∙ once.0, once.1, ap (λ (j : JournalContents). j.gate) c.ending_at.ensures ∙ once.2)
 
 pub returns-in-Err-clause-damaged_only : goal.returns-in-Err-clause-damaged_only
-returns-in-Err-clause-damaged_only g c = λ at told made breaks. damage_is_due (g.B.Bench.file c.args.bench.now) c.in-Err.fault at c.one_break.ensures (c.in-Err.ensures.err told) made breaks
+returns-in-Err-clause-damaged_only g c =
+    λ at told made breaks. damage_is_due (g.B.Bench.file c.args.bench.now) c.in-Err.fault at c.one_break.ensures (c.in-Err.ensures.err told) made breaks
 
 pub returns-in-Err-clause-whole : goal.returns-in-Err-clause-whole
-returns-in-Err-clause-whole g c = λ shape history gate told stands. whole_has_no_fault (g.B.Bench.file c.args.bench.now) c.in-Err.fault shape history gate c.no_break_in_a_journal.ensures (c.in-Err.ensures.err told) stands
+returns-in-Err-clause-whole g c =
+    λ shape history gate told stands. whole_has_no_fault (g.B.Bench.file c.args.bench.now) c.in-Err.fault shape history gate c.no_break_in_a_journal.ensures (c.in-Err.ensures.err told) stands

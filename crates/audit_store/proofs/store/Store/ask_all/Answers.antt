@@ -21,4 +21,5 @@ returns-clause-stands g c = λ told.
     let same : whole ≡ take (length c.history-2.result.now) whole = sym (ap (λ (l : List Answered). take (length l) whole) c.history-2.ensures.is ∙ take-length whole) in
     let done = c.in_ok-keep.ensures.done history told here (sym (c.self.invariant.0.counted usable)) in
     let ended = subst (λ (h : List Answered). StandsAt (g.B.Bench.file c.keep.new.bench) c.keep.new.journal.shape h c.keep.new.journal.gate) (ap (λ (l : List Answered). history ++ take (length l - i.released) (drop i.released l)) c.history.ensures.is ∙ all ∙ same) done in
-    subst (λ (s : Shape). StandsAt (g.B.Bench.file c.keep.new.bench) s (take (length c.history-2.result.now) whole) c.keep.new.journal.gate) (c.in_ok-keep.ensures.shape ∙ shape) ended
+    subst (λ (s : Shape). StandsAt (g.B.Bench.file c.keep.new.bench) s (take (length c.history-2.result.now) whole) c.keep.new.journal.gate)
+    (c.in_ok-keep.ensures.shape ∙ shape) ended

@@ -14,7 +14,8 @@ returns-in-Ok-clause-cause g c = λ fault told is.
     let journal = c.in-Ok.journal in
     let list = c.in-Ok.list.items in
     let cause = IfErr-at_err (λ (f : StartFault). HistoryCause f journal.shape c.deref.result.now c.args.secret) is c.opened.ensures.err in
-    cause_in_file file journal.shape list journal.gate c.args.secret fault (c.in-Ok.ensures.stands told) (subst (λ (h : List Answered). HistoryCause fault journal.shape h c.args.secret) c.deref.ensures.value cause)
+    cause_in_file file journal.shape list journal.gate c.args.secret fault (c.in-Ok.ensures.stands told)
+    (subst (λ (h : List Answered). HistoryCause fault journal.shape h c.args.secret) c.deref.ensures.value cause)
 
 pub returns-in-Ok-clause-due : goal.returns-in-Ok-clause-due
 returns-in-Ok-clause-due g c = λ fault told some cause.
@@ -38,4 +39,5 @@ returns-in-Err-clause-due g c = λ fault told some cause.
 
 pub returns-in-Err-clause-opens : goal.returns-in-Err-clause-opens
 returns-in-Err-clause-opens g c = λ history told stands legal.
-    subst (λ (f : StartFault). GivesUp f) (sym c.from.ensures) (gave_up c.in-Err.fault (c.in-Err.ensures.whole c.args.secret.shape history stands.0 told stands.1))
+    subst (λ (f : StartFault). GivesUp f) (sym c.from.ensures)
+    (gave_up c.in-Err.fault (c.in-Err.ensures.whole c.args.secret.shape history stands.0 told stands.1))

@@ -16,6 +16,9 @@ returns c =
     let pushed : c.keep.new.past.items ≡ inside.past.items ++ Sent c.len-from.result (length piece) ∷ [] = c.keep.ensures.items in
     let calls : map (call_of inside.pieces.items c.extend_from_slice.new.self.items) c.keep.new.past.items ≡ c.args.self.now.calls ++ sending piece ∷ [] =
     rw (pushed, from_is, extended) (sent_grows inside.pieces.items inside.sent.items piece inside.past.items kept ∙ ap (λ log. log.calls ++ sending piece ∷ []) c.self.view_is) in
-    ap (λ k. record { calls = k; written = length inside.pieces.items; sent = c.extend_from_slice.new.self.items; most_calls = inside.most_calls; most_written = inside.most_written; most_sent = inside.most_sent }) calls
-    ∙ ap (λ s. record { calls = c.args.self.now.calls ++ sending piece ∷ []; written = length inside.pieces.items; sent = s; most_calls = inside.most_calls; most_written = inside.most_written; most_sent = inside.most_sent }) extended
-    ∙ ap (λ (log : LogContents). record { calls = c.args.self.now.calls ++ sending piece ∷ []; written = log.written; sent = log.sent ++ piece; most_calls = log.most_calls; most_written = log.most_written; most_sent = log.most_sent }) c.self.view_is
+    ap
+    (λ k. record { calls = k; written = length inside.pieces.items; sent = c.extend_from_slice.new.self.items; most_calls = inside.most_calls; most_written = inside.most_written; most_sent = inside.most_sent }) calls
+    ∙ ap
+    (λ s. record { calls = c.args.self.now.calls ++ sending piece ∷ []; written = length inside.pieces.items; sent = s; most_calls = inside.most_calls; most_written = inside.most_written; most_sent = inside.most_sent }) extended
+    ∙ ap
+    (λ (log : LogContents). record { calls = c.args.self.now.calls ++ sending piece ∷ []; written = log.written; sent = log.sent ++ piece; most_calls = log.most_calls; most_written = log.most_written; most_sent = log.most_sent }) c.self.view_is

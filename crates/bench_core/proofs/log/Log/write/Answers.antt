@@ -17,6 +17,9 @@ returns c =
     let calls : map (call_of c.extend_from_slice.new.self.items inside.sent.items) c.keep.new.past.items ≡ c.args.self.now.calls ++ wrote c.args.at piece ∷ [] =
     rw (pushed, from_is, extended) (written_grows inside.pieces.items inside.sent.items piece c.args.at inside.past.items kept ∙ ap (λ log. log.calls ++ wrote c.args.at piece ∷ []) c.self.view_is) in
     let longer : length c.extend_from_slice.new.self.items ≡ length inside.pieces.items + length piece = ap length extended ∙ length-append inside.pieces.items piece in
-    ap (λ k. record { calls = k; written = length c.extend_from_slice.new.self.items; sent = inside.sent.items; most_calls = inside.most_calls; most_written = inside.most_written; most_sent = inside.most_sent }) calls
-    ∙ ap (λ n. record { calls = c.args.self.now.calls ++ wrote c.args.at piece ∷ []; written = n; sent = inside.sent.items; most_calls = inside.most_calls; most_written = inside.most_written; most_sent = inside.most_sent }) longer
-    ∙ ap (λ (log : LogContents). record { calls = c.args.self.now.calls ++ wrote c.args.at piece ∷ []; written = log.written + length piece; sent = log.sent; most_calls = log.most_calls; most_written = log.most_written; most_sent = log.most_sent }) c.self.view_is
+    ap
+    (λ k. record { calls = k; written = length c.extend_from_slice.new.self.items; sent = inside.sent.items; most_calls = inside.most_calls; most_written = inside.most_written; most_sent = inside.most_sent }) calls
+    ∙ ap
+    (λ n. record { calls = c.args.self.now.calls ++ wrote c.args.at piece ∷ []; written = n; sent = inside.sent.items; most_calls = inside.most_calls; most_written = inside.most_written; most_sent = inside.most_sent }) longer
+    ∙ ap
+    (λ (log : LogContents). record { calls = c.args.self.now.calls ++ wrote c.args.at piece ∷ []; written = log.written + length piece; sent = log.sent; most_calls = log.most_calls; most_written = log.most_written; most_sent = log.most_sent }) c.self.view_is

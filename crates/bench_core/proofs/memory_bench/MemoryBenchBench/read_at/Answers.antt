@@ -16,7 +16,9 @@ pub returns-clause-time : goal.returns-clause-time
 returns-clause-time c = rw c.pass.ensures (time_unsent c.args.self.now other (λ image sent found. found) refl)
 
 pub returns-clause-count : goal.returns-clause-count
-returns-clause-count c = λ told. c.copy_from.ensures.count ∙ ap (λ (f : List ℕ). min (length c.copy_from.new.buf) (length f - c.args.at)) (c.file.ensures.file ∙ (rw c.pass.ensures (ap (λ (s : State). s.file) (passed_state c.args.self.now other))))
+returns-clause-count c =
+    λ told. c.copy_from.ensures.count ∙ ap (λ (f : List ℕ). min (length c.copy_from.new.buf) (length f - c.args.at)) (c.file.ensures.file ∙ (rw c.pass.ensures (ap (λ (s : State). s.file) (passed_state c.args.self.now other))))
 
 pub returns-clause-bytes : goal.returns-clause-bytes
-returns-clause-bytes c = λ told. c.copy_from.ensures.copied ∙ ap (λ (f : List ℕ). take c.copy_from.result (drop c.args.at f)) (c.file.ensures.file ∙ (rw c.pass.ensures (ap (λ (s : State). s.file) (passed_state c.args.self.now other))))
+returns-clause-bytes c =
+    λ told. c.copy_from.ensures.copied ∙ ap (λ (f : List ℕ). take c.copy_from.result (drop c.args.at f)) (c.file.ensures.file ∙ (rw c.pass.ensures (ap (λ (s : State). s.file) (passed_state c.args.self.now other))))

@@ -20,22 +20,35 @@ pub returns-clause-time : goal.returns-clause-time
 returns-clause-time c = rw c.pass_send.ensures (time_sending c.args.self.now c.args.piece.now c.args.piece.now (λ sent front. front))
 
 pub returns-then-send_fails-clause-part : goal.returns-then-send_fails-clause-part
-returns-then-send_fails-clause-part c = λ told. rw c.fail_send.ensures.changed (front_or_none c.args.self.now (take c.min-count.result c.args.piece.now) (λ v. AppendsFront (sent_of c.args.self.now) c.args.piece.now (sent_of v)) (c.min-count.result, ap (λ (s : State). s.sent) (passed_state c.args.self.now (sending (take c.min-count.result c.args.piece.now)))) (λ none. no_front (sent_of c.args.self.now) c.args.piece.now))
+returns-then-send_fails-clause-part c =
+    λ told. rw c.fail_send.ensures.changed (front_or_none c.args.self.now (take c.min-count.result c.args.piece.now) (λ v. AppendsFront (sent_of c.args.self.now) c.args.piece.now (sent_of v)) (c.min-count.result, ap (λ (s : State). s.sent) (passed_state c.args.self.now (sending (take c.min-count.result c.args.piece.now)))) (λ none. no_front (sent_of c.args.self.now) c.args.piece.now))
 
 pub returns-then-send_fails-clause-file : goal.returns-then-send_fails-clause-file
-returns-then-send_fails-clause-file c = rw c.fail_send.ensures.changed (front_or_none c.args.self.now (take c.min-count.result c.args.piece.now) (λ v. file_of v ≡ file_of c.args.self.now) (ap (λ (s : State). s.file) (passed_state c.args.self.now (sending (take c.min-count.result c.args.piece.now)))) (λ none. refl))
+returns-then-send_fails-clause-file c =
+    rw c.fail_send.ensures.changed
+    (front_or_none c.args.self.now (take c.min-count.result c.args.piece.now) (λ v. file_of v ≡ file_of c.args.self.now) (ap (λ (s : State). s.file) (passed_state c.args.self.now (sending (take c.min-count.result c.args.piece.now)))) (λ none. refl))
 
 pub returns-then-send_fails-clause-crash : goal.returns-then-send_fails-clause-crash
-returns-then-send_fails-clause-crash c = rw c.fail_send.ensures.changed (front_or_none c.args.self.now (take c.min-count.result c.args.piece.now) (λ v. (image : List ℕ) → may_leave v image → may_leave c.args.self.now image) (sent_images c.args.self.now (take c.min-count.result c.args.piece.now)) (λ none image left. left))
+returns-then-send_fails-clause-crash c =
+    rw c.fail_send.ensures.changed
+    (front_or_none c.args.self.now (take c.min-count.result c.args.piece.now) (λ v. (image : List ℕ) → may_leave v image → may_leave c.args.self.now image) (sent_images c.args.self.now (take c.min-count.result c.args.piece.now)) (λ none image left. left))
 
 pub returns-then-send_fails-clause-time : goal.returns-then-send_fails-clause-time
-returns-then-send_fails-clause-time c = rw c.fail_send.ensures.changed (front_or_none c.args.self.now (take c.min-count.result c.args.piece.now) (λ v. Elapses (length c.args.self.now.past) (length v.past) (found_since c.args.self.now) (found_since v) (Sending (may_leave v) (sent_of c.args.self.now) c.args.piece.now)) (time_sending c.args.self.now (take c.min-count.result c.args.piece.now) c.args.piece.now (λ sent front. shorter_front (sent_of c.args.self.now) c.args.piece.now c.min-count.result sent front)) (λ none. time_still c.args.self.now (Sending (may_leave c.args.self.now) (sent_of c.args.self.now) c.args.piece.now)))
+returns-then-send_fails-clause-time c =
+    rw c.fail_send.ensures.changed
+    (front_or_none c.args.self.now (take c.min-count.result c.args.piece.now) (λ v. Elapses (length c.args.self.now.past) (length v.past) (found_since c.args.self.now) (found_since v) (Sending (may_leave v) (sent_of c.args.self.now) c.args.piece.now)) (time_sending c.args.self.now (take c.min-count.result c.args.piece.now) c.args.piece.now (λ sent front. shorter_front (sent_of c.args.self.now) c.args.piece.now c.min-count.result sent front)) (λ none. time_still c.args.self.now (Sending (may_leave c.args.self.now) (sent_of c.args.self.now) c.args.piece.now)))
 
 pub returns-then-send_fails-clause-cause : goal.returns-then-send_fails-clause-cause
-returns-then-send_fails-clause-cause c = let cause : HasCause {T = Unit {0}} {E = Failed} c.args.self.now.faults (next_count c.args.self.now.faults) (Err (record {})) = failed_cause (record {}) c.args.self.now.faults c.fail_send.ensures.faults in rw c.fail_send.ensures.changed (front_or_none c.args.self.now (take c.min-count.result c.args.piece.now) (λ v. HasCause {T = Unit {0}} {E = Failed} c.args.self.now.faults v.faults (Err (record {}))) cause (λ none. cause))
+returns-then-send_fails-clause-cause c =
+    let cause : HasCause {T = Unit {0}} {E = Failed} c.args.self.now.faults (next_count c.args.self.now.faults) (Err (record {})) = failed_cause (record {}) c.args.self.now.faults c.fail_send.ensures.faults in
+    rw c.fail_send.ensures.changed
+    (front_or_none c.args.self.now (take c.min-count.result c.args.piece.now) (λ v. HasCause {T = Unit {0}} {E = Failed} c.args.self.now.faults v.faults (Err (record {}))) cause (λ none. cause))
 
 pub returns-then-send_fails-clause-last_call : goal.returns-then-send_fails-clause-last_call
-returns-then-send_fails-clause-last_call c = rw c.fail_send.ensures.changed (front_or_none c.args.self.now (take c.min-count.result c.args.piece.now) (λ v. v.last_failed ≡ true) refl (λ none. refl))
+returns-then-send_fails-clause-last_call c =
+    rw c.fail_send.ensures.changed (front_or_none c.args.self.now (take c.min-count.result c.args.piece.now) (λ v. v.last_failed ≡ true) refl (λ none. refl))
 
 pub returns-then-send_fails-clause-one_tick : goal.returns-then-send_fails-clause-one_tick
-returns-then-send_fails-clause-one_tick c = rw c.fail_send.ensures.changed (front_or_none c.args.self.now (take c.min-count.result c.args.piece.now) (λ v. length v.past ≤ length c.args.self.now.past + 1) (omega (arith, length-append c.args.self.now.past (sending (take c.min-count.result c.args.piece.now) ∷ []))) (λ none. (omega arith)))
+returns-then-send_fails-clause-one_tick c =
+    rw c.fail_send.ensures.changed
+    (front_or_none c.args.self.now (take c.min-count.result c.args.piece.now) (λ v. length v.past ≤ length c.args.self.now.past + 1) (omega (arith, length-append c.args.self.now.past (sending (take c.min-count.result c.args.piece.now) ∷ []))) (λ none. (omega arith)))

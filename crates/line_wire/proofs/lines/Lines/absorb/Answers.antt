@@ -14,7 +14,8 @@ invariant_of-self c =
 pub returns-in-Some-clause-passes : goal.returns-in-Some-clause-passes
 returns-in-Some-clause-passes c =
     let is = ap (λ (l : List ℕ). take c.min-count.result l) c.pending-pending.ensures.bytes in
-    rw (← c.self.view_is) (passes_feed _ _ _ c.add.new.self.pending c.min-count.result c.in-Some.at is c.in-Some.ensures c.add.ensures.pending c.skip.ensures.pending (c.skip.ensures.line ∙ c.add.ensures.line))
+    rw (← c.self.view_is)
+    (passes_feed _ _ _ c.add.new.self.pending c.min-count.result c.in-Some.at is c.in-Some.ensures c.add.ensures.pending c.skip.ensures.pending (c.skip.ensures.line ∙ c.add.ensures.line))
 
 pub returns-in-Some-clause-within : goal.returns-in-Some-clause-within
 returns-in-Some-clause-within c =

@@ -39,13 +39,16 @@ loop-self-preserved-in_default g c =
     let ended = finished.same.1 ∙ absorbed.same.1 in
     let taken = finished.same.0 ∙ absorbed.same.0 in
     record {
-      within = record { pending = omega (arith, within.pending, size, finished.same.0); given = omega (arith, within.given, size, finished.same.0); small = omega (arith, within.small, size) };
+      within =
+          record { pending = omega (arith, within.pending, size, finished.same.0); given = omega (arith, within.given, size, finished.same.0); small = omega (arith, within.small, size) };
       reached = λ told. to_next _ _ _ _ (to_feed _ _ _ _ (turn.reached told) absorbed.passes) finished.counts.0 finished.counts.1 finished.same.2;
       same = λ told is. turn.same told (sym ended ∙ is);
       taken = λ told. rw taken (turn.taken told);
-      grown = omega (arith, grown_feed c.args.self.now c.loop-self.self c.absorb.new.self turn.grown absorbed.passes absorbed.same.0, size, taken, finished.same.0, ap (λ (l : List ℕ). length l) finished.counts.1);
+      grown =
+          omega (arith, grown_feed c.args.self.now c.loop-self.self c.absorb.new.self turn.grown absorbed.passes absorbed.same.0, size, taken, finished.same.0, ap (λ (l : List ℕ). length l) finished.counts.1);
       steady = turn.steady;
-      unread = next_unread c.args.self.now c.loop-self.self c.absorb.new.self c.finish.new.self _ _ turn.unread absorbed.passes finished.counts.0 finished.counts.1 finished.same.2;
+      unread =
+          next_unread c.args.self.now c.loop-self.self c.absorb.new.self c.finish.new.self _ _ turn.unread absorbed.passes finished.counts.0 finished.counts.1 finished.same.2;
       once = λ is. ((turn.once is).0, ended ∙ (turn.once is).1);
     }
 
@@ -56,7 +59,8 @@ returns-then-self-clause-answer g c = λ told.
     let finished = c.finish-then-self.ensures in
     let ended = ap (λ (v : Cutter). v.ended) (sym c.self.view_is) ∙ c.if-self.true in
     let so_far = to_more _ _ _ _ (turn.reached told) absorbed.passes.0 in
-    rw c.unwrap_or.ensures (answers_last c.finish-then-self.result _ _ _ _ so_far absorbed.passes.1 (turn.same told (sym absorbed.same.1 ∙ ended)) finished.same.2 (finished.same.1 ∙ ended) finished.counts)
+    rw c.unwrap_or.ensures
+    (answers_last c.finish-then-self.result _ _ _ _ so_far absorbed.passes.1 (turn.same told (sym absorbed.same.1 ∙ ended)) finished.same.2 (finished.same.1 ∙ ended) finished.counts)
 
 pub returns-then-self-clause-counted : goal.returns-then-self-clause-counted
 returns-then-self-clause-counted g c = λ told. counts_from _ _ _ _ (returns-then-self-clause-answer g c told)
@@ -75,9 +79,11 @@ loop-self-preserved g c =
           let was = turn.taken told in
           let read = ap (λ (l : List ℕ). length l) (refilled.bytes told) ∙ length-append c.refill.new.self.pending (g.P.Source.left c.refill.new.source) in
           omega (arith, was, read, refilled.taken, absorbed.same.0);
-      grown = omega (arith, grown_none c.args.self.now c.loop-self.self c.absorb.new.self turn.grown absorbed.passes.0 absorbed.same.0, ap (λ (l : List ℕ). length l) refilled.text, ap (λ (l : List ℕ). length l) absorbed.passes.1, refilled.taken);
+      grown =
+          omega (arith, grown_none c.args.self.now c.loop-self.self c.absorb.new.self turn.grown absorbed.passes.0 absorbed.same.0, ap (λ (l : List ℕ). length l) refilled.text, ap (λ (l : List ℕ). length l) absorbed.passes.1, refilled.taken);
       steady = refilled.cause.steady ∙ turn.steady;
-      unread = inr (ap whole_lines (append-nil c.args.self.now.pending) ∙ still_unread c.args.self.now c.loop-self.self c.absorb.new.self _ _ turn.unread absorbed.passes.0 absorbed.passes.1);
+      unread =
+          inr (ap whole_lines (append-nil c.args.self.now.pending) ∙ still_unread c.args.self.now c.loop-self.self c.absorb.new.self _ _ turn.unread absorbed.passes.0 absorbed.passes.1);
       once = λ is. absurd (both_ways _ open_end (absorbed.same.1 ∙ (turn.once is).1));
     }
 
@@ -101,7 +107,8 @@ returns-then-self-clause-advances g c =
     let turn = c.loop-self.invariant in
     let finished = c.finish-then-self.ensures in
     let grown = grown_none c.args.self.now c.loop-self.self c.absorb.new.self turn.grown c.in-Dry.ensures.passes.0 c.in-Dry.ensures.same.0 in
-    rw c.unwrap_or.ensures (advances_last c.finish-then-self.result c.args.self.now c.absorb.new.self c.finish-then-self.new.self grown finished.same.0 finished.same.2 finished.counts)
+    rw c.unwrap_or.ensures
+    (advances_last c.finish-then-self.result c.args.self.now c.absorb.new.self c.finish-then-self.new.self grown finished.same.0 finished.same.2 finished.counts)
 
 pub returns-in-Some-clause-counted : goal.returns-in-Some-clause-counted
 returns-in-Some-clause-counted g c = λ told. counts_from _ _ _ _ (returns-in-Some-clause-answer g c told)

@@ -38,7 +38,8 @@ renew_high-requires-clause-low c =
     let reached : c.reach_high-affected.result.extremes.list ≡ rows_at_least (upper_bound answers) x rows = c.reach_high-affected.ensures.extremes ∙ ap (λ u. rows_at_least u x rows) bounds in
     λ r cut there higher. ap (is_at_least cut) (ap (λ l. bound_at l r) (c.deref-6.ensures.value ∙ upper_is) ∙ c.settle.ensures.settled r
     ∙ ap (λ l. cond (has_row l r) (Some x) (bound_at c.deref_mut-3.result.now r)) reached
-    ∙ ap (λ o. cond (has_row (rows_at_least (upper_bound answers) x rows) r) (Some x) o) (ap (λ l. bound_at l r) c.deref_mut-3.ensures.value ∙ c.self.invariant.bounds r)
+    ∙ ap (λ o. cond (has_row (rows_at_least (upper_bound answers) x rows) r) (Some x) o)
+    (ap (λ l. bound_at l r) c.deref_mut-3.ensures.value ∙ c.self.invariant.bounds r)
     ∙ next_bounds answers rows x r ∙ bound_in_set answers rows x r there)
     ∙ least_low (upper_bound answers r) x cut higher
 
@@ -73,28 +74,33 @@ invariant_of-self-2 c =
     subst (λ l. TellsExtremes (extremes (and_answer (answers_of l) rows x)) (answers_of l) c.fall-fewest.new.counts c.fall-fewest.result (answers_of c.fall-fewest.new.least)) (c.deref-3.ensures.value ∙ c.in_ok-reserve.ensures.items) c.fall-fewest.ensures.tells in
     let count : c.len-count.result ≡ length (extremes more last) = c.len-count.ensures ∙ ap length own in
     let counts_are : c.push_reserved.new.self.items ≡ c.fall-fewest.new.counts ++ c.len-count.result ∷ [] =
-    c.push_reserved.ensures.items ∙ ap (λ l. l ++ c.len-count.result ∷ []) (with_items_is c.reserve-2.new.self c.fall-fewest.new.counts (c.fall-fewest.auto.counts ∙ c.deref_mut.ensures.len)) in
+    c.push_reserved.ensures.items
+    ∙ ap (λ l. l ++ c.len-count.result ∷ []) (with_items_is c.reserve-2.new.self c.fall-fewest.new.counts (c.fall-fewest.auto.counts ∙ c.deref_mut.ensures.len)) in
     let upper_is : (with_items c.self.inside.upper c.settle.new.upper).items ≡ c.settle.new.upper = with_items_is c.self.inside.upper c.settle.new.upper (c.settle.auto.upper ∙ c.deref_mut-3.ensures.len) in
     let small : c.len-count.result ≤ 65535 = omega (arith, c.len-count.type_inv) in
     record {
       at_most = c.self.invariant.at_most;
-      same_n = subst (AllByRecursion (λ p. p.rows.n ≡ c.self.inside.n)) (sym pairs_are) (all-push (λ p. p.rows.n ≡ c.self.inside.n) c.self.inside.pairs.items (record { rows = c.args.rows.now; answer = x }) c.self.invariant.same_n same_n);
+      same_n =
+          subst (AllByRecursion (λ p. p.rows.n ≡ c.self.inside.n)) (sym pairs_are) (all-push (λ p. p.rows.n ≡ c.self.inside.n) c.self.inside.pairs.items (record { rows = c.args.rows.now; answer = x }) c.self.invariant.same_n same_n);
       are_rows = subst (AllByRecursion (λ a. AreRows c.self.inside.n a.rows)) (sym answers_are)
           (all-push (λ a. AreRows c.self.inside.n a.rows) answers last c.self.invariant.are_rows (subst (λ n. AreRows n rows) same_n c.n.ensures.are_rows));
       one_each = ap length upper_is ∙ c.settle.auto.upper ∙ ap length c.deref_mut-3.ensures.value ∙ c.self.invariant.one_each;
       bounds = λ r. ap (λ l. bound_at l r) upper_is ∙ c.settle.ensures.settled r
           ∙ ap (λ l. cond (has_row l r) (Some x) (bound_at c.deref_mut-3.result.now r)) reached
-          ∙ ap (λ o. cond (has_row (rows_at_least (upper_bound answers) x rows) r) (Some x) o) (ap (λ l. bound_at l r) c.deref_mut-3.ensures.value ∙ c.self.invariant.bounds r)
+          ∙ ap (λ o. cond (has_row (rows_at_least (upper_bound answers) x rows) r) (Some x) o)
+          (ap (λ l. bound_at l r) c.deref_mut-3.ensures.value ∙ c.self.invariant.bounds r)
           ∙ next_bounds answers rows x r ∙ ap (λ l. upper_bound l r) (sym answers_are);
       same_n_least = subst (λ n. AllByRecursion (λ p. p.rows.n ≡ n) c.insert.new.least.items) same_n c.insert.ensures.same_n_least;
       descend = c.insert.ensures.descend;
-      high = subst (λ l. AllByRecursion (IsHigh c.self.inside.n (bound_at l)) c.renew_high.new.high.items) c.deref-6.ensures.value (subst (λ n. AllByRecursion (IsHigh n (bound_at c.deref-6.result.now)) c.renew_high.new.high.items) same_n c.renew_high.ensures);
+      high =
+          subst (λ l. AllByRecursion (IsHigh c.self.inside.n (bound_at l)) c.renew_high.new.high.items) c.deref-6.ensures.value (subst (λ n. AllByRecursion (IsHigh n (bound_at c.deref-6.result.now)) c.renew_high.new.high.items) same_n c.renew_high.ensures);
       tells = subst (λ l. TellsExtremes (extremes l) l c.push_reserved.new.self.items c.min-self-inside.result (answers_of c.insert.new.least.items)) (sym answers_are) (record {
         counted = counts_are ∙ ap (λ l. l ++ c.len-count.result ∷ []) fallen.counted ∙ ap (λ k. map (λ a. length (extremes more a)) answers ++ k ∷ []) count
             ∙ sym (map-append (λ a. length (extremes more a)) answers (last ∷ []));
         fewest_is = c.min-self-inside.ensures ∙ ap (λ f. min f c.len-count.result) fallen.fewest_is
             ∙ sym (ap fewest_of counts_are ∙ fewest_of-push c.fall-fewest.new.counts c.len-count.result small);
-        are_least = subst (λ l. AreLeast (extremes (and_answer (answers_of l) rows x)) (and_answer (answers_of l) rows x) (answers_of c.insert.new.least.items)) (c.deref-5.ensures.value ∙ c.in_ok-reserve.ensures.items) c.insert.ensures.tells;
+        are_least =
+            subst (λ l. AreLeast (extremes (and_answer (answers_of l) rows x)) (and_answer (answers_of l) rows x) (answers_of c.insert.new.least.items)) (c.deref-5.ensures.value ∙ c.in_ok-reserve.ensures.items) c.insert.ensures.tells;
       });
     }
 

@@ -62,7 +62,8 @@ returns-else-one_highest_of c =
     subst (λ (m : Maxima). IsTrue c.strands.result ↔ IsDangerousByExtremes m.answers rows) c.self.view_is (
       (λ yes. record {
         consistent = consistent answers c.self.inside.counts.items c.self.inside.fewest sets kept.tells some;
-        cause = inr (inr (stranded_answer answers c.self.inside.counts.items c.self.inside.fewest sets kept.tells rows (subst (λ l. HasStranded (λ a. a.rows) l rows) least (c.strands.ensures.0 yes))));
+        cause =
+            inr (inr (stranded_answer answers c.self.inside.counts.items c.self.inside.fewest sets kept.tells rows (subst (λ l. HasStranded (λ a. a.rows) l rows) least (c.strands.ensures.0 yes))));
       }),
       (λ danger. c.strands.ensures.1 (subst (λ l. HasStranded (λ a. a.rows) l rows) (sym least) (decides answers c.self.inside.counts.items c.self.inside.fewest sets kept.tells c.self.inside.n kept.are_rows rows more danger
           (λ highest. true≢false (sym (c.one_highest_of.ensures.1 (subst (λ u. HasOneHighest u rows) (sym bounds) highest)) ∙ c.if-one_highest_of.false))))),

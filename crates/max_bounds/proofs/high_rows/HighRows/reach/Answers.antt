@@ -10,10 +10,12 @@ pub returns-clause-extremes : goal.returns-clause-extremes
 returns-clause-extremes c =
     c.reach.ensures.extremes ∙ ap (λ a. rows_at_least (bound_at c.args.upper.now) a c.and_with.new.self.list) (to_z-of_z w64 c.args.answer c.ranges.answer)
     ∙ ap (rows_at_least (bound_at c.args.upper.now) c.args.answer) c.and_with.ensures.both
-    ∙ same_at_least c.args.rows.now.n (bound_at c.args.upper.now) c.args.self.now c.requires.high c.args.rows.now.list c.n.ensures.are_rows c.args.answer c.requires.reaches
+    ∙ same_at_least c.args.rows.now.n
+    (bound_at c.args.upper.now) c.args.self.now c.requires.high c.args.rows.now.list c.n.ensures.are_rows c.args.answer c.requires.reaches
 
 pub returns-clause-falling : goal.returns-clause-falling
 returns-clause-falling c =
     c.reach.ensures.falling ∙ ap (λ a. rows_above (bound_at c.args.upper.now) a c.and_with.new.self.list) (to_z-of_z w64 c.args.answer c.ranges.answer)
     ∙ ap (rows_above (bound_at c.args.upper.now) c.args.answer) c.and_with.ensures.both
-    ∙ same_above c.args.rows.now.n (bound_at c.args.upper.now) c.args.self.now c.requires.high c.args.rows.now.list c.n.ensures.are_rows c.args.answer c.requires.reaches
+    ∙ same_above c.args.rows.now.n
+    (bound_at c.args.upper.now) c.args.self.now c.requires.high c.args.rows.now.list c.n.ensures.are_rows c.args.answer c.requires.reaches

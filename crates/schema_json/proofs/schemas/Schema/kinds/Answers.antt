@@ -5,16 +5,24 @@ use Rattle.schema_json.proofs.schemas.Schema.kinds.Goals.{in-Text, in-Number, in
 use Rattle.schema_json.proofs.schemas.Schema.kinds.Goals as goal
 
 pub bounds-kinds-at : goal.bounds-kinds-at
-bounds-kinds-at c = omega (arith, c.loop-k.invariant.at_is, kinds_room c.args.self.now.columns c.loop-k.k _ c.count-k-end.ensures.columns c.role.ensures (ap is_secret c.in-Sum.is))
+bounds-kinds-at c =
+    omega
+    (arith, c.loop-k.invariant.at_is, kinds_room c.args.self.now.columns c.loop-k.k _ c.count-k-end.ensures.columns c.role.ensures (ap is_secret c.in-Sum.is))
 
 pub overflow_add-at : goal.overflow_add-at
-overflow_add-at c = omega (arith, c.loop-k.invariant.at_is, kinds_room c.args.self.now.columns c.loop-k.k _ c.count-k-end.ensures.columns c.role.ensures (ap is_secret c.in-Sum.is))
+overflow_add-at c =
+    omega
+    (arith, c.loop-k.invariant.at_is, kinds_room c.args.self.now.columns c.loop-k.k _ c.count-k-end.ensures.columns c.role.ensures (ap is_secret c.in-Sum.is))
 
 pub bounds-kinds-at-in-Max : goal.bounds-kinds-at-in-Max
-bounds-kinds-at-in-Max c = omega (arith, c.loop-k.invariant.at_is, kinds_room c.args.self.now.columns c.loop-k.k _ c.count-k-end.ensures.columns c.role.ensures (ap is_secret c.in-Max.is))
+bounds-kinds-at-in-Max c =
+    omega
+    (arith, c.loop-k.invariant.at_is, kinds_room c.args.self.now.columns c.loop-k.k _ c.count-k-end.ensures.columns c.role.ensures (ap is_secret c.in-Max.is))
 
 pub overflow_add-at-in-Max : goal.overflow_add-at-in-Max
-overflow_add-at-in-Max c = omega (arith, c.loop-k.invariant.at_is, kinds_room c.args.self.now.columns c.loop-k.k _ c.count-k-end.ensures.columns c.role.ensures (ap is_secret c.in-Max.is))
+overflow_add-at-in-Max c =
+    omega
+    (arith, c.loop-k.invariant.at_is, kinds_room c.args.self.now.columns c.loop-k.k _ c.count-k-end.ensures.columns c.role.ensures (ap is_secret c.in-Max.is))
 
 pub loop-k-preserved : goal.loop-k-preserved
 loop-k-preserved c =

@@ -11,7 +11,8 @@ returns-clause-valid c =
 
 pub returns-clause-secrets : goal.returns-clause-secrets
 returns-clause-secrets c =
-    ap (λ kinds. columns (record { rows = c.args.rows; kinds = kinds })) c.kinds.ensures.kinds ∙ shape_counts c.args.self.now.columns c.args.rows c.kinds.ensures.columns
+    ap (λ kinds. columns (record { rows = c.args.rows; kinds = kinds })) c.kinds.ensures.kinds
+    ∙ shape_counts c.args.self.now.columns c.args.rows c.kinds.ensures.columns
 
 pub returns-clause-kinds : goal.returns-clause-kinds
 returns-clause-kinds c = λ place k is.

@@ -27,6 +27,7 @@ returns-clause-rows c =
     c.index.ensures ∙ c.self.invariant.marks.sets (c.args.count / 16) c.index.result.now (omega (arith, c.self.invariant.marks.enough)) in
     c.add_rows.ensures.added
     ∙ ap (λ (m : Rows). union m.n m.list (part c.deref.result.now (16 * (c.args.count / 16)) c.args.count)) is
-    ∙ ap (λ xs. union c.self.inside.rows (first_rows c.self.inside.rows c.self.inside.order.items (16 * (c.args.count / 16))) (part xs (16 * (c.args.count / 16)) c.args.count)) c.deref.ensures.value
+    ∙ ap
+    (λ xs. union c.self.inside.rows (first_rows c.self.inside.rows c.self.inside.order.items (16 * (c.args.count / 16))) (part xs (16 * (c.args.count / 16)) c.args.count)) c.deref.ensures.value
     ∙ first_more c.self.inside.rows c.self.inside.order.items (16 * (c.args.count / 16)) c.args.count (omega arith)
     ∙ ap (λ (v : SortedView). first_rows v.rows v.order c.args.count) c.self.view_is

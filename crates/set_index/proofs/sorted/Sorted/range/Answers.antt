@@ -24,7 +24,8 @@ pub returns-then-from-eq0-clause-rows : goal.returns-then-from-eq0-clause-rows
 returns-then-from-eq0-clause-rows c test range =
     let once : IsPermutation (rows_that (λ r. true) c.args.self.now.rows) c.args.self.now.order = subst (λ (v : SortedView). IsPermutation (rows_that (λ r. true) v.rows) v.order) c.self.view_is c.self.invariant.each_once in
     c.first.ensures.rows
-    ∙ range_first c.args.self.now.rows c.args.self.now.order c.args.to test once (subst (λ from. IsRange test c.args.self.now.order from c.args.to) c.if-from-eq0.true range)
+    ∙ range_first c.args.self.now.rows c.args.self.now.order c.args.to test once
+    (subst (λ from. IsRange test c.args.self.now.order from c.args.to) c.if-from-eq0.true range)
 
 pub returns-then-to-end-clause-rows : goal.returns-then-to-end-clause-rows
 returns-then-to-end-clause-rows c test range =
@@ -41,6 +42,8 @@ returns-clause-rows c test range =
     let once : IsPermutation (rows_that (λ r. true) c.args.self.now.rows) c.args.self.now.order = subst (λ (v : SortedView). IsPermutation (rows_that (λ r. true) v.rows) v.order) c.self.view_is c.self.invariant.each_once in
     c.and_with.ensures.both
     ∙ ap (λ n. intersection n c.flip.new.self.list c.first-2.result.list) (c.flip.ensures.n ∙ c.first-rows.ensures.n)
-    ∙ ap (λ xs. intersection c.args.self.now.rows xs c.first-2.result.list) (c.flip.ensures.others ∙ ap (λ n. complement n c.first-rows.result.list) c.first-rows.ensures.n ∙ ap (complement c.args.self.now.rows) c.first-rows.ensures.rows)
-    ∙ ap (intersection c.args.self.now.rows (complement c.args.self.now.rows (first_rows c.args.self.now.rows c.args.self.now.order c.args.from))) c.first-2.ensures.rows
+    ∙ ap (λ xs. intersection c.args.self.now.rows xs c.first-2.result.list)
+    (c.flip.ensures.others ∙ ap (λ n. complement n c.first-rows.result.list) c.first-rows.ensures.n ∙ ap (complement c.args.self.now.rows) c.first-rows.ensures.rows)
+    ∙ ap
+    (intersection c.args.self.now.rows (complement c.args.self.now.rows (first_rows c.args.self.now.rows c.args.self.now.order c.args.from))) c.first-2.ensures.rows
     ∙ range_left c.args.self.now.rows c.args.self.now.order c.args.from c.args.to test once c.requires.ascends range

@@ -19,12 +19,14 @@ loop-place-preserved c =
           let items = rw good at w.push.ensures.items in
           rw (w.roles-is, items) (
           c.loop-place.invariant
-          ∙ ap (λ (rs : List Role). c.loop-place.roles.items ++ rs) (roles_with c.args.self cs place role within c.role-role.ensures (sym c.has.ensures ∙ w.if-has.true))
+          ∙ ap (λ (rs : List Role). c.loop-place.roles.items ++ rs)
+          (roles_with c.args.self cs place role within c.role-role.ensures (sym c.has.ensures ∙ w.if-has.true))
           ∙ sym (append_assoc c.loop-place.roles.items (role ∷ []) rest)
           )
       | else-has w ↦
           rw w.roles-is (
           c.loop-place.invariant
-          ∙ ap (λ cols. c.loop-place.roles.items ++ roles_of cols) (columns_without c.args.self cs place role within c.role-role.ensures (sym c.has.ensures ∙ w.if-has.false))
+          ∙ ap (λ cols. c.loop-place.roles.items ++ roles_of cols)
+          (columns_without c.args.self cs place role within c.role-role.ensures (sym c.has.ensures ∙ w.if-has.false))
           )
     ]

@@ -24,7 +24,8 @@ sum_by_blocks-requires-clause-blocks c =
     let within : c.args.column < length c.self.inside.lists.items = omega (arith, one, c.requires.column, c.self.invariant.is.one_each, length-map c.self.inside.lists.items (λ v. v.items)) in
     let below : c.args.column < columns c.self.inside.shape = omega (arith, one, c.requires.column) in
     column_blocks _ _ _ _ _ _ _ (sym c.kind.ensures ∙ c.in-Sum.is) (ap (λ (s : SecretView). s.shape.rows) c.self.view_is ∙ sym c.requires.same_n)
-    (listed c.self.inside.lists.items c.args.column c.index.result.now _ within c.index.ensures c.as_slice-list.ensures.value) (c.self.invariant.blocks c.args.column below)
+    (listed c.self.inside.lists.items c.args.column c.index.result.now _ within c.index.ensures c.as_slice-list.ensures.value)
+    (c.self.invariant.blocks c.args.column below)
 
 pub greatest_by_blocks-requires-clause-numbers : goal.greatest_by_blocks-requires-clause-numbers
 greatest_by_blocks-requires-clause-numbers c =
@@ -39,4 +40,5 @@ greatest_by_blocks-requires-clause-blocks c =
     let within : c.args.column < length c.self.inside.lists.items = omega (arith, one, c.requires.column, c.self.invariant.is.one_each, length-map c.self.inside.lists.items (λ v. v.items)) in
     let below : c.args.column < columns c.self.inside.shape = omega (arith, one, c.requires.column) in
     column_blocks _ _ _ _ _ _ _ (sym c.kind.ensures ∙ c.in-Max.is) (ap (λ (s : SecretView). s.shape.rows) c.self.view_is ∙ sym c.requires.same_n)
-    (listed c.self.inside.lists.items c.args.column c.index.result.now _ within c.index.ensures c.as_slice-list.ensures.value) (c.self.invariant.blocks c.args.column below)
+    (listed c.self.inside.lists.items c.args.column c.index.result.now _ within c.index.ensures c.as_slice-list.ensures.value)
+    (c.self.invariant.blocks c.args.column below)
