@@ -48,8 +48,7 @@ IsContent-cons x xs g h content common = record {
 
 -- the content of a row, and of its multiple
 pub scaled_content : (k : ℤ) → 0 < unsigned_abs k → (row : List ℤ) → (g : ℕ) × IsContent row g × IsContent (times k row) (unsigned_abs k * g)
-scaled_content k p [] =
-    (0, record { divides = tt; greatest = λ d h. dvd-zero d }, record { divides = tt; greatest = λ d h. subst (λ m. d ∣ m) (omega arith) (dvd-zero d) })
+scaled_content k p [] = (0, record { divides = tt; greatest = λ d h. dvd-zero d }, record { divides = tt; greatest = λ d h. subst (λ m. d ∣ m) (omega arith) (dvd-zero d) })
 scaled_content k p (x ∷ row) =
     let rest = scaled_content k p row in
     let here = scaled_gcd (unsigned_abs k) p (suc rest.0) (unsigned_abs x) rest.0 (omega arith) in (
@@ -97,8 +96,7 @@ number_at-times k (x ∷ f) zero = refl
 number_at-times k (x ∷ f) (suc j) = number_at-times k f j
 
 -- two primitive lists on one line, in one direction, are one
-pub one_primitive : (x y : ℤ) (f g : List ℤ) → pos 0 <ℤ x → pos 0 <ℤ y → length f ≡ length g → IsContent f 1 → IsContent g 1 →
-    ((j : ℕ) → x *ℤ number_at f j ≡ y *ℤ number_at g j) → f ≡ g
+pub one_primitive : (x y : ℤ) (f g : List ℤ) → pos 0 <ℤ x → pos 0 <ℤ y → length f ≡ length g → IsContent f 1 → IsContent g 1 → ((j : ℕ) → x *ℤ number_at f j ≡ y *ℤ number_at g j) → f ≡ g
 one_primitive x y f g p q l one two h =
     let lists : times x f ≡ times y g = same_rows (times x f) (times y g) (length-map f (λ z. x *ℤ z) ∙ l ∙ sym (length-map g (λ z. y *ℤ z)))
     (λ j. number_at-times x f j ∙ h j ∙ sym (number_at-times y g j)) in

@@ -105,8 +105,7 @@ product-set_row d n rows h =
     ∙ over_rows d n 0 rows h
 
 -- rows whose products are 0 combine to a row whose product is 0
-pub product-combined : (x : ℕ → ℤ) (n : ℕ) (cs : List ℤ) (rows : List (List ℤ)) → AllByRecursion (λ row. product row x n ≡ pos 0) rows →
-    total (λ j. combined cs rows j *ℤ x j) n ≡ pos 0
+pub product-combined : (x : ℕ → ℤ) (n : ℕ) (cs : List ℤ) (rows : List (List ℤ)) → AllByRecursion (λ row. product row x n ≡ pos 0) rows → total (λ j. combined cs rows j *ℤ x j) n ≡ pos 0
 product-combined x n [] rows h = total-zero _ n (λ j l. zero-*ℤ (x j))
 product-combined x n (c ∷ cs) [] h = total-zero _ n (λ j l. zero-*ℤ (x j))
 product-combined x n (c ∷ cs) (row ∷ rows) h =
@@ -118,8 +117,7 @@ product-combined x n (c ∷ cs) (row ∷ rows) h =
     omega (arith, ints)
 
 -- and so does each row of their span
-pub product-span : (x : ℕ → ℤ) (n : ℕ) (rows : List (List ℤ)) (row : List ℤ) → AllByRecursion (λ r. product r x n ≡ pos 0) rows → InSpan rows row →
-    product row x n ≡ pos 0
+pub product-span : (x : ℕ → ℤ) (n : ℕ) (rows : List (List ℤ)) (row : List ℤ) → AllByRecursion (λ r. product r x n ≡ pos 0) rows → InSpan rows row → product row x n ≡ pos 0
 product-span x n rows row h span =
     let whole = total-agree (λ j. pos span.multiple *ℤ (number_at row j *ℤ x j)) (λ j. combined span.coefficients rows j *ℤ x j) n
     (λ j l. sym (times_assoc (pos span.multiple) (number_at row j) (x j)) ∙ ap (λ z. z *ℤ x j) (span.is j)) in
@@ -140,8 +138,7 @@ products_from_sums n d [] are zeros = tt
 products_from_sums n d (s ∷ sets) are zeros = (product-set_row d n s are.0 ∙ zeros.0, products_from_sums n d sets are.1 zeros.1)
 
 -- and back
-pub sums_from_products : (n : ℕ) (d : List ℤ) (sets : List (List ℕ)) → AllByRecursion (AreRows n) sets →
-    AllByRecursion (λ row. product row (number_at d) n ≡ pos 0) (map (set_row n) sets) →
+pub sums_from_products : (n : ℕ) (d : List ℤ) (sets : List (List ℕ)) → AllByRecursion (AreRows n) sets → AllByRecursion (λ row. product row (number_at d) n ≡ pos 0) (map (set_row n) sets) →
     AllByRecursion (λ s. sum_over d s ≡ pos 0) sets
 sums_from_products n d [] are zeros = tt
 sums_from_products n d (s ∷ sets) are zeros = (sym (product-set_row d n s are.0) ∙ zeros.0, sums_from_products n d sets are.1 zeros.1)

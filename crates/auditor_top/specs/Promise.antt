@@ -41,8 +41,7 @@ StopsAreTaken =
 
 -- every life over the table of two files keeps the promise
 abbrev pub LivesKeepPromise : Type 0
-LivesKeepPromise =
-    (schema table : List ℕ) (base : Database) (runs : List Run) (last : List Answered) → AreFilesOf schema table base → IsLife base runs last → KeepsPromise base runs last
+LivesKeepPromise = (schema table : List ℕ) (base : Database) (runs : List Run) (last : List Answered) → AreFilesOf schema table base → IsLife base runs last → KeepsPromise base runs last
 
 -- the next run of a life is given what a run has to be given, whatever image the last one left
 abbrev pub LivesGoOn : Type 0

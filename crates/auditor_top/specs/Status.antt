@@ -75,8 +75,7 @@ status_text NotMade = codes "no journal"
 status_text AlreadyThere = codes "journal is already there"
 status_text (Damaged at) = codes "journal damaged at byte " ++ decimal at
 status_text (OtherShape kept now) = codes "journal is of another table: rows " ++ decimal kept.rows ++ codes ", now " ++ decimal now.rows
-status_text (Untrue place kept now) =
-    codes "record " ++ (decimal place ++ (codes " holds " ++ (signed_decimal kept ++ (codes ", table gives " ++ signed_decimal now))))
+status_text (Untrue place kept now) = codes "record " ++ (decimal place ++ (codes " holds " ++ (signed_decimal kept ++ (codes ", table gives " ++ signed_decimal now))))
 status_text (Illegal place) = codes "record " ++ decimal place ++ codes " should not have been released"
 status_text InputLimit = codes "input is too long"
 status_text (Disagrees line due) = codes "line " ++ (decimal line ++ (codes " disagrees, due " ++ word_of due))

@@ -20,8 +20,7 @@ OneVerdictIsDue = (columns : List Column) (public : PublicView) → MakesOneDue 
 
 -- a transcript has at most one list of verdicts
 abbrev pub VerdictsAreOne : Type 0
-VerdictsAreOne =
-    (columns : List Column) (public : PublicView) (lines : List CountedLine) (verdicts others : List (Replied Answered)) → AreVerdicts columns public lines verdicts → AreVerdicts columns public lines others → verdicts ≡ others
+VerdictsAreOne = (columns : List Column) (public : PublicView) (lines : List CountedLine) (verdicts others : List (Replied Answered)) → AreVerdicts columns public lines verdicts → AreVerdicts columns public lines others → verdicts ≡ others
 
 -- where a transcript has verdicts, so have its first lines, however many
 abbrev pub FirstLinesHaveVerdicts : Type 0

@@ -26,8 +26,7 @@ use Rattle.transcript_sim.specs.Verdicts.{Expects, AgreesWith}
 -- the record of an answer to the question may follow the history
 abbrev pub CanBeTaken : Setting → List Answered → Expected → Type 0
 CanBeTaken setting history (Only answer) = Unit {0}
-CanBeTaken setting history (Answer take asked) =
-    FitsShape setting.shape asked.column asked.rows × IsWithinWidth (known_of setting history asked.column) asked.rows.list
+CanBeTaken setting history (Answer take asked) = FitsShape setting.shape asked.column asked.rows × IsWithinWidth (known_of setting history asked.column) asked.rows.list
 
 -- what a line that was shown comes to: it agrees, and makes this record, or it agrees with none
 abbrev pub ComesTo : CountedLine → Expected → Shown → Type 0
@@ -82,8 +81,7 @@ IsCutShort source old new before after (fault.Disagrees line due) = ⊥
 -- ---- the two lines of an exchange
 
 -- a question, and what it calls for
-pub record GivesQuestion {P : Type 0} (source : Ghosts P) (old new : Cutter) (before after : P) (columns : List Column) (public : PublicView)
-    (history : List Answered) (expected : Expected) : Type 0 where
+pub record GivesQuestion {P : Type 0} (source : Ghosts P) (old new : Cutter) (before after : P) (columns : List Column) (public : PublicView) (history : List Answered) (expected : Expected) : Type 0 where
   pub line : CountedLine
   pub gives : GivesLine source old new before after line
   pub expects : Expects columns public history line expected
