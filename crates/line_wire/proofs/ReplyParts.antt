@@ -1,5 +1,5 @@
 -- What stands between known bytes, and the number that it is.
-use Rattle.std.proofs.Common.{◌≡◌, ◌≢◌, ◌<◌, ◌^◌, ◌↔◌, ℕ, ℤ, pos, negsuc, Bool, List, [], ◌∷◌, ◌++◌, Option, Some, None, Result, Ok, Err, option_map, Bor, IsTrue, MatchOption, IfNone, codes, unsigned_abs, sym, ap, ◌∙◌, subst, arith, append_assoc}
+use Rattle.std.proofs.Common.{◌≡◌, ◌≢◌, ◌<◌, ◌^◌, ◌↔◌, ℕ, ℤ, pos, negsuc, Bool, List, [], ◌∷◌, ◌++◌, Option, Some, None, Result, Ok, Err, option_map, Bor, IsTrue, MatchOption, IfNone, IfSome, codes, unsigned_abs, sym, ap, ◌∙◌, subst, arith, append_assoc}
 use Rattle.std.specs.Int.{FitsUnsignedBits}
 use Rattle.std.specs.Result.{OkIff}
 use Rattle.std.specs.Str.{bytes_eq}
@@ -55,6 +55,11 @@ same_value (Some z) x y first second = cc
 pub if_none : {P : Type 0} (r : Option Reply) → P → IfNone r P
 if_none None holds = holds
 if_none (Some reply) holds = tt
+
+-- what is confirmed is the line's
+pub confirmed_is : (found : Option Reply) (line : List ℕ) (Wrong : Type 0) → MatchOption found Wrong (λ r. IsReply line r) → IfSome found (IsReply line)
+confirmed_is None line Wrong h = tt
+confirmed_is (Some reply) line Wrong h = h
 
 -- a reply that isn't confirmed
 pub unconfirmed : {P : Type 0} (r : Option Reply) (line : List ℕ) (s : Reply) → MatchOption r (IsReply line s → ⊥) (λ found. IsReply line found) →

@@ -49,13 +49,13 @@ pub(crate) fn is_in_range(reply: &Reply) -> bool
         Reply::Avg { num, den } => is_average(*num, *den),
         Reply::Max(max) => max.unsigned_abs() <= MOST_SIZE,
         Reply::Condition { at } => *at <= MOST_BYTES,
-        Reply::Unsafe
-        | Reply::Wide
-        | Reply::Line
-        | Reply::Long
-        | Reply::Column
-        | Reply::Kind
-        | Reply::Empty
-        | Reply::Full => true,
+        Reply::Unsafe => true,
+        Reply::Wide => true,
+        Reply::Line => true,
+        Reply::Long => true,
+        Reply::Column => true,
+        Reply::Kind => true,
+        Reply::Empty => true,
+        Reply::Full => true,
     }
 }

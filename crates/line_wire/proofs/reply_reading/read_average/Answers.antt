@@ -5,7 +5,7 @@ use Rattle.std.proofs.lemmas.List.{take_rest}
 use mir.Val.{SFits}
 use Rattle.line_wire.specs.Reply.{IsReply}
 use Rattle.line_wire.specs.declared.reply.Reply.TheVariants.{Avg}
-use Rattle.line_wire.proofs.ReplyParts.{missed, same_value, if_none, unconfirmed}
+use Rattle.line_wire.proofs.ReplyParts.{confirmed_is, missed, same_value, if_none, unconfirmed}
 use Rattle.line_wire.proofs.Commas.{average_comma, average_front, average_rest}
 use Rattle.line_wire.proofs.reply_reading.read_average.Goals as goal
 
@@ -32,3 +32,6 @@ returns-clause-none c = unconfirmed c.confirmed.result c.args.line.now _ c.confi
     let same_den : den ≡ c.in_ok-den.den = same_value c.size_between.result den c.in_ok-den.den (c.size_between.ensures den (omega (arith, reply.range.rows)) (take_rest c.args.line.now c.in_ok-comma.comma ∙ average_rest c.args.line.now num den c.in_ok-comma.comma (omega (arith, reply.range.within)) reply.bytes at)) c.in_ok-den.was in
     wrong
     (simp to_z-of_z (subst (λ (n : ℕ). IsReply c.args.line.now (Avg c.in_ok-num.num n)) same_den (subst (λ (z : ℤ). IsReply c.args.line.now (Avg z den)) same_num reply))))
+
+pub returns-clause-found : goal.returns-clause-found
+returns-clause-found c = confirmed_is c.confirmed.result c.args.line.now _ c.confirmed.ensures
