@@ -10,7 +10,7 @@ ghost use Rattle.journal_form.specs.Journal.{StandsFor};
 ghost use Rattle.audit_store.specs.Stores.{IsAsLeft};
 ghost use Rattle.line_wire.specs.Lines.{counted_lines};
 ghost use Rattle.audit_session.specs.Ends.{Serves};
-ghost use Rattle.drill_case.specs.Tables.{drill_rows};
+ghost use Rattle.drill_case.specs.Tables.{drill_columns, drill_public, drill_rows, drill_secret};
 ghost use Rattle.drill_case.specs.Lines.{drill_text};
 ghost use Rattle.auditor_top.specs.declared.status.Which.{Which};
 ghost use Rattle.auditor_top.specs.declared.words.Command.TheVariants.{Drill};
@@ -98,6 +98,30 @@ fn answer(
     }
 }
 
+// Answers the lines of a drill over its table, from a new journal on.
+fn answer_lines(
+    alloc: Global,
+    number: u32,
+    schema: &Schema,
+    index: &Index,
+    secret: Secret,
+    bench: &mut MemoryBench,
+) -> Result<(), NoMemory>
+    requires columns { schema.now.columns ≡ drill_columns }
+    requires public { index.now ≡ drill_public number }
+    requires secret { secret ≡ drill_secret number }
+    requires fits { FitsSchema schema.now.columns index.now }
+    requires empty { file_of bench.old ≡ [] }
+    requires unsent { sent_of bench.old ≡ [] }
+    ensures replies { OnOk result (AnswersDrill number (sent_of bench.new)) }
+    ensures short { OnOk result (length (drill_text number) ≤ 60000) }
+{
+    make(bench, &secret.shape())?;
+    let mut store = start(alloc, secret, bench)?;
+    let lines = drill_lines(alloc, number)?;
+    answer(alloc, schema, index, &mut store, lines, bench)
+}
+
 // Answers the lines of a drill over its table, and says how many rows that has.
 fn answer_drill(alloc: Global, number: u32, bench: &mut MemoryBench) -> Result<u16, NoMemory>
     requires empty { file_of bench.old ≡ [] }
@@ -110,10 +134,7 @@ fn answer_drill(alloc: Global, number: u32, bench: &mut MemoryBench) -> Result<u
     let Table { public, secret } = drill_table(alloc, number)?;
     let rows = public.rows();
     let index = Index::new(alloc, public)?;
-    let lines = drill_lines(alloc, number)?;
-    make(bench, &secret.shape())?;
-    let mut store = start(alloc, secret, bench)?;
-    answer(alloc, &schema, &index, &mut store, lines, bench)?;
+    answer_lines(alloc, number, &schema, &index, secret, bench)?;
     Ok(rows)
 }
 

@@ -1,12 +1,11 @@
 //! The answers that stand for all others.
 use audit_types::{ColumnAudit, RowSet};
 use max_audit::MaxColumn;
-use std::test::Fail;
 
 // 10 over rows 0 and 1, and 9 over rows 2 and 3: each, the number above each, and the number below both.
 #[test]
-fn candidates_of_nine_and_ten(rt: HostRuntime) -> Result<(), Fail> {
-    let mut column = MaxColumn::new(rt.alloc(), 4)?;
+fn candidates_of_nine_and_ten(rt: HostRuntime) {
+    let mut column = MaxColumn::new(rt.alloc(), 4).expect(&rt, "memory");
     let mut first = RowSet::new(4);
     first.add(0);
     first.add(1);
@@ -14,8 +13,8 @@ fn candidates_of_nine_and_ten(rt: HostRuntime) -> Result<(), Fail> {
     last.add(2);
     last.add(3);
     assert!(rt; !first.is_empty() && !last.is_empty());
-    column.accept(&first, 10)?;
-    column.accept(&last, 9)?;
-    assert_eq!(rt; column.candidates()?.as_slice(), [8, 9, 10, 11].as_slice());
-    Ok(())
+    column.accept(&first, 10).expect(&rt, "memory");
+    column.accept(&last, 9).expect(&rt, "memory");
+    let candidates = column.candidates().expect(&rt, "memory");
+    assert_eq!(rt; candidates.as_slice(), [8, 9, 10, 11].as_slice());
 }
