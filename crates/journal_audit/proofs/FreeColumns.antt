@@ -1,6 +1,5 @@
 -- What a store's history leaves free in one column.
-use Rattle.std.proofs.Common.{◌≡◌, ℕ, suc, Bool, true, false, cond, List, [], ◌∷◌, map, refl, ap, Some}
-use Rattle.std.specs.Prelude.{slice_get}
+use Rattle.std.proofs.Common.{◌≡◌, ℕ, Bool, List, [], ◌∷◌, map, refl, ap}
 use Rattle.std.specs.List.{AllByRecursion, filter}
 use Rattle.audit_types.specs.Rows.{Rows}
 use Rattle.audit_types.specs.Column.{Answer}

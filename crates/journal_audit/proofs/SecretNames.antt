@@ -1,6 +1,6 @@
 -- The secret columns of a schema, by their places in it and by their places among the secret ones.
 use Rattle.std.proofs.Common.{◌≡◌, ℕ, zero, suc, ◌+◌, ◌<◌, Bool, true, false, cond, List, [], ◌∷◌, ◌++◌, length, get_or, take, filter, map, Option, Some, None, refl, sym, ap, ◌∙◌, arith, add-one, length-append, inl, inr}
-use Rattle.std.specs.Prelude.{is_some, option_map, option_and_then, unwrap_or, slice_get}
+use Rattle.std.specs.Prelude.{is_some, option_map, option_and_then, slice_get}
 use Rattle.std.proofs.lemmas.Bool.{false≢true}
 use Rattle.std.proofs.lemmas.List.{append-nil, map-append, length-map}
 use Rattle.std.proofs.lemmas.List.Elements.{filter-append}

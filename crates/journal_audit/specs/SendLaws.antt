@@ -1,5 +1,5 @@
 -- Facts on what was sent of a report.
-use Rattle.std.specs.Prelude.{◌≡◌, ℕ, List, [], ◌++◌}
+use Rattle.std.specs.Prelude.{ℕ, List, []}
 use Rattle.std.proofs.Common.{refl, sym}
 use Rattle.std.proofs.lemmas.List.{append-nil}
 use Rattle.journal_audit.specs.Reports.{Audit, Subject, SendsFront}

@@ -1,5 +1,5 @@
 -- A condition that fits a schema can be asked of a table over it.
-use Rattle.std.proofs.Common.{◌≡◌, true, false, List, [], ◌∷◌, Option, Some, None, refl}
+use Rattle.std.proofs.Common.{◌≡◌, true, List, [], ◌∷◌, Option, Some, None, refl}
 use Rattle.std.specs.List.{list_all}
 use Rattle.std.proofs.lemmas.Bool.{false≢true, and_parts, and_from}
 use Rattle.schema_json.specs.Columns.{Column, role_at}

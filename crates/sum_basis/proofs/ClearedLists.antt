@@ -7,7 +7,6 @@ use Rattle.std.specs.List.{AllByRecursion}
 use Rattle.std.proofs.lemmas.Int.{ints, to_z-of_z}
 use Rattle.std.proofs.lemmas.Bool.{cases_eq, cases_lt}
 use Rattle.std.proofs.lemmas.List.{length-map}
-use Rattle.std.proofs.Math.Nat.{one-dvd}
 use Rattle.std.proofs.lemmas.Nat.Gcd.{dvd-zero}
 use Rattle.std.proofs.Math.IntN.{*ℤ-zero, pos-*ℤ-pos, pos-*ℤ-negsuc}
 use Rattle.audit_types.specs.Truth.{number_at}

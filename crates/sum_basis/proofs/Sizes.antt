@@ -1,7 +1,6 @@
 -- How large the entries of rows become.
 use Rattle.std.proofs.Common.{ℕ, zero, suc, ◌≤◌, ◌+◌, ◌^◌, ℤ, List, [], ◌∷◌, arith}
 use Rattle.std.specs.Prelude.{◌*ℤ◌, unsigned_abs}
-use Rattle.std.specs.List.{AllByRecursion}
 use Rattle.std.proofs.lemmas.Int.{ints, unsigned_abs-mul}
 use Rattle.std.proofs.Math.Nat.{mul-le-mul}
 use Rattle.audit_types.specs.Truth.{number_at}

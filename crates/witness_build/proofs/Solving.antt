@@ -12,7 +12,7 @@ use Rattle.std.proofs.lemmas.Nat.{div-add-mod'}
 use Rattle.std.proofs.lemmas.Nat.Gcd.{mod-eq-zero_of_dvd}
 use Rattle.audit_types.specs.Truth.{number_at}
 use Rattle.audit_types.specs.Form.{pivot, pivot_entry, pivot_entries}
-use Rattle.audit_types.specs.Direction.{is_pivot, IsSmall}
+use Rattle.audit_types.specs.Direction.{is_pivot}
 use Rattle.audit_types.specs.Products.{neg-times, times_assoc}
 use Rattle.audit_types.specs.Numbers.{zero_less}
 use Rattle.audit_types.specs.ListLaws.{all-push, all-set}
