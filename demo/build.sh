@@ -31,7 +31,7 @@ build() {
     began=$(date +%s)
     number=0
     of=$(crates_below | wc -l)
-    printf 'proving and building %d crates: a quarter of an hour on four processors the first time, seconds later on\n' "$of" >&2
+    printf 'proving and building %d crates: fifteen to twenty-five minutes on four processors the first time, seconds later on\n' "$of" >&2
     for crate in $(crates_below); do
         number=$((number + 1))
         since=$(date +%s)
