@@ -1,14 +1,12 @@
 //! Answering a group: its questions are decided and kept, and then its replies are sent.
-ghost use Rattle.std.specs.Prelude.{◌≡◌, ◌≢◌, ◌<◌, ◌≤◌, ◌+◌, ◌++◌, List, ℕ, true, false, length, All, IfOk, OnOk, OnErr, IsErrOf, Err};
+ghost use Rattle.std.specs.Prelude.{◌≡◌, ◌≢◌, ◌≤◌, ◌+◌, ◌++◌, List, ℕ, true, false, length, All, OnOk, OnErr, IsErrOf, Err};
 ghost use Rattle.std.specs.List.{flat_map};
 ghost use Rattle.std.specs.Vec.{vec_capacity};
-ghost use Rattle.audit_types.specs.History.{FitsShape};
-ghost use Rattle.audit_core.specs.Outcomes.{AreOutcomes, records_made};
 ghost use Rattle.table_load.specs.Database.{secret_table};
 ghost use Rattle.bench_core.specs.Causes.{HasCause, Rose};
 ghost use Rattle.bench_core.specs.Bench.{AppendsFront, Elapses, Sending};
 ghost use Rattle.bench_core.specs.Calls.{IsQuiet, LeavesOnly};
-ghost use Rattle.audit_store.specs.Stores.{IsAsLeft, IsStore, Keeps, calls_for};
+ghost use Rattle.audit_store.specs.Stores.{IsAsLeft, IsStore};
 ghost use Rattle.line_wire.specs.Reply.{reply_bytes, IsInRange};
 ghost use Rattle.question_plan.specs.Plans.{CanBeServed};
 ghost use Rattle.question_plan.specs.Replies.{IsReplyOf};
@@ -17,46 +15,10 @@ ghost use Rattle.audit_session.specs.Groups.{AnswersGroup, AreTold, CanAllBeTold
 use crate::gathering::Group;
 use crate::serving::EndFault;
 use audit_store::{Outcome, Store, StoreFault};
-use audit_types::Asked;
 use bench_core::{Bench, Failed};
 use line_wire::{Reply, write_reply};
 use question_plan::laws::told_outcomes;
 use question_plan::{Plan, tell};
-use std::alloc::Global;
-
-// What becomes of the questions of a group. Without a question nothing is called.
-fn outcomes_of<B: Bench>(
-    alloc: Global,
-    store: &mut Store,
-    bench: &mut B,
-    asked: &[Asked],
-) -> Result<Vec<Outcome>, StoreFault>
-    requires usable { store.old.usable ≡ true }
-    requires is { IsStore store.old }
-    requires few { length asked.now ≤ 64 }
-    requires fit { All (λ a. FitsShape store.old.secret.shape a.column a.rows) asked.now }
-    requires stands { B.told → IsAsLeft (B.file bench.old) store.old }
-    ensures outcomes { IfOk result (λ v. AreOutcomes (secret_table store.old.secret) store.old.history asked.now v.items) }
-    ensures history { IfOk result (λ v. store.new.history ≡ store.old.history ++ records_made asked.now v.items) }
-    ensures stands { OnOk result (StandsOn B.Bench bench.old bench.new store.new) }
-    ensures err { OnErr result ((store.new.history ≡ store.old.history) × (store.new.usable ≡ false)) }
-    ensures no_memory { IsErrOf result StoreFault.NoMemory → bench.new ≡ bench.old }
-    ensures any_moment { B.told → IsQuiet B.Bench bench.old → (IsErrOf result StoreFault.NoMemory → ⊥)
-        → Keeps B.Bench bench.old bench.new store.old.secret store.old.history asked.now (B.sent bench.old) }
-    ensures sent { B.sent bench.new ≡ B.sent bench.old }
-    ensures ticks { B.told → IfOk result (λ v. B.moment bench.new ≡ B.moment bench.old + calls_for (records_made asked.now v.items)) }
-    ensures secret { store.new.secret ≡ store.old.secret }
-    ensures is { IsStore store.new }
-    ensures failed { IsErrOf result StoreFault.Failed → Rose (B.faults bench.old) (B.faults bench.new) }
-    ensures last_call { IsErrOf result StoreFault.Failed → B.last_failed bench.new ≡ true }
-    ensures steady { (IsErrOf result StoreFault.Failed → ⊥) → B.faults bench.new ≡ B.faults bench.old }
-    ensures later { B.faults bench.old ≤ B.faults bench.new }
-{
-    if asked.is_empty() {
-        return Ok(Vec::new(alloc));
-    }
-    store.ask_all(bench, asked)
-}
 
 // The replies of a group, in order.
 fn tell_all(plans: &[Plan], outcomes: &[Outcome], replies: &mut Vec<Reply>)
@@ -80,12 +42,7 @@ fn tell_all(plans: &[Plan], outcomes: &[Outcome], replies: &mut Vec<Reply>)
 }
 
 // Decides a group: its records are in the journal, and its replies are at hand.
-fn decide<B: Bench>(
-    alloc: Global,
-    store: &mut Store,
-    bench: &mut B,
-    group: &mut Group,
-) -> Result<(), StoreFault>
+fn decide<B: Bench>(store: &mut Store, bench: &mut B, group: &mut Group) -> Result<(), StoreFault>
     requires usable { store.old.usable ≡ true }
     requires is { IsStore store.old }
     requires few { length group.old.plans.items ≤ 64 }
@@ -111,7 +68,7 @@ fn decide<B: Bench>(
     ensures later { B.faults bench.old ≤ B.faults bench.new }
 {
     told_outcomes();
-    let outcomes = outcomes_of(alloc, store, bench, &group.asked)?;
+    let outcomes = store.ask_all(bench, &group.asked)?;
     tell_all(&group.plans, &outcomes, &mut group.replies);
     Ok(())
 }
@@ -152,7 +109,6 @@ fn send_all<B: Bench>(bench: &mut B, replies: &[Reply]) -> Result<(), Failed>
 
 /// Answers a group: the records of its answers are in the journal before the first of its replies is sent.
 pub(crate) fn answer<B: Bench>(
-    alloc: Global,
     store: &mut Store,
     bench: &mut B,
     group: &mut Group,
@@ -179,7 +135,7 @@ pub(crate) fn answer<B: Bench>(
     ensures later { B.faults bench.old ≤ B.faults bench.new }
     ensures others { (result ≢ Err EndFault.Input) × (result ≢ Err EndFault.Limit) }
 {
-    decide(alloc, store, bench, group)?;
+    decide(store, bench, group)?;
     send_all(bench, &group.replies)?;
     Ok(())
 }

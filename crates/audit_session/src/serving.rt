@@ -116,7 +116,7 @@ fn answer_groups<P: Source, B: Bench>(
 {
     loop {
         let more = gather(alloc, lines, schema, index, source, batch, group)?;
-        answer(alloc, store, bench, group)?;
+        answer(store, bench, group)?;
         if !more {
             return Ok(());
         }

@@ -1,5 +1,5 @@
 //! The store.
-ghost use Rattle.std.specs.Prelude.{◌≡◌, ◌<◌, ◌≤◌, ◌+◌, ◌++◌, [], ℕ, List, true, false, length, take, All, IfOk, IfErr, OnOk, OnErr, IsErrOf, Err};
+ghost use Rattle.std.specs.Prelude.{◌≡◌, ◌≤◌, ◌+◌, ◌++◌, [], ℕ, List, true, false, length, take, All, IfOk, IfErr, OnOk, OnErr, IsErrOf, Err};
 ghost use Rattle.audit_types.specs.declared.records.Answered.{Answered};
 ghost use Rattle.audit_types.specs.History.{FitsShape, IsLegal, setting_of};
 ghost use Rattle.bench_core.specs.Causes.{Rose};
@@ -115,7 +115,7 @@ impl Store {
         }
     }
 
-    /// Decides 1 to 64 questions in order, each after the history and the answers before it in the group. The records of
+    /// Decides up to 64 questions in order, each after the history and the answers before it in the group. The records of
     /// the answers are in the journal before an answer is given: they are appended as one group, in four calls of the
     /// bench, and all memory is taken before the first of them. After a refusal the store isn't usable.
     pub fn ask_all<B: Bench>(
@@ -124,7 +124,6 @@ impl Store {
         asked: &[Asked],
     ) -> Result<Vec<Outcome>, StoreFault>
         requires usable { self.old.usable ≡ true }
-        requires some { 0 < length asked.now }
         requires few { length asked.now ≤ 64 }
         requires fit { All (λ a. FitsShape self.old.secret.shape a.column a.rows) asked.now }
         requires stands { B.told → IsAsLeft (B.file bench.old) self.old }

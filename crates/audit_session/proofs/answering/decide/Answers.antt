@@ -12,13 +12,13 @@ use Rattle.audit_session.proofs.ToldPlans.{can_all, few_questions, questions_fit
 use Rattle.audit_session.proofs.DecidedGroup.{by_fault, told_group, while_kept, nothing_called}
 use Rattle.audit_session.proofs.answering.decide.Goals as goal
 
-pub outcomes_of-requires-clause-few : goal.outcomes_of-requires-clause-few
-outcomes_of-requires-clause-few g c =
+pub ask_all-requires-clause-few : goal.ask_all-requires-clause-few
+ask_all-requires-clause-few g c =
     let asked : c.deref.result.now ≡ questions_of c.args.group.now.plans.items = c.deref.ensures.value ∙ c.requires.questions in
     omega (arith, ap (λ (l : List Asked). length l) asked, few_questions c.args.group.now.plans.items, c.requires.few)
 
-pub outcomes_of-requires-clause-fit : goal.outcomes_of-requires-clause-fit
-outcomes_of-requires-clause-fit g c =
+pub ask_all-requires-clause-fit : goal.ask_all-requires-clause-fit
+ask_all-requires-clause-fit g c =
     let asked : c.deref.result.now ≡ questions_of c.args.group.now.plans.items = c.deref.ensures.value ∙ c.requires.questions in
     subst (λ (l : List Asked). All (λ (a : Asked). FitsShape c.args.store.now.secret.shape a.column a.rows) l) (sym asked)
     (questions_fit c.args.store.now.secret.shape c.args.group.now.plans.items c.requires.served)
@@ -30,9 +30,9 @@ returns-in_err-outcomes-clause-moments g c = λ told quiet.
     let asked : c.deref.result.now ≡ questions_of plans = c.deref.ensures.value ∙ c.requires.questions in
     let e = c.in_err-outcomes.ensures in
     by_fault c.in_err-outcomes.field-0.0
-    (λ memory. nothing_called g.B.Bench c.args.bench.now c.outcomes_of.new.bench store.secret store.history plans (e.no_memory memory) (λ image bytes was. g.met.B.Bench.only_now c.args.bench.now image bytes was) quiet (store.journal.gate, c.requires.stands told))
-    (λ other. while_kept g.B.Bench c.args.bench.now c.outcomes_of.new.bench store.secret store.history plans c.told_outcomes.ensures.can c.told_outcomes.ensures.some c.requires.is.numbers c.requires.served (g.B.Bench.sent c.args.bench.now)
-    (subst (λ (l : List Asked). Keeps g.B.Bench c.args.bench.now c.outcomes_of.new.bench store.secret store.history l (g.B.Bench.sent c.args.bench.now)) asked (e.any_moment told quiet other)))
+    (λ memory. nothing_called g.B.Bench c.args.bench.now c.ask_all.new.bench store.secret store.history plans (e.no_memory memory) (λ image bytes was. g.met.B.Bench.only_now c.args.bench.now image bytes was) quiet (store.journal.gate, c.requires.stands told))
+    (λ other. while_kept g.B.Bench c.args.bench.now c.ask_all.new.bench store.secret store.history plans c.told_outcomes.ensures.can c.told_outcomes.ensures.some c.requires.is.numbers c.requires.served (g.B.Bench.sent c.args.bench.now)
+    (subst (λ (l : List Asked). Keeps g.B.Bench c.args.bench.now c.ask_all.new.bench store.secret store.history l (g.B.Bench.sent c.args.bench.now)) asked (e.any_moment told quiet other)))
 
 pub tell_all-requires-clause-can : goal.tell_all-requires-clause-can
 tell_all-requires-clause-can g c =
@@ -53,7 +53,7 @@ returns-clause-decides g c =
     let e = c.in_ok-outcomes.ensures in
     let due = subst (λ (l : List Asked). AreOutcomes (secret_table store.secret) store.history l outcomes) asked e.outcomes in
     let told = subst (λ (os : List Outcome). AreTold plans os c.tell_all.new.replies.items) c.deref-3.ensures.value (subst (λ (ps : List Plan). AreTold ps c.deref-3.result.now c.tell_all.new.replies.items) c.deref-2.ensures.value c.tell_all.ensures.told) in
-    told_group g.B.Bench c.args.bench.now c.outcomes_of.new.bench store.secret store.history plans c.outcomes_of.new.store.history outcomes c.tell_all.new.replies.items due told
+    told_group g.B.Bench c.args.bench.now c.ask_all.new.bench store.secret store.history plans c.ask_all.new.self.history outcomes c.tell_all.new.replies.items due told
     (e.history ∙ ap (λ (l : List Asked). store.history ++ records_made l outcomes) asked)
     (λ t. e.ticks t ∙ ap (λ (l : List Asked). g.B.Bench.moment c.args.bench.now + calls_for (records_made l outcomes)) asked)
 
@@ -62,6 +62,6 @@ returns-clause-moments g c = λ told quiet.
     let store = c.args.store.now in
     let plans = c.args.group.now.plans.items in
     let asked : c.deref.result.now ≡ questions_of plans = c.deref.ensures.value ∙ c.requires.questions in
-    while_kept g.B.Bench c.args.bench.now c.outcomes_of.new.bench store.secret store.history plans c.told_outcomes.ensures.can c.told_outcomes.ensures.some c.requires.is.numbers c.requires.served
+    while_kept g.B.Bench c.args.bench.now c.ask_all.new.bench store.secret store.history plans c.told_outcomes.ensures.can c.told_outcomes.ensures.some c.requires.is.numbers c.requires.served
     (g.B.Bench.sent c.args.bench.now)
-    (subst (λ (l : List Asked). Keeps g.B.Bench c.args.bench.now c.outcomes_of.new.bench store.secret store.history l (g.B.Bench.sent c.args.bench.now)) asked (c.in_ok-outcomes.ensures.any_moment told quiet (search rules)))
+    (subst (λ (l : List Asked). Keeps g.B.Bench c.args.bench.now c.ask_all.new.bench store.secret store.history l (g.B.Bench.sent c.args.bench.now)) asked (c.in_ok-outcomes.ensures.any_moment told quiet (search rules)))

@@ -1,0 +1,23 @@
+use Rattle.std.proofs.Common.{◌≡◌, ◌+◌, ◌++◌, List, length, subst}
+use Rattle.audit_types.specs.declared.records.Answered.{Answered}
+use Rattle.bench_core.specs.Calls.{LeavesOnly}
+use Rattle.journal_form.specs.Journal.{StandsAt}
+use Rattle.answer_journal.specs.Moments.{IsBeforeOrAfter}
+use Rattle.audit_store.proofs.asking.keep.Goals as goal
+
+pub returns-clause-any_moment : goal.returns-clause-any_moment
+returns-clause-any_moment g c = λ history told stands many quiet.
+    let journal = c.args.journal.now in
+    subst (λ (group : List Answered). LeavesOnly g.B.Bench c.args.bench.now c.append_ready.new.bench (IsBeforeOrAfter journal.shape history group (g.B.Bench.sent c.args.bench.now)))
+    c.in_ok-ready.ensures.1 (c.append_ready.ensures.any_moment history told stands many quiet)
+
+pub returns-clause-done : goal.returns-clause-done
+returns-clause-done g c = λ history told stands many.
+    let now = c.append_ready.new.self in
+    subst (λ (group : List Answered). StandsAt (g.B.Bench.file c.append_ready.new.bench) now.shape (history ++ group) now.gate) c.in_ok-ready.ensures.1
+    (c.in_ok-append_ready.ensures.done history told stands many)
+
+pub returns-clause-counted : goal.returns-clause-counted
+returns-clause-counted g c =
+    subst (λ (group : List Answered). c.append_ready.new.self.count ≡ c.args.journal.now.count + length group) c.in_ok-ready.ensures.1
+    c.in_ok-append_ready.ensures.counted
