@@ -1,5 +1,7 @@
 -- A step whose status is done ended well.
 use Rattle.std.proofs.Common.{◌≡◌, Result, Ok, Err, OnOk}
+use Rattle.answer_journal.specs.declared.make.MakeFault.{MakeFault}
+use Rattle.answer_journal.specs.declared.make.MakeFault.TheVariants as make
 use Rattle.audit_session.specs.declared.serving.EndFault.{EndFault}
 use Rattle.audit_session.specs.declared.serving.EndFault.TheVariants as end
 use Rattle.journal_audit.specs.declared.faults.AuditFault.{AuditFault}
@@ -7,7 +9,13 @@ use Rattle.journal_audit.specs.declared.faults.AuditFault.TheVariants as report
 use Rattle.transcript_sim.specs.declared.simulating.SimulationFault.{SimulationFault}
 use Rattle.transcript_sim.specs.declared.simulating.SimulationFault.TheVariants as simulation
 use Rattle.auditor_top.specs.declared.status.Status.TheVariants.{Done}
-use Rattle.auditor_top.specs.Status.{audit_status, session_status, simulation_status}
+use Rattle.auditor_top.specs.Status.{making_status, audit_status, session_status, simulation_status}
+
+-- a making
+pub making_done : {X P : Type 0} (ended : Result X MakeFault) → making_status ended ≡ Done → OnOk ended P → P
+making_done (Ok done) is holds = holds
+making_done (Err make.AlreadyThere) is holds = cc
+making_done (Err make.Failed) is holds = cc
 
 -- a session
 pub session_done : {X P : Type 0} (ended : Result X EndFault) → session_status ended ≡ Done → OnOk ended P → P

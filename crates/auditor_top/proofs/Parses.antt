@@ -1,7 +1,10 @@
 -- What `clap` reads of the words is the command that they are.
-use Rattle.std.proofs.Common.{◌≡◌, ◌⊎◌, ℕ, true, List, [], ◌∷◌, Option, Some, None, option_and_then, Result, Ok, Err, IfOk, refl, sym, ap, subst, codes, ◌∙◌, inl, inr}
+use Rattle.std.proofs.Common.{◌≡◌, ◌⊎◌, ℕ, true, false, List, [], ◌∷◌, Option, Some, None, option_and_then, Result, Ok, Err, IfOk, refl, sym, ap, subst, codes, ◌∙◌, inl, inr}
 use Rattle.std.specs.Result.{result_ok}
-use Rattle.clap.specs.Words.{App, Kinds, HasMatchesOf, HasKind, IsAmong, kind_of, is_simple, is_simple_and_free, fault_of, matches_of, found_of, rows_of, first_of, first_value}
+use Rattle.clap.specs.Words.{App, Rule, AddsArg, app_of, rule_of, with_rule, Kinds, HasMatchesOf, HasKind, IsAmong, kind_of, is_simple, is_simple_and_free, fault_of, matches_of, found_of, rows_of, first_of, first_value}
+use Rattle.std.specs.declared.alloc.AllocError.{AllocError}
+use Rattle.clap.specs.declared.builder.arg.Arg.{Arg}
+use Rattle.clap.specs.declared.builder.command.Command as clap
 use Rattle.clap.specs.declared.error.Error.{Error}
 use Rattle.clap.specs.declared.error.kind.ErrorKind.{ErrorKind}
 use Rattle.clap.specs.declared.error.kind.ErrorKind.TheVariants.{OutOfMemory}
@@ -13,6 +16,21 @@ use Rattle.auditor_top.specs.declared.words.Command.{Command}
 use Rattle.auditor_top.specs.declared.words.WordFault.{WordFault}
 use Rattle.auditor_top.specs.declared.words.WordFault.TheVariants.{Bad, NoMemory}
 use Rattle.auditor_top.specs.Words.{auditor, command_with, command_in, unless_refused, command_of, word_fault}
+
+-- ---- the command line
+
+-- a command line with one more argument
+pub one_more : (old new : clap.Command) (argument : Arg) (app : App) (rule : Rule) → AddsArg old argument new → argument.global ≡ false → app_of old ≡ app
+    → rule_of argument ≡ rule
+    → app_of new ≡ with_rule app rule
+one_more old new argument app rule adds local was is =
+    adds.shape local ∙ ap (λ (line : App). with_rule line (rule_of argument)) was ∙ ap (λ (r : Rule). with_rule app r) is
+
+-- the same, where memory may run out
+pub last_added : (old : clap.Command) (argument : Arg) (r : Result clap.Command AllocError) (app : App) (rule : Rule) → IfOk r (λ new. AddsArg old argument new)
+    → argument.global ≡ false → app_of old ≡ app → rule_of argument ≡ rule → IfOk r (λ new. app_of new ≡ with_rule app rule)
+last_added old argument (Ok new) app rule adds local was is = one_more old new argument app rule adds local was is
+last_added old argument (Err e) app rule adds local was is = tt
 
 -- ---- the values of a parse
 

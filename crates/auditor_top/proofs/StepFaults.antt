@@ -1,11 +1,13 @@
 -- What the fault of each step of a run comes to, by cases on that fault.
-use Rattle.std.proofs.Common.{rules, ◌≡◌, ◌≢◌, ℕ, ◌+◌, ◌<◌, ◌≤◌, List, [], Result, Ok, Err, IsErrOf, OnOk, length, refl, sym, ◌∙◌, ap, inl, inr, arith, subst}
+use Rattle.std.proofs.Common.{rules, ◌≡◌, ◌≢◌, ℕ, ◌+◌, ◌<◌, ◌≤◌, List, [], Result, Ok, Err, IsErr, IsErrOf, OnOk, length, refl, sym, ◌∙◌, ap, inl, inr, arith, subst}
+use Rattle.std.proofs.lemmas.Bool.{false≢true}
 use Rattle.audit_types.specs.declared.records.Answered.{Answered}
 use Rattle.bench_core.specs.Causes.{Rose}
 use Rattle.schema_json.specs.Columns.{Column}
 use Rattle.table_load.specs.Cells.{TableView, SecretView}
 use Rattle.table_load.specs.Database.{Database}
 use Rattle.journal_form.specs.Journal.{StandsFor}
+use Rattle.answer_journal.specs.Moments.{IsAlready}
 use Rattle.answer_journal.specs.declared.make.MakeFault.{MakeFault}
 use Rattle.answer_journal.specs.declared.make.MakeFault.TheVariants as make
 use Rattle.audit_store.specs.Starting.{StartCause, StartsUnlessFailed}
@@ -18,10 +20,10 @@ use Rattle.audit_session.specs.declared.serving.EndFault.TheVariants as end
 use Rattle.auditor_top.specs.declared.files.FileFault.TheVariants as file
 use Rattle.auditor_top.specs.declared.opening.OpenFault.{OpenFault}
 use Rattle.auditor_top.specs.declared.opening.OpenFault.TheVariants as opening
-use Rattle.auditor_top.specs.declared.words.Command.TheVariants.{Serve}
+use Rattle.auditor_top.specs.declared.words.Command.TheVariants.{Init, Serve}
 use Rattle.auditor_top.specs.declared.status.Status.{Status}
-use Rattle.auditor_top.specs.declared.status.Status.TheVariants.{BenchFault}
-use Rattle.auditor_top.specs.Status.{open_status, make_status, start_status, session_status}
+use Rattle.auditor_top.specs.declared.status.Status.TheVariants.{Done, BenchFault}
+use Rattle.auditor_top.specs.Status.{open_status, making_status, start_status, session_status}
 use Rattle.auditor_top.specs.Ends.{Outside, ServeEnds}
 use Rattle.auditor_top.specs.Causes.{FaultCounts, counts, FaultCause, SchemaCause, TableCause, FileCause, HoldsLegal, InputCause, NothingFailed, IsDoneOrWants}
 use Rattle.auditor_top.proofs.OneTable.{nothing_served}
@@ -121,16 +123,45 @@ unstarted_faults start.NoMemory before bench rose same = same_counts before befo
 
 -- ---- making a journal
 
--- where the bench didn't fail, a journal or another file was there
-pub refused_is : (f : MakeFault) (status : Status) → status ≡ make_status f → status ≢ BenchFault → IsErrOf {T = Unit {0}} (Err f) make.AlreadyThere
-refused_is make.AlreadyThere status is fine = refl
-refused_is make.Failed status is fine = absurd (fine is)
-
 -- the count of the bench rose where a call of it failed, and no other count changed
-pub unmade_faults : (f : MakeFault) (before : FaultCounts) (bench : ℕ) → (IsErrOf {T = Unit {0}} (Err f) make.Failed → Rose before.bench bench) → ((IsErrOf {T = Unit {0}} (Err f) make.Failed → ⊥) → bench ≡ before.bench)
-    → FaultCause (make_status f) before (record before { bench = bench })
-unmade_faults make.AlreadyThere before bench rose same = same_counts before before.input bench refl (same (search rules))
-unmade_faults make.Failed before bench rose same = (rose refl, refl)
+pub making_faults : (making : Result (Unit {0}) MakeFault) (before : FaultCounts) (bench : ℕ) → (IsErrOf making make.Failed → Rose before.bench bench)
+    → ((IsErrOf making make.Failed → ⊥) → bench ≡ before.bench)
+    → FaultCause (making_status making) before (record before { bench = bench })
+making_faults (Ok done) before bench rose same = same_counts before before.input bench refl (same (search rules))
+making_faults (Err make.AlreadyThere) before bench rose same = same_counts before before.input bench refl (same (search rules))
+making_faults (Err make.Failed) before bench rose same = (rose refl, refl)
+
+-- a journal was made where none was there
+pub making_cause : (making : Result (Unit {0}) MakeFault) (file : List ℕ) (secret : SecretView) → (IsAlready file → IsErr making)
+    → (IsErrOf making make.AlreadyThere → IsAlready file) → FileCause (making_status making) Init file secret
+making_cause (Ok done) file secret refused already = λ there. absurd (false≢true (refused there))
+making_cause (Err make.AlreadyThere) file secret refused already = already refl
+making_cause (Err make.Failed) file secret refused already = tt
+
+-- where nothing was there and the bench didn't fail, it is done
+pub making_wants : (making : Result (Unit {0}) MakeFault) (before after : FaultCounts) → (IsErrOf making make.AlreadyThere → ⊥)
+    → FaultCause (making_status making) before after → NothingFailed before after → IsDoneOrWants (making_status making)
+making_wants (Ok done) before after absent rose none = inl refl
+making_wants (Err make.AlreadyThere) before after absent rose none = absurd (absent refl)
+making_wants (Err make.Failed) before after absent rose none = absurd (none.bench rose.0)
+
+-- where the bench didn't fail, a journal was made, or one or another file was there
+pub made_or_there : {P : Type 0} (making : Result (Unit {0}) MakeFault) → making_status making ≢ BenchFault → OnOk making P → (IsErrOf making make.AlreadyThere → P) → P
+made_or_there (Ok done) fine made there = made
+made_or_there (Err make.AlreadyThere) fine made there = there refl
+made_or_there (Err make.Failed) fine made there = absurd (fine refl)
+
+-- where the bench didn't fail and it isn't done, one or another file was there
+pub there_is : (making : Result (Unit {0}) MakeFault) → making_status making ≢ Done → making_status making ≢ BenchFault → IsErrOf making make.AlreadyThere
+there_is (Ok done) undone fine = absurd (undone refl)
+there_is (Err make.AlreadyThere) undone fine = refl
+there_is (Err make.Failed) undone fine = absurd (fine refl)
+
+-- it is told where the bench failed
+pub making_failed : (making : Result (Unit {0}) MakeFault) → making_status making ≡ BenchFault → IsErrOf making make.Failed
+making_failed (Ok done) is = cc
+making_failed (Err make.AlreadyThere) is = cc
+making_failed (Err make.Failed) is = refl
 
 -- ---- answering lines
 

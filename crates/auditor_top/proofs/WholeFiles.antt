@@ -3,6 +3,8 @@ use Rattle.std.proofs.Common.{◌≡◌, ℕ, ◌<◌, List, [], ◌++◌, lengt
 use Rattle.std.proofs.lemmas.List.{append-nil}
 use Rattle.std.proofs.lemmas.Bool.{cond-true, lt-ltb}
 use Rattle.schema_json.specs.Columns.{Column}
+use Rattle.schema_json.specs.Reading.{schema_of}
+use Rattle.schema_json.specs.declared.faults.SchemaFault.TheVariants as schema_fault
 use Rattle.table_load.specs.Faults.{UnlessMemory, unless_fault}
 use Rattle.table_load.specs.Reading.{file_fault}
 use Rattle.table_load.specs.Tables.{table_of, public_of}
@@ -18,6 +20,14 @@ same_meaning meaning most refused refuses before after bytes read = by_end read.
     by_end : before ≡ bytes ++ after → (after ≡ []) ⊎ (most < length bytes) → meaning bytes ≡ meaning before
     by_end is (inl none) = ap meaning (sym (is ∙ ap (λ (l : List ℕ). bytes ++ l) none ∙ append-nil bytes))
     by_end is (inr long) = refuses bytes long ∙ sym (refuses before (omega (arith, long, ap (λ (l : List ℕ). length l) is, length-append bytes after)))
+
+-- a schema of more bytes than it may have has that fault
+long_schema : (bytes : List ℕ) → 65536 < length bytes → schema_of bytes ≡ Err schema_fault.TooLong
+long_schema bytes long = cond-true _ _ _ (lt-ltb 65536 (length bytes) long)
+
+-- what was read of a schema's file means what the whole file means
+pub same_schema : (before after bytes : List ℕ) → ReadsAll 65536 before after bytes → schema_of bytes ≡ schema_of before
+same_schema before after bytes read = same_meaning schema_of 65536 (Err schema_fault.TooLong) long_schema before after bytes read
 
 -- more bytes than a table may have
 long_file : (columns : List Column) (bytes : List ℕ) → 16777216 < length bytes → file_fault columns bytes ≡ Some table_fault.TooLong

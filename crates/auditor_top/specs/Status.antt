@@ -127,6 +127,11 @@ verdict_status verdict.Limit = InputLimit
 verdict_status (verdict.Disagrees line due) = Disagrees line due
 verdict_status verdict.NoMemory = NoMemory
 
+-- of making a journal, by how it ended
+abbrev pub making_status : {X : Type 0} → Result X MakeFault → Status
+making_status (Ok done) = Done
+making_status (Err fault) = make_status fault
+
 -- of a report, by how it ended
 abbrev pub audit_status : {X : Type 0} → Result X AuditFault → Status
 audit_status (Ok done) = Done

@@ -16,7 +16,7 @@ ghost use Rattle.auditor_top.specs.Ends.{AuditEnds, audit_over};
 ghost use Rattle.auditor_top.specs.Stages.{Before, reading_table, opening_journal, reading_lines};
 ghost use Rattle.auditor_top.specs.Status.{audit_status};
 
-use crate::opening::{Opened, open_table};
+use crate::opening::{Opened, open_table, secret_of};
 use crate::status::{Status, Which};
 use audit_store::Store;
 use bench_core::{Bench, Source};
@@ -94,7 +94,7 @@ pub fn audit<P: Source, B: Bench>(
         Ok(opened) => opened,
         Err(fault) => return Status::from(fault),
     };
-    let store = match Store::start(alloc, table.secret, bench) {
+    let store = match Store::start(alloc, secret_of(table), bench) {
         Ok(store) => store,
         Err(fault) => return Status::from(fault),
     };

@@ -122,6 +122,31 @@ fn answer_lines(
     answer(alloc, schema, index, &mut store, lines, bench)
 }
 
+// Answers the lines of a drill over this table, and says how many rows that has.
+fn answer_table(
+    alloc: Global,
+    number: u32,
+    schema: &Schema,
+    table: Table,
+    bench: &mut MemoryBench,
+) -> Result<u16, NoMemory>
+    requires columns { schema.now.columns ≡ drill_columns }
+    requires public { table.public ≡ drill_public number }
+    requires secret { table.secret ≡ drill_secret number }
+    requires fits { FitsSchema schema.now.columns table.public }
+    requires empty { file_of bench.old ≡ [] }
+    requires unsent { sent_of bench.old ≡ [] }
+    ensures rows { IfOk result (λ rows. rows ≡ drill_rows) }
+    ensures replies { OnOk result (AnswersDrill number (sent_of bench.new)) }
+    ensures short { OnOk result (length (drill_text number) ≤ 60000) }
+{
+    let Table { public, secret } = table;
+    let rows = public.rows();
+    let index = Index::new(alloc, public)?;
+    answer_lines(alloc, number, schema, &index, secret, bench)?;
+    Ok(rows)
+}
+
 // Answers the lines of a drill over its table, and says how many rows that has.
 fn answer_drill(alloc: Global, number: u32, bench: &mut MemoryBench) -> Result<u16, NoMemory>
     requires empty { file_of bench.old ≡ [] }
@@ -131,11 +156,8 @@ fn answer_drill(alloc: Global, number: u32, bench: &mut MemoryBench) -> Result<u
     ensures short { OnOk result (length (drill_text number) ≤ 60000) }
 {
     let schema = drill_schema(alloc)?;
-    let Table { public, secret } = drill_table(alloc, number)?;
-    let rows = public.rows();
-    let index = Index::new(alloc, public)?;
-    answer_lines(alloc, number, &schema, &index, secret, bench)?;
-    Ok(rows)
+    let table = drill_table(alloc, number)?;
+    answer_table(alloc, number, &schema, table, bench)
 }
 
 // Writes the summary of a drill into the front of `out`, and says how many bytes it has.

@@ -11,11 +11,12 @@ ghost use Rattle.auditor_top.specs.Files.{GivesSchema, GivesTable, GivesPublic};
 use crate::reading::{ReadFault, read_all};
 use bench_core::Source;
 use schema_json::{MOST_SCHEMA, Schema, SchemaFault, read_schema};
+use set_index::Index;
 use std::alloc::Global;
-use table_load::{MOST_TABLE, Public, Table, TableFault, load, load_public};
+use table_load::{MOST_TABLE, Table, TableFault, load, load_public};
 
 /// Why a file gives nothing.
-#[derive(Clone, Copy, Debug, PartialEq, Eq, Drop)]
+#[derive(Drop)]
 pub enum FileFault<F: Drop> {
     /// A read failed.
     Failed,
@@ -23,6 +24,19 @@ pub enum FileFault<F: Drop> {
     NoMemory,
     /// The bytes have this fault. It is never want of memory.
     Bad(F),
+}
+
+// The schema that bytes mean.
+fn schema_in(alloc: Global, bytes: &[u8]) -> Result<Schema, FileFault<SchemaFault>>
+    ensures means { GivesSchema result (schema_of bytes.now) }
+    ensures own { result ≢ Err (FileFault.Bad SchemaFault.NoMemory) }
+    ensures all_read { result ≢ Err FileFault.Failed }
+{
+    match read_schema(alloc, bytes) {
+        Ok(schema) => Ok(schema),
+        Err(SchemaFault::NoMemory) => Err(FileFault::NoMemory),
+        Err(fault) => Err(FileFault::Bad(fault)),
+    }
 }
 
 /// The schema that a source's bytes mean. It reads until the bytes are more than a schema may have.
@@ -38,14 +52,24 @@ pub fn schema_from<P: Source>(
     ensures last_call { result ≡ Err FileFault.Failed → P.last_failed source.new ≡ true }
     ensures steady { (result ≡ Err FileFault.Failed → ⊥) → P.faults source.new ≡ P.faults source.old }
 {
-    let bytes = match read_all(alloc, source, MOST_SCHEMA) {
-        Ok(bytes) => bytes,
-        Err(ReadFault::Failed) => return Err(FileFault::Failed),
-        Err(ReadFault::NoMemory) => return Err(FileFault::NoMemory),
-    };
-    match read_schema(alloc, bytes.as_slice()) {
-        Ok(schema) => Ok(schema),
-        Err(SchemaFault::NoMemory) => Err(FileFault::NoMemory),
+    match read_all(alloc, source, MOST_SCHEMA) {
+        Ok(bytes) => schema_in(alloc, &bytes),
+        Err(ReadFault::Failed) => Err(FileFault::Failed),
+        Err(ReadFault::NoMemory) => Err(FileFault::NoMemory),
+    }
+}
+
+// The table that bytes mean over the columns of a schema.
+fn table_in(alloc: Global, schema: &Schema, bytes: &[u8]) -> Result<Table, FileFault<TableFault>>
+    ensures means { GivesTable result (table_of schema.now.columns bytes.now) }
+    ensures fits { IfOk result (λ table. FitsSchema schema.now.columns table.public) }
+    ensures shape { IfOk result (λ table. table.secret.shape ≡ shape_of schema.now.columns table.public.rows) }
+    ensures own { result ≢ Err (FileFault.Bad TableFault.NoMemory) }
+    ensures all_read { result ≢ Err FileFault.Failed }
+{
+    match load(alloc, schema, bytes) {
+        Ok(table) => Ok(table),
+        Err(TableFault::NoMemory) => Err(FileFault::NoMemory),
         Err(fault) => Err(FileFault::Bad(fault)),
     }
 }
@@ -66,27 +90,39 @@ pub fn table_from<P: Source>(
     ensures last_call { result ≡ Err FileFault.Failed → P.last_failed source.new ≡ true }
     ensures steady { (result ≡ Err FileFault.Failed → ⊥) → P.faults source.new ≡ P.faults source.old }
 {
-    let bytes = match read_all(alloc, source, MOST_TABLE) {
-        Ok(bytes) => bytes,
-        Err(ReadFault::Failed) => return Err(FileFault::Failed),
-        Err(ReadFault::NoMemory) => return Err(FileFault::NoMemory),
-    };
-    match load(alloc, schema, bytes.as_slice()) {
-        Ok(table) => Ok(table),
+    match read_all(alloc, source, MOST_TABLE) {
+        Ok(bytes) => table_in(alloc, schema, &bytes),
+        Err(ReadFault::Failed) => Err(FileFault::Failed),
+        Err(ReadFault::NoMemory) => Err(FileFault::NoMemory),
+    }
+}
+
+// The public part that bytes mean over the columns of a schema, ready to be asked.
+fn index_in(alloc: Global, schema: &Schema, bytes: &[u8]) -> Result<Index, FileFault<TableFault>>
+    ensures means { GivesPublic result (public_of schema.now.columns bytes.now) }
+    ensures fits { IfOk result (λ index. FitsSchema schema.now.columns index) }
+    ensures own { result ≢ Err (FileFault.Bad TableFault.NoMemory) }
+    ensures all_read { result ≢ Err FileFault.Failed }
+{
+    match load_public(alloc, schema, bytes) {
+        Ok(public) => match Index::new(alloc, public) {
+            Ok(index) => Ok(index),
+            Err(_) => Err(FileFault::NoMemory),
+        },
         Err(TableFault::NoMemory) => Err(FileFault::NoMemory),
         Err(fault) => Err(FileFault::Bad(fault)),
     }
 }
 
-/// The public part that a source's bytes mean over the columns of a schema, where the file has the public columns alone. It
-/// reads until the bytes are more than a table may have.
-pub fn public_from<P: Source>(
+/// The public part that a source's bytes mean over the columns of a schema, where the file has the public columns alone, ready
+/// to be asked. It reads until the bytes are more than a table may have.
+pub fn index_from<P: Source>(
     alloc: Global,
     schema: &Schema,
     source: &mut P,
-) -> Result<Public, FileFault<TableFault>>
+) -> Result<Index, FileFault<TableFault>>
     ensures means { P.told → GivesPublic result (public_of schema.now.columns (P.left source.old)) }
-    ensures fits { IfOk result (λ public. FitsSchema schema.now.columns public) }
+    ensures fits { IfOk result (λ index. FitsSchema schema.now.columns index) }
     ensures own { result ≢ Err (FileFault.Bad TableFault.NoMemory) }
     ensures within { P.told → result ≡ Err FileFault.Failed → length (P.left source.old) ≤ most_table + length (P.left source.new) }
     ensures later { P.faults source.old ≤ P.faults source.new }
@@ -94,14 +130,9 @@ pub fn public_from<P: Source>(
     ensures last_call { result ≡ Err FileFault.Failed → P.last_failed source.new ≡ true }
     ensures steady { (result ≡ Err FileFault.Failed → ⊥) → P.faults source.new ≡ P.faults source.old }
 {
-    let bytes = match read_all(alloc, source, MOST_TABLE) {
-        Ok(bytes) => bytes,
-        Err(ReadFault::Failed) => return Err(FileFault::Failed),
-        Err(ReadFault::NoMemory) => return Err(FileFault::NoMemory),
-    };
-    match load_public(alloc, schema, bytes.as_slice()) {
-        Ok(public) => Ok(public),
-        Err(TableFault::NoMemory) => Err(FileFault::NoMemory),
-        Err(fault) => Err(FileFault::Bad(fault)),
+    match read_all(alloc, source, MOST_TABLE) {
+        Ok(bytes) => index_in(alloc, schema, &bytes),
+        Err(ReadFault::Failed) => Err(FileFault::Failed),
+        Err(ReadFault::NoMemory) => Err(FileFault::NoMemory),
     }
 }

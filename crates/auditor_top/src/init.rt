@@ -13,14 +13,25 @@ ghost use Rattle.auditor_top.specs.declared.words.Command.TheVariants.{Init};
 ghost use Rattle.auditor_top.specs.Commands.{AreFilesOf};
 ghost use Rattle.auditor_top.specs.Causes.{FaultCause, WordCause, SchemaCause, TableCause, FileCause, NeverFall, NothingFailed, IsDoneOrWants, counts};
 ghost use Rattle.auditor_top.specs.Stages.{Before, reading_table, opening_journal};
+ghost use Rattle.auditor_top.specs.Status.{making_status};
 
-use crate::opening::open_table;
+use crate::opening::{open_table, secret_shape};
 use crate::status::{Status, Which};
-use answer_journal::Journal;
+use answer_journal::{Journal, MakeFault};
 use bench_core::{Bench, Source};
 use schema_json::SchemaFault;
 use std::alloc::Global;
 use table_load::TableFault;
+
+// The status of a making that ended so.
+fn ended(making: Result<(), MakeFault>) -> Status
+    ensures { result ≡ making_status making }
+{
+    match making {
+        Ok(()) => Status::Done,
+        Err(fault) => Status::from(fault),
+    }
+}
 
 /// Makes the journal of a table, for the empty history.
 pub fn init<P: Source, B: Bench>(
@@ -74,12 +85,9 @@ pub fn init<P: Source, B: Bench>(
     ensures before_bench { Before opening_journal result (bench.new ≡ bench.old) }
     ensures no_memory { result ≡ Status.NoMemory → bench.new ≡ bench.old }
 {
-    let opened = match open_table(alloc, schema, table) {
-        Ok(opened) => opened,
+    let shape = match open_table(alloc, schema, table) {
+        Ok(opened) => secret_shape(opened),
         Err(fault) => return Status::from(fault),
     };
-    match Journal::make(bench, &opened.table.secret.shape()) {
-        Ok(()) => Status::Done,
-        Err(fault) => Status::from(fault),
-    }
+    ended(Journal::make(bench, &shape))
 }

@@ -4,18 +4,20 @@ ghost use Rattle.schema_json.specs.Columns.{Column};
 ghost use Rattle.schema_json.specs.Reading.{schema_of, most_schema};
 ghost use Rattle.table_load.specs.Reading.{most_table};
 ghost use Rattle.schema_json.specs.SecretShape.{shape_of};
-ghost use Rattle.table_load.specs.Cells.{FitsSchema};
+ghost use Rattle.table_load.specs.Cells.{FitsSchema, IsSecret};
 ghost use Rattle.table_load.specs.Loaded.{table_view};
 ghost use Rattle.table_load.specs.Tables.{table_of, public_of};
 ghost use Rattle.auditor_top.specs.Causes.{FaultCause, SchemaCause, TableCause, counts};
 ghost use Rattle.auditor_top.specs.Stages.{Before, reading_table};
 ghost use Rattle.auditor_top.specs.Status.{open_status};
 
-use crate::files::{FileFault, public_from, schema_from, table_from};
+use crate::files::{FileFault, index_from, schema_from, table_from};
+use audit_types::Shape;
 use bench_core::Source;
 use schema_json::{Schema, SchemaFault};
+use set_index::Index;
 use std::alloc::Global;
-use table_load::{Public, Table, TableFault};
+use table_load::{Secret, Table, TableFault};
 
 /// A table, and the schema that it was read by.
 #[derive(Drop)]
@@ -24,15 +26,30 @@ pub struct Opened {
     pub table: Table,
 }
 
-/// The public part of a table, and the schema that it was read by.
+/// The public part of a table, ready to be asked, and the schema that it was read by.
 #[derive(Drop)]
 pub struct OpenedPublic {
     pub schema: Schema,
-    pub public: Public,
+    pub index: Index,
+}
+
+/// The secret part of a table, whose public part is dropped.
+pub fn secret_of(table: Table) -> Secret
+    ensures { result ≡ table.secret }
+{
+    table.secret
+}
+
+/// The shape of an opened table's secrets, which are dropped.
+pub fn secret_shape(opened: Opened) -> Shape
+    ensures shape { result ≡ opened.table.secret.shape }
+    ensures is { IsSecret opened.table.secret }
+{
+    opened.table.secret.shape()
 }
 
 /// Why the files of a table weren't opened: the first of them that gives nothing, with what is wrong with it.
-#[derive(Clone, Copy, Debug, PartialEq, Eq, Drop)]
+#[derive(Drop)]
 pub enum OpenFault {
     Schema(FileFault<SchemaFault>),
     Table(FileFault<TableFault>),
@@ -82,8 +99,8 @@ pub fn open_public<P: Source>(
     table: &mut P,
 ) -> Result<OpenedPublic, OpenFault>
     ensures schema_is { P.told → IfOk result (λ opened. schema_of (P.left schema.old) ≡ Ok opened.schema.columns) }
-    ensures public_is { P.told → IfOk result (λ opened. public_of opened.schema.columns (P.left table.old) ≡ Ok opened.public) }
-    ensures fits { IfOk result (λ opened. FitsSchema opened.schema.columns opened.public) }
+    ensures public_is { P.told → IfOk result (λ opened. public_of opened.schema.columns (P.left table.old) ≡ Ok opened.index) }
+    ensures fits { IfOk result (λ opened. FitsSchema opened.schema.columns opened.index) }
 
     // A fault is the first that there is. The table is read only over a schema without fault.
     ensures schema_cause { P.told → IfErr result (λ fault. SchemaCause (open_status fault) (schema_of (P.left schema.old))) }
@@ -105,8 +122,8 @@ pub fn open_public<P: Source>(
         Ok(schema) => schema,
         Err(fault) => return Err(OpenFault::Schema(fault)),
     };
-    match public_from(alloc, &schema, table) {
-        Ok(public) => Ok(OpenedPublic { schema, public }),
+    match index_from(alloc, &schema, table) {
+        Ok(index) => Ok(OpenedPublic { schema, index }),
         Err(fault) => Err(OpenFault::Table(fault)),
     }
 }

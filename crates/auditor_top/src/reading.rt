@@ -9,7 +9,7 @@ use std::alloc::Global;
 const PIECE: usize = 4096;
 
 /// Why a source wasn't read.
-#[derive(Clone, Copy, Debug, PartialEq, Eq)]
+#[derive(Drop)]
 pub enum ReadFault {
     /// The source failed.
     Failed,

@@ -15,14 +15,13 @@ ghost use Rattle.auditor_top.specs.declared.words.Command.TheVariants.{Simulate}
 ghost use Rattle.auditor_top.specs.Commands.{ArePublicFilesOf};
 ghost use Rattle.auditor_top.specs.Causes.{FaultCause, WordCause, SchemaCause, TableCause, FileCause, InputCause, NeverFall, NothingFailed, IsDoneOrWants, counts};
 ghost use Rattle.auditor_top.specs.Ends.{SimulateEnds, SimulateSends, LeavesFile};
-ghost use Rattle.auditor_top.specs.Stages.{Before, reading_table, opening_journal, reading_lines};
+ghost use Rattle.auditor_top.specs.Stages.{Before, reading_table, reading_lines};
 ghost use Rattle.auditor_top.specs.Status.{simulation_status};
 
 use crate::opening::{OpenedPublic, open_public};
 use crate::status::{Status, Which};
 use bench_core::{Bench, Source};
 use schema_json::SchemaFault;
-use set_index::Index;
 use std::alloc::Global;
 use table_load::TableFault;
 use transcript_sim::SimulationFault;
@@ -96,13 +95,9 @@ pub fn simulate<P: Source, I: Source, B: Bench>(
     ensures before_lines { Before reading_lines result ((input.new ≡ input.old) × (bench.new ≡ bench.old)) }
 {
     one_verdict();
-    let OpenedPublic { schema, public } = match open_public(alloc, schema, table) {
+    let OpenedPublic { schema, index } = match open_public(alloc, schema, table) {
         Ok(opened) => opened,
         Err(fault) => return Status::from(fault),
-    };
-    let index = match Index::new(alloc, public) {
-        Ok(index) => index,
-        Err(_) => return Status::NoMemory,
     };
     ended(transcript_sim::simulate(alloc, &schema, &index, input, bench))
 }

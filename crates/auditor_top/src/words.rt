@@ -26,7 +26,7 @@ pub enum Command {
 }
 
 /// Why words gave no command.
-#[derive(Clone, Copy, Debug, PartialEq, Eq)]
+#[derive(Drop)]
 pub enum WordFault {
     /// They are none.
     Bad,
@@ -148,14 +148,11 @@ fn command_in(matches: &ArgMatches<'_>) -> Option<Command>
 fn command_line<'a>(alloc: Global) -> Result<clap::Command<'a>, AllocError>
     ensures { IfOk result (λ line. app_of line ≡ auditor) }
 {
-    let command = Arg::new(alloc, "command").required(true);
-    let number = Arg::new(alloc, "number");
-    let batch = Arg::new(alloc, "batch").long("batch");
     clap::Command::new(alloc, "auditor")
         .no_binary_name(true)
-        .arg(command)?
-        .arg(number)?
-        .arg(batch)
+        .arg(Arg::new(alloc, "command").required(true))?
+        .arg(Arg::new(alloc, "number"))?
+        .arg(Arg::new(alloc, "batch").long("batch"))
 }
 
 /// The command that the words are, as `clap` reads them: an option may stand before or after the command, its value in the

@@ -1,16 +1,19 @@
-use Rattle.std.proofs.Common.{rules, sym, ◌∙◌, ap}
+use Rattle.std.proofs.Common.{◌∙◌, ap, subst}
 use Rattle.table_load.specs.Tables.{table_of}
-use Rattle.auditor_top.proofs.WholeFiles.{same_table, own_table_fault}
+use Rattle.auditor_top.specs.Files.{GivesTable}
+use Rattle.auditor_top.proofs.WholeFiles.{same_table}
 use Rattle.auditor_top.proofs.files.table_from.Goals as goal
 
-pub returns-in-Ok-load-clause-means : goal.returns-in-Ok-load-clause-means
-returns-in-Ok-load-clause-means g c = λ told.
-    sym (same_table c.args.schema.now.columns _ _ c.in-Ok.bytes.items (c.in-Ok.ensures.bytes told))
-    ∙ ap (table_of c.args.schema.now.columns) (sym c.as_slice.ensures.value)
-    ∙ c.in-Ok-load.ensures.table
+pub returns-in-Ok-clause-means : goal.returns-in-Ok-clause-means
+returns-in-Ok-clause-means g c = λ told.
+    let columns = c.args.schema.now.columns in
+    subst (GivesTable c.table_in.result) (ap (table_of columns) c.deref.ensures.value ∙ same_table columns _ _ c.in-Ok.bytes.items (c.in-Ok.ensures.bytes told)) c.table_in.ensures.means
 
-pub returns-clause-means : goal.returns-clause-means
-returns-clause-means g c = λ told.
-    sym (same_table c.args.schema.now.columns _ _ c.in-Ok.bytes.items (c.in-Ok.ensures.bytes told))
-    ∙ ap (table_of c.args.schema.now.columns) (sym c.as_slice.ensures.value)
-    ∙ own_table_fault c.in-Err.fault _ (search rules) c.in-Err.ensures.table
+pub returns-in-Ok-clause-within : goal.returns-in-Ok-clause-within
+returns-in-Ok-clause-within g c = λ told is. absurd (c.table_in.ensures.all_read is)
+
+pub returns-in-Ok-clause-failed : goal.returns-in-Ok-clause-failed
+returns-in-Ok-clause-failed g c = λ is. absurd (c.table_in.ensures.all_read is)
+
+pub returns-in-Ok-clause-last_call : goal.returns-in-Ok-clause-last_call
+returns-in-Ok-clause-last_call g c = λ is. absurd (c.table_in.ensures.all_read is)

@@ -1,4 +1,4 @@
-use Rattle.std.proofs.Common.{rules, ◌≡◌, ◌≢◌, ◌+◌, ℕ, List, [], Err, sym, ◌∙◌, ap, subst}
+use Rattle.std.proofs.Common.{Some, rules, ◌≡◌, ◌≢◌, ◌+◌, ℕ, List, [], Err, sym, ◌∙◌, ap, subst, Result, refl}
 use Rattle.audit_types.specs.declared.records.Answered.{Answered}
 use Rattle.audit_types.specs.History.{IsLegal}
 use Rattle.bench_core.specs.Causes.{Rose}
@@ -17,11 +17,21 @@ use Rattle.auditor_top.specs.declared.words.Command.TheVariants.{Serve}
 use Rattle.auditor_top.specs.declared.status.Status.{Status}
 use Rattle.auditor_top.specs.Status.{open_status, start_status, session_status}
 use Rattle.auditor_top.specs.Ends.{ServeEnds, outside}
-use Rattle.auditor_top.specs.Causes.{SchemaCause, TableCause, FileCause, FaultCause, HoldsLegal, InputCause, IsDoneOrWants, counts}
+use Rattle.auditor_top.specs.Causes.{SchemaCause, TableCause, FileCause, FaultCause, HoldsLegal, InputCause, IsDoneOrWants, counts, WordCause}
+use Rattle.schema_json.specs.Columns.{Column}
+use Rattle.schema_json.specs.Reading.{schema_of}
+use Rattle.table_load.specs.Tables.{table_of}
+use Rattle.auditor_top.specs.declared.opening.OpenFault.{OpenFault}
+use Rattle.auditor_top.specs.declared.opening.Opened.{Opened}
+use Rattle.auditor_top.specs.Stages.{Before, reading_table, reading_lines, opening_journal}
+use Rattle.auditor_top.proofs.StepStatuses.{unopened, always_before, PastFiles, table_read, started_past, answered, start_words, session_words, start_failed, start_undone, start_no_input, start_reads_nothing, session_bench, session_input, session_at_lines}
 use Rattle.auditor_top.proofs.OneTable.{same_base, same_parts, nothing_served, untouched_stops}
 use Rattle.auditor_top.proofs.Calls.{session_done}
 use Rattle.auditor_top.proofs.StepFaults.{moved, unopened_ends, unopened_wants, unstarted_ends, unstarted_cause, unstarted_faults, unstarted_wants, session_cause, session_ends, session_faults, session_reads, session_wants}
 use Rattle.auditor_top.proofs.serving.serve.Goals as goal
+
+abbrev unopened_by : OpenFault → Result Opened OpenFault
+unopened_by fault = Err fault
 
 -- ---- the files weren't opened
 
@@ -55,6 +65,92 @@ returns-in-Err-clause-undisclosed g c = λ ptold told quiet base history over im
     let here = g.met.B.Bench.only_now c.args.bench.now image sent was in
     c.stops_are_legal.ensures _ _ _ image sent base c.args.batch history now [] over.files over.legal
     (untouched_stops base c.args.batch history [] (g.B.Bench.file c.args.bench.now) (g.B.Bench.sent c.args.bench.now) image sent over.stands (here.1, quiet image here.0)) stands
+
+pub returns-in-Err-clause-word_cause : goal.returns-in-Err-clause-word_cause
+returns-in-Err-clause-word_cause g c =
+    subst (λ (status : Status). WordCause status (Some (Serve c.args.batch))) (sym c.from.ensures)
+    ((unopened c.in-Err.fault).words (Serve c.args.batch) refl)
+
+pub returns-in-Err-clause-schema_cause : goal.returns-in-Err-clause-schema_cause
+returns-in-Err-clause-schema_cause g c = λ ptold.
+    subst (λ (status : Status). SchemaCause status (schema_of (g.P.Source.left c.args.schema.now))) (sym c.from.ensures)
+    (c.in-Err.ensures.schema_cause ptold)
+
+pub returns-in-Err-clause-table_cause : goal.returns-in-Err-clause-table_cause
+returns-in-Err-clause-table_cause g c = λ ptold columns is.
+    subst (λ (status : Status). TableCause status (table_of columns (g.P.Source.left c.args.table.now))) (sym c.from.ensures)
+    (c.in-Err.ensures.table_cause ptold columns is)
+
+pub returns-in-Err-clause-own_schema_fault : goal.returns-in-Err-clause-own_schema_fault
+returns-in-Err-clause-own_schema_fault g c = λ is.
+    c.in-Err.ensures.own_schema_fault (ap unopened_by ((unopened c.in-Err.fault).own_schema (sym c.from.ensures ∙ is)))
+
+pub returns-in-Err-clause-own_table_fault : goal.returns-in-Err-clause-own_table_fault
+returns-in-Err-clause-own_table_fault g c = λ is.
+    c.in-Err.ensures.own_table_fault (ap unopened_by ((unopened c.in-Err.fault).own_table (sym c.from.ensures ∙ is)))
+
+pub returns-in-Err-clause-schema_within : goal.returns-in-Err-clause-schema_within
+returns-in-Err-clause-schema_within g c = λ ptold is.
+    c.in-Err.ensures.schema_within ptold (ap unopened_by ((unopened c.in-Err.fault).schema (sym c.from.ensures ∙ is)))
+
+pub returns-in-Err-clause-table_within : goal.returns-in-Err-clause-table_within
+returns-in-Err-clause-table_within g c = λ ptold is.
+    c.in-Err.ensures.table_within ptold (ap unopened_by ((unopened c.in-Err.fault).table (sym c.from.ensures ∙ is)))
+
+pub returns-in-Err-clause-schema_last : goal.returns-in-Err-clause-schema_last
+returns-in-Err-clause-schema_last g c = λ is.
+    c.in-Err.ensures.schema_last (ap unopened_by ((unopened c.in-Err.fault).schema (sym c.from.ensures ∙ is)))
+
+pub returns-in-Err-clause-table_last : goal.returns-in-Err-clause-table_last
+returns-in-Err-clause-table_last g c = λ is.
+    c.in-Err.ensures.table_last (ap unopened_by ((unopened c.in-Err.fault).table (sym c.from.ensures ∙ is)))
+
+pub returns-in-Err-clause-bench_last : goal.returns-in-Err-clause-bench_last
+returns-in-Err-clause-bench_last g c = λ is.
+    absurd ((unopened c.in-Err.fault).no_bench (sym c.from.ensures ∙ is))
+
+pub returns-in-Err-clause-file_cause : goal.returns-in-Err-clause-file_cause
+returns-in-Err-clause-file_cause g c = λ ptold told base files.
+    subst (λ (status : Status). FileCause status (Serve c.args.batch) (g.B.Bench.file c.args.bench.now) base.secret) (sym c.from.ensures)
+    ((unopened c.in-Err.fault).journal (Serve c.args.batch) (g.B.Bench.file c.args.bench.now) base.secret)
+
+pub returns-in-Err-clause-faults : goal.returns-in-Err-clause-faults
+returns-in-Err-clause-faults g c = λ spare.
+    subst (λ (status : Status). FaultCause status (counts (g.P.Source.faults c.args.schema.now) (g.P.Source.faults c.args.table.now) (g.I.Source.faults c.args.input.now) (g.B.Bench.faults c.args.bench.now) spare) (counts (g.P.Source.faults c.open_table.new.schema) (g.P.Source.faults c.open_table.new.table) (g.I.Source.faults c.args.input.now) (g.B.Bench.faults c.args.bench.now) spare)) (sym c.from.ensures)
+    (c.in-Err.ensures.faults (g.I.Source.faults c.args.input.now) (g.B.Bench.faults c.args.bench.now) spare)
+
+pub returns-in-Err-clause-calls : goal.returns-in-Err-clause-calls
+returns-in-Err-clause-calls g c = λ ptold itold told done base history over.
+    absurd ((unopened c.in-Err.fault).undone (sym c.from.ensures ∙ done))
+
+pub returns-in-Err-clause-input_cause : goal.returns-in-Err-clause-input_cause
+returns-in-Err-clause-input_cause g c = λ itold.
+    subst (λ (status : Status). InputCause status (g.I.Source.left c.args.input.now) (g.I.Source.left c.args.input.now)) (sym c.from.ensures)
+    ((unopened c.in-Err.fault).input (g.I.Source.left c.args.input.now))
+
+pub returns-in-Err-clause-input_last : goal.returns-in-Err-clause-input_last
+returns-in-Err-clause-input_last g c = λ is.
+    absurd ((unopened c.in-Err.fault).no_input (sym c.from.ensures ∙ is))
+
+pub returns-in-Err-clause-nothing_began : goal.returns-in-Err-clause-nothing_began
+returns-in-Err-clause-nothing_began g c = λ ptold told quiet none.
+    started g.B.Bench c.args.bench.now _
+    (λ image sent was.
+    let now = g.met.B.Bench.only_now c.args.bench.now image sent was in
+    (now.1, quiet image now.0))
+
+pub returns-in-Err-clause-before_table : goal.returns-in-Err-clause-before_table
+returns-in-Err-clause-before_table g c =
+    subst (λ (status : Status). Before reading_table status (c.open_table.new.table ≡ c.args.table.now)) (sym c.from.ensures)
+    (c.in-Err.ensures.untouched)
+
+pub returns-in-Err-clause-before_bench : goal.returns-in-Err-clause-before_bench
+returns-in-Err-clause-before_bench g c =
+    always_before opening_journal c.from.result refl
+
+pub returns-in-Err-clause-before_lines : goal.returns-in-Err-clause-before_lines
+returns-in-Err-clause-before_lines g c =
+    always_before reading_lines c.from.result (refl, refl, refl)
 
 -- ---- no memory for the index
 
@@ -130,6 +226,86 @@ pub returns-in-Err-start-clause-undisclosed : goal.returns-in-Err-start-clause-u
 returns-in-Err-start-clause-undisclosed g c = λ ptold told quiet base history over image sent now was stands.
     c.stops_are_legal.ensures _ _ _ image sent base c.args.batch history now [] over.files over.legal
     (untouched_stops base c.args.batch history [] (g.B.Bench.file c.args.bench.now) (g.B.Bench.sent c.args.bench.now) image sent over.stands ((c.start.ensures.untouched told quiet).each image sent was)) stands
+
+pub returns-in-Err-start-clause-schema_cause : goal.returns-in-Err-start-clause-schema_cause
+returns-in-Err-start-clause-schema_cause g c = λ ptold.
+    let past : PastFiles c.from-in-Err-start.result = subst PastFiles (sym c.from-in-Err-start.ensures) (started_past c.in-Err-start.fault) in
+    subst (SchemaCause c.from-in-Err-start.result) (sym (c.in-Ok.ensures.schema_is ptold)) (past.schema c.in-Ok.opened.schema.columns)
+
+pub returns-in-Err-start-clause-table_cause : goal.returns-in-Err-start-clause-table_cause
+returns-in-Err-start-clause-table_cause g c = λ ptold columns is.
+    let past : PastFiles c.from-in-Err-start.result = subst PastFiles (sym c.from-in-Err-start.ensures) (started_past c.in-Err-start.fault) in
+    table_read (λ (cs : List Column). table_of cs (g.P.Source.left c.args.table.now)) c.from-in-Err-start.result (g.P.Source.left c.args.schema.now) c.in-Ok.opened.schema.columns columns (table_view c.in-Ok.opened.table) past (c.in-Ok.ensures.schema_is ptold) (c.in-Ok.ensures.table_is ptold) is
+
+pub returns-in-Err-start-clause-own_schema_fault : goal.returns-in-Err-start-clause-own_schema_fault
+returns-in-Err-start-clause-own_schema_fault g c = λ is.
+    let past : PastFiles c.from-in-Err-start.result = subst PastFiles (sym c.from-in-Err-start.ensures) (started_past c.in-Err-start.fault) in
+    past.own_schema is
+
+pub returns-in-Err-start-clause-own_table_fault : goal.returns-in-Err-start-clause-own_table_fault
+returns-in-Err-start-clause-own_table_fault g c = λ is.
+    let past : PastFiles c.from-in-Err-start.result = subst PastFiles (sym c.from-in-Err-start.ensures) (started_past c.in-Err-start.fault) in
+    past.own_table is
+
+pub returns-in-Err-start-clause-schema_within : goal.returns-in-Err-start-clause-schema_within
+returns-in-Err-start-clause-schema_within g c = λ ptold is.
+    let past : PastFiles c.from-in-Err-start.result = subst PastFiles (sym c.from-in-Err-start.ensures) (started_past c.in-Err-start.fault) in
+    absurd (past.no_schema is)
+
+pub returns-in-Err-start-clause-table_within : goal.returns-in-Err-start-clause-table_within
+returns-in-Err-start-clause-table_within g c = λ ptold is.
+    let past : PastFiles c.from-in-Err-start.result = subst PastFiles (sym c.from-in-Err-start.ensures) (started_past c.in-Err-start.fault) in
+    absurd (past.no_table is)
+
+pub returns-in-Err-start-clause-schema_last : goal.returns-in-Err-start-clause-schema_last
+returns-in-Err-start-clause-schema_last g c = λ is.
+    let past : PastFiles c.from-in-Err-start.result = subst PastFiles (sym c.from-in-Err-start.ensures) (started_past c.in-Err-start.fault) in
+    absurd (past.no_schema is)
+
+pub returns-in-Err-start-clause-table_last : goal.returns-in-Err-start-clause-table_last
+returns-in-Err-start-clause-table_last g c = λ is.
+    let past : PastFiles c.from-in-Err-start.result = subst PastFiles (sym c.from-in-Err-start.ensures) (started_past c.in-Err-start.fault) in
+    absurd (past.no_table is)
+
+pub returns-in-Err-start-clause-before_table : goal.returns-in-Err-start-clause-before_table
+returns-in-Err-start-clause-before_table g c =
+    let past : PastFiles c.from-in-Err-start.result = subst PastFiles (sym c.from-in-Err-start.ensures) (started_past c.in-Err-start.fault) in
+    past.before_table (c.open_table.new.table ≡ c.args.table.now)
+
+pub returns-in-Err-start-clause-word_cause : goal.returns-in-Err-start-clause-word_cause
+returns-in-Err-start-clause-word_cause g c =
+    subst (λ (status : Status). WordCause status (Some (Serve c.args.batch))) (sym c.from-in-Err-start.ensures)
+    (start_words c.in-Err-start.fault (Serve c.args.batch) refl)
+
+pub returns-in-Err-start-clause-bench_last : goal.returns-in-Err-start-clause-bench_last
+returns-in-Err-start-clause-bench_last g c = λ is.
+    c.in-Err-start.ensures.last_call (start_failed c.in-Err-start.fault (sym c.from-in-Err-start.ensures ∙ is))
+
+pub returns-in-Err-start-clause-calls : goal.returns-in-Err-start-clause-calls
+returns-in-Err-start-clause-calls g c = λ ptold itold told done base history over.
+    absurd (start_undone c.in-Err-start.fault (sym c.from-in-Err-start.ensures ∙ done))
+
+pub returns-in-Err-start-clause-nothing_began : goal.returns-in-Err-start-clause-nothing_began
+returns-in-Err-start-clause-nothing_began g c = λ ptold told quiet none.
+    c.start.ensures.untouched told quiet
+
+pub returns-in-Err-start-clause-before_bench : goal.returns-in-Err-start-clause-before_bench
+returns-in-Err-start-clause-before_bench g c =
+    let past : PastFiles c.from-in-Err-start.result = subst PastFiles (sym c.from-in-Err-start.ensures) (started_past c.in-Err-start.fault) in
+    past.before_bench (c.start.new.bench ≡ c.args.bench.now)
+
+pub returns-in-Err-start-clause-before_lines : goal.returns-in-Err-start-clause-before_lines
+returns-in-Err-start-clause-before_lines g c =
+    always_before reading_lines c.from-in-Err-start.result (refl, c.start.ensures.file, c.start.ensures.sent)
+
+pub returns-in-Err-start-clause-input_cause : goal.returns-in-Err-start-clause-input_cause
+returns-in-Err-start-clause-input_cause g c = λ itold.
+    subst (λ (status : Status). InputCause status (g.I.Source.left c.args.input.now) (g.I.Source.left c.args.input.now)) (sym c.from-in-Err-start.ensures)
+    (start_reads_nothing c.in-Err-start.fault (g.I.Source.left c.args.input.now))
+
+pub returns-in-Err-start-clause-input_last : goal.returns-in-Err-start-clause-input_last
+returns-in-Err-start-clause-input_last g c = λ is.
+    absurd (start_no_input c.in-Err-start.fault (sym c.from-in-Err-start.ensures ∙ is))
 
 -- ---- the lines were answered
 
@@ -257,3 +433,71 @@ returns-clause-nothing_began g c = λ ptold told quiet none.
       stands = subst (λ (s : SecretView). StandsFor file s.shape now.history) secret (now.journal.gate, c.in-Ok-start.ensures.stands told);
       legal = subst (λ (s : SecretView). IsLegal (secret_table s) now.history) secret c.in-Ok-start.ensures.store.2.legal;
     }))
+
+pub returns-clause-schema_cause : goal.returns-clause-schema_cause
+returns-clause-schema_cause g c = λ ptold.
+    let past : PastFiles c.ended.result = subst PastFiles (sym c.ended.ensures) (answered c.serve.result) in
+    subst (SchemaCause c.ended.result) (sym (c.in-Ok.ensures.schema_is ptold)) (past.schema c.in-Ok.opened.schema.columns)
+
+pub returns-clause-table_cause : goal.returns-clause-table_cause
+returns-clause-table_cause g c = λ ptold columns is.
+    let past : PastFiles c.ended.result = subst PastFiles (sym c.ended.ensures) (answered c.serve.result) in
+    table_read (λ (cs : List Column). table_of cs (g.P.Source.left c.args.table.now)) c.ended.result (g.P.Source.left c.args.schema.now) c.in-Ok.opened.schema.columns columns (table_view c.in-Ok.opened.table) past (c.in-Ok.ensures.schema_is ptold) (c.in-Ok.ensures.table_is ptold) is
+
+pub returns-clause-own_schema_fault : goal.returns-clause-own_schema_fault
+returns-clause-own_schema_fault g c = λ is.
+    let past : PastFiles c.ended.result = subst PastFiles (sym c.ended.ensures) (answered c.serve.result) in
+    past.own_schema is
+
+pub returns-clause-own_table_fault : goal.returns-clause-own_table_fault
+returns-clause-own_table_fault g c = λ is.
+    let past : PastFiles c.ended.result = subst PastFiles (sym c.ended.ensures) (answered c.serve.result) in
+    past.own_table is
+
+pub returns-clause-schema_within : goal.returns-clause-schema_within
+returns-clause-schema_within g c = λ ptold is.
+    let past : PastFiles c.ended.result = subst PastFiles (sym c.ended.ensures) (answered c.serve.result) in
+    absurd (past.no_schema is)
+
+pub returns-clause-table_within : goal.returns-clause-table_within
+returns-clause-table_within g c = λ ptold is.
+    let past : PastFiles c.ended.result = subst PastFiles (sym c.ended.ensures) (answered c.serve.result) in
+    absurd (past.no_table is)
+
+pub returns-clause-schema_last : goal.returns-clause-schema_last
+returns-clause-schema_last g c = λ is.
+    let past : PastFiles c.ended.result = subst PastFiles (sym c.ended.ensures) (answered c.serve.result) in
+    absurd (past.no_schema is)
+
+pub returns-clause-table_last : goal.returns-clause-table_last
+returns-clause-table_last g c = λ is.
+    let past : PastFiles c.ended.result = subst PastFiles (sym c.ended.ensures) (answered c.serve.result) in
+    absurd (past.no_table is)
+
+pub returns-clause-before_table : goal.returns-clause-before_table
+returns-clause-before_table g c =
+    let past : PastFiles c.ended.result = subst PastFiles (sym c.ended.ensures) (answered c.serve.result) in
+    past.before_table (c.open_table.new.table ≡ c.args.table.now)
+
+pub returns-clause-word_cause : goal.returns-clause-word_cause
+returns-clause-word_cause g c =
+    subst (λ (status : Status). WordCause status (Some (Serve c.args.batch))) (sym c.ended.ensures)
+    (session_words c.serve.result c.args.batch)
+
+pub returns-clause-bench_last : goal.returns-clause-bench_last
+returns-clause-bench_last g c = λ is.
+    c.serve.ensures.last_call.1 (session_bench c.serve.result (sym c.ended.ensures ∙ is))
+
+pub returns-clause-input_last : goal.returns-clause-input_last
+returns-clause-input_last g c = λ is.
+    c.serve.ensures.last_call.0 (session_input c.serve.result (sym c.ended.ensures ∙ is))
+
+pub returns-clause-before_lines : goal.returns-clause-before_lines
+returns-clause-before_lines g c =
+    subst (λ (status : Status). Before reading_lines status ((c.serve.new.source ≡ c.args.input.now) × (g.B.Bench.file c.serve.new.bench ≡ g.B.Bench.file c.args.bench.now) × (g.B.Bench.sent c.serve.new.bench ≡ g.B.Bench.sent c.args.bench.now))) (sym c.ended.ensures)
+    (session_at_lines ((c.serve.new.source ≡ c.args.input.now) × (g.B.Bench.file c.serve.new.bench ≡ g.B.Bench.file c.args.bench.now) × (g.B.Bench.sent c.serve.new.bench ≡ g.B.Bench.sent c.args.bench.now)) c.serve.result)
+
+pub returns-clause-before_bench : goal.returns-clause-before_bench
+returns-clause-before_bench g c =
+    let past : PastFiles c.ended.result = subst PastFiles (sym c.ended.ensures) (answered c.serve.result) in
+    past.before_bench (c.serve.new.bench ≡ c.args.bench.now)

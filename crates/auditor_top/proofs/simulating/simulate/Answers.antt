@@ -1,4 +1,4 @@
-use Rattle.std.proofs.Common.{List, [], sym, ◌∙◌, subst}
+use Rattle.std.proofs.Common.{Some, List, [], sym, ◌∙◌, subst, ◌≡◌, Result, Err, refl, ap}
 use Rattle.std.proofs.lemmas.List.{append-nil}
 use Rattle.bench_core.specs.Calls.{LeavesOnly}
 use Rattle.bench_core.specs.Moments.{weakens}
@@ -9,11 +9,21 @@ use Rattle.transcript_sim.specs.Ends.{EndVerdicts, SimulatesMeanwhile}
 use Rattle.auditor_top.specs.declared.status.Status.{Status}
 use Rattle.auditor_top.specs.Status.{open_status}
 use Rattle.auditor_top.specs.Ends.{SimulateEnds, SimulateSends}
-use Rattle.auditor_top.specs.Causes.{SchemaCause, TableCause, FaultCause, InputCause, IsDoneOrWants, counts}
+use Rattle.auditor_top.specs.Causes.{SchemaCause, TableCause, FaultCause, InputCause, IsDoneOrWants, counts, WordCause, FileCause}
+use Rattle.schema_json.specs.Reading.{schema_of}
+use Rattle.table_load.specs.Tables.{public_of}
+use Rattle.auditor_top.specs.declared.opening.OpenFault.{OpenFault}
+use Rattle.auditor_top.specs.declared.opening.OpenedPublic.{OpenedPublic}
+use Rattle.auditor_top.specs.Stages.{Before, reading_table, reading_lines}
+use Rattle.auditor_top.specs.declared.words.Command.TheVariants.{Simulate}
+use Rattle.auditor_top.proofs.StepStatuses.{unopened, always_before, PastFiles, table_read, simulated, simulation_words, simulation_bench, simulation_input, simulation_at_lines, simulation_file}
 use Rattle.auditor_top.proofs.Calls.{simulation_done}
 use Rattle.auditor_top.proofs.StepFaults.{moved, unopened_wants}
 use Rattle.auditor_top.proofs.SimulationEndings.{same_columns, same_public_part, none_begun, before_lines, still_file, unopened_verdicts, unopened_sends, simulation_ends, simulation_sends, simulation_reads, simulation_faults, simulation_wants}
 use Rattle.auditor_top.proofs.simulating.simulate.Goals as goal
+
+abbrev unopened_by : OpenFault → Result OpenedPublic OpenFault
+unopened_by fault = Err fault
 
 -- ---- the files weren't opened
 
@@ -50,20 +60,80 @@ returns-in-Err-clause-complete g c = λ ptold itold columns public files verdict
     subst (λ (status : Status). IsDoneOrWants status) (sym c.from.ensures)
     (unopened_wants fault columns public before after schema table (c.in-Err.ensures.faults read bench spare) none)
 
--- ---- no memory for the index
+pub returns-in-Err-clause-word_cause : goal.returns-in-Err-clause-word_cause
+returns-in-Err-clause-word_cause g c =
+    subst (λ (status : Status). WordCause status (Some Simulate)) (sym c.from.ensures)
+    ((unopened c.in-Err.fault).words Simulate refl)
 
-pub returns-in-Err-new-clause-verdicts : goal.returns-in-Err-new-clause-verdicts
-returns-in-Err-new-clause-verdicts g c = λ ptold itold columns public files.
-    ([], none_begun columns public (counted_lines (g.I.Source.left c.args.input.now)), λ told. sym (append-nil (g.B.Bench.sent c.args.bench.now)))
+pub returns-in-Err-clause-schema_cause : goal.returns-in-Err-clause-schema_cause
+returns-in-Err-clause-schema_cause g c = λ ptold.
+    subst (λ (status : Status). SchemaCause status (schema_of (g.P.Source.left c.args.schema.now))) (sym c.from.ensures)
+    (c.in-Err.ensures.schema_cause ptold)
 
-pub returns-in-Err-new-clause-any_moment : goal.returns-in-Err-new-clause-any_moment
-returns-in-Err-new-clause-any_moment g c = λ ptold told quiet columns public files.
-    before_lines g.B.Bench c.args.bench.now (λ image sent was. g.met.B.Bench.only_now c.args.bench.now image sent was) quiet g.I.Source.told columns public
-    (counted_lines (g.I.Source.left c.args.input.now))
+pub returns-in-Err-clause-public_cause : goal.returns-in-Err-clause-public_cause
+returns-in-Err-clause-public_cause g c = λ ptold columns is.
+    subst (λ (status : Status). TableCause status (public_of columns (g.P.Source.left c.args.table.now))) (sym c.from.ensures)
+    (c.in-Err.ensures.public_cause ptold columns is)
 
-pub returns-in-Err-new-clause-untouched : goal.returns-in-Err-new-clause-untouched
-returns-in-Err-new-clause-untouched g c =
-    λ told quiet. still_file g.B.Bench c.args.bench.now (λ image sent was. g.met.B.Bench.only_now c.args.bench.now image sent was) quiet
+pub returns-in-Err-clause-own_schema_fault : goal.returns-in-Err-clause-own_schema_fault
+returns-in-Err-clause-own_schema_fault g c = λ is.
+    c.in-Err.ensures.own_schema_fault (ap unopened_by ((unopened c.in-Err.fault).own_schema (sym c.from.ensures ∙ is)))
+
+pub returns-in-Err-clause-own_table_fault : goal.returns-in-Err-clause-own_table_fault
+returns-in-Err-clause-own_table_fault g c = λ is.
+    c.in-Err.ensures.own_table_fault (ap unopened_by ((unopened c.in-Err.fault).own_table (sym c.from.ensures ∙ is)))
+
+pub returns-in-Err-clause-schema_within : goal.returns-in-Err-clause-schema_within
+returns-in-Err-clause-schema_within g c = λ ptold is.
+    c.in-Err.ensures.schema_within ptold (ap unopened_by ((unopened c.in-Err.fault).schema (sym c.from.ensures ∙ is)))
+
+pub returns-in-Err-clause-table_within : goal.returns-in-Err-clause-table_within
+returns-in-Err-clause-table_within g c = λ ptold is.
+    c.in-Err.ensures.table_within ptold (ap unopened_by ((unopened c.in-Err.fault).table (sym c.from.ensures ∙ is)))
+
+pub returns-in-Err-clause-schema_last : goal.returns-in-Err-clause-schema_last
+returns-in-Err-clause-schema_last g c = λ is.
+    c.in-Err.ensures.schema_last (ap unopened_by ((unopened c.in-Err.fault).schema (sym c.from.ensures ∙ is)))
+
+pub returns-in-Err-clause-table_last : goal.returns-in-Err-clause-table_last
+returns-in-Err-clause-table_last g c = λ is.
+    c.in-Err.ensures.table_last (ap unopened_by ((unopened c.in-Err.fault).table (sym c.from.ensures ∙ is)))
+
+pub returns-in-Err-clause-bench_last : goal.returns-in-Err-clause-bench_last
+returns-in-Err-clause-bench_last g c = λ is.
+    absurd ((unopened c.in-Err.fault).no_bench (sym c.from.ensures ∙ is))
+
+pub returns-in-Err-clause-file_cause : goal.returns-in-Err-clause-file_cause
+returns-in-Err-clause-file_cause g c = λ file secret.
+    subst (λ (status : Status). FileCause status Simulate file secret) (sym c.from.ensures)
+    ((unopened c.in-Err.fault).journal Simulate file secret)
+
+pub returns-in-Err-clause-faults : goal.returns-in-Err-clause-faults
+returns-in-Err-clause-faults g c = λ spare.
+    subst (λ (status : Status). FaultCause status (counts (g.P.Source.faults c.args.schema.now) (g.P.Source.faults c.args.table.now) (g.I.Source.faults c.args.input.now) (g.B.Bench.faults c.args.bench.now) spare) (counts (g.P.Source.faults c.open_public.new.schema) (g.P.Source.faults c.open_public.new.table) (g.I.Source.faults c.args.input.now) (g.B.Bench.faults c.args.bench.now) spare)) (sym c.from.ensures)
+    (c.in-Err.ensures.faults (g.I.Source.faults c.args.input.now) (g.B.Bench.faults c.args.bench.now) spare)
+
+pub returns-in-Err-clause-calls : goal.returns-in-Err-clause-calls
+returns-in-Err-clause-calls g c = λ itold told done.
+    absurd ((unopened c.in-Err.fault).undone (sym c.from.ensures ∙ done))
+
+pub returns-in-Err-clause-input_cause : goal.returns-in-Err-clause-input_cause
+returns-in-Err-clause-input_cause g c = λ itold.
+    subst (λ (status : Status). InputCause status (g.I.Source.left c.args.input.now) (g.I.Source.left c.args.input.now)) (sym c.from.ensures)
+    ((unopened c.in-Err.fault).input (g.I.Source.left c.args.input.now))
+
+pub returns-in-Err-clause-input_last : goal.returns-in-Err-clause-input_last
+returns-in-Err-clause-input_last g c = λ is.
+    absurd ((unopened c.in-Err.fault).no_input (sym c.from.ensures ∙ is))
+
+pub returns-in-Err-clause-before_table : goal.returns-in-Err-clause-before_table
+returns-in-Err-clause-before_table g c =
+    subst (λ (status : Status). Before reading_table status (c.open_public.new.table ≡ c.args.table.now)) (sym c.from.ensures)
+    (c.in-Err.ensures.untouched)
+
+pub returns-in-Err-clause-before_lines : goal.returns-in-Err-clause-before_lines
+returns-in-Err-clause-before_lines g c =
+    always_before reading_lines c.from.result (refl, refl)
 
 -- ---- the transcript was read
 
@@ -89,9 +159,9 @@ returns-clause-verdicts g c = λ ptold itold columns public files.
     let before = g.B.Bench.sent c.args.bench.now in
     let after = g.B.Bench.sent c.simulate.new.bench in
     let one = same_columns _ _ opened.schema.columns columns public (c.in-Ok.ensures.schema_is ptold) files in
-    let two = c.in-Ok-new.ensures ∙ same_public_part _ _ opened.schema.columns columns opened.public public (c.in-Ok.ensures.schema_is ptold) (c.in-Ok.ensures.public_is ptold) files in
+    let two = same_public_part _ _ opened.schema.columns columns opened.index public (c.in-Ok.ensures.schema_is ptold) (c.in-Ok.ensures.public_is ptold) files in
     let all = c.simulate.ensures.verdicts itold in
-    let are = subst (λ (p : PublicView). EndVerdicts c.simulate.result columns p input left all.0) two (subst (λ (cs : List Column). EndVerdicts c.simulate.result cs c.in-Ok-new.index input left all.0) one all.1) in (
+    let are = subst (λ (p : PublicView). EndVerdicts c.simulate.result columns p input left all.0) two (subst (λ (cs : List Column). EndVerdicts c.simulate.result cs c.in-Ok.opened.index input left all.0) one all.1) in (
       all.0,
       subst (λ (status : Status). SimulateEnds status columns public input left all.0) (sym c.ended.ensures) (simulation_ends c.simulate.result columns public input left all.0 are),
       λ told. subst (λ (status : Status). SimulateSends status all.0 before after) (sym c.ended.ensures) (simulation_sends c.simulate.result all.0 before after (all.2 told)),
@@ -105,9 +175,9 @@ returns-clause-complete g c = λ ptold itold columns public files verdicts agree
     let before = counts (g.P.Source.faults c.args.schema.now) (g.P.Source.faults c.args.table.now) (g.I.Source.faults c.args.input.now) (g.B.Bench.faults c.args.bench.now) spare in
     let after = counts (g.P.Source.faults c.open_public.new.schema) (g.P.Source.faults c.open_public.new.table) (g.I.Source.faults c.simulate.new.source) (g.B.Bench.faults c.simulate.new.bench) spare in
     let one = same_columns _ _ opened.schema.columns columns public (c.in-Ok.ensures.schema_is ptold) files in
-    let two = c.in-Ok-new.ensures ∙ same_public_part _ _ opened.schema.columns columns opened.public public (c.in-Ok.ensures.schema_is ptold) (c.in-Ok.ensures.public_is ptold) files in
+    let two = same_public_part _ _ opened.schema.columns columns opened.index public (c.in-Ok.ensures.schema_is ptold) (c.in-Ok.ensures.public_is ptold) files in
     let all = c.simulate.ensures.verdicts itold in
-    let are = subst (λ (p : PublicView). EndVerdicts c.simulate.result columns p input left all.0) two (subst (λ (cs : List Column). EndVerdicts c.simulate.result cs c.in-Ok-new.index input left all.0) one all.1) in
+    let are = subst (λ (p : PublicView). EndVerdicts c.simulate.result columns p input left all.0) two (subst (λ (cs : List Column). EndVerdicts c.simulate.result cs c.in-Ok.opened.index input left all.0) one all.1) in
     let faults = subst (λ (status : Status). FaultCause status before after) c.ended.ensures (returns-clause-faults g c spare) in
     subst (λ (status : Status). IsDoneOrWants status) (sym c.ended.ensures)
     (simulation_wants c.one_verdict.ensures.first c.simulate.result columns public input left all.0 verdicts before after are (c.simulate.ensures.reads itold) agree within faults none)
@@ -122,10 +192,78 @@ returns-clause-any_moment g c = λ ptold told quiet columns public files.
     let file = g.B.Bench.file c.args.bench.now in
     let before = g.B.Bench.sent c.args.bench.now in
     let one = same_columns _ _ opened.schema.columns columns public (c.in-Ok.ensures.schema_is ptold) files in
-    let two = c.in-Ok-new.ensures ∙ same_public_part _ _ opened.schema.columns columns opened.public public (c.in-Ok.ensures.schema_is ptold) (c.in-Ok.ensures.public_is ptold) files in
+    let two = same_public_part _ _ opened.schema.columns columns opened.index public (c.in-Ok.ensures.schema_is ptold) (c.in-Ok.ensures.public_is ptold) files in
     subst (λ (p : PublicView). LeavesOnly g.B.Bench c.args.bench.now c.simulate.new.bench (SimulatesMeanwhile g.I.Source.told columns p lines file before)) two
-    (subst (λ (cs : List Column). LeavesOnly g.B.Bench c.args.bench.now c.simulate.new.bench (SimulatesMeanwhile g.I.Source.told cs c.in-Ok-new.index lines file before)) one (c.simulate.ensures.any_moment told quiet))
+    (subst (λ (cs : List Column). LeavesOnly g.B.Bench c.args.bench.now c.simulate.new.bench (SimulatesMeanwhile g.I.Source.told cs c.in-Ok.opened.index lines file before)) one (c.simulate.ensures.any_moment told quiet))
 
 pub returns-clause-untouched : goal.returns-clause-untouched
 returns-clause-untouched g c = λ told quiet.
     weakens g.B.Bench c.args.bench.now c.simulate.new.bench _ _ (λ image sent found. found.0) (c.simulate.ensures.any_moment told quiet)
+
+pub returns-clause-schema_cause : goal.returns-clause-schema_cause
+returns-clause-schema_cause g c = λ ptold.
+    let past : PastFiles c.ended.result = subst PastFiles (sym c.ended.ensures) (simulated c.simulate.result) in
+    subst (SchemaCause c.ended.result) (sym (c.in-Ok.ensures.schema_is ptold)) (past.schema c.in-Ok.opened.schema.columns)
+
+pub returns-clause-public_cause : goal.returns-clause-public_cause
+returns-clause-public_cause g c = λ ptold columns is.
+    let past : PastFiles c.ended.result = subst PastFiles (sym c.ended.ensures) (simulated c.simulate.result) in
+    table_read (λ (cs : List Column). public_of cs (g.P.Source.left c.args.table.now)) c.ended.result (g.P.Source.left c.args.schema.now) c.in-Ok.opened.schema.columns columns c.in-Ok.opened.index past (c.in-Ok.ensures.schema_is ptold) (c.in-Ok.ensures.public_is ptold) is
+
+pub returns-clause-own_schema_fault : goal.returns-clause-own_schema_fault
+returns-clause-own_schema_fault g c = λ is.
+    let past : PastFiles c.ended.result = subst PastFiles (sym c.ended.ensures) (simulated c.simulate.result) in
+    past.own_schema is
+
+pub returns-clause-own_table_fault : goal.returns-clause-own_table_fault
+returns-clause-own_table_fault g c = λ is.
+    let past : PastFiles c.ended.result = subst PastFiles (sym c.ended.ensures) (simulated c.simulate.result) in
+    past.own_table is
+
+pub returns-clause-schema_within : goal.returns-clause-schema_within
+returns-clause-schema_within g c = λ ptold is.
+    let past : PastFiles c.ended.result = subst PastFiles (sym c.ended.ensures) (simulated c.simulate.result) in
+    absurd (past.no_schema is)
+
+pub returns-clause-table_within : goal.returns-clause-table_within
+returns-clause-table_within g c = λ ptold is.
+    let past : PastFiles c.ended.result = subst PastFiles (sym c.ended.ensures) (simulated c.simulate.result) in
+    absurd (past.no_table is)
+
+pub returns-clause-schema_last : goal.returns-clause-schema_last
+returns-clause-schema_last g c = λ is.
+    let past : PastFiles c.ended.result = subst PastFiles (sym c.ended.ensures) (simulated c.simulate.result) in
+    absurd (past.no_schema is)
+
+pub returns-clause-table_last : goal.returns-clause-table_last
+returns-clause-table_last g c = λ is.
+    let past : PastFiles c.ended.result = subst PastFiles (sym c.ended.ensures) (simulated c.simulate.result) in
+    absurd (past.no_table is)
+
+pub returns-clause-before_table : goal.returns-clause-before_table
+returns-clause-before_table g c =
+    let past : PastFiles c.ended.result = subst PastFiles (sym c.ended.ensures) (simulated c.simulate.result) in
+    past.before_table (c.open_public.new.table ≡ c.args.table.now)
+
+pub returns-clause-word_cause : goal.returns-clause-word_cause
+returns-clause-word_cause g c =
+    subst (λ (status : Status). WordCause status (Some Simulate)) (sym c.ended.ensures)
+    (simulation_words c.simulate.result)
+
+pub returns-clause-bench_last : goal.returns-clause-bench_last
+returns-clause-bench_last g c = λ is.
+    c.simulate.ensures.last_call.1 (simulation_bench c.simulate.result (sym c.ended.ensures ∙ is))
+
+pub returns-clause-input_last : goal.returns-clause-input_last
+returns-clause-input_last g c = λ is.
+    c.simulate.ensures.last_call.0 (simulation_input c.simulate.result (sym c.ended.ensures ∙ is))
+
+pub returns-clause-before_lines : goal.returns-clause-before_lines
+returns-clause-before_lines g c =
+    subst (λ (status : Status). Before reading_lines status ((c.simulate.new.source ≡ c.args.input.now) × (c.simulate.new.bench ≡ c.args.bench.now))) (sym c.ended.ensures)
+    (simulation_at_lines ((c.simulate.new.source ≡ c.args.input.now) × (c.simulate.new.bench ≡ c.args.bench.now)) c.simulate.result)
+
+pub returns-clause-file_cause : goal.returns-clause-file_cause
+returns-clause-file_cause g c = λ file secret.
+    subst (λ (status : Status). FileCause status Simulate file secret) (sym c.ended.ensures)
+    (simulation_file c.simulate.result file secret)

@@ -1,0 +1,18 @@
+use Rattle.std.proofs.Common.{rules, ◌≡◌, false, true, Some, codes}
+use Rattle.clap.specs.Words.{App, Rule, app_of, rule_of, new_app, new_rule, with_rule}
+use Rattle.auditor_top.specs.Words.{auditor, without_name, command_rule, number_rule, batch_rule}
+use Rattle.auditor_top.proofs.Parses.{one_more, last_added}
+use Rattle.auditor_top.proofs.words.command_line.Goals as goal
+
+pub returns : goal.returns
+returns c =
+    let none : app_of c.no_binary_name.result ≡ without_name (new_app (codes "auditor")) = search rules in
+    let command : rule_of c.required.result ≡ command_rule = search rules in
+    let number : rule_of c.new-3.result ≡ number_rule = search rules in
+    let batch : rule_of c.long.result ≡ batch_rule = search rules in
+    let command_local : c.required.result.global ≡ false = search rules in
+    let number_local : c.new-3.result.global ≡ false = search rules in
+    let batch_local : c.long.result.global ≡ false = search rules in
+    let one = one_more c.no_binary_name.result c.in_ok-arg.field-0 c.required.result (without_name (new_app (codes "auditor"))) command_rule c.in_ok-arg.ensures command_local none command in
+    let two = one_more c.in_ok-arg.field-0 c.in_ok-arg-2.field-0 c.new-3.result (with_rule (without_name (new_app (codes "auditor"))) command_rule) number_rule c.in_ok-arg-2.ensures number_local one number in
+    last_added c.in_ok-arg-2.field-0 c.long.result c.arg-3.result (with_rule (with_rule (without_name (new_app (codes "auditor"))) command_rule) number_rule) batch_rule c.arg-3.ensures batch_local two batch
