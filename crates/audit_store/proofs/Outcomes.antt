@@ -1,5 +1,6 @@
 -- Outcomes of questions that are decided one after the other.
-use Rattle.std.proofs.Common.{◌≡◌, ℕ, ◌≤◌, List, [], ◌∷◌, ◌++◌, length, drop, sym, ap, subst, ◌∙◌, arith, append_assoc, append-nil, length-append}
+use Rattle.std.proofs.Common.{◌≡◌, ℕ, ◌≤◌, List, [], ◌∷◌, ◌++◌, length, take, drop, sym, ap, subst, ◌∙◌, arith, append_assoc, append-nil, length-append}
+use Rattle.std.proofs.Math.Seq.{take-append_seam}
 use Rattle.std.specs.Option.{option_to_list}
 use Rattle.std.specs.Prelude.{Option, Some, None}
 use Rattle.std.proofs.lemmas.List.{drop_at}
@@ -47,3 +48,10 @@ few_made (a ∷ questions) (o ∷ outcomes) =
 pub behind_history : (history records grown : List Answered) (released : ℕ) → released ≡ length history → grown ≡ history ++ records →
     drop released grown ≡ records
 behind_history history records grown released long is = ap (λ h. drop released h) is ∙ drop_at history records released (sym long)
+
+-- a history with more records begins with the old one
+pub grown_begins : (old more new : List Answered) → new ≡ old ++ more → take (length old) new ≡ old
+grown_begins old more new is = ap (λ h. take (length old) h) is ∙ take-append_seam old more
+
+pub grown_within : (old more new : List Answered) → new ≡ old ++ more → length old ≤ length new
+grown_within old more new is = omega (arith, ap length is, length-append old more)

@@ -50,3 +50,10 @@ released_and_more old new released long begins =
     ap (λ t. take released old ++ t) more
     ∙ ap (λ t. t ++ drop released new) (ap (λ n. take n old) long ∙ take-length old ∙ sym begins ∙ ap (λ n. take n new) (sym long))
     ∙ take-append-drop released new
+
+-- all that the core took is released
+pub more_released : (old new shown made : List Answered) (released now : ℕ) → released ≡ length old → new ≡ old ++ made → now ≡ length new
+    → take released old ≡ shown
+    → take now new ≡ shown ++ made
+more_released old new shown made released now all is now_is view =
+    ap (λ n. take n new) now_is ∙ take-length new ∙ is ∙ ap (λ h. h ++ made) (sym (take-length old) ∙ ap (λ n. take n old) (sym all) ∙ view)

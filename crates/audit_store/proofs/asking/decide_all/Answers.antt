@@ -1,9 +1,11 @@
-use Rattle.std.proofs.Common.{◌+◌, ◌++◌, sym, ap, subst, ◌∙◌, arith, take, append_assoc}
+use Rattle.std.proofs.Common.{◌≡◌, List, ◌+◌, ◌++◌, sym, ap, subst, ◌∙◌, arith, take, append_assoc}
 use Rattle.std.specs.Option.{option_to_list}
-use Rattle.std.proofs.lemmas.List.{take_more}
-use Rattle.audit_core.specs.Outcomes.{IsOutcome, record_of, records_made}
+use Rattle.std.proofs.Math.Seq.{take-length}
+use Rattle.std.proofs.lemmas.List.{take_more, take_all}
+use Rattle.audit_types.specs.declared.records.Asked.{Asked}
+use Rattle.audit_core.specs.Outcomes.{IsOutcome, AreOutcomes, record_of, records_made}
 use Rattle.table_load.specs.Database.{secret_table}
-use Rattle.audit_store.proofs.Outcomes.{outcomes_more, records_more, few_made}
+use Rattle.audit_store.proofs.Outcomes.{outcomes_more, records_more, few_made, grown_begins, grown_within}
 use Rattle.audit_store.proofs.asking.decide_all.Goals as goal
 
 pub loop-question-preserved : goal.loop-question-preserved
@@ -33,3 +35,37 @@ loop-question-preserved c =
 
 pub returns-clause-few : goal.returns-clause-few
 returns-clause-few c = few_made c.args.asked.now c.loop-question.outcomes.items
+
+pub returns-in_err-outcomes-clause-begins : goal.returns-in_err-outcomes-clause-begins
+returns-in_err-outcomes-clause-begins c = take-length c.args.core.now.history
+
+pub returns-in_err-outcome-clause-begins : goal.returns-in_err-outcome-clause-begins
+returns-in_err-outcome-clause-begins c =
+    let made = records_made (take c.loop-question.question-index c.args.asked.now) c.loop-question.outcomes.items in
+    grown_begins c.args.core.now.history made c.decide.new.core.history (c.in_err-outcome.ensures.kept ∙ c.loop-question.invariant.history)
+
+pub returns-in_err-outcome-clause-within : goal.returns-in_err-outcome-clause-within
+returns-in_err-outcome-clause-within c =
+    let made = records_made (take c.loop-question.question-index c.args.asked.now) c.loop-question.outcomes.items in
+    grown_within c.args.core.now.history made c.decide.new.core.history (c.in_err-outcome.ensures.kept ∙ c.loop-question.invariant.history)
+
+pub returns-clause-outcomes : goal.returns-clause-outcomes
+returns-clause-outcomes c =
+    let all : take c.loop-question.question-index c.args.asked.now ≡ c.args.asked.now = take_all c.loop-question.question-index c.args.asked.now (omega (arith, c.loop-question-test.false)) in
+    subst (λ (questions : List Asked). AreOutcomes (secret_table c.args.secret.now) c.args.core.now.history questions c.loop-question.outcomes.items) all
+    c.loop-question.invariant.so_far
+
+pub returns-clause-history : goal.returns-clause-history
+returns-clause-history c =
+    let all : take c.loop-question.question-index c.args.asked.now ≡ c.args.asked.now = take_all c.loop-question.question-index c.args.asked.now (omega (arith, c.loop-question-test.false)) in
+    c.loop-question.invariant.history ∙ ap (λ (questions : List Asked). c.args.core.now.history ++ records_made questions c.loop-question.outcomes.items) all
+
+pub returns-clause-begins : goal.returns-clause-begins
+returns-clause-begins c =
+    grown_begins c.args.core.now.history (records_made (take c.loop-question.question-index c.args.asked.now) c.loop-question.outcomes.items) c.loop-question.core.history
+    c.loop-question.invariant.history
+
+pub returns-clause-within : goal.returns-clause-within
+returns-clause-within c =
+    grown_within c.args.core.now.history (records_made (take c.loop-question.question-index c.args.asked.now) c.loop-question.outcomes.items) c.loop-question.core.history
+    c.loop-question.invariant.history

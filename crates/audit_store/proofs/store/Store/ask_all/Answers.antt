@@ -3,8 +3,9 @@ use Rattle.std.proofs.Math.Seq.{take-length}
 use Rattle.audit_types.specs.declared.records.Answered.{Answered}
 use Rattle.audit_types.specs.declared.shapes.Shape.{Shape}
 use Rattle.journal_form.specs.Journal.{StandsAt}
+use Rattle.audit_core.specs.Outcomes.{records_made}
 use Rattle.audit_store.specs.Stores.{StoreContents}
-use Rattle.audit_store.proofs.Stores.{released_and_more}
+use Rattle.audit_store.proofs.Stores.{released_and_more, more_released}
 use Rattle.audit_store.proofs.store.Store.ask_all.Goals as goal
 
 pub returns-clause-stands : goal.returns-clause-stands
@@ -23,3 +24,11 @@ returns-clause-stands g c = λ told.
     let ended = subst (λ (h : List Answered). StandsAt (g.B.Bench.file c.keep.new.bench) c.keep.new.journal.shape h c.keep.new.journal.gate) (ap (λ (l : List Answered). history ++ take (length l - i.released) (drop i.released l)) c.history.ensures.is ∙ all ∙ same) done in
     subst (λ (s : Shape). StandsAt (g.B.Bench.file c.keep.new.bench) s (take (length c.history-2.result.now) whole) c.keep.new.journal.gate)
     (c.in_ok-keep.ensures.shape ∙ shape) ended
+
+pub returns-clause-history : goal.returns-clause-history
+returns-clause-history g c =
+    let i = c.self.inside in
+    let usable : i.usable ≡ true = ap (λ (s : StoreContents). s.usable) c.self.view_is ∙ c.requires.usable in
+    more_released i.core.history c.decide_all.new.core.history c.args.self.now.history (records_made c.args.asked.now c.in_ok-outcomes.outcomes.items) i.released (length c.history-2.result.now)
+    (c.self.invariant.1.all usable) c.in_ok-outcomes.ensures.history (ap (λ (l : List Answered). length l) c.history-2.ensures.is) (ap (λ (s : StoreContents). s.history) c.self.view_is)
+
