@@ -1,13 +1,15 @@
 -- What is true of every store.
-use Rattle.std.proofs.Common.{◌≡◌, ℕ, Bool, true, List, ◌-◌, ◌++◌, length, length-drop, take, drop, sym, ap, ◌∙◌, arith}
+use Rattle.std.proofs.Common.{◌≡◌, ℕ, ◌<◌, Bool, true, List, [], ◌∷◌, refl, ◌-◌, ◌++◌, length, length-drop, take, drop, sym, ap, ◌∙◌, arith}
 use Rattle.std.proofs.Math.Seq.{take-length}
 use Rattle.std.proofs.lemmas.List.{take-append-drop, take_all}
 use Rattle.audit_types.specs.declared.records.Answered.{Answered}
+use Rattle.audit_types.specs.declared.shapes.Shape.{Shape}
 use Rattle.audit_types.specs.History.{IsLegal, setting_of}
 use Rattle.audit_core.specs.Audited.{Audited}
 use Rattle.table_load.specs.Cells.{SecretView, IsSecret}
+use Rattle.answer_journal.specs.Append.{AppendsGroup}
 use Rattle.answer_journal.specs.Contents.{JournalContents}
-use Rattle.audit_store.specs.Stores.{StoreContents, IsStore, IsAuditedBy}
+use Rattle.audit_store.specs.Stores.{StoreContents, IsStore, IsAuditedBy, HasGroup, calls_for}
 use Rattle.table_load.specs.Database.{secret_table}
 
 -- a store of these secrets and records over this journal, which may be asked
@@ -57,3 +59,13 @@ pub more_released : (old new shown made : List Answered) (released now : ℕ) �
     → take now new ≡ shown ++ made
 more_released old new shown made released now all is now_is view =
     ap (λ n. take n new) now_is ∙ take-length new ∙ is ∙ ap (λ h. h ++ made) (sym (take-length old) ∙ ap (λ n. take n old) (sym all) ∙ view)
+
+-- a group with a record stands behind the gate, and took four calls
+pub has_group : (shape : Shape) (group : List Answered) (gate : ℕ) (old new : List ℕ) → 0 < length group → AppendsGroup shape group gate old new →
+    HasGroup shape group gate old new
+has_group shape [] gate old new some appends = absurd (omega (arith, some))
+has_group shape (r ∷ group) gate old new some appends = appends
+
+pub four_calls : (group : List Answered) → 0 < length group → calls_for group ≡ 4
+four_calls [] some = absurd (omega (arith, some))
+four_calls (r ∷ group) some = refl

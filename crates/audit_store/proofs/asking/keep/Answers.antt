@@ -1,8 +1,11 @@
-use Rattle.std.proofs.Common.{◌≡◌, ◌+◌, ◌++◌, List, length, subst}
+use Rattle.std.proofs.Common.{◌≡◌, ℕ, ◌+◌, ◌<◌, ◌++◌, List, length, sym, ◌∙◌, ap, subst, arith}
+use Rattle.std.proofs.lemmas.Grind.{common_steps}
 use Rattle.audit_types.specs.declared.records.Answered.{Answered}
 use Rattle.bench_core.specs.Calls.{LeavesOnly}
 use Rattle.journal_form.specs.Journal.{StandsAt}
+use Rattle.answer_journal.specs.Append.{AppendsGroup}
 use Rattle.answer_journal.specs.Moments.{IsBeforeOrAfter}
+use Rattle.audit_store.proofs.Stores.{has_group, four_calls}
 use Rattle.audit_store.proofs.asking.keep.Goals as goal
 
 pub returns-clause-any_moment : goal.returns-clause-any_moment
@@ -21,3 +24,16 @@ pub returns-clause-counted : goal.returns-clause-counted
 returns-clause-counted g c =
     subst (λ (group : List Answered). c.append_ready.new.self.count ≡ c.args.journal.now.count + length group) c.in_ok-ready.ensures.1
     c.in_ok-append_ready.ensures.counted
+
+pub returns-clause-written : goal.returns-clause-written
+returns-clause-written g c = λ told.
+    let journal = c.args.journal.now in
+    let some : 0 < length c.args.group.now = grind (arith, common_steps) in
+    has_group journal.shape c.args.group.now journal.gate (g.B.Bench.file c.args.bench.now) (g.B.Bench.file c.append_ready.new.bench) some
+    (subst (λ (group : List Answered). AppendsGroup journal.shape group journal.gate (g.B.Bench.file c.args.bench.now) (g.B.Bench.file c.append_ready.new.bench))
+    c.in_ok-ready.ensures.1 (c.in_ok-append_ready.ensures.written told))
+
+pub returns-clause-ticks : goal.returns-clause-ticks
+returns-clause-ticks g c = λ told.
+    let some : 0 < length c.args.group.now = grind (arith, common_steps) in
+    c.in_ok-append_ready.ensures.ticks told ∙ ap (λ (n : ℕ). g.B.Bench.moment c.args.bench.now + n) (sym (four_calls c.args.group.now some))

@@ -31,4 +31,3 @@ returns-clause-history g c =
     let usable : i.usable ≡ true = ap (λ (s : StoreContents). s.usable) c.self.view_is ∙ c.requires.usable in
     more_released i.core.history c.decide_all.new.core.history c.args.self.now.history (records_made c.args.asked.now c.in_ok-outcomes.outcomes.items) i.released (length c.history-2.result.now)
     (c.self.invariant.1.all usable) c.in_ok-outcomes.ensures.history (ap (λ (l : List Answered). length l) c.history-2.ensures.is) (ap (λ (s : StoreContents). s.history) c.self.view_is)
-
