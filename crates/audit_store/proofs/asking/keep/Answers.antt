@@ -20,11 +20,6 @@ returns-clause-done g c = λ history told stands many.
     subst (λ (group : List Answered). StandsAt (g.B.Bench.file c.append_ready.new.bench) now.shape (history ++ group) now.gate) c.in_ok-ready.ensures.1
     (c.in_ok-append_ready.ensures.done history told stands many)
 
-pub returns-clause-counted : goal.returns-clause-counted
-returns-clause-counted g c =
-    subst (λ (group : List Answered). c.append_ready.new.self.count ≡ c.args.journal.now.count + length group) c.in_ok-ready.ensures.1
-    c.in_ok-append_ready.ensures.counted
-
 pub returns-clause-written : goal.returns-clause-written
 returns-clause-written g c = λ told.
     let journal = c.args.journal.now in
