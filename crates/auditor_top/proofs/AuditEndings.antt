@@ -1,6 +1,5 @@
 -- What the fault of each step of a run that audits comes to, by cases on that fault.
-use Rattle.std.proofs.Common.{rules, ◌≡◌, ◌≢◌, ℕ, List, [], Result, Ok, Err, OnOk, OnErr, refl, sym, ◌∙◌, ap, inl, inr, subst}
-use Rattle.std.proofs.lemmas.List.{append-nil}
+use Rattle.std.proofs.Common.{rules, ◌≡◌, ◌≢◌, ℕ, List, Result, Ok, Err, OnOk, OnErr, refl, sym, ◌∙◌, ap, inl, inr, subst}
 use Rattle.audit_types.specs.declared.records.Answered.{Answered}
 use Rattle.bench_core.specs.Causes.{Rose}
 use Rattle.schema_json.specs.Columns.{Column}

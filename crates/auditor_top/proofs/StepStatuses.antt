@@ -24,7 +24,7 @@ use Rattle.auditor_top.specs.declared.words.Command.{Command}
 use Rattle.auditor_top.specs.declared.words.Command.TheVariants.{Init, Serve, Audit, Simulate}
 use Rattle.auditor_top.specs.declared.status.Which.TheVariants.{Schema, Table, Input}
 use Rattle.auditor_top.specs.declared.status.Status.{Status}
-use Rattle.auditor_top.specs.declared.status.Status.TheVariants.{Done, BadSchema, BadTable, SourceFault, BenchFault, NoMemory}
+use Rattle.auditor_top.specs.declared.status.Status.TheVariants.{Done, BadSchema, BadTable, SourceFault, BenchFault}
 use Rattle.auditor_top.specs.Status.{open_status, start_status, making_status, session_status, audit_status, simulation_status}
 use Rattle.auditor_top.specs.Commands.{reads_files, opens_journal}
 use Rattle.auditor_top.specs.Causes.{WordCause, SchemaCause, TableCause, FileCause, InputCause}

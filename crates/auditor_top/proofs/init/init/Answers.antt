@@ -1,4 +1,4 @@
-use Rattle.std.proofs.Common.{Some, ◌≡◌, ℕ, [], sym, ◌∙◌, ap, subst, List, Result, Err, refl}
+use Rattle.std.proofs.Common.{Some, ◌≡◌, [], sym, ◌∙◌, ap, subst, List, Result, Err, refl}
 use Rattle.audit_types.specs.declared.shapes.Shape.{Shape}
 use Rattle.bench_core.specs.Calls.{IsQuiet, LeavesOnly}
 use Rattle.table_load.specs.Database.{Database}

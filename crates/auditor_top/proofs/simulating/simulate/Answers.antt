@@ -1,5 +1,4 @@
 use Rattle.std.proofs.Common.{Some, List, [], sym, ◌∙◌, subst, ◌≡◌, Result, Err, refl, ap}
-use Rattle.std.proofs.lemmas.List.{append-nil}
 use Rattle.bench_core.specs.Calls.{LeavesOnly}
 use Rattle.bench_core.specs.Moments.{weakens}
 use Rattle.schema_json.specs.Columns.{Column}
@@ -19,7 +18,7 @@ use Rattle.auditor_top.specs.declared.words.Command.TheVariants.{Simulate}
 use Rattle.auditor_top.proofs.StepStatuses.{unopened, always_before, PastFiles, table_read, simulated, simulation_words, simulation_bench, simulation_input, simulation_at_lines, simulation_file}
 use Rattle.auditor_top.proofs.Calls.{simulation_done}
 use Rattle.auditor_top.proofs.StepFaults.{moved, unopened_wants}
-use Rattle.auditor_top.proofs.SimulationEndings.{same_columns, same_public_part, none_begun, before_lines, still_file, unopened_verdicts, unopened_sends, simulation_ends, simulation_sends, simulation_reads, simulation_faults, simulation_wants}
+use Rattle.auditor_top.proofs.SimulationEndings.{same_columns, same_public_part, before_lines, still_file, unopened_verdicts, unopened_sends, simulation_ends, simulation_sends, simulation_reads, simulation_faults, simulation_wants}
 use Rattle.auditor_top.proofs.simulating.simulate.Goals as goal
 
 abbrev unopened_by : OpenFault → Result OpenedPublic OpenFault

@@ -1,6 +1,6 @@
-use Rattle.std.proofs.Common.{rules, ◌≡◌, false, true, Some, codes}
-use Rattle.clap.specs.Words.{App, Rule, app_of, rule_of, new_app, new_rule, with_rule}
-use Rattle.auditor_top.specs.Words.{auditor, without_name, command_rule, number_rule, batch_rule}
+use Rattle.std.proofs.Common.{rules, ◌≡◌, false, codes}
+use Rattle.clap.specs.Words.{app_of, rule_of, new_app, with_rule}
+use Rattle.auditor_top.specs.Words.{without_name, command_rule, number_rule, batch_rule}
 use Rattle.auditor_top.proofs.Parses.{one_more, last_added}
 use Rattle.auditor_top.proofs.words.command_line.Goals as goal
 
