@@ -2,7 +2,7 @@
 ghost use Rattle.std.specs.Prelude.{◌≡◌, ◌∷◌, ◌<◌, length, List, Some, None, OnOk, true};
 ghost use Rattle.schema_json.specs.Columns.{Column, role_at};
 ghost use Rattle.predicate_lang.specs.Trees.{tree_of, negation, is_of_role, has_operator};
-ghost use Rattle.predicate_lang.specs.Machine.{a_not, build, start, built, whole, closed, add_and, add_or, is_under_not, is_in_bracket, negated, without_nots, at_operand, at_name, at_operator, at_in, at_comma, at_literal, behind, has_room, public_role};
+ghost use Rattle.predicate_lang.specs.Machine.{a_not, a_bracket, build, start, built, whole, closed, add_and, add_or, is_under_not, is_in_bracket, negated, without_nots, at_operand, at_name, at_operator, at_in, at_comma, at_literal, behind, has_room, public_role};
 ghost use Rattle.predicate_lang.specs.Building.{Puts, Goes, Makes, MakesTree, Finishes, build_of, build_at, stand_of, part_of, frame_of, frames_of};
 ghost use Rattle.predicate_lang.specs.declared.building.Spot.TheVariants.{Operand};
 
@@ -77,6 +77,13 @@ fn set_part(part: &mut Option<Pred>, other: Option<Pred>)
     ensures { part.new ≡ other }
 {
     *part = other;
+}
+
+// Whether one `not` or bracket more may be open.
+fn has_room(opened: &[Opened]) -> bool
+    ensures { result ≡ has_room (frames_of opened.now) }
+{
+    opened.len() < MOST_OPEN
 }
 
 // Whether a `not` stands right before the operand.
@@ -180,7 +187,11 @@ impl State {
 
     // Sets where the next token stands.
     fn go_to(&mut self, spot: Spot)
-        ensures { build_of self.new ≡ build_at self.old (stand_of spot self.old.literals.items) }
+        ensures place { build_of self.new ≡ build_at self.old (stand_of spot self.old.literals.items) }
+        ensures opened { self.new.opened ≡ self.old.opened }
+        ensures ors { self.new.ors ≡ self.old.ors }
+        ensures ands { self.new.ands ≡ self.old.ands }
+        ensures spot { self.new.spot ≡ spot }
     {
         self.spot = spot;
     }
@@ -194,7 +205,7 @@ impl State {
     {
         set_part(&mut self.ors, ors);
         set_part(&mut self.ands, ands);
-        self.spot = Spot::Operand;
+        self.go_to(Spot::Operand);
     }
 
     // Puts a whole operand after what stands before it.
@@ -207,23 +218,34 @@ impl State {
         Ok(())
     }
 
-    // Opens one `not` or bracket more, within those that are open.
-    fn open_inside(&mut self, opening: Opened) -> Result<(), WhereFault>
+    // Opens one `not` or bracket more.
+    fn open(&mut self, opening: Opened) -> Result<(), WhereFault>
         ensures { Makes (build (frame_of opening ∷ frames_of self.old.opened.items) (part_of self.old.ors) (part_of self.old.ands) at_operand) result (λ _. build_of self.new) }
     {
         self.opened.push(opening)?;
-        self.spot = Spot::Operand;
+        self.go_to(Spot::Operand);
         Ok(())
     }
 
-    // Opens one `not` or bracket more, where there is room.
-    fn open(&mut self, opening: Opened, at: u32) -> Result<(), WhereFault>
-        ensures { Goes (has_room (frames_of self.old.opened.items)) (build (frame_of opening ∷ frames_of self.old.opened.items) (part_of self.old.ors) (part_of self.old.ands) at_operand) at result (λ _. build_of self.new) }
+    fn open_not(&mut self, at: u32) -> Result<(), WhereFault>
+        ensures { Goes (has_room (frames_of self.old.opened.items)) (build (a_not ∷ frames_of self.old.opened.items) (part_of self.old.ors) (part_of self.old.ands) at_operand) at result (λ _. build_of self.new) }
     {
-        if self.opened.len() >= MOST_OPEN {
+        if !has_room(self.opened.as_slice()) {
             return Err(WhereFault::Bad { at });
         }
-        self.open_inside(opening)
+        self.open(Opened::Not)
+    }
+
+    fn open_bracket(&mut self, at: u32) -> Result<(), WhereFault>
+        ensures { Goes (has_room (frames_of self.old.opened.items)) (build (a_bracket (part_of self.old.ors) (part_of self.old.ands) ∷ frames_of self.old.opened.items) None None at_operand) at result (λ _. build_of self.new) }
+    {
+        if has_room(self.opened.as_slice()) {
+            let ors = self.ors.take();
+            let ands = self.ands.take();
+            self.open(Opened::Bracket { ors, ands })
+        } else {
+            Err(WhereFault::Bad { at })
+        }
     }
 
     // Closes the innermost bracket.
@@ -252,12 +274,8 @@ impl State {
         ensures { Puts schema.now.columns (build_at self.old at_operand) token at result (λ _. build_of self.new) }
     {
         match token {
-            Token::Not => self.open(Opened::Not, at),
-            Token::OpenBracket => {
-                let ors = self.ors.take();
-                let ands = self.ands.take();
-                self.open(Opened::Bracket { ors, ands }, at)
-            }
+            Token::Not => self.open_not(at),
+            Token::OpenBracket => self.open_bracket(at),
             Token::All => self.end_operand(alloc, Pred::All),
             Token::Column(Some(column)) => {
                 if is_public(role_of(schema, column)) {
@@ -389,7 +407,7 @@ impl State {
         ensures { build_of self.new ≡ build (frames_of self.old.opened.items) (part_of self.old.ors) (Some (tree_of p)) at_operand }
     {
         set_part(&mut self.ands, Some(p));
-        self.spot = Spot::Operand;
+        self.go_to(Spot::Operand);
     }
 
     // Waits for what stands after the `or`.
