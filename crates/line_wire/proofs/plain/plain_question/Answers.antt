@@ -13,5 +13,5 @@ returns-clause-writes c =
     let j = value_view c.args.value.now in
     let text : text_at (codes "where") j ≡ Some c.in_ok-text.text.now = text_found _ _ _ c.text_at.ensures c.in_ok-text.was in
     let word : text_at (codes "ask") j ≡ Some c.in_ok-word.word.now = text_found _ _ _ c.text_at-2.ensures c.in_ok-word.was in
-    plain_question_is j c.in_ok-text.text.now _ c.in_ok-ask.ask c.text_at-3.result c.with_name.result (sym c.is_plain.ensures ∙ c.if-not-is_plain.false) text word
-    (sym c.in_ok-ask.was ∙ c.ask_of.ensures) (sym c.text_at-3.ensures) c.with_name.ensures
+    plain_question_is j c.in_ok-text.text.now _ c.in_ok-ask.ask c.text_at-3.result c.with_name.result
+    (sym c.is_plain.ensures ∙ c.if-not-is_plain.false) text word (sym c.in_ok-ask.was ∙ c.ask_of.ensures) (sym c.text_at-3.ensures) c.with_name.ensures

@@ -16,5 +16,5 @@ returns-after-loop-literal c =
 
 pub loop-literal-preserved : goal.loop-literal-preserved
 loop-literal-preserved c =
-    next_literal _ (string_bytes c.loop-literal.out) (string_bytes c.write_next.new.out) _ c.loop-literal.literal-index c.literal-item.result c.loop-literal-test.true c.literal-item.is
-    c.in_ok-write_next-in-len1-up.ensures c.loop-literal.invariant
+    next_literal _ (string_bytes c.loop-literal.out) (string_bytes c.write_next.new.out) _ c.loop-literal.literal-index
+    c.literal-item.result c.loop-literal-test.true c.literal-item.is c.in_ok-write_next-in-len1-up.ensures c.loop-literal.invariant
