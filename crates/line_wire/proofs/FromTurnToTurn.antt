@@ -1,10 +1,8 @@
 -- What a call of the cutter keeps from turn to turn.
-use Rattle.std.proofs.Common.{◌≡◌, ℕ, suc, ◌+◌, ◌<◌, ◌≤◌, ◌⊎◌, inl, inr, true, Option, Some, None, List, [], ◌∷◌, ◌++◌, length, sym, ap, ◌∙◌, arith, append-nil, length-append}
-use Rattle.std.specs.Prelude.{MatchOption}
-use Rattle.std.specs.Option.{unwrap_or}
+use Rattle.std.proofs.Common.{◌≡◌, ℕ, suc, ◌+◌, ◌<◌, ◌≤◌, ◌⊎◌, inl, inr, true, List, [], ◌∷◌, ◌++◌, length, sym, ap, ◌∙◌, arith, append-nil, length-append}
 use Rattle.line_wire.specs.Lines.{CountedLine, text, long, line_of, whole_lines}
 use Rattle.line_wire.specs.Cutter.{Cutter, IsWithin, PassesFeed, PassesNone, Reached}
-use Rattle.line_wire.specs.Steps.{Gives, Advances}
+use Rattle.line_wire.specs.Steps.{Gives, GivesLast, Advances}
 use Rattle.line_wire.specs.declared.lines.Next.{Next}
 use Rattle.line_wire.specs.declared.lines.Next.TheVariants as next
 use Rattle.line_wire.specs.LineLaws.{kept-le}
@@ -52,16 +50,21 @@ advances_fed next.Line old new grown = grown
 advances_fed next.Long old new grown = grown
 advances_fed next.End old new grown = tt
 
+-- what counts at a line feed counts at the end of the input
+pub last_gives : (answer : Next) (shown : List ℕ) (lines : List CountedLine) → Gives answer shown lines → GivesLast answer shown lines
+last_gives next.Line shown lines gives = gives
+last_gives next.Long shown lines gives = gives
+last_gives next.End shown lines gives = absurd gives
+
 -- a last line took a byte
-pub advances_last : (answer : Option Next) (old now new : Cutter) → old.taken + length now.pending + length now.text ≤ now.taken + length old.pending
+pub advances_last : (answer : Next) (old now new : Cutter) → old.taken + length now.pending + length now.text ≤ now.taken + length old.pending
     → new.taken ≡ now.taken → new.pending ≡ now.pending
-    → MatchOption answer ((line_of now.text ≡ []) × (new.text ≡ [])) (λ n. Gives n new.text (line_of now.text)) → Advances old new (unwrap_or answer next.End)
-advances_last (Some next.Line) old now new grown taken pending gives =
+    → GivesLast answer new.text (line_of now.text) → Advances old new answer
+advances_last next.Line old now new grown taken pending gives =
     omega (arith, grown, taken, ap (λ (l : List ℕ). length l) pending, some_byte now.text (text new.text) gives)
-advances_last (Some next.Long) old now new grown taken pending gives =
+advances_last next.Long old now new grown taken pending gives =
     omega (arith, grown, taken, ap (λ (l : List ℕ). length l) pending, some_byte now.text long gives.0)
-advances_last (Some next.End) old now new grown taken pending gives = absurd gives
-advances_last None old now new grown taken pending gives = tt
+advances_last next.End old now new grown taken pending gives = tt
 
 -- where all bytes at hand were passed without a read, no whole line was among them
 pub none_at_hand : (rest : List ℕ) (old now : Cutter) → Reached rest old [] → PassesNone old now → now.pending ≡ [] → whole_lines rest ≡ []

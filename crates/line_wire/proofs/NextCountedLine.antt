@@ -1,13 +1,11 @@
 -- How a call of the cutter goes on.
-use Rattle.std.proofs.Common.{Option, Some, None, ◌≡◌, ℕ, Bool, true, false, List, [], ◌∷◌, ◌++◌, refl, sym, ◌∙◌, ap, inl, inr, ◌⊎◌, append_assoc}
+use Rattle.std.proofs.Common.{◌≡◌, ℕ, Bool, true, false, List, [], ◌∷◌, ◌++◌, refl, sym, ◌∙◌, ap, inl, inr, ◌⊎◌, append_assoc}
 use Rattle.std.proofs.lemmas.List.{append-nil}
 use Rattle.std.proofs.lemmas.List.Elements.{All-append, All-nil}
 use Rattle.line_wire.specs.Lines.{CountedLine, text, long, is_feed, line_of, counted_lines, kept}
-use Rattle.std.specs.Prelude.{MatchOption}
-use Rattle.std.specs.Option.{unwrap_or}
 use Rattle.line_wire.specs.declared.lines.Next.{Next}
 use Rattle.line_wire.specs.declared.lines.Next.TheVariants as next
-use Rattle.line_wire.specs.Steps.{Gives, Answers, Counts}
+use Rattle.line_wire.specs.Steps.{Gives, GivesLast, Answers, Counts}
 use Rattle.line_wire.specs.Cutter.{StopsAt, Cutter, IsFeedless, TakesLine, PassesFeed, PassesNone, Reached, AtFeed}
 use Rattle.line_wire.specs.LineLaws.{passed-nil, passed-more, counted-piece, counted-last, whole-last, line_of-kept, kept-more, kept-nil}
 
@@ -128,13 +126,12 @@ gives_last rest old new left line so_far dry none is same ended = record {
         ∙ ap (λ (l : List ℕ). so_far.skipped ++ l) (append-nil so_far.line)
 
 -- what the bytes at the end of the input count as is given
-pub answers_last : (answer : Option Next) (rest : List ℕ) (old new : Cutter) (left : List ℕ) → Reached rest old left → old.pending ≡ [] → left ≡ []
+pub answers_last : (answer : Next) (rest : List ℕ) (old new : Cutter) (left : List ℕ) → Reached rest old left → old.pending ≡ [] → left ≡ []
     → new.pending ≡ old.pending → new.ended ≡ true
-    → MatchOption answer ((line_of old.text ≡ []) × (new.text ≡ [])) (λ n. Gives n new.text (line_of old.text)) → Answers (unwrap_or answer next.End) rest new left
-answers_last (Some next.Line) rest old new left so_far dry none same ended gives = gives_last rest old new left (text new.text) so_far dry none gives same ended
-answers_last (Some next.Long) rest old new left so_far dry none same ended gives = gives_last rest old new left long so_far dry none gives.0 same ended
-answers_last (Some next.End) rest old new left so_far dry none same ended gives = absurd gives
-answers_last None rest old new left so_far dry none same ended gives = (
+    → GivesLast answer new.text (line_of old.text) → Answers answer rest new left
+answers_last next.Line rest old new left so_far dry none same ended gives = gives_last rest old new left (text new.text) so_far dry none gives same ended
+answers_last next.Long rest old new left so_far dry none same ended gives = gives_last rest old new left long so_far dry none gives.0 same ended
+answers_last next.End rest old new left so_far dry none same ended gives = (
   ap (λ (l : List ℕ). l ++ left) (same ∙ dry) ∙ none,
   ap counted_lines
       (so_far.split ∙ ap (λ (l : List ℕ). so_far.skipped ++ (so_far.line ++ (l ++ left))) dry ∙ ap (λ (l : List ℕ). so_far.skipped ++ (so_far.line ++ l)) none ∙ ap (λ (l : List ℕ). so_far.skipped ++ l) (append-nil so_far.line))

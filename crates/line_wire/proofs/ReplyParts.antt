@@ -46,11 +46,6 @@ pub missed : {A : Type 0} (o : Option A) (x : A) → o ≡ None → o ≡ Some x
 missed None x none some = cc
 missed (Some y) x none some = cc
 
--- one value is read
-pub same_value : {A : Type 0} (o : Option A) (x y : A) → o ≡ Some x → o ≡ Some y → x ≡ y
-same_value None x y first second = cc
-same_value (Some z) x y first second = cc
-
 -- nothing is answered, so a fact holds that holds anyway
 pub if_none : {P : Type 0} (r : Option Reply) → P → IfNone r P
 if_none None holds = holds

@@ -21,6 +21,12 @@ Gives next.Line shown lines = lines ≡ text shown ∷ []
 Gives next.Long shown lines = (lines ≡ long ∷ []) × (shown ≡ [])
 Gives next.End shown lines = ⊥
 
+-- what the bytes behind the last line feed count as: one line, or none, and then the input has ended
+abbrev pub GivesLast : Next → List ℕ → List CountedLine → Type 0
+GivesLast next.Line shown lines = lines ≡ text shown ∷ []
+GivesLast next.Long shown lines = (lines ≡ long ∷ []) × (shown ≡ [])
+GivesLast next.End shown lines = (lines ≡ []) × (shown ≡ [])
+
 -- what an answer says of the rest before the call and after it
 abbrev pub Answers : Next → List ℕ → Cutter → List ℕ → Type 0
 Answers next.Line rest new left = TakesLine rest new.ended (text new.text) (new.pending ++ left)

@@ -15,7 +15,7 @@ use std::marker::Model;
 const MOST_INPUT: u64 = 1 << 30;
 
 /// What a call of the cutter gives.
-#[derive(Clone, Copy, Debug, PartialEq, Eq)]
+#[derive(Clone, Copy)]
 pub enum Next {
     /// A line, which `text` shows.
     Line,
@@ -26,7 +26,7 @@ pub enum Next {
 }
 
 /// Why a call of the cutter gives nothing.
-#[derive(Clone, Copy, Debug, PartialEq, Eq)]
+#[derive(Clone, Copy)]
 pub enum LineStop {
     /// The source failed.
     Input,
@@ -64,7 +64,7 @@ enum Step {
 
 impl Lines {
     ghost use Rattle.line_wire.specs.Cutter.{IsWithin};
-    ghost use Rattle.line_wire.specs.Steps.{Passes, Gives, Answers, Stops, StopsWithin, ShowsText, Advances, Counts};
+    ghost use Rattle.line_wire.specs.Steps.{Passes, Gives, GivesLast, Answers, Stops, StopsWithin, ShowsText, Advances, Counts};
 
     /// Makes a cutter that has taken nothing. All its memory is taken here.
     pub fn new(alloc: Global) -> Result<Self, NoMemory>
@@ -128,7 +128,7 @@ impl Lines {
                 }
                 Step::Dry => {
                     if self.ended {
-                        return Ok(self.finish().unwrap_or(Next::End));
+                        return Ok(self.last());
                     }
                     match self.refill(source) {
                         Ok(()) => {}
@@ -188,6 +188,17 @@ impl Lines {
             None
         } else {
             Some(Next::Line)
+        }
+    }
+
+    // What the line that was read counts as at the end of the input.
+    fn last(&mut self) -> Next
+        ensures gives { GivesLast result self.new.text (line_of self.old.text) }
+        ensures same { (self.new.taken ≡ self.old.taken) × (self.new.ended ≡ self.old.ended) × (self.new.pending ≡ self.old.pending) }
+    {
+        match self.finish() {
+            Some(next) => next,
+            None => Next::End,
         }
     }
 

@@ -1,8 +1,8 @@
 //! The question of an object of texts, which needs no copy of any.
-ghost use Rattle.std.specs.Prelude.{◌≡◌, true, Some, OnSome, IfSome, ◌≤◌, length};
+ghost use Rattle.std.specs.Prelude.{◌≡◌, true, Some, OnSome, IfSome, ◌≤◌, length, option_map};
 ghost use Rattle.std.specs.List.{list_all};
 ghost use Rattle.json.specs.Value.{value_view, members_view};
-ghost use Rattle.line_wire.specs.Plain.{is_text_at, are_texts, is_plain, question_in_json};
+ghost use Rattle.line_wire.specs.Plain.{is_text_at, are_texts, is_plain, text_at, question_in_json};
 ghost use Rattle.line_wire.specs.Kept.{written_of};
 ghost use Rattle.line_wire.specs.Questions.{question_of, text_of};
 
@@ -32,6 +32,12 @@ fn is_plain(value: &Value) -> bool
     }
 }
 
+fn text_at<'a>(value: &Value<'a>, key: &str) -> Option<&'a str>
+    ensures { option_map (λ s. s.now) result ≡ text_at key.now (value_view value.now) }
+{
+    value.get(key).and_then(Value::as_str)
+}
+
 // The question that a value writes, where it is an object of known keys with texts.
 fn plain_question<'a>(value: &Value<'a>) -> Option<Question<'a>>
     ensures plain { OnSome result (is_plain (value_view value.now) ≡ true) }
@@ -40,10 +46,10 @@ fn plain_question<'a>(value: &Value<'a>) -> Option<Question<'a>>
     if !is_plain(value) {
         return None;
     }
-    let text = value.get("where").and_then(Value::as_str)?;
-    let word = value.get("ask").and_then(Value::as_str)?;
+    let text = text_at(value, "where")?;
+    let word = text_at(value, "ask")?;
     let ask = ask_of(word)?;
-    with_name(ask, value.get("column").and_then(Value::as_str), text)
+    with_name(ask, text_at(value, "column"), text)
 }
 
 /// The question of a line that is an object of known keys with texts. None of its texts is longer than the line.

@@ -1,10 +1,10 @@
 //! The question that a value writes.
-ghost use Rattle.std.specs.Prelude.{◌≡◌, List, option_map, string_bytes};
+ghost use Rattle.std.specs.Prelude.{◌≡◌, List, option_and_then, option_map, string_bytes};
 ghost use Rattle.std.specs.List.{list_all};
 ghost use Rattle.std.specs.BTreeMap.{keys};
 ghost use Rattle.serde_json.specs.Data.{string};
 ghost use Rattle.serde_json.specs.View.{view};
-ghost use Rattle.serde_json.specs.Find.{as_object};
+ghost use Rattle.serde_json.specs.Find.{as_object, as_str, get};
 ghost use Rattle.line_wire.specs.Questions.{ask_of, is_key, has_known_keys, may_be_text, question_in, with_column, wants};
 ghost use Rattle.line_wire.specs.Kept.{written_of};
 
@@ -12,7 +12,7 @@ use schema_json::Role;
 use serde_json::{Map, Value};
 
 /// What a question takes of a column.
-#[derive(Clone, Copy, Debug, PartialEq, Eq, Drop)]
+#[derive(Clone, Copy, Drop)]
 pub enum Take {
     Sum,
     Avg,
@@ -41,16 +41,12 @@ pub(crate) enum Question<'a> {
 pub(crate) fn ask_of(word: &str) -> Option<Ask>
     ensures { result ≡ ask_of word.now }
 {
-    if word == "count" {
-        Some(Ask::Count)
-    } else if word == "sum" {
-        Some(Ask::Of(Take::Sum))
-    } else if word == "avg" {
-        Some(Ask::Of(Take::Avg))
-    } else if word == "max" {
-        Some(Ask::Of(Take::Max))
-    } else {
-        None
+    match word {
+        "count" => Some(Ask::Count),
+        "sum" => Some(Ask::Of(Take::Sum)),
+        "avg" => Some(Ask::Of(Take::Avg)),
+        "max" => Some(Ask::Of(Take::Max)),
+        _ => None,
     }
 }
 
@@ -68,7 +64,13 @@ pub(crate) fn wants(take: Take, role: Role) -> bool
 pub(crate) fn is_key(key: &str) -> bool
     ensures { result ≡ is_key key.now }
 {
-    key == "ask" || key == "column" || key == "where" || key == "user"
+    match key {
+        "ask" => true,
+        "column" => true,
+        "where" => true,
+        "user" => true,
+        _ => false,
+    }
 }
 
 fn keys_are_known(map: &Map<String, Value>) -> bool
@@ -119,6 +121,12 @@ fn with_column<'a>(ask: Ask, column: Option<&'a Value>, text: &'a str) -> Option
     }
 }
 
+fn text_at<'a>(value: &'a Value, key: &str) -> Option<&'a str>
+    ensures { option_map (λ s. s.now) result ≡ option_and_then as_str (get key.now (view value.now)) }
+{
+    value.get(key).and_then(Value::as_str)
+}
+
 /// The question that a value writes, if it writes one.
 #[tactic(auto, unfolding(crate::specs::Questions::question_in))]
 pub(crate) fn question_in(value: &Value) -> Option<Question<'_>>
@@ -127,8 +135,8 @@ pub(crate) fn question_in(value: &Value) -> Option<Question<'_>>
     if !has_known_keys(value) || !may_be_text(value.get("user")) {
         return None;
     }
-    let text = value.get("where").and_then(Value::as_str);
-    let word = value.get("ask").and_then(Value::as_str);
+    let text = text_at(value, "where");
+    let word = text_at(value, "ask");
     match (text, word) {
         (Some(text), Some(word)) => match ask_of(word) {
             Some(ask) => with_column(ask, value.get("column"), text),

@@ -12,7 +12,7 @@ pub enum Request {
 }
 
 /// Why a line is refused.
-#[derive(Clone, Copy, Debug, PartialEq, Eq, Drop)]
+#[derive(Clone, Copy, Drop)]
 pub enum LineFault {
     /// The line is no question.
     Line,

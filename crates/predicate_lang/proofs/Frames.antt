@@ -1,9 +1,9 @@
 -- What is open, kept with the innermost last.
-use Rattle.std.proofs.Common.{◌≡◌, List, [], ◌∷◌, ◌++◌, length, map, take, get_or, ◌<◌, ◌-◌, ◌+◌, true, false, arith, refl, sym, ap, ◌∙◌}
+use Rattle.std.proofs.Common.{◌≡◌, ℕ, List, [], ◌∷◌, ◌++◌, length, map, take, get_or, ◌<◌, ◌-◌, ◌+◌, true, false, nat_lt, arith, refl, sym, ap, ◌∙◌}
 use Rattle.std.specs.Prelude.{reverse}
 use Rattle.predicate_lang.specs.Trees.{Tree}
 use Rattle.std.proofs.lemmas.List.{map-append, reverse-append, length-map, length-reverse, take_all, take_more}
-use Rattle.predicate_lang.specs.Machine.{Frame, a_not, a_bracket, is_under_not, without_nots, negated}
+use Rattle.predicate_lang.specs.Machine.{Frame, a_not, a_bracket, has_room, is_under_not, without_nots, negated}
 use Rattle.predicate_lang.specs.Building.{frame_of, frames_of}
 use Rattle.predicate_lang.specs.declared.building.Opened.{Opened}
 use Rattle.predicate_lang.specs.declared.building.Opened.TheVariants as opened
@@ -14,6 +14,10 @@ frames_of_push os o = ap reverse (map-append frame_of os (o ∷ [])) ∙ reverse
 
 pub length-frames_of : (os : List Opened) → length (frames_of os) ≡ length os
 length-frames_of os = length-reverse (map frame_of os) ∙ length-map os frame_of
+
+-- how many are open tells whether there is room
+pub room_is : (os : List Opened) (n : ℕ) → n ≡ length os → nat_lt n 64 ≡ has_room (frames_of os)
+room_is os n is = ap (λ m. nat_lt m 64) (is ∙ sym (length-frames_of os))
 
 -- the innermost one and those around it
 pub frames_of_last : (os : List Opened) (o : Opened) → 0 < length os →

@@ -1,5 +1,5 @@
 -- The text of a predicate, part by part.
-use Rattle.std.proofs.Common.{◌≡◌, ℕ, Bool, true, false, ◌||◌, cond, List, [], ◌∷◌, ◌++◌, refl, sym, ap, ◌∙◌, append_assoc, arith, ◌≤◌, length, drop, get_or}
+use Rattle.std.proofs.Common.{◌≡◌, ℕ, Bool, true, false, ◌||◌, cond, List, [], ◌∷◌, ◌++◌, refl, sym, ap, ◌∙◌, append_assoc, add-one, arith, ◌+◌, ◌<◌, ◌≤◌, length, drop, drop-cons, get_or}
 use Rattle.std.specs.Prelude.{codes}
 use Rattle.std.proofs.lemmas.Bool.{and_parts, or_right}
 use Rattle.std.proofs.lemmas.List.{append-nil, drop_all}
@@ -173,6 +173,24 @@ printed-either columns p q fit =
     left (join_part (or_word ∷ []) (bracketed (is_or q) (print_tokens columns q)) (one_part or_word refl refl) behind)
     ∙ ap (λ xs. printed columns p ++ 32 ∷ xs) (spaced-join (or_word ∷ []) (bracketed (is_or q) (print_tokens columns q)) (one_part or_word refl refl) behind)
     ∙ ap (λ xs. printed columns p ++ (codes " or " ++ xs)) (spaced-bracketed (is_or q) (print_tokens columns q) right)
+
+-- what follows the literals before this one
+rest_here : (rest : List Literal) (i : ℕ) (l : Literal) → i < length rest → l ≡ get_or rest i l →
+    list_rest (drop i rest) ≡ codes ", " ++ (literal_text l ++ list_rest (drop (i + 1) rest))
+rest_here rest i l within is =
+    ap list_rest (drop-cons rest i l within ∙ ap (λ n. get_or rest i l ∷ drop n rest) (sym (add-one i)))
+    ∙ ap (λ x. codes ", " ++ (literal_text x ++ list_rest (drop (i + 1) rest))) (sym is)
+
+-- after two pushes
+after_pushes : (old new front text rest : List ℕ) → new ≡ (old ++ front) ++ text → new ++ rest ≡ old ++ (front ++ (text ++ rest))
+after_pushes old new front text rest is = ap (λ xs. xs ++ rest) is ∙ append_assoc (old ++ front) text rest ∙ append_assoc old front (text ++ rest)
+
+-- one literal more was written
+pub next_literal : (whole out new : List ℕ) (rest : List Literal) (i : ℕ) (l : Literal) → i < length rest → l ≡ get_or rest i l →
+    new ≡ (out ++ codes ", ") ++ literal_text l → out ++ list_rest (drop i rest) ≡ whole → new ++ list_rest (drop (i + 1) rest) ≡ whole
+next_literal whole out new rest i l within is written same =
+    after_pushes out new (codes ", ") (literal_text l) (list_rest (drop (i + 1) rest)) written
+    ∙ ap (λ xs. out ++ xs) (sym (rest_here rest i l within is)) ∙ same
 
 -- with the closing bracket the whole list stands there
 pub last_literal : (old start out : List ℕ) (ls rest : List Literal) (first : Literal) (i : ℕ) → 1 ≤ length ls → first ≡ get_or ls 0 first → rest ≡ drop 1 ls

@@ -1,8 +1,8 @@
 //! The tree as it grows, token by token. What is open is kept in a list: no call goes deeper where brackets do.
-ghost use Rattle.std.specs.Prelude.{◌≡◌, ◌∷◌, ◌<◌, length, List, OnOk, true};
+ghost use Rattle.std.specs.Prelude.{◌≡◌, ◌∷◌, ◌<◌, length, List, Some, None, OnOk, true};
 ghost use Rattle.schema_json.specs.Columns.{Column, role_at};
-ghost use Rattle.predicate_lang.specs.Trees.{tree_of, is_of_role, has_operator};
-ghost use Rattle.predicate_lang.specs.Machine.{a_not, build, start, built, whole, closed, add_and, add_or, is_under_not, is_in_bracket, negated, without_nots, at_operand, at_name, at_operator, at_in, at_comma, at_literal, behind, has_room, public_role};
+ghost use Rattle.predicate_lang.specs.Trees.{tree_of, negation, is_of_role, has_operator};
+ghost use Rattle.predicate_lang.specs.Machine.{a_not, a_bracket, build, start, built, whole, closed, add_and, add_or, is_under_not, is_in_bracket, negated, without_nots, at_operand, at_name, at_operator, at_in, at_comma, at_literal, behind, has_room, public_role};
 ghost use Rattle.predicate_lang.specs.Building.{Puts, Goes, Makes, MakesTree, Finishes, build_of, build_at, stand_of, part_of, frame_of, frames_of};
 ghost use Rattle.predicate_lang.specs.declared.building.Spot.TheVariants.{Operand};
 
@@ -66,6 +66,26 @@ fn or_of(alloc: Global, ors: Option<Pred>, p: Pred) -> Result<Pred, WhereFault>
     }
 }
 
+fn not_of(alloc: Global, p: Pred) -> Result<Pred, WhereFault>
+    ensures { MakesTree (negation (tree_of p)) result }
+{
+    Ok(Pred::Not(Box::new(alloc, p)?))
+}
+
+// Puts a part in place of another.
+fn set_part(part: &mut Option<Pred>, other: Option<Pred>)
+    ensures { part.new ≡ other }
+{
+    *part = other;
+}
+
+// Whether one `not` or bracket more may be open.
+fn has_room(opened: &[Opened]) -> bool
+    ensures { result ≡ has_room (frames_of opened.now) }
+{
+    opened.len() < MOST_OPEN
+}
+
 // Whether a `not` stands right before the operand.
 #[tactic(auto, using(crate::proofs::Frames::frames_of_last))]
 fn is_under_not(opened: &[Opened]) -> bool
@@ -97,7 +117,7 @@ fn negate(alloc: Global, opened: &mut Vec<Opened>, operand: Pred) -> Result<Pred
     let mut p = operand;
     'nots: while is_under_not(opened) {
         end_not(opened);
-        p = Pred::Not(Box::new(alloc, p)?);
+        p = not_of(alloc, p)?;
     }
     Ok(p)
 }
@@ -167,7 +187,11 @@ impl State {
 
     // Sets where the next token stands.
     fn go_to(&mut self, spot: Spot)
-        ensures { build_of self.new ≡ build_at self.old (stand_of spot self.old.literals.items) }
+        ensures place { build_of self.new ≡ build_at self.old (stand_of spot self.old.literals.items) }
+        ensures opened { self.new.opened ≡ self.old.opened }
+        ensures ors { self.new.ors ≡ self.old.ors }
+        ensures ands { self.new.ands ≡ self.old.ands }
+        ensures spot { self.new.spot ≡ spot }
     {
         self.spot = spot;
     }
@@ -179,9 +203,9 @@ impl State {
         ensures ands { self.new.ands ≡ ands }
         ensures spot { self.new.spot ≡ Operand }
     {
-        self.ors = ors;
-        self.ands = ands;
-        self.spot = Spot::Operand;
+        set_part(&mut self.ors, ors);
+        set_part(&mut self.ands, ands);
+        self.go_to(Spot::Operand);
     }
 
     // Puts a whole operand after what stands before it.
@@ -195,15 +219,33 @@ impl State {
     }
 
     // Opens one `not` or bracket more.
-    fn open(&mut self, opening: Opened, at: u32) -> Result<(), WhereFault>
-        ensures { Goes (has_room (frames_of self.old.opened.items)) (build (frame_of opening ∷ frames_of self.old.opened.items) (part_of self.old.ors) (part_of self.old.ands) at_operand) at result (λ _. build_of self.new) }
+    fn open(&mut self, opening: Opened) -> Result<(), WhereFault>
+        ensures { Makes (build (frame_of opening ∷ frames_of self.old.opened.items) (part_of self.old.ors) (part_of self.old.ands) at_operand) result (λ _. build_of self.new) }
     {
-        if self.opened.len() >= MOST_OPEN {
-            return Err(WhereFault::Bad { at });
-        }
         self.opened.push(opening)?;
         self.go_to(Spot::Operand);
         Ok(())
+    }
+
+    fn open_not(&mut self, at: u32) -> Result<(), WhereFault>
+        ensures { Goes (has_room (frames_of self.old.opened.items)) (build (a_not ∷ frames_of self.old.opened.items) (part_of self.old.ors) (part_of self.old.ands) at_operand) at result (λ _. build_of self.new) }
+    {
+        if !has_room(self.opened.as_slice()) {
+            return Err(WhereFault::Bad { at });
+        }
+        self.open(Opened::Not)
+    }
+
+    fn open_bracket(&mut self, at: u32) -> Result<(), WhereFault>
+        ensures { Goes (has_room (frames_of self.old.opened.items)) (build (a_bracket (part_of self.old.ors) (part_of self.old.ands) ∷ frames_of self.old.opened.items) None None at_operand) at result (λ _. build_of self.new) }
+    {
+        if has_room(self.opened.as_slice()) {
+            let ors = self.ors.take();
+            let ands = self.ands.take();
+            self.open(Opened::Bracket { ors, ands })
+        } else {
+            Err(WhereFault::Bad { at })
+        }
     }
 
     // Closes the innermost bracket.
@@ -232,12 +274,8 @@ impl State {
         ensures { Puts schema.now.columns (build_at self.old at_operand) token at result (λ _. build_of self.new) }
     {
         match token {
-            Token::Not => self.open(Opened::Not, at),
-            Token::OpenBracket => {
-                let ors = self.ors.take();
-                let ands = self.ands.take();
-                self.open(Opened::Bracket { ors, ands }, at)
-            }
+            Token::Not => self.open_not(at),
+            Token::OpenBracket => self.open_bracket(at),
             Token::All => self.end_operand(alloc, Pred::All),
             Token::Column(Some(column)) => {
                 if is_public(role_of(schema, column)) {
@@ -364,20 +402,32 @@ impl State {
         }
     }
 
+    // Waits for what stands after the `and`.
+    fn go_on_and(&mut self, p: Pred)
+        ensures { build_of self.new ≡ build (frames_of self.old.opened.items) (part_of self.old.ors) (Some (tree_of p)) at_operand }
+    {
+        set_part(&mut self.ands, Some(p));
+        self.go_to(Spot::Operand);
+    }
+
+    // Waits for what stands after the `or`.
+    fn go_on_or(&mut self, alloc: Global, p: Pred) -> Result<(), WhereFault>
+        ensures { Makes (build (frames_of self.old.opened.items) (Some (add_or (part_of self.old.ors) (tree_of p))) None at_operand) result (λ _. build_of self.new) }
+    {
+        let ors = or_of(alloc, self.ors.take(), p)?;
+        self.wait_after(Some(ors), None);
+        Ok(())
+    }
+
     fn on_whole(&mut self, alloc: Global, p: Pred, token: Token, at: u32) -> Result<(), WhereFault>
         ensures { (columns : List Column) → Puts columns (build_at self.old (behind (tree_of p))) token at result (λ _. build_of self.new) }
     {
         match token {
             Token::And => {
-                let ors = self.ors.take();
-                self.wait_after(ors, Some(p));
+                self.go_on_and(p);
                 Ok(())
             }
-            Token::Or => {
-                let ors = or_of(alloc, self.ors.take(), p)?;
-                self.wait_after(Some(ors), None);
-                Ok(())
-            }
+            Token::Or => self.go_on_or(alloc, p),
             Token::CloseBracket => self.close(alloc, p, at),
             _ => Err(WhereFault::Bad { at }),
         }

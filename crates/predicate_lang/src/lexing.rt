@@ -63,8 +63,8 @@ fn digits_length(bytes: &[u8]) -> usize
         .count()
 }
 
-#[tactic(auto, using(crate::proofs::Numbers::decimal_after_grows))]
 // The number that digits mean, where it is not too large.
+#[tactic(auto, using(crate::proofs::Numbers::decimal_after_grows))]
 fn magnitude(digits: &[u8]) -> Option<u64>
     ensures { result ≡ within_most (decimal_after 0 digits.now) }
 {
@@ -122,18 +122,13 @@ fn quoted(alloc: Global, rest: &[u8]) -> Result<Option<Quote>, WhereFault>
 fn word_token(schema: &Schema, word: &str) -> Token
     ensures { result ≡ seen schema.now.columns (word_token word.now) }
 {
-    if word == "and" {
-        Token::And
-    } else if word == "or" {
-        Token::Or
-    } else if word == "not" {
-        Token::Not
-    } else if word == "all" {
-        Token::All
-    } else if word == "in" {
-        Token::In
-    } else {
-        Token::Column(schema.find(word))
+    match word {
+        "and" => Token::And,
+        "or" => Token::Or,
+        "not" => Token::Not,
+        "all" => Token::All,
+        "in" => Token::In,
+        _ => Token::Column(schema.find(word)),
     }
 }
 

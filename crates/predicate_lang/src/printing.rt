@@ -78,6 +78,15 @@ fn write_literal(out: &mut String, literal: &Literal) -> Result<(), AllocError>
     }
 }
 
+// Writes a literal of an `in` after those before it.
+fn write_next(out: &mut String, literal: &Literal) -> Result<(), AllocError>
+    requires { IsTextLiteral literal.now }
+    ensures { OnOk result (string_bytes out.new ≡ (string_bytes out.old ++ codes ", ") ++ literal_text literal.now) }
+{
+    out.push_str(", ")?;
+    write_literal(out, literal)
+}
+
 // Writes the literals of an `in`, and the bracket that closes them.
 fn write_literals(out: &mut String, literals: &[Literal]) -> Result<(), AllocError>
     requires some { has_literals literals.now ≡ true }
@@ -89,12 +98,19 @@ fn write_literals(out: &mut String, literals: &[Literal]) -> Result<(), AllocErr
         [first, rest @ ..] => {
             write_literal(out, first)?;
             for literal in rest {
-                out.push_str(", ")?;
-                write_literal(out, literal)?;
+                write_next(out, literal)?;
             }
             out.push(')')
         }
     }
+}
+
+// Writes a word and a space.
+fn write_spaced(out: &mut String, word: &str) -> Result<(), AllocError>
+    ensures { OnOk result (string_bytes out.new ≡ string_bytes out.old ++ (word.now ++ codes " ")) }
+{
+    out.push_str(word)?;
+    out.push(' ')
 }
 
 // Writes the comparison of a column with a literal.
@@ -109,14 +125,12 @@ fn write_compare(
     requires texts { IsTextLiteral literal.now }
     ensures { OnOk result (string_bytes out.new ≡ string_bytes out.old ++ printed schema.now.columns (compared column op literal.now)) }
 {
-    out.push_str(schema.name(column))?;
-    out.push(' ')?;
-    out.push_str(op_text(op))?;
-    out.push(' ')?;
+    write_spaced(out, schema.name(column))?;
+    write_spaced(out, op_text(op))?;
     write_literal(out, literal)
 }
 
-/// Writes that a column is in a list of literals.
+// Writes that a column is in a list of literals.
 fn write_within(
     out: &mut String,
     schema: &Schema,

@@ -57,7 +57,7 @@ fn take_token(
     }
 }
 
-/// Takes each token of a text from the first on.
+// Takes each token of a text from the first on.
 fn take_tokens(
     alloc: Global,
     schema: &Schema,

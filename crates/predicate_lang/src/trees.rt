@@ -6,7 +6,7 @@ use std::alloc::{AllocError, AllocFailed};
 use std::marker::Model;
 
 /// How a column is compared.
-#[derive(Clone, Copy, Debug, PartialEq, Eq, Drop)]
+#[derive(Clone, Copy, Drop)]
 pub enum Op {
     Eq,
     Ne,
@@ -71,7 +71,7 @@ pub enum Pred {
 }
 
 /// Why a text is no predicate.
-#[derive(Clone, Copy, Debug, PartialEq, Eq, Drop)]
+#[derive(Clone, Copy, Drop)]
 pub enum WhereFault {
     Bad { at: u32 },
     NoMemory,

@@ -26,7 +26,6 @@ impl FileColumns {
     }
 
     /// The roles of the file's columns, in order.
-    #[tactic(auto, using(crate::proofs::FileRoles::few_roles))]
     pub(crate) fn roles(self, alloc: Global, schema: &Schema) -> Result<Vec<Role>, NoMemory>
         ensures roles { IfOk result (λ v. v.items ≡ roles_of (file_columns self schema.now.columns)) }
         ensures few { length (roles_of (file_columns self schema.now.columns)) ≤ 32 }

@@ -76,6 +76,24 @@ fn secret_part(alloc: Global, schema: &Schema, rows: &[ByteRecord]) -> Result<Se
     }
 }
 
+// The table with these records, none of which has a fault.
+fn whole_table(alloc: Global, schema: &Schema, rows: &[ByteRecord]) -> Result<Table, NoMemory>
+    requires good { records_fault (roles_of (file_columns FileColumns.All schema.now.columns)) 2 (map fields_of rows.now) ≡ None }
+    requires some { 0 < length rows.now }
+    requires at_most { length rows.now ≤ most_rows }
+    ensures public { IfOk result (λ t. t.public ≡ public_in FileColumns.All schema.now.columns (map fields_of rows.now)) }
+    ensures secret { IfOk result (λ t. t.secret ≡ secret_in schema.now.columns (map fields_of rows.now)) }
+    ensures fits { IfOk result (λ t. FitsSchema schema.now.columns t.public) }
+{
+    let Ok(public) = public_part(alloc, schema, FileColumns::All, rows) else {
+        return Err(NoMemory);
+    };
+    match secret_part(alloc, schema, rows) {
+        Ok(secret) => Ok(Table { public, secret }),
+        Err(NoMemory) => Err(NoMemory),
+    }
+}
+
 /// The table that bytes mean, or their first fault. It costs one pass over the bytes and one over the fields of each
 /// column, and memory of the order of the table.
 pub fn load(alloc: Global, schema: &Schema, bytes: &[u8]) -> Result<Table, TableFault>
@@ -89,13 +107,10 @@ pub fn load(alloc: Global, schema: &Schema, bytes: &[u8]) -> Result<Table, Table
         Ok(rows) => rows,
         Err(fault) => return Err(fault),
     };
-    let Ok(public) = public_part(alloc, schema, FileColumns::All, rows.as_slice()) else {
-        return Err(TableFault::NoMemory);
-    };
-    let Ok(secret) = secret_part(alloc, schema, rows.as_slice()) else {
-        return Err(TableFault::NoMemory);
-    };
-    Ok(Table { public, secret })
+    match whole_table(alloc, schema, rows.as_slice()) {
+        Ok(table) => Ok(table),
+        Err(NoMemory) => Err(TableFault::NoMemory),
+    }
 }
 
 /// The public part that bytes mean, or their first fault, where header and records hold the public columns alone. The

@@ -1,8 +1,9 @@
 //! The data records of a file, read until one has a fault.
-ghost use Rattle.std.specs.Prelude.{◌≡◌, [], length, ◌≤◌, IfErr, IfSome};
+ghost use Rattle.std.specs.Prelude.{◌≡◌, ◌++◌, ◌∷◌, [], length, ◌≤◌, IfErr, IfSome, OnOk};
 ghost use Rattle.table_load.specs.Reading.{file_columns, roles_of};
 ghost use Rattle.csv.specs.Reading.{error_kind};
-ghost use Rattle.table_load.specs.Steps.{AddsRow, ChecksHeader, HasRead, IsOfMemory, Opens, ReadsData};
+ghost use Rattle.csv.specs.Records.{fields_of};
+ghost use Rattle.table_load.specs.Steps.{AddsRow, ChecksHeader, HasRead, IsOfMemory, Opens, ReadsData, next_fault};
 ghost use Rattle.table_load.specs.declared.faults.TableFault.TheVariants.{NoMemory};
 
 use crate::faults::TableFault;
@@ -45,16 +46,16 @@ fn read_fault(error: &Error) -> TableFault
 fn check_header(
     schema: &Schema,
     which: FileColumns,
-    first: Option<Result<ByteRecord, Error>>,
+    first: &Option<Result<ByteRecord, Error>>,
 ) -> Result<(), TableFault>
-    requires { IfSome first (λ read. IfErr read (λ error. IsOfMemory (error_kind error))) }
-    ensures { ChecksHeader result (file_columns which schema.now.columns) first }
+    requires { IfSome first.now (λ read. IfErr read (λ error. IsOfMemory (error_kind error))) }
+    ensures { ChecksHeader result (file_columns which schema.now.columns) first.now }
 {
     match first {
         None => Err(TableFault::Header),
-        Some(Err(error)) => Err(read_fault(&error)),
+        Some(Err(error)) => Err(read_fault(error)),
         Some(Ok(header)) => {
-            if is_header(schema, which, &header) {
+            if is_header(schema, which, header) {
                 Ok(())
             } else {
                 Err(TableFault::Header)
@@ -76,9 +77,32 @@ fn open_file<'b>(
         return Err(TableFault::TooLong);
     }
     let mut records = records_of(alloc, bytes);
-    match check_header(schema, which, records.next()) {
+    let first = records.next();
+    match check_header(schema, which, &first) {
         Ok(()) => Ok(records),
         Err(fault) => Err(fault),
+    }
+}
+
+// The fault of a record that stands behind so many.
+fn next_fault(roles: &[Role], count: usize, row: &ByteRecord) -> Option<TableFault>
+    requires few { length roles.now ≤ 32 }
+    requires at_most { count ≤ 1024 }
+    ensures { result ≡ next_fault roles.now count (fields_of row.now) }
+{
+    if count == MOST_ROWS as usize {
+        return Some(TableFault::TooManyRows);
+    }
+    record_fault(roles, count as u32 + 2, row)
+}
+
+fn push_row(rows: &mut Vec<ByteRecord>, row: ByteRecord) -> Result<(), TableFault>
+    ensures ok { OnOk result (rows.new.items ≡ rows.old.items ++ row ∷ []) }
+    ensures err { IfErr result (λ fault. fault ≡ NoMemory) }
+{
+    match rows.push(row) {
+        Ok(()) => Ok(()),
+        Err(_) => Err(TableFault::NoMemory),
     }
 }
 
@@ -93,20 +117,13 @@ fn add_row(
     requires of_memory { IfErr read (λ error. IsOfMemory (error_kind error)) }
     ensures { AddsRow result roles.now rows.old.items read rows.new.items }
 {
-    let row = match read {
-        Ok(row) => row,
-        Err(error) => return Err(read_fault(&error)),
-    };
-    if rows.len() == MOST_ROWS as usize {
-        return Err(TableFault::TooManyRows);
+    match read {
+        Ok(row) => match next_fault(roles, rows.len(), &row) {
+            None => push_row(rows, row),
+            Some(fault) => Err(fault),
+        },
+        Err(error) => Err(read_fault(&error)),
     }
-    if let Some(fault) = record_fault(roles, rows.len() as u32 + 2, &row) {
-        return Err(fault);
-    }
-    if rows.push(row).is_err() {
-        return Err(TableFault::NoMemory);
-    }
-    Ok(())
 }
 
 /// The data records of a file, where none of them has a fault. Records of another length are read too, and only want of

@@ -1,7 +1,8 @@
 use Rattle.std.proofs.Common.{ℕ, arith, codes, decimal, subst, sym, ◌∙◌}
+use Rattle.std.proofs.lemmas.Option.{same_Some}
 use Rattle.line_wire.specs.Reply.{IsReply}
 use Rattle.line_wire.specs.declared.reply.Reply.TheVariants.{Condition}
-use Rattle.line_wire.proofs.ReplyParts.{confirmed_is, numbered_line, missed, same_value, if_none, unconfirmed}
+use Rattle.line_wire.proofs.ReplyParts.{confirmed_is, numbered_line, missed, if_none, unconfirmed}
 use Rattle.line_wire.proofs.reply_reading.read_condition.Goals as goal
 
 pub returns-in_err-at-clause-none : goal.returns-in_err-at-clause-none
@@ -12,7 +13,7 @@ returns-in_err-at-clause-none c = if_none c.from_residual.result (λ at reply.
 pub returns-clause-none : goal.returns-clause-none
 returns-clause-none c = unconfirmed c.confirmed.result c.args.line.now _ c.confirmed.ensures (λ wrong at reply.
     wrong (subst (λ (n : ℕ). IsReply c.args.line.now (Condition n))
-    (sym (c.into.ensures ∙ same_value c.size_between.result c.in_ok-at.at at c.in_ok-at.was (c.size_between.ensures at (omega (arith, reply.range)) (numbered_line c.args.line.now (codes "{\"refused\":\"where\",\"at\":") (decimal at) reply.bytes)))) reply))
+    (same_Some at c.in_ok-at.at (sym (c.size_between.ensures at (omega (arith, reply.range)) (numbered_line c.args.line.now (codes "{\"refused\":\"where\",\"at\":") (decimal at) reply.bytes)) ∙ c.in_ok-at.was) ∙ sym c.into.ensures) reply))
 
 pub returns-clause-found : goal.returns-clause-found
 returns-clause-found c = confirmed_is c.confirmed.result c.args.line.now _ c.confirmed.ensures

@@ -3,7 +3,7 @@ use Rattle.std.specs.Prelude.{string_bytes}
 use Rattle.std.proofs.lemmas.List.{take_rest}
 use lib.Utf8.{encode}
 use Rattle.predicate_lang.proofs.Pushes.{pushed}
-use Rattle.predicate_lang.proofs.Spaced.{last_literal}
+use Rattle.predicate_lang.proofs.Spaced.{last_literal, next_literal}
 use Rattle.predicate_lang.proofs.printing.write_literals.Goals as goal
 
 pub returns-after-loop-literal : goal.returns-after-loop-literal
@@ -13,3 +13,8 @@ returns-after-loop-literal c =
     (last_literal (string_bytes c.args.out.now) (string_bytes c.write_literal.new.out) (string_bytes c.loop-literal.out) c.args.literals.now _ c.first-item.result c.loop-literal.literal-index
     c.in-len1-up.len_at_least c.first-item.is
     (take_rest c.args.literals.now 1) c.loop-literal-test.false c.in_ok-write_literal-in-len1-up.ensures c.loop-literal.invariant)
+
+pub loop-literal-preserved : goal.loop-literal-preserved
+loop-literal-preserved c =
+    next_literal _ (string_bytes c.loop-literal.out) (string_bytes c.write_next.new.out) _ c.loop-literal.literal-index
+    c.literal-item.result c.loop-literal-test.true c.literal-item.is c.in_ok-write_next-in-len1-up.ensures c.loop-literal.invariant

@@ -56,11 +56,10 @@ pub returns-then-self-clause-answer : goal.returns-then-self-clause-answer
 returns-then-self-clause-answer g c = λ told.
     let turn = c.loop-self.invariant in
     let absorbed = c.in-Dry.ensures in
-    let finished = c.finish-then-self.ensures in
+    let last = c.last.ensures in
     let ended = ap (λ (v : Cutter). v.ended) (sym c.self.view_is) ∙ c.if-self.true in
     let so_far = to_more _ _ _ _ (turn.reached told) absorbed.passes.0 in
-    rw c.unwrap_or.ensures
-    (answers_last c.finish-then-self.result _ _ _ _ so_far absorbed.passes.1 (turn.same told (sym absorbed.same.1 ∙ ended)) finished.same.2 (finished.same.1 ∙ ended) finished.counts)
+    answers_last c.last.result _ _ _ _ so_far absorbed.passes.1 (turn.same told (sym absorbed.same.1 ∙ ended)) last.same.2 (last.same.1 ∙ ended) last.gives
 
 pub returns-then-self-clause-counted : goal.returns-then-self-clause-counted
 returns-then-self-clause-counted g c = λ told. counts_from _ _ _ _ (returns-then-self-clause-answer g c told)
@@ -105,10 +104,9 @@ returns-in-Some-clause-advances g c =
 pub returns-then-self-clause-advances : goal.returns-then-self-clause-advances
 returns-then-self-clause-advances g c =
     let turn = c.loop-self.invariant in
-    let finished = c.finish-then-self.ensures in
+    let last = c.last.ensures in
     let grown = grown_none c.args.self.now c.loop-self.self c.absorb.new.self turn.grown c.in-Dry.ensures.passes.0 c.in-Dry.ensures.same.0 in
-    rw c.unwrap_or.ensures
-    (advances_last c.finish-then-self.result c.args.self.now c.absorb.new.self c.finish-then-self.new.self grown finished.same.0 finished.same.2 finished.counts)
+    advances_last c.last.result c.args.self.now c.absorb.new.self c.last.new.self grown last.same.0 last.same.2 last.gives
 
 pub returns-in-Some-clause-counted : goal.returns-in-Some-clause-counted
 returns-in-Some-clause-counted g c = λ told. counts_from _ _ _ _ (returns-in-Some-clause-answer g c told)

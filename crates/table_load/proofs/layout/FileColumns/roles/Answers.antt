@@ -1,8 +1,9 @@
-use Rattle.std.proofs.Common.{◌≡◌, ◌<◌, ◌+◌, true, not, sym, ap, ◌∙◌, arith, length, drop, List, [], ◌∷◌, ◌++◌, append_assoc}
+use Rattle.std.proofs.Common.{◌≡◌, ◌<◌, ◌+◌, true, not, sym, ap, ◌∙◌, arith, length, drop, List, [], ◌∷◌, ◌++◌, append_assoc, append-nil}
 use Rattle.std.specs.Result.{is_ok}
+use Rattle.std.proofs.Math.ListN.{drop_of_length-le}
 use Rattle.schema_json.specs.declared.roles.Role.{Role}
 use Rattle.table_load.specs.Reading.{file_columns, roles_of}
-use Rattle.table_load.proofs.FileRoles.{roles_with, columns_without}
+use Rattle.table_load.proofs.FileRoles.{few_roles, roles_with, columns_without}
 use Rattle.table_load.proofs.layout.FileColumns.roles.Goals.{then-has+else-is_err, else-has}
 use Rattle.table_load.proofs.layout.FileColumns.roles.Goals as goal
 
@@ -30,3 +31,16 @@ loop-place-preserved c =
           (columns_without c.args.self cs place role within c.role-role.ensures (sym c.has.ensures ∙ w.if-has.false))
           )
     ]
+
+pub returns-then-is_err-clause-few : goal.returns-then-is_err-clause-few
+returns-then-is_err-clause-few c = few_roles c.args.self c.args.schema.now.columns c.count-place-end.ensures.columns
+
+pub returns-clause-few : goal.returns-clause-few
+returns-clause-few c = few_roles c.args.self c.args.schema.now.columns c.count-place-end.ensures.columns
+
+pub returns-clause-roles : goal.returns-clause-roles
+returns-clause-roles c =
+    let done = drop_of_length-le c.args.schema.now.columns {i = c.loop-place.place} (omega (arith, c.count-place-end.ensures.count)) in
+    sym
+    (c.loop-place.invariant
+    ∙ ap (λ cols. c.loop-place.roles.items ++ roles_of (file_columns c.args.self cols)) done ∙ append-nil c.loop-place.roles.items)
