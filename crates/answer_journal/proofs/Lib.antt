@@ -4,3 +4,5 @@ pub mod Makes
 pub mod ReadGroupByGroup
 pub mod RecordsFit
 pub mod DueIsAnswered
+pub mod FileCalls
+pub mod Appends

@@ -1,16 +1,18 @@
 -- What a crash leaves while a journal is made.
 use Rattle.std.proofs.Common.{◌≡◌, ◌≢◌, ℕ, ◌+◌, ◌<◌, inl, inr, List, [], ◌∷◌, ◌++◌, length, get_or, take, drop, refl, sym, ap, ◌∙◌, arith, append_assoc, append-nil, length-append, length-take, length-drop}
 use Rattle.std.proofs.Math.Seq.{drop-cons}
-use Rattle.std.proofs.lemmas.Bool.{cases_eq}
+use Rattle.std.proofs.lemmas.Bool.{cases_eq, cases_lt}
 use Rattle.std.proofs.lemmas.List.{take-append-drop, get_or-take, take_all}
 use Rattle.audit_types.specs.declared.shapes.Shape.{Shape}
 use Rattle.journal_form.specs.Header.{header, named, IsWholeShape}
 use Rattle.journal_form.specs.Journal.{StandsAt}
 use Rattle.bench_core.specs.declared.bench.Bench.{Ghosts}
+use Rattle.bench_core.specs.Bench.{Torn, Follows}
 use Rattle.bench_core.specs.Calls.{LeavesOnly}
 use Rattle.bench_core.specs.Moments.{weakens}
 use Rattle.answer_journal.specs.Append.{Appending, appended}
-use Rattle.answer_journal.specs.Moments.{IsShort, IsUnmadeOrEmpty}
+use Rattle.answer_journal.specs.Moments.{IsShort, IsAlready, IsFound, IsUntouched, IsUnmadeOrEmpty}
+use Rattle.answer_journal.specs.declared.make.Found.TheVariants.{Closed, Short}
 use Rattle.answer_journal.proofs.Histories.{stands_by}
 
 -- a header and a closed gate stand for the empty history
@@ -51,3 +53,36 @@ short_unmade shape before image sent (same, short) = (same, inl (λ made. omega 
 pub header_behind : (shape : Shape) (out : List ℕ) → length shape.kinds ≡ 8 → out ≡ 0 ∷ (named shape ++ 0 ∷ []) → take 20 (drop 1 out) ≡ named shape ++ 0 ∷ []
 header_behind shape out eight is =
     ap (λ o. take 20 (drop 1 o)) is ∙ take_all 20 (named shape ++ 0 ∷ []) (omega (arith, length-append (named shape) (0 ∷ []), eight))
+
+-- a file that leaves a journal to be made isn't made
+pub untouched_unmade : (shape : Shape) (file before : List ℕ) → (IsAlready file → ⊥) → (image sent : List ℕ) → IsUntouched file before image sent
+    → IsUnmadeOrEmpty shape before image sent
+untouched_unmade shape file before unmade image sent (same, is) = (
+  same,
+  inl (λ made. elim (cases_lt (length file) 22) [
+    | inl lt ↦ unmade (inr (omega (arith, lt, made.0, ap length is), ap (λ l. get_or l 0 0) (sym is) ∙ made.1))
+    | inr le ↦ unmade (inl le)
+  ]),
+)
+
+-- where the header gate is closed no journal is there, and neither is where the file is short
+pub closed_not_already : (file : List ℕ) → IsFound Closed file → IsAlready file → ⊥
+closed_not_already file found (inl long) = absurd (omega (arith, found.0, long))
+closed_not_already file found (inr made) = found.1 made.1
+
+pub short_not_already : (file : List ℕ) → IsFound Short file → IsAlready file → ⊥
+short_not_already file found (inl long) = absurd (omega (arith, found, long))
+short_not_already file found (inr made) = absurd (omega (arith, found, made.0))
+
+-- a quiet bench with a short file leaves a short one
+pub quiet_short : (file : List ℕ) (old : List ℕ → Type 0) → IsShort file → ((image : List ℕ) → old image → image ≡ file)
+    → (image : List ℕ) → old image → IsShort image
+quiet_short file old short quiet image left = omega (arith, ap length (quiet image left), short)
+
+-- a write of the first byte leaves a short file short
+pub torn_short : (file : List ℕ) (old new : List ℕ → Type 0) → IsShort file → ((image : List ℕ) → old image → image ≡ file)
+    → Follows (Torn 0 1) old new
+    → (image : List ℕ) → new image → IsShort image
+torn_short file old new short quiet follows image left =
+    let from = follows image left in
+    omega (arith, from.2.no_longer, ap length (quiet from.0 from.1), short)

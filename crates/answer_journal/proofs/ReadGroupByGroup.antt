@@ -9,6 +9,10 @@ use Rattle.audit_types.specs.declared.records.Answered.{Answered}
 use Rattle.journal_form.specs.Header.{header, IsWholeShape}
 use Rattle.journal_form.specs.Group.{IsGroup, GroupBreaks}
 use Rattle.journal_form.specs.Journal.{Written, AreGroups, texts, records, gate_behind, Begins, StandsAt, BreaksBehind}
+use Rattle.answer_journal.specs.declared.journal.BackFault.{BackFault}
+use Rattle.answer_journal.specs.declared.journal.BackFault.TheVariants.{NotMade, Damaged, Failed, NoMemory}
+use Rattle.answer_journal.specs.Moments.{IsMade}
+use Rattle.answer_journal.specs.Faults.{IsFaultOf, IsFaultBehind}
 use Rattle.answer_journal.proofs.Histories.{stands_by}
 
 -- the bytes before the gate are the header and whole groups of these records
@@ -72,6 +76,15 @@ module _ (bytes : List ℕ) (shape : Shape) (list : List Answered) (gate : ℕ) 
     breaks =
         inr (drop (gate + 1) bytes, at, at_gate lt ∙ ap (λ b. b ∷ drop (gate + 1) bytes) open_gate, subst (λ (l : List Answered). GroupBreaks shape (65536 - length l) (drop (gate + 1) bytes) at) read.list_is breaks, ap (λ g. g + 1 + at) read.gate_is);
   }
+
+  -- what a fault behind the open gate says of the whole journal
+  pub fault_behind : gate < length bytes → get_or bytes gate 0 ≡ 1 → IsMade bytes → (fault : BackFault)
+      → IsFaultBehind shape (65536 - length list) (drop (gate + 1) bytes) gate fault → IsFaultOf bytes fault
+  fault_behind lt open_gate made NotMade is = absurd is
+  fault_behind lt open_gate made (Damaged at) is =
+      (made, inr (subst (λ (k : ℕ). BreaksBehind bytes k) (sym is.2) (breaks_in_group is.0 lt open_gate is.1)))
+  fault_behind lt open_gate made Failed is = tt
+  fault_behind lt open_gate made NoMemory is = tt
 
   -- one group more
   pub read_more : (size : ℕ) (more : List Answered) → gate < length bytes → get_or bytes gate 0 ≡ 1 → size ≤ length (drop (gate + 1) bytes)

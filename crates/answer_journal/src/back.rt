@@ -18,10 +18,11 @@ use bench_core::Bench;
 use journal_form::laws::{
     bytes_of_records, no_break_in_a_journal, one_break, one_reading, the_front_tells,
 };
+use journal_form::{FRESH_SIZE, MOST_FOR_RECORD};
 use std::alloc::Global;
 
-// 21 bytes, and at most 139 for each record.
-const MOST_BYTES: u64 = 21 + 139 * MOST_RECORDS as u64;
+// The most bytes of a journal: each record may stand in a group of its own.
+const MOST_BYTES: u64 = (FRESH_SIZE + MOST_FOR_RECORD * MOST_RECORDS) as u64;
 
 // The bytes of the bench's file, up to as many as a journal has at most.
 fn front_of<B: Bench>(alloc: Global, bench: &mut B) -> Result<Vec<u8>, BackFault>

@@ -11,7 +11,7 @@ use crate::append::append_bytes;
 use crate::journal::Journal;
 use audit_types::Shape;
 use bench_core::{Bench, Failed};
-use journal_form::write_header;
+use journal_form::{FRESH_SIZE, write_header};
 
 /// Why no journal was made.
 #[derive(Clone, Copy, Debug, PartialEq, Eq)]
@@ -34,7 +34,7 @@ impl From<Failed> for MakeFault {
 
 /// What stands where a journal is to be made: one, or more than a fresh one's bytes; as many bytes as a fresh one, behind
 /// a closed header gate; or fewer.
-#[derive(Clone, Copy, Debug, PartialEq, Eq)]
+#[derive(Clone, Copy)]
 pub enum Found {
     Already,
     Closed,
@@ -53,10 +53,10 @@ fn look<B: Bench>(bench: &mut B) -> Result<Found, Failed>
     ensures last_call { OnErr result (B.last_failed bench.new ≡ true) }
 {
     let length = bench.length()?;
-    if length < 21 {
+    if length < FRESH_SIZE as u64 {
         return Ok(Found::Short);
     }
-    if length > 21 {
+    if length > FRESH_SIZE as u64 {
         return Ok(Found::Already);
     }
     let mut gate = [0];
@@ -98,7 +98,7 @@ fn open<B: Bench>(bench: &mut B, shape: &Shape) -> Result<(), Failed>
     ensures cause { HasCause (B.faults bench.old) (B.faults bench.new) result }
     ensures last_call { OnErr result (B.last_failed bench.new ≡ true) }
 {
-    let mut header = [0; 21];
+    let mut header = [0; FRESH_SIZE];
     write_header(shape, &mut header);
     append_bytes(bench, 0, &header[1..])
 }
@@ -144,10 +144,9 @@ impl Journal {
         ensures later { B.faults bench.old ≤ B.faults bench.new }
     {
         match look(bench)? {
-            Found::Already => return Err(MakeFault::AlreadyThere),
-            Found::Closed => open(bench, shape)?,
-            Found::Short => make_short(bench, shape)?,
+            Found::Already => Err(MakeFault::AlreadyThere),
+            Found::Closed => Ok(open(bench, shape)?),
+            Found::Short => Ok(make_short(bench, shape)?),
         }
-        Ok(())
     }
 }

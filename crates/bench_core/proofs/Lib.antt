@@ -1,3 +1,4 @@
+pub mod Buffers
 pub mod Writes
 pub mod TouchedPlaces
 pub mod KeptCalls

@@ -71,13 +71,9 @@ impl Disk {
         ensures clear { IfOk result (λ d. (place : ℕ) → is_dirty d.dirty place ≡ false) }
         ensures room { IfOk result (λ d. (d.room ≡ room) × (length d.dirty ≡ room)) }
     {
-        let (Ok(mut bytes), Ok(mut stable), Ok(dirty)) = (
-            vec![in alloc; 0; room],
-            vec![in alloc; 0; room],
-            vec![in alloc; false; room],
-        ) else {
-            return Err(NoMemory);
-        };
+        let mut bytes = vec![in alloc; 0; room]?;
+        let mut stable = vec![in alloc; 0; room]?;
+        let dirty = vec![in alloc; false; room]?;
         put(&mut bytes, 0, file);
         put(&mut stable, 0, file);
         Ok(Disk {

@@ -9,7 +9,7 @@ use std::alloc::Global;
 use std::marker::Model;
 
 /// A call. The piece that it wrote or sent stands among the pieces written, or among the bytes sent.
-#[derive(Clone, Copy, Debug)]
+#[derive(Clone, Copy)]
 pub enum Past {
     Wrote {
         at: usize,
@@ -71,13 +71,9 @@ impl Log {
     ) -> Result<Self, NoMemory>
         ensures { IfOk result (λ log. log ≡ record { calls = []; written = 0; sent = []; most_calls = most_calls; most_written = most_written; most_sent = most_sent }) }
     {
-        let (Ok(past), Ok(pieces), Ok(sent)) = (
-            Vec::with_capacity(alloc, most_calls),
-            Vec::with_capacity(alloc, most_written),
-            Vec::with_capacity(alloc, most_sent),
-        ) else {
-            return Err(NoMemory);
-        };
+        let past = Vec::with_capacity(alloc, most_calls)?;
+        let pieces = Vec::with_capacity(alloc, most_written)?;
+        let sent = Vec::with_capacity(alloc, most_sent)?;
         Ok(Log {
             past,
             pieces,

@@ -3,7 +3,7 @@ ghost use Rattle.std.specs.Prelude.{◌≡◌, ◌≢◌, ◌↔◌, ◌⊎◌, 
 ghost use Rattle.bench_core.specs.Causes.{HasCause, next_count};
 ghost use Rattle.bench_core.specs.Bench.{AppendsFront, Holds, Torn, Follows, Unsent, Sending, Elapses};
 ghost use Rattle.bench_core.specs.Machine.{wrote, unwritten, synced, sending, other, written};
-ghost use Rattle.bench_core.specs.BenchContents.{state_of, file_of, sent_of, IsTornFile, may_leave, found_since, call_fails, send_fails, write_fails, is_stopped, passed, failed, failed_write, failed_send};
+ghost use Rattle.bench_core.specs.BenchContents.{state_of, file_of, sent_of, torn_byte, IsTornFile, may_leave, found_since, call_fails, send_fails, write_fails, is_stopped, passed, failed, failed_write, failed_send};
 
 use crate::disk::Disk;
 use crate::log::Log;
@@ -288,19 +288,29 @@ impl MemoryBench {
         self.disk.is_dirty(place)
     }
 
+    // The stable byte at a place of the file, or 0x37 where it isn't stable.
+    fn torn_byte(&self, place: usize) -> u8
+        requires { place < length (file_of self.now) }
+        ensures { result ≡ torn_byte (state_of self.now) place }
+    {
+        let stable = self.stable();
+        if place < stable.len() && !self.is_dirty(place) {
+            stable[place]
+        } else {
+            0x37
+        }
+    }
+
     // The file with 0x37 for each byte that isn't stable.
     fn torn(&self) -> Result<Vec<u8>, NoMemory>
         ensures { IfOk result (λ bytes. IsTornFile (state_of self.now) bytes.items) }
     {
         let file = self.file();
-        let stable = self.stable();
         let Ok(mut bytes) = Vec::with_capacity(self.alloc, file.len()) else {
             return Err(NoMemory);
         };
         for place in 0..file.len() {
-            let is_stable = place < stable.len() && !self.is_dirty(place);
-            let byte = if is_stable { stable[place] } else { 0x37 };
-            let Ok(()) = bytes.push(byte) else {
+            let Ok(()) = bytes.push(self.torn_byte(place)) else {
                 return Err(NoMemory);
             };
         }

@@ -12,6 +12,9 @@ use std::alloc::{AllocError, AllocFailed, Global};
 // A column byte, eight bytes of answer, and a bit for each of 1,024 rows.
 const MOST_OF_RECORD: usize = 137;
 
+/// The most bytes that a record takes in a journal: in a group of its own, with its gate and its count byte.
+pub const MOST_FOR_RECORD: usize = 2 + MOST_OF_RECORD;
+
 /// The records of a group, in order, and the number of its bytes from its count byte on.
 #[derive(Debug, Drop)]
 pub struct Group {

@@ -9,5 +9,5 @@ pub mod laws;
 mod record;
 mod set;
 
-pub use group::{Group, GroupFault, read_group, write_group};
-pub use header::{read_header, write_header};
+pub use group::{Group, GroupFault, MOST_FOR_RECORD, read_group, write_group};
+pub use header::{FRESH_SIZE, HEADER_SIZE, read_header, write_header};

@@ -38,7 +38,7 @@ impl Model for Index {
     ghost invariant = { IsKeptIndex };
 }
 
-// The rows in ascending order of number.
+// Each row once, in ascending order.
 fn all_rows(alloc: Global, rows: u16) -> Result<Vec<u16>, NoMemory>
     ensures all { IfOk result (λ list. list.items ≡ rows_that (λ r. true) rows) }
     ensures ascending { IfOk result (λ list. IsSorted nat_cmp list.items) }
@@ -50,6 +50,30 @@ fn all_rows(alloc: Global, rows: u16) -> Result<Vec<u16>, NoMemory>
     Ok(list)
 }
 
+// The rows in ascending order of number.
+fn by_number(alloc: Global, rows: u16, list: &[i64]) -> Result<Sorted, NoMemory>
+    requires some { 0 < rows }
+    requires at_most { rows ≤ most_rows }
+    ensures rows { IfOk result (λ s. s.rows ≡ rows) }
+    ensures ascending { IfOk result (λ s. IsSorted (compare_rows (numbers list.now)) s.order) }
+{
+    let mut order = all_rows(alloc, rows)?;
+    sort_by_number(alloc, order.as_mut_slice(), list)?;
+    Sorted::new(alloc, rows, order)
+}
+
+// The rows in ascending order of text.
+fn by_text(alloc: Global, rows: u16, list: &[Vec<u8>]) -> Result<Sorted, NoMemory>
+    requires some { 0 < rows }
+    requires at_most { rows ≤ most_rows }
+    ensures rows { IfOk result (λ s. s.rows ≡ rows) }
+    ensures ascending { IfOk result (λ s. IsSorted (compare_rows (texts (map (λ t. t.items) list.now))) s.order) }
+{
+    let mut order = all_rows(alloc, rows)?;
+    sort_by_text(alloc, order.as_mut_slice(), list)?;
+    Sorted::new(alloc, rows, order)
+}
+
 // The rows in ascending order of a column's values, if everybody may see it.
 fn sorted(alloc: Global, rows: u16, column: &Column) -> Result<Option<Sorted>, NoMemory>
     requires some { 0 < rows }
@@ -58,16 +82,8 @@ fn sorted(alloc: Global, rows: u16, column: &Column) -> Result<Option<Sorted>, N
 {
     match column {
         Column::Hidden => Ok(None),
-        Column::Numbers(list) => {
-            let mut order = all_rows(alloc, rows)?;
-            sort_by_number(alloc, order.as_mut_slice(), list.as_slice())?;
-            Ok(Some(Sorted::new(alloc, rows, order)?))
-        }
-        Column::Texts(list) => {
-            let mut order = all_rows(alloc, rows)?;
-            sort_by_text(alloc, order.as_mut_slice(), list.as_slice())?;
-            Ok(Some(Sorted::new(alloc, rows, order)?))
-        }
+        Column::Numbers(list) => Ok(Some(by_number(alloc, rows, list.as_slice())?)),
+        Column::Texts(list) => Ok(Some(by_text(alloc, rows, list.as_slice())?)),
     }
 }
 

@@ -21,3 +21,9 @@ returns-clause-err g c = λ told.
     let front : c.deref.result.now ≡ take most_bytes file = c.deref.ensures.value ∙ c.in_ok-bytes.ensures.bytes told in
     IfErr-weaker c.read_all.result (λ (f : BackFault). IsFaultOf c.deref.result.now f) (λ (f : BackFault). IsFaultOf file f)
     (λ fault is. fault_of_file file fault c.the_front_tells.ensures.breaks (subst (λ (l : List ℕ). IsFaultOf l fault) front is)) c.read_all.ensures.err
+
+pub returns-in_err-bytes-clause-untouched : goal.returns-in_err-bytes-clause-untouched
+returns-in_err-bytes-clause-untouched g c = c.front_of.ensures.untouched
+
+pub returns-clause-untouched : goal.returns-clause-untouched
+returns-clause-untouched g c = c.front_of.ensures.untouched

@@ -1,6 +1,7 @@
 use Rattle.std.proofs.Common.{◌≡◌, length, drop, min, ap, ◌∙◌}
 use Rattle.journal_form.specs.Journal.{most_bytes}
 use Rattle.answer_journal.proofs.DueIsAnswered.{front_read}
+use Rattle.answer_journal.proofs.FileCalls.{untouched_by_one, untouched_by_two}
 use Rattle.answer_journal.proofs.back.front_of.Goals as goal
 
 pub returns-clause-bytes : goal.returns-clause-bytes
@@ -12,3 +13,29 @@ returns-clause-bytes g c = λ told.
     front_read file (g.B.Bench.file c.length.new.self) c.truncate.new.self.items buf
     (drop (length buf) c.in_ok-bytes.bytes.items) c.in_ok-bytes.bytes.len c.in_ok-count.count
     c.length.ensures.file long size (c.in_ok-count.ensures.count told) (c.in_ok-count.ensures.bytes told) c.truncate.ensures.items
+
+pub returns-in_err-length-clause-untouched : goal.returns-in_err-length-clause-untouched
+returns-in_err-length-clause-untouched g c = λ told quiet.
+    let bench = c.args.bench.now in
+    let now = g.met.B.Bench.only_now bench in
+    untouched_by_one g.B.Bench bench now quiet c.length.new.self c.length.ensures.time c.length.ensures.crash
+
+pub returns-in_err-bytes-clause-untouched : goal.returns-in_err-bytes-clause-untouched
+returns-in_err-bytes-clause-untouched g c = λ told quiet.
+    let bench = c.args.bench.now in
+    let now = g.met.B.Bench.only_now bench in
+    untouched_by_one g.B.Bench bench now quiet c.length.new.self c.length.ensures.time c.length.ensures.crash
+
+pub returns-in_err-count-clause-untouched : goal.returns-in_err-count-clause-untouched
+returns-in_err-count-clause-untouched g c = λ told quiet.
+    let bench = c.args.bench.now in
+    let now = g.met.B.Bench.only_now bench in
+    untouched_by_two g.B.Bench bench now quiet c.length.new.self c.read_at.new.self c.length.ensures.time c.length.ensures.crash c.length.ensures.sent
+    c.read_at.ensures.time c.read_at.ensures.crash
+
+pub returns-clause-untouched : goal.returns-clause-untouched
+returns-clause-untouched g c = λ told quiet.
+    let bench = c.args.bench.now in
+    let now = g.met.B.Bench.only_now bench in
+    untouched_by_two g.B.Bench bench now quiet c.length.new.self c.read_at.new.self c.length.ensures.time c.length.ensures.crash c.length.ensures.sent
+    c.read_at.ensures.time c.read_at.ensures.crash

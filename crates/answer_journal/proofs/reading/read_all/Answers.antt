@@ -7,4 +7,4 @@ returns-in-Err-clause-err c =
     let bytes = c.args.bytes.now in
     let front : c.copy_from_slice.new.self ≡ take 20 bytes = search rules in
     let breaks = c.the_front_tells.ensures.header bytes c.in-Err.at (omega arith) (subst (λ (l : List ℕ). HeaderBreaks l c.in-Err.at) front c.in-Err.ensures.err) in
-    ((c.if-bytes-lt21.false, c.if-bytes-ne1.false), inl breaks)
+    ((c.if-bytes-lt-FRESH_SIZE.false, c.if-bytes-ne1.false), inl breaks)

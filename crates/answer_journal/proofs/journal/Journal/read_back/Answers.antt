@@ -42,3 +42,9 @@ returns-in-Err-clause-damaged_only g c =
 pub returns-in-Err-clause-whole : goal.returns-in-Err-clause-whole
 returns-in-Err-clause-whole g c =
     λ shape history gate told stands. whole_has_no_fault (g.B.Bench.file c.args.bench.now) c.in-Err.fault shape history gate c.no_break_in_a_journal.ensures (c.in-Err.ensures.err told) stands
+
+pub returns-in-Ok-clause-untouched : goal.returns-in-Ok-clause-untouched
+returns-in-Ok-clause-untouched g c = c.contents_of.ensures.untouched
+
+pub returns-in-Err-clause-untouched : goal.returns-in-Err-clause-untouched
+returns-in-Err-clause-untouched g c = c.contents_of.ensures.untouched

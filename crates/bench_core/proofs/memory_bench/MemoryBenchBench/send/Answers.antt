@@ -1,9 +1,9 @@
-use Rattle.std.proofs.Common.{◌≡◌, ◌≤◌, ◌+◌, ℕ, List, [], ◌∷◌, length, take, true, ap, refl, Err, arith, length-append}
+use Rattle.std.proofs.Common.{◌≡◌, ◌≤◌, ◌+◌, ◌-◌, ◌/◌, ◌∙◌, min, ℕ, List, [], ◌∷◌, length, take, true, ap, refl, Err, arith, length-append}
 use Rattle.bench_core.specs.declared.source.Failed.{Failed}
 use Rattle.bench_core.specs.Causes.{HasCause, next_count}
 use Rattle.bench_core.specs.Bench.{AppendsFront, Sending, Elapses}
 use Rattle.bench_core.specs.Machine.{State, sending}
-use Rattle.bench_core.specs.BenchContents.{file_of, sent_of, may_leave, found_since}
+use Rattle.bench_core.specs.BenchContents.{file_of, sent_of, may_leave, found_since, failed_send}
 use Rattle.bench_core.proofs.WhatCallsLeave.{passed_state, time_still, time_sending, sent_images, front_or_none, failed_cause, shorter_front, no_front}
 use Rattle.bench_core.proofs.memory_bench.MemoryBenchBench.send.Goals as goal
 
@@ -52,3 +52,10 @@ pub returns-then-send_fails-clause-one_tick : goal.returns-then-send_fails-claus
 returns-then-send_fails-clause-one_tick c =
     rw c.fail_send.ensures.changed
     (front_or_none c.args.self.now (take c.min-count.result c.args.piece.now) (λ v. length v.past ≤ length c.args.self.now.past + 1) (omega (arith, length-append c.args.self.now.past (sending (take c.min-count.result c.args.piece.now) ∷ []))) (λ none. (omega arith)))
+
+pub returns-then-send_fails-clause-half : goal.returns-then-send_fails-clause-half
+returns-then-send_fails-clause-half c =
+    let room = c.args.self.now.room.sent - length (sent_of c.args.self.now) in
+    let left : c.room_to_send.result ≡ room = omega (arith, c.room_to_send.ensures) in
+    let count : c.min-count.result ≡ min (length c.args.piece.now / 2) room = c.min-count.ensures ∙ ap (min (length c.args.piece.now / 2)) left in
+    c.fail_send.ensures.changed ∙ ap (λ n. failed_send c.args.self.now (take n c.args.piece.now)) count
