@@ -3,10 +3,9 @@ use Rattle.std.specs.Prelude.{FitsSigned, ◌*ℤ◌, ◌-ℤ◌, neg_ℤ, unsig
 use Rattle.std.specs.Int.{w128}
 use Rattle.std.specs.List.{AllByRecursion}
 use Rattle.std.proofs.lemmas.Int.{to_z-of_z}
-use Rattle.std.proofs.lemmas.List.Elements.{All-from_recursion}
 use Rattle.sum_basis.specs.declared.sparse.FreeEntry.{FreeEntry}
 use Rattle.sum_basis.specs.Sparse.{entry_at, IsListed}
-use Rattle.sum_basis.proofs.ListContents.{none}
+use Rattle.sum_basis.proofs.ListContents.{none, value_small}
 use Rattle.sum_basis.proofs.SparseRows.{stands_within}
 use Rattle.sum_basis.proofs.Sizes.{product_small}
 use Rattle.sum_basis.proofs.BoundedRows.{bounded_at}
@@ -22,11 +21,6 @@ loop-e-init c = record {
   most = omega arith;
   room = c.requires.room;
 }
-
--- the value of entry k
-value_small : (es : List FreeEntry) (k : ℕ) → k < length es → AllByRecursion (λ (e : FreeEntry). unsigned_abs e.value ≤ 2 ^ 56) es →
-    unsigned_abs (get_or es k none).value ≤ 2 ^ 56
-value_small es k l all = All-from_recursion (λ (e : FreeEntry). unsigned_abs e.value ≤ 2 ^ 56) es all k none l
 
 pub negative-number-requires : goal.negative-number-requires
 negative-number-requires c =
