@@ -94,3 +94,27 @@ returns-clause-taken c = λ j.
 
 pub returns-clause-bounded : goal.returns-clause-bounded
 returns-clause-bounded c = all_bounded c.args.columns c.loop-e.bound c.loop-e.entries.items c.loop-e.invariant.listed c.loop-e.invariant.bounded
+
+pub product-requires-clause-x : goal.product-requires-clause-x
+product-requires-clause-x c = rw (to_z-of_z w128 c.args.times c.ranges.times) c.requires.times
+
+pub product-requires-clause-y : goal.product-requires-clause-y
+product-requires-clause-y c =
+    let value : FitsSigned w128 (get_or c.args.taken.now c.loop-e.e-index (record { place = 0; value = pos 0 })).value = search rules in
+    rw (to_z-of_z w128 (get_or c.args.taken.now c.loop-e.e-index none).value value)
+    (value_small c.args.taken.now c.loop-e.e-index c.loop-e-test.true c.requires.taken_small)
+
+pub add_at-after-requires-clause-listed : goal.add_at-after-requires-clause-listed
+add_at-after-requires-clause-listed c = c.loop-e.invariant.listed
+
+pub add_at-after-requires-clause-room : goal.add_at-after-requires-clause-room
+add_at-after-requires-clause-room c = c.loop-e.invariant.room
+
+pub returns-clause-listed : goal.returns-clause-listed
+returns-clause-listed c = c.loop-e.invariant.listed
+
+pub returns-clause-most : goal.returns-clause-most
+returns-clause-most c = c.loop-e.invariant.most
+
+pub returns-clause-room : goal.returns-clause-room
+returns-clause-room c = c.loop-e.invariant.room

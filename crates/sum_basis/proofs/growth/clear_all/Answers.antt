@@ -51,3 +51,18 @@ returns-clause-kept c =
 pub returns-clause-cleared : goal.returns-clause-cleared
 returns-clause-cleared c =
     (in_the_end c.args.columns c.args.new.now c.args.rows.now.items c.loop-k.rows.items c.loop-k.k (let same = c.loop-k.invariant.cleared.same_length in let len = c.loop-k.rows.ok.0 in omega arith) c.loop-k.invariant.cleared).1
+
+pub index_mut-requires : goal.index_mut-requires
+index_mut-requires c = let same = c.loop-k.invariant.cleared.same_length in let len = c.loop-k.rows.ok.0 in omega arith
+
+pub clear-requires-clause-kept : goal.clear-requires-clause-kept
+clear-requires-clause-kept c =
+    of_row (IsKept c.args.columns) c.args.rows.now.items c.loop-k.k c.index_mut.result.now (inside _ _ _ _ _ c.loop-k.invariant.cleared (omega arith))
+    (still _ _ _ _ _ _ c.loop-k.invariant.cleared c.index_mut.ensures.value) c.requires.kept
+
+pub returns-clause-len : goal.returns-clause-len
+returns-clause-len c =
+    let same = c.loop-k.invariant.cleared.same_length in
+    let len = c.loop-k.rows.ok.0 in
+    let before = c.args.rows.now.ok.0 in
+    omega arith
