@@ -16,7 +16,8 @@ clear_all-requires-clause-new c = subst (IsNew c.args.columns) (sym c.deref.ensu
 
 pub clear_all-requires-clause-zero : goal.clear_all-requires-clause-zero
 clear_all-requires-clause-zero c =
-    subst (λ (l : List FreeEntry). IsZeroAtPivots (rows_of c.args.columns c.args.rows.now.items) (row_of c.args.columns l)) (sym c.deref.ensures.value) c.requires.zero
+    subst (λ (l : List FreeEntry). IsZeroAtPivots (rows_of c.args.columns c.args.rows.now.items) (row_of c.args.columns l))
+    (sym c.deref.ensures.value) c.requires.zero
 
 pub remove-first-requires : goal.remove-first-requires
 remove-first-requires c = let some = c.requires.new.some in let len = c.args.new.ok.0 in omega arith

@@ -1,4 +1,4 @@
-use Rattle.std.proofs.Common.{◌≡◌, ℕ, ◌+◌, ◌<◌, ◌≤◌, ◌^◌, ℤ, pos, List, [], ◌∷◌, ◌++◌, length, map, take, get_or, refl, sym, ap, ◌∙◌, arith, rules, append_assoc, take_all}
+use Rattle.std.proofs.Common.{◌≡◌, ℕ, ◌+◌, ◌<◌, ℤ, List, [], ◌∷◌, ◌++◌, length, map, take, get_or, sym, ap, ◌∙◌, rules, append_assoc, take_all}
 use Rattle.std.specs.Prelude.{FitsSigned, ◌*ℤ◌}
 use Rattle.std.specs.Int.{w128}
 use mir.Val.{to_z, of_z}
@@ -7,7 +7,6 @@ use Rattle.std.proofs.lemmas.List.{take_more, map-append}
 use Rattle.sum_basis.specs.declared.sparse.FreeEntry.{FreeEntry}
 use Rattle.sum_basis.specs.Sparse.{scaled}
 use Rattle.sum_basis.proofs.ListContents.{none, value_small}
-use Rattle.sum_basis.proofs.Wide.{product_of}
 use Rattle.sum_basis.proofs.merging.append.Goals as goal
 
 pub product-value-requires-clause-x : goal.product-value-requires-clause-x
@@ -16,7 +15,8 @@ product-value-requires-clause-x c = rw (to_z-of_z w128 c.args.by c.ranges.by) c.
 pub product-value-requires-clause-y : goal.product-value-requires-clause-y
 product-value-requires-clause-y c =
     let value : FitsSigned w128 (get_or c.args.rest.now c.loop-e.e-index none).value = search rules in
-    rw (to_z-of_z w128 (get_or c.args.rest.now c.loop-e.e-index none).value value) (value_small c.args.rest.now c.loop-e.e-index c.loop-e-test.true c.requires.small)
+    rw (to_z-of_z w128 (get_or c.args.rest.now c.loop-e.e-index none).value value)
+    (value_small c.args.rest.now c.loop-e.e-index c.loop-e-test.true c.requires.small)
 
 -- with one entry more
 pushed : (by : ℤ) (before out rest : List FreeEntry) (k : ℕ) (value : ℤ) → k < length rest → out ≡ before ++ map (scaled by) (take k rest)

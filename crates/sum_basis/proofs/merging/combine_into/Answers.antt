@@ -47,7 +47,8 @@ end_small : (es : List FreeEntry) (k : ℕ) → AllByRecursion (λ (e : FreeEntr
     AllByRecursion (λ (e : FreeEntry). unsigned_abs e.value ≤ 2 ^ 56) (take (length es - k) (drop k es))
 end_small es k all = rw (end_is es k) (later es k all)
   where
-    later : (xs : List FreeEntry) (i : ℕ) → AllByRecursion (λ (e : FreeEntry). unsigned_abs e.value ≤ 2 ^ 56) xs → AllByRecursion (λ (e : FreeEntry). unsigned_abs e.value ≤ 2 ^ 56) (drop i xs)
+    later : (xs : List FreeEntry) (i : ℕ) → AllByRecursion (λ (e : FreeEntry). unsigned_abs e.value ≤ 2 ^ 56) xs →
+        AllByRecursion (λ (e : FreeEntry). unsigned_abs e.value ≤ 2 ^ 56) (drop i xs)
     later xs zero h = h
     later [] (suc i) h = h
     later (x ∷ xs) (suc i) h = later xs i h.1

@@ -54,7 +54,8 @@ pub are_alike-requires-clause-times : goal.are_alike-requires-clause-times
 are_alike-requires-clause-times c = rw (to_z-of_z w128 c.args.times c.ranges.times) c.requires.times
 
 -- a value that was reached
-value_at : (es : List FreeEntry) (k : ℕ) (e : FreeEntry) → k < length es → e ≡ get_or es k none → AllByRecursion (λ (x : FreeEntry). unsigned_abs x.value ≤ 2 ^ 56) es
+value_at : (es : List FreeEntry) (k : ℕ) (e : FreeEntry) → k < length es → e ≡ get_or es k none →
+    AllByRecursion (λ (x : FreeEntry). unsigned_abs x.value ≤ 2 ^ 56) es
     → unsigned_abs e.value ≤ 2 ^ 56
 value_at es k e l is all = subst (λ (x : FreeEntry). unsigned_abs x.value ≤ 2 ^ 56) (sym is) (value_small es k l all)
 

@@ -48,4 +48,5 @@ less-requires-clause-times c = rw (to_z-of_z w128 c.args.times c.ranges.times) c
 pub less-requires-clause-y : goal.less-requires-clause-y
 less-requires-clause-y c =
     let value : FitsSigned w128 (get_or c.args.entries.now c.loop-e.e-index (record { place = 0; value = pos 0 })).value = search rules in
-    rw (to_z-of_z w128 (get_or c.args.entries.now c.loop-e.e-index none).value value) (value_small c.args.entries.now c.loop-e.e-index c.loop-e-test.true c.requires.small)
+    rw (to_z-of_z w128 (get_or c.args.entries.now c.loop-e.e-index none).value value)
+    (value_small c.args.entries.now c.loop-e.e-index c.loop-e-test.true c.requires.small)

@@ -77,7 +77,8 @@ invariant_of-self-2 c =
     let count : c.len-count.result ≡ length (extremes more last) = c.len-count.ensures ∙ ap length own in
     let counts_are : c.push_reserved.new.self.items ≡ c.fall-fewest.new.counts ++ c.len-count.result ∷ [] =
     c.push_reserved.ensures.items
-    ∙ ap (λ l. l ++ c.len-count.result ∷ []) (with_items_is c.make_room.new.counts c.fall-fewest.new.counts (c.fall-fewest.auto.counts ∙ c.deref_mut.ensures.len)) in
+    ∙ ap (λ l. l ++ c.len-count.result ∷ [])
+    (with_items_is c.make_room.new.counts c.fall-fewest.new.counts (c.fall-fewest.auto.counts ∙ c.deref_mut.ensures.len)) in
     let upper_is : (with_items c.self.inside.upper c.settle.new.upper).items ≡ c.settle.new.upper = with_items_is c.self.inside.upper c.settle.new.upper (c.settle.auto.upper ∙ c.deref_mut-3.ensures.len) in
     let small : c.len-count.result ≤ 65535 = omega (arith, c.len-count.type_inv) in
     record {
@@ -102,7 +103,8 @@ invariant_of-self-2 c =
         fewest_is = c.min-self-inside.ensures ∙ ap (λ f. min f c.len-count.result) fallen.fewest_is
             ∙ sym (ap fewest_of counts_are ∙ fewest_of-push c.fall-fewest.new.counts c.len-count.result small);
         are_least =
-            subst (λ l. AreLeast (extremes (and_answer (answers_of l) rows x)) (and_answer (answers_of l) rows x) (answers_of c.insert.new.least.items)) (c.deref-5.ensures.value ∙ c.in_ok-make_room.ensures.pairs) c.insert.ensures.tells;
+            subst (λ l. AreLeast (extremes (and_answer (answers_of l) rows x)) (and_answer (answers_of l) rows x) (answers_of c.insert.new.least.items))
+            (c.deref-5.ensures.value ∙ c.in_ok-make_room.ensures.pairs) c.insert.ensures.tells;
       });
     }
 

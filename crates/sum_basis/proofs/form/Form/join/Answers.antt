@@ -43,7 +43,8 @@ pub look_ahead-requires-clause-kept : goal.look_ahead-requires-clause-kept
 look_ahead-requires-clause-kept c = subst (AllByRecursion (IsKept c.self.inside.columns)) (sym c.deref.ensures.value) c.self.invariant.kept
 
 pub look_ahead-requires-clause-form : goal.look_ahead-requires-clause-form
-look_ahead-requires-clause-form c = subst (λ rows. IsSmallForm c.self.inside.columns (rows_of c.self.inside.columns rows)) (sym c.deref.ensures.value) c.self.invariant.form
+look_ahead-requires-clause-form c = subst (λ rows. IsSmallForm c.self.inside.columns (rows_of c.self.inside.columns rows))
+    (sym c.deref.ensures.value) c.self.invariant.form
 
 pub look_ahead-requires-clause-positive : goal.look_ahead-requires-clause-positive
 look_ahead-requires-clause-positive c =
@@ -63,7 +64,8 @@ look_ahead-requires-clause-multiple c =
 pub look_ahead-requires-clause-new : goal.look_ahead-requires-clause-new
 look_ahead-requires-clause-new c =
     let left = rw c.in-Entries.is at c.in_ok-settle.ensures.left in
-    subst (λ n. IsNew n c.deref-2.result.now) (sym (ap (λ (e : Echelon). e.n) c.self.view_is)) (subst (IsNew c.args.self.now.n) (sym c.deref-2.ensures.value) left.0)
+    subst (λ n. IsNew n c.deref-2.result.now) (sym (ap (λ (e : Echelon). e.n) c.self.view_is))
+    (subst (IsNew c.args.self.now.n) (sym c.deref-2.ensures.value) left.0)
 
 pub returns-in-Nothing-clause-grows : goal.returns-in-Nothing-clause-grows
 returns-in-Nothing-clause-grows c = let left = rw c.in-Nothing.is at c.in_ok-settle.ensures.left in (left, refl)
