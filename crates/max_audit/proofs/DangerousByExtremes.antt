@@ -9,6 +9,7 @@ use Rattle.std.specs.Prelude.{◌<ℤ◌, ◌≤ℤ◌, ◌+ℤ◌, ◌-ℤ◌}
 use Rattle.std.specs.Int.{int_max}
 use Rattle.std.proofs.lemmas.Int.{ints, clamps, by_lt_z}
 use Rattle.std.proofs.lemmas.Bool.{true≢false, cases_eq}
+use Rattle.std.proofs.lemmas.Option.{same_Some}
 use Rattle.audit_types.specs.Rows.{has_row, AreRows}
 use Rattle.audit_types.specs.Truth.{greatest_over}
 use Rattle.audit_types.specs.Column.{Answer, IsOneOf, known_max}
@@ -191,10 +192,6 @@ free_or_greatest bound r (s ∷ rows) = more (bound r) refl (free_or_greatest bo
           ],
         ))
 
--- one bound only
-same_bound : (o : Option ℤ) (b c : ℤ) → o ≡ Some b → o ≡ Some c → b ≡ c
-same_bound o b c e f = let both : Some b ≡ Some c = sym e ∙ f in cc
-
 -- a set that is not empty has such an answer
 top_of : (answers : List Answer) (rows : List ℕ) → rows ≢ [] → (x : ℤ) × IsTop answers rows x
 top_of answers [] some = absurd (some refl)
@@ -213,7 +210,7 @@ top_of answers (r ∷ rows) some = elim (free_or_greatest (upper_bound answers) 
     b,
     record {
       under =
-          λ q c among is. let found = most q among in let low = found.2 in let same = same_bound (upper_bound answers q) found.0 c found.1 is in omega (arith, ints);
+          λ q c among is. let found = most q among in let low = found.2 in let same = same_Some found.0 c (sym found.1 ∙ is) in omega (arith, ints);
       row = t;
       there = there;
       high = subst (IsAtLeast b) (sym is_b) (omega (arith, ints));

@@ -1,5 +1,5 @@
 //! The answered maxima of one column, with what they say of each row.
-ghost use Rattle.std.specs.Prelude.{◌≡◌, ◌≢◌, ◌↔◌, ℕ, ◌+◌, ◌^◌, ◌<◌, ◌≤◌, pos, neg_ℤ, ◌≤ℤ◌, [], Some, IfOk, OnOk, OnErr, IsTrue, length, slice_get};
+ghost use Rattle.std.specs.Prelude.{◌≡◌, ◌≢◌, ◌↔◌, ℕ, ◌+◌, ◌^◌, ◌<◌, ◌≤◌, pos, neg_ℤ, ◌≤ℤ◌, [], Some, IfOk, OnOk, OnErr, IsTrue, length, slice_get, vec_len, vec_capacity};
 ghost use Rattle.audit_types.specs.Limits.{most_rows};
 ghost use Rattle.audit_types.specs.Column.{Answer};
 ghost use Rattle.audit_types.specs.Extremes.{upper_bound, extremes, IsConsistent, IsLeastLone};
@@ -46,6 +46,25 @@ impl Model for Bounds {
     ghost invariant = { IsKept };
 }
 
+// Makes room for one answer more.
+fn make_room(
+    pairs: &mut Vec<AnsweredMax>,
+    counts: &mut Vec<u16>,
+    least: &mut Vec<AnsweredMax>,
+) -> Result<(), NoMemory>
+    ensures pairs { pairs.new.items ≡ pairs.old.items }
+    ensures counts { counts.new.items ≡ counts.old.items }
+    ensures least { least.new.items ≡ least.old.items }
+    ensures pairs_room { OnOk result (vec_len pairs.new < vec_capacity pairs.new) }
+    ensures counts_room { OnOk result (vec_len counts.new < vec_capacity counts.new) }
+    ensures least_room { OnOk result (vec_len least.new < vec_capacity least.new) }
+{
+    pairs.reserve(1)?;
+    counts.reserve(1)?;
+    least.reserve(1)?;
+    Ok(())
+}
+
 impl Bounds {
     /// No answers yet, over n rows.
     pub fn new(alloc: Global, n: u16) -> Result<Bounds, NoMemory>
@@ -82,9 +101,7 @@ impl Bounds {
     {
         // A set says of its n that no row is past it.
         let _ = rows.n();
-        self.pairs.reserve(1)?;
-        self.counts.reserve(1)?;
-        self.least.reserve(1)?;
+        make_room(&mut self.pairs, &mut self.counts, &mut self.least)?;
         let latest = AnsweredMax {
             rows: *rows,
             answer,

@@ -1,11 +1,12 @@
 -- The content of a list of entries, and the list over a divisor.
 use Rattle.std.proofs.Math.IntN.{*ℤ-zero}
-use Rattle.std.proofs.Common.{◌≡◌, ℕ, zero, suc, ◌+◌, ◌<◌, ◌≤◌, Bool, true, false, cond, nat_eq, ℤ, pos, List, [], ◌∷◌, length, map, take, get_or, set, refl, sym, ap, ◌∙◌, subst, arith, inl, inr}
+use Rattle.std.proofs.Common.{◌≡◌, ℕ, zero, suc, ◌+◌, ◌<◌, ◌≤◌, ◌^◌, Bool, true, false, cond, nat_eq, ℤ, pos, List, [], ◌∷◌, length, map, take, get_or, set, refl, sym, ap, ◌∙◌, subst, arith, inl, inr}
 use Rattle.std.specs.Prelude.{◌*ℤ◌, ◌<ℤ◌, unsigned_abs}
 use Rattle.std.specs.Int.{◌∣◌, IsGcd}
 use Rattle.std.specs.List.{AllByRecursion}
 use Rattle.std.proofs.lemmas.Int.{ints}
 use Rattle.std.proofs.lemmas.Bool.{cases_eq}
+use Rattle.std.proofs.lemmas.List.Elements.{All-from_recursion}
 use Rattle.std.proofs.lemmas.List.{same_lists, get_or_default, get_or-map, length-map, get_or-set_same, get_or-set_other, take_more, map-append}
 use Rattle.std.proofs.Math.Nat.{one-dvd}
 use Rattle.std.proofs.lemmas.Nat.Gcd.{dvd_refl}
@@ -24,6 +25,11 @@ values es = map (λ e. e.value) es
 -- the entry that stands for none
 abbrev pub none : FreeEntry
 none = record { place = 0; value = pos 0 }
+
+-- the value of entry k of a list of small ones
+pub value_small : (es : List FreeEntry) (k : ℕ) → k < length es → AllByRecursion (λ (e : FreeEntry). unsigned_abs e.value ≤ 2 ^ 56) es →
+    unsigned_abs (get_or es k none).value ≤ 2 ^ 56
+value_small es k l all = All-from_recursion (λ (e : FreeEntry). unsigned_abs e.value ≤ 2 ^ 56) es all k none l
 
 -- the content of one number is its size
 pub content_of_one : (head : ℤ) → IsContent (head ∷ []) (unsigned_abs head)

@@ -56,11 +56,7 @@ fn less(x: i128, times: i128, y: i128) -> i128
     requires y { unsigned_abs y ≤ 2 ^ 56 }
     ensures { result ≡ x -ℤ times *ℤ y }
 {
-    if times == 1 {
-        x - y
-    } else {
-        x - product(times, y)
-    }
+    x - product(times, y)
 }
 
 /// Takes a multiple of the listed entries from the row.

@@ -3,10 +3,9 @@ use Rattle.std.specs.Prelude.{FitsSigned, ◌*ℤ◌, ◌-ℤ◌, neg_ℤ, unsig
 use Rattle.std.specs.Int.{w128}
 use Rattle.std.specs.List.{AllByRecursion}
 use Rattle.std.proofs.lemmas.Int.{to_z-of_z}
-use Rattle.std.proofs.lemmas.List.Elements.{All-from_recursion}
 use Rattle.sum_basis.specs.declared.sparse.FreeEntry.{FreeEntry}
 use Rattle.sum_basis.specs.Sparse.{entry_at, IsListed}
-use Rattle.sum_basis.proofs.ListContents.{none}
+use Rattle.sum_basis.proofs.ListContents.{none, value_small}
 use Rattle.sum_basis.proofs.SparseRows.{stands_within}
 use Rattle.sum_basis.proofs.Sizes.{product_small}
 use Rattle.sum_basis.proofs.BoundedRows.{bounded_at}
@@ -22,11 +21,6 @@ loop-e-init c = record {
   most = omega arith;
   room = c.requires.room;
 }
-
--- the value of entry k
-value_small : (es : List FreeEntry) (k : ℕ) → k < length es → AllByRecursion (λ (e : FreeEntry). unsigned_abs e.value ≤ 2 ^ 56) es →
-    unsigned_abs (get_or es k none).value ≤ 2 ^ 56
-value_small es k l all = All-from_recursion (λ (e : FreeEntry). unsigned_abs e.value ≤ 2 ^ 56) es all k none l
 
 pub negative-number-requires : goal.negative-number-requires
 negative-number-requires c =
@@ -100,3 +94,27 @@ returns-clause-taken c = λ j.
 
 pub returns-clause-bounded : goal.returns-clause-bounded
 returns-clause-bounded c = all_bounded c.args.columns c.loop-e.bound c.loop-e.entries.items c.loop-e.invariant.listed c.loop-e.invariant.bounded
+
+pub product-requires-clause-x : goal.product-requires-clause-x
+product-requires-clause-x c = rw (to_z-of_z w128 c.args.times c.ranges.times) c.requires.times
+
+pub product-requires-clause-y : goal.product-requires-clause-y
+product-requires-clause-y c =
+    let value : FitsSigned w128 (get_or c.args.taken.now c.loop-e.e-index (record { place = 0; value = pos 0 })).value = search rules in
+    rw (to_z-of_z w128 (get_or c.args.taken.now c.loop-e.e-index none).value value)
+    (value_small c.args.taken.now c.loop-e.e-index c.loop-e-test.true c.requires.taken_small)
+
+pub add_at-after-requires-clause-listed : goal.add_at-after-requires-clause-listed
+add_at-after-requires-clause-listed c = c.loop-e.invariant.listed
+
+pub add_at-after-requires-clause-room : goal.add_at-after-requires-clause-room
+add_at-after-requires-clause-room c = c.loop-e.invariant.room
+
+pub returns-clause-listed : goal.returns-clause-listed
+returns-clause-listed c = c.loop-e.invariant.listed
+
+pub returns-clause-most : goal.returns-clause-most
+returns-clause-most c = c.loop-e.invariant.most
+
+pub returns-clause-room : goal.returns-clause-room
+returns-clause-room c = c.loop-e.invariant.room

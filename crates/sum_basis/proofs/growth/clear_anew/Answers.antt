@@ -16,3 +16,12 @@ returns-clause-kept c =
     (subst (λ (z : ℤ). unsigned_abs z ≤ c.bound_of-row.result) (ap (λ z. to_z w128 (of_z w128 z)) same ∙ same) c.bound_of-row.ensures.head)
     (c.deref.ensures.value ∙ made) c.bound_of-row.ensures.values same made
     (let cap = ap vec_capacity c.swap.ensures.x_after in let kept = c.clear_into-row.ensures.capacity in let cleared = c.clear.ensures.capacity in let room = c.requires.room in omega arith)
+
+pub clear_into-row-requires-clause-room : goal.clear_into-row-requires-clause-room
+clear_into-row-requires-clause-room c = let same = c.clear.ensures.capacity in let room = c.requires.room in omega arith
+
+pub clear_into-row-requires-clause-times : goal.clear_into-row-requires-clause-times
+clear_into-row-requires-clause-times c = to_z-of_z w128 c.args.times c.ranges.times ∙ c.requires.times
+
+pub clear_into-row-requires-clause-some : goal.clear_into-row-requires-clause-some
+clear_into-row-requires-clause-some c = rw (to_z-of_z w128 c.args.times c.ranges.times) c.requires.some

@@ -6,10 +6,28 @@ use Rattle.std.proofs.lemmas.Int.{to_z-of_z}
 use Rattle.std.specs.List.{AllByRecursion}
 use Rattle.sum_basis.specs.declared.sparse.FreeEntry.{FreeEntry}
 use Rattle.sum_basis.specs.declared.sparse.SparseRow.{SparseRow}
-use Rattle.sum_basis.specs.Sparse.{row_of, rows_of, IsKept}
-use Rattle.sum_basis.specs.Elimination.{AreCleared}
+use Rattle.sum_basis.specs.Sparse.{row_of, rows_of, IsKept, IsNew}
+use Rattle.sum_basis.specs.Elimination.{AreCleared, IsZeroAtPivots}
 use Rattle.sum_basis.proofs.Inserting.{all_inserted, without_first, kept_new, inserted_is_reduced}
 use Rattle.sum_basis.proofs.growth.grow_rows.Goals as goal
+
+pub clear_all-requires-clause-new : goal.clear_all-requires-clause-new
+clear_all-requires-clause-new c = subst (IsNew c.args.columns) (sym c.deref.ensures.value) c.requires.new
+
+pub clear_all-requires-clause-zero : goal.clear_all-requires-clause-zero
+clear_all-requires-clause-zero c =
+    subst (λ (l : List FreeEntry). IsZeroAtPivots (rows_of c.args.columns c.args.rows.now.items) (row_of c.args.columns l))
+    (sym c.deref.ensures.value) c.requires.zero
+
+pub remove-first-requires : goal.remove-first-requires
+remove-first-requires c = let some = c.requires.new.some in let len = c.args.new.ok.0 in omega arith
+
+pub insert-requires : goal.insert-requires
+insert-requires c =
+    let within = c.place_of-place.ensures.within in
+    let same = ap length c.deref-2.ensures.value in
+    let len = c.clear_all.new.rows.ok.0 in
+    omega arith
 
 pub unwrap-requires : goal.unwrap-requires
 unwrap-requires c =

@@ -140,3 +140,7 @@ returns-else-fixing-clause-foresees c =
       looked_grows form new c.requires.form c.requires.new.primitive c.requires.zero c.loop-row.row-index (to_z w128 c.loop-row.common-bits) c.loop-row.fixing past l c.requires.new.small,
       looked_open form new c.requires.form c.requires.new.primitive c.requires.zero c.loop-row.row-index (to_z w128 c.loop-row.common-bits) c.loop-row.fixing past l c.requires.new.small (λ t. true≢false (sym t ∙ c.if-fixing.false)),
     )
+
+pub clear_aside-requires-clause-kept : goal.clear_aside-requires-clause-kept
+clear_aside-requires-clause-kept c =
+    of_row (IsKept c.args.columns) c.args.rows.now c.loop-row.row-index c.row-item.result c.loop-row-test.true c.row-item.is c.requires.kept

@@ -119,3 +119,7 @@ returns-else-fixing-clause-foresees c =
       looked_grows form new c.requires.form c.requires.new.primitive c.requires.zero c.loop-row.row-index l.0 c.loop-row.fixing past l.1 c.requires.new.small,
       looked_open form new c.requires.form c.requires.new.primitive c.requires.zero c.loop-row.row-index l.0 c.loop-row.fixing past l.1 c.requires.new.small (λ t. true≢false (sym t ∙ c.if-fixing.false)),
     )
+
+pub look_at-requires-clause-kept : goal.look_at-requires-clause-kept
+look_at-requires-clause-kept c =
+    of_row (IsKept c.args.columns) c.args.rows.now c.loop-row.row-index c.row-item.result c.loop-row-test.true c.row-item.is c.requires.kept

@@ -22,6 +22,44 @@ value_at-times-requires c =
     rw c.deref.ensures.value
     (listed_to 0 c.args.columns 65536 c.args.row.now.free.items (omega arith) (listed_from (c.args.row.now.pivot + 1) 0 c.args.columns c.args.row.now.free.items (omega arith) c.requires.kept.listed.3))
 
+pub bounds-new-0 : goal.bounds-new-0
+bounds-new-0 c = c.requires.new.some
+
+pub are_parallel-requires-clause-by : goal.are_parallel-requires-clause-by
+are_parallel-requires-clause-by c =
+    let fits : FitsSigned w128 (get_or c.args.new.now 0 (record { place = 0; value = pos 0 })).value = search rules in
+    first_small c.args.columns c.args.new.now _ c.requires.new (to_z-of_z w128 (get_or c.args.new.now 0 none).value fits)
+
+pub returns-then-is_surely_small-clause-room : goal.returns-then-is_surely_small-clause-room
+returns-then-is_surely_small-clause-room c = c.requires.room
+
+pub returns-then-times-eq0-clause-room : goal.returns-then-times-eq0-clause-room
+returns-then-times-eq0-clause-room c = c.requires.room
+
+pub clear_aside-requires-clause-room : goal.clear_aside-requires-clause-room
+clear_aside-requires-clause-room c = c.requires.room
+
+pub clear_aside-requires-clause-kept : goal.clear_aside-requires-clause-kept
+clear_aside-requires-clause-kept c = c.requires.kept
+
+pub clear_aside-requires-clause-primitive : goal.clear_aside-requires-clause-primitive
+clear_aside-requires-clause-primitive c = c.requires.primitive
+
+pub clear_aside-requires-clause-small : goal.clear_aside-requires-clause-small
+clear_aside-requires-clause-small c = c.requires.small
+
+pub clear_aside-requires-clause-new : goal.clear_aside-requires-clause-new
+clear_aside-requires-clause-new c = c.requires.new
+
+pub clear_aside-requires-clause-zero : goal.clear_aside-requires-clause-zero
+clear_aside-requires-clause-zero c = c.requires.zero
+
+pub returns-in_err-cleared-clause-room : goal.returns-in_err-cleared-clause-room
+returns-in_err-cleared-clause-room c = c.in_err-cleared.ensures.room
+
+pub returns-clause-room : goal.returns-clause-room
+returns-clause-room c = c.in_ok-cleared.ensures.room
+
 -- and so is the row's entry at its place
 times_small : (n : ℕ) (r : SparseRow) (place : ℕ) (list : List FreeEntry) (found times : ℤ) → IsKept n r → IsSmall (row_of n (entries_of r)) →
     list ≡ r.free.items → found ≡ entry_at list place → times ≡ found → unsigned_abs times ≤ 2 ^ 56

@@ -1,9 +1,12 @@
-use Rattle.std.proofs.Common.{◌≡◌, ◌≢◌, ◌≤◌, ◌^◌, ℤ, pos, ◌++◌, length, map, drop, get_or, sym, ap, ◌∙◌, arith, rules, inl, inr, ◌⊎◌}
+use Rattle.std.proofs.Common.{◌≡◌, ◌≢◌, ℕ, zero, suc, ◌-◌, ◌≤◌, ◌^◌, ℤ, pos, List, [], ◌∷◌, ◌++◌, length, map, take, drop, get_or, sym, ap, ◌∙◌, arith, rules, inl, inr, ◌⊎◌}
 use Rattle.std.specs.Prelude.{FitsSigned, ◌-ℤ◌, ◌*ℤ◌, neg_ℤ, unsigned_abs}
 use Rattle.std.specs.Int.{w128}
+use Rattle.std.specs.List.{AllByRecursion}
 use mir.Val.{to_z, of_z}
 use Rattle.std.proofs.lemmas.Int.{ints, to_z-of_z, fits_signed_from_abs}
+use Rattle.sum_basis.specs.declared.sparse.FreeEntry.{FreeEntry}
 use Rattle.sum_basis.specs.Sparse.{entry_at, scaled}
+use Rattle.sum_basis.proofs.ListContents.{none, value_small}
 use Rattle.sum_basis.proofs.Merges.{out_room, first_merged, second_merged, both_merged, whole_listed, whole_is, part_length, whole_length, end_is, appended}
 use Rattle.sum_basis.proofs.merging.combine_into.Goals.{then-loop-i-test+else-j-second, else-loop-i-test}
 use Rattle.sum_basis.proofs.merging.combine_into.Goals as goal
@@ -23,14 +26,85 @@ of_values by x times y p q = ap (λ z. z -ℤ times *ℤ to_z w128 (of_z w128 y)
 some_by : (z : ℤ) → FitsSigned w128 z → z ≢ pos 0 → to_z w128 (of_z w128 z) ≢ pos 0
 some_by z fits n e = n (sym (to_z-of_z w128 z fits) ∙ e)
 
+-- no number within the limit passes the least number when its sign is turned
+negated : (z : ℤ) → unsigned_abs z ≤ 2 ^ 56 → FitsSigned w128 (pos 0 -ℤ z)
+negated z h = fits_signed_from_abs w128 (pos 0 -ℤ z) (omega (arith, ints))
+
 minus_is : (z : ℤ) → FitsSigned w128 z → unsigned_abs z ≤ 2 ^ 56 → to_z w128 (of_z w128 (pos 0 -ℤ to_z w128 (of_z w128 z))) ≡ neg_ℤ (to_z w128 (of_z w128 z))
 minus_is z fits small = rw (to_z-of_z w128 z fits) (to_z-of_z w128 (pos 0 -ℤ z) (negated z small) ∙ minus z)
   where
-    negated : (x : ℤ) → unsigned_abs x ≤ 2 ^ 56 → FitsSigned w128 (pos 0 -ℤ x)
-    negated x h = fits_signed_from_abs w128 (pos 0 -ℤ x) (omega (arith, ints))
-
     minus : (x : ℤ) → pos 0 -ℤ x ≡ neg_ℤ x
     minus x = omega (arith, ints)
+
+minus_small : (z : ℤ) → FitsSigned w128 z → unsigned_abs z ≤ 2 ^ 56 → unsigned_abs (to_z w128 (of_z w128 (pos 0 -ℤ to_z w128 (of_z w128 z)))) ≤ 2 ^ 56
+minus_small z fits small = rw (minus_is z fits small, to_z-of_z w128 z fits) (turned z small)
+  where
+    turned : (x : ℤ) → unsigned_abs x ≤ 2 ^ 56 → unsigned_abs (neg_ℤ x) ≤ 2 ^ 56
+    turned x h = omega (arith, ints)
+
+-- the end of a list of small values
+end_small : (es : List FreeEntry) (k : ℕ) → AllByRecursion (λ (e : FreeEntry). unsigned_abs e.value ≤ 2 ^ 56) es →
+    AllByRecursion (λ (e : FreeEntry). unsigned_abs e.value ≤ 2 ^ 56) (take (length es - k) (drop k es))
+end_small es k all = rw (end_is es k) (later es k all)
+  where
+    later : (xs : List FreeEntry) (i : ℕ) → AllByRecursion (λ (e : FreeEntry). unsigned_abs e.value ≤ 2 ^ 56) xs →
+        AllByRecursion (λ (e : FreeEntry). unsigned_abs e.value ≤ 2 ^ 56) (drop i xs)
+    later xs zero h = h
+    later [] (suc i) h = h
+    later (x ∷ xs) (suc i) h = later xs i h.1
+
+pub product-requires-clause-x : goal.product-requires-clause-x
+product-requires-clause-x c = rw (to_z-of_z w128 c.args.by c.ranges.by) c.requires.by
+
+pub product-requires-clause-y : goal.product-requires-clause-y
+product-requires-clause-y c =
+    let x : FitsSigned w128 (get_or c.args.first.now c.loop-i.i none).value = search rules in
+    rw (to_z-of_z w128 (get_or c.args.first.now c.loop-i.i none).value x) (value_small c.args.first.now c.loop-i.i c.loop-i-test.true c.requires.first_small)
+
+pub overflow_sub-times : goal.overflow_sub-times
+overflow_sub-times c = rw (to_z-of_z w128 c.args.times c.ranges.times) (negated c.args.times c.requires.times)
+
+pub product-requires-then-other-one-clause-x : goal.product-requires-then-other-one-clause-x
+product-requires-then-other-one-clause-x c = minus_small c.args.times c.ranges.times c.requires.times
+
+pub product-requires-then-other-one-clause-y : goal.product-requires-then-other-one-clause-y
+product-requires-then-other-one-clause-y c =
+    let y : FitsSigned w128 (get_or c.args.second.now c.loop-i.j none).value = search rules in
+    rw (to_z-of_z w128 (get_or c.args.second.now c.loop-i.j none).value y) (value_small c.args.second.now c.loop-i.j c.if-j-second.true c.requires.second_small)
+
+pub difference-requires-clause-by : goal.difference-requires-clause-by
+difference-requires-clause-by c = rw (to_z-of_z w128 c.args.by c.ranges.by) c.requires.by
+
+pub difference-requires-clause-x : goal.difference-requires-clause-x
+difference-requires-clause-x c =
+    let x : FitsSigned w128 (get_or c.args.first.now c.loop-i.i none).value = search rules in
+    rw (to_z-of_z w128 (get_or c.args.first.now c.loop-i.i none).value x) (value_small c.args.first.now c.loop-i.i c.loop-i-test.true c.requires.first_small)
+
+pub difference-requires-clause-times : goal.difference-requires-clause-times
+difference-requires-clause-times c = rw (to_z-of_z w128 c.args.times c.ranges.times) c.requires.times
+
+pub difference-requires-clause-y : goal.difference-requires-clause-y
+difference-requires-clause-y c =
+    let y : FitsSigned w128 (get_or c.args.second.now c.loop-i.j none).value = search rules in
+    rw (to_z-of_z w128 (get_or c.args.second.now c.loop-i.j none).value y) (value_small c.args.second.now c.loop-i.j c.if-j-second.true c.requires.second_small)
+
+pub append-requires-clause-by : goal.append-requires-clause-by
+append-requires-clause-by c = rw (to_z-of_z w128 c.args.by c.ranges.by) c.requires.by
+
+pub append-requires-clause-small : goal.append-requires-clause-small
+append-requires-clause-small c = end_small c.args.first.now c.loop-i.i c.requires.first_small
+
+pub overflow_sub-times-2 : goal.overflow_sub-times-2
+overflow_sub-times-2 c = rw (to_z-of_z w128 c.args.times c.ranges.times) (negated c.args.times c.requires.times)
+
+pub append-requires-2-clause-by : goal.append-requires-2-clause-by
+append-requires-2-clause-by c = minus_small c.args.times c.ranges.times c.requires.times
+
+pub append-requires-2-clause-small : goal.append-requires-2-clause-small
+append-requires-2-clause-small c = end_small c.args.second.now c.loop-i.j c.requires.second_small
+
+pub returns-clause-capacity : goal.returns-clause-capacity
+returns-clause-capacity c = c.append-2.ensures.capacity ∙ c.append.ensures.capacity ∙ c.loop-i.invariant.capacity
 
 pub put-requires : goal.put-requires
 put-requires c =

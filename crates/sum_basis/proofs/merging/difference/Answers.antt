@@ -5,6 +5,26 @@ use Rattle.std.proofs.lemmas.Int.{to_z-of_z}
 use Rattle.sum_basis.proofs.Wide.{product_of, difference_fits}
 use Rattle.sum_basis.proofs.merging.difference.Goals as goal
 
+pub product-requires-clause-x : goal.product-requires-clause-x
+product-requires-clause-x c = rw (to_z-of_z w128 c.args.by c.ranges.by) c.requires.by
+
+pub product-requires-clause-y : goal.product-requires-clause-y
+product-requires-clause-y c = rw (to_z-of_z w128 c.args.x c.ranges.x) c.requires.x
+
+pub product-requires-2-clause-x : goal.product-requires-2-clause-x
+product-requires-2-clause-x c = rw (to_z-of_z w128 c.args.times c.ranges.times) c.requires.times
+
+pub product-requires-2-clause-y : goal.product-requires-2-clause-y
+product-requires-2-clause-y c = rw (to_z-of_z w128 c.args.y c.ranges.y) c.requires.y
+
+pub overflow_sub-result : goal.overflow_sub-result
+overflow_sub-result c =
+    let p : FitsSigned w128 c.product.result = search rules in
+    let q : FitsSigned w128 c.product-2.result = search rules in
+    let first = product_of c.product.result c.args.by c.args.x p c.ranges.by c.ranges.x c.product.ensures.exact in
+    let second = product_of c.product-2.result c.args.times c.args.y q c.ranges.times c.ranges.y c.product-2.ensures.exact in
+    rw (first, second) (difference_fits c.args.by c.args.x c.args.times c.args.y c.requires.by c.requires.x c.requires.times c.requires.y)
+
 pub returns : goal.returns
 returns c =
     let p : FitsSigned w128 c.product.result = search rules in

@@ -1,5 +1,7 @@
-use Rattle.std.proofs.Common.{◌≡◌, Bool, false, ℤ, map, length, refl, sym, ap, ◌∙◌, arith, rules, IsTrue}
+use Rattle.std.proofs.Common.{◌≡◌, ℕ, ◌<◌, ◌≤◌, ◌^◌, Bool, false, ℤ, List, map, length, get_or, refl, sym, ap, ◌∙◌, subst, arith, rules, IsTrue}
+use Rattle.std.specs.Prelude.{unsigned_abs}
 use Rattle.std.specs.Int.{w128}
+use Rattle.std.specs.List.{AllByRecursion}
 use Rattle.std.proofs.lemmas.Int.{to_z-of_z}
 use Rattle.std.proofs.lemmas.Bool.{true≢false}
 use Rattle.std.proofs.lemmas.List.{length_push}
@@ -7,7 +9,7 @@ use Rattle.std.proofs.lemmas.Slice.Zip.{zip_turn, zip_end}
 use Rattle.sum_basis.specs.declared.sparse.FreeEntry.{FreeEntry}
 use Rattle.sum_basis.specs.Sparse.{scaled}
 use Rattle.sum_basis.proofs.Parallels.{one_more_alike, alike_at, same_length, all_alike}
-use Rattle.sum_basis.proofs.ListContents.{none}
+use Rattle.sum_basis.proofs.ListContents.{none, value_small}
 use Rattle.sum_basis.proofs.parallel.are_parallel.Goals as goal
 
 -- entries are alike by numbers that are the same
@@ -44,3 +46,25 @@ returns c =
     let times = to_z-of_z w128 c.args.times c.ranges.times in
     let whole = all_alike _ _ c.args.first.now c.args.second.now (length c.loop-one.yielded) (omega arith) (omega arith) c.loop-one.invariant in
     (λ yes. ap (λ z. map (scaled z) c.args.first.now) (sym by) ∙ whole ∙ ap (λ z. map (scaled z) c.args.second.now) times, λ same. refl)
+
+pub are_alike-requires-clause-by : goal.are_alike-requires-clause-by
+are_alike-requires-clause-by c = rw (to_z-of_z w128 c.args.by c.ranges.by) c.requires.by
+
+pub are_alike-requires-clause-times : goal.are_alike-requires-clause-times
+are_alike-requires-clause-times c = rw (to_z-of_z w128 c.args.times c.ranges.times) c.requires.times
+
+-- a value that was reached
+value_at : (es : List FreeEntry) (k : ℕ) (e : FreeEntry) → k < length es → e ≡ get_or es k none →
+    AllByRecursion (λ (x : FreeEntry). unsigned_abs x.value ≤ 2 ^ 56) es
+    → unsigned_abs e.value ≤ 2 ^ 56
+value_at es k e l is all = subst (λ (x : FreeEntry). unsigned_abs x.value ≤ 2 ^ 56) (sym is) (value_small es k l all)
+
+pub are_alike-requires-clause-first : goal.are_alike-requires-clause-first
+are_alike-requires-clause-first c =
+    let t = zip_turn c.args.first.now c.args.second.now c.loop-one.yielded c.into_iter-one-iterator.result c.loop-one.one-iterator c.next.new.self c.next.result (search rules) (search rules) c.loop-one.yielded_by (c.in-Some.one, c.in-Some.other) c.in-Some.is c.next.ensures.steps in
+    value_at c.args.first.now (length c.loop-one.yielded) c.in-Some.one.now t.0 (t.2 none) c.requires.first
+
+pub are_alike-requires-clause-second : goal.are_alike-requires-clause-second
+are_alike-requires-clause-second c =
+    let t = zip_turn c.args.first.now c.args.second.now c.loop-one.yielded c.into_iter-one-iterator.result c.loop-one.one-iterator c.next.new.self c.next.result (search rules) (search rules) c.loop-one.yielded_by (c.in-Some.one, c.in-Some.other) c.in-Some.is c.next.ensures.steps in
+    value_at c.args.second.now (length c.loop-one.yielded) c.in-Some.other.now t.1 (t.3 none) c.requires.second

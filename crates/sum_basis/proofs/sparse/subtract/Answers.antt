@@ -4,6 +4,7 @@ use Rattle.std.specs.Int.{w128}
 use mir.Val.{to_z, of_z}
 use Rattle.std.proofs.lemmas.Int.{to_z-of_z}
 use Rattle.sum_basis.proofs.SparseRows.{IsPartlyTaken, stands_within, not_yet_taken, one_entry_taken, all_entries_taken}
+use Rattle.sum_basis.proofs.ListContents.{none, value_small}
 use Rattle.sum_basis.proofs.sparse.subtract.Goals as goal
 
 pub slice_copy_out-before : goal.slice_copy_out-before
@@ -40,3 +41,12 @@ pub returns : goal.returns
 returns c =
     all_entries_taken c.args.row.now c.loop-e.row c.args.times c.args.entries.now c.loop-e.e-index c.loop-e.auto.row c.requires.listed (omega arith)
     (subst (λ (t : ℤ). IsPartlyTaken c.args.row.now c.loop-e.row t c.args.entries.now c.loop-e.e-index) (to_z-of_z w128 c.args.times c.ranges.times) c.loop-e.invariant)
+
+pub less-requires-clause-times : goal.less-requires-clause-times
+less-requires-clause-times c = rw (to_z-of_z w128 c.args.times c.ranges.times) c.requires.times
+
+pub less-requires-clause-y : goal.less-requires-clause-y
+less-requires-clause-y c =
+    let value : FitsSigned w128 (get_or c.args.entries.now c.loop-e.e-index (record { place = 0; value = pos 0 })).value = search rules in
+    rw (to_z-of_z w128 (get_or c.args.entries.now c.loop-e.e-index none).value value)
+    (value_small c.args.entries.now c.loop-e.e-index c.loop-e-test.true c.requires.small)

@@ -1,9 +1,11 @@
-use Rattle.std.proofs.Common.{◌≡◌, ◌≤◌, ◌+◌, ◌^◌, refl, ℤ, pos, get_or, length, sym, subst, ap, ◌∙◌, arith, rules, length-set}
-use Rattle.std.specs.Prelude.{FitsSigned, unsigned_abs, ◌*ℤ◌}
+use Rattle.std.proofs.Common.{◌≡◌, ◌≢◌, ℕ, ◌<◌, ◌≤◌, ◌+◌, ◌^◌, refl, inl, inr, ℤ, pos, List, get_or, set, length, sym, subst, ap, ◌∙◌, arith, rules, length-set}
+use Rattle.std.specs.Prelude.{FitsSigned, unsigned_abs, ◌*ℤ◌, ◌<ℤ◌}
 use Rattle.std.specs.Int.{w128}
 use Rattle.std.specs.List.{AllByRecursion}
 use mir.Val.{to_z, of_z}
-use Rattle.std.proofs.lemmas.Int.{to_z-of_z}
+use Rattle.std.proofs.lemmas.Int.{ints, to_z-of_z}
+use Rattle.std.proofs.lemmas.Bool.{cases_eq}
+use Rattle.std.proofs.lemmas.List.{get_or-set_same, get_or-set_other}
 use Rattle.int_rows.specs.PrimitiveLaws.{zero_from_bits}
 use Rattle.audit_types.specs.Truth.{number_at}
 use Rattle.sum_basis.specs.declared.sparse.FreeEntry.{FreeEntry}
@@ -50,3 +52,28 @@ returns-else-multiple-ne0 c =
     let multiple : FitsSigned w128 (get_or c.args.row.now c.args.other.now.pivot (pos 0)) = search rules in
     nothing_to_take (length c.args.row.now) c.args.other.now c.args.row.now c.requires.other
     (zero_from_bits (get_or c.args.row.now c.args.other.now.pivot (pos 0)) multiple c.if-multiple-ne0.false)
+
+-- a positive number isn't 0
+some : (h : ℤ) → pos 0 <ℤ h → h ≢ pos 0
+some h positive e = omega (arith, ints)
+
+pub quotient-times-requires-clause-not_zero : goal.quotient-times-requires-clause-not_zero
+quotient-times-requires-clause-not_zero c =
+    let head : FitsSigned w128 c.args.other.now.head = search rules in
+    rw (to_z-of_z w128 c.args.other.now.head head) (some c.args.other.now.head c.requires.other.leading)
+
+pub quotient-times-requires-clause-size : goal.quotient-times-requires-clause-size
+quotient-times-requires-clause-size c =
+    let multiple : FitsSigned w128 (get_or c.args.row.now c.args.other.now.pivot (pos 0)) = search rules in
+    rw (to_z-of_z w128 (get_or c.args.row.now c.args.other.now.pivot (pos 0)) multiple) (let small = c.requires.at_pivot in omega arith)
+
+-- the row with 0 at a place is as small
+still_small : (row : List ℤ) (k j : ℕ) → k < length row → ((i : ℕ) → unsigned_abs (number_at row i) + 2 ^ 112 < 2 ^ 125)
+    → unsigned_abs (number_at (set row k (pos 0)) j) + 2 ^ 112 < 2 ^ 125
+still_small row k j within small = elim (cases_eq j k) [
+  | inl e ↦ rw (e, get_or-set_same row k (pos 0) (pos 0) within) (omega arith)
+  | inr other ↦ rw (get_or-set_other row k j (pos 0) (pos 0) other) (small j)
+]
+
+pub subtract-requires-clause-row : goal.subtract-requires-clause-row
+subtract-requires-clause-row c = λ j. still_small c.args.row.now c.args.other.now.pivot j c.requires.other.listed.1 c.requires.row

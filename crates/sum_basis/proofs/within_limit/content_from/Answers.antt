@@ -1,4 +1,4 @@
-use Rattle.std.proofs.Common.{ℕ, ◌∷◌, ◌≤◌, ℤ, pos, List, get_or, take, sym, ap, ◌∙◌, subst, rules, arith, inl, inr}
+use Rattle.std.proofs.Common.{ℕ, ◌∷◌, ◌≤◌, ◌^◌, ℤ, pos, List, length, get_or, take, take_all, refl, sym, ap, ◌∙◌, subst, rules, arith, inl, inr}
 use Rattle.std.specs.Prelude.{FitsSigned, unsigned_abs}
 use Rattle.std.specs.Int.{w128, IsGcd}
 use mir.Val.{to_z, of_z}
@@ -6,9 +6,10 @@ use Rattle.std.proofs.lemmas.Int.{to_z-of_z}
 use Rattle.std.proofs.lemmas.Bool.{cases_lt, true≢false}
 use Rattle.audit_types.specs.Form.{IsContent}
 use Rattle.audit_types.specs.Numbers.{size_positive}
+use Rattle.audit_types.specs.ListLaws.{all-get_or}
 use Rattle.std.proofs.Math.Nat.{pos_of_dvd_of_pos}
 use Rattle.sum_basis.specs.declared.sparse.FreeEntry.{FreeEntry}
-use Rattle.sum_basis.proofs.ListContents.{values, content_of_one, one_more_value, stays_one}
+use Rattle.sum_basis.proofs.ListContents.{values, none, content_of_one, one_more_value, stays_one}
 use Rattle.sum_basis.proofs.WithinLimit.{has_content}
 use Rattle.sum_basis.proofs.within_limit.content_from.Goals as goal
 
@@ -50,3 +51,30 @@ returns-then-is_one c =
       | inr enough ↦ omega arith
     ] in
     record { content = (1, stays_one c.args.head c.args.entries.now c.loop-e.e-index (subst (IsContent (c.args.head ∷ values (take c.loop-e.e-index c.args.entries.now))) one content), omega arith, (one, enough)) }
+
+pub new-divisor-requires : goal.new-divisor-requires
+new-divisor-requires c = rw (to_z-of_z w128 c.args.head c.ranges.head) c.requires.head.1
+
+pub with-divisor-requires : goal.with-divisor-requires
+with-divisor-requires c =
+    let value : FitsSigned w128 (get_or c.args.entries.now c.loop-e.e-index (record { place = 0; value = pos 0 })).value = search rules in
+    rw (to_z-of_z w128 (get_or c.args.entries.now c.loop-e.e-index (record { place = 0; value = pos 0 })).value value)
+    (all-get_or (λ (e : FreeEntry). unsigned_abs e.value ≤ 2 ^ 126) c.args.entries.now c.loop-e.e-index none c.requires.entries c.loop-e-test.true)
+
+-- what all values have in common
+of_all : (head : ℤ) (es : List FreeEntry) (k g : ℕ) → FitsSigned w128 head → length es ≤ k → IsContent (to_z w128 (of_z w128 head) ∷ values (take k es)) g →
+    IsContent (head ∷ values es) g
+of_all head es k g fits past content = subst (λ l. IsContent (head ∷ values l) g) (take_all k es past) (so_far head es k g fits content)
+
+pub returns-then-is_below-2 : goal.returns-then-is_below-2
+returns-then-is_below-2 c =
+    let below = c.is_below-2.ensures.0 c.if-is_below-2.true in
+    record { content = (c.loop-e.divisor, of_all c.args.head c.args.entries.now c.loop-e.e-index c.loop-e.divisor c.ranges.head c.loop-e-test.false c.loop-e.invariant.content, c.loop-e.invariant.positive, below) }
+
+pub returns : goal.returns
+returns c =
+    let enough : c.args.least ≤ c.loop-e.divisor = elim (cases_lt c.loop-e.divisor c.args.least) [
+      | inl below ↦ absurd (true≢false (sym (c.is_below-2.ensures.1 below) ∙ c.if-is_below-2.false))
+      | inr enough ↦ enough
+    ] in
+    record { content = (c.loop-e.divisor, of_all c.args.head c.args.entries.now c.loop-e.e-index c.loop-e.divisor c.ranges.head c.loop-e-test.false c.loop-e.invariant.content, c.loop-e.invariant.positive, (refl, enough)) }

@@ -1,4 +1,4 @@
-use Rattle.std.proofs.Common.{◌≡◌, ◌≤◌, ◌++◌, ◌∷◌, [], List, Some, arith, sym, ap, ◌∙◌, subst, length, map, cond, min, to_z, of_z}
+use Rattle.std.proofs.Common.{ℕ, Vec, Global, ◌≡◌, ◌≤◌, ◌++◌, ◌∷◌, [], List, Some, arith, sym, ap, ◌∙◌, subst, length, map, cond, min, to_z, of_z}
 use Rattle.std.specs.Int.{w64}
 use Rattle.std.specs.List.{AllByRecursion}
 use Rattle.std.proofs.Math.Path.{fun_ext}
@@ -10,7 +10,9 @@ use Rattle.audit_types.specs.Column.{Answer}
 use Rattle.audit_types.specs.Extremes.{upper_bound, extremes}
 use Rattle.max_bounds.specs.Maxima.{Maxima, answer_of, answers_of, and_answer}
 use Rattle.max_bounds.specs.Reaching.{bound_at}
-use Rattle.max_bounds.specs.Kept.{is_at_least, rows_at_least, fewest_of, AreLeast, IsHigh, TellsExtremes}
+use Rattle.max_bounds.specs.Kept.{is_at_least, rows_at_least, rows_above, fewest_of, AreLeast, Descend, IsHigh, TellsExtremes, IsKept}
+use Rattle.max_bounds.specs.declared.answered.AnsweredMax.{AnsweredMax}
+use Rattle.max_bounds.specs.declared.bounds.Bounds.TheInside.{Inside}
 use Rattle.audit_types.specs.ListLaws.{all-push}
 use Rattle.max_bounds.proofs.FallingCounts.{fewest_of-push}
 use Rattle.max_bounds.proofs.HighRows.{all_stay, least_low}
@@ -24,7 +26,7 @@ insert-requires-clause-own c =
     let rows = c.args.rows.now.list in
     let x = to_z w64 (of_z w64 c.args.answer) in
     let bounds : bound_at c.deref-2.result.now ≡ upper_bound answers = ap bound_at c.deref-2.ensures.value ∙ fun_ext c.self.invariant.bounds in
-    let before : answers ≡ answers_of c.deref-5.result.now = sym (ap answers_of (c.deref-5.ensures.value ∙ c.in_ok-reserve.ensures.items)) in
+    let before : answers ≡ answers_of c.deref-5.result.now = sym (ap answers_of (c.deref-5.ensures.value ∙ c.in_ok-make_room.ensures.pairs)) in
     c.reach_high-affected.ensures.extremes ∙ ap (λ u. rows_at_least u x rows) bounds ∙ next_extremes answers rows x
     ∙ ap (λ a. extremes (and_answer a rows x) (record { rows = rows; value = x })) before
 
@@ -65,17 +67,18 @@ invariant_of-self-2 c =
     let last : Answer = record { rows = rows; value = x } in
     let more : List Answer = and_answer answers rows x in
     let same_n : c.args.rows.now.n ≡ c.self.inside.n = c.requires.same_n ∙ sym (ap (λ (m : Maxima). m.n) c.self.view_is) in
-    let pairs_are = c.push_reserved-2.ensures.items ∙ ap (λ l. l ++ record { rows = c.args.rows.now; answer = x } ∷ []) c.in_ok-reserve.ensures.items in
+    let pairs_are = c.push_reserved-2.ensures.items ∙ ap (λ l. l ++ record { rows = c.args.rows.now; answer = x } ∷ []) c.in_ok-make_room.ensures.pairs in
     let answers_are : answers_of c.push_reserved-2.new.self.items ≡ more = ap answers_of pairs_are ∙ map-append answer_of c.self.inside.pairs.items _ in
     let bounds : bound_at c.deref-2.result.now ≡ upper_bound answers = ap bound_at c.deref-2.ensures.value ∙ fun_ext c.self.invariant.bounds in
     let reached : c.reach_high-affected.result.extremes.list ≡ rows_at_least (upper_bound answers) x rows = c.reach_high-affected.ensures.extremes ∙ ap (λ u. rows_at_least u x rows) bounds in
     let own : c.reach_high-affected.result.extremes.list ≡ extremes more last = reached ∙ next_extremes answers rows x in
     let fallen : TellsExtremes (extremes more) answers c.fall-fewest.new.counts c.fall-fewest.result (answers_of c.fall-fewest.new.least) =
-    subst (λ l. TellsExtremes (extremes (and_answer (answers_of l) rows x)) (answers_of l) c.fall-fewest.new.counts c.fall-fewest.result (answers_of c.fall-fewest.new.least)) (c.deref-3.ensures.value ∙ c.in_ok-reserve.ensures.items) c.fall-fewest.ensures.tells in
+    subst (λ l. TellsExtremes (extremes (and_answer (answers_of l) rows x)) (answers_of l) c.fall-fewest.new.counts c.fall-fewest.result (answers_of c.fall-fewest.new.least)) (c.deref-3.ensures.value ∙ c.in_ok-make_room.ensures.pairs) c.fall-fewest.ensures.tells in
     let count : c.len-count.result ≡ length (extremes more last) = c.len-count.ensures ∙ ap length own in
     let counts_are : c.push_reserved.new.self.items ≡ c.fall-fewest.new.counts ++ c.len-count.result ∷ [] =
     c.push_reserved.ensures.items
-    ∙ ap (λ l. l ++ c.len-count.result ∷ []) (with_items_is c.reserve-2.new.self c.fall-fewest.new.counts (c.fall-fewest.auto.counts ∙ c.deref_mut.ensures.len)) in
+    ∙ ap (λ l. l ++ c.len-count.result ∷ [])
+    (with_items_is c.make_room.new.counts c.fall-fewest.new.counts (c.fall-fewest.auto.counts ∙ c.deref_mut.ensures.len)) in
     let upper_is : (with_items c.self.inside.upper c.settle.new.upper).items ≡ c.settle.new.upper = with_items_is c.self.inside.upper c.settle.new.upper (c.settle.auto.upper ∙ c.deref_mut-3.ensures.len) in
     let small : c.len-count.result ≤ 65535 = omega (arith, c.len-count.type_inv) in
     record {
@@ -100,7 +103,8 @@ invariant_of-self-2 c =
         fewest_is = c.min-self-inside.ensures ∙ ap (λ f. min f c.len-count.result) fallen.fewest_is
             ∙ sym (ap fewest_of counts_are ∙ fewest_of-push c.fall-fewest.new.counts c.len-count.result small);
         are_least =
-            subst (λ l. AreLeast (extremes (and_answer (answers_of l) rows x)) (and_answer (answers_of l) rows x) (answers_of c.insert.new.least.items)) (c.deref-5.ensures.value ∙ c.in_ok-reserve.ensures.items) c.insert.ensures.tells;
+            subst (λ l. AreLeast (extremes (and_answer (answers_of l) rows x)) (and_answer (answers_of l) rows x) (answers_of c.insert.new.least.items))
+            (c.deref-5.ensures.value ∙ c.in_ok-make_room.ensures.pairs) c.insert.ensures.tells;
       });
     }
 
@@ -110,7 +114,89 @@ returns-clause-ok c =
     let rows = c.args.rows.now.list in
     let x = to_z w64 (of_z w64 c.args.answer) in
     let same : x ≡ c.args.answer = to_z-of_z w64 c.args.answer c.ranges.answer in
-    let pairs_are = c.push_reserved-2.ensures.items ∙ ap (λ l. l ++ record { rows = c.args.rows.now; answer = x } ∷ []) c.in_ok-reserve.ensures.items in
+    let pairs_are = c.push_reserved-2.ensures.items ∙ ap (λ l. l ++ record { rows = c.args.rows.now; answer = x } ∷ []) c.in_ok-make_room.ensures.pairs in
     let answers_are : answers_of c.push_reserved-2.new.self.items ≡ and_answer answers rows x = ap answers_of pairs_are ∙ map-append answer_of c.self.inside.pairs.items _ in
     ap (λ (l : List Answer). record { n = c.self.inside.n; answers = l }) (answers_are ∙ ap (and_answer answers rows) same)
     ∙ ap (λ (m : Maxima). record { n = m.n; answers = and_answer m.answers rows c.args.answer }) c.self.view_is
+
+-- the same items are kept
+same_items : (b : Inside) (pairs : Vec AnsweredMax Global) (counts : Vec ℕ Global) (least : Vec AnsweredMax Global) → pairs.items ≡ b.pairs.items
+    → counts.items ≡ b.counts.items → least.items ≡ b.least.items → IsKept b
+    → IsKept (record { n = b.n; pairs = pairs; upper = b.upper; counts = counts; fewest = b.fewest; least = least; high = b.high })
+same_items b pairs counts least p q s kept = record {
+  at_most = kept.at_most;
+  same_n = subst (AllByRecursion (λ a. a.rows.n ≡ b.n)) (sym p) kept.same_n;
+  are_rows = subst (λ l. AllByRecursion (λ a. AreRows b.n a.rows) (answers_of l)) (sym p) kept.are_rows;
+  one_each = kept.one_each;
+  bounds = λ r. kept.bounds r ∙ ap (λ l. upper_bound (answers_of l) r) (sym p);
+  same_n_least = subst (AllByRecursion (λ a. a.rows.n ≡ b.n)) (sym s) kept.same_n_least;
+  descend = subst (λ l. Descend (answers_of l)) (sym s) kept.descend;
+  high = kept.high;
+  tells = rw (p, q, s) kept.tells;
+}
+
+pub invariant_of-self : goal.invariant_of-self
+invariant_of-self c =
+    same_items c.self.inside c.make_room.new.pairs c.make_room.new.counts c.make_room.new.least c.in_err-make_room.ensures.pairs c.in_err-make_room.ensures.counts
+    c.in_err-make_room.ensures.least c.self.invariant
+
+pub reach_high-affected-requires-clause-high : goal.reach_high-affected-requires-clause-high
+reach_high-affected-requires-clause-high c =
+    let same_n : c.args.rows.now.n ≡ c.self.inside.n = c.requires.same_n ∙ sym (ap (λ (m : Maxima). m.n) c.self.view_is) in
+    rw (c.deref.ensures.value, c.deref-2.ensures.value, same_n) c.self.invariant.high
+
+pub fall-fewest-requires-clause-same_n : goal.fall-fewest-requires-clause-same_n
+fall-fewest-requires-clause-same_n c =
+    let same_n : c.args.rows.now.n ≡ c.self.inside.n = c.requires.same_n ∙ sym (ap (λ (m : Maxima). m.n) c.self.view_is) in
+    subst (AllByRecursion (λ p. p.rows.n ≡ c.args.rows.now.n)) (sym (c.deref-3.ensures.value ∙ c.in_ok-make_room.ensures.pairs))
+    (subst (λ n. AllByRecursion (λ p. p.rows.n ≡ n) c.self.inside.pairs.items) (sym same_n) c.self.invariant.same_n)
+
+pub fall-fewest-requires-clause-same_n_least : goal.fall-fewest-requires-clause-same_n_least
+fall-fewest-requires-clause-same_n_least c =
+    let same_n : c.args.rows.now.n ≡ c.self.inside.n = c.requires.same_n ∙ sym (ap (λ (m : Maxima). m.n) c.self.view_is) in
+    subst (AllByRecursion (λ p. p.rows.n ≡ c.args.rows.now.n)) (sym (c.deref_mut-2.ensures.value ∙ c.in_ok-make_room.ensures.least))
+    (subst (λ n. AllByRecursion (λ p. p.rows.n ≡ n) c.self.inside.least.items) (sym same_n) c.self.invariant.same_n_least)
+
+pub fall-fewest-requires-clause-are_rows : goal.fall-fewest-requires-clause-are_rows
+fall-fewest-requires-clause-are_rows c =
+    let same_n : c.args.rows.now.n ≡ c.self.inside.n = c.requires.same_n ∙ sym (ap (λ (m : Maxima). m.n) c.self.view_is) in
+    subst (λ l. AllByRecursion (λ a. AreRows c.args.rows.now.n a.rows) (answers_of l)) (sym (c.deref-3.ensures.value ∙ c.in_ok-make_room.ensures.pairs))
+    (subst (λ n. AllByRecursion (λ a. AreRows n a.rows) (answers_of c.self.inside.pairs.items)) (sym same_n) c.self.invariant.are_rows)
+
+pub fall-fewest-requires-clause-bounds : goal.fall-fewest-requires-clause-bounds
+fall-fewest-requires-clause-bounds c = λ r.
+    ap (λ l. bound_at l r) c.deref-4.ensures.value ∙ c.self.invariant.bounds r
+    ∙ ap (λ l. upper_bound (answers_of l) r) (sym (c.deref-3.ensures.value ∙ c.in_ok-make_room.ensures.pairs))
+
+pub fall-fewest-requires-clause-falling : goal.fall-fewest-requires-clause-falling
+fall-fewest-requires-clause-falling c =
+    c.reach_high-affected.ensures.falling
+    ∙ ap (λ l. rows_above (bound_at l) (to_z w64 (of_z w64 c.args.answer)) c.args.rows.now.list) (c.deref-2.ensures.value ∙ sym c.deref-4.ensures.value)
+
+pub fall-fewest-requires-clause-descend : goal.fall-fewest-requires-clause-descend
+fall-fewest-requires-clause-descend c =
+    subst (λ l. Descend (answers_of l)) (sym (c.deref_mut-2.ensures.value ∙ c.in_ok-make_room.ensures.least)) c.self.invariant.descend
+
+pub fall-fewest-requires-clause-told : goal.fall-fewest-requires-clause-told
+fall-fewest-requires-clause-told c =
+    rw (c.deref-3.ensures.value ∙ c.in_ok-make_room.ensures.pairs, c.deref_mut.ensures.value ∙ c.in_ok-make_room.ensures.counts, c.deref_mut-2.ensures.value ∙ c.in_ok-make_room.ensures.least)
+    c.self.invariant.tells
+
+pub insert-requires-clause-same_n_least : goal.insert-requires-clause-same_n_least
+insert-requires-clause-same_n_least c =
+    let least_is = with_items_is c.make_room.new.least c.fall-fewest.new.least (c.fall-fewest.auto.least ∙ c.deref_mut-2.ensures.len) in
+    subst (AllByRecursion (λ p. p.rows.n ≡ c.args.rows.now.n)) (sym least_is) c.fall-fewest.ensures.same_n_least
+
+pub insert-requires-clause-descend : goal.insert-requires-clause-descend
+insert-requires-clause-descend c =
+    let least_is = with_items_is c.make_room.new.least c.fall-fewest.new.least (c.fall-fewest.auto.least ∙ c.deref_mut-2.ensures.len) in
+    subst (λ l. Descend (answers_of l)) (sym least_is) c.fall-fewest.ensures.descend
+
+pub insert-requires-clause-told : goal.insert-requires-clause-told
+insert-requires-clause-told c =
+    let rows = c.args.rows.now.list in
+    let x = to_z w64 (of_z w64 c.args.answer) in
+    let least_is = with_items_is c.make_room.new.least c.fall-fewest.new.least (c.fall-fewest.auto.least ∙ c.deref_mut-2.ensures.len) in
+    subst (λ l. AreLeast (extremes (and_answer (answers_of l) rows x)) (answers_of l) (answers_of (with_items c.make_room.new.least c.fall-fewest.new.least).items))
+    (c.deref-3.ensures.value ∙ sym c.deref-5.ensures.value)
+    (subst (λ s. AreLeast (extremes (and_answer (answers_of c.deref-3.result.now) rows x)) (answers_of c.deref-3.result.now) (answers_of s)) (sym least_is) c.fall-fewest.ensures.tells.are_least)

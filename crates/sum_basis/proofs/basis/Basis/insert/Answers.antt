@@ -67,3 +67,24 @@ returns-in-Some-clause-stands c =
     stands_with c.args.self.now c.insert_list.new.self c.args.rows.now.list
     (with_list c.self.inside.form c.args.self.now c.self.inside.held c.args.rows.now.n c.args.rows.now.list (record { rows = c.args.rows.now; list = c.in-Some.list }) c.self.view_is c.self.invariant.1 (sym c.take-held.ensures.value ∙ is) refl c.requires.n c.insert_list.new.self.rows
     c.in_ok-insert_list.ensures.reduced)
+
+pub insert_list-requires-clause-new : goal.insert_list-requires-clause-new
+insert_list-requires-clause-new c =
+    let is = rw c.in-Some.is at c.list_of_set.ensures in
+    (left c.self.inside.form c.args.self.now c.self.inside.held c.args.rows.now.n c.args.rows.now.list
+    (record { rows = c.args.rows.now; list = c.in-Some.list }) c.self.view_is c.self.invariant.1
+    (sym c.take-held.ensures.value ∙ is) refl c.requires.n).0
+
+pub insert_list-requires-clause-new_room : goal.insert_list-requires-clause-new_room
+insert_list-requires-clause-new_room c =
+    let is = rw c.in-Some.is at c.list_of_set.ensures in
+    (left c.self.inside.form c.args.self.now c.self.inside.held c.args.rows.now.n c.args.rows.now.list
+    (record { rows = c.args.rows.now; list = c.in-Some.list }) c.self.view_is c.self.invariant.1
+    (sym c.take-held.ensures.value ∙ is) refl c.requires.n).2
+
+pub insert_list-requires-clause-zero : goal.insert_list-requires-clause-zero
+insert_list-requires-clause-zero c =
+    let is = rw c.in-Some.is at c.list_of_set.ensures in
+    (left c.self.inside.form c.args.self.now c.self.inside.held c.args.rows.now.n c.args.rows.now.list
+    (record { rows = c.args.rows.now; list = c.in-Some.list }) c.self.view_is c.self.invariant.1
+    (sym c.take-held.ensures.value ∙ is) refl c.requires.n).1.zeros

@@ -1,5 +1,47 @@
+use Rattle.std.proofs.Common.{sym, ap, subst, rules}
+use Rattle.std.specs.Prelude.{FitsSigned}
+use Rattle.std.specs.Int.{w128}
+use Rattle.std.specs.List.{AllByRecursion}
+use Rattle.std.proofs.lemmas.Int.{to_z-of_z}
+use Rattle.sum_basis.specs.Basis.{Echelon}
+use Rattle.sum_basis.specs.Elimination.{IsSmallForm}
+use Rattle.sum_basis.specs.Sparse.{rows_of, IsKept, IsNew}
 use Rattle.sum_basis.proofs.Joining.{zeros_of_list, told, foresees_same}
 use Rattle.sum_basis.proofs.form.Form.weigh.Goals as goal
+
+pub look_ahead-prospect-requires-clause-kept : goal.look_ahead-prospect-requires-clause-kept
+look_ahead-prospect-requires-clause-kept c = subst (AllByRecursion (IsKept c.self.inside.columns)) (sym c.deref.ensures.value) c.self.invariant.kept
+
+pub look_ahead-prospect-requires-clause-form : goal.look_ahead-prospect-requires-clause-form
+look_ahead-prospect-requires-clause-form c =
+    subst (λ rows. IsSmallForm c.self.inside.columns (rows_of c.self.inside.columns rows)) (sym c.deref.ensures.value) c.self.invariant.form
+
+pub look_ahead-prospect-requires-clause-positive : goal.look_ahead-prospect-requires-clause-positive
+look_ahead-prospect-requires-clause-positive c =
+    let fits : FitsSigned w128 c.self.inside.common = search rules in
+    rw (to_z-of_z w128 c.self.inside.common fits) c.self.invariant.positive
+
+pub look_ahead-prospect-requires-clause-within : goal.look_ahead-prospect-requires-clause-within
+look_ahead-prospect-requires-clause-within c =
+    let fits : FitsSigned w128 c.self.inside.common = search rules in
+    rw (to_z-of_z w128 c.self.inside.common fits) c.self.invariant.small
+
+pub look_ahead-prospect-requires-clause-multiple : goal.look_ahead-prospect-requires-clause-multiple
+look_ahead-prospect-requires-clause-multiple c =
+    let fits : FitsSigned w128 c.self.inside.common = search rules in
+    rw (to_z-of_z w128 c.self.inside.common fits, c.deref.ensures.value) c.self.invariant.multiple
+
+pub look_ahead-prospect-requires-clause-new : goal.look_ahead-prospect-requires-clause-new
+look_ahead-prospect-requires-clause-new c =
+    let left = rw c.in-Entries.is at c.in_ok-settle.ensures.left in
+    subst (λ n. IsNew n c.deref-in-Entries.result.now) (sym (ap (λ (e : Echelon). e.n) c.self.view_is))
+    (subst (IsNew c.args.self.now.n) (sym c.deref-in-Entries.ensures.value) left.0)
+
+pub returns-in-Large-clause-foresees : goal.returns-in-Large-clause-foresees
+returns-in-Large-clause-foresees c = let left = rw c.in-Large.is at c.in_ok-settle.ensures.left in left.1
+
+pub returns-in_ok-room-in-Entries-clause-left : goal.returns-in_ok-room-in-Entries-clause-left
+returns-in_ok-room-in-Entries-clause-left c = rw c.in-Entries.is at c.in_ok-settle.ensures.left
 
 pub returns-in-Nothing-clause-foresees : goal.returns-in-Nothing-clause-foresees
 returns-in-Nothing-clause-foresees c =
