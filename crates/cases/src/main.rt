@@ -3,21 +3,13 @@
 //! Standard input names the scripts, a line each. README.md has their format.
 #![tactic(auto)]
 
-mod content;
 mod due;
-mod failures;
-mod keys;
-mod outcome;
-mod pieces;
 mod playing;
-mod script;
 mod stage;
 mod stopping;
-mod terminal;
 
 use anyhow::{Context, Result};
-use outcome::Tally;
-use script::Script;
+use case_scripts::{Script, Tally};
 use std::fs;
 use std::process::ExitCode;
 use std::rt::Files;

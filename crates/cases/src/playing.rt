@@ -1,13 +1,11 @@
 //! The runs of a script, one after another.
 use crate::due::is_as_due;
-use crate::outcome::{Case, Tally, no_memory};
-use crate::pieces::{Piece, whole};
-use crate::script::{Run, Script};
-use crate::stage::{Stage, bench_over, pieces_of};
+use crate::stage::Stage;
 use crate::stopping::play_each;
-use crate::terminal::Terminal;
 use anyhow::{Result, bail};
 use bench_core::MemoryBench;
+use case_scripts::{Case, Exchange, Over, Run, Script, Tally, bench_over, no_memory};
+use std::alloc::Global;
 use std::rt::Files;
 
 /// Runs each case of a script, and counts it.
@@ -54,7 +52,7 @@ fn play_once<R: Files + Print + AllocGlobal>(
     stage: &Stage,
 ) -> Result<(bool, MemoryBench)> {
     let fails = stage.case.fails()?;
-    let exchange = exchange_of(rt, stage.case)?;
+    let exchange = Exchange::of(rt, stage.case)?;
     let mut bench = bench_over(rt.alloc(), &stage.start, fails)?;
     let status = stage.run(rt, exchange.typed, fails, &mut bench)?;
     let met = is_as_due(rt, name, stage, &exchange.shown, &status, &bench)?;
@@ -68,40 +66,16 @@ fn start_of<R: Files + AllocGlobal>(
     before: &Option<MemoryBench>,
 ) -> Result<Vec<u8>> {
     let Some(over) = case.over()? else {
-        let pieces = pieces_of(rt, case.file_at_start("journal"))?;
-        return Ok(whole(rt.alloc(), &pieces)?);
+        return case.journal(rt);
     };
     match before {
-        Some(bench) => {
-            let left = bench.crashed(over.pick()).map_err(no_memory)?;
-            Ok(left.file().to_vec(rt.alloc())?)
-        }
+        Some(bench) => left_file(rt.alloc(), bench, over),
         None => bail!("no run before {:?}", case.shows()?),
     }
 }
 
-// What a run is typed, and what is due in reply.
-#[derive(Drop)]
-struct Exchange {
-    typed: Vec<Piece>,
-    shown: Vec<u8>,
-}
-
-fn exchange_of<R: Files + AllocGlobal>(rt: &R, case: Run) -> Result<Exchange> {
-    let (input, sent) = (case.content("input"), case.content("sent"));
-    let Some(screen) = case.terminal()? else {
-        let shown = pieces_of(rt, sent)?;
-        return Ok(Exchange {
-            typed: pieces_of(rt, input)?,
-            shown: whole(rt.alloc(), &shown)?,
-        });
-    };
-    if input.is_some() || sent.is_some() {
-        bail!("a terminal beside an input or what is sent");
-    }
-    let terminal = Terminal::read(rt.alloc(), screen)?;
-    Ok(Exchange {
-        typed: terminal.pieces(rt.alloc())?,
-        shown: terminal.shown,
-    })
+// A file that a run left.
+fn left_file(alloc: Global, bench: &MemoryBench, over: Over) -> Result<Vec<u8>> {
+    let left = bench.crashed(over.pick()).map_err(no_memory)?;
+    Ok(left.file().to_vec(alloc)?)
 }

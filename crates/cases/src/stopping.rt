@@ -1,12 +1,11 @@
 //! One run of which each call of an object fails in turn, and what a crash then leaves.
-use crate::failures::Failures;
-use crate::outcome::{Bytes, Case, no_memory};
-use crate::script::{Each, Fault, Over, history_of};
-use crate::stage::{ROOM, Stage, bench_over};
-use crate::terminal::Terminal;
+use crate::stage::Stage;
 use anyhow::{Result, bail};
 use auditor_top::{Status, Which};
 use bench_core::MemoryBench;
+use case_scripts::{
+    Bytes, Case, Each, Failures, Fault, History, Over, ROOM, Terminal, bench_over, no_memory,
+};
 use std::fmt;
 use std::rt::Files;
 
@@ -17,15 +16,8 @@ struct Law<'a> {
     fault: Fault,
     screen: &'a str,
     whole: Terminal,
-    histories: Vec<Known>,
+    histories: Vec<History>,
     then: Option<Terminal>,
-}
-
-// The file of a journal, and how many records it has, where that is asked.
-#[derive(Drop)]
-struct Known {
-    records: Option<u64>,
-    file: Vec<u8>,
 }
 
 // A run that a fault befell at a call.
@@ -110,7 +102,7 @@ impl<'a> Law<'a> {
             fault: each.fault()?,
             screen,
             whole: Terminal::read(rt.alloc(), screen)?,
-            histories: histories_of(rt, each)?,
+            histories: each.histories(rt)?,
             then,
         })
     }
@@ -120,7 +112,7 @@ impl Law<'_> {
     // Whether the replies due were sent.
     fn is_answered<R: Print>(&self, rt: &R, name: Case, bench: &MemoryBench) -> Result<bool> {
         let (due, came) = (Bytes(&self.whole.shown), Bytes(bench.sent()));
-        Ok(name.agrees(rt, "sent", &due, &came)?)
+        name.agrees(rt, "sent", &due, &came)
     }
 
     // Whether nothing is wrong with a run that failed, in each file that may be left.
@@ -151,7 +143,7 @@ impl Law<'_> {
         over: Over,
     ) -> Result<Option<Breach>> {
         let sent = fallen.bench.sent();
-        if *fallen.status != self.fault.status() {
+        if *fallen.status != status_of(self.fault) {
             return Ok(Some(Breach::OtherStatus));
         }
         if !self.may_have_sent(rt, stage, fallen.call, sent)? {
@@ -181,9 +173,9 @@ impl Law<'_> {
     ) -> Result<bool> {
         match self.fault {
             Fault::Stop | Fault::Fail => Ok(self.whole.shown.starts_with(sent)),
-            Fault::Read(Which::Schema | Which::Table) => Ok(sent.is_empty()),
-            Fault::Read(Which::Input) => {
-                let read = usize::try_from(call)?.saturating_mul(stage.most()?);
+            Fault::Schema | Fault::Table => Ok(sent.is_empty()),
+            Fault::Input => {
+                let read = usize::try_from(call)?.saturating_mul(stage.case.most()?);
                 let due = Terminal::read_up_to(rt.alloc(), self.screen, read)?;
                 Ok(due.shown.as_slice() == sent)
             }
@@ -210,42 +202,13 @@ impl Law<'_> {
     }
 }
 
-fn histories_of<R: Files + AllocGlobal>(rt: &R, each: Each) -> Result<Vec<Known>> {
-    let mut histories = Vec::new(rt.alloc());
-    for history in each.histories()? {
-        let (records, content) = history_of(history)?;
-        histories.push(Known {
-            records,
-            file: content.whole(rt)?,
-        })?;
-    }
-    Ok(histories)
-}
-
-impl Known {
-    // Whether it has a record for each reply of which a byte was sent.
-    fn has_records_of(&self, sent: &[u8]) -> bool {
-        self.records
-            .is_none_or(|records| records >= lines_begun(sent))
-    }
-
-    // Whether the file has the bytes of this one up to its last gate, and there a gate that isn't open.
-    fn is_in(&self, file: &[u8]) -> bool {
-        match (self.file.split_last(), file.get(..self.file.len())) {
-            (Some((_, records)), Some(front)) => match front.split_last() {
-                Some((gate, same)) => *gate != 1 && same == records,
-                None => false,
-            },
-            _ => false,
-        }
-    }
-}
-
-// How many replies a byte was sent of.
-fn lines_begun(sent: &[u8]) -> u64 {
-    let ended = sent.iter().filter(|byte| **byte == b'\n').count() as u64;
-    match sent.last() {
-        Some(b'\n') | None => ended,
-        Some(_) => ended.saturating_add(1),
+// How a run ends that a fault befalls.
+fn status_of(fault: Fault) -> Status {
+    match fault {
+        Fault::Stop => Status::BenchFault,
+        Fault::Fail => Status::BenchFault,
+        Fault::Schema => Status::SourceFault(Which::Schema),
+        Fault::Table => Status::SourceFault(Which::Table),
+        Fault::Input => Status::SourceFault(Which::Input),
     }
 }

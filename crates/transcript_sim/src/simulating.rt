@@ -93,6 +93,7 @@ fn judge<P: Source, B: Bench>(
     index: &Index,
     source: &mut P,
     bench: &mut B,
+    scratch: &mut Scratch,
 ) -> Result<(), SimulationFault>
     requires fresh { (lines.old.taken ≡ 0) × (lines.old.pending ≡ []) × (lines.old.ended ≡ false) }
     requires fits { FitsSchema schema.now.columns index.now }
@@ -102,17 +103,8 @@ fn judge<P: Source, B: Bench>(
 {
     lines_in_turn();
     one_verdict();
-    let mut scratch = Scratch::new(alloc);
     let mut line = 0;
-    while let Some(expected) = next_question(
-        alloc,
-        lines,
-        schema,
-        index,
-        core,
-        source,
-        &mut scratch,
-    )? {
+    while let Some(expected) = next_question(alloc, lines, schema, index, core, source, scratch)? {
         let due = expected.due();
         send_verdict(bench, due)?;
         line += 2;
@@ -162,5 +154,15 @@ pub fn simulate<P: Source, B: Bench>(
     let rows = index.public().rows();
     let mut lines = Lines::new(alloc)?;
     let mut core = Core::new(alloc, schema.shape(rows))?;
-    judge(alloc, &mut lines, &mut core, schema, index, source, bench)
+    let mut scratch = Scratch::new(alloc);
+    judge(
+        alloc,
+        &mut lines,
+        &mut core,
+        schema,
+        index,
+        source,
+        bench,
+        &mut scratch,
+    )
 }

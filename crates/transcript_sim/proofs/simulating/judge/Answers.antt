@@ -17,8 +17,8 @@ use Rattle.transcript_sim.proofs.simulating.judge.Goals as goal
 abbrev ended_by : SimulationFault → Result (Unit {0}) SimulationFault
 ended_by fault = Err fault
 
-pub loop-scratch-init : goal.loop-scratch-init
-loop-scratch-init g c = record {
+pub loop-expected-init : goal.loop-expected-init
+loop-expected-init g c = record {
   lines = [];
   verdicts = [];
   so_far =
@@ -36,24 +36,24 @@ returns-in_err-expected g c =
     let why = c.in_err-expected.field-0.0 in
     let same : c.from_residual.result ≡ ended_by why = search rules in
     subst
-    (λ (r : Result (Unit {0}) SimulationFault). Simulates g.P.Source g.B.Bench c.args.schema.now.columns c.args.index.now c.args.source.now c.next_question.new.source c.args.bench.now c.loop-scratch.bench r)
+    (λ (r : Result (Unit {0}) SimulationFault). Simulates g.P.Source g.B.Bench c.args.schema.now.columns c.args.index.now c.args.source.now c.next_question.new.source c.args.bench.now c.loop-expected.bench r)
     (sym same)
-    (cut_short g.P.Source g.B.Bench c.args.schema.now.columns c.args.index.now c.args.source.now c.args.bench.now c.lines_in_turn.ensures.more c.loop-scratch.lines c.loop-scratch.source c.loop-scratch.bench c.loop-scratch.invariant.lines c.loop-scratch.invariant.verdicts c.loop-scratch.invariant.so_far c.next_question.new.lines c.next_question.new.source why c.in_err-expected.ensures.short c.in_err-expected.ensures.cuts)
+    (cut_short g.P.Source g.B.Bench c.args.schema.now.columns c.args.index.now c.args.source.now c.args.bench.now c.lines_in_turn.ensures.more c.loop-expected.lines c.loop-expected.source c.loop-expected.bench c.loop-expected.invariant.lines c.loop-expected.invariant.verdicts c.loop-expected.invariant.so_far c.next_question.new.lines c.next_question.new.source why c.in_err-expected.ensures.short c.in_err-expected.ensures.cuts)
 
 pub returns : goal.returns
 returns g c =
-    let none = subst (λ (o : Option Expected). AsksNext g.P.Source c.loop-scratch.lines c.next_question.new.lines c.loop-scratch.source c.next_question.new.source c.args.schema.now.columns c.args.index.now c.loop-scratch.core.history o) c.in_default.is c.in_ok-expected.ensures.asks in
-    all_read g.P.Source g.B.Bench c.args.schema.now.columns c.args.index.now c.args.source.now c.args.bench.now c.lines_in_turn.ensures.more c.loop-scratch.lines c.loop-scratch.source c.loop-scratch.bench c.loop-scratch.invariant.lines c.loop-scratch.invariant.verdicts c.loop-scratch.invariant.so_far c.next_question.new.lines c.next_question.new.source none c.in_ok-expected.ensures.cuts
+    let none = subst (λ (o : Option Expected). AsksNext g.P.Source c.loop-expected.lines c.next_question.new.lines c.loop-expected.source c.next_question.new.source c.args.schema.now.columns c.args.index.now c.loop-expected.core.history o) c.in_default.is c.in_ok-expected.ensures.asks in
+    all_read g.P.Source g.B.Bench c.args.schema.now.columns c.args.index.now c.args.source.now c.args.bench.now c.lines_in_turn.ensures.more c.loop-expected.lines c.loop-expected.source c.loop-expected.bench c.loop-expected.invariant.lines c.loop-expected.invariant.verdicts c.loop-expected.invariant.so_far c.next_question.new.lines c.next_question.new.source none c.in_ok-expected.ensures.cuts
 
 pub returns-in_err-send_verdict : goal.returns-in_err-send_verdict
 returns-in_err-send_verdict g c =
     let sent = c.in_err-send_verdict.ensures in
     let same : c.from_residual-in_err-send_verdict.result ≡ ended_by fault.Bench = search rules in
-    let question = subst (λ (o : Option Expected). AsksNext g.P.Source c.loop-scratch.lines c.next_question.new.lines c.loop-scratch.source c.next_question.new.source c.args.schema.now.columns c.args.index.now c.loop-scratch.core.history o) c.in-Some.is c.in_ok-expected.ensures.asks in
+    let question = subst (λ (o : Option Expected). AsksNext g.P.Source c.loop-expected.lines c.next_question.new.lines c.loop-expected.source c.next_question.new.source c.args.schema.now.columns c.args.index.now c.loop-expected.core.history o) c.in-Some.is c.in_ok-expected.ensures.asks in
     subst
     (λ (r : Result (Unit {0}) SimulationFault). Simulates g.P.Source g.B.Bench c.args.schema.now.columns c.args.index.now c.args.source.now c.next_question.new.source c.args.bench.now c.send_verdict.new.bench r)
     (sym same)
-    (asked_unsent g.P.Source g.B.Bench c.args.schema.now.columns c.args.index.now c.args.source.now c.args.bench.now c.lines_in_turn.ensures.more c.loop-scratch.lines c.loop-scratch.source c.loop-scratch.bench c.loop-scratch.core c.loop-scratch.line c.loop-scratch.invariant c.next_question.new.lines c.next_question.new.source c.in-Some.expected question
+    (asked_unsent g.P.Source g.B.Bench c.args.schema.now.columns c.args.index.now c.args.source.now c.args.bench.now c.lines_in_turn.ensures.more c.loop-expected.lines c.loop-expected.source c.loop-expected.bench c.loop-expected.core c.loop-expected.line c.loop-expected.invariant c.next_question.new.lines c.next_question.new.source c.in-Some.expected question
     c.in_ok-expected.ensures.cuts c.due-due.result c.due-due.ensures c.send_verdict.new.bench sent.file sent.crash sent.time sent.part sent.cause.failed sent.last_call sent.cause.later)
 
 -- ---- the reply
@@ -64,8 +64,8 @@ returns-in_err-due g c =
     let public = c.args.index.now in
     let expected = c.in-Some.expected in
     let sent = c.in_ok-send_verdict.ensures in
-    let question = subst (λ (o : Option Expected). AsksNext g.P.Source c.loop-scratch.lines c.next_question.new.lines c.loop-scratch.source c.next_question.new.source columns public c.loop-scratch.core.history o) c.in-Some.is c.in_ok-expected.ensures.asks in
-    let half = asked_half g.P.Source g.B.Bench c.args.schema.now.columns c.args.index.now c.args.source.now c.args.bench.now c.lines_in_turn.ensures.more c.loop-scratch.lines c.loop-scratch.source c.loop-scratch.bench c.loop-scratch.core c.loop-scratch.line c.loop-scratch.invariant c.next_question.new.lines c.next_question.new.source expected question
+    let question = subst (λ (o : Option Expected). AsksNext g.P.Source c.loop-expected.lines c.next_question.new.lines c.loop-expected.source c.next_question.new.source columns public c.loop-expected.core.history o) c.in-Some.is c.in_ok-expected.ensures.asks in
+    let half = asked_half g.P.Source g.B.Bench c.args.schema.now.columns c.args.index.now c.args.source.now c.args.bench.now c.lines_in_turn.ensures.more c.loop-expected.lines c.loop-expected.source c.loop-expected.bench c.loop-expected.core c.loop-expected.line c.loop-expected.invariant c.next_question.new.lines c.next_question.new.source expected question
     c.in_ok-expected.ensures.cuts c.due-due.result c.due-due.ensures c.send_verdict.new.bench sent.file sent.crash sent.time sent.all sent.ticks sent.cause.steady in
     let why = c.in_err-due.field-0.0 in
     let same : c.from_residual-in_err-due.result ≡ ended_by why = search rules in
@@ -80,8 +80,8 @@ returns-in-None g c =
     let public = c.args.index.now in
     let expected = c.in-Some.expected in
     let sent = c.in_ok-send_verdict.ensures in
-    let question = subst (λ (o : Option Expected). AsksNext g.P.Source c.loop-scratch.lines c.next_question.new.lines c.loop-scratch.source c.next_question.new.source columns public c.loop-scratch.core.history o) c.in-Some.is c.in_ok-expected.ensures.asks in
-    let half = asked_half g.P.Source g.B.Bench c.args.schema.now.columns c.args.index.now c.args.source.now c.args.bench.now c.lines_in_turn.ensures.more c.loop-scratch.lines c.loop-scratch.source c.loop-scratch.bench c.loop-scratch.core c.loop-scratch.line c.loop-scratch.invariant c.next_question.new.lines c.next_question.new.source expected question
+    let question = subst (λ (o : Option Expected). AsksNext g.P.Source c.loop-expected.lines c.next_question.new.lines c.loop-expected.source c.next_question.new.source columns public c.loop-expected.core.history o) c.in-Some.is c.in_ok-expected.ensures.asks in
+    let half = asked_half g.P.Source g.B.Bench c.args.schema.now.columns c.args.index.now c.args.source.now c.args.bench.now c.lines_in_turn.ensures.more c.loop-expected.lines c.loop-expected.source c.loop-expected.bench c.loop-expected.core c.loop-expected.line c.loop-expected.invariant c.next_question.new.lines c.next_question.new.source expected question
     c.in_ok-expected.ensures.cuts c.due-due.result c.due-due.ensures c.send_verdict.new.bench sent.file sent.crash sent.time sent.all sent.ticks sent.cause.steady in
     let none = subst (λ (o : Option Shown). ShowsNext g.P.Source c.next_question.new.lines c.next_shown.new.lines c.next_question.new.source c.next_shown.new.source expected o) c.in-None.is c.in_ok-due.ensures.shows in
     all_read g.P.Source g.B.Bench c.args.schema.now.columns c.args.index.now c.args.source.now c.args.bench.now c.lines_in_turn.ensures.more c.next_question.new.lines c.next_question.new.source c.send_verdict.new.bench
@@ -94,48 +94,48 @@ returns-in-Some-Disagrees g c =
     let public = c.args.index.now in
     let expected = c.in-Some.expected in
     let sent = c.in_ok-send_verdict.ensures in
-    let question = subst (λ (o : Option Expected). AsksNext g.P.Source c.loop-scratch.lines c.next_question.new.lines c.loop-scratch.source c.next_question.new.source columns public c.loop-scratch.core.history o) c.in-Some.is c.in_ok-expected.ensures.asks in
-    let half = asked_half g.P.Source g.B.Bench c.args.schema.now.columns c.args.index.now c.args.source.now c.args.bench.now c.lines_in_turn.ensures.more c.loop-scratch.lines c.loop-scratch.source c.loop-scratch.bench c.loop-scratch.core c.loop-scratch.line c.loop-scratch.invariant c.next_question.new.lines c.next_question.new.source expected question
+    let question = subst (λ (o : Option Expected). AsksNext g.P.Source c.loop-expected.lines c.next_question.new.lines c.loop-expected.source c.next_question.new.source columns public c.loop-expected.core.history o) c.in-Some.is c.in_ok-expected.ensures.asks in
+    let half = asked_half g.P.Source g.B.Bench c.args.schema.now.columns c.args.index.now c.args.source.now c.args.bench.now c.lines_in_turn.ensures.more c.loop-expected.lines c.loop-expected.source c.loop-expected.bench c.loop-expected.core c.loop-expected.line c.loop-expected.invariant c.next_question.new.lines c.next_question.new.source expected question
     c.in_ok-expected.ensures.cuts c.due-due.result c.due-due.ensures c.send_verdict.new.bench sent.file sent.crash sent.time sent.all sent.ticks sent.cause.steady in
     let shows = subst (λ (o : Option Shown). ShowsNext g.P.Source c.next_question.new.lines c.next_shown.new.lines c.next_question.new.source c.next_shown.new.source expected o) c.in-Some-Disagrees.is c.in_ok-due.ensures.shows in
     let not_agreed = subst (λ (s : Shown). ComesTo shows.line expected s) c.in-Some-Disagrees.field-0-is shows.comes_to in
     subst
-    (λ (d : Due). Simulates g.P.Source g.B.Bench columns public c.args.source.now c.next_shown.new.source c.args.bench.now c.send_verdict.new.bench (ended_by (fault.Disagrees (c.loop-scratch.line + 2) d)))
+    (λ (d : Due). Simulates g.P.Source g.B.Bench columns public c.args.source.now c.next_shown.new.source c.args.bench.now c.send_verdict.new.bench (ended_by (fault.Disagrees (c.loop-expected.line + 2) d)))
     (sym c.due-due.ensures)
-    (disagreed g.P.Source g.B.Bench c.args.schema.now.columns c.args.index.now c.args.source.now c.args.bench.now c.lines_in_turn.ensures.more c.next_question.new.lines c.next_question.new.source c.send_verdict.new.bench c.loop-scratch.core (c.loop-scratch.line + 2) expected half c.next_shown.new.lines c.next_shown.new.source shows.line shows.gives c.in_ok-due.ensures.cuts c.one_verdict.ensures.called c.one_verdict.ensures.due not_agreed)
+    (disagreed g.P.Source g.B.Bench c.args.schema.now.columns c.args.index.now c.args.source.now c.args.bench.now c.lines_in_turn.ensures.more c.next_question.new.lines c.next_question.new.source c.send_verdict.new.bench c.loop-expected.core (c.loop-expected.line + 2) expected half c.next_shown.new.lines c.next_shown.new.source shows.line shows.gives c.in_ok-due.ensures.cuts c.one_verdict.ensures.called c.one_verdict.ensures.due not_agreed)
 
-pub loop-scratch-preserved : goal.loop-scratch-preserved
-loop-scratch-preserved g c =
+pub loop-expected-preserved : goal.loop-expected-preserved
+loop-expected-preserved g c =
     let columns = c.args.schema.now.columns in
     let public = c.args.index.now in
     let expected = c.in-Some.expected in
     let sent = c.in_ok-send_verdict.ensures in
-    let question = subst (λ (o : Option Expected). AsksNext g.P.Source c.loop-scratch.lines c.next_question.new.lines c.loop-scratch.source c.next_question.new.source columns public c.loop-scratch.core.history o) c.in-Some.is c.in_ok-expected.ensures.asks in
-    let half = asked_half g.P.Source g.B.Bench c.args.schema.now.columns c.args.index.now c.args.source.now c.args.bench.now c.lines_in_turn.ensures.more c.loop-scratch.lines c.loop-scratch.source c.loop-scratch.bench c.loop-scratch.core c.loop-scratch.line c.loop-scratch.invariant c.next_question.new.lines c.next_question.new.source expected question
+    let question = subst (λ (o : Option Expected). AsksNext g.P.Source c.loop-expected.lines c.next_question.new.lines c.loop-expected.source c.next_question.new.source columns public c.loop-expected.core.history o) c.in-Some.is c.in_ok-expected.ensures.asks in
+    let half = asked_half g.P.Source g.B.Bench c.args.schema.now.columns c.args.index.now c.args.source.now c.args.bench.now c.lines_in_turn.ensures.more c.loop-expected.lines c.loop-expected.source c.loop-expected.bench c.loop-expected.core c.loop-expected.line c.loop-expected.invariant c.next_question.new.lines c.next_question.new.source expected question
     c.in_ok-expected.ensures.cuts c.due-due.result c.due-due.ensures c.send_verdict.new.bench sent.file sent.crash sent.time sent.all sent.ticks sent.cause.steady in
     let shows = subst (λ (o : Option Shown). ShowsNext g.P.Source c.next_question.new.lines c.next_shown.new.lines c.next_question.new.source c.next_shown.new.source expected o) c.in-Some-Agrees-None.is c.in_ok-due.ensures.shows in
     let added : c.in-Some-Agrees-None.field-0-0 ≡ None = c.in-Some-Agrees-None.field-0-0-is in
     let agrees = subst (λ (o : Option Answered). AgreesWith shows.line expected o) added (subst (λ (s : Shown). ComesTo shows.line expected s) c.in-Some-Agrees-None.field-0-is shows.comes_to) in
-    let same : c.next_question.new.core ≡ c.loop-scratch.core = c.in_ok-expected.ensures.same in
-    let kept : c.loop-scratch.core.history ≡ c.loop-scratch.core.history ++ option_to_list None = search rules in
-    agreed g.P.Source g.B.Bench c.args.schema.now.columns c.args.index.now c.args.source.now c.args.bench.now c.lines_in_turn.ensures.more c.next_question.new.lines c.next_question.new.source c.send_verdict.new.bench c.loop-scratch.core (c.loop-scratch.line + 2) expected half c.next_shown.new.lines c.next_shown.new.source shows.line shows.gives c.in_ok-due.ensures.cuts None agrees c.next_question.new.core (ap (λ (k : Audited). k.history) same ∙ kept) (ap (λ (k : Audited). k.setting) same)
+    let same : c.next_question.new.core ≡ c.loop-expected.core = c.in_ok-expected.ensures.same in
+    let kept : c.loop-expected.core.history ≡ c.loop-expected.core.history ++ option_to_list None = search rules in
+    agreed g.P.Source g.B.Bench c.args.schema.now.columns c.args.index.now c.args.source.now c.args.bench.now c.lines_in_turn.ensures.more c.next_question.new.lines c.next_question.new.source c.send_verdict.new.bench c.loop-expected.core (c.loop-expected.line + 2) expected half c.next_shown.new.lines c.next_shown.new.source shows.line shows.gives c.in_ok-due.ensures.cuts None agrees c.next_question.new.core (ap (λ (k : Audited). k.history) same ∙ kept) (ap (λ (k : Audited). k.setting) same)
 
-pub loop-scratch-preserved-in-Continue-branch-8 : goal.loop-scratch-preserved-in-Continue-branch-8
-loop-scratch-preserved-in-Continue-branch-8 g c =
+pub loop-expected-preserved-in-Continue-branch-8 : goal.loop-expected-preserved-in-Continue-branch-8
+loop-expected-preserved-in-Continue-branch-8 g c =
     let columns = c.args.schema.now.columns in
     let public = c.args.index.now in
     let expected = c.in-Some.expected in
     let sent = c.in_ok-send_verdict.ensures in
-    let question = subst (λ (o : Option Expected). AsksNext g.P.Source c.loop-scratch.lines c.next_question.new.lines c.loop-scratch.source c.next_question.new.source columns public c.loop-scratch.core.history o) c.in-Some.is c.in_ok-expected.ensures.asks in
-    let half = asked_half g.P.Source g.B.Bench c.args.schema.now.columns c.args.index.now c.args.source.now c.args.bench.now c.lines_in_turn.ensures.more c.loop-scratch.lines c.loop-scratch.source c.loop-scratch.bench c.loop-scratch.core c.loop-scratch.line c.loop-scratch.invariant c.next_question.new.lines c.next_question.new.source expected question
+    let question = subst (λ (o : Option Expected). AsksNext g.P.Source c.loop-expected.lines c.next_question.new.lines c.loop-expected.source c.next_question.new.source columns public c.loop-expected.core.history o) c.in-Some.is c.in_ok-expected.ensures.asks in
+    let half = asked_half g.P.Source g.B.Bench c.args.schema.now.columns c.args.index.now c.args.source.now c.args.bench.now c.lines_in_turn.ensures.more c.loop-expected.lines c.loop-expected.source c.loop-expected.bench c.loop-expected.core c.loop-expected.line c.loop-expected.invariant c.next_question.new.lines c.next_question.new.source expected question
     c.in_ok-expected.ensures.cuts c.due-due.result c.due-due.ensures c.send_verdict.new.bench sent.file sent.crash sent.time sent.all sent.ticks sent.cause.steady in
     let shows = subst (λ (o : Option Shown). ShowsNext g.P.Source c.next_question.new.lines c.next_shown.new.lines c.next_question.new.source c.next_shown.new.source expected o) c.in-Some-Agrees-Some.is c.in_ok-due.ensures.shows in
     let added : c.in-Some-Agrees-Some.field-0-0 ≡ Some c.in-Some-Agrees-Some.answered = search rules in
     let agrees = subst (λ (o : Option Answered). AgreesWith shows.line expected o) added (subst (λ (s : Shown). ComesTo shows.line expected s) c.in-Some-Agrees-Some.field-0-is shows.comes_to) in
-    let same : c.next_question.new.core ≡ c.loop-scratch.core = c.in_ok-expected.ensures.same in
+    let same : c.next_question.new.core ≡ c.loop-expected.core = c.in_ok-expected.ensures.same in
     let taken : c.take.new.self.history ≡ c.next_question.new.core.history ++ c.in-Some-Agrees-Some.answered ∷ [] = search rules in
     let kept : c.take.new.self.setting ≡ c.next_question.new.core.setting = search rules in
-    agreed g.P.Source g.B.Bench c.args.schema.now.columns c.args.index.now c.args.source.now c.args.bench.now c.lines_in_turn.ensures.more c.next_question.new.lines c.next_question.new.source c.send_verdict.new.bench c.loop-scratch.core (c.loop-scratch.line + 2) expected half c.next_shown.new.lines c.next_shown.new.source shows.line shows.gives c.in_ok-due.ensures.cuts (Some c.in-Some-Agrees-Some.answered) agrees c.take.new.self (taken ∙ ap (λ (k : Audited). k.history ++ c.in-Some-Agrees-Some.answered ∷ []) same) (kept ∙ ap (λ (k : Audited). k.setting) same)
+    agreed g.P.Source g.B.Bench c.args.schema.now.columns c.args.index.now c.args.source.now c.args.bench.now c.lines_in_turn.ensures.more c.next_question.new.lines c.next_question.new.source c.send_verdict.new.bench c.loop-expected.core (c.loop-expected.line + 2) expected half c.next_shown.new.lines c.next_shown.new.source shows.line shows.gives c.in_ok-due.ensures.cuts (Some c.in-Some-Agrees-Some.answered) agrees c.take.new.self (taken ∙ ap (λ (k : Audited). k.history ++ c.in-Some-Agrees-Some.answered ∷ []) same) (kept ∙ ap (λ (k : Audited). k.setting) same)
 
 pub returns-in_err-take-in-Some-Agrees-Some : goal.returns-in_err-take-in-Some-Agrees-Some
 returns-in_err-take-in-Some-Agrees-Some g c =
@@ -143,8 +143,8 @@ returns-in_err-take-in-Some-Agrees-Some g c =
     let public = c.args.index.now in
     let expected = c.in-Some.expected in
     let sent = c.in_ok-send_verdict.ensures in
-    let question = subst (λ (o : Option Expected). AsksNext g.P.Source c.loop-scratch.lines c.next_question.new.lines c.loop-scratch.source c.next_question.new.source columns public c.loop-scratch.core.history o) c.in-Some.is c.in_ok-expected.ensures.asks in
-    let half = asked_half g.P.Source g.B.Bench c.args.schema.now.columns c.args.index.now c.args.source.now c.args.bench.now c.lines_in_turn.ensures.more c.loop-scratch.lines c.loop-scratch.source c.loop-scratch.bench c.loop-scratch.core c.loop-scratch.line c.loop-scratch.invariant c.next_question.new.lines c.next_question.new.source expected question
+    let question = subst (λ (o : Option Expected). AsksNext g.P.Source c.loop-expected.lines c.next_question.new.lines c.loop-expected.source c.next_question.new.source columns public c.loop-expected.core.history o) c.in-Some.is c.in_ok-expected.ensures.asks in
+    let half = asked_half g.P.Source g.B.Bench c.args.schema.now.columns c.args.index.now c.args.source.now c.args.bench.now c.lines_in_turn.ensures.more c.loop-expected.lines c.loop-expected.source c.loop-expected.bench c.loop-expected.core c.loop-expected.line c.loop-expected.invariant c.next_question.new.lines c.next_question.new.source expected question
     c.in_ok-expected.ensures.cuts c.due-due.result c.due-due.ensures c.send_verdict.new.bench sent.file sent.crash sent.time sent.all sent.ticks sent.cause.steady in
     let shows = subst (λ (o : Option Shown). ShowsNext g.P.Source c.next_question.new.lines c.next_shown.new.lines c.next_question.new.source c.next_shown.new.source expected o) c.in-Some-Agrees-Some.is c.in_ok-due.ensures.shows in
     let same : c.from_residual-in_err-take-in-Some-Agrees-Some.result ≡ ended_by fault.NoMemory = search rules in

@@ -3,8 +3,8 @@ use crate::keys::{Keys, byte_of, count_of};
 use crate::pieces::{Piece, whole};
 use anyhow::{Result, bail};
 use std::alloc::Global;
-use std::fs;
 use std::rt::Files;
+use std::{fs, slice};
 use toml::Value;
 
 /// The bytes of a file, of one part, or of parts one after another.
@@ -17,6 +17,14 @@ pub struct Content<'a> {
 #[derive(Clone, Copy)]
 struct Part<'a> {
     keys: Keys<'a>,
+}
+
+/// Where the bytes of a part come from.
+#[derive(Clone, Copy)]
+enum Given<'a> {
+    File(&'a str),
+    Text(&'a str),
+    Hex(&'a str),
 }
 
 // A file whose name ends in `.hex` is read as hex.
@@ -47,13 +55,13 @@ impl<'a> Part<'a> {
         })
     }
 
-    // The bytes of the one that is given.
-    fn given<R: Files + AllocGlobal>(self, rt: &R) -> Result<Vec<u8>> {
-        let keys = self.keys;
-        match (keys.text("file")?, keys.text("text")?, keys.text("hex")?) {
-            (Some(name), None, None) => read_file(rt, name),
-            (None, Some(text), None) => Ok(text.as_bytes().to_vec(rt.alloc())?),
-            (None, None, Some(digits)) => decode_hex(rt.alloc(), digits.as_bytes()),
+    // The one that is given.
+    fn given(self) -> Result<Given<'a>> {
+        let (file, text) = (self.keys.text("file")?, self.keys.text("text")?);
+        match (file, text, self.keys.text("hex")?) {
+            (Some(name), None, None) => Ok(Given::File(name)),
+            (None, Some(text), None) => Ok(Given::Text(text)),
+            (None, None, Some(digits)) => Ok(Given::Hex(digits)),
             _ => bail!("a part has one of file, text and hex"),
         }
     }
@@ -73,45 +81,71 @@ impl<'a> Part<'a> {
     }
 
     fn piece<R: Files + AllocGlobal>(self, rt: &R) -> Result<Piece> {
-        let mut bytes = self.given(rt)?;
-        if let Some(length) = self.keys.count("cut")? {
-            bytes.truncate(usize::try_from(length)?);
-        }
+        let times = self.keys.count("times")?.unwrap_or(1);
+        let length = usize::try_from(self.keys.count("cut")?.unwrap_or(u64::MAX))?;
+        let mut bytes = bytes_given(rt, self.given()?)?;
+        bytes.truncate(length);
         self.change(&mut bytes)?;
-        Ok(Piece {
-            bytes,
-            times: self.keys.count("times")?.unwrap_or(1),
-        })
+        Ok(Piece { bytes, times })
+    }
+}
+
+fn bytes_given<R: Files + AllocGlobal>(rt: &R, given: Given) -> Result<Vec<u8>> {
+    match given {
+        Given::File(name) => read_file(rt, name),
+        Given::Text(text) => Ok(text.as_bytes().to_vec(rt.alloc())?),
+        Given::Hex(digits) => decode_hex(rt.alloc(), digits.as_bytes()),
+    }
+}
+
+// A name is that of a file.
+fn piece_of<R: Files + AllocGlobal>(rt: &R, value: &Value) -> Result<Piece> {
+    match value {
+        Value::String(name) => Ok(Piece {
+            bytes: read_file(rt, name.as_str())?,
+            times: 1,
+        }),
+        part => Part::of(part)?.piece(rt),
     }
 }
 
 impl<'a> Content<'a> {
-    pub fn of(value: &'a Value) -> Content<'a> {
+    pub(crate) fn of(value: &'a Value) -> Content<'a> {
         Content { value }
     }
 
     /// The pieces, in order.
     pub fn pieces<R: Files + AllocGlobal>(self, rt: &R) -> Result<Vec<Piece>> {
-        match self.value {
-            Value::String(name) => {
-                let bytes = read_file(rt, name.as_str())?;
-                Ok(vec![in rt.alloc(); Piece { bytes, times: 1 }]?)
-            }
-            Value::Array(parts) => pieces_of_parts(rt, parts.as_slice()),
-            part => Ok(vec![in rt.alloc(); Part::of(part)?.piece(rt)?]?),
+        let values = match self.value {
+            Value::Array(parts) => parts.as_slice(),
+            value => slice::from_ref(value),
+        };
+        let mut pieces = Vec::new(rt.alloc());
+        for value in values {
+            pieces.push(piece_of(rt, value)?)?;
         }
+        Ok(pieces)
     }
 
     /// All the bytes.
     pub fn whole<R: Files + AllocGlobal>(self, rt: &R) -> Result<Vec<u8>> {
-        Ok(whole(rt.alloc(), &self.pieces(rt)?)?)
+        let pieces = self.pieces(rt)?;
+        Ok(whole(rt.alloc(), &pieces)?)
     }
 }
 
-fn pieces_of_parts<R: Files + AllocGlobal>(rt: &R, parts: &[Value]) -> Result<Vec<Piece>> {
-    let mut pieces = Vec::new(rt.alloc());
-    for part in parts {
-        pieces.push(Part::of(part)?.piece(rt)?)?;
+/// The pieces of contents, where there are any.
+pub fn pieces_of<R: Files + AllocGlobal>(rt: &R, content: Option<Content>) -> Result<Vec<Piece>> {
+    match content {
+        Some(content) => content.pieces(rt),
+        None => Ok(Vec::new(rt.alloc())),
     }
-    Ok(pieces)
+}
+
+/// The bytes of contents, where there are any.
+pub fn bytes_of<R: Files + AllocGlobal>(rt: &R, content: Option<Content>) -> Result<Vec<u8>> {
+    match content {
+        Some(content) => content.whole(rt),
+        None => Ok(Vec::new(rt.alloc())),
+    }
 }

@@ -1,5 +1,5 @@
 //! What a terminal shows: the lines that are typed, each after `> `, and the replies between them.
-use crate::pieces::Piece;
+use case_contents::Piece;
 use std::alloc::{AllocError, Global};
 
 /// What is typed, and what is shown in reply.
@@ -24,12 +24,16 @@ impl Terminal {
             if terminal.typed.len() > most {
                 break;
             }
-            match typed_line(line) {
-                Some(typed) => add_line(&mut terminal.typed, typed)?,
-                None => add_line(&mut terminal.shown, line)?,
-            }
+            terminal.add(line)?;
         }
         Ok(terminal)
+    }
+
+    fn add(&mut self, line: &str) -> Result<(), AllocError> {
+        match typed_line(line) {
+            Some(typed) => add_line(&mut self.typed, typed),
+            None => add_line(&mut self.shown, line),
+        }
     }
 
     /// What is typed, as one piece.

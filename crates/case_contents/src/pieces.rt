@@ -12,13 +12,20 @@ pub struct Piece {
     pub times: u64,
 }
 
+impl Piece {
+    fn append_to(&self, bytes: &mut Vec<u8>) -> Result<(), AllocError> {
+        for _ in 0..self.times {
+            bytes.extend_from_slice(&self.bytes)?;
+        }
+        Ok(())
+    }
+}
+
 /// All the bytes, one piece after another.
-pub fn whole(alloc: Global, pieces: &Vec<Piece>) -> Result<Vec<u8>, AllocError> {
+pub(crate) fn whole(alloc: Global, pieces: &[Piece]) -> Result<Vec<u8>, AllocError> {
     let mut bytes = Vec::new(alloc);
     for piece in pieces {
-        for _ in 0..piece.times {
-            bytes.extend_from_slice(&piece.bytes)?;
-        }
+        piece.append_to(&mut bytes)?;
     }
     Ok(bytes)
 }

@@ -1,41 +1,11 @@
-//! How cases are counted, and a difference is told.
-use anyhow::{Error, anyhow};
+//! How a difference is told.
+use anyhow::{Error, Result, anyhow};
 use audit_types::NoMemory;
 use std::{fmt, io};
 
 /// Want of memory, as the program tells it.
 pub fn no_memory(_: NoMemory) -> Error {
     anyhow!("out of memory")
-}
-
-/// How many cases passed, how many differ that are there to differ, and how many failed.
-#[derive(Clone, Copy, Debug, Default)]
-pub struct Tally {
-    pub passed: u32,
-    pub differing: u32,
-    pub failed: u32,
-}
-
-impl Tally {
-    /// Counts a case by whether all that was due of it came, and whether it is there to differ.
-    pub fn count(&mut self, met: bool, differs: bool) {
-        let count = match (met, differs) {
-            (true, false) => &mut self.passed,
-            (false, true) => &mut self.differing,
-            (true, true) | (false, false) => &mut self.failed,
-        };
-        *count = count.saturating_add(1);
-    }
-}
-
-impl fmt::Display for Tally {
-    fn fmt<W: fmt::Write>(&self, f: &mut fmt::Formatter<W>) -> fmt::Result {
-        write!(
-            f,
-            "{} cases passed, {} differ as due, {} failed",
-            self.passed, self.differing, self.failed
-        )
-    }
 }
 
 /// A case, by its script and what it shows.
@@ -53,8 +23,8 @@ impl Case<'_> {
         place: P,
         what: W,
     ) -> io::Result<()> {
-        println!(rt; "{}: {}", self.script, self.shows)?;
-        println!(rt; "  {place}: {what}")
+        let Case { script, shows } = self;
+        println!(rt; "{script}: {shows}\n  {place}: {what}")
     }
 
     /// Whether what came is what was due; a difference is printed.
@@ -64,13 +34,12 @@ impl Case<'_> {
         what: &str,
         due: &T,
         came: &T,
-    ) -> io::Result<bool> {
+    ) -> Result<bool> {
         if due == came {
             return Ok(true);
         }
-        println!(rt; "{}: {}", self.script, self.shows)?;
-        println!(rt; "  {what} due:  {due}")?;
-        println!(rt; "  {what} came: {came}")?;
+        let Case { script, shows } = self;
+        println!(rt; "{script}: {shows}\n  {what} due:  {due}\n  {what} came: {came}")?;
         Ok(false)
     }
 }

@@ -1,4 +1,5 @@
 //! A table of a script, of which each key is read by its name.
+use crate::content::Content;
 use anyhow::{Result, bail};
 use toml::{Table, Value};
 
@@ -11,7 +12,7 @@ pub struct Keys<'a> {
 impl<'a> Keys<'a> {
     pub fn of(table: &'a Table, known: &[&str]) -> Result<Keys<'a>> {
         for key in table.keys() {
-            if !known.iter().any(|name| *name == key.as_str()) {
+            if !is_among(key.as_str(), known) {
                 bail!("unknown key {key}");
             }
         }
@@ -25,8 +26,15 @@ impl<'a> Keys<'a> {
         }
     }
 
-    pub fn value(self, key: &str) -> Option<&'a Value> {
-        self.table.get(key)
+    pub fn has(self, key: &str) -> bool {
+        self.table.get(key).is_some()
+    }
+
+    pub fn content(self, key: &str) -> Option<Content<'a>> {
+        match self.table.get(key) {
+            Some(value) => Some(Content::of(value)),
+            None => None,
+        }
     }
 
     pub fn table(self, key: &str, known: &[&str]) -> Result<Option<Keys<'a>>> {
@@ -68,8 +76,17 @@ impl<'a> Keys<'a> {
     }
 }
 
+fn is_among(key: &str, known: &[&str]) -> bool {
+    for name in known {
+        if *name == key {
+            return true;
+        }
+    }
+    false
+}
+
 /// The number that a value is, from 0.
-pub fn count_of(value: &Value) -> Result<u64> {
+pub(crate) fn count_of(value: &Value) -> Result<u64> {
     match value {
         Value::Integer(number) if *number >= 0 => Ok(*number as u64),
         _ => bail!("a number from 0 is due"),

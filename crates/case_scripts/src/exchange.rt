@@ -1,0 +1,47 @@
+//! What a run is typed, and what is due in reply.
+use crate::run::Run;
+use crate::terminal::Terminal;
+use anyhow::{Result, bail};
+use case_contents::{Content, Piece, bytes_of, pieces_of};
+use std::alloc::Global;
+use std::rt::Files;
+
+/// What a run is typed, and what is due in reply.
+#[derive(Drop)]
+pub struct Exchange {
+    pub typed: Vec<Piece>,
+    pub shown: Vec<u8>,
+}
+
+impl Exchange {
+    pub fn of<R: Files + AllocGlobal>(rt: &R, run: Run) -> Result<Exchange> {
+        let (input, sent) = (run.content("input"), run.content("sent"));
+        let Some(screen) = run.terminal()? else {
+            return Exchange::of_contents(rt, input, sent);
+        };
+        if input.is_some() || sent.is_some() {
+            bail!("a terminal beside an input or what is sent");
+        }
+        Exchange::of_terminal(rt.alloc(), screen)
+    }
+
+    fn of_contents<R: Files + AllocGlobal>(
+        rt: &R,
+        input: Option<Content>,
+        sent: Option<Content>,
+    ) -> Result<Exchange> {
+        let shown = bytes_of(rt, sent)?;
+        Ok(Exchange {
+            typed: pieces_of(rt, input)?,
+            shown,
+        })
+    }
+
+    fn of_terminal(alloc: Global, screen: &str) -> Result<Exchange> {
+        let terminal = Terminal::read(alloc, screen)?;
+        Ok(Exchange {
+            typed: terminal.pieces(alloc)?,
+            shown: terminal.shown,
+        })
+    }
+}
