@@ -6,7 +6,7 @@ use crate::edits::put;
 use itoa::{Buffer, Integer};
 
 /// What is sent for one counted line.
-#[derive(Clone, Copy)]
+#[derive(Clone, Copy, PartialEq, Eq)]
 pub enum Reply {
     /// So many rows satisfy the condition.
     Count(u16),
