@@ -133,7 +133,6 @@ fn texts_equal(index: &Index, column: u8, text: &[u8]) -> RowSet
 }
 
 // Texts have no order.
-#[tactic(auto, using(crate::proofs::Meets::meets_none))]
 fn texts_where(index: &Index, column: u8, op: Op, text: &[u8]) -> RowSet
     requires { HasTexts (cells_at index.now column) }
     ensures n { result.n ≡ index.now.rows }
