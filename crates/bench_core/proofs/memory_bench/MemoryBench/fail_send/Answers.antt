@@ -1,4 +1,5 @@
 use Rattle.std.proofs.Common.{rules, ◌<◌, ◌++◌, length, arith, ap, refl, ◌∙◌, length-append, true}
+use Rattle.std.proofs.lemmas.Grind.{common_steps}
 use Rattle.bench_core.specs.Machine.{sending}
 use Rattle.bench_core.specs.LogContents.{LogContents}
 use Rattle.bench_core.specs.BenchContents.{BenchContents, sent_of}
@@ -29,3 +30,6 @@ invariant_of-self c =
       most_sent = ap (λ (l : LogContents). l.most_sent) log;
       counted = omega (arith, same_sent, length-append b.log.sent c.args.front.now, tied.counted, early);
     })
+
+pub returns-clause-changed : goal.returns-clause-changed
+returns-clause-changed c = grind (arith, common_steps)
