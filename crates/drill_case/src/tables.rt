@@ -1,5 +1,5 @@
 //! The table of a drill.
-ghost use Rattle.std.specs.Prelude.{◌≡◌, ◌<◌, ◌≤◌, ◌++◌, ◌∷◌, ◌+◌, ◌%◌, [], pos, map, get_or, IfOk, OnOk};
+ghost use Rattle.std.specs.Prelude.{◌≡◌, ◌<◌, ◌≤◌, ◌++◌, ◌∷◌, ◌+◌, ◌%◌, [], pos, map, IfOk, OnOk};
 ghost use Rattle.audit_types.specs.Limits.{most_rows};
 ghost use Rattle.table_load.specs.Cells.{FitsSchema};
 ghost use Rattle.drill_case.specs.Tables.{drill_rows, drill_columns, drill_public, drill_secret, bands, ages, pays, bests};
@@ -52,14 +52,13 @@ fn put(list: &mut Vec<i64>, number: u32) -> Result<(), AllocError>
     Ok(())
 }
 
-// Puts the numbers of one row behind the others, by its four draws.
-fn put_row(drawn: &mut Numbers, draws: [u32; 4]) -> Result<(), AllocError>
-    ensures bands { OnOk result (drawn.new.bands.items ≡ drawn.old.bands.items ++ pos (get_or draws 0 0 % 8) ∷ []) }
-    ensures ages { OnOk result (drawn.new.ages.items ≡ drawn.old.ages.items ++ pos (20 + get_or draws 1 0 % 50) ∷ []) }
-    ensures pays { OnOk result (drawn.new.pays.items ≡ drawn.old.pays.items ++ pos (get_or draws 2 0 % 100000) ∷ []) }
-    ensures bests { OnOk result (drawn.new.bests.items ≡ drawn.old.bests.items ++ pos (get_or draws 3 0 % 1000) ∷ []) }
+// Puts the numbers of one row behind the others, by its draws.
+fn put_row(drawn: &mut Numbers, band: u32, age: u32, pay: u32, best: u32) -> Result<(), AllocError>
+    ensures bands { OnOk result (drawn.new.bands.items ≡ drawn.old.bands.items ++ pos (band % 8) ∷ []) }
+    ensures ages { OnOk result (drawn.new.ages.items ≡ drawn.old.ages.items ++ pos (20 + age % 50) ∷ []) }
+    ensures pays { OnOk result (drawn.new.pays.items ≡ drawn.old.pays.items ++ pos (pay % 100000) ∷ []) }
+    ensures bests { OnOk result (drawn.new.bests.items ≡ drawn.old.bests.items ++ pos (best % 1000) ∷ []) }
 {
-    let [band, age, pay, best] = draws;
     put(&mut drawn.bands, band % 8)?;
     put(&mut drawn.ages, 20 + age % 50)?;
     put(&mut drawn.pays, pay % 100_000)?;
@@ -80,7 +79,8 @@ fn draw_numbers(alloc: Global, number: u32, rows: u16) -> Result<Numbers, AllocE
     };
     let mut draws = Draws::new(number);
     for _row in 0..rows {
-        put_row(&mut drawn, draws.four())?;
+        let [band, age, pay, best] = draws.four();
+        put_row(&mut drawn, band, age, pay, best)?;
     }
     Ok(drawn)
 }
