@@ -4,7 +4,7 @@ ghost use Rattle.drill_case.specs.Tallies.{HasKind};
 use line_wire::{Reply, read_reply};
 
 /// What a line tells that was sent.
-#[derive(Clone, Copy, Debug, PartialEq, Eq)]
+#[derive(Clone, Copy)]
 pub(crate) enum ReplyKind {
     /// A sum, an average or a maximum.
     Released,

@@ -64,6 +64,15 @@ fn put_ages(lines: &mut Vec<u8>, least: u8, most: u8) -> Result<(), AllocError>
     put_number(lines, most)
 }
 
+// The least and the most age that a line asks for, by two draws.
+fn ages_of_draws(from: u32, span: u32) -> (u8, u8)
+    ensures least { result.0 ≡ 20 + from % 50 }
+    ensures most { result.1 ≡ 20 + from % 50 + span % 30 }
+{
+    let least = 20 + (from % 50) as u8;
+    (least, least + (span % 30) as u8)
+}
+
 // Appends the line of four draws.
 #[tactic(auto, unfolding(crate::specs::Lines::line_of_draws))]
 fn put_line(
@@ -76,8 +85,7 @@ fn put_line(
     ensures exact { OnOk result (lines.new.items ≡ lines.old.items ++ line_of_draws ask from span band) }
     ensures short { OnOk result (length lines.new.items ≤ length lines.old.items + 100) }
 {
-    let least = 20 + (from % 50) as u8;
-    let most = least + (span % 30) as u8;
+    let (least, most) = ages_of_draws(from, span);
     lines.extend_from_slice(b"{\"ask\":")?;
     lines.extend_from_slice(question_text(ask))?;
     lines.extend_from_slice(b",\"where\":\"")?;

@@ -1,5 +1,5 @@
 //! The table of a drill.
-ghost use Rattle.std.specs.Prelude.{◌≡◌, ◌<◌, ◌≤◌, ◌++◌, ◌∷◌, [], pos, IfOk, OnOk};
+ghost use Rattle.std.specs.Prelude.{◌≡◌, ◌<◌, ◌≤◌, ◌++◌, ◌∷◌, ◌+◌, ◌%◌, [], pos, map, IfOk, OnOk};
 ghost use Rattle.audit_types.specs.Limits.{most_rows};
 ghost use Rattle.table_load.specs.Cells.{FitsSchema};
 ghost use Rattle.drill_case.specs.Tables.{drill_rows, drill_columns, drill_public, drill_secret, bands, ages, pays, bests};
@@ -52,6 +52,19 @@ fn put(list: &mut Vec<i64>, number: u32) -> Result<(), AllocError>
     Ok(())
 }
 
+// Puts the numbers of one row behind the others, by its draws.
+fn put_row(drawn: &mut Numbers, band: u32, age: u32, pay: u32, best: u32) -> Result<(), AllocError>
+    ensures bands { OnOk result (drawn.new.bands.items ≡ drawn.old.bands.items ++ pos (band % 8) ∷ []) }
+    ensures ages { OnOk result (drawn.new.ages.items ≡ drawn.old.ages.items ++ pos (20 + age % 50) ∷ []) }
+    ensures pays { OnOk result (drawn.new.pays.items ≡ drawn.old.pays.items ++ pos (pay % 100000) ∷ []) }
+    ensures bests { OnOk result (drawn.new.bests.items ≡ drawn.old.bests.items ++ pos (best % 1000) ∷ []) }
+{
+    put(&mut drawn.bands, band % 8)?;
+    put(&mut drawn.ages, 20 + age % 50)?;
+    put(&mut drawn.pays, pay % 100_000)?;
+    put(&mut drawn.bests, best % 1000)
+}
+
 fn draw_numbers(alloc: Global, number: u32, rows: u16) -> Result<Numbers, AllocError>
     ensures bands { IfOk result (λ drawn. drawn.bands.items ≡ bands number rows) }
     ensures ages { IfOk result (λ drawn. drawn.ages.items ≡ ages number rows) }
@@ -67,12 +80,26 @@ fn draw_numbers(alloc: Global, number: u32, rows: u16) -> Result<Numbers, AllocE
     let mut draws = Draws::new(number);
     for _row in 0..rows {
         let [band, age, pay, best] = draws.four();
-        put(&mut drawn.bands, band % 8)?;
-        put(&mut drawn.ages, 20 + age % 50)?;
-        put(&mut drawn.pays, pay % 100_000)?;
-        put(&mut drawn.bests, best % 1000)?;
+        put_row(&mut drawn, band, age, pay, best)?;
     }
     Ok(drawn)
+}
+
+// The numbers of the public columns, and those of the secret ones.
+#[derive(Drop)]
+struct Lists {
+    public: Vec<Vec<i64>>,
+    secret: Vec<Vec<i64>>,
+}
+
+fn draw_lists(alloc: Global, number: u32, rows: u16) -> Result<Lists, AllocError>
+    ensures public { IfOk result (λ lists. map (λ v. v.items) lists.public.items ≡ bands number rows ∷ ages number rows ∷ []) }
+    ensures secret { IfOk result (λ lists. map (λ v. v.items) lists.secret.items ≡ pays number rows ∷ bests number rows ∷ []) }
+{
+    let drawn = draw_numbers(alloc, number, rows)?;
+    let public = vec![in alloc; drawn.bands, drawn.ages]?;
+    let secret = vec![in alloc; drawn.pays, drawn.bests]?;
+    Ok(Lists { public, secret })
 }
 
 /// The table of a drill.
@@ -82,10 +109,8 @@ pub fn drill_table(alloc: Global, number: u32) -> Result<Table, NoMemory>
     ensures fits { IfOk result (λ table. FitsSchema drill_columns table.public) }
 {
     let schema = drill_schema(alloc)?;
-    let drawn = draw_numbers(alloc, number, row_count())?;
-    let lists = vec![in alloc; drawn.bands, drawn.ages]?;
-    let public = Public::of_numbers(alloc, &schema, lists)?;
-    let lists = vec![in alloc; drawn.pays, drawn.bests]?;
-    let secret = Secret::new(schema.shape(row_count()), lists);
+    let lists = draw_lists(alloc, number, row_count())?;
+    let public = Public::of_numbers(alloc, &schema, lists.public)?;
+    let secret = Secret::new(schema.shape(row_count()), lists.secret);
     Ok(Table { public, secret })
 }

@@ -6,7 +6,7 @@ ghost use Rattle.drill_case.specs.Tallies.{Counts};
 use crate::kinds::ReplyKind;
 
 /// How many lines were sent, and how many of them are answers, denials, and others.
-#[derive(Clone, Copy, Debug, PartialEq, Eq)]
+#[derive(Clone, Copy)]
 pub struct Tally {
     pub asked: u32,
     pub released: u32,

@@ -2,7 +2,6 @@
 use answer_journal::Journal;
 use audit_types::{Answered, RowSet};
 use bench_core::{MemoryBench, Room};
-use std::test::Fail;
 
 // Of six rows, with a column of sums and one of maxima.
 const MADE: [u8; 21] = [
@@ -15,21 +14,24 @@ const WITH_ONE: [u8; 33] = [
     1, 44, 3, 0,
 ];
 
+const ROOM: Room = Room {
+    file: 100,
+    sent: 0,
+    calls: 20,
+    written: 100,
+};
+
 #[test]
-fn a_sum_is_appended(rt: HostRuntime) -> Result<(), Fail> {
+fn a_sum_is_appended(rt: HostRuntime) {
     let alloc = rt.alloc();
-    let room = Room {
-        file: 100,
-        sent: 0,
-        calls: 20,
-        written: 100,
-    };
-    let mut bench = MemoryBench::new(alloc, &MADE, room, Vec::new(alloc), None)?;
+    let mut bench = MemoryBench::new(alloc, &MADE, ROOM, Vec::new(alloc), None).expect(
+        &rt, "memory",
+    );
     let (mut journal, list) = match Journal::read_back(alloc, &mut bench) {
         Ok(read) => read,
         Err(_) => panic!(rt; "a journal was made"),
     };
-    assert_eq!(rt; list.len(), 0);
+    assert!(rt; list.is_empty());
     let mut rows = RowSet::new(6);
     rows.add(0);
     rows.add(1);
@@ -40,7 +42,6 @@ fn a_sum_is_appended(rt: HostRuntime) -> Result<(), Fail> {
         rows,
         answer: 300,
     };
-    assert_eq!(rt; journal.append(&mut bench, &[sum]), Ok(()));
-    assert_eq!(rt; bench.file(), WITH_ONE.as_slice());
-    Ok(())
+    assert!(rt; journal.append(&mut bench, &[sum]).is_ok());
+    assert!(rt; bench.file() == WITH_ONE.as_slice());
 }

@@ -1,13 +1,17 @@
-//! Calls of libraries that no command of the program makes, and definitions tried on cases worked out by hand. It has tests
-//! alone, so that no other library is proved a second time with its tests.
+//! Calls of libraries that no command of the program makes, adapters over real files, and definitions tried on cases worked
+//! out by hand. It has tests alone, so that no other library is proved a second time with its tests.
 #![tactic(auto)]
 
+#[cfg(test)]
+mod adapters;
 #[cfg(test)]
 mod bases;
 #[cfg(test)]
 mod candidates;
 #[cfg(test)]
 mod conditions;
+#[cfg(test)]
+mod counted_files;
 #[cfg(test)]
 mod definitions;
 #[cfg(test)]

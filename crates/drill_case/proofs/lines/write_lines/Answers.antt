@@ -1,9 +1,16 @@
-use Rattle.std.proofs.Common.{◌≡◌, ◌+◌, ◌*◌, ◌++◌, ℕ, List, get_or, sym, ap, ◌∙◌, arith}
+use Rattle.std.proofs.Common.{◌≡◌, ◌+◌, ◌*◌, ◌++◌, ℕ, List, get_or, length, sym, ap, ◌∙◌, arith}
 use Rattle.drill_case.specs.Draws.{state_after}
 use Rattle.drill_case.specs.Tables.{drill_rows}
 use Rattle.drill_case.specs.Lines.{drill_line, line_of_draws}
 use Rattle.drill_case.proofs.LinesInOrder.{one_line_more}
 use Rattle.drill_case.proofs.lines.write_lines.Goals as goal
+
+pub loop-line-init : goal.loop-line-init
+loop-line-init c = record {
+  state = c.skip_fours.ensures c.args.number c.new-draws.ensures ∙ ap (λ (rows : ℕ). state_after c.args.number (4 * rows)) c.row_count.ensures.rows ∙ ap (state_after c.args.number) (omega arith);
+  lines = c.new-lines.ensures.items;
+  short = omega (arith, ap (λ (l : List ℕ). length l) c.new-lines.ensures.items);
+}
 
 pub loop-line-preserved : goal.loop-line-preserved
 loop-line-preserved c =

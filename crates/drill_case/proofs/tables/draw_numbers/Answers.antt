@@ -10,10 +10,11 @@ loop-row-preserved c =
     let had = c.loop-row.invariant in
     let next = c.four.ensures number (4 * row) had.state in
     let first : get_or c.four.result 0 0 ≡ draw number (4 * row + 0) = ap (λ (l : List ℕ). get_or l 0 0) next.1 ∙ ap (draw number) (omega arith) in
+    let put = c.in_ok-put_row.ensures in
     record {
       state = next.0 ∙ ap (state_after number) (omega arith);
-      bands = grows number 0 row _ (λ d. d % 8) _ _ had.bands c.in_ok-put.ensures first;
-      ages = grows number 1 row _ (λ d. 20 + d % 50) _ _ had.ages c.in_ok-put-2.ensures (ap (λ (l : List ℕ). get_or l 1 0) next.1);
-      pays = grows number 2 row _ (λ d. d % 100000) _ _ had.pays c.in_ok-put-3.ensures (ap (λ (l : List ℕ). get_or l 2 0) next.1);
-      bests = grows number 3 row _ (λ d. d % 1000) _ _ had.bests c.in_ok-put-4.ensures (ap (λ (l : List ℕ). get_or l 3 0) next.1);
+      bands = grows number 0 row _ (λ d. d % 8) _ _ had.bands put.bands first;
+      ages = grows number 1 row _ (λ d. 20 + d % 50) _ _ had.ages put.ages (ap (λ (l : List ℕ). get_or l 1 0) next.1);
+      pays = grows number 2 row _ (λ d. d % 100000) _ _ had.pays put.pays (ap (λ (l : List ℕ). get_or l 2 0) next.1);
+      bests = grows number 3 row _ (λ d. d % 1000) _ _ had.bests put.bests (ap (λ (l : List ℕ). get_or l 3 0) next.1);
     }

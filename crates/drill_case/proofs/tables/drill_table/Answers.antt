@@ -1,4 +1,4 @@
-use Rattle.std.proofs.Common.{◌≡◌, ℕ, ℤ, [], ◌∷◌, Vec, Global, map, sym, ap, ◌∙◌, subst}
+use Rattle.std.proofs.Common.{◌≡◌, ℕ, ℤ, Vec, Global, map, sym, ap, ◌∙◌, subst}
 use Rattle.std.specs.List.{AllByRecursion}
 use Rattle.audit_types.specs.declared.shapes.Shape.{Shape}
 use Rattle.table_load.specs.Cells.{AreNumbers}
@@ -7,14 +7,10 @@ use Rattle.drill_case.proofs.tables.drill_table.Goals as goal
 
 pub of_numbers-requires : goal.of_numbers-requires
 of_numbers-requires c =
-    let drawn = c.in_ok-drawn.ensures in
-    let lists = ap (map (λ (v : Vec ℤ Global). v.items)) c.in_ok-lists.ensures.items ∙ (λ i. drawn.bands i ∷ drawn.ages i ∷ []) in
-    lists_fit c.args.number c.row_count.result _ _ c.row_count.ensures.some c.row_count.ensures.at_most c.in_ok-schema.ensures lists
+    lists_fit c.args.number c.row_count.result _ _ c.row_count.ensures.some c.row_count.ensures.at_most c.in_ok-schema.ensures c.in_ok-lists.ensures.public
 
 pub new-secret-requires-clause-numbers : goal.new-secret-requires-clause-numbers
 new-secret-requires-clause-numbers c =
-    let drawn = c.in_ok-drawn.ensures in
-    let lists = ap (map (λ (v : Vec ℤ Global). v.items)) c.in_ok-lists-2.ensures.items ∙ (λ i. drawn.pays i ∷ drawn.bests i ∷ []) in
     let same : c.row_count.result ≡ c.shape.result.rows = c.row_count.ensures.rows ∙ sym c.row_count-2.ensures.rows ∙ sym (ap (λ (s : Shape). s.rows) c.shape.ensures.shape) in
-    subst (λ (n : ℕ). AllByRecursion (AreNumbers n) (map (λ (v : Vec ℤ Global). v.items) c.in_ok-lists-2.lists.items)) same
-    (secrets_fit c.args.number c.row_count.result _ lists)
+    subst (λ (n : ℕ). AllByRecursion (AreNumbers n) (map (λ (v : Vec ℤ Global). v.items) c.in_ok-lists.lists.secret.items)) same
+    (secrets_fit c.args.number c.row_count.result _ c.in_ok-lists.ensures.secret)
