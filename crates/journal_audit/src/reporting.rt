@@ -41,6 +41,7 @@ fn send_rows<B: Bench>(
     place: u8,
     column: u8,
     sums: &SumColumn,
+    line: &mut Vec<u8>,
     bench: &mut B,
 ) -> Result<(), AuditFault>
     requires named { secret_place schema.now.columns place ≡ Some column }
@@ -53,10 +54,9 @@ fn send_rows<B: Bench>(
     free_numbers();
     let name = schema.name(place);
     let sets = column_sets(alloc, column, store.history())?;
-    let mut line = Vec::new(alloc);
     for row in 0..sums.n() {
-        write_row(alloc, &mut line, name, sums, &sets, row)?;
-        send_line(bench, &line)?;
+        write_row(alloc, line, name, sums, &sets, row)?;
+        send_line(bench, line)?;
     }
     Ok(())
 }
@@ -69,6 +69,7 @@ fn send_highest<B: Bench>(
     place: u8,
     column: u8,
     maxima: &MaxColumn,
+    line: &mut Vec<u8>,
     bench: &mut B,
 ) -> Result<(), AuditFault>
     requires named { secret_place schema.now.columns place ≡ Some column }
@@ -82,10 +83,9 @@ fn send_highest<B: Bench>(
     if let Some(_) = maxima.fixed() {
         unreachable!();
     }
-    let mut line = Vec::new(alloc);
     let name = schema.name(place);
-    write_column(alloc, &mut line, name, column, store.history(), maxima)?;
-    send_line(bench, &line)
+    write_column(alloc, line, name, column, store.history(), maxima)?;
+    send_line(bench, line)
 }
 
 // Sends the lines on a secret column.
@@ -95,6 +95,7 @@ fn send_column<B: Bench>(
     store: &Store,
     place: u8,
     column: u8,
+    line: &mut Vec<u8>,
     bench: &mut B,
 ) -> Result<(), AuditFault>
     requires named { secret_place schema.now.columns place ≡ Some column }
@@ -104,8 +105,10 @@ fn send_column<B: Bench>(
     ensures { SendsLinesOn B.Bench (audit_of schema.now.columns store.now) (subjects_of store.now.secret.shape column (kind_at store.now.secret.shape column)) bench.old bench.new result }
 {
     match store.core().column(column) {
-        ColumnRef::Sum(sums) => send_rows(alloc, schema, store, place, column, sums, bench),
-        ColumnRef::Max(maxima) => send_highest(alloc, schema, store, place, column, maxima, bench),
+        ColumnRef::Sum(sums) => send_rows(alloc, schema, store, place, column, sums, line, bench),
+        ColumnRef::Max(maxima) => send_highest(
+            alloc, schema, store, place, column, maxima, line, bench,
+        ),
     }
 }
 
@@ -114,6 +117,7 @@ fn send_columns<B: Bench>(
     alloc: Global,
     schema: &Schema,
     store: &Store,
+    line: &mut Vec<u8>,
     bench: &mut B,
 ) -> Result<(), AuditFault>
     requires usable { store.now.usable ≡ true }
@@ -124,7 +128,7 @@ fn send_columns<B: Bench>(
     schema_json::laws::shape_of_a_table();
     for place in 0..schema.count() {
         if let Some(column) = schema.secret(place) {
-            send_column(alloc, schema, store, place, column, bench)?;
+            send_column(alloc, schema, store, place, column, line, bench)?;
         }
     }
     Ok(())
@@ -132,22 +136,16 @@ fn send_columns<B: Bench>(
 
 // Sends the line of totals.
 fn send_totals<B: Bench>(
-    alloc: Global,
     store: &Store,
     schema: &Schema,
+    line: &mut Vec<u8>,
     bench: &mut B,
 ) -> Result<(), AuditFault>
     ensures { SendsLinesOn B.Bench (audit_of schema.now.columns store.now) (totals ∷ []) bench.old bench.new result }
 {
     let shape = store.secret().shape();
-    let mut line = Vec::new(alloc);
-    write_totals(
-        &mut line,
-        store.history().len(),
-        shape.columns(),
-        shape.rows,
-    )?;
-    send_line(bench, &line)
+    write_totals(line, store.history().len(), shape.columns(), shape.rows)?;
+    send_line(bench, line)
 }
 
 /// Sends the report of a store's history over the secret columns of a schema: a line a send. Each list is checked before its
@@ -180,6 +178,7 @@ pub fn audit<B: Bench>(
 {
     // A store says of itself that its history is legal.
     let _history = store.history();
-    send_columns(alloc, schema, store, bench)?;
-    send_totals(alloc, store, schema, bench)
+    let mut line = Vec::new(alloc);
+    send_columns(alloc, schema, store, &mut line, bench)?;
+    send_totals(store, schema, &mut line, bench)
 }

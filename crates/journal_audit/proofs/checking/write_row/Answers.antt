@@ -1,6 +1,7 @@
-use Rattle.std.proofs.Common.{rules, ◌≡◌, ℕ, ℤ, pos, ◌<ℤ◌, ◌≢◌, List, sym, ap, ◌∙◌, subst, arith}
+use Rattle.std.proofs.Common.{◌≡◌, ℕ, ℤ, pos, ◌<◌, ◌<ℤ◌, ◌≢◌, List, sym, ap, ◌∙◌, subst, arith}
+use Rattle.std.proofs.lemmas.Bool.{false≢true}
+use Rattle.std.specs.List.{AllByRecursion}
 use Rattle.audit_types.specs.Truth.{number_at}
-use Rattle.audit_types.specs.Direction.{IsCanonicalDirection}
 use Rattle.sum_audit.specs.Sets.{sets_of}
 use Rattle.witness_check.specs.Directions.{lists_of, MovesRow}
 use Rattle.journal_audit.specs.Texts.{direction_line}
@@ -8,6 +9,18 @@ use Rattle.journal_audit.proofs.checking.write_row.Goals as goal
 
 not_zero : (x : ℤ) → pos 0 <ℤ x → x ≢ pos 0
 not_zero x positive none = grind arith
+
+pub sum_witness-requires-clause-row : goal.sum_witness-requires-clause-row
+sum_witness-requires-clause-row c = c.requires.row
+
+pub sum_witness-requires-clause-free : goal.sum_witness-requires-clause-free
+sum_witness-requires-clause-free c = c.requires.free
+
+pub check_direction-requires-clause-same_n : goal.check_direction-requires-clause-same_n
+check_direction-requires-clause-same_n c = subst (λ n. AllByRecursion (λ s. s.n ≡ n) c.args.sets.now) (sym c.n.ensures.n) c.requires.same_n
+
+pub check_direction-requires-clause-row : goal.check_direction-requires-clause-row
+check_direction-requires-clause-row c = subst (λ n. c.args.row < n) (sym c.n.ensures.n) c.requires.row
 
 pub unreachable-requires : goal.unreachable-requires
 unreachable-requires c =
@@ -23,7 +36,7 @@ unreachable-requires c =
     let here = subst (λ (l : List ℤ). MovesRow c.n.result (lists_of c.args.sets.now) c.args.row l) (sym c.deref.ensures.value)
     (subst (λ (n : ℕ). MovesRow n (lists_of c.args.sets.now) c.args.row d) (sym c.n.ensures.n)
     (subst (λ (sets : List (List ℕ)). MovesRow sums.n sets c.args.row d) (sym c.requires.sets) moves)) in
-    search (rules, c.if-not-check_direction.ensures.exact.1 here)
+    false≢true (c.if-not-check_direction.ensures.exact.1 here)
 
 pub returns : goal.returns
 returns c =

@@ -4,9 +4,10 @@ use Rattle.journal_audit.specs.Reports.{audit_of, subjects, subjects_before, tot
 use Rattle.journal_audit.proofs.LinesOn.{refusal_is, and_then, refused}
 use Rattle.journal_audit.proofs.reporting.audit.Given.{Over}
 use Rattle.journal_audit.proofs.reporting.audit.Goals as goal
+use Rattle.journal_audit.proofs.reporting.audit.Goals.{After-drop-line}
 
 -- the columns' lines were refused
-refused_first : (g : Over) (c : goal.After-from_residual g) →
+refused_first : (g : Over) (c : After-drop-line g) →
     SendsLinesOn g.B.Bench (audit_of c.args.schema.now.columns c.args.store.now)
     (subjects c.args.store.now.secret.shape) c.args.bench.now c.send_columns.new.bench c.from_residual.result
 refused_first g c =
@@ -17,7 +18,7 @@ refused_first g c =
     (refused g.B.Bench g.met.B.Bench.only_now audit (subjects_before shape (columns shape)) (totals ∷ []) c.args.bench.now c.send_columns.new.bench c.in_err-send_columns.field-0.0 c.in_err-send_columns.ensures)
 
 -- the columns' lines were sent, and then that of totals
-then_totals : (g : Over) (c : goal.After-send_totals g) →
+then_totals : (g : Over) (c : goal.After-drop-line-2 g) →
     SendsLinesOn g.B.Bench (audit_of c.args.schema.now.columns c.args.store.now)
     (subjects c.args.store.now.secret.shape) c.args.bench.now c.send_totals.new.bench c.send_totals.result
 then_totals g c =
