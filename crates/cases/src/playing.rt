@@ -15,9 +15,20 @@ pub fn play<R: Files + Print + AllocGlobal>(
     tally: &mut Tally,
 ) -> Result<()> {
     let mut before = None;
+    play_after(rt, path, script, tally, &mut before)
+}
+
+// Runs each case of a script after a run that left this bench, and counts it.
+fn play_after<R: Files + Print + AllocGlobal>(
+    rt: &R,
+    path: &str,
+    script: Script,
+    tally: &mut Tally,
+    before: &mut Option<MemoryBench>,
+) -> Result<()> {
     for value in script.runs()? {
         let case = script.run(value)?;
-        let met = play_case(rt, path, case, &mut before)?;
+        let met = play_case(rt, path, case, before)?;
         tally.count(met, case.differs()?);
     }
     Ok(())
