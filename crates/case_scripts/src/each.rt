@@ -29,7 +29,7 @@ impl<'a> Each<'a> {
     }
 
     /// What the journal may stand as then, in order.
-    pub fn histories<R: Files + AllocGlobal>(self, rt: &R) -> Result<Vec<History>> {
+    pub(crate) fn histories<R: Files + AllocGlobal>(self, rt: &R) -> Result<Vec<History>> {
         match self.keys.list("histories")? {
             Some(values) => histories_of(rt, values),
             None => bail!("no histories"),
@@ -37,7 +37,7 @@ impl<'a> Each<'a> {
     }
 
     /// The terminal over a file with the last history.
-    pub fn then(self) -> Result<Option<&'a str>> {
+    pub(crate) fn then(self) -> Result<Option<&'a str>> {
         self.keys.text("then")
     }
 }

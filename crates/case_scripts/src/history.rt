@@ -2,7 +2,7 @@
 
 /// The file of a journal, and how many records it has, where that is asked.
 #[derive(Drop)]
-pub struct History {
+pub(crate) struct History {
     pub records: Option<u64>,
     pub file: Vec<u8>,
 }

@@ -1,7 +1,7 @@
 //! Whether a run leaves the journal's file that is due.
 use crate::over::Over;
 use crate::run::Run;
-use crate::telling::{Bytes, Case, no_memory};
+use crate::telling::{Bytes, Case};
 use anyhow::Result;
 use bench_core::MemoryBench;
 use case_contents::Content;
@@ -58,13 +58,13 @@ fn leaves<R: Files + Print + AllocGlobal>(
 }
 
 // Whether the bench leaves the file with these bytes.
-fn is_left<R: Print>(
+fn is_left<R: Print + AllocGlobal>(
     rt: &R,
     name: Case,
     bench: &MemoryBench,
     over: Over,
     due: &[u8],
 ) -> Result<bool> {
-    let left = bench.crashed(over.pick()).map_err(no_memory)?;
-    name.agrees(rt, over.name(), &Bytes(due), &Bytes(left.file()))
+    let left = over.file(rt.alloc(), bench)?;
+    name.agrees(rt, over.name(), &Bytes(due), &Bytes(&left))
 }

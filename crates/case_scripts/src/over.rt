@@ -1,4 +1,10 @@
-//! The files that a run may leave.
+//! The files that a run may leave, one of which the next may be over.
+use crate::run::Run;
+use crate::telling::no_memory;
+use anyhow::{Result, bail};
+use bench_core::MemoryBench;
+use std::alloc::Global;
+use std::rt::Files;
 
 /// Which file the run before left.
 #[derive(Clone, Copy)]
@@ -14,8 +20,8 @@ pub enum Over {
 impl Over {
     pub const ALL: [Over; 3] = [Over::Left, Over::Synced, Over::Torn];
 
-    /// The number that a bench in memory has for it.
-    pub fn pick(self) -> u8 {
+    // The number that a bench in memory has for it.
+    fn pick(self) -> u8 {
         match self {
             Over::Left => 0,
             Over::Synced => 1,
@@ -29,5 +35,26 @@ impl Over {
             Over::Synced => "synced file",
             Over::Torn => "torn file",
         }
+    }
+
+    /// This file, as a bench leaves it.
+    pub fn file(self, alloc: Global, bench: &MemoryBench) -> Result<Vec<u8>> {
+        let left = bench.crashed(self.pick()).map_err(no_memory)?;
+        Ok(left.file().to_vec(alloc)?)
+    }
+}
+
+/// The journal's file at the start of a run, where a run before left this bench.
+pub fn start_of<R: Files + AllocGlobal>(
+    rt: &R,
+    run: Run,
+    before: &Option<MemoryBench>,
+) -> Result<Vec<u8>> {
+    let Some(over) = run.over()? else {
+        return run.journal(rt);
+    };
+    match before {
+        Some(bench) => over.file(rt.alloc(), bench),
+        None => bail!("no run before {:?}", run.shows()?),
     }
 }

@@ -3,7 +3,7 @@ use crate::each::Each;
 use crate::failures::Failures;
 use crate::over::Over;
 use anyhow::{Result, bail};
-use case_contents::{Content, Keys, Piece, Pieces, byte_of, bytes_of, pieces_of};
+use case_contents::{Content, Keys, Piece, byte_of, bytes_of, pieces_of};
 use std::alloc::Global;
 use std::rt::Files;
 use toml::Value;
@@ -66,30 +66,18 @@ impl<'a> Run<'a> {
         self.own.content(name).or(self.common.content(name))
     }
 
-    /// The journal's file at the start, where no run before left one.
-    pub fn journal<R: Files + AllocGlobal>(self, rt: &R) -> Result<Vec<u8>> {
+    // The journal's file at the start, where no run before left one.
+    pub(crate) fn journal<R: Files + AllocGlobal>(self, rt: &R) -> Result<Vec<u8>> {
         bytes_of(rt, self.file_at_start("journal"))
     }
 
-    /// The source of a file, of which the call of this number fails.
-    pub fn source<R: Files + AllocGlobal>(
-        self,
-        rt: &R,
-        name: &str,
-        failing: Option<u64>,
-    ) -> Result<Pieces> {
-        let most = self.most()?;
-        let pieces = pieces_of(rt, self.file_at_start(name))?;
-        Ok(Pieces::new(pieces, most, failing))
+    // The bytes of a file that is read.
+    pub(crate) fn pieces<R: Files + AllocGlobal>(self, rt: &R, name: &str) -> Result<Vec<Piece>> {
+        pieces_of(rt, self.file_at_start(name))
     }
 
-    /// The source of the input, of which the call of this number fails.
-    pub fn input(self, typed: Vec<Piece>, failing: Option<u64>) -> Result<Pieces> {
-        Ok(Pieces::new(typed, self.most()?, failing))
-    }
-
-    /// The most bytes that a source gives at a read.
-    pub fn most(self) -> Result<usize> {
+    // The most bytes that a source gives at a read.
+    pub(crate) fn most(self) -> Result<usize> {
         Ok(usize::try_from(self.own.count("piece")?.unwrap_or(PIECE))?)
     }
 

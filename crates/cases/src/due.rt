@@ -1,37 +1,30 @@
 //! What is due of a run beside what came.
-use crate::stage::Stage;
+use crate::stage::{End, Stage};
 use anyhow::Result;
 use auditor_top::{Status, status_code, status_text};
-use bench_core::MemoryBench;
-use case_scripts::{Bytes, Case, leaves_files, no_memory};
+use case_scripts::{Bytes, Case, Run, leaves_files, no_memory};
 use std::rt::Files;
 
 /// Whether all that was due of a run came; each difference is printed.
 pub fn is_as_due<R: Files + Print + AllocGlobal>(
     rt: &R,
     name: Case,
-    stage: &Stage,
+    stage: Stage,
     replies: &[u8],
-    status: &Status,
-    bench: &MemoryBench,
+    end: &End,
 ) -> Result<bool> {
-    let mut met = ends(rt, name, stage, status)?;
-    met &= name.agrees(rt, "sent", &Bytes(replies), &Bytes(bench.sent()))?;
-    met &= leaves_files(rt, name, stage.case, &stage.start, bench)?;
+    let mut met = ends(rt, name, stage.case, &end.status)?;
+    met &= name.agrees(rt, "sent", &Bytes(replies), &Bytes(end.bench.sent()))?;
+    met &= leaves_files(rt, name, stage.case, stage.start, &end.bench)?;
     if let Some(calls) = stage.case.calls()? {
-        met &= name.agrees(rt, "calls", &calls, &bench.calls())?;
+        met &= name.agrees(rt, "calls", &calls, &end.bench.calls())?;
     }
     Ok(met)
 }
 
-// Whether the run ends with the status that is due.
-fn ends<R: Print + AllocGlobal>(
-    rt: &R,
-    name: Case,
-    stage: &Stage,
-    status: &Status,
-) -> Result<bool> {
-    let (code, text) = stage.case.ends()?;
+// Whether a run ends with the status that is due.
+fn ends<R: Print + AllocGlobal>(rt: &R, name: Case, run: Run, status: &Status) -> Result<bool> {
+    let (code, text) = run.ends()?;
     let mut met = name.agrees(rt, "status", &code, &status_code(status))?;
     let told = status_text(rt.alloc(), status).map_err(no_memory)?;
     met &= name.agrees(rt, "text", &text, &told.as_str())?;

@@ -1,11 +1,10 @@
 //! The runs of a script, one after another.
 use crate::due::is_as_due;
-use crate::stage::Stage;
+use crate::stage::{End, Stage};
 use crate::stopping::play_each;
-use anyhow::{Result, bail};
+use anyhow::Result;
 use bench_core::MemoryBench;
-use case_scripts::{Case, Exchange, Over, Run, Script, Tally, bench_over, no_memory};
-use std::alloc::Global;
+use case_scripts::{Case, Exchange, Run, Script, Tally, start_of};
 use std::rt::Files;
 
 /// Runs each case of a script, and counts it.
@@ -16,9 +15,20 @@ pub fn play<R: Files + Print + AllocGlobal>(
     tally: &mut Tally,
 ) -> Result<()> {
     let mut before = None;
+    play_after(rt, path, script, tally, &mut before)
+}
+
+// Runs each case of a script after a run that left this bench, and counts it.
+fn play_after<R: Files + Print + AllocGlobal>(
+    rt: &R,
+    path: &str,
+    script: Script,
+    tally: &mut Tally,
+    before: &mut Option<MemoryBench>,
+) -> Result<()> {
     for value in script.runs()? {
         let case = script.run(value)?;
-        let met = play_case(rt, path, case, &mut before)?;
+        let met = play_case(rt, path, case, before)?;
         tally.count(met, case.differs()?);
     }
     Ok(())
@@ -36,46 +46,27 @@ fn play_case<R: Files + Print + AllocGlobal>(
         shows: case.shows()?,
     };
     let start = start_of(rt, case, before)?;
-    let stage = Stage { case, start };
-    if let Some(each) = case.each()? {
-        return play_each(rt, name, &stage, each);
+    let stage = Stage {
+        case,
+        start: &start,
+    };
+    match case.each()? {
+        Some(each) => play_each(rt, name, stage, each),
+        None => play_once(rt, name, stage, before),
     }
-    let (met, bench) = play_once(rt, name, &stage)?;
-    *before = Some(bench);
-    Ok(met)
 }
 
-// Whether what is due of a run came, and the bench that it leaves.
+// Whether what is due of a run came, whose bench then stands for the one before.
 fn play_once<R: Files + Print + AllocGlobal>(
     rt: &R,
     name: Case,
-    stage: &Stage,
-) -> Result<(bool, MemoryBench)> {
+    stage: Stage,
+    before: &mut Option<MemoryBench>,
+) -> Result<bool> {
     let fails = stage.case.fails()?;
-    let exchange = Exchange::of(rt, stage.case)?;
-    let mut bench = bench_over(rt.alloc(), &stage.start, fails)?;
-    let status = stage.run(rt, exchange.typed, fails, &mut bench)?;
-    let met = is_as_due(rt, name, stage, &exchange.shown, &status, &bench)?;
-    Ok((met, bench))
-}
-
-// The journal's file at the start of a run.
-fn start_of<R: Files + AllocGlobal>(
-    rt: &R,
-    case: Run,
-    before: &Option<MemoryBench>,
-) -> Result<Vec<u8>> {
-    let Some(over) = case.over()? else {
-        return case.journal(rt);
-    };
-    match before {
-        Some(bench) => left_file(rt.alloc(), bench, over),
-        None => bail!("no run before {:?}", case.shows()?),
-    }
-}
-
-// A file that a run left.
-fn left_file(alloc: Global, bench: &MemoryBench, over: Over) -> Result<Vec<u8>> {
-    let left = bench.crashed(over.pick()).map_err(no_memory)?;
-    Ok(left.file().to_vec(alloc)?)
+    let Exchange { typed, shown } = Exchange::of(rt, stage.case)?;
+    let end = stage.run(rt, stage.start, typed, fails)?;
+    let met = is_as_due(rt, name, stage, &shown, &end)?;
+    *before = Some(end.bench);
+    Ok(met)
 }

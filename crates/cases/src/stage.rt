@@ -1,58 +1,43 @@
-//! What a run of the program is over: its words, its sources and its bench, in memory.
+//! What a run of the program is over, in memory, and how it ends.
 use anyhow::Result;
 use auditor_top::{Status, run};
 use bench_core::MemoryBench;
-use case_contents::{Piece, Pieces};
-use case_scripts::{Failures, Run, bench_over};
+use case_contents::Piece;
+use case_scripts::{Failures, Run, Sources, bench_over};
 use std::alloc::Global;
 use std::rt::Files;
 
 /// A case of a script, and the journal's file at its start.
-#[derive(Drop)]
+#[derive(Clone, Copy)]
 pub struct Stage<'a> {
     pub case: Run<'a>,
-    pub start: Vec<u8>,
+    pub start: &'a [u8],
 }
 
-/// What a run reads.
+/// How a run ended, and the bench that it leaves.
 #[derive(Drop)]
-struct Sources {
-    schema: Pieces,
-    table: Pieces,
-    input: Pieces,
+pub struct End {
+    pub status: Status,
+    pub bench: MemoryBench,
 }
 
 impl Stage<'_> {
-    /// Runs the program over the bench, and over sources of which these calls fail.
+    /// Runs the program over this file, with what is typed and the calls that fail.
     pub fn run<R: Files + AllocGlobal>(
-        &self,
+        self,
         rt: &R,
+        file: &[u8],
         typed: Vec<Piece>,
         failures: Failures,
-        bench: &mut MemoryBench,
-    ) -> Result<Status> {
-        let mut sources = self.sources(rt, typed, failures)?;
-        self.run_over(rt.alloc(), &mut sources, bench)
-    }
-
-    fn sources<R: Files + AllocGlobal>(
-        &self,
-        rt: &R,
-        typed: Vec<Piece>,
-        failures: Failures,
-    ) -> Result<Sources> {
-        let input = self.case.input(typed, failures.input)?;
-        let schema = self.case.source(rt, "schema", failures.schema)?;
-        let table = self.case.source(rt, "table", failures.table)?;
-        Ok(Sources {
-            schema,
-            table,
-            input,
-        })
+    ) -> Result<End> {
+        let mut sources = Sources::of(rt, self.case, typed, failures)?;
+        let mut bench = bench_over(rt.alloc(), file, failures)?;
+        let status = self.run_over(rt.alloc(), &mut sources, &mut bench)?;
+        Ok(End { status, bench })
     }
 
     fn run_over(
-        &self,
+        self,
         alloc: Global,
         sources: &mut Sources,
         bench: &mut MemoryBench,
