@@ -3,7 +3,7 @@ ghost use Rattle.std.specs.Prelude.{◌≡◌, [], true, IfOk, IfErr};
 ghost use Rattle.audit_types.specs.History.{setting_of};
 ghost use Rattle.schema_json.specs.SecretShape.{shape_of};
 ghost use Rattle.table_load.specs.Cells.{FitsSchema};
-ghost use Rattle.transcript_sim.specs.Steps.{AsksNext, Cuts, IsCutShort, ShowsNext};
+ghost use Rattle.transcript_sim.specs.Steps.{AsksNext, Cuts, GivesNext, IsCutShort, ShowsNext};
 
 use crate::expecting::{Expected, expected_of};
 use crate::shown::Shown;
@@ -17,6 +17,17 @@ use question_plan::plan_line;
 use schema_json::Schema;
 use set_index::Index;
 use std::alloc::Global;
+
+// Gives the next line, whose text the cutter shows.
+fn next_line<P: Source>(lines: &mut Lines, source: &mut P) -> Result<Next, SimulationFault>
+    requires same { P.told → lines.old.ended ≡ true → P.left source.old ≡ [] }
+    ensures gives { IfOk result (GivesNext P.Source lines.old lines.new source.old source.new) }
+    ensures short { IfErr result (IsCutShort P.Source lines.old lines.new source.old source.new) }
+    ensures cuts { Cuts P.Source lines.old lines.new source.old source.new }
+{
+    lines_in_turn();
+    Ok(lines.next(source)?)
+}
 
 /// What the next line calls for, which is a question. No line is left where there is none.
 pub(crate) fn next_question<P: Source>(
@@ -36,8 +47,7 @@ pub(crate) fn next_question<P: Source>(
     ensures short { IfErr result (IsCutShort P.Source lines.old lines.new source.old source.new) }
     ensures cuts { Cuts P.Source lines.old lines.new source.old source.new }
 {
-    lines_in_turn();
-    match lines.next(source)? {
+    match next_line(lines, source)? {
         Next::Line => {
             let plan = plan_line(alloc, schema, index, lines.text(), scratch)?;
             Ok(Some(expected_of(core, plan)?))
@@ -58,8 +68,7 @@ pub(crate) fn next_shown<P: Source>(
     ensures short { IfErr result (IsCutShort P.Source lines.old lines.new source.old source.new) }
     ensures cuts { Cuts P.Source lines.old lines.new source.old source.new }
 {
-    lines_in_turn();
-    match lines.next(source)? {
+    match next_line(lines, source)? {
         Next::Line => Ok(Some(expected.shown(lines.text()))),
         Next::Long => Ok(Some(Shown::Disagrees)),
         Next::End => Ok(None),

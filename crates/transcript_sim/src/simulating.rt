@@ -1,23 +1,21 @@
 //! Reading a transcript, and sending its verdicts.
-ghost use Rattle.std.specs.Prelude.{◌≡◌, ◌≢◌, ◌≤◌, ◌+◌, ◌++◌, [], List, ℕ, false, length, OnOk, OnErr, Err, true};
+ghost use Rattle.std.specs.Prelude.{◌≡◌, ◌≢◌, ◌≤◌, ◌+◌, [], List, ℕ, false, length, OnOk, Err, true};
 ghost use Rattle.audit_types.specs.History.{setting_of};
 ghost use Rattle.audit_types.specs.declared.records.Answered.{Answered};
-ghost use Rattle.bench_core.specs.Causes.{HasCause, Rose};
-ghost use Rattle.bench_core.specs.Bench.{AppendsFront, Elapses, Sending};
+ghost use Rattle.bench_core.specs.Causes.{Rose};
 ghost use Rattle.bench_core.specs.Calls.{IsQuiet, LeavesOnly};
 ghost use Rattle.schema_json.specs.SecretShape.{shape_of};
 ghost use Rattle.table_load.specs.Cells.{FitsSchema};
 ghost use Rattle.line_wire.specs.Lines.{counted_lines};
 ghost use Rattle.question_plan.specs.Session.{Replied};
-ghost use Rattle.transcript_sim.specs.Verdicts.{exchanges, verdict_bytes};
+ghost use Rattle.transcript_sim.specs.Verdicts.{exchanges};
 ghost use Rattle.transcript_sim.specs.Steps.{stop_fault};
 ghost use Rattle.transcript_sim.specs.Ends.{EndReads, EndSends, EndVerdicts, Simulates, SimulatesMeanwhile};
 ghost use Rattle.transcript_sim.specs.declared.simulating.SimulationFault.TheVariants as fault;
 
-use crate::due::{Due, verdict_line};
+use crate::due::Due;
+use crate::judging::{goes_on, judge_question, take_shown};
 use crate::laws::one_verdict;
-use crate::questions::{next_question, next_shown};
-use crate::shown::Shown;
 use audit_core::Core;
 use audit_types::NoMemory;
 use bench_core::{Bench, Failed, Source};
@@ -70,20 +68,6 @@ impl From<NoMemory> for SimulationFault {
     }
 }
 
-// Sends the line of a verdict, in one call.
-fn send_verdict<B: Bench>(bench: &mut B, due: Due) -> Result<(), Failed>
-    ensures all { B.told → OnOk result (B.sent bench.new ≡ B.sent bench.old ++ verdict_bytes due) }
-    ensures part { B.told → OnErr result (AppendsFront (B.sent bench.old) (verdict_bytes due) (B.sent bench.new)) }
-    ensures file { B.file bench.new ≡ B.file bench.old }
-    ensures crash { (image : List ℕ) → B.leaves bench.new image → B.leaves bench.old image }
-    ensures time { Elapses (B.moment bench.old) (B.moment bench.new) (B.since bench.old) (B.since bench.new) (Sending (B.leaves bench.new) (B.sent bench.old) (verdict_bytes due)) }
-    ensures ticks { B.told → OnOk result (B.moment bench.new ≡ B.moment bench.old + 1) }
-    ensures cause { HasCause (B.faults bench.old) (B.faults bench.new) result }
-    ensures last_call { OnErr result (B.last_failed bench.new ≡ true) }
-{
-    bench.send(verdict_line(due))
-}
-
 // Judges the exchanges that are still to come. A reply is looked at once the verdict on its question was sent.
 fn judge<P: Source, B: Bench>(
     alloc: Global,
@@ -104,15 +88,13 @@ fn judge<P: Source, B: Bench>(
     lines_in_turn();
     one_verdict();
     let mut line = 0;
-    while let Some(expected) = next_question(alloc, lines, schema, index, core, source, scratch)? {
-        let due = expected.due();
-        send_verdict(bench, due)?;
+    while let Some(expected) =
+        judge_question(alloc, lines, schema, index, core, source, bench, scratch)?
+    {
         line += 2;
-        match next_shown(lines, source, &expected)? {
-            Some(Shown::Agrees(Some(answered))) => core.take(&answered)?,
-            Some(Shown::Agrees(None)) => {}
-            Some(Shown::Disagrees) => return Err(SimulationFault::Disagrees { line, due }),
-            None => return Ok(()),
+        let shown = take_shown(lines, core, source, &expected)?;
+        if !goes_on(shown, line, expected.due())? {
+            return Ok(());
         }
     }
     Ok(())
