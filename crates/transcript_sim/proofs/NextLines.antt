@@ -1,5 +1,5 @@
 -- What a call of the cutter gave, by its answer.
-use Rattle.std.proofs.Common.{rules, ◌≡◌, ◌≢◌, ◌≤◌, ◌++◌, true, length, Result, Ok, Err, refl}
+use Rattle.std.proofs.Common.{rules, ◌≡◌, ◌≢◌, ◌++◌, true, Result, Ok, Err, refl}
 use Rattle.bench_core.specs.declared.source.Source.{Ghosts}
 use Rattle.bench_core.specs.Causes.{Rose}
 use Rattle.line_wire.specs.Lines.{text, long, counted_lines}

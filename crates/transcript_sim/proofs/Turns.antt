@@ -215,11 +215,10 @@ module _ {P B : Type 0} (source : SourceGhosts P) (bench : Ghosts B) (columns : 
   -- no verdict was sent
   pub unjudged : (why : SimulationFault) → IsUnjudged source bench cutter new from after at sending columns public core.history why →
       Simulates source bench columns public first_source after first sending (Err why)
-  unjudged fault.Bench is = asked_unsent is.expected is.question is.fails
-  unjudged fault.Input is = unasked fault.Input is.0 is.1
-  unjudged fault.Limit is = unasked fault.Limit is.0 is.1
-  unjudged fault.NoMemory is = unasked fault.NoMemory is.0 is.1
-  unjudged (fault.Disagrees line due) is = absurd is
+  unjudged why (inl is) = unasked why is.0 is.1
+  unjudged why (inr is) =
+      subst (λ (f : SimulationFault). Simulates source bench columns public first_source after first sending (Err f)) (sym is.0)
+      (asked_unsent is.1.expected is.1.question is.1.fails)
 
   -- no question is left
   pub none_left : GivesNone source cutter new from after → sending ≡ at → Simulates source bench columns public first_source after first sending (Ok tt)

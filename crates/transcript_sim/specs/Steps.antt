@@ -1,5 +1,5 @@
 -- What the steps of a simulation do: reading a line, and telling what a reply comes to.
-use Rattle.std.specs.Prelude.{◌≡◌, ◌<◌, ◌≤◌, ◌+◌, ℕ, true, List, [], ◌∷◌, ◌++◌, length, Option, Some, None, Result, Ok, Err, Bool, false}
+use Rattle.std.specs.Prelude.{◌≡◌, ◌⊎◌, ◌<◌, ◌≤◌, ◌+◌, ℕ, true, List, [], ◌∷◌, ◌++◌, length, Option, Some, None, Result, Ok, Err, Bool, false}
 use Rattle.std.specs.Option.{option_to_list}
 use Rattle.audit_types.specs.History.{Setting, setting_of, FitsShape, known_of}
 use Rattle.audit_types.specs.Judgement.{IsWithinWidth}
@@ -159,13 +159,10 @@ pub record GivesUnsent {P B : Type 0} (source : Ghosts P) (bench : BenchGhosts B
   pub question : GivesQuestion source old new before after columns public history expected
   pub fails : FailsSending bench at now (due_of expected)
 
--- why no verdict was sent: its call failed, or no question was given and no call was made
+-- why no verdict was sent: no question was given and no call was made, or the call failed
 abbrev pub IsUnjudged : {P B : Type 0} → Ghosts P → BenchGhosts B → Cutter → Cutter → P → P → B → B → List Column → PublicView → List Answered → SimulationFault → Type 0
-IsUnjudged source bench old new before after at now columns public history fault.Bench = GivesUnsent source bench old new before after at now columns public history
-IsUnjudged source bench old new before after at now columns public history fault.Input = FailsRead source old new before after × (now ≡ at)
-IsUnjudged source bench old new before after at now columns public history fault.Limit = PassesLimit source old new before after × (now ≡ at)
-IsUnjudged source bench old new before after at now columns public history fault.NoMemory = (source.faults after ≡ source.faults before) × (now ≡ at)
-IsUnjudged source bench old new before after at now columns public history (fault.Disagrees line due) = ⊥
+IsUnjudged source bench old new before after at now columns public history why =
+    (IsCutShort source old new before after why × (now ≡ at)) ⊎ ((why ≡ fault.Bench) × GivesUnsent source bench old new before after at now columns public history)
 
 -- ---- the end of reading
 
