@@ -27,7 +27,7 @@ use set_index::Index;
 use std::alloc::Global;
 
 /// Why reading a transcript ended before its input did.
-#[derive(Clone, Copy, Debug, PartialEq, Eq)]
+#[derive(Clone, Copy)]
 pub enum SimulationFault {
     /// The input failed.
     Input,
