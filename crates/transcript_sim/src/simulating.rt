@@ -14,14 +14,12 @@ ghost use Rattle.transcript_sim.specs.Ends.{EndReads, EndSends, EndVerdicts, Sim
 ghost use Rattle.transcript_sim.specs.declared.simulating.SimulationFault.TheVariants as fault;
 
 use crate::due::Due;
-use crate::judging::{goes_on, judge_question, take_shown};
+use crate::judging::{Simulation, goes_on};
 use crate::laws::one_verdict;
-use audit_core::Core;
 use audit_types::NoMemory;
 use bench_core::{Bench, Failed, Source};
-use json::Scratch;
 use line_wire::laws::lines_in_turn;
-use line_wire::{LineStop, Lines};
+use line_wire::LineStop;
 use schema_json::Schema;
 use set_index::Index;
 use std::alloc::Global;
@@ -71,28 +69,24 @@ impl From<NoMemory> for SimulationFault {
 // Judges the exchanges that are still to come. A reply is looked at once the verdict on its question was sent.
 fn judge<P: Source, B: Bench>(
     alloc: Global,
-    lines: &mut Lines,
-    core: &mut Core,
+    simulation: &mut Simulation,
     schema: &Schema,
     index: &Index,
     source: &mut P,
     bench: &mut B,
-    scratch: &mut Scratch,
 ) -> Result<(), SimulationFault>
-    requires fresh { (lines.old.taken ≡ 0) × (lines.old.pending ≡ []) × (lines.old.ended ≡ false) }
+    requires fresh { (simulation.old.lines.taken ≡ 0) × (simulation.old.lines.pending ≡ []) × (simulation.old.lines.ended ≡ false) }
     requires fits { FitsSchema schema.now.columns index.now }
-    requires setting { core.old.setting ≡ setting_of (shape_of schema.now.columns index.now.rows) }
-    requires nothing { core.old.history ≡ [] }
+    requires setting { simulation.old.core.setting ≡ setting_of (shape_of schema.now.columns index.now.rows) }
+    requires nothing { simulation.old.core.history ≡ [] }
     ensures { Simulates P.Source B.Bench schema.now.columns index.now source.old source.new bench.old bench.new result }
 {
     lines_in_turn();
     one_verdict();
     let mut line = 0;
-    while let Some(expected) =
-        judge_question(alloc, lines, schema, index, core, source, bench, scratch)?
-    {
+    while let Some(expected) = simulation.judge_question(alloc, schema, index, source, bench)? {
         line += 2;
-        let shown = take_shown(lines, core, source, &expected)?;
+        let shown = simulation.take_shown(source, &expected)?;
         if !goes_on(shown, line, expected.due())? {
             return Ok(());
         }
@@ -134,17 +128,6 @@ pub fn simulate<P: Source, B: Bench>(
 {
     // A public part says of itself that it has 1 to 1,024 rows.
     let rows = index.public().rows();
-    let mut lines = Lines::new(alloc)?;
-    let mut core = Core::new(alloc, schema.shape(rows))?;
-    let mut scratch = Scratch::new(alloc);
-    judge(
-        alloc,
-        &mut lines,
-        &mut core,
-        schema,
-        index,
-        source,
-        bench,
-        &mut scratch,
-    )
+    let mut simulation = Simulation::new(alloc, schema.shape(rows))?;
+    judge(alloc, &mut simulation, schema, index, source, bench)
 }
