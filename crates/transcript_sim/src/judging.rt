@@ -8,7 +8,7 @@ ghost use Rattle.transcript_sim.specs.Steps.{AsksNext, CanBeTaken, Cuts, FailsSe
 
 use crate::due::{Due, verdict_line};
 use crate::expecting::Expected;
-use crate::questions::{next_question, next_shown};
+use crate::questions::next_shown;
 use crate::shown::Shown;
 use crate::simulating::SimulationFault;
 use audit_core::Core;
@@ -33,7 +33,7 @@ fn send_verdict<B: Bench>(bench: &mut B, due: Due) -> Result<(), Failed>
 pub(crate) struct Simulation {
     pub(crate) lines: Lines,
     pub(crate) core: Core,
-    scratch: Scratch,
+    pub(crate) scratch: Scratch,
 }
 
 impl Simulation {
@@ -69,16 +69,7 @@ impl Simulation {
         ensures same { self.new.core ≡ self.old.core }
         ensures cuts { Cuts P.Source self.old.lines self.new.lines source.old source.new }
     {
-        let asked = next_question(
-            alloc,
-            &mut self.lines,
-            schema,
-            index,
-            &mut self.core,
-            source,
-            &mut self.scratch,
-        )?;
-        let Some(expected) = asked else {
+        let Some(expected) = self.next_question(alloc, schema, index, source)? else {
             return Ok(None);
         };
         let due = expected.due();

@@ -6,11 +6,10 @@ ghost use Rattle.table_load.specs.Cells.{FitsSchema};
 ghost use Rattle.transcript_sim.specs.Steps.{AsksNext, Cuts, GivesNext, IsCutShort, ShowsNext};
 
 use crate::expecting::{Expected, expected_of};
+use crate::judging::Simulation;
 use crate::shown::Shown;
 use crate::simulating::SimulationFault;
-use audit_core::Core;
 use bench_core::Source;
-use json::Scratch;
 use line_wire::laws::lines_in_turn;
 use line_wire::{Lines, Next, Reply};
 use question_plan::plan_line;
@@ -29,31 +28,31 @@ fn next_line<P: Source>(lines: &mut Lines, source: &mut P) -> Result<Next, Simul
     Ok(lines.next(source)?)
 }
 
-/// What the next line calls for, which is a question. No line is left where there is none.
-pub(crate) fn next_question<P: Source>(
-    alloc: Global,
-    lines: &mut Lines,
-    schema: &Schema,
-    index: &Index,
-    core: &mut Core,
-    source: &mut P,
-    scratch: &mut Scratch,
-) -> Result<Option<Expected>, SimulationFault>
-    requires same { P.told → lines.old.ended ≡ true → P.left source.old ≡ [] }
-    requires fits { FitsSchema schema.now.columns index.now }
-    requires setting { core.old.setting ≡ setting_of (shape_of schema.now.columns index.now.rows) }
-    ensures asks { IfOk result (AsksNext P.Source lines.old lines.new source.old source.new schema.now.columns index.now core.old.history) }
-    ensures same { core.new ≡ core.old }
-    ensures short { IfErr result (IsCutShort P.Source lines.old lines.new source.old source.new) }
-    ensures cuts { Cuts P.Source lines.old lines.new source.old source.new }
-{
-    match next_line(lines, source)? {
-        Next::Line => {
-            let plan = plan_line(alloc, schema, index, lines.text(), scratch)?;
-            Ok(Some(expected_of(core, plan)?))
+impl Simulation {
+    /// What the next line calls for, which is a question. No line is left where there is none.
+    pub(crate) fn next_question<P: Source>(
+        &mut self,
+        alloc: Global,
+        schema: &Schema,
+        index: &Index,
+        source: &mut P,
+    ) -> Result<Option<Expected>, SimulationFault>
+        requires same { P.told → self.old.lines.ended ≡ true → P.left source.old ≡ [] }
+        requires fits { FitsSchema schema.now.columns index.now }
+        requires setting { self.old.core.setting ≡ setting_of (shape_of schema.now.columns index.now.rows) }
+        ensures asks { IfOk result (AsksNext P.Source self.old.lines self.new.lines source.old source.new schema.now.columns index.now self.old.core.history) }
+        ensures same { self.new.core ≡ self.old.core }
+        ensures short { IfErr result (IsCutShort P.Source self.old.lines self.new.lines source.old source.new) }
+        ensures cuts { Cuts P.Source self.old.lines self.new.lines source.old source.new }
+    {
+        match next_line(&mut self.lines, source)? {
+            Next::Line => {
+                let plan = plan_line(alloc, schema, index, self.lines.text(), &mut self.scratch)?;
+                Ok(Some(expected_of(&mut self.core, plan)?))
+            }
+            Next::Long => Ok(Some(Expected::Only(Reply::Long))),
+            Next::End => Ok(None),
         }
-        Next::Long => Ok(Some(Expected::Only(Reply::Long))),
-        Next::End => Ok(None),
     }
 }
 

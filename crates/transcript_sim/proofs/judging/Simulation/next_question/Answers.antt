@@ -5,14 +5,14 @@ use Rattle.line_wire.specs.declared.lines.Next.{Next}
 use Rattle.question_plan.specs.Replies.{IsPlan}
 use Rattle.transcript_sim.specs.Verdicts.{CallsFor}
 use Rattle.transcript_sim.specs.Steps.{CanBeTaken, GivesNext}
-use Rattle.transcript_sim.proofs.questions.next_question.Goals as goal
+use Rattle.transcript_sim.proofs.judging.Simulation.next_question.Goals as goal
 
 pub returns-in_ok-expected_of-in-Line-clause-asks : goal.returns-in_ok-expected_of-in-Line-clause-asks
 returns-in_ok-expected_of-in-Line-clause-asks g c =
     let plan = c.in_ok-plan-in-Line.plan in
     let expected = c.in_ok-expected_of-in-Line.field-0 in
-    let history = c.args.core.now.history in
-    let gives = subst (λ (n : Next). GivesNext g.P.Source c.args.lines.now c.next_line.new.lines c.args.source.now c.next_line.new.source n) c.in-Line.is c.in_ok-next_line.ensures.gives in
+    let history = c.args.self.now.core.history in
+    let gives = subst (λ (n : Next). GivesNext g.P.Source c.args.self.now.lines c.next_line.new.lines c.args.source.now c.next_line.new.source n) c.in-Line.is c.in_ok-next_line.ensures.gives in
     record {
       line = text c.next_line.new.lines.text;
       gives = gives.0;
