@@ -1,36 +1,60 @@
--- The line that the cutter gave, by its answer.
-use Rattle.std.proofs.Common.{◌≡◌, ◌++◌, subst}
+-- What a call of the cutter gave, by its answer.
+use Rattle.std.proofs.Common.{rules, ◌≡◌, ◌≢◌, ◌++◌, true, Result, Ok, Err, refl}
 use Rattle.bench_core.specs.declared.source.Source.{Ghosts}
+use Rattle.bench_core.specs.Causes.{Rose}
 use Rattle.line_wire.specs.Lines.{text, long, counted_lines}
 use Rattle.line_wire.specs.Cutter.{Cutter}
 use Rattle.line_wire.specs.ReadLines.{OneLineIsRead}
-use Rattle.line_wire.specs.Steps.{Advances, Answers, Counts}
+use Rattle.line_wire.specs.Steps.{Advances, Answers, Counts, ShowsText, Stops, StopsWithin}
 use Rattle.line_wire.specs.declared.lines.Next.{Next}
 use Rattle.line_wire.specs.declared.lines.Next.TheVariants as next
-use Rattle.transcript_sim.specs.Steps.{GivesLine}
+use Rattle.line_wire.specs.declared.lines.LineStop.{LineStop}
+use Rattle.line_wire.specs.declared.lines.LineStop.TheVariants as stop
+use Rattle.transcript_sim.specs.Steps.{GivesNext, IsCutShort, stop_fault}
 
-module _ {P : Type 0} (source : Ghosts P) (old new : Cutter) (before after : P) (given : Next) (one : OneLineIsRead)
-    (answer : source.told → Answers given (old.pending ++ source.left before) new (source.left after))
-    (counted : source.told → Counts given (counted_lines (old.pending ++ source.left before)) new.text (counted_lines (new.pending ++ source.left after)))
-    (advances : Advances old new given) where
-  -- a line with a text
-  pub gave_text : given ≡ next.Line → source.faults after ≡ source.faults before → GivesLine source old new before after (text new.text)
-  gave_text is steady = record {
-    reads = λ told.
-        one (old.pending ++ source.left before) (new.pending ++ source.left after) new.ended (text new.text)
-        (subst (λ (n : Next). Answers n (old.pending ++ source.left before) new (source.left after)) is (answer told))
-        (subst (λ (n : Next). Counts n (counted_lines (old.pending ++ source.left before)) new.text (counted_lines (new.pending ++ source.left after))) is (counted told));
-    takes = subst (λ (n : Next). Advances old new n) is advances;
+-- the answer of a call that was refused
+abbrev pub refused_by : LineStop → Result Next LineStop
+refused_by why = Err why
+
+module _ {P : Type 0} (source : Ghosts P) (old new : Cutter) (before after : P) where
+  -- a line, or none
+  pub gave : OneLineIsRead → (given : Next)
+      → (source.told → Answers given (old.pending ++ source.left before) new (source.left after))
+      → (source.told → Counts given (counted_lines (old.pending ++ source.left before)) new.text (counted_lines (new.pending ++ source.left after)))
+      → Advances old new given → ShowsText (Ok given) new.text → source.faults after ≡ source.faults before
+      → GivesNext source old new before after given
+  gave one next.Line answer counted advances shows steady = (
+    record {
+      reads =
+          λ told. one (old.pending ++ source.left before) (new.pending ++ source.left after) new.ended (text new.text) (answer told) (counted told);
+      takes = advances;
+      steady = steady;
+    },
+    shows,
+  )
+  gave one next.Long answer counted advances shows steady = record {
+    reads = λ told. one (old.pending ++ source.left before) (new.pending ++ source.left after) new.ended long (answer told) (counted told);
+    takes = advances;
+    steady = steady;
+  }
+  gave one next.End answer counted advances shows steady = record {
+    nothing = λ told. (answer told).0;
+    none = λ told. counted told;
     steady = steady;
   }
 
-  -- a long one
-  pub gave_long : given ≡ next.Long → source.faults after ≡ source.faults before → GivesLine source old new before after long
-  gave_long is steady = record {
-    reads = λ told.
-        one (old.pending ++ source.left before) (new.pending ++ source.left after) new.ended long
-        (subst (λ (n : Next). Answers n (old.pending ++ source.left before) new (source.left after)) is (answer told))
-        (subst (λ (n : Next). Counts n (counted_lines (old.pending ++ source.left before)) new.text (counted_lines (new.pending ++ source.left after))) is (counted told));
-    takes = subst (λ (n : Next). Advances old new n) is advances;
-    steady = steady;
+  -- no answer
+  pub stopped : (why : LineStop) → (source.told → Stops why (old.pending ++ source.left before) new (source.left after)) → StopsWithin why new
+      → (refused_by why ≢ refused_by stop.Input → source.faults after ≡ source.faults before)
+      → (refused_by why ≡ refused_by stop.Input → Rose (source.faults before) (source.faults after))
+      → (refused_by why ≡ refused_by stop.Input → source.last_failed after ≡ true)
+      → (old.ended ≡ true → (after ≡ before) × (new.ended ≡ true) × (refused_by why ≡ refused_by stop.Input → ⊥))
+      → IsCutShort source old new before after (stop_fault why)
+  stopped stop.Input stops within steady input last once = record {
+    going = λ ended. (once ended).2 refl;
+    stops = stops;
+    within = within;
+    rose = input refl;
+    last = last refl;
   }
+  stopped stop.Limit stops within steady input last once = record { stops = stops; over = within.0; some = within.1; steady = steady (search rules) }

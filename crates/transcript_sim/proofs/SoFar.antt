@@ -79,7 +79,15 @@ module _ {P B : Type 0} (source : SourceGhosts P) (bench : Ghosts B) (columns : 
         subst (λ (ls : List CountedLine). AreVerdicts columns public ls verdicts) (sym (ap (λ (ls : List CountedLine). take (length lines) ls) reads.counted ∙ take-append_seam lines (counted_lines rest))) are;
   }
 
-  -- before the first line
+  -- before the first line no moment has passed
+  pub nothing_sent : ((image bytes : List ℕ) → bench.since first (bench.moment first) image bytes → bench.leaves first image × (bytes ≡ bench.sent first))
+      → IsQuiet bench first
+      → LeavesOnly bench first first (SimulatesMeanwhile source.told columns public (counted_lines (source.left first_source)) (bench.file first) (bench.sent first))
+  nothing_sent only_now quiet = started bench first _ (λ image bytes was.
+      let found = only_now image bytes was in
+      (quiet image found.0, λ t. ([], record { count = 0; are = tt }, (0, found.1 ∙ sym (append-nil (bench.sent first))))))
+
+  -- and nothing was read
   pub nothing_yet : NoLineIsRead → (cutter : Cutter) → (cutter.taken ≡ 0) × (cutter.pending ≡ []) × (cutter.ended ≡ false)
       → ((image bytes : List ℕ) → bench.since first (bench.moment first) image bytes → bench.leaves first image × (bytes ≡ bench.sent first))
       → SoFar cutter first_source first [] []
@@ -90,9 +98,7 @@ module _ {P B : Type 0} (source : SourceGhosts P) (bench : Ghosts B) (columns : 
     sent = λ told. sym (append-nil (bench.sent first));
     file = refl;
     crash = λ image left. left;
-    moments = λ told quiet. started bench first _ (λ image bytes was.
-        let found = only_now image bytes was in
-        (quiet image found.0, λ t. ([], record { count = 0; are = tt }, (0, found.1 ∙ sym (append-nil (bench.sent first))))));
+    moments = λ told quiet. nothing_sent only_now quiet;
     ticks = λ told. omega arith;
     same = λ told ended. absurd (false≢true (sym fresh.2 ∙ ended));
     taken = λ told. omega (arith, fresh.0);

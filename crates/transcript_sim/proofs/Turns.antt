@@ -1,5 +1,5 @@
 -- The turns of a simulation: a question whose verdict is sent, and then the reply that was shown to it.
-use Rattle.std.proofs.Common.{rules, ◌≡◌, ℕ, ◌+◌, ◌-◌, ◌*◌, ◌≤◌, true, List, [], ◌∷◌, ◌++◌, length, take, Option, Some, Err, refl, sym, ◌∙◌, ap, subst, arith, inl, inr, ⊎_elim, append_assoc, length-append}
+use Rattle.std.proofs.Common.{rules, ◌≡◌, ℕ, ◌+◌, ◌-◌, ◌*◌, true, false, List, [], ◌∷◌, ◌++◌, length, take, Option, Some, None, Result, Ok, Err, refl, sym, ◌∙◌, ap, subst, arith, inl, inr, ⊎_elim, append_assoc, length-append}
 use Rattle.std.specs.Option.{option_to_list}
 use Rattle.std.proofs.Math.Seq.{take-append_seam}
 use Rattle.std.proofs.lemmas.List.{append-nil}
@@ -8,8 +8,6 @@ use Rattle.audit_types.specs.History.{setting_of}
 use Rattle.audit_core.specs.Audited.{Audited}
 use Rattle.bench_core.specs.declared.bench.Bench.{Ghosts}
 use Rattle.bench_core.specs.declared.source.Source.{Ghosts as SourceGhosts}
-use Rattle.bench_core.specs.Bench.{AppendsFront, Elapses, Sending}
-use Rattle.bench_core.specs.Causes.{Rose}
 use Rattle.schema_json.specs.Columns.{Column}
 use Rattle.schema_json.specs.SecretShape.{shape_of}
 use Rattle.table_load.specs.Cells.{PublicView}
@@ -18,15 +16,17 @@ use Rattle.line_wire.specs.Cutter.{Cutter}
 use Rattle.line_wire.specs.ReadLines.{IsRead, ReadsLines, MoreLinesAreRead}
 use Rattle.question_plan.specs.Session.{Replied, records_of, AreReplies}
 use Rattle.question_plan.specs.InTurn.{replies-append, none_behind}
-use Rattle.transcript_sim.specs.declared.due.Due.{Due}
 use Rattle.transcript_sim.specs.declared.expecting.Expected.{Expected}
+use Rattle.transcript_sim.specs.declared.shown.Shown.{Shown}
+use Rattle.transcript_sim.specs.declared.shown.Shown.TheVariants.{Agrees, Disagrees}
+use Rattle.transcript_sim.specs.declared.simulating.SimulationFault.{SimulationFault}
 use Rattle.transcript_sim.specs.declared.simulating.SimulationFault.TheVariants as fault
-use Rattle.transcript_sim.specs.Verdicts.{Expects, AgreesWith, due_of, verdict_bytes, Exchange, exchanges, IsVerdict, AreVerdicts}
+use Rattle.transcript_sim.specs.Verdicts.{Expects, AgreesWith, due_of, Exchange, exchanges, IsVerdict, AreVerdicts}
 use Rattle.transcript_sim.specs.Laws.{OneReplyIsCalledFor, OneVerdictIsDue}
-use Rattle.transcript_sim.specs.Steps.{Cuts, GivesLine, GivesQuestion}
+use Rattle.transcript_sim.specs.Steps.{Cuts, GivesLine, GivesNone, IsCutShort, GivesQuestion, ShowsNext, records_shown, goes_on, SendsVerdict, FailsSending, IsUnjudged}
 use Rattle.transcript_sim.specs.Ends.{DisagreesAt, IsWithinLimit, Simulates}
 use Rattle.transcript_sim.proofs.Exchanges.{exchanges-append}
-use Rattle.transcript_sim.proofs.SoFar.{SoFar, sent_for, with_record, ends, bytes-push, records-push, reads_now, counts_now, question_sent, question_unsent}
+use Rattle.transcript_sim.proofs.SoFar.{SoFar, sent_for, with_record, ends, bytes-push, records-push, reads_now, counts_now, question_sent, question_unsent, all_read, cut_short}
 
 -- before a question: whole exchanges were read, every reply agreed, and the core has the answers that were shown
 pub record Turn {P B : Type 0} (source : SourceGhosts P) (bench : Ghosts B) (columns : List Column) (public : PublicView) (first_source : P) (first : B)
@@ -177,44 +177,91 @@ module _ {P B : Type 0} (source : SourceGhosts P) (bench : Ghosts B) (columns : 
 
 module _ {P B : Type 0} (source : SourceGhosts P) (bench : Ghosts B) (columns : List Column) (public : PublicView) (first_source : P) (first : B)
     (more_read : MoreLinesAreRead) (cutter : Cutter) (from : P) (at : B) (core : Audited) (line : ℕ)
-    (turn : Turn source bench columns public first_source first cutter from at core line) (new : Cutter) (after : P) (expected : Expected)
-    (question : GivesQuestion source cutter new from after columns public core.history expected)
-    (cuts : Cuts source cutter new from after) (due : Due) (due_is : due ≡ due_of expected) (sending : B) (file : bench.file sending ≡ bench.file at)
-    (crash : (image : List ℕ) → bench.leaves sending image → bench.leaves at image)
-    (time : Elapses (bench.moment at) (bench.moment sending) (bench.since at) (bench.since sending) (Sending (bench.leaves sending) (bench.sent at) (verdict_bytes due))) where
-  expects : Expects columns public (records_of turn.verdicts) question.line expected
-  expects = subst (λ (h : List Answered). Expects columns public h question.line expected) turn.history question.expects
+    (turn : Turn source bench columns public first_source first cutter from at core line) (new : Cutter) (after : P) (cuts : Cuts source cutter new from after)
+    (sending : B) where
+  module _ (expected : Expected) (question : GivesQuestion source cutter new from after columns public core.history expected) where
+    expects : Expects columns public (records_of turn.verdicts) question.line expected
+    expects = subst (λ (h : List Answered). Expects columns public h question.line expected) turn.history question.expects
 
-  time_of_due : Elapses (bench.moment at) (bench.moment sending) (bench.since at) (bench.since sending) (Sending (bench.leaves sending) (bench.sent at) (verdict_bytes (due_of expected)))
-  time_of_due =
-      subst
-      (λ (d : Due). Elapses (bench.moment at) (bench.moment sending) (bench.since at) (bench.since sending) (Sending (bench.leaves sending) (bench.sent at) (verdict_bytes d))) due_is time
+    -- it was sent
+    pub asked_half : SendsVerdict bench at sending (due_of expected) → Half source bench columns public first_source first new after sending core (line + 2) expected
+    asked_half sends = record {
+      lines = turn.lines;
+      verdicts = turn.verdicts;
+      question = question.line;
+      so_far =
+          question_sent source bench columns public first_source first more_read cutter from at turn.lines turn.verdicts turn.so_far new after question.line question.gives cuts
+          (length turn.verdicts) turn.even expected expects sending sends.file sends.crash sends.time sends.all sends.ticks question.gives.steady sends.steady;
+      before = turn.so_far.are;
+      expects = expects;
+      even = turn.even;
+      line_is = ap (λ (n : ℕ). n + 2) turn.line_is;
+      history = turn.history;
+      setting = turn.setting;
+    }
 
-  -- it was sent
-  pub asked_half : (bench.told → bench.sent sending ≡ bench.sent at ++ verdict_bytes due) → (bench.told → bench.moment sending ≡ bench.moment at + 1) →
-      bench.faults sending ≡ bench.faults at → Half source bench columns public first_source first new after sending core (line + 2) expected
-  asked_half all ticks still = record {
-    lines = turn.lines;
-    verdicts = turn.verdicts;
-    question = question.line;
-    so_far =
-        question_sent source bench columns public first_source first more_read cutter from at turn.lines turn.verdicts turn.so_far new after question.line question.gives cuts
-        (length turn.verdicts) turn.even expected expects sending file crash time_of_due
-        (λ told. subst (λ (d : Due). bench.sent sending ≡ bench.sent at ++ verdict_bytes d) due_is (all told)) ticks question.gives.steady still;
-    before = turn.so_far.are;
-    expects = expects;
-    even = turn.even;
-    line_is = ap (λ (n : ℕ). n + 2) turn.line_is;
-    history = turn.history;
-    setting = turn.setting;
-  }
+    -- it couldn't be
+    asked_unsent : FailsSending bench at sending (due_of expected) → Simulates source bench columns public first_source after first sending (Err fault.Bench)
+    asked_unsent fails =
+        question_unsent source bench columns public first_source first more_read cutter from at turn.lines turn.verdicts turn.so_far new after question.line question.gives cuts
+        (length turn.verdicts) turn.even expected expects sending fails.file fails.crash fails.time fails.part question.gives.steady fails.rose fails.last fails.later
 
-  -- it couldn't be
-  pub asked_unsent : (bench.told → AppendsFront (bench.sent at) (verdict_bytes due) (bench.sent sending)) → Rose (bench.faults at) (bench.faults sending)
-      → bench.last_failed sending ≡ true → bench.faults at ≤ bench.faults sending
-      → Simulates source bench columns public first_source after first sending (Err fault.Bench)
-  asked_unsent part rose last later =
-      question_unsent source bench columns public first_source first more_read cutter from at turn.lines turn.verdicts turn.so_far new after question.line question.gives cuts
-      (length turn.verdicts) turn.even expected expects sending
-      file crash time_of_due
-      (λ told. subst (λ (d : Due). AppendsFront (bench.sent at) (verdict_bytes d) (bench.sent sending)) due_is (part told)) question.gives.steady rose last later
+  unasked : (why : SimulationFault) → IsCutShort source cutter new from after why → sending ≡ at →
+      Simulates source bench columns public first_source after first sending (Err why)
+  unasked why short same =
+      subst (λ (b : B). Simulates source bench columns public first_source after first b (Err why)) (sym same)
+      (cut_short source bench columns public first_source first more_read cutter from at turn.lines turn.verdicts turn.so_far new after why short cuts)
+
+  -- no verdict was sent
+  pub unjudged : (why : SimulationFault) → IsUnjudged source bench cutter new from after at sending columns public core.history why →
+      Simulates source bench columns public first_source after first sending (Err why)
+  unjudged why (inl is) = unasked why is.0 is.1
+  unjudged why (inr is) =
+      subst (λ (f : SimulationFault). Simulates source bench columns public first_source after first sending (Err f)) (sym is.0)
+      (asked_unsent is.1.expected is.1.question is.1.fails)
+
+  -- no question is left
+  pub none_left : GivesNone source cutter new from after → sending ≡ at → Simulates source bench columns public first_source after first sending (Ok tt)
+  none_left none same =
+      subst (λ (b : B). Simulates source bench columns public first_source after first b (Ok tt)) (sym same)
+      (all_read source bench columns public first_source first more_read cutter from at turn.lines turn.verdicts turn.so_far new after none cuts)
+
+-- ---- the line that was shown to it
+
+module _ {P B : Type 0} (source : SourceGhosts P) (bench : Ghosts B) (columns : List Column) (public : PublicView) (first_source : P) (first : B)
+    (more_read : MoreLinesAreRead) (cutter : Cutter) (from : P) (at : B) (core : Audited) (line : ℕ) (expected : Expected)
+    (half : Half source bench columns public first_source first cutter from at core line expected) (new : Cutter) (after : P)
+    (cuts : Cuts source cutter new from after) where
+  -- no line was given
+  pub unshown : (why : SimulationFault) → IsCutShort source cutter new from after why → Simulates source bench columns public first_source after first at (Err why)
+  unshown why short =
+      cut_short source bench columns public first_source first more_read cutter from at (half.lines ++ half.question ∷ []) (half.verdicts ++ sent_for expected ∷ [])
+      half.so_far new after why short cuts
+
+  -- the transcript goes on
+  pub went_on : (shown : Option Shown) → ShowsNext source cutter new from after expected shown → Ok true ≡ goes_on shown line (due_of expected)
+      → (core_now : Audited) → core_now.history ≡ core.history ++ records_shown shown → core_now.setting ≡ core.setting
+      → Turn source bench columns public first_source first new after at core_now line
+  went_on (Some (Agrees added)) shows is core_now history setting =
+      agreed source bench columns public first_source first more_read cutter from at core line expected half new after shows.line shows.gives cuts added shows.comes_to core_now history setting
+  went_on (Some Disagrees) shows is core_now history setting = absurd (search rules)
+  went_on None shows is core_now history setting = absurd (search rules)
+
+  -- it ends with a question
+  pub ended : (shown : Option Shown) → ShowsNext source cutter new from after expected shown → Ok false ≡ goes_on shown line (due_of expected)
+      → Simulates source bench columns public first_source after first at (Ok tt)
+  ended (Some (Agrees added)) shows is = absurd (search rules)
+  ended (Some Disagrees) shows is = absurd (search rules)
+  ended None shows is =
+      all_read source bench columns public first_source first more_read cutter from at (half.lines ++ half.question ∷ []) (half.verdicts ++ sent_for expected ∷ [])
+      half.so_far new after shows cuts
+
+  -- it ends with a reply that doesn't agree
+  pub refused : OneReplyIsCalledFor → OneVerdictIsDue → (shown : Option Shown) → ShowsNext source cutter new from after expected shown
+      → (why : SimulationFault) → Err why ≡ goes_on shown line (due_of expected)
+      → Simulates source bench columns public first_source after first at (Err why)
+  refused called due (Some (Agrees added)) shows why is = absurd (search rules)
+  refused called due (Some Disagrees) shows why is =
+      subst (λ (r : Result (Unit {0}) SimulationFault). Simulates source bench columns public first_source after first at r) (search rules)
+      (disagreed source bench columns public first_source first more_read cutter from at core line expected half new after shows.line shows.gives cuts called due shows.comes_to)
+  refused called due None shows why is = absurd (search rules)

@@ -1,25 +1,31 @@
 -- What the steps of a simulation do: reading a line, and telling what a reply comes to.
-use Rattle.std.specs.Prelude.{◌≡◌, ◌<◌, ◌≤◌, ◌+◌, true, List, [], ◌∷◌, ◌++◌, length, Option, Some, None}
+use Rattle.std.specs.Prelude.{◌≡◌, ◌⊎◌, ◌<◌, ◌≤◌, ◌+◌, ℕ, true, List, [], ◌∷◌, ◌++◌, length, Option, Some, None, Result, Ok, Err, Bool, false}
+use Rattle.std.specs.Option.{option_to_list}
 use Rattle.audit_types.specs.History.{Setting, setting_of, FitsShape, known_of}
 use Rattle.audit_types.specs.Judgement.{IsWithinWidth}
 use Rattle.audit_types.specs.declared.records.Answered.{Answered}
+use Rattle.bench_core.specs.declared.bench.Bench.{Ghosts as BenchGhosts}
 use Rattle.bench_core.specs.declared.source.Source.{Ghosts}
+use Rattle.bench_core.specs.Bench.{AppendsFront, Elapses, Sending}
 use Rattle.bench_core.specs.Causes.{Rose}
 use Rattle.schema_json.specs.Columns.{Column}
 use Rattle.schema_json.specs.SecretShape.{shape_of}
 use Rattle.table_load.specs.Cells.{PublicView}
-use Rattle.line_wire.specs.Lines.{CountedLine, counted_lines, most_input}
+use Rattle.line_wire.specs.Lines.{CountedLine, text, long, counted_lines, most_input}
 use Rattle.line_wire.specs.Cutter.{Cutter, StopsAt}
 use Rattle.line_wire.specs.ReadLines.{ReadsLines}
+use Rattle.line_wire.specs.declared.lines.Next.{Next}
+use Rattle.line_wire.specs.declared.lines.Next.TheVariants as next
 use Rattle.line_wire.specs.declared.lines.LineStop.{LineStop}
 use Rattle.line_wire.specs.declared.lines.LineStop.TheVariants as stop
+use Rattle.transcript_sim.specs.declared.due.Due.{Due}
 use Rattle.transcript_sim.specs.declared.expecting.Expected.{Expected}
 use Rattle.transcript_sim.specs.declared.expecting.Expected.TheVariants.{Only, Answer}
 use Rattle.transcript_sim.specs.declared.shown.Shown.{Shown}
 use Rattle.transcript_sim.specs.declared.shown.Shown.TheVariants.{Agrees, Disagrees}
 use Rattle.transcript_sim.specs.declared.simulating.SimulationFault.{SimulationFault}
 use Rattle.transcript_sim.specs.declared.simulating.SimulationFault.TheVariants as fault
-use Rattle.transcript_sim.specs.Verdicts.{Expects, AgreesWith}
+use Rattle.transcript_sim.specs.Verdicts.{Expects, AgreesWith, due_of, verdict_bytes}
 
 -- ---- what was called for
 
@@ -78,6 +84,12 @@ IsCutShort source old new before after fault.NoMemory = source.faults after ≡ 
 IsCutShort source old new before after fault.Bench = ⊥
 IsCutShort source old new before after (fault.Disagrees line due) = ⊥
 
+-- what a call gave: a line, whose text the cutter shows, of at most 8,192 bytes, a long one, or none
+abbrev pub GivesNext : {P : Type 0} → Ghosts P → Cutter → Cutter → P → P → Next → Type 0
+GivesNext source old new before after next.Line = GivesLine source old new before after (text new.text) × (length new.text ≤ 8192)
+GivesNext source old new before after next.Long = GivesLine source old new before after long
+GivesNext source old new before after next.End = GivesNone source old new before after
+
 -- ---- the two lines of an exchange
 
 -- a question, and what it calls for
@@ -102,6 +114,57 @@ pub record GivesShown {P : Type 0} (source : Ghosts P) (old new : Cutter) (befor
 abbrev pub ShowsNext : {P : Type 0} → Ghosts P → Cutter → Cutter → P → P → Expected → Option Shown → Type 0
 ShowsNext source old new before after expected None = GivesNone source old new before after
 ShowsNext source old new before after expected (Some shown) = GivesShown source old new before after expected shown
+
+-- the record that such a line makes, if it makes one
+abbrev pub records_shown : Option Shown → List Answered
+records_shown (Some (Agrees added)) = option_to_list added
+records_shown (Some Disagrees) = []
+records_shown None = []
+
+-- whether a transcript goes on behind it: a line that disagrees is its end, and so is none
+abbrev pub goes_on : Option Shown → ℕ → Due → Result Bool SimulationFault
+goes_on (Some (Agrees added)) line due = Ok true
+goes_on (Some Disagrees) line due = Err (fault.Disagrees line due)
+goes_on None line due = Ok false
+
+-- ---- the sending of a verdict
+
+-- its line was sent, by one call
+pub record SendsVerdict {B : Type 0} (bench : BenchGhosts B) (old new : B) (due : Due) : Type 0 where
+  pub all : bench.told → bench.sent new ≡ bench.sent old ++ verdict_bytes due
+  pub file : bench.file new ≡ bench.file old
+  pub crash : (image : List ℕ) → bench.leaves new image → bench.leaves old image
+  pub time : Elapses (bench.moment old) (bench.moment new) (bench.since old) (bench.since new) (Sending (bench.leaves new) (bench.sent old) (verdict_bytes due))
+  pub ticks : bench.told → bench.moment new ≡ bench.moment old + 1
+  pub steady : bench.faults new ≡ bench.faults old
+
+-- the call failed, and a front of the line was sent
+pub record FailsSending {B : Type 0} (bench : BenchGhosts B) (old new : B) (due : Due) : Type 0 where
+  pub part : bench.told → AppendsFront (bench.sent old) (verdict_bytes due) (bench.sent new)
+  pub file : bench.file new ≡ bench.file old
+  pub crash : (image : List ℕ) → bench.leaves new image → bench.leaves old image
+  pub time : Elapses (bench.moment old) (bench.moment new) (bench.since old) (bench.since new) (Sending (bench.leaves new) (bench.sent old) (verdict_bytes due))
+  pub later : bench.faults old ≤ bench.faults new
+  pub rose : Rose (bench.faults old) (bench.faults new)
+  pub last : bench.last_failed new ≡ true
+
+-- the verdict on a question was sent, and where there was none, nothing
+abbrev pub SendsFor : {B : Type 0} → BenchGhosts B → B → B → Option Expected → Type 0
+SendsFor bench old new None = new ≡ old
+SendsFor bench old new (Some expected) = SendsVerdict bench old new (due_of expected)
+
+-- a question whose verdict couldn't be sent
+pub record GivesUnsent {P B : Type 0} (source : Ghosts P) (bench : BenchGhosts B) (old new : Cutter) (before after : P) (at now : B) (columns : List Column) (public : PublicView) (history : List Answered) : Type 0 where
+  pub expected : Expected
+  pub question : GivesQuestion source old new before after columns public history expected
+  pub fails : FailsSending bench at now (due_of expected)
+
+-- why no verdict was sent: no question was given and no call was made, or the call failed
+abbrev pub IsUnjudged : {P B : Type 0} → Ghosts P → BenchGhosts B → Cutter → Cutter → P → P → B → B → List Column → PublicView → List Answered → SimulationFault → Type 0
+IsUnjudged source bench old new before after at now columns public history why =
+    (IsCutShort source old new before after why × (now ≡ at)) ⊎ ((why ≡ fault.Bench) × GivesUnsent source bench old new before after at now columns public history)
+
+-- ---- the end of reading
 
 -- the end that a refusal of the cutter makes
 abbrev pub stop_fault : LineStop → SimulationFault

@@ -1,5 +1,6 @@
 //! What a question calls for, by the answers that were shown before it.
-ghost use Rattle.std.specs.Prelude.{◌≡◌, IfOk};
+ghost use Rattle.std.specs.Prelude.{◌≡◌, ◌≤◌, ◌↔◌, IfOk, length, true};
+ghost use Rattle.audit_types.specs.Limits.{most_records};
 ghost use Rattle.question_plan.specs.Plans.{CanBeServed};
 ghost use Rattle.transcript_sim.specs.Steps.{CanBeTaken};
 ghost use Rattle.transcript_sim.specs.Verdicts.{CallsFor, due_of, due_of_reply};
@@ -43,6 +44,13 @@ impl Expected {
     }
 }
 
+// Whether there are as many records as there may be.
+fn is_full(core: &Core) -> bool
+    ensures { (result ≡ true) ↔ (most_records ≤ length core.now.history) }
+{
+    core.history().len() >= MOST_RECORDS
+}
+
 /// What the question of a plan calls for after the records of the core. The core keeps what it found for the answer to come; no
 /// secret is read.
 pub(crate) fn expected_of(core: &mut Core, plan: Plan) -> Result<Expected, NoMemory>
@@ -55,7 +63,7 @@ pub(crate) fn expected_of(core: &mut Core, plan: Plan) -> Result<Expected, NoMem
         Plan::Ready(reply) => return Ok(Expected::Only(reply)),
         Plan::Ask { take, asked } => (take, asked),
     };
-    if core.history().len() >= MOST_RECORDS {
+    if is_full(core) {
         return Ok(Expected::Only(Reply::Full));
     }
     match core.weigh(&asked)? {

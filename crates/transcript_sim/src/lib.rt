@@ -7,6 +7,7 @@
 
 mod due;
 mod expecting;
+mod judging;
 pub mod laws;
 mod questions;
 mod shown;

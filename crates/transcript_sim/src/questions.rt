@@ -3,14 +3,13 @@ ghost use Rattle.std.specs.Prelude.{◌≡◌, [], true, IfOk, IfErr};
 ghost use Rattle.audit_types.specs.History.{setting_of};
 ghost use Rattle.schema_json.specs.SecretShape.{shape_of};
 ghost use Rattle.table_load.specs.Cells.{FitsSchema};
-ghost use Rattle.transcript_sim.specs.Steps.{AsksNext, Cuts, IsCutShort, ShowsNext};
+ghost use Rattle.transcript_sim.specs.Steps.{AsksNext, Cuts, GivesNext, IsCutShort, ShowsNext};
 
 use crate::expecting::{Expected, expected_of};
+use crate::judging::Simulation;
 use crate::shown::Shown;
 use crate::simulating::SimulationFault;
-use audit_core::Core;
 use bench_core::Source;
-use json::Scratch;
 use line_wire::laws::lines_in_turn;
 use line_wire::{Lines, Next, Reply};
 use question_plan::plan_line;
@@ -18,32 +17,42 @@ use schema_json::Schema;
 use set_index::Index;
 use std::alloc::Global;
 
-/// What the next line calls for, which is a question. No line is left where there is none.
-pub(crate) fn next_question<P: Source>(
-    alloc: Global,
-    lines: &mut Lines,
-    schema: &Schema,
-    index: &Index,
-    core: &mut Core,
-    source: &mut P,
-    scratch: &mut Scratch,
-) -> Result<Option<Expected>, SimulationFault>
+// Gives the next line, whose text the cutter shows.
+fn next_line<P: Source>(lines: &mut Lines, source: &mut P) -> Result<Next, SimulationFault>
     requires same { P.told → lines.old.ended ≡ true → P.left source.old ≡ [] }
-    requires fits { FitsSchema schema.now.columns index.now }
-    requires setting { core.old.setting ≡ setting_of (shape_of schema.now.columns index.now.rows) }
-    ensures asks { IfOk result (AsksNext P.Source lines.old lines.new source.old source.new schema.now.columns index.now core.old.history) }
-    ensures same { core.new ≡ core.old }
+    ensures gives { IfOk result (GivesNext P.Source lines.old lines.new source.old source.new) }
     ensures short { IfErr result (IsCutShort P.Source lines.old lines.new source.old source.new) }
     ensures cuts { Cuts P.Source lines.old lines.new source.old source.new }
 {
     lines_in_turn();
-    match lines.next(source)? {
-        Next::Line => {
-            let plan = plan_line(alloc, schema, index, lines.text(), scratch)?;
-            Ok(Some(expected_of(core, plan)?))
+    Ok(lines.next(source)?)
+}
+
+impl Simulation {
+    /// What the next line calls for, which is a question. No line is left where there is none.
+    pub(crate) fn next_question<P: Source>(
+        &mut self,
+        alloc: Global,
+        schema: &Schema,
+        index: &Index,
+        source: &mut P,
+    ) -> Result<Option<Expected>, SimulationFault>
+        requires same { P.told → self.old.lines.ended ≡ true → P.left source.old ≡ [] }
+        requires fits { FitsSchema schema.now.columns index.now }
+        requires setting { self.old.core.setting ≡ setting_of (shape_of schema.now.columns index.now.rows) }
+        ensures asks { IfOk result (AsksNext P.Source self.old.lines self.new.lines source.old source.new schema.now.columns index.now self.old.core.history) }
+        ensures same { self.new.core ≡ self.old.core }
+        ensures short { IfErr result (IsCutShort P.Source self.old.lines self.new.lines source.old source.new) }
+        ensures cuts { Cuts P.Source self.old.lines self.new.lines source.old source.new }
+    {
+        match next_line(&mut self.lines, source)? {
+            Next::Line => {
+                let plan = plan_line(alloc, schema, index, self.lines.text(), &mut self.scratch)?;
+                Ok(Some(expected_of(&mut self.core, plan)?))
+            }
+            Next::Long => Ok(Some(Expected::Only(Reply::Long))),
+            Next::End => Ok(None),
         }
-        Next::Long => Ok(Some(Expected::Only(Reply::Long))),
-        Next::End => Ok(None),
     }
 }
 
@@ -58,8 +67,7 @@ pub(crate) fn next_shown<P: Source>(
     ensures short { IfErr result (IsCutShort P.Source lines.old lines.new source.old source.new) }
     ensures cuts { Cuts P.Source lines.old lines.new source.old source.new }
 {
-    lines_in_turn();
-    match lines.next(source)? {
+    match next_line(lines, source)? {
         Next::Line => Ok(Some(expected.shown(lines.text()))),
         Next::Long => Ok(Some(Shown::Disagrees)),
         Next::End => Ok(None),

@@ -1,35 +1,31 @@
 //! Reading a transcript, and sending its verdicts.
-ghost use Rattle.std.specs.Prelude.{◌≡◌, ◌≢◌, ◌≤◌, ◌+◌, ◌++◌, [], List, ℕ, false, length, OnOk, OnErr, Err, true};
+ghost use Rattle.std.specs.Prelude.{◌≡◌, ◌≢◌, ◌≤◌, ◌+◌, [], List, ℕ, false, length, OnOk, Err, true};
 ghost use Rattle.audit_types.specs.History.{setting_of};
 ghost use Rattle.audit_types.specs.declared.records.Answered.{Answered};
-ghost use Rattle.bench_core.specs.Causes.{HasCause, Rose};
-ghost use Rattle.bench_core.specs.Bench.{AppendsFront, Elapses, Sending};
+ghost use Rattle.bench_core.specs.Causes.{Rose};
 ghost use Rattle.bench_core.specs.Calls.{IsQuiet, LeavesOnly};
 ghost use Rattle.schema_json.specs.SecretShape.{shape_of};
 ghost use Rattle.table_load.specs.Cells.{FitsSchema};
 ghost use Rattle.line_wire.specs.Lines.{counted_lines};
 ghost use Rattle.question_plan.specs.Session.{Replied};
-ghost use Rattle.transcript_sim.specs.Verdicts.{exchanges, verdict_bytes};
+ghost use Rattle.transcript_sim.specs.Verdicts.{exchanges};
 ghost use Rattle.transcript_sim.specs.Steps.{stop_fault};
 ghost use Rattle.transcript_sim.specs.Ends.{EndReads, EndSends, EndVerdicts, Simulates, SimulatesMeanwhile};
 ghost use Rattle.transcript_sim.specs.declared.simulating.SimulationFault.TheVariants as fault;
 
-use crate::due::{Due, verdict_line};
+use crate::due::Due;
+use crate::judging::{Simulation, goes_on};
 use crate::laws::one_verdict;
-use crate::questions::{next_question, next_shown};
-use crate::shown::Shown;
-use audit_core::Core;
 use audit_types::NoMemory;
 use bench_core::{Bench, Failed, Source};
-use json::Scratch;
 use line_wire::laws::lines_in_turn;
-use line_wire::{LineStop, Lines};
+use line_wire::LineStop;
 use schema_json::Schema;
 use set_index::Index;
 use std::alloc::Global;
 
 /// Why reading a transcript ended before its input did.
-#[derive(Clone, Copy, Debug, PartialEq, Eq)]
+#[derive(Clone, Copy)]
 pub enum SimulationFault {
     /// The input failed.
     Input,
@@ -70,49 +66,29 @@ impl From<NoMemory> for SimulationFault {
     }
 }
 
-// Sends the line of a verdict, in one call.
-fn send_verdict<B: Bench>(bench: &mut B, due: Due) -> Result<(), Failed>
-    ensures all { B.told → OnOk result (B.sent bench.new ≡ B.sent bench.old ++ verdict_bytes due) }
-    ensures part { B.told → OnErr result (AppendsFront (B.sent bench.old) (verdict_bytes due) (B.sent bench.new)) }
-    ensures file { B.file bench.new ≡ B.file bench.old }
-    ensures crash { (image : List ℕ) → B.leaves bench.new image → B.leaves bench.old image }
-    ensures time { Elapses (B.moment bench.old) (B.moment bench.new) (B.since bench.old) (B.since bench.new) (Sending (B.leaves bench.new) (B.sent bench.old) (verdict_bytes due)) }
-    ensures ticks { B.told → OnOk result (B.moment bench.new ≡ B.moment bench.old + 1) }
-    ensures cause { HasCause (B.faults bench.old) (B.faults bench.new) result }
-    ensures last_call { OnErr result (B.last_failed bench.new ≡ true) }
-{
-    bench.send(verdict_line(due))
-}
-
 // Judges the exchanges that are still to come. A reply is looked at once the verdict on its question was sent.
 fn judge<P: Source, B: Bench>(
     alloc: Global,
-    lines: &mut Lines,
-    core: &mut Core,
+    simulation: &mut Simulation,
     schema: &Schema,
     index: &Index,
     source: &mut P,
     bench: &mut B,
-    scratch: &mut Scratch,
 ) -> Result<(), SimulationFault>
-    requires fresh { (lines.old.taken ≡ 0) × (lines.old.pending ≡ []) × (lines.old.ended ≡ false) }
+    requires fresh { (simulation.old.lines.taken ≡ 0) × (simulation.old.lines.pending ≡ []) × (simulation.old.lines.ended ≡ false) }
     requires fits { FitsSchema schema.now.columns index.now }
-    requires setting { core.old.setting ≡ setting_of (shape_of schema.now.columns index.now.rows) }
-    requires nothing { core.old.history ≡ [] }
+    requires setting { simulation.old.core.setting ≡ setting_of (shape_of schema.now.columns index.now.rows) }
+    requires nothing { simulation.old.core.history ≡ [] }
     ensures { Simulates P.Source B.Bench schema.now.columns index.now source.old source.new bench.old bench.new result }
 {
     lines_in_turn();
     one_verdict();
     let mut line = 0;
-    while let Some(expected) = next_question(alloc, lines, schema, index, core, source, scratch)? {
-        let due = expected.due();
-        send_verdict(bench, due)?;
+    while let Some(expected) = simulation.judge_question(alloc, schema, index, source, bench)? {
         line += 2;
-        match next_shown(lines, source, &expected)? {
-            Some(Shown::Agrees(Some(answered))) => core.take(&answered)?,
-            Some(Shown::Agrees(None)) => {}
-            Some(Shown::Disagrees) => return Err(SimulationFault::Disagrees { line, due }),
-            None => return Ok(()),
+        let shown = simulation.take_shown(source, &expected)?;
+        if !goes_on(shown, line, expected.due())? {
+            return Ok(());
         }
     }
     Ok(())
@@ -152,17 +128,6 @@ pub fn simulate<P: Source, B: Bench>(
 {
     // A public part says of itself that it has 1 to 1,024 rows.
     let rows = index.public().rows();
-    let mut lines = Lines::new(alloc)?;
-    let mut core = Core::new(alloc, schema.shape(rows))?;
-    let mut scratch = Scratch::new(alloc);
-    judge(
-        alloc,
-        &mut lines,
-        &mut core,
-        schema,
-        index,
-        source,
-        bench,
-        &mut scratch,
-    )
+    let mut simulation = Simulation::new(alloc, schema.shape(rows))?;
+    judge(alloc, &mut simulation, schema, index, source, bench)
 }

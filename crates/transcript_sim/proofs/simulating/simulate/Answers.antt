@@ -5,13 +5,14 @@ use Rattle.question_plan.specs.Session.{Replied}
 use Rattle.transcript_sim.specs.declared.simulating.SimulationFault.{SimulationFault}
 use Rattle.transcript_sim.specs.declared.simulating.SimulationFault.TheVariants as fault
 use Rattle.transcript_sim.specs.Ends.{EndVerdicts, EndSends}
+use Rattle.transcript_sim.proofs.SoFar.{nothing_sent}
 use Rattle.transcript_sim.proofs.simulating.simulate.Goals as goal
 
 abbrev ended_by : SimulationFault → Result (Unit {0}) SimulationFault
 ended_by fault = Err fault
 
-pub returns-in_err-lines-clause-verdicts : goal.returns-in_err-lines-clause-verdicts
-returns-in_err-lines-clause-verdicts g c = λ t.
+pub returns-in_err-simulation-clause-verdicts : goal.returns-in_err-simulation-clause-verdicts
+returns-in_err-simulation-clause-verdicts g c = λ t.
     let input = g.P.Source.left c.args.source.now in
     let sent = g.B.Bench.sent c.args.bench.now in
     let same : c.from_residual.result ≡ ended_by fault.NoMemory = search rules in
@@ -20,12 +21,7 @@ returns-in_err-lines-clause-verdicts g c = λ t.
     (sym same)
     ([], record { count = 0; are = tt }, λ u. sym (append-nil sent))
 
-pub returns-in_err-core-clause-verdicts : goal.returns-in_err-core-clause-verdicts
-returns-in_err-core-clause-verdicts g c = λ t.
-    let input = g.P.Source.left c.args.source.now in
-    let sent = g.B.Bench.sent c.args.bench.now in
-    let same : c.from_residual-in_err-core.result ≡ ended_by fault.NoMemory = search rules in
-    subst
-    (λ (r : Result (Unit {0}) SimulationFault). (verdicts : List (Replied Answered)) × EndVerdicts r c.args.schema.now.columns c.args.index.now input input verdicts × (g.B.Bench.told → EndSends r verdicts sent sent))
-    (sym same)
-    ([], record { count = 0; are = tt }, λ u. sym (append-nil sent))
+pub returns-in_err-simulation-clause-any_moment : goal.returns-in_err-simulation-clause-any_moment
+returns-in_err-simulation-clause-any_moment g c = λ told quiet.
+    nothing_sent g.P.Source g.B.Bench c.args.schema.now.columns c.args.index.now c.args.source.now c.args.bench.now
+    (λ image bytes was. g.met.B.Bench.only_now c.args.bench.now image bytes was) quiet

@@ -1,0 +1,112 @@
+//! One exchange of a transcript: a question, whose verdict is sent, and the line that was shown to it.
+ghost use Rattle.std.specs.Prelude.{◌≡◌, ◌++◌, [], true, false, OnOk, OnErr, IfOk, IfErr};
+ghost use Rattle.audit_types.specs.History.{setting_of};
+ghost use Rattle.audit_types.specs.Shapes.{IsShape};
+ghost use Rattle.schema_json.specs.SecretShape.{shape_of};
+ghost use Rattle.table_load.specs.Cells.{FitsSchema};
+ghost use Rattle.transcript_sim.specs.Steps.{AsksNext, CanBeTaken, Cuts, FailsSending, IsCutShort, IsUnjudged, SendsFor, SendsVerdict, ShowsNext, goes_on, records_shown};
+
+use crate::due::{Due, verdict_line};
+use crate::expecting::Expected;
+use crate::questions::next_shown;
+use crate::shown::Shown;
+use crate::simulating::SimulationFault;
+use audit_core::Core;
+use audit_types::{NoMemory, Shape};
+use bench_core::{Bench, Failed, Source};
+use json::Scratch;
+use line_wire::Lines;
+use schema_json::Schema;
+use set_index::Index;
+use std::alloc::Global;
+
+// Sends the line of a verdict, in one call.
+fn send_verdict<B: Bench>(bench: &mut B, due: Due) -> Result<(), Failed>
+    ensures sends { OnOk result (SendsVerdict B.Bench bench.old bench.new due) }
+    ensures fails { OnErr result (FailsSending B.Bench bench.old bench.new due) }
+{
+    bench.send(verdict_line(due))
+}
+
+/// What is kept from line to line: the lines that are to come, the answers that were shown, and the memory that JSON is read with.
+#[derive(Drop)]
+pub(crate) struct Simulation {
+    pub(crate) lines: Lines,
+    pub(crate) core: Core,
+    pub(crate) scratch: Scratch,
+}
+
+impl Simulation {
+    /// Nothing was read, and no answer was shown.
+    pub(crate) fn new(alloc: Global, shape: Shape) -> Result<Simulation, NoMemory>
+        requires { IsShape shape }
+        ensures fresh { IfOk result (λ simulation. (simulation.lines.taken ≡ 0) × (simulation.lines.pending ≡ []) × (simulation.lines.ended ≡ false)) }
+        ensures setting { IfOk result (λ simulation. simulation.core.setting ≡ setting_of shape) }
+        ensures nothing { IfOk result (λ simulation. simulation.core.history ≡ []) }
+    {
+        Ok(Simulation {
+            lines: Lines::new(alloc)?,
+            core: Core::new(alloc, shape)?,
+            scratch: Scratch::new(alloc),
+        })
+    }
+
+    /// What the next line calls for, which is a question, once its verdict was sent. No line is left where there is none.
+    pub(crate) fn judge_question<P: Source, B: Bench>(
+        &mut self,
+        alloc: Global,
+        schema: &Schema,
+        index: &Index,
+        source: &mut P,
+        bench: &mut B,
+    ) -> Result<Option<Expected>, SimulationFault>
+        requires same { P.told → self.old.lines.ended ≡ true → P.left source.old ≡ [] }
+        requires fits { FitsSchema schema.now.columns index.now }
+        requires setting { self.old.core.setting ≡ setting_of (shape_of schema.now.columns index.now.rows) }
+        ensures asks { IfOk result (AsksNext P.Source self.old.lines self.new.lines source.old source.new schema.now.columns index.now self.old.core.history) }
+        ensures sends { IfOk result (SendsFor B.Bench bench.old bench.new) }
+        ensures unjudged { IfErr result (IsUnjudged P.Source B.Bench self.old.lines self.new.lines source.old source.new bench.old bench.new schema.now.columns index.now self.old.core.history) }
+        ensures same { self.new.core ≡ self.old.core }
+        ensures cuts { Cuts P.Source self.old.lines self.new.lines source.old source.new }
+    {
+        let Some(expected) = self.next_question(alloc, schema, index, source)? else {
+            return Ok(None);
+        };
+        let due = expected.due();
+        send_verdict(bench, due)?;
+        Ok(Some(expected))
+    }
+
+    /// What the line comes to that was shown to a question which calls for this. The answer of one that agrees is taken.
+    pub(crate) fn take_shown<P: Source>(
+        &mut self,
+        source: &mut P,
+        expected: &Expected,
+    ) -> Result<Option<Shown>, SimulationFault>
+        requires same { P.told → self.old.lines.ended ≡ true → P.left source.old ≡ [] }
+        requires can { CanBeTaken self.old.core.setting self.old.core.history expected.now }
+        ensures shows { IfOk result (ShowsNext P.Source self.old.lines self.new.lines source.old source.new expected.now) }
+        ensures takes { IfOk result (λ shown. self.new.core.history ≡ self.old.core.history ++ records_shown shown) }
+        ensures setting { self.new.core.setting ≡ self.old.core.setting }
+        ensures short { IfErr result (IsCutShort P.Source self.old.lines self.new.lines source.old source.new) }
+        ensures cuts { Cuts P.Source self.old.lines self.new.lines source.old source.new }
+    {
+        let shown = next_shown(&mut self.lines, source, expected)?;
+        if let Some(Shown::Agrees(Some(answered))) = &shown {
+            self.core.take(answered)?;
+        }
+        Ok(shown)
+    }
+}
+
+/// Whether the transcript goes on behind what was shown to the last question, at this line. One that disagrees is told with
+/// the question's verdict.
+pub(crate) fn goes_on(shown: Option<Shown>, line: u64, due: Due) -> Result<bool, SimulationFault>
+    ensures { result ≡ goes_on shown line due }
+{
+    match shown {
+        Some(Shown::Agrees(_)) => Ok(true),
+        Some(Shown::Disagrees) => Err(SimulationFault::Disagrees { line, due }),
+        None => Ok(false),
+    }
+}
