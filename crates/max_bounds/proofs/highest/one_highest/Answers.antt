@@ -1,4 +1,5 @@
 use Rattle.std.proofs.Common.{◌∷◌, arith, sym, ◌∙◌, List, ℕ}
+use Rattle.std.proofs.lemmas.Grind.{common_steps}
 use Rattle.std.proofs.lemmas.Bool.{true≢false}
 use Rattle.audit_types.specs.RowLaws.{walk_row, walk_more}
 use Rattle.max_bounds.specs.Reaching.{bound_at}
@@ -60,3 +61,6 @@ loop-row-preserved c =
           (other_bounds _ _ (sym c.eq.ensures ∙ c.if-eq.false))
           (λ above. true≢false (sym (c.is_higher.ensures.1 above) ∙ c.if-is_higher.false));
     }
+
+pub loop-row-init : goal.loop-row-init
+loop-row-init c = grind (arith, common_steps)
