@@ -48,8 +48,8 @@ returns-in_err-shown g c =
     let question = subst (λ (o : Option Expected). AsksNext g.P.Source c.loop-expected.simulation.lines c.judge_question.new.self.lines c.loop-expected.source c.judge_question.new.source c.args.schema.now.columns c.args.index.now c.loop-expected.simulation.core.history o) c.in-Some.is c.in_ok-expected.ensures.asks in
     let sends = subst (λ (o : Option Expected). SendsFor g.B.Bench c.loop-expected.bench c.judge_question.new.bench o) c.in-Some.is c.in_ok-expected.ensures.sends in
     let half =
-        asked_half g.P.Source g.B.Bench c.args.schema.now.columns c.args.index.now c.args.source.now c.args.bench.now c.lines_in_turn.ensures.more c.loop-expected.simulation.lines c.loop-expected.source c.loop-expected.bench c.loop-expected.simulation.core c.loop-expected.line c.loop-expected.invariant c.judge_question.new.self.lines c.judge_question.new.source c.in_ok-expected.ensures.cuts c.judge_question.new.bench
-        c.in-Some.expected question sends in
+    asked_half g.P.Source g.B.Bench c.args.schema.now.columns c.args.index.now c.args.source.now c.args.bench.now c.lines_in_turn.ensures.more c.loop-expected.simulation.lines c.loop-expected.source c.loop-expected.bench c.loop-expected.simulation.core c.loop-expected.line c.loop-expected.invariant c.judge_question.new.self.lines c.judge_question.new.source c.in_ok-expected.ensures.cuts c.judge_question.new.bench
+    c.in-Some.expected question sends in
     let why = c.in_err-shown.field-0.0 in
     let same : c.from_residual-in_err-shown.result ≡ ended_by why = search rules in
     subst
@@ -62,8 +62,8 @@ returns-in_err-goes_on g c =
     let question = subst (λ (o : Option Expected). AsksNext g.P.Source c.loop-expected.simulation.lines c.judge_question.new.self.lines c.loop-expected.source c.judge_question.new.source c.args.schema.now.columns c.args.index.now c.loop-expected.simulation.core.history o) c.in-Some.is c.in_ok-expected.ensures.asks in
     let sends = subst (λ (o : Option Expected). SendsFor g.B.Bench c.loop-expected.bench c.judge_question.new.bench o) c.in-Some.is c.in_ok-expected.ensures.sends in
     let half =
-        asked_half g.P.Source g.B.Bench c.args.schema.now.columns c.args.index.now c.args.source.now c.args.bench.now c.lines_in_turn.ensures.more c.loop-expected.simulation.lines c.loop-expected.source c.loop-expected.bench c.loop-expected.simulation.core c.loop-expected.line c.loop-expected.invariant c.judge_question.new.self.lines c.judge_question.new.source c.in_ok-expected.ensures.cuts c.judge_question.new.bench
-        c.in-Some.expected question sends in
+    asked_half g.P.Source g.B.Bench c.args.schema.now.columns c.args.index.now c.args.source.now c.args.bench.now c.lines_in_turn.ensures.more c.loop-expected.simulation.lines c.loop-expected.source c.loop-expected.bench c.loop-expected.simulation.core c.loop-expected.line c.loop-expected.invariant c.judge_question.new.self.lines c.judge_question.new.source c.in_ok-expected.ensures.cuts c.judge_question.new.bench
+    c.in-Some.expected question sends in
     let why = c.in_err-goes_on.field-0.0 in
     let same : c.from_residual-in_err-goes_on.result ≡ ended_by why = search rules in
     let is : Err why ≡ goes_on c.in_ok-shown.shown (c.loop-expected.line + 2) (due_of c.in-Some.expected) = search rules in
@@ -77,8 +77,8 @@ returns-then-not-branch g c =
     let question = subst (λ (o : Option Expected). AsksNext g.P.Source c.loop-expected.simulation.lines c.judge_question.new.self.lines c.loop-expected.source c.judge_question.new.source c.args.schema.now.columns c.args.index.now c.loop-expected.simulation.core.history o) c.in-Some.is c.in_ok-expected.ensures.asks in
     let sends = subst (λ (o : Option Expected). SendsFor g.B.Bench c.loop-expected.bench c.judge_question.new.bench o) c.in-Some.is c.in_ok-expected.ensures.sends in
     let half =
-        asked_half g.P.Source g.B.Bench c.args.schema.now.columns c.args.index.now c.args.source.now c.args.bench.now c.lines_in_turn.ensures.more c.loop-expected.simulation.lines c.loop-expected.source c.loop-expected.bench c.loop-expected.simulation.core c.loop-expected.line c.loop-expected.invariant c.judge_question.new.self.lines c.judge_question.new.source c.in_ok-expected.ensures.cuts c.judge_question.new.bench
-        c.in-Some.expected question sends in
+    asked_half g.P.Source g.B.Bench c.args.schema.now.columns c.args.index.now c.args.source.now c.args.bench.now c.lines_in_turn.ensures.more c.loop-expected.simulation.lines c.loop-expected.source c.loop-expected.bench c.loop-expected.simulation.core c.loop-expected.line c.loop-expected.invariant c.judge_question.new.self.lines c.judge_question.new.source c.in_ok-expected.ensures.cuts c.judge_question.new.bench
+    c.in-Some.expected question sends in
     let is : Ok false ≡ goes_on c.in_ok-shown.shown (c.loop-expected.line + 2) (due_of c.in-Some.expected) = search rules in
     ended g.P.Source g.B.Bench c.args.schema.now.columns c.args.index.now c.args.source.now c.args.bench.now c.lines_in_turn.ensures.more c.judge_question.new.self.lines c.judge_question.new.source c.judge_question.new.bench c.loop-expected.simulation.core (c.loop-expected.line + 2) c.in-Some.expected half c.take_shown.new.self.lines c.take_shown.new.source c.in_ok-shown.ensures.cuts c.in_ok-shown.shown c.in_ok-shown.ensures.shows is
 
@@ -87,8 +87,8 @@ loop-expected-preserved g c =
     let question = subst (λ (o : Option Expected). AsksNext g.P.Source c.loop-expected.simulation.lines c.judge_question.new.self.lines c.loop-expected.source c.judge_question.new.source c.args.schema.now.columns c.args.index.now c.loop-expected.simulation.core.history o) c.in-Some.is c.in_ok-expected.ensures.asks in
     let sends = subst (λ (o : Option Expected). SendsFor g.B.Bench c.loop-expected.bench c.judge_question.new.bench o) c.in-Some.is c.in_ok-expected.ensures.sends in
     let half =
-        asked_half g.P.Source g.B.Bench c.args.schema.now.columns c.args.index.now c.args.source.now c.args.bench.now c.lines_in_turn.ensures.more c.loop-expected.simulation.lines c.loop-expected.source c.loop-expected.bench c.loop-expected.simulation.core c.loop-expected.line c.loop-expected.invariant c.judge_question.new.self.lines c.judge_question.new.source c.in_ok-expected.ensures.cuts c.judge_question.new.bench
-        c.in-Some.expected question sends in
+    asked_half g.P.Source g.B.Bench c.args.schema.now.columns c.args.index.now c.args.source.now c.args.bench.now c.lines_in_turn.ensures.more c.loop-expected.simulation.lines c.loop-expected.source c.loop-expected.bench c.loop-expected.simulation.core c.loop-expected.line c.loop-expected.invariant c.judge_question.new.self.lines c.judge_question.new.source c.in_ok-expected.ensures.cuts c.judge_question.new.bench
+    c.in-Some.expected question sends in
     let is : Ok true ≡ goes_on c.in_ok-shown.shown (c.loop-expected.line + 2) (due_of c.in-Some.expected) = search rules in
     let same : c.judge_question.new.self.core ≡ c.loop-expected.simulation.core = c.in_ok-expected.ensures.same in
     let shown = records_shown c.in_ok-shown.shown in
