@@ -121,23 +121,15 @@ impl Lines {
                     self.clear();
                     return Err(LineStop::Limit);
                 }
-                Step::Fed => {
-                    if let Some(next) = self.finish() {
-                        return Ok(next);
-                    }
-                }
-                Step::Dry => {
-                    if self.ended {
-                        return Ok(self.last());
-                    }
-                    match self.refill(source) {
-                        Ok(()) => {}
-                        Err(Failed) => {
-                            self.clear();
-                            return Err(LineStop::Input);
-                        }
-                    }
-                }
+                Step::Fed => match self.finish() {
+                    Some(next) => return Ok(next),
+                    None => {}
+                },
+                Step::Dry if self.ended => return Ok(self.last()),
+                Step::Dry => match self.refill(source) {
+                    Ok(()) => {}
+                    Err(Failed) => return Err(LineStop::Input),
+                },
             }
         }
     }
@@ -202,22 +194,28 @@ impl Lines {
         }
     }
 
-    // Reads the next bytes.
+    // Reads the next bytes. After a failed read no line is begun.
     fn refill<P: Source>(&mut self, source: &mut P) -> Result<(), Failed>
         requires dry { self.old.pending ≡ [] }
         requires within { self.old.taken ≤ most_input }
         ensures bytes { P.told → OnOk result (P.left source.old ≡ self.new.pending ++ P.left source.new) }
         ensures ended { P.told → OnOk result (self.new.ended ≡ true → P.left source.old ≡ []) }
         ensures failed { P.told → OnErr result (P.left source.new ≡ P.left source.old) }
-        ensures kept { OnErr result ((self.new.taken ≡ self.old.taken) × (self.new.ended ≡ self.old.ended) × (self.new.pending ≡ [])) }
+        ensures kept { OnErr result ((self.new.taken ≡ self.old.taken) × (self.new.ended ≡ self.old.ended) × (self.new.pending ≡ []) × (self.new.text ≡ [])) }
         ensures cause { HasCause (P.faults source.old) (P.faults source.new) result }
         ensures last_call { OnErr result (P.last_failed source.new ≡ true) }
         ensures within { IsWithin self.new }
         ensures taken { OnOk result (self.new.taken ≡ self.old.taken + length self.new.pending) }
         ensures grows { OnOk result (self.new.ended ≡ false → self.old.taken < self.new.taken) }
-        ensures text { self.new.text ≡ self.old.text }
+        ensures text { OnOk result (self.new.text ≡ self.old.text) }
     {
-        let count = self.buffer.fill(source)?;
+        let count = match self.buffer.fill(source) {
+            Ok(count) => count,
+            Err(failed) => {
+                self.clear();
+                return Err(failed);
+            }
+        };
         self.taken += count as u64;
         self.ended = count == 0;
         Ok(())

@@ -29,11 +29,11 @@ pub returns-in-Some-clause-answer : goal.returns-in-Some-clause-answer
 returns-in-Some-clause-answer g c = λ told.
     answers_fed _ _ _ _ _ (to_feed _ _ _ _ (c.loop-self.invariant.reached told) c.in-Fed.ensures.passes) c.in-Some.ensures.counts c.in-Some.ensures.same.2
 
-pub loop-self-preserved-in_default : goal.loop-self-preserved-in_default
-loop-self-preserved-in_default g c =
+pub loop-self-preserved-in-None : goal.loop-self-preserved-in-None
+loop-self-preserved-in-None g c =
     let turn = c.loop-self.invariant in
     let absorbed = c.in-Fed.ensures in
-    let finished = c.in_default.ensures in
+    let finished = c.in-None.ensures in
     let within = absorbed.within.1 in
     let size = ap (λ (l : List ℕ). length l) finished.same.2 in
     let ended = finished.same.1 ∙ absorbed.same.1 in
@@ -52,8 +52,8 @@ loop-self-preserved-in_default g c =
       once = λ is. ((turn.once is).0, ended ∙ (turn.once is).1);
     }
 
-pub returns-then-self-clause-answer : goal.returns-then-self-clause-answer
-returns-then-self-clause-answer g c = λ told.
+pub returns-in-Dry-clause-answer : goal.returns-in-Dry-clause-answer
+returns-in-Dry-clause-answer g c = λ told.
     let turn = c.loop-self.invariant in
     let absorbed = c.in-Dry.ensures in
     let last = c.last.ensures in
@@ -61,8 +61,8 @@ returns-then-self-clause-answer g c = λ told.
     let so_far = to_more _ _ _ _ (turn.reached told) absorbed.passes.0 in
     answers_last c.last.result _ _ _ _ so_far absorbed.passes.1 (turn.same told (sym absorbed.same.1 ∙ ended)) last.same.2 (last.same.1 ∙ ended) last.gives
 
-pub returns-then-self-clause-counted : goal.returns-then-self-clause-counted
-returns-then-self-clause-counted g c = λ told. counts_from _ _ _ _ (returns-then-self-clause-answer g c told)
+pub returns-in-Dry-clause-counted : goal.returns-in-Dry-clause-counted
+returns-in-Dry-clause-counted g c = λ told. counts_from _ _ _ _ (returns-in-Dry-clause-answer g c told)
 
 pub loop-self-preserved : goal.loop-self-preserved
 loop-self-preserved g c =
@@ -101,8 +101,8 @@ returns-in-Some-clause-advances g c =
     let fed = grown_feed c.args.self.now c.loop-self.self c.absorb.new.self turn.grown c.in-Fed.ensures.passes c.in-Fed.ensures.same.0 in
     advances_fed c.in-Some.next c.args.self.now c.finish.new.self (omega (arith, fed, finished.same.0, ap (λ (l : List ℕ). length l) finished.same.2))
 
-pub returns-then-self-clause-advances : goal.returns-then-self-clause-advances
-returns-then-self-clause-advances g c =
+pub returns-in-Dry-clause-advances : goal.returns-in-Dry-clause-advances
+returns-in-Dry-clause-advances g c =
     let turn = c.loop-self.invariant in
     let last = c.last.ensures in
     let grown = grown_none c.args.self.now c.loop-self.self c.absorb.new.self turn.grown c.in-Dry.ensures.passes.0 c.in-Dry.ensures.same.0 in
