@@ -1,5 +1,5 @@
 //! The serving loop.
-ghost use Rattle.std.specs.Prelude.{◌≡◌, ◌≢◌, ◌<◌, ◌≤◌, ◌+◌, [], true, false, length, OnOk, Err};
+ghost use Rattle.std.specs.Prelude.{◌≡◌, ◌≢◌, ◌<◌, ◌≤◌, ◌+◌, [], true, false, length, IfOk, OnOk, Err};
 ghost use Rattle.std.specs.Vec.{vec_capacity};
 ghost use Rattle.schema_json.specs.SecretShape.{shape_of};
 ghost use Rattle.table_load.specs.Cells.{FitsSchema};
@@ -123,6 +123,16 @@ fn answer_groups<P: Source, B: Bench>(
     }
 }
 
+// What an input is cut with, and room for a group.
+fn make_room(alloc: Global, batch: u8) -> Result<(Lines, Group), NoMemory>
+    ensures fresh { IfOk result (λ room. (room.0.taken ≡ 0) × (room.0.pending ≡ []) × (room.0.ended ≡ false)) }
+    ensures room { IfOk result (λ room. vec_capacity room.1.replies ≡ batch) }
+{
+    let lines = Lines::new(alloc)?;
+    let group = Group::new(alloc, batch)?;
+    Ok((lines, group))
+}
+
 /// Answers the counted lines of the input in groups of `batch`; at the end of the input the last group may be shorter. The
 /// records of a group are in the journal before the first of its replies is sent, and each reply is one send. The lines of a
 /// group that a failed read or the limit cuts short are read and not answered.
@@ -185,8 +195,10 @@ pub fn serve<P: Source, B: Bench>(
     let _columns = schema.count();
     let _history = store.history();
     stops();
-    let mut lines = Lines::new(alloc)?;
-    let mut group = Group::new(alloc, batch)?;
+    let (mut lines, mut group) = match make_room(alloc, batch) {
+        Ok(room) => room,
+        Err(NoMemory) => return Err(EndFault::NoMemory),
+    };
     answer_groups(
         alloc, &mut lines, &mut group, schema, index, store, source, bench, batch,
     )

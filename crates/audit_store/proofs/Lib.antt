@@ -2,3 +2,4 @@ pub mod LegalHistories
 pub mod Stores
 pub mod Outcomes
 pub mod Causes
+pub mod Refusals

@@ -10,6 +10,7 @@ use Rattle.question_plan.specs.declared.planning.Plan.{Plan}
 use Rattle.audit_session.specs.Groups.{AreTold, CanAllBeTold, questions_of}
 use Rattle.audit_session.proofs.ToldPlans.{can_all, few_questions, questions_fit}
 use Rattle.audit_session.proofs.DecidedGroup.{by_fault, told_group, while_kept, nothing_called}
+use Rattle.audit_session.proofs.Refusals.{no_refusal}
 use Rattle.audit_session.proofs.answering.decide.Goals as goal
 
 pub ask_all-requires-clause-few : goal.ask_all-requires-clause-few
@@ -65,3 +66,48 @@ returns-clause-moments g c = λ told quiet.
     while_kept g.B.Bench c.args.bench.now c.ask_all.new.bench store.secret store.history plans c.told_outcomes.ensures.can c.told_outcomes.ensures.some c.requires.is.numbers c.requires.served
     (g.B.Bench.sent c.args.bench.now)
     (subst (λ (l : List Asked). Keeps g.B.Bench c.args.bench.now c.ask_all.new.bench store.secret store.history l (g.B.Bench.sent c.args.bench.now)) asked (c.in_ok-outcomes.ensures.any_moment told quiet (search rules)))
+
+pub returns-clause-in_range : goal.returns-clause-in_range
+returns-clause-in_range g c = c.tell_all.ensures.in_range
+
+pub returns-clause-stands : goal.returns-clause-stands
+returns-clause-stands g c = record { usable = c.in_ok-outcomes.ensures.usable; as_left = c.in_ok-outcomes.ensures.stands; quiet = c.in_ok-outcomes.ensures.quiet }
+
+pub returns-clause-sent : goal.returns-clause-sent
+returns-clause-sent g c = c.ask_all.ensures.sent
+
+pub returns-clause-room : goal.returns-clause-room
+returns-clause-room g c = c.tell_all.ensures.room
+
+pub returns-clause-secret : goal.returns-clause-secret
+returns-clause-secret g c = c.ask_all.ensures.secret
+
+pub returns-clause-is : goal.returns-clause-is
+returns-clause-is g c = c.ask_all.ensures.is
+
+pub returns-clause-no_memory : goal.returns-clause-no_memory
+returns-clause-no_memory g c = λ is. no_refusal _ _ is
+
+pub returns-clause-failed : goal.returns-clause-failed
+returns-clause-failed g c = λ is. no_refusal _ _ is
+
+pub returns-clause-last_call : goal.returns-clause-last_call
+returns-clause-last_call g c = λ is. no_refusal _ _ is
+
+pub returns-clause-later : goal.returns-clause-later
+returns-clause-later g c = c.ask_all.ensures.later
+
+pub returns-clause-steady : goal.returns-clause-steady
+returns-clause-steady g c = λ other. c.in_ok-outcomes.ensures.steady (λ is. no_refusal _ _ is)
+
+pub returns-in_err-outcomes-clause-sent : goal.returns-in_err-outcomes-clause-sent
+returns-in_err-outcomes-clause-sent g c = c.ask_all.ensures.sent
+
+pub returns-in_err-outcomes-clause-secret : goal.returns-in_err-outcomes-clause-secret
+returns-in_err-outcomes-clause-secret g c = c.ask_all.ensures.secret
+
+pub returns-in_err-outcomes-clause-is : goal.returns-in_err-outcomes-clause-is
+returns-in_err-outcomes-clause-is g c = c.ask_all.ensures.is
+
+pub returns-in_err-outcomes-clause-later : goal.returns-in_err-outcomes-clause-later
+returns-in_err-outcomes-clause-later g c = c.ask_all.ensures.later

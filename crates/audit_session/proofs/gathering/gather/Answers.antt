@@ -1,4 +1,5 @@
-use Rattle.std.proofs.Common.{◌≡◌, ◌+◌, ◌<◌, ◌++◌, Bool, List, Option, Result, Err, length, sym, ◌∙◌, subst, arith, rules}
+use Rattle.std.proofs.Common.{◌≡◌, ℕ, ◌+◌, ◌<◌, ◌++◌, Bool, List, Option, Result, Err, length, sym, ◌∙◌, subst, arith, rules}
+use Rattle.bench_core.specs.Causes.{Rose}
 use Rattle.audit_types.specs.declared.records.Asked.{Asked}
 use Rattle.question_plan.specs.declared.planning.Plan.{Plan}
 use Rattle.audit_session.specs.declared.serving.EndFault.{EndFault}
@@ -6,6 +7,7 @@ use Rattle.audit_session.specs.declared.serving.EndFault.TheVariants as end
 use Rattle.audit_session.specs.Groups.{GivesNext, TakesByte, question_in}
 use Rattle.audit_session.proofs.EndsByFault.{same_fault}
 use Rattle.audit_session.proofs.GatheredLines.{Gathering, cut_short, gathers_last, not_over, one_gathered}
+use Rattle.audit_session.proofs.Refusals.{memory_no_bench, memory_no_input, memory_no_limit, no_end, no_more, no_refusal, refusal, still_later}
 use Rattle.audit_session.proofs.gathering.gather.Goals as goal
 
 abbrev refused : EndFault → Result Bool EndFault
@@ -64,3 +66,201 @@ returns-in-None-clause-gathers g c =
     gathers_last g.P.Source.told c.args.schema.now.columns c.args.index.now
     (c.args.lines.now.pending ++ g.P.Source.left c.args.source.now) rest left c.loop-alloc.lines.ended c.loop-alloc.group.plans.items c.loop-alloc.invariant.gathering.gathers
     (subst (λ (o : Option Plan). GivesNext g.P.Source.told c.args.schema.now.columns c.args.index.now rest left now.ended o) c.in-None.is c.in_ok-plan.ensures.next)
+
+pub returns-in-None-clause-questions : goal.returns-in-None-clause-questions
+returns-in-None-clause-questions g c = c.loop-alloc.invariant.gathering.questions
+
+pub returns-in-None-clause-served : goal.returns-in-None-clause-served
+returns-in-None-clause-served g c = c.loop-alloc.invariant.gathering.served
+
+pub returns-in-None-clause-most : goal.returns-in-None-clause-most
+returns-in-None-clause-most g c = c.loop-alloc.invariant.gathering.most
+
+pub returns-in-None-clause-whole : goal.returns-in-None-clause-whole
+returns-in-None-clause-whole g c = λ is. no_more is
+
+pub returns-in-None-clause-takes : goal.returns-in-None-clause-takes
+returns-in-None-clause-takes g c = λ is. no_more is
+
+pub returns-in-None-clause-room : goal.returns-in-None-clause-room
+returns-in-None-clause-room g c = c.loop-alloc.invariant.room
+
+pub returns-in-None-clause-input : goal.returns-in-None-clause-input
+returns-in-None-clause-input g c = λ t is. no_refusal _ _ is
+
+pub returns-in-None-clause-limit : goal.returns-in-None-clause-limit
+returns-in-None-clause-limit g c = λ t is. no_refusal _ _ is
+
+pub returns-in-None-clause-over : goal.returns-in-None-clause-over
+returns-in-None-clause-over g c = λ is. no_refusal _ _ is
+
+pub returns-in-None-clause-read : goal.returns-in-None-clause-read
+returns-in-None-clause-read g c = λ is. no_refusal _ _ is
+
+pub returns-in-None-clause-same : goal.returns-in-None-clause-same
+returns-in-None-clause-same g c = c.next_plan.ensures.same
+
+pub returns-in-None-clause-taken : goal.returns-in-None-clause-taken
+returns-in-None-clause-taken g c = λ t. c.next_plan.ensures.taken t ∙ c.loop-alloc.invariant.gathering.taken t
+
+pub returns-in-None-clause-within : goal.returns-in-None-clause-within
+returns-in-None-clause-within g c = c.next_plan.ensures.within
+
+pub returns-in-None-clause-once : goal.returns-in-None-clause-once
+returns-in-None-clause-once g c = λ ended. ((c.next_plan.ensures.once (c.loop-alloc.invariant.gathering.once ended)).1, λ is. no_refusal _ _ is)
+
+pub returns-in-None-clause-later : goal.returns-in-None-clause-later
+returns-in-None-clause-later g c = still_later _ _ _ c.loop-alloc.invariant.gathering.steady c.next_plan.ensures.later
+
+pub returns-in-None-clause-steady : goal.returns-in-None-clause-steady
+returns-in-None-clause-steady g c = λ other. c.in_ok-plan.ensures.steady (λ is. no_refusal _ _ is) ∙ c.loop-alloc.invariant.gathering.steady
+
+pub returns-in-None-clause-failed : goal.returns-in-None-clause-failed
+returns-in-None-clause-failed g c = λ is. no_refusal _ _ is
+
+pub returns-in-None-clause-last_call : goal.returns-in-None-clause-last_call
+returns-in-None-clause-last_call g c = λ is. no_refusal _ _ is
+
+pub returns-in-None-clause-others : goal.returns-in-None-clause-others
+returns-in-None-clause-others g c = λ is. no_refusal _ _ is
+
+pub returns-in_err-plan-clause-room : goal.returns-in_err-plan-clause-room
+returns-in_err-plan-clause-room g c = c.loop-alloc.invariant.room
+
+pub returns-in_err-plan-clause-same : goal.returns-in_err-plan-clause-same
+returns-in_err-plan-clause-same g c = c.next_plan.ensures.same
+
+pub returns-in_err-plan-clause-taken : goal.returns-in_err-plan-clause-taken
+returns-in_err-plan-clause-taken g c = λ t. c.next_plan.ensures.taken t ∙ c.loop-alloc.invariant.gathering.taken t
+
+pub returns-in_err-plan-clause-within : goal.returns-in_err-plan-clause-within
+returns-in_err-plan-clause-within g c = c.next_plan.ensures.within
+
+pub returns-in_err-plan-clause-later : goal.returns-in_err-plan-clause-later
+returns-in_err-plan-clause-later g c = still_later _ _ _ c.loop-alloc.invariant.gathering.steady c.next_plan.ensures.later
+
+pub returns-clause-gathers : goal.returns-clause-gathers
+returns-clause-gathers g c = c.loop-alloc.invariant.gathering.gathers
+
+pub returns-clause-questions : goal.returns-clause-questions
+returns-clause-questions g c = c.loop-alloc.invariant.gathering.questions
+
+pub returns-clause-served : goal.returns-clause-served
+returns-clause-served g c = c.loop-alloc.invariant.gathering.served
+
+pub returns-clause-most : goal.returns-clause-most
+returns-clause-most g c = c.loop-alloc.invariant.gathering.most
+
+pub returns-clause-whole : goal.returns-clause-whole
+returns-clause-whole g c = λ is. omega (arith, c.loop-alloc-test.false, c.len.ensures, c.loop-alloc.invariant.many, c.loop-alloc.invariant.gathering.most)
+
+pub returns-clause-last : goal.returns-clause-last
+returns-clause-last g c = λ t is. no_end is
+
+pub returns-clause-takes : goal.returns-clause-takes
+returns-clause-takes g c = λ is. omega (arith, c.loop-alloc-test.false, c.len.ensures, c.loop-alloc.invariant.many, c.loop-alloc.invariant.gathering.takes, c.requires.some)
+
+pub returns-clause-room : goal.returns-clause-room
+returns-clause-room g c = c.loop-alloc.invariant.room
+
+pub returns-clause-input : goal.returns-clause-input
+returns-clause-input g c = λ t is. no_refusal _ _ is
+
+pub returns-clause-limit : goal.returns-clause-limit
+returns-clause-limit g c = λ t is. no_refusal _ _ is
+
+pub returns-clause-over : goal.returns-clause-over
+returns-clause-over g c = λ is. no_refusal _ _ is
+
+pub returns-clause-read : goal.returns-clause-read
+returns-clause-read g c = λ is. no_refusal _ _ is
+
+pub returns-clause-same : goal.returns-clause-same
+returns-clause-same g c = c.loop-alloc.invariant.gathering.same
+
+pub returns-clause-taken : goal.returns-clause-taken
+returns-clause-taken g c = c.loop-alloc.invariant.gathering.taken
+
+pub returns-clause-within : goal.returns-clause-within
+returns-clause-within g c = c.loop-alloc.invariant.gathering.within
+
+pub returns-clause-once : goal.returns-clause-once
+returns-clause-once g c = λ ended. (c.loop-alloc.invariant.gathering.once ended, λ is. no_refusal _ _ is)
+
+pub returns-clause-later : goal.returns-clause-later
+returns-clause-later g c = omega (arith, c.loop-alloc.invariant.gathering.steady)
+
+pub returns-clause-steady : goal.returns-clause-steady
+returns-clause-steady g c = λ other. c.loop-alloc.invariant.gathering.steady
+
+pub returns-clause-failed : goal.returns-clause-failed
+returns-clause-failed g c = λ is. no_refusal _ _ is
+
+pub returns-clause-last_call : goal.returns-clause-last_call
+returns-clause-last_call g c = λ is. no_refusal _ _ is
+
+pub returns-clause-others : goal.returns-clause-others
+returns-clause-others g c = λ is. no_refusal _ _ is
+
+pub returns-in_err-plan-clause-over : goal.returns-in_err-plan-clause-over
+returns-in_err-plan-clause-over g c = λ is. let same : c.from_residual.result ≡ refused c.in_err-plan.field-0.0 = search rules in c.in_err-plan.ensures.over (same_fault {X = Bool} {Y = Option Plan} c.in_err-plan.field-0.0 end.Limit (sym same ∙ is))
+
+pub returns-in_err-plan-clause-read : goal.returns-in_err-plan-clause-read
+returns-in_err-plan-clause-read g c = λ is. let same : c.from_residual.result ≡ refused c.in_err-plan.field-0.0 = search rules in c.in_err-plan.ensures.read (same_fault {X = Bool} {Y = Option Plan} c.in_err-plan.field-0.0 end.Input (sym same ∙ is))
+
+pub returns-in_err-plan-clause-failed : goal.returns-in_err-plan-clause-failed
+returns-in_err-plan-clause-failed g c = λ is. let same : c.from_residual.result ≡ refused c.in_err-plan.field-0.0 = search rules in subst (λ (n : ℕ). Rose n (g.P.Source.faults c.next_plan.new.source)) c.loop-alloc.invariant.gathering.steady (c.in_err-plan.ensures.failed (same_fault {X = Bool} {Y = Option Plan} c.in_err-plan.field-0.0 end.Input (sym same ∙ is)))
+
+pub returns-in_err-plan-clause-last_call : goal.returns-in_err-plan-clause-last_call
+returns-in_err-plan-clause-last_call g c = λ is. let same : c.from_residual.result ≡ refused c.in_err-plan.field-0.0 = search rules in c.in_err-plan.ensures.last_call (same_fault {X = Bool} {Y = Option Plan} c.in_err-plan.field-0.0 end.Input (sym same ∙ is))
+
+pub returns-in_err-plan-clause-others : goal.returns-in_err-plan-clause-others
+returns-in_err-plan-clause-others g c = λ is. let same : c.from_residual.result ≡ refused c.in_err-plan.field-0.0 = search rules in c.in_err-plan.ensures.others (same_fault {X = Bool} {Y = Option Plan} c.in_err-plan.field-0.0 end.Bench (sym same ∙ is))
+
+pub returns-in_err-plan-clause-steady : goal.returns-in_err-plan-clause-steady
+returns-in_err-plan-clause-steady g c = λ other. let same : c.from_residual.result ≡ refused c.in_err-plan.field-0.0 = search rules in c.in_err-plan.ensures.steady (λ is. other (same ∙ same_fault {X = Option Plan} {Y = Bool} c.in_err-plan.field-0.0 end.Input is)) ∙ c.loop-alloc.invariant.gathering.steady
+
+pub returns-in_err-plan-clause-once : goal.returns-in_err-plan-clause-once
+returns-in_err-plan-clause-once g c = λ ended. let same : c.from_residual.result ≡ refused c.in_err-plan.field-0.0 = search rules in ((c.next_plan.ensures.once (c.loop-alloc.invariant.gathering.once ended)).1, λ is. (c.in_err-plan.ensures.once (c.loop-alloc.invariant.gathering.once ended)).2 (same_fault {X = Bool} {Y = Option Plan} c.in_err-plan.field-0.0 end.Input (sym same ∙ is)))
+
+pub returns-in_err-add-in-Some-clause-room : goal.returns-in_err-add-in-Some-clause-room
+returns-in_err-add-in-Some-clause-room g c = c.add.ensures.room ∙ c.loop-alloc.invariant.room
+
+pub returns-in_err-add-in-Some-clause-input : goal.returns-in_err-add-in-Some-clause-input
+returns-in_err-add-in-Some-clause-input g c = λ t is. let same : c.from_residual-in_err-add-in-Some.result ≡ refused end.NoMemory = refusal c.from_residual-in_err-add-in-Some.result _ c.from_residual-in_err-add-in-Some.ensures in memory_no_input c.from_residual-in_err-add-in-Some.result same is
+
+pub returns-in_err-add-in-Some-clause-limit : goal.returns-in_err-add-in-Some-clause-limit
+returns-in_err-add-in-Some-clause-limit g c = λ t is. let same : c.from_residual-in_err-add-in-Some.result ≡ refused end.NoMemory = refusal c.from_residual-in_err-add-in-Some.result _ c.from_residual-in_err-add-in-Some.ensures in memory_no_limit c.from_residual-in_err-add-in-Some.result same is
+
+pub returns-in_err-add-in-Some-clause-over : goal.returns-in_err-add-in-Some-clause-over
+returns-in_err-add-in-Some-clause-over g c = λ is. let same : c.from_residual-in_err-add-in-Some.result ≡ refused end.NoMemory = refusal c.from_residual-in_err-add-in-Some.result _ c.from_residual-in_err-add-in-Some.ensures in memory_no_limit c.from_residual-in_err-add-in-Some.result same is
+
+pub returns-in_err-add-in-Some-clause-read : goal.returns-in_err-add-in-Some-clause-read
+returns-in_err-add-in-Some-clause-read g c = λ is. let same : c.from_residual-in_err-add-in-Some.result ≡ refused end.NoMemory = refusal c.from_residual-in_err-add-in-Some.result _ c.from_residual-in_err-add-in-Some.ensures in memory_no_input c.from_residual-in_err-add-in-Some.result same is
+
+pub returns-in_err-add-in-Some-clause-same : goal.returns-in_err-add-in-Some-clause-same
+returns-in_err-add-in-Some-clause-same g c = c.next_plan.ensures.same
+
+pub returns-in_err-add-in-Some-clause-taken : goal.returns-in_err-add-in-Some-clause-taken
+returns-in_err-add-in-Some-clause-taken g c = λ t. c.next_plan.ensures.taken t ∙ c.loop-alloc.invariant.gathering.taken t
+
+pub returns-in_err-add-in-Some-clause-within : goal.returns-in_err-add-in-Some-clause-within
+returns-in_err-add-in-Some-clause-within g c = c.next_plan.ensures.within
+
+pub returns-in_err-add-in-Some-clause-once : goal.returns-in_err-add-in-Some-clause-once
+returns-in_err-add-in-Some-clause-once g c = λ ended. let same : c.from_residual-in_err-add-in-Some.result ≡ refused end.NoMemory = refusal c.from_residual-in_err-add-in-Some.result _ c.from_residual-in_err-add-in-Some.ensures in ((c.next_plan.ensures.once (c.loop-alloc.invariant.gathering.once ended)).1, λ is. memory_no_input c.from_residual-in_err-add-in-Some.result same is)
+
+pub returns-in_err-add-in-Some-clause-later : goal.returns-in_err-add-in-Some-clause-later
+returns-in_err-add-in-Some-clause-later g c = still_later _ _ _ c.loop-alloc.invariant.gathering.steady c.next_plan.ensures.later
+
+pub returns-in_err-add-in-Some-clause-steady : goal.returns-in_err-add-in-Some-clause-steady
+returns-in_err-add-in-Some-clause-steady g c = λ other. c.in_ok-plan.ensures.steady (λ is. no_refusal _ _ is) ∙ c.loop-alloc.invariant.gathering.steady
+
+pub returns-in_err-add-in-Some-clause-failed : goal.returns-in_err-add-in-Some-clause-failed
+returns-in_err-add-in-Some-clause-failed g c = λ is. let same : c.from_residual-in_err-add-in-Some.result ≡ refused end.NoMemory = refusal c.from_residual-in_err-add-in-Some.result _ c.from_residual-in_err-add-in-Some.ensures in memory_no_input c.from_residual-in_err-add-in-Some.result same is
+
+pub returns-in_err-add-in-Some-clause-last_call : goal.returns-in_err-add-in-Some-clause-last_call
+returns-in_err-add-in-Some-clause-last_call g c = λ is. let same : c.from_residual-in_err-add-in-Some.result ≡ refused end.NoMemory = refusal c.from_residual-in_err-add-in-Some.result _ c.from_residual-in_err-add-in-Some.ensures in memory_no_input c.from_residual-in_err-add-in-Some.result same is
+
+pub returns-in_err-add-in-Some-clause-others : goal.returns-in_err-add-in-Some-clause-others
+returns-in_err-add-in-Some-clause-others g c = λ is. let same : c.from_residual-in_err-add-in-Some.result ≡ refused end.NoMemory = refusal c.from_residual-in_err-add-in-Some.result _ c.from_residual-in_err-add-in-Some.ensures in memory_no_bench c.from_residual-in_err-add-in-Some.result same is

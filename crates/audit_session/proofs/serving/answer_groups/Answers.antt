@@ -1,12 +1,15 @@
-use Rattle.std.proofs.Common.{◌≡◌, ◌++◌, ◌||◌, Bool, true, false, not, List, Result, Ok, Err, refl, sym, ◌∙◌, ap, subst, arith, rules}
+use Rattle.std.proofs.Common.{◌≡◌, ℕ, ◌++◌, ◌||◌, Bool, true, false, not, List, Result, Ok, Err, refl, sym, ◌∙◌, ap, subst, arith, rules}
+use Rattle.bench_core.specs.Causes.{Rose}
 use Rattle.audit_types.specs.declared.records.Answered.{Answered}
 use Rattle.table_load.specs.Database.{base_of}
 use Rattle.line_wire.specs.Lines.{counted_lines}
 use Rattle.audit_session.specs.declared.serving.EndFault.{EndFault}
+use Rattle.audit_session.specs.declared.serving.EndFault.TheVariants as end
 use Rattle.audit_session.specs.Ends.{Ends, Reads, ServesSome}
-use Rattle.audit_session.proofs.EndsByFault.{ends_by, reads_by}
+use Rattle.audit_session.proofs.EndsByFault.{ends_by, reads_by, same_fault}
 use Rattle.audit_session.proofs.GatheredLines.{still_ended, whole_or_last}
 use Rattle.audit_session.proofs.Served.{nothing_served, some_served, served_whole, served_limited, cut_not_over, turn_moments, next_turn, all_served, all_calls}
+use Rattle.audit_session.proofs.Refusals.{no_refusal, still_later}
 use Rattle.audit_session.proofs.serving.answer_groups.Goals as goal
 
 abbrev ended_by : EndFault → Result (Unit {0}) EndFault
@@ -145,3 +148,81 @@ loop-more-preserved g c =
           c.answer.new.store refl (ap (λ (b : Bool). not b || now.ended) more_is) (e.whole (ap given more_is)) e.same e.taken e.within steady a.stands a.secret a.is bench_steady a.moments;
       room = a.room ∙ e.room ∙ c.loop-more.invariant.room;
     }
+
+pub returns-in_err-more-clause-rests : goal.returns-in_err-more-clause-rests
+returns-in_err-more-clause-rests g c = λ no. record { stands = λ u. (c.loop-more.store.journal.gate, c.loop-more.invariant.served.as_left u); quiet = c.loop-more.invariant.served.quiet }
+
+pub returns-in_err-more-clause-usable : goal.returns-in_err-more-clause-usable
+returns-in_err-more-clause-usable g c = λ bench memory. c.loop-more.invariant.served.usable
+
+pub returns-in_err-more-clause-left : goal.returns-in_err-more-clause-left
+returns-in_err-more-clause-left g c = λ u usable. c.loop-more.invariant.served.as_left u
+
+pub returns-in_err-more-clause-moments : goal.returns-in_err-more-clause-moments
+returns-in_err-more-clause-moments g c = c.loop-more.invariant.served.moments
+
+pub returns-in_err-more-clause-kept : goal.returns-in_err-more-clause-kept
+returns-in_err-more-clause-kept g c = (c.loop-more.invariant.served.secret, c.loop-more.invariant.served.is)
+
+pub returns-in_err-more-clause-later : goal.returns-in_err-more-clause-later
+returns-in_err-more-clause-later g c = (still_later _ _ _ c.loop-more.invariant.served.source_steady c.gather.ensures.later, omega (arith, c.loop-more.invariant.served.bench_steady))
+
+pub returns-in_err-answer-clause-left : goal.returns-in_err-answer-clause-left
+returns-in_err-answer-clause-left g c = c.answer.ensures.left
+
+pub returns-in_err-answer-clause-kept : goal.returns-in_err-answer-clause-kept
+returns-in_err-answer-clause-kept g c = (c.answer.ensures.secret ∙ c.loop-more.invariant.served.secret, c.answer.ensures.is)
+
+pub returns-in_err-answer-clause-later : goal.returns-in_err-answer-clause-later
+returns-in_err-answer-clause-later g c = (still_later _ _ _ c.loop-more.invariant.served.source_steady c.gather.ensures.later, still_later _ _ _ c.loop-more.invariant.served.bench_steady c.answer.ensures.later)
+
+pub returns-then-not-more-clause-again : goal.returns-then-not-more-clause-again
+returns-then-not-more-clause-again g c = (c.in_ok-answer.ensures.stands.usable, c.in_ok-answer.ensures.stands.as_left)
+
+pub returns-then-not-more-clause-usable : goal.returns-then-not-more-clause-usable
+returns-then-not-more-clause-usable g c = λ bench memory. c.in_ok-answer.ensures.stands.usable
+
+pub returns-then-not-more-clause-left : goal.returns-then-not-more-clause-left
+returns-then-not-more-clause-left g c = λ u usable. c.in_ok-answer.ensures.stands.as_left u
+
+pub returns-then-not-more-clause-kept : goal.returns-then-not-more-clause-kept
+returns-then-not-more-clause-kept g c = (c.in_ok-answer.ensures.secret ∙ c.loop-more.invariant.served.secret, c.in_ok-answer.ensures.is)
+
+pub returns-then-not-more-clause-later : goal.returns-then-not-more-clause-later
+returns-then-not-more-clause-later g c = (still_later _ _ _ c.loop-more.invariant.served.source_steady c.gather.ensures.later, still_later _ _ _ c.loop-more.invariant.served.bench_steady c.answer.ensures.later)
+
+pub returns-then-not-more-clause-input : goal.returns-then-not-more-clause-input
+returns-then-not-more-clause-input g c = λ is. no_refusal _ _ is
+
+pub returns-then-not-more-clause-bench : goal.returns-then-not-more-clause-bench
+returns-then-not-more-clause-bench g c = λ is. no_refusal _ _ is
+
+pub returns-then-not-more-clause-last_call : goal.returns-then-not-more-clause-last_call
+returns-then-not-more-clause-last_call g c = (λ is. no_refusal _ _ is, λ is. no_refusal _ _ is)
+
+pub returns-then-not-more-clause-steady : goal.returns-then-not-more-clause-steady
+returns-then-not-more-clause-steady g c = (λ no. c.in_ok-more.ensures.steady (λ is. no_refusal _ _ is) ∙ c.loop-more.invariant.served.source_steady, λ no. c.in_ok-answer.ensures.steady (λ is. no_refusal _ _ is) ∙ c.loop-more.invariant.served.bench_steady)
+
+pub returns-in_err-more-clause-input : goal.returns-in_err-more-clause-input
+returns-in_err-more-clause-input g c = λ is. let same : c.from_residual.result ≡ ended_by c.in_err-more.field-0.0 = search rules in subst (λ (n : ℕ). Rose n (g.P.Source.faults c.gather.new.source)) c.loop-more.invariant.served.source_steady (c.in_err-more.ensures.failed (same_fault {X = Unit {0}} {Y = Bool} c.in_err-more.field-0.0 end.Input (sym same ∙ is)))
+
+pub returns-in_err-more-clause-bench : goal.returns-in_err-more-clause-bench
+returns-in_err-more-clause-bench g c = λ is. let same : c.from_residual.result ≡ ended_by c.in_err-more.field-0.0 = search rules in absurd (c.in_err-more.ensures.others (same_fault {X = Unit {0}} {Y = Bool} c.in_err-more.field-0.0 end.Bench (sym same ∙ is)))
+
+pub returns-in_err-more-clause-last_call : goal.returns-in_err-more-clause-last_call
+returns-in_err-more-clause-last_call g c = let same : c.from_residual.result ≡ ended_by c.in_err-more.field-0.0 = search rules in (λ is. c.in_err-more.ensures.last_call (same_fault {X = Unit {0}} {Y = Bool} c.in_err-more.field-0.0 end.Input (sym same ∙ is)), λ is. absurd (c.in_err-more.ensures.others (same_fault {X = Unit {0}} {Y = Bool} c.in_err-more.field-0.0 end.Bench (sym same ∙ is))))
+
+pub returns-in_err-more-clause-steady : goal.returns-in_err-more-clause-steady
+returns-in_err-more-clause-steady g c = let same : c.from_residual.result ≡ ended_by c.in_err-more.field-0.0 = search rules in (λ other. c.in_err-more.ensures.steady (λ is. other (same ∙ same_fault {X = Bool} {Y = Unit {0}} c.in_err-more.field-0.0 end.Input is)) ∙ c.loop-more.invariant.served.source_steady, λ other. c.loop-more.invariant.served.bench_steady)
+
+pub returns-in_err-answer-clause-input : goal.returns-in_err-answer-clause-input
+returns-in_err-answer-clause-input g c = λ is. let same : c.from_residual-in_err-answer.result ≡ ended_by c.in_err-answer.field-0.0 = search rules in absurd (c.in_err-answer.ensures.others.0 (sym same ∙ is))
+
+pub returns-in_err-answer-clause-bench : goal.returns-in_err-answer-clause-bench
+returns-in_err-answer-clause-bench g c = λ is. let same : c.from_residual-in_err-answer.result ≡ ended_by c.in_err-answer.field-0.0 = search rules in subst (λ (n : ℕ). Rose n (g.B.Bench.faults c.answer.new.bench)) c.loop-more.invariant.served.bench_steady (c.in_err-answer.ensures.failed (sym same ∙ is))
+
+pub returns-in_err-answer-clause-last_call : goal.returns-in_err-answer-clause-last_call
+returns-in_err-answer-clause-last_call g c = let same : c.from_residual-in_err-answer.result ≡ ended_by c.in_err-answer.field-0.0 = search rules in (λ is. absurd (c.in_err-answer.ensures.others.0 (sym same ∙ is)), λ is. c.in_err-answer.ensures.last_call (sym same ∙ is))
+
+pub returns-in_err-answer-clause-steady : goal.returns-in_err-answer-clause-steady
+returns-in_err-answer-clause-steady g c = let same : c.from_residual-in_err-answer.result ≡ ended_by c.in_err-answer.field-0.0 = search rules in (λ other. c.in_ok-more.ensures.steady (λ is. no_refusal _ _ is) ∙ c.loop-more.invariant.served.source_steady, λ other. c.in_err-answer.ensures.steady (λ is. other (same ∙ is)) ∙ c.loop-more.invariant.served.bench_steady)

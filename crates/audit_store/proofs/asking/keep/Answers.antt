@@ -6,6 +6,7 @@ use Rattle.journal_form.specs.Journal.{StandsAt}
 use Rattle.answer_journal.specs.Append.{AppendsGroup}
 use Rattle.answer_journal.specs.Moments.{IsBeforeOrAfter}
 use Rattle.audit_store.proofs.Stores.{has_group, four_calls}
+use Rattle.audit_store.proofs.Refusals.{no_refusal}
 use Rattle.audit_store.proofs.asking.keep.Goals as goal
 
 pub returns-clause-any_moment : goal.returns-clause-any_moment
@@ -32,3 +33,45 @@ pub returns-clause-ticks : goal.returns-clause-ticks
 returns-clause-ticks g c = λ told.
     let some : 0 < length c.args.group.now = grind (arith, common_steps) in
     c.in_ok-append_ready.ensures.ticks told ∙ ap (λ (n : ℕ). g.B.Bench.moment c.args.bench.now + n) (sym (four_calls c.args.group.now some))
+
+pub returns-in_err-append_ready-clause-any_moment : goal.returns-in_err-append_ready-clause-any_moment
+returns-in_err-append_ready-clause-any_moment g c = λ history told stands many quiet.
+    let journal = c.args.journal.now in
+    subst (λ (group : List Answered). LeavesOnly g.B.Bench c.args.bench.now c.append_ready.new.bench (IsBeforeOrAfter journal.shape history group (g.B.Bench.sent c.args.bench.now)))
+    c.in_ok-ready.ensures.1 (c.append_ready.ensures.any_moment history told stands many quiet)
+
+pub returns-in_err-append_ready-clause-sent : goal.returns-in_err-append_ready-clause-sent
+returns-in_err-append_ready-clause-sent g c = c.append_ready.ensures.sent
+
+pub returns-in_err-append_ready-clause-shape : goal.returns-in_err-append_ready-clause-shape
+returns-in_err-append_ready-clause-shape g c = c.append_ready.ensures.shape
+
+pub returns-in_err-append_ready-clause-later : goal.returns-in_err-append_ready-clause-later
+returns-in_err-append_ready-clause-later g c = c.append_ready.ensures.cause.later
+
+pub returns-clause-sent : goal.returns-clause-sent
+returns-clause-sent g c = c.append_ready.ensures.sent
+
+pub returns-clause-shape : goal.returns-clause-shape
+returns-clause-shape g c = c.append_ready.ensures.shape
+
+pub returns-clause-later : goal.returns-clause-later
+returns-clause-later g c = c.append_ready.ensures.cause.later
+
+pub returns-clause-quiet : goal.returns-clause-quiet
+returns-clause-quiet g c = λ told quiet. c.in_ok-append_ready.ensures.quiet told
+
+pub returns-clause-usable : goal.returns-clause-usable
+returns-clause-usable g c = c.in_ok-append_ready.ensures.usable
+
+pub returns-clause-steady : goal.returns-clause-steady
+returns-clause-steady g c = λ other. c.in_ok-append_ready.ensures.cause.steady
+
+pub returns-clause-no_memory : goal.returns-clause-no_memory
+returns-clause-no_memory g c = λ is. no_refusal _ _ is
+
+pub returns-clause-failed : goal.returns-clause-failed
+returns-clause-failed g c = λ is. no_refusal _ _ is
+
+pub returns-clause-last_call : goal.returns-clause-last_call
+returns-clause-last_call g c = λ is. no_refusal _ _ is

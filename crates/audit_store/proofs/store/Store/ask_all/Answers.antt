@@ -6,6 +6,7 @@ use Rattle.journal_form.specs.Journal.{StandsAt}
 use Rattle.audit_core.specs.Outcomes.{records_made}
 use Rattle.audit_store.specs.Stores.{StoreContents}
 use Rattle.audit_store.proofs.Stores.{released_and_more, more_released}
+use Rattle.audit_store.proofs.Refusals.{no_refusal}
 use Rattle.audit_store.proofs.store.Store.ask_all.Goals as goal
 
 pub returns-clause-stands : goal.returns-clause-stands
@@ -31,3 +32,41 @@ returns-clause-history g c =
     let usable : i.usable ≡ true = ap (λ (s : StoreContents). s.usable) c.self.view_is ∙ c.requires.usable in
     more_released i.core.history c.decide_all.new.core.history c.args.self.now.history (records_made c.args.asked.now c.in_ok-outcomes.outcomes.items) i.released (length c.history-2.result.now)
     (c.self.invariant.1.all usable) c.in_ok-outcomes.ensures.history (ap (λ (l : List Answered). length l) c.history-2.ensures.is) (ap (λ (s : StoreContents). s.history) c.self.view_is)
+
+pub returns-in_err-keep-clause-sent : goal.returns-in_err-keep-clause-sent
+returns-in_err-keep-clause-sent g c = c.keep.ensures.sent
+
+pub returns-in_err-keep-clause-later : goal.returns-in_err-keep-clause-later
+returns-in_err-keep-clause-later g c = c.keep.ensures.later
+
+pub returns-clause-sent : goal.returns-clause-sent
+returns-clause-sent g c = c.keep.ensures.sent
+
+pub returns-clause-later : goal.returns-clause-later
+returns-clause-later g c = c.keep.ensures.later
+
+pub returns-clause-quiet : goal.returns-clause-quiet
+returns-clause-quiet g c = λ told quiet. c.in_ok-keep.ensures.quiet told quiet
+
+pub returns-clause-steady : goal.returns-clause-steady
+returns-clause-steady g c = λ other. c.in_ok-keep.ensures.steady (λ is. no_refusal _ _ is)
+
+pub returns-clause-no_memory : goal.returns-clause-no_memory
+returns-clause-no_memory g c = λ is. no_refusal _ _ is
+
+pub returns-clause-failed : goal.returns-clause-failed
+returns-clause-failed g c = λ is. no_refusal _ _ is
+
+pub returns-clause-last_call : goal.returns-clause-last_call
+returns-clause-last_call g c = λ is. no_refusal _ _ is
+
+pub keep-requires-clause-stands : goal.keep-requires-clause-stands
+keep-requires-clause-stands g c = λ told.
+    let i = c.self.inside in
+    let file = g.B.Bench.file c.args.bench.now in
+    let usable : i.usable ≡ true = ap (λ (s : StoreContents). s.usable) c.self.view_is ∙ c.requires.usable in
+    let shape : i.journal.shape ≡ i.secret.shape = c.self.invariant.0.same_shape usable in
+    let history = take i.released i.core.history in
+    let before : StandsAt file i.secret.shape history i.journal.gate = subst (λ (s : StoreContents). StandsAt file s.secret.shape s.history s.journal.gate) (sym c.self.view_is) (c.requires.stands told) in
+    let here : StandsAt file i.journal.shape history i.journal.gate = subst (λ (s : Shape). StandsAt file s history i.journal.gate) (sym shape) before in
+    (history, here, sym (c.self.invariant.0.counted usable))

@@ -1,0 +1,59 @@
+-- What a refusal says: an answer that is none has no fault, and one that is has one alone.
+use Rattle.std.proofs.Common.{◌≡◌, ℕ, ◌≤◌, Bool, true, false, Result, Ok, Err, refl, subst}
+use Rattle.std.specs.Prelude.{IsErrOf}
+use Rattle.std.specs.Result.{IsErr, IsErrAnd}
+use Rattle.std.proofs.lemmas.Bool.{false≢true}
+use Rattle.line_wire.specs.declared.lines.Next.{Next}
+use Rattle.line_wire.specs.declared.lines.LineStop.{LineStop}
+use Rattle.line_wire.specs.declared.lines.LineStop.TheVariants as stop
+use Rattle.audit_session.specs.declared.serving.EndFault.{EndFault}
+use Rattle.audit_session.specs.declared.serving.EndFault.TheVariants as end
+use Rattle.audit_session.specs.Ends.{line_end}
+
+-- what was given is no refusal
+pub no_refusal : {X E P : Type 0} (x : X) (e : E) → IsErrOf (Ok x) e → P
+no_refusal x e is = let none : ⊥ = cc in absurd none
+
+-- whether an input goes on has one answer
+pub no_more : {E P : Type 0} → (let given : Result Bool E = Ok false in given) ≡ Ok true → P
+no_more is = let none : ⊥ = cc in absurd none
+
+pub no_end : {E P : Type 0} → (let given : Result Bool E = Ok true in given) ≡ Ok false → P
+no_end is = let none : ⊥ = cc in absurd none
+
+-- a refusal whose fault is this one
+pub refusal : {X E : Type 0} (answer : Result X E) (fault : E) → IsErr answer × IsErrAnd answer (λ e. e ≡ fault) → answer ≡ Err fault
+refusal (Ok x) fault is = absurd (false≢true is.0)
+refusal (Err e) fault is = cc
+
+-- want of memory is no other fault
+pub memory_no_input : {X P : Type 0} (answer : Result X EndFault) → answer ≡ Err end.NoMemory → answer ≡ Err end.Input → P
+memory_no_input answer same is = let none : ⊥ = cc in absurd none
+
+pub memory_no_limit : {X P : Type 0} (answer : Result X EndFault) → answer ≡ Err end.NoMemory → answer ≡ Err end.Limit → P
+memory_no_limit answer same is = let none : ⊥ = cc in absurd none
+
+pub memory_no_bench : {X P : Type 0} (answer : Result X EndFault) → answer ≡ Err end.NoMemory → answer ≡ Err end.Bench → P
+memory_no_bench answer same is = let none : ⊥ = cc in absurd none
+
+-- the cutter's stop, by the fault that it makes
+pub by_input : {X : Type 0} (given : LineStop) (answer : Result X EndFault) → answer ≡ Err (line_end given) → answer ≡ Err end.Input → given ≡ stop.Input
+by_input stop.Input answer same is = refl
+by_input stop.Limit answer same is = let none : ⊥ = cc in absurd none
+
+pub by_limit : {X : Type 0} (given : LineStop) (answer : Result X EndFault) → answer ≡ Err (line_end given) → answer ≡ Err end.Limit → given ≡ stop.Limit
+by_limit stop.Input answer same is = let none : ⊥ = cc in absurd none
+by_limit stop.Limit answer same is = refl
+
+pub no_bench : {X P : Type 0} (given : LineStop) (answer : Result X EndFault) → answer ≡ Err (line_end given) → answer ≡ Err end.Bench → P
+no_bench stop.Input answer same is = let none : ⊥ = cc in absurd none
+no_bench stop.Limit answer same is = let none : ⊥ = cc in absurd none
+
+pub no_input : {X : Type 0} (given : LineStop) (answer : Result X EndFault) → answer ≡ Err (line_end given) → (answer ≡ Err end.Input → ⊥)
+    → (let of_lines : Result Next LineStop = Err given in of_lines) ≡ Err stop.Input → ⊥
+no_input stop.Input answer same other is = other same
+no_input stop.Limit answer same other is = cc
+
+-- a count that stood still before it rose
+pub still_later : (before mid now : ℕ) → mid ≡ before → mid ≤ now → before ≤ now
+still_later before mid now steady later = subst (λ (n : ℕ). n ≤ now) steady later
