@@ -1,6 +1,6 @@
 -- What is true of every store.
 use Rattle.std.proofs.Common.{◌≡◌, ℕ, ◌<◌, Bool, true, List, [], ◌∷◌, refl, ◌-◌, ◌++◌, length, length-drop, take, drop, sym, ap, ◌∙◌, arith}
-use Rattle.std.proofs.Math.Seq.{take-length}
+use Rattle.std.proofs.Math.Seq.{take-length, drop-append_seam}
 use Rattle.std.proofs.lemmas.List.{take-append-drop, take_all}
 use Rattle.audit_types.specs.declared.records.Answered.{Answered}
 use Rattle.audit_types.specs.declared.shapes.Shape.{Shape}
@@ -52,6 +52,13 @@ released_and_more old new released long begins =
     ap (λ t. take released old ++ t) more
     ∙ ap (λ t. t ++ drop released new) (ap (λ n. take n old) long ∙ take-length old ∙ sym begins ∙ ap (λ n. take n new) (sym long))
     ∙ take-append-drop released new
+
+-- the records that the core took after those released
+pub taken_since : (old new shown made : List Answered) (released : ℕ) → shown ≡ new → released ≡ length old → new ≡ old ++ made →
+    take (length shown - released) (drop released shown) ≡ made
+taken_since old new shown made released same all is =
+    take_all (length shown - released) (drop released shown) (omega (arith, length-drop released shown))
+    ∙ ap (drop released) (same ∙ is) ∙ ap (λ n. drop n (old ++ made)) all ∙ drop-append_seam old made
 
 -- all that the core took is released
 pub more_released : (old new shown made : List Answered) (released now : ℕ) → released ≡ length old → new ≡ old ++ made → now ≡ length new

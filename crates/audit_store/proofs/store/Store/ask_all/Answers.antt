@@ -1,11 +1,14 @@
-use Rattle.std.proofs.Common.{◌≡◌, true, List, ◌-◌, ◌++◌, length, take, drop, sym, ap, subst, ◌∙◌}
+use Rattle.std.proofs.Common.{◌≡◌, true, List, ◌+◌, ◌-◌, refl, ◌++◌, length, take, drop, sym, ap, subst, ◌∙◌}
 use Rattle.std.proofs.Math.Seq.{take-length}
 use Rattle.audit_types.specs.declared.records.Answered.{Answered}
 use Rattle.audit_types.specs.declared.shapes.Shape.{Shape}
 use Rattle.journal_form.specs.Journal.{StandsAt}
-use Rattle.audit_core.specs.Outcomes.{records_made}
-use Rattle.audit_store.specs.Stores.{StoreContents}
-use Rattle.audit_store.proofs.Stores.{released_and_more, more_released}
+use Rattle.answer_journal.specs.Moments.{IsBeforeOrAfter}
+use Rattle.bench_core.specs.Calls.{LeavesOnly}
+use Rattle.audit_core.specs.Outcomes.{AreOutcomes, records_made}
+use Rattle.table_load.specs.Database.{secret_table}
+use Rattle.audit_store.specs.Stores.{StoreContents, HasGroup, calls_for}
+use Rattle.audit_store.proofs.Stores.{core_is_history, released_and_more, more_released, taken_since}
 use Rattle.audit_store.proofs.Refusals.{no_refusal}
 use Rattle.audit_store.proofs.store.Store.ask_all.Goals as goal
 
@@ -70,3 +73,88 @@ keep-requires-clause-stands g c = λ told.
     let before : StandsAt file i.secret.shape history i.journal.gate = subst (λ (s : StoreContents). StandsAt file s.secret.shape s.history s.journal.gate) (sym c.self.view_is) (c.requires.stands told) in
     let here : StandsAt file i.journal.shape history i.journal.gate = subst (λ (s : Shape). StandsAt file s history i.journal.gate) (sym shape) before in
     (history, here, sym (c.self.invariant.0.counted usable))
+
+pub returns-clause-ticks : goal.returns-clause-ticks
+returns-clause-ticks g c = λ told.
+    let i = c.self.inside in
+    let usable : i.usable ≡ true = ap (λ (s : StoreContents). s.usable) c.self.view_is ∙ c.requires.usable in
+    let made = records_made c.args.asked.now c.in_ok-outcomes.outcomes.items in
+    let group = taken_since i.core.history c.decide_all.new.core.history c.history.result.now made i.released c.history.ensures.is (c.self.invariant.1.all usable) c.in_ok-outcomes.ensures.history in
+    c.in_ok-keep.ensures.ticks told ∙ ap (λ (l : List Answered). g.B.Bench.moment c.args.bench.now + calls_for l) group
+
+pub returns-clause-written : goal.returns-clause-written
+returns-clause-written g c = λ told.
+    let i = c.self.inside in
+    let usable : i.usable ≡ true = ap (λ (s : StoreContents). s.usable) c.self.view_is ∙ c.requires.usable in
+    let made = records_made c.args.asked.now c.in_ok-outcomes.outcomes.items in
+    let group = taken_since i.core.history c.decide_all.new.core.history c.history.result.now made i.released c.history.ensures.is (c.self.invariant.1.all usable) c.in_ok-outcomes.ensures.history in
+    let old = g.B.Bench.file c.args.bench.now in
+    let new = g.B.Bench.file c.keep.new.bench in
+    subst (λ (s : StoreContents). HasGroup s.secret.shape made s.journal.gate old new) c.self.view_is
+    (subst (λ (s : Shape). HasGroup s made i.journal.gate old new) (c.self.invariant.0.same_shape usable)
+    (subst (λ (l : List Answered). HasGroup i.journal.shape l i.journal.gate old new) group (c.in_ok-keep.ensures.written told)))
+
+pub returns-clause-moments : goal.returns-clause-moments
+returns-clause-moments g c = λ told quiet.
+    let i = c.self.inside in
+    let usable : i.usable ≡ true = ap (λ (s : StoreContents). s.usable) c.self.view_is ∙ c.requires.usable in
+    let made = records_made c.args.asked.now c.in_ok-outcomes.outcomes.items in
+    let group = taken_since i.core.history c.decide_all.new.core.history c.history.result.now made i.released c.history.ensures.is (c.self.invariant.1.all usable) c.in_ok-outcomes.ensures.history in
+    let file = g.B.Bench.file c.args.bench.now in
+    let sent = g.B.Bench.sent c.args.bench.now in
+    let shape : i.journal.shape ≡ i.secret.shape = c.self.invariant.0.same_shape usable in
+    let history = take i.released i.core.history in
+    let before : StandsAt file i.secret.shape history i.journal.gate = subst (λ (s : StoreContents). StandsAt file s.secret.shape s.history s.journal.gate) (sym c.self.view_is) (c.requires.stands told) in
+    let here : StandsAt file i.journal.shape history i.journal.gate = subst (λ (s : Shape). StandsAt file s history i.journal.gate) (sym shape) before in
+    let found = c.keep.ensures.any_moment history told here (sym (c.self.invariant.0.counted usable)) quiet in
+    let moments =
+    subst (λ (s : StoreContents). LeavesOnly g.B.Bench c.args.bench.now c.keep.new.bench (IsBeforeOrAfter s.secret.shape s.history made sent)) c.self.view_is
+    (subst (λ (s : Shape). LeavesOnly g.B.Bench c.args.bench.now c.keep.new.bench (IsBeforeOrAfter s history made sent)) shape
+    (subst (λ (l : List Answered). LeavesOnly g.B.Bench c.args.bench.now c.keep.new.bench (IsBeforeOrAfter i.journal.shape history l sent)) group found)) in
+    moments
+
+pub returns-clause-any_moment : goal.returns-clause-any_moment
+returns-clause-any_moment g c = λ told quiet other.
+    let i = c.self.inside in
+    let usable : i.usable ≡ true = ap (λ (s : StoreContents). s.usable) c.self.view_is ∙ c.requires.usable in
+    let made = records_made c.args.asked.now c.in_ok-outcomes.outcomes.items in
+    let group = taken_since i.core.history c.decide_all.new.core.history c.history.result.now made i.released c.history.ensures.is (c.self.invariant.1.all usable) c.in_ok-outcomes.ensures.history in
+    let file = g.B.Bench.file c.args.bench.now in
+    let sent = g.B.Bench.sent c.args.bench.now in
+    let shape : i.journal.shape ≡ i.secret.shape = c.self.invariant.0.same_shape usable in
+    let history = take i.released i.core.history in
+    let before : StandsAt file i.secret.shape history i.journal.gate = subst (λ (s : StoreContents). StandsAt file s.secret.shape s.history s.journal.gate) (sym c.self.view_is) (c.requires.stands told) in
+    let here : StandsAt file i.journal.shape history i.journal.gate = subst (λ (s : Shape). StandsAt file s history i.journal.gate) (sym shape) before in
+    let found = c.keep.ensures.any_moment history told here (sym (c.self.invariant.0.counted usable)) quiet in
+    let moments =
+    subst (λ (s : StoreContents). LeavesOnly g.B.Bench c.args.bench.now c.keep.new.bench (IsBeforeOrAfter s.secret.shape s.history made sent)) c.self.view_is
+    (subst (λ (s : Shape). LeavesOnly g.B.Bench c.args.bench.now c.keep.new.bench (IsBeforeOrAfter s history made sent)) shape
+    (subst (λ (l : List Answered). LeavesOnly g.B.Bench c.args.bench.now c.keep.new.bench (IsBeforeOrAfter i.journal.shape history l sent)) group found)) in
+    let all = core_is_history i.secret i.core i.released i.usable history c.self.invariant.1 usable refl in
+    let due =
+    subst (λ (s : StoreContents). AreOutcomes (secret_table s.secret) s.history c.args.asked.now c.in_ok-outcomes.outcomes.items) c.self.view_is
+    (subst (λ (h : List Answered). AreOutcomes (secret_table i.secret) h c.args.asked.now c.in_ok-outcomes.outcomes.items) all c.in_ok-outcomes.ensures.outcomes) in
+    record { outcomes = c.in_ok-outcomes.outcomes.items; due = due; moments = moments }
+
+pub returns-in_err-keep-clause-any_moment : goal.returns-in_err-keep-clause-any_moment
+returns-in_err-keep-clause-any_moment g c = λ told quiet other.
+    let i = c.self.inside in
+    let usable : i.usable ≡ true = ap (λ (s : StoreContents). s.usable) c.self.view_is ∙ c.requires.usable in
+    let made = records_made c.args.asked.now c.in_ok-outcomes.outcomes.items in
+    let group = taken_since i.core.history c.decide_all.new.core.history c.history.result.now made i.released c.history.ensures.is (c.self.invariant.1.all usable) c.in_ok-outcomes.ensures.history in
+    let file = g.B.Bench.file c.args.bench.now in
+    let sent = g.B.Bench.sent c.args.bench.now in
+    let shape : i.journal.shape ≡ i.secret.shape = c.self.invariant.0.same_shape usable in
+    let history = take i.released i.core.history in
+    let before : StandsAt file i.secret.shape history i.journal.gate = subst (λ (s : StoreContents). StandsAt file s.secret.shape s.history s.journal.gate) (sym c.self.view_is) (c.requires.stands told) in
+    let here : StandsAt file i.journal.shape history i.journal.gate = subst (λ (s : Shape). StandsAt file s history i.journal.gate) (sym shape) before in
+    let found = c.keep.ensures.any_moment history told here (sym (c.self.invariant.0.counted usable)) quiet in
+    let moments =
+    subst (λ (s : StoreContents). LeavesOnly g.B.Bench c.args.bench.now c.keep.new.bench (IsBeforeOrAfter s.secret.shape s.history made sent)) c.self.view_is
+    (subst (λ (s : Shape). LeavesOnly g.B.Bench c.args.bench.now c.keep.new.bench (IsBeforeOrAfter s history made sent)) shape
+    (subst (λ (l : List Answered). LeavesOnly g.B.Bench c.args.bench.now c.keep.new.bench (IsBeforeOrAfter i.journal.shape history l sent)) group found)) in
+    let all = core_is_history i.secret i.core i.released i.usable history c.self.invariant.1 usable refl in
+    let due =
+    subst (λ (s : StoreContents). AreOutcomes (secret_table s.secret) s.history c.args.asked.now c.in_ok-outcomes.outcomes.items) c.self.view_is
+    (subst (λ (h : List Answered). AreOutcomes (secret_table i.secret) h c.args.asked.now c.in_ok-outcomes.outcomes.items) all c.in_ok-outcomes.ensures.outcomes) in
+    record { outcomes = c.in_ok-outcomes.outcomes.items; due = due; moments = moments }
