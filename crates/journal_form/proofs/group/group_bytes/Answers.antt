@@ -1,4 +1,5 @@
-use Rattle.std.proofs.Common.{ap, ◌∙◌, ◌++◌, take}
+use Rattle.std.proofs.Common.{arith, ap, ◌∙◌, ◌++◌, take}
+use Rattle.std.proofs.lemmas.Grind.{common_steps}
 use Rattle.std.proofs.lemmas.List.{take_more}
 use Rattle.journal_form.proofs.Groups.{records_push}
 use Rattle.journal_form.proofs.group.group_bytes.Goals as goal
@@ -15,3 +16,6 @@ loop-answered-preserved c =
       so_far =
           rw (take_more list c.loop-answered.answered-index r c.loop-answered-test.true, ← c.answered-item.is) (records_push c.args.shape.now so_far.records put.0 (take c.loop-answered.answered-index list) r so_far.so_far put.2);
     }
+
+pub returns : goal.returns
+returns c = grind (arith, common_steps)
