@@ -1,8 +1,11 @@
-use Rattle.std.proofs.Common.{◌∙◌, ap, subst}
+use Rattle.std.proofs.Common.{rules, ◌∙◌, ap, subst}
 use Rattle.schema_json.specs.Reading.{schema_of}
 use Rattle.auditor_top.specs.Files.{GivesSchema}
 use Rattle.auditor_top.proofs.WholeFiles.{same_schema}
 use Rattle.auditor_top.proofs.files.schema_from.Goals as goal
+
+pub returns-in-Err-Failed-clause-within : goal.returns-in-Err-Failed-clause-within
+returns-in-Err-Failed-clause-within g c = λ told is. c.read_all.ensures.within told (search rules)
 
 pub returns-in-Ok-clause-means : goal.returns-in-Ok-clause-means
 returns-in-Ok-clause-means g c = λ told.

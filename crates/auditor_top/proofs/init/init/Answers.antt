@@ -108,6 +108,9 @@ returns-in-Err-clause-before_bench g c =
 
 -- ---- the journal was made, or not
 
+pub returns-clause-calls : goal.returns-clause-calls
+returns-clause-calls g c = λ told done. making_done c.make.result (sym c.ended.ensures ∙ done) (c.make.ensures.ticks told)
+
 pub returns-clause-file_cause : goal.returns-clause-file_cause
 returns-clause-file_cause g c = λ ptold told base files.
     subst (λ (status : Status). FileCause status Init (g.B.Bench.file c.args.bench.now) base.secret) (sym c.ended.ensures)
@@ -151,9 +154,6 @@ returns-clause-quiet g c = λ told quiet fine.
 pub returns-clause-kept : goal.returns-clause-kept
 returns-clause-kept g c = λ told undone fine.
     (c.make.ensures.already told (there_is c.make.result (λ is. undone (c.ended.ensures ∙ is)) (λ is. fine (c.ended.ensures ∙ is)))).1
-
-pub returns-clause-calls : goal.returns-clause-calls
-returns-clause-calls g c = λ told done. making_done c.make.result (sym c.ended.ensures ∙ done) (c.make.ensures.ticks told)
 
 pub returns-clause-any_moment : goal.returns-clause-any_moment
 returns-clause-any_moment g c = λ ptold told absent quiet base files.
