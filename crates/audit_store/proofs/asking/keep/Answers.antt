@@ -1,4 +1,4 @@
-use Rattle.std.proofs.Common.{ℕ, ◌+◌, ◌<◌, ◌++◌, List, length, sym, ◌∙◌, ap, subst, arith}
+use Rattle.std.proofs.Common.{ℕ, ◌+◌, ◌<◌, ◌++◌, List, length, refl, sym, ◌∙◌, ap, subst, arith}
 use Rattle.std.proofs.lemmas.Grind.{common_steps}
 use Rattle.audit_types.specs.declared.records.Answered.{Answered}
 use Rattle.bench_core.specs.Calls.{LeavesOnly}
@@ -8,6 +8,9 @@ use Rattle.answer_journal.specs.Moments.{IsBeforeOrAfter}
 use Rattle.audit_store.proofs.Stores.{has_group, four_calls}
 use Rattle.audit_store.proofs.Refusals.{no_refusal}
 use Rattle.audit_store.proofs.asking.keep.Goals as goal
+
+pub returns-then-is_empty-clause-unasked : goal.returns-then-is_empty-clause-unasked
+returns-then-is_empty-clause-unasked g c = λ none. refl
 
 pub returns-clause-any_moment : goal.returns-clause-any_moment
 returns-clause-any_moment g c = λ history told stands many quiet.
@@ -75,3 +78,6 @@ returns-clause-failed g c = λ is. no_refusal _ _ is
 
 pub returns-clause-last_call : goal.returns-clause-last_call
 returns-clause-last_call g c = λ is. no_refusal _ _ is
+
+pub returns-clause-counted : goal.returns-clause-counted
+returns-clause-counted g c = grind (arith, common_steps)
