@@ -1,4 +1,5 @@
 use Rattle.std.proofs.Common.{◌≡◌, ◌≤◌, ◌+◌, ℕ, length, arith, ap, sym, subst, ◌∙◌, length-append, ◌∷◌, []}
+use Rattle.std.proofs.lemmas.Grind.{common_steps}
 use Rattle.journal_form.specs.Journal.{StandsAt}
 use Rattle.answer_journal.specs.Contents.{JournalContents}
 use Rattle.answer_journal.proofs.Histories.{at_every_moment, at_end}
@@ -51,3 +52,6 @@ invariant_of-self-2 g c =
       few = omega (arith, c.len.ensures, count, c.requires.few);
       reached = omega (arith, c.self.invariant.reached, c.len.ensures, size, long);
     }
+
+pub returns-in_err-append_bytes-clause-unusable : goal.returns-in_err-append_bytes-clause-unusable
+returns-in_err-append_bytes-clause-unusable g c = grind (arith, common_steps)
