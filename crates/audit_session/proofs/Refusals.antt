@@ -1,6 +1,5 @@
 -- What a refusal says: an answer that is none has no fault, and one that is has one alone.
 use Rattle.std.proofs.Common.{◌≡◌, ℕ, ◌≤◌, Bool, true, false, Result, Ok, Err, refl, subst}
-use Rattle.std.specs.Prelude.{IsErrOf}
 use Rattle.std.specs.Result.{IsErr, IsErrAnd}
 use Rattle.std.proofs.lemmas.Bool.{false≢true}
 use Rattle.line_wire.specs.declared.lines.Next.{Next}
@@ -9,10 +8,6 @@ use Rattle.line_wire.specs.declared.lines.LineStop.TheVariants as stop
 use Rattle.audit_session.specs.declared.serving.EndFault.{EndFault}
 use Rattle.audit_session.specs.declared.serving.EndFault.TheVariants as end
 use Rattle.audit_session.specs.Ends.{line_end}
-
--- what was given is no refusal
-pub no_refusal : {X E P : Type 0} (x : X) (e : E) → IsErrOf (Ok x) e → P
-no_refusal x e is = let none : ⊥ = cc in absurd none
 
 -- whether an input goes on has one answer
 pub no_more : {E P : Type 0} → (let given : Result Bool E = Ok false in given) ≡ Ok true → P

@@ -195,10 +195,7 @@ pub fn serve<P: Source, B: Bench>(
     let _columns = schema.count();
     let _history = store.history();
     stops();
-    let (mut lines, mut group) = match make_room(alloc, batch) {
-        Ok(room) => room,
-        Err(NoMemory) => return Err(EndFault::NoMemory),
-    };
+    let (mut lines, mut group) = make_room(alloc, batch)?;
     answer_groups(
         alloc, &mut lines, &mut group, schema, index, store, source, bench, batch,
     )

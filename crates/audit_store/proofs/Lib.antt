@@ -2,4 +2,3 @@ pub mod LegalHistories
 pub mod Stores
 pub mod Outcomes
 pub mod Causes
-pub mod Refusals

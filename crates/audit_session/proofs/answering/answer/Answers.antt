@@ -7,7 +7,8 @@ use Rattle.line_wire.specs.Reply.{reply_bytes}
 use Rattle.line_wire.specs.declared.reply.Reply.{Reply}
 use Rattle.audit_session.proofs.Sending.{SendsPart}
 use Rattle.audit_session.proofs.DecidedGroup.{group_answered, left_stands, then_sent}
-use Rattle.audit_session.proofs.Refusals.{no_refusal, still_later}
+use Rattle.audit_store.specs.Refusals.{no_refusal}
+use Rattle.audit_session.proofs.Refusals.{still_later}
 use Rattle.audit_session.proofs.answering.answer.Goals as goal
 
 pub returns-clause-answers : goal.returns-clause-answers

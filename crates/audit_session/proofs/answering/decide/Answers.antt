@@ -10,7 +10,7 @@ use Rattle.question_plan.specs.declared.planning.Plan.{Plan}
 use Rattle.audit_session.specs.Groups.{AreTold, CanAllBeTold, questions_of}
 use Rattle.audit_session.proofs.ToldPlans.{can_all, few_questions, questions_fit}
 use Rattle.audit_session.proofs.DecidedGroup.{by_fault, told_group, while_kept, nothing_called}
-use Rattle.audit_session.proofs.Refusals.{no_refusal}
+use Rattle.audit_store.specs.Refusals.{no_refusal}
 use Rattle.audit_session.proofs.answering.decide.Goals as goal
 
 pub ask_all-requires-clause-few : goal.ask_all-requires-clause-few

@@ -9,7 +9,8 @@ use Rattle.audit_session.specs.declared.serving.EndFault.{EndFault}
 use Rattle.audit_session.specs.declared.serving.EndFault.TheVariants as end
 use Rattle.audit_session.specs.Ends.{line_end}
 use Rattle.audit_session.proofs.NextLines.{takes_text, takes_long, counts_text, counts_long, stops_input, stops_limit, limit_within, read_within, input_is}
-use Rattle.audit_session.proofs.Refusals.{no_refusal, refusal, memory_no_input, memory_no_limit, memory_no_bench, by_input, by_limit, no_bench, no_input}
+use Rattle.audit_store.specs.Refusals.{no_refusal}
+use Rattle.audit_session.proofs.Refusals.{refusal, memory_no_input, memory_no_limit, memory_no_bench, by_input, by_limit, no_bench, no_input}
 use Rattle.audit_session.proofs.gathering.next_plan.Goals as goal
 
 abbrev refused : EndFault → Result (Option Plan) EndFault

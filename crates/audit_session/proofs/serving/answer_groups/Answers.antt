@@ -9,7 +9,8 @@ use Rattle.audit_session.specs.Ends.{Ends, Reads, ServesSome}
 use Rattle.audit_session.proofs.EndsByFault.{ends_by, reads_by, same_fault}
 use Rattle.audit_session.proofs.GatheredLines.{still_ended, whole_or_last}
 use Rattle.audit_session.proofs.Served.{nothing_served, some_served, served_whole, served_limited, cut_not_over, turn_moments, next_turn, all_served, all_calls}
-use Rattle.audit_session.proofs.Refusals.{no_refusal, still_later}
+use Rattle.audit_store.specs.Refusals.{no_refusal}
+use Rattle.audit_session.proofs.Refusals.{still_later}
 use Rattle.audit_session.proofs.serving.answer_groups.Goals as goal
 
 abbrev ended_by : EndFault → Result (Unit {0}) EndFault

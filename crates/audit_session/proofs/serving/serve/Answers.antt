@@ -7,14 +7,14 @@ use Rattle.audit_session.specs.Ends.{Ends, Reads}
 use Rattle.audit_session.proofs.FirstStop.{stops_first}
 use Rattle.audit_session.proofs.serving.serve.Goals as goal
 
-pub returns-in-Err-clause-any_moment : goal.returns-in-Err-clause-any_moment
-returns-in-Err-clause-any_moment g c = λ t u quiet.
+pub returns-in_err-lines-clause-any_moment : goal.returns-in_err-lines-clause-any_moment
+returns-in_err-lines-clause-any_moment g c = λ t u quiet.
     stops_first g.B.Bench c.args.bench.now (base_of c.args.schema.now.columns c.args.index.now c.args.store.now.secret) c.args.batch c.args.store.now.history
     (counted_lines (g.P.Source.left c.args.source.now))
     (λ image bytes was. g.met.B.Bench.only_now c.args.bench.now image bytes was) quiet (c.args.store.now.journal.gate, c.requires.stands u)
 
-pub returns-in-Err-clause-legal : goal.returns-in-Err-clause-legal
-returns-in-Err-clause-legal g c = λ u quiet.
+pub returns-in_err-lines-clause-legal : goal.returns-in_err-lines-clause-legal
+returns-in_err-lines-clause-legal g c = λ u quiet.
     let base = base_of c.args.schema.now.columns c.args.index.now c.args.store.now.secret in
     weakens g.B.Bench c.args.bench.now c.args.bench.now _ _
     (λ image sent stop history stands.

@@ -6,7 +6,7 @@ use Rattle.journal_form.specs.Journal.{StandsAt}
 use Rattle.answer_journal.specs.Append.{AppendsGroup}
 use Rattle.answer_journal.specs.Moments.{IsBeforeOrAfter}
 use Rattle.audit_store.proofs.Stores.{has_group, four_calls}
-use Rattle.audit_store.proofs.Refusals.{no_refusal}
+use Rattle.audit_store.specs.Refusals.{no_refusal}
 use Rattle.audit_store.proofs.asking.keep.Goals as goal
 
 pub returns-then-is_empty-clause-unasked : goal.returns-then-is_empty-clause-unasked

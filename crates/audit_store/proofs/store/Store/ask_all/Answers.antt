@@ -9,7 +9,7 @@ use Rattle.audit_core.specs.Outcomes.{AreOutcomes, records_made}
 use Rattle.table_load.specs.Database.{secret_table}
 use Rattle.audit_store.specs.Stores.{StoreContents, HasGroup, calls_for}
 use Rattle.audit_store.proofs.Stores.{core_is_history, released_and_more, more_released, taken_since}
-use Rattle.audit_store.proofs.Refusals.{no_refusal}
+use Rattle.audit_store.specs.Refusals.{no_refusal}
 use Rattle.audit_store.proofs.store.Store.ask_all.Goals as goal
 
 pub returns-clause-stands : goal.returns-clause-stands

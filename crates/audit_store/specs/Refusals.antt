@@ -1,4 +1,4 @@
--- What was given is no refusal.
+-- A fact on refusals: what was given is none.
 use Rattle.std.proofs.Common.{Ok}
 use Rattle.std.specs.Prelude.{IsErrOf}
 
