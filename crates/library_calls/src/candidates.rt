@@ -1,4 +1,5 @@
 //! The answers that stand for all others.
+use crate::equality::same;
 use audit_types::{ColumnAudit, RowSet};
 use max_audit::MaxColumn;
 
@@ -16,5 +17,5 @@ fn candidates_of_nine_and_ten(rt: HostRuntime) {
     column.accept(&first, 10).expect(&rt, "memory");
     column.accept(&last, 9).expect(&rt, "memory");
     let candidates = column.candidates().expect(&rt, "memory");
-    assert_eq!(rt; candidates.as_slice(), [8, 9, 10, 11].as_slice());
+    same(&rt, &candidates.as_slice(), &[8, 9, 10, 11].as_slice());
 }

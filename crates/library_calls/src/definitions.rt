@@ -3,6 +3,7 @@
 ghost use Rattle.std.specs.Prelude.{◌≡◌, ◌<◌, ◌≤◌, length};
 ghost use Rattle.audit_types.specs.Limits.{most_rows};
 
+use crate::equality::same;
 use audit_types::{Answered, Kind, RowSet};
 use oracles::{agrees, extremes, truth, upper_bound};
 
@@ -81,8 +82,8 @@ fn sums_and_maxima_over_groups(rt: HostRuntime) {
     ];
     for (members, sum, maximum) in cases {
         let rows = rows(&members);
-        assert_eq!(rt; truth(Kind::Sum, &SALARIES, &rows), sum);
-        assert_eq!(rt; truth(Kind::Max, &BONUSES, &rows), maximum);
+        same(&rt, &truth(Kind::Sum, &SALARIES, &rows), &sum);
+        same(&rt, &truth(Kind::Max, &BONUSES, &rows), &maximum);
     }
 }
 
@@ -113,7 +114,7 @@ fn two_sums_over_three_rows_leave_a_direction_and_three_leave_none(rt: HostRunti
     ];
     for (numbers, third) in [([1, 2, 3], true), ([0, 3, 2], false), ([6, -3, 8], false)] {
         assert!(rt; agrees(Kind::Sum, &numbers, &two, 0));
-        assert_eq!(rt; agrees(Kind::Sum, &numbers, &three, 0), third);
+        same(&rt, &agrees(Kind::Sum, &numbers, &three, 0), &third);
     }
 }
 
@@ -121,15 +122,15 @@ fn two_sums_over_three_rows_leave_a_direction_and_three_leave_none(rt: HostRunti
 fn the_extremes_of_three_maxima_are_all_their_rows(rt: HostRuntime) {
     let answered = [maximum(&EVERYBODY, 9), maximum(&QA, 9), maximum(&OTHERS, 9)];
     assert!(rt; agrees(Kind::Max, &BONUSES, &answered, 1));
-    assert_eq!(rt; extremes(&answered, &answered[0]), rows(&EVERYBODY));
-    assert_eq!(rt; extremes(&answered, &answered[1]), rows(&QA));
-    assert_eq!(rt; extremes(&answered, &answered[2]), rows(&OTHERS));
+    same(&rt, &extremes(&answered, &answered[0]), &rows(&EVERYBODY));
+    same(&rt, &extremes(&answered, &answered[1]), &rows(&QA));
+    same(&rt, &extremes(&answered, &answered[2]), &rows(&OTHERS));
 }
 
 #[test]
 fn an_answer_above_an_earlier_one_over_more_rows_has_no_extreme_row(rt: HostRuntime) {
     let answered = [maximum(&EVERYBODY, 9), maximum(&QA, 10)];
-    assert_eq!(rt; extremes(&answered, &answered[1]), rows(&NOBODY));
+    same(&rt, &extremes(&answered, &answered[1]), &rows(&NOBODY));
 }
 
 #[test]
@@ -140,9 +141,13 @@ fn the_answer_8_would_leave_one_row_as_the_only_extreme_of_qa(rt: HostRuntime) {
         maximum(&OTHERS, 9),
         maximum(&FROM_30_TO_35, 8),
     ];
-    assert_eq!(rt; upper_bound(&answered, 1, 0), Some(8));
-    assert_eq!(rt; upper_bound(&answered, 1, 1), Some(9));
-    assert_eq!(rt; upper_bound(&answered, 0, 1), None);
-    assert_eq!(rt; extremes(&answered, &answered[1]), rows(&SECOND));
-    assert_eq!(rt; extremes(&answered, &answered[3]), rows(&FROM_30_TO_35));
+    same(&rt, &upper_bound(&answered, 1, 0), &Some(8));
+    same(&rt, &upper_bound(&answered, 1, 1), &Some(9));
+    same(&rt, &upper_bound(&answered, 0, 1), &None);
+    same(&rt, &extremes(&answered, &answered[1]), &rows(&SECOND));
+    same(
+        &rt,
+        &extremes(&answered, &answered[3]),
+        &rows(&FROM_30_TO_35),
+    );
 }

@@ -1,4 +1,5 @@
 //! Sources and a bench in memory, read, written and crashed through their traits.
+use crate::equality::same;
 use bench_core::{Bench, Failed, MemoryBench, MemorySource, Room, Source, SteadySource};
 use std::test::Fail;
 
@@ -8,14 +9,14 @@ fn a_source_gives_its_bytes_and_fails_at_stated_calls(rt: HostRuntime) -> Result
     let mut source = MemorySource::new(b"abcdefg".to_vec(rt.alloc())?, 3, failing);
     let mut buf = [0u8; 5];
     for (outcome, front) in [
-        (Ok(3), b"abc00"),
-        (Err(Failed), b"abc00"),
-        (Ok(3), b"def00"),
-        (Ok(1), b"gef00"),
-        (Ok(0), b"gef00"),
+        (Ok(3), b"abc\0\0"),
+        (Err(Failed), b"abc\0\0"),
+        (Ok(3), b"def\0\0"),
+        (Ok(1), b"gef\0\0"),
+        (Ok(0), b"gef\0\0"),
     ] {
-        assert_eq!(rt; source.read(&mut buf), outcome);
-        assert_eq!(rt; buf[..3], front[..3]);
+        same(&rt, &source.read(&mut buf), &outcome);
+        same(&rt, &buf, front);
     }
     Ok(())
 }
@@ -25,8 +26,8 @@ fn a_steady_source_fills_the_buffer(rt: HostRuntime) -> Result<(), Fail> {
     let mut source = SteadySource::new(b"abcdefg".to_vec(rt.alloc())?);
     let mut buf = [0u8; 5];
     for (outcome, bytes) in [(Ok(5), b"abcde"), (Ok(2), b"fgcde"), (Ok(0), b"fgcde")] {
-        assert_eq!(rt; source.read(&mut buf), outcome);
-        assert_eq!(rt; &buf, bytes);
+        same(&rt, &source.read(&mut buf), &outcome);
+        same(&rt, &buf, bytes);
     }
     Ok(())
 }
@@ -52,8 +53,8 @@ fn a_bench_sends_half_where_a_send_fails(rt: HostRuntime) -> Result<(), Fail> {
         (b"zz", Err(Failed), b"abcdehijxy"),
     ];
     for (piece, outcome, sent) in cases {
-        assert_eq!(rt; bench.send(piece), outcome);
-        assert_eq!(rt; bench.sent(), sent);
+        same(&rt, &bench.send(piece), &outcome);
+        same(&rt, &bench.sent(), &sent);
     }
     Ok(())
 }

@@ -17,6 +17,8 @@ mod definitions;
 #[cfg(test)]
 mod devices;
 #[cfg(test)]
+mod equality;
+#[cfg(test)]
 mod journals;
 #[cfg(test)]
 mod sets;
