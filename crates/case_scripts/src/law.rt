@@ -4,6 +4,7 @@ use crate::history::History;
 use crate::run::Run;
 use crate::terminal::Terminal;
 use anyhow::{Result, bail};
+use std::alloc::Global;
 use std::fmt;
 use std::rt::Files;
 
@@ -46,16 +47,15 @@ impl<'a> Law<'a> {
         let Some(screen) = run.terminal()? else {
             bail!("no terminal");
         };
-        let then = match each.then()? {
-            Some(asked) => Some(Terminal::read(rt.alloc(), asked)?),
-            None => None,
-        };
+        let fault = each.fault()?;
+        let whole = Terminal::read(rt.alloc(), screen)?;
+        let histories = each.histories(rt)?;
         Ok(Law {
-            fault: each.fault()?,
+            fault,
+            whole,
             screen,
-            whole: Terminal::read(rt.alloc(), screen)?,
-            histories: each.histories(rt)?,
-            then,
+            histories,
+            then: asked_then(rt.alloc(), each)?,
         })
     }
 
@@ -94,5 +94,13 @@ impl<'a> Law<'a> {
             (Some(then), Some(last)) if last.is_in(file) => Some(then),
             _ => None,
         }
+    }
+}
+
+// What is asked over a file with the last history, and what is due.
+fn asked_then(alloc: Global, each: Each) -> Result<Option<Terminal>> {
+    match each.then()? {
+        Some(screen) => Ok(Some(Terminal::read(alloc, screen)?)),
+        None => Ok(None),
     }
 }
