@@ -6,13 +6,13 @@ use Rattle.std.proofs.Common.{◌≡◌, ◌≢◌, ℕ, ◌<◌, ℤ, pos, true
 use Rattle.std.specs.Prelude.{◌≤ℤ◌, ◌-ℤ◌}
 use Rattle.std.proofs.lemmas.Int.{ints}
 use Rattle.std.proofs.lemmas.List.{get_or-set_same, get_or-set_other, length-set}
-use Rattle.std.proofs.lemmas.List.FromFn.{get_or-map-range_with_len, length-map-range_with_len}
 use Rattle.std.proofs.lemmas.Bool.{cases_eq}
 use Rattle.audit_types.specs.Rows.{has_row, AreRows}
 use Rattle.audit_types.specs.Truth.{number_at, greatest_over}
 use Rattle.audit_types.specs.Column.{Answer, Agrees, IsOneOf, IsWellFormed, known_max}
 use Rattle.audit_types.specs.Extremes.{upper_bound, is_bound, extremes, IsLone, IsConsistent}
 use Rattle.max_audit.specs.Witnesses.{bound_or_zero, highest, lowered_at}
+use Rattle.max_audit.specs.HighestLaws.{length-highest, number_at-highest}
 use Rattle.max_audit.specs.Laws.{PossibleByExtremes, FixedByLoneRows, HighestAgrees, LoneOrLowered, LoneOrFree}
 use Rattle.max_bounds.specs.AnswerLaws.{all_at, all_from, one_or_none}
 use Rattle.max_bounds.specs.RowListLaws.{row_below, filter-has, filter-ascends, only_or_not, other_row, some_row, not_empty}
@@ -20,16 +20,6 @@ use Rattle.max_audit.proofs.Greatest.{greatest_is}
 use Rattle.max_bounds.specs.BoundLaws.{bound_below}
 use Rattle.max_audit.proofs.UpperBounds.{bound_from, some_is}
 use Rattle.max_audit.proofs.LoneRowsAreFixed.{extreme_row, lone_rows_are_fixed}
-
--- the number of a row in the highest list
-pub number_at-highest : (n : ℕ) (answers : List Answer) (r : ℕ) → r < n → number_at (highest n answers) r ≡ bound_or_zero (upper_bound answers r)
-unfolding highest
-number_at-highest n answers r h = get_or-map-range_with_len (λ q. bound_or_zero (upper_bound answers q)) 0 n r r (pos 0) h (omega arith)
-
--- it has a number for each row
-pub length-highest : (n : ℕ) (answers : List Answer) → length (highest n answers) ≡ n
-unfolding highest
-length-highest n answers = length-map-range_with_len (λ q. bound_or_zero (upper_bound answers q)) 0 n
 
 -- equal numbers are in order
 same_is_below : (z y : ℤ) → z ≡ y → z ≤ℤ y

@@ -1,3 +1,4 @@
 pub mod Witnesses
+pub mod HighestLaws
 pub mod Laws
 pub mod Candidates

@@ -5,7 +5,7 @@ use Rattle.std.specs.List.{All}
 use Rattle.std.proofs.lemmas.Int.{ints}
 use Rattle.std.proofs.lemmas.List.{get_or-set_same}
 use Rattle.std.proofs.lemmas.List.Elements.{All-push}
-use Rattle.std.proofs.lemmas.List.FromFn.{map-range_with_len_more, length-map-range_with_len}
+use Rattle.std.proofs.lemmas.List.FromFn.{map-range_with_len_more}
 use Rattle.audit_types.specs.Truth.{number_at}
 use Rattle.audit_types.specs.declared.shapes.Kind.TheVariants.{Max}
 use Rattle.audit_types.specs.Column.{Answer, Known, Agrees, IsWellFormed, known_max}
@@ -18,11 +18,6 @@ use Rattle.max_audit.specs.Witnesses.{bound_or_zero, highest, lowered_at}
 highest-more : (k : ℕ) (answers : List Answer) → highest (k + 1) answers ≡ highest k answers ++ bound_or_zero (upper_bound answers k) ∷ []
 unfolding highest
 highest-more k answers = map-range_with_len_more (λ r. bound_or_zero (upper_bound answers r)) 0 k k (omega arith)
-
--- it has a number for each row
-pub length-highest : (n : ℕ) (answers : List Answer) → length (highest n answers) ≡ n
-unfolding highest
-length-highest n answers = length-map-range_with_len (λ r. bound_or_zero (upper_bound answers r)) 0 n
 
 -- the numbers of the rows so far
 pub record IsHighestSoFar (answers : List Answer) (k : ℕ) (list : List ℤ) : Type 0 where

@@ -2,7 +2,8 @@ use Rattle.std.proofs.Common.{rules, length, ap, ◌∙◌, arith, SFits}
 use Rattle.std.specs.Int.{w128}
 use Rattle.std.proofs.lemmas.Int.{to_z-of_z}
 use Rattle.max_audit.specs.Witnesses.{bound_or_zero}
-use Rattle.witness_build.proofs.HighestList.{length-highest, highest_begins, highest_step}
+use Rattle.max_audit.specs.HighestLaws.{length-highest}
+use Rattle.witness_build.proofs.HighestList.{highest_begins, highest_step}
 use Rattle.witness_build.proofs.maxima.highest.Goals as goal
 
 pub loop-row-init : goal.loop-row-init
