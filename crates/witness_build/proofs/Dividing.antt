@@ -15,7 +15,7 @@ use Rattle.witness_build.specs.Directions.{IsDivided}
 use Rattle.audit_types.specs.PrimitiveLines.{number_at-times}
 use Rattle.audit_types.specs.Numbers.{size_negated, zero_less}
 use Rattle.audit_types.specs.RowNumbers.{number_at-negated, some_entry}
-use Rattle.audit_types.specs.ListLaws.{all-weaker}
+use Rattle.audit_types.specs.ListLaws.{all-get_or, all-weaker}
 use Rattle.audit_types.specs.Direction.{IsSmall}
 
 -- the numbers below i are turned, and those from i on are as they were
@@ -23,7 +23,7 @@ pub record IsPartlyTurned (old new : List ℤ) (i : ℕ) : Type 0 where
   pub done : (k : ℕ) → k < i → number_at new k ≡ neg_ℤ (number_at old k)
   pub left : (k : ℕ) → i ≤ k → number_at new k ≡ number_at old k
 
-pub one_turned : (old new : List ℤ) (v : ℤ) (i : ℕ) → i < length new → IsPartlyTurned old new i → v ≡ neg_ℤ (number_at new i) →
+one_turned : (old new : List ℤ) (v : ℤ) (i : ℕ) → i < length new → IsPartlyTurned old new i → v ≡ neg_ℤ (number_at new i) →
     IsPartlyTurned old (set new i v) (i + 1)
 one_turned old new v i inside so_far is = record {
   done = λ k h. elim (cases_eq k i) [
@@ -38,15 +38,31 @@ all_turned old new i same past so_far =
     same_lists new (map neg_ℤ old) (same ∙ sym (length-map old neg_ℤ)) (λ k e h.
     get_or_default new k e (pos 0) h ∙ so_far.done k (omega arith) ∙ sym (get_or-map neg_ℤ old k (pos 0) e (omega arith)))
 
-module _ (x : ℤ) (fits : FitsSigned w128 x) (small : unsigned_abs x ≤ 2 ^ 126) where
+-- a small number may be turned, and is its negative then
+module _ (x : ℤ) (small : unsigned_abs x ≤ 2 ^ 126) where
+  fits : FitsSigned w128 x
+  fits = fits_signed_from_abs w128 x (omega arith)
+
   turned_size : unsigned_abs (pos 0 -ℤ x) ≤ 2 ^ 126
   turned_size = omega (arith, ints)
 
-  pub turn_fits : FitsSigned w128 (pos 0 -ℤ to_z w128 (of_z w128 x))
+  turn_fits : FitsSigned w128 (pos 0 -ℤ to_z w128 (of_z w128 x))
   turn_fits = rw (to_z-of_z w128 x fits) (fits_signed_from_abs w128 (pos 0 -ℤ x) (let s = turned_size in omega arith))
 
-  pub turn_is : to_z w128 (of_z w128 (pos 0 -ℤ to_z w128 (of_z w128 x))) ≡ neg_ℤ x
+  turn_is : to_z w128 (of_z w128 (pos 0 -ℤ to_z w128 (of_z w128 x))) ≡ neg_ℤ x
   turn_is = to_z-of_z w128 (pos 0 -ℤ to_z w128 (of_z w128 x)) turn_fits ∙ ap (λ z. pos 0 -ℤ z) (to_z-of_z w128 x fits) ∙ zero_less x
+
+-- so far the numbers below i are turned: the one at i may be turned, and then those below i + 1 are
+module _ (old new : List ℤ) (i : ℕ) (small : AllByRecursion (λ x. unsigned_abs x ≤ 2 ^ 126) old) (same : length new ≡ length old) (inside : i < length old)
+    (so_far : IsPartlyTurned old new i) where
+  small_here : unsigned_abs (number_at new i) ≤ 2 ^ 126
+  small_here = rw (so_far.left i (omega arith)) (all-get_or (λ x. unsigned_abs x ≤ 2 ^ 126) old i (pos 0) small inside)
+
+  pub next_fits : FitsSigned w128 (pos 0 -ℤ to_z w128 (of_z w128 (number_at new i)))
+  next_fits = turn_fits (number_at new i) small_here
+
+  pub next_turned : IsPartlyTurned old (set new i (to_z w128 (of_z w128 (pos 0 -ℤ to_z w128 (of_z w128 (number_at new i)))))) (i + 1)
+  next_turned = one_turned old new _ i (omega arith) so_far (turn_is (number_at new i) small_here)
 
 pub small_divided : (k : ℤ) (d : List ℤ) → k ≢ pos 0 → IsSmall (map (λ x. k *ℤ x) d) → IsSmall d
 small_divided k [] h s = tt
