@@ -12,14 +12,14 @@ use Rattle.journal_audit.specs.SendLaws.{none_front}
 use Rattle.auditor_top.specs.declared.words.Command.{Command}
 use Rattle.auditor_top.specs.declared.words.Command.TheVariants.{Init, Serve, Audit, Simulate, Drill}
 use Rattle.auditor_top.specs.declared.status.Status.{Status}
-use Rattle.auditor_top.specs.Commands.{opens_journal, reads_files, reads_secrets, reads_lines}
+use Rattle.auditor_top.specs.Commands.{opens_journal, reads_files, reads_secrets, reads_lines, writes}
 use Rattle.auditor_top.specs.Causes.{WordCause, FileCause}
 use Rattle.auditor_top.specs.Drills.{DrillEnds}
 use Rattle.auditor_top.specs.Ends.{ServeEnds, audit_over, outside}
 use Rattle.auditor_top.proofs.OneTable.{nothing_served, untouched_stops}
 use Rattle.auditor_top.proofs.AuditEndings.{untouched_report}
 use Rattle.auditor_top.proofs.SimulationEndings.{none_begun, before_lines, still_file}
-use Rattle.auditor_top.proofs.OneCommand.{one_command, one_batch, one_drill, not_false}
+use Rattle.auditor_top.proofs.OneCommand.{not_asked, none_asked, bad_words, one_command, one_batch, one_drill, takes_step, lacks_step}
 use Rattle.auditor_top.proofs.running.run.Goals as goal
 
 -- ---- no memory for the words
@@ -145,8 +145,7 @@ returns-in-Ok-Serve-clause-complete g c = λ ptold itold told batch asked base h
 
 pub returns-in-Ok-Serve-clause-no_lines : goal.returns-in-Ok-Serve-clause-no_lines
 returns-in-Ok-Serve-clause-no_lines g c = λ command asked none.
-    not_false reads_lines (Serve c.in-Ok-Serve.batch) command
-    (one_command _ (Serve c.in-Ok-Serve.batch) command (c.in-Ok-Serve.ensures.command ∙ ap (λ (k : Command). Some k) c.in-Ok-Serve.field-0-is) asked) refl none
+    takes_step reads_lines _ _ _ command c.in-Ok-Serve.ensures.command c.in-Ok-Serve.field-0-is asked refl none
 
 pub returns-in-Ok-Serve-clause-lives : goal.returns-in-Ok-Serve-clause-lives
 returns-in-Ok-Serve-clause-lives g c = λ ptold itold told batch asked quiet base history over runs life image sent now was stands.
@@ -187,13 +186,11 @@ returns-in-Ok-Simulate-clause-file g c = λ ptold told command asked base files.
 
 pub returns-in-Ok-Simulate-clause-table : goal.returns-in-Ok-Simulate-clause-table
 returns-in-Ok-Simulate-clause-table g c = λ ptold command asked reads columns is.
-    not_false reads_secrets command Simulate
-    (one_command _ command Simulate asked (c.in-Ok-Simulate.ensures.command ∙ ap (λ (k : Command). Some k) c.in-Ok-Simulate.field-0-is)) reads refl
+    lacks_step reads_secrets _ _ _ command c.in-Ok-Simulate.ensures.command c.in-Ok-Simulate.field-0-is asked refl reads
 
 pub returns-in-Ok-Simulate-clause-no_lines : goal.returns-in-Ok-Simulate-clause-no_lines
 returns-in-Ok-Simulate-clause-no_lines g c = λ command asked none.
-    not_false reads_lines Simulate command
-    (one_command _ Simulate command (c.in-Ok-Simulate.ensures.command ∙ ap (λ (k : Command). Some k) c.in-Ok-Simulate.field-0-is) asked) refl none
+    takes_step reads_lines _ _ _ command c.in-Ok-Simulate.ensures.command c.in-Ok-Simulate.field-0-is asked refl none
 
 pub returns-in-Ok-Simulate-clause-later : goal.returns-in-Ok-Simulate-clause-later
 returns-in-Ok-Simulate-clause-later g c = c.simulate.ensures.later (g.B.Bench.faults c.args.spare.now)
@@ -241,20 +238,539 @@ returns-in-Ok-Drill-clause-drilled g c = λ told number asked.
 
 pub returns-in-Ok-Drill-clause-schema : goal.returns-in-Ok-Drill-clause-schema
 returns-in-Ok-Drill-clause-schema g c = λ ptold command asked reads.
-    not_false reads_files command (Drill c.in-Ok-Drill.number)
-    (one_command _ command (Drill c.in-Ok-Drill.number) asked (c.in-Ok-Drill.ensures.command ∙ ap (λ (k : Command). Some k) c.in-Ok-Drill.field-0-is)) reads refl
+    lacks_step reads_files _ _ _ command c.in-Ok-Drill.ensures.command c.in-Ok-Drill.field-0-is asked refl reads
 
 pub returns-in-Ok-Drill-clause-table : goal.returns-in-Ok-Drill-clause-table
 returns-in-Ok-Drill-clause-table g c = λ ptold command asked reads columns schema.
-    not_false reads_secrets command (Drill c.in-Ok-Drill.number)
-    (one_command _ command (Drill c.in-Ok-Drill.number) asked (c.in-Ok-Drill.ensures.command ∙ ap (λ (k : Command). Some k) c.in-Ok-Drill.field-0-is)) reads refl
+    lacks_step reads_secrets _ _ _ command c.in-Ok-Drill.ensures.command c.in-Ok-Drill.field-0-is asked refl reads
 
 pub returns-in-Ok-Drill-clause-input : goal.returns-in-Ok-Drill-clause-input
 returns-in-Ok-Drill-clause-input g c = λ itold command asked reads.
-    not_false reads_lines command (Drill c.in-Ok-Drill.number)
-    (one_command _ command (Drill c.in-Ok-Drill.number) asked (c.in-Ok-Drill.ensures.command ∙ ap (λ (k : Command). Some k) c.in-Ok-Drill.field-0-is)) reads refl
+    lacks_step reads_lines _ _ _ command c.in-Ok-Drill.ensures.command c.in-Ok-Drill.field-0-is asked refl reads
 
 pub returns-in-Ok-Drill-clause-nothing_began : goal.returns-in-Ok-Drill-clause-nothing_began
 returns-in-Ok-Drill-clause-nothing_began g c = λ ptold told command asked opens quiet none.
-    not_false opens_journal command (Drill c.in-Ok-Drill.number)
-    (one_command _ command (Drill c.in-Ok-Drill.number) asked (c.in-Ok-Drill.ensures.command ∙ ap (λ (k : Command). Some k) c.in-Ok-Drill.field-0-is)) opens refl
+    lacks_step opens_journal _ _ _ command c.in-Ok-Drill.ensures.command c.in-Ok-Drill.field-0-is asked refl opens
+
+-- ---- no such command
+
+pub returns-in-Ok-Init-clause-public : goal.returns-in-Ok-Init-clause-public
+returns-in-Ok-Init-clause-public g c = λ ptold asked. not_asked _ _ _ _ c.in-Ok-Init.ensures.command c.in-Ok-Init.field-0-is asked refl
+
+pub returns-in-Ok-Init-clause-served : goal.returns-in-Ok-Init-clause-served
+returns-in-Ok-Init-clause-served g c = λ ptold itold told batch asked. not_asked _ _ _ _ c.in-Ok-Init.ensures.command c.in-Ok-Init.field-0-is asked refl
+
+pub returns-in-Ok-Init-clause-any_moment : goal.returns-in-Ok-Init-clause-any_moment
+returns-in-Ok-Init-clause-any_moment g c = λ ptold itold told batch asked. not_asked _ _ _ _ c.in-Ok-Init.ensures.command c.in-Ok-Init.field-0-is asked refl
+
+pub returns-in-Ok-Init-clause-undisclosed : goal.returns-in-Ok-Init-clause-undisclosed
+returns-in-Ok-Init-clause-undisclosed g c = λ ptold told batch asked. not_asked _ _ _ _ c.in-Ok-Init.ensures.command c.in-Ok-Init.field-0-is asked refl
+
+pub returns-in-Ok-Init-clause-lives : goal.returns-in-Ok-Init-clause-lives
+returns-in-Ok-Init-clause-lives g c = λ ptold itold told batch asked. not_asked _ _ _ _ c.in-Ok-Init.ensures.command c.in-Ok-Init.field-0-is asked refl
+
+pub returns-in-Ok-Init-clause-audited : goal.returns-in-Ok-Init-clause-audited
+returns-in-Ok-Init-clause-audited g c = λ ptold told asked. not_asked _ _ _ _ c.in-Ok-Init.ensures.command c.in-Ok-Init.field-0-is asked refl
+
+pub returns-in-Ok-Init-clause-auditing : goal.returns-in-Ok-Init-clause-auditing
+returns-in-Ok-Init-clause-auditing g c = λ ptold told asked. not_asked _ _ _ _ c.in-Ok-Init.ensures.command c.in-Ok-Init.field-0-is asked refl
+
+pub returns-in-Ok-Init-clause-simulated : goal.returns-in-Ok-Init-clause-simulated
+returns-in-Ok-Init-clause-simulated g c = λ ptold itold asked. not_asked _ _ _ _ c.in-Ok-Init.ensures.command c.in-Ok-Init.field-0-is asked refl
+
+pub returns-in-Ok-Init-clause-simulating : goal.returns-in-Ok-Init-clause-simulating
+returns-in-Ok-Init-clause-simulating g c = λ ptold told asked. not_asked _ _ _ _ c.in-Ok-Init.ensures.command c.in-Ok-Init.field-0-is asked refl
+
+pub returns-in-Ok-Init-clause-undisturbed : goal.returns-in-Ok-Init-clause-undisturbed
+returns-in-Ok-Init-clause-undisturbed g c = λ told asked. not_asked _ _ _ _ c.in-Ok-Init.ensures.command c.in-Ok-Init.field-0-is asked refl
+
+pub returns-in-Ok-Init-clause-drilled : goal.returns-in-Ok-Init-clause-drilled
+returns-in-Ok-Init-clause-drilled g c = λ told number asked. not_asked _ _ _ _ c.in-Ok-Init.ensures.command c.in-Ok-Init.field-0-is asked refl
+
+pub returns-in-Ok-Init-clause-drill_calls : goal.returns-in-Ok-Init-clause-drill_calls
+returns-in-Ok-Init-clause-drill_calls g c = λ told number asked. not_asked _ _ _ _ c.in-Ok-Init.ensures.command c.in-Ok-Init.field-0-is asked refl
+
+pub returns-in-Ok-Init-clause-drill_call : goal.returns-in-Ok-Init-clause-drill_call
+returns-in-Ok-Init-clause-drill_call g c = λ number asked. not_asked _ _ _ _ c.in-Ok-Init.ensures.command c.in-Ok-Init.field-0-is asked refl
+
+pub returns-in-Ok-Init-clause-undrilled : goal.returns-in-Ok-Init-clause-undrilled
+returns-in-Ok-Init-clause-undrilled g c = λ number asked. not_asked _ _ _ _ c.in-Ok-Init.ensures.command c.in-Ok-Init.field-0-is asked refl
+
+pub returns-in-Ok-Init-clause-serve_calls : goal.returns-in-Ok-Init-clause-serve_calls
+returns-in-Ok-Init-clause-serve_calls g c = λ ptold itold told batch asked. not_asked _ _ _ _ c.in-Ok-Init.ensures.command c.in-Ok-Init.field-0-is asked refl
+
+pub returns-in-Ok-Init-clause-audit_calls : goal.returns-in-Ok-Init-clause-audit_calls
+returns-in-Ok-Init-clause-audit_calls g c = λ ptold told asked. not_asked _ _ _ _ c.in-Ok-Init.ensures.command c.in-Ok-Init.field-0-is asked refl
+
+pub returns-in-Ok-Init-clause-simulate_calls : goal.returns-in-Ok-Init-clause-simulate_calls
+returns-in-Ok-Init-clause-simulate_calls g c = λ itold told asked. not_asked _ _ _ _ c.in-Ok-Init.ensures.command c.in-Ok-Init.field-0-is asked refl
+
+pub returns-in-Ok-Init-clause-complete : goal.returns-in-Ok-Init-clause-complete
+returns-in-Ok-Init-clause-complete g c = λ ptold itold told batch asked. not_asked _ _ _ _ c.in-Ok-Init.ensures.command c.in-Ok-Init.field-0-is asked refl
+
+pub returns-in-Ok-Init-clause-audits : goal.returns-in-Ok-Init-clause-audits
+returns-in-Ok-Init-clause-audits g c = λ ptold told asked. not_asked _ _ _ _ c.in-Ok-Init.ensures.command c.in-Ok-Init.field-0-is asked refl
+
+pub returns-in-Ok-Init-clause-simulates : goal.returns-in-Ok-Init-clause-simulates
+returns-in-Ok-Init-clause-simulates g c = λ ptold itold asked. not_asked _ _ _ _ c.in-Ok-Init.ensures.command c.in-Ok-Init.field-0-is asked refl
+
+pub returns-in-Ok-Init-clause-drills : goal.returns-in-Ok-Init-clause-drills
+returns-in-Ok-Init-clause-drills g c = λ number asked. not_asked _ _ _ _ c.in-Ok-Init.ensures.command c.in-Ok-Init.field-0-is asked refl
+
+pub returns-in-Ok-Serve-clause-public : goal.returns-in-Ok-Serve-clause-public
+returns-in-Ok-Serve-clause-public g c = λ ptold asked. not_asked _ _ _ _ c.in-Ok-Serve.ensures.command c.in-Ok-Serve.field-0-is asked refl
+
+pub returns-in-Ok-Serve-clause-audited : goal.returns-in-Ok-Serve-clause-audited
+returns-in-Ok-Serve-clause-audited g c = λ ptold told asked. not_asked _ _ _ _ c.in-Ok-Serve.ensures.command c.in-Ok-Serve.field-0-is asked refl
+
+pub returns-in-Ok-Serve-clause-auditing : goal.returns-in-Ok-Serve-clause-auditing
+returns-in-Ok-Serve-clause-auditing g c = λ ptold told asked. not_asked _ _ _ _ c.in-Ok-Serve.ensures.command c.in-Ok-Serve.field-0-is asked refl
+
+pub returns-in-Ok-Serve-clause-simulated : goal.returns-in-Ok-Serve-clause-simulated
+returns-in-Ok-Serve-clause-simulated g c = λ ptold itold asked. not_asked _ _ _ _ c.in-Ok-Serve.ensures.command c.in-Ok-Serve.field-0-is asked refl
+
+pub returns-in-Ok-Serve-clause-simulating : goal.returns-in-Ok-Serve-clause-simulating
+returns-in-Ok-Serve-clause-simulating g c = λ ptold told asked. not_asked _ _ _ _ c.in-Ok-Serve.ensures.command c.in-Ok-Serve.field-0-is asked refl
+
+pub returns-in-Ok-Serve-clause-undisturbed : goal.returns-in-Ok-Serve-clause-undisturbed
+returns-in-Ok-Serve-clause-undisturbed g c = λ told asked. not_asked _ _ _ _ c.in-Ok-Serve.ensures.command c.in-Ok-Serve.field-0-is asked refl
+
+pub returns-in-Ok-Serve-clause-made : goal.returns-in-Ok-Serve-clause-made
+returns-in-Ok-Serve-clause-made g c = λ ptold told asked. not_asked _ _ _ _ c.in-Ok-Serve.ensures.command c.in-Ok-Serve.field-0-is asked refl
+
+pub returns-in-Ok-Serve-clause-kept : goal.returns-in-Ok-Serve-clause-kept
+returns-in-Ok-Serve-clause-kept g c = λ told asked. not_asked _ _ _ _ c.in-Ok-Serve.ensures.command c.in-Ok-Serve.field-0-is asked refl
+
+pub returns-in-Ok-Serve-clause-unsent : goal.returns-in-Ok-Serve-clause-unsent
+returns-in-Ok-Serve-clause-unsent g c = λ asked. not_asked _ _ _ _ c.in-Ok-Serve.ensures.command c.in-Ok-Serve.field-0-is asked refl
+
+pub returns-in-Ok-Serve-clause-untouched : goal.returns-in-Ok-Serve-clause-untouched
+returns-in-Ok-Serve-clause-untouched g c = λ told asked. not_asked _ _ _ _ c.in-Ok-Serve.ensures.command c.in-Ok-Serve.field-0-is asked refl
+
+pub returns-in-Ok-Serve-clause-making : goal.returns-in-Ok-Serve-clause-making
+returns-in-Ok-Serve-clause-making g c = λ ptold told asked. not_asked _ _ _ _ c.in-Ok-Serve.ensures.command c.in-Ok-Serve.field-0-is asked refl
+
+pub returns-in-Ok-Serve-clause-unmade : goal.returns-in-Ok-Serve-clause-unmade
+returns-in-Ok-Serve-clause-unmade g c = λ asked. not_asked _ _ _ _ c.in-Ok-Serve.ensures.command c.in-Ok-Serve.field-0-is asked refl
+
+pub returns-in-Ok-Serve-clause-drilled : goal.returns-in-Ok-Serve-clause-drilled
+returns-in-Ok-Serve-clause-drilled g c = λ told number asked. not_asked _ _ _ _ c.in-Ok-Serve.ensures.command c.in-Ok-Serve.field-0-is asked refl
+
+pub returns-in-Ok-Serve-clause-drill_calls : goal.returns-in-Ok-Serve-clause-drill_calls
+returns-in-Ok-Serve-clause-drill_calls g c = λ told number asked. not_asked _ _ _ _ c.in-Ok-Serve.ensures.command c.in-Ok-Serve.field-0-is asked refl
+
+pub returns-in-Ok-Serve-clause-drill_call : goal.returns-in-Ok-Serve-clause-drill_call
+returns-in-Ok-Serve-clause-drill_call g c = λ number asked. not_asked _ _ _ _ c.in-Ok-Serve.ensures.command c.in-Ok-Serve.field-0-is asked refl
+
+pub returns-in-Ok-Serve-clause-undrilled : goal.returns-in-Ok-Serve-clause-undrilled
+returns-in-Ok-Serve-clause-undrilled g c = λ number asked. not_asked _ _ _ _ c.in-Ok-Serve.ensures.command c.in-Ok-Serve.field-0-is asked refl
+
+pub returns-in-Ok-Serve-clause-init_calls : goal.returns-in-Ok-Serve-clause-init_calls
+returns-in-Ok-Serve-clause-init_calls g c = λ told asked. not_asked _ _ _ _ c.in-Ok-Serve.ensures.command c.in-Ok-Serve.field-0-is asked refl
+
+pub returns-in-Ok-Serve-clause-audit_calls : goal.returns-in-Ok-Serve-clause-audit_calls
+returns-in-Ok-Serve-clause-audit_calls g c = λ ptold told asked. not_asked _ _ _ _ c.in-Ok-Serve.ensures.command c.in-Ok-Serve.field-0-is asked refl
+
+pub returns-in-Ok-Serve-clause-simulate_calls : goal.returns-in-Ok-Serve-clause-simulate_calls
+returns-in-Ok-Serve-clause-simulate_calls g c = λ itold told asked. not_asked _ _ _ _ c.in-Ok-Serve.ensures.command c.in-Ok-Serve.field-0-is asked refl
+
+pub returns-in-Ok-Serve-clause-audits : goal.returns-in-Ok-Serve-clause-audits
+returns-in-Ok-Serve-clause-audits g c = λ ptold told asked. not_asked _ _ _ _ c.in-Ok-Serve.ensures.command c.in-Ok-Serve.field-0-is asked refl
+
+pub returns-in-Ok-Serve-clause-simulates : goal.returns-in-Ok-Serve-clause-simulates
+returns-in-Ok-Serve-clause-simulates g c = λ ptold itold asked. not_asked _ _ _ _ c.in-Ok-Serve.ensures.command c.in-Ok-Serve.field-0-is asked refl
+
+pub returns-in-Ok-Serve-clause-drills : goal.returns-in-Ok-Serve-clause-drills
+returns-in-Ok-Serve-clause-drills g c = λ number asked. not_asked _ _ _ _ c.in-Ok-Serve.ensures.command c.in-Ok-Serve.field-0-is asked refl
+
+pub returns-in-Ok-Serve-clause-makes : goal.returns-in-Ok-Serve-clause-makes
+returns-in-Ok-Serve-clause-makes g c = λ ptold told asked. not_asked _ _ _ _ c.in-Ok-Serve.ensures.command c.in-Ok-Serve.field-0-is asked refl
+
+pub returns-in-Ok-Audit-clause-public : goal.returns-in-Ok-Audit-clause-public
+returns-in-Ok-Audit-clause-public g c = λ ptold asked. not_asked _ _ _ _ c.in-Ok-Audit.ensures.command c.in-Ok-Audit.field-0-is asked refl
+
+pub returns-in-Ok-Audit-clause-served : goal.returns-in-Ok-Audit-clause-served
+returns-in-Ok-Audit-clause-served g c = λ ptold itold told batch asked. not_asked _ _ _ _ c.in-Ok-Audit.ensures.command c.in-Ok-Audit.field-0-is asked refl
+
+pub returns-in-Ok-Audit-clause-any_moment : goal.returns-in-Ok-Audit-clause-any_moment
+returns-in-Ok-Audit-clause-any_moment g c = λ ptold itold told batch asked. not_asked _ _ _ _ c.in-Ok-Audit.ensures.command c.in-Ok-Audit.field-0-is asked refl
+
+pub returns-in-Ok-Audit-clause-undisclosed : goal.returns-in-Ok-Audit-clause-undisclosed
+returns-in-Ok-Audit-clause-undisclosed g c = λ ptold told batch asked. not_asked _ _ _ _ c.in-Ok-Audit.ensures.command c.in-Ok-Audit.field-0-is asked refl
+
+pub returns-in-Ok-Audit-clause-lives : goal.returns-in-Ok-Audit-clause-lives
+returns-in-Ok-Audit-clause-lives g c = λ ptold itold told batch asked. not_asked _ _ _ _ c.in-Ok-Audit.ensures.command c.in-Ok-Audit.field-0-is asked refl
+
+pub returns-in-Ok-Audit-clause-simulated : goal.returns-in-Ok-Audit-clause-simulated
+returns-in-Ok-Audit-clause-simulated g c = λ ptold itold asked. not_asked _ _ _ _ c.in-Ok-Audit.ensures.command c.in-Ok-Audit.field-0-is asked refl
+
+pub returns-in-Ok-Audit-clause-simulating : goal.returns-in-Ok-Audit-clause-simulating
+returns-in-Ok-Audit-clause-simulating g c = λ ptold told asked. not_asked _ _ _ _ c.in-Ok-Audit.ensures.command c.in-Ok-Audit.field-0-is asked refl
+
+pub returns-in-Ok-Audit-clause-undisturbed : goal.returns-in-Ok-Audit-clause-undisturbed
+returns-in-Ok-Audit-clause-undisturbed g c = λ told asked. not_asked _ _ _ _ c.in-Ok-Audit.ensures.command c.in-Ok-Audit.field-0-is asked refl
+
+pub returns-in-Ok-Audit-clause-made : goal.returns-in-Ok-Audit-clause-made
+returns-in-Ok-Audit-clause-made g c = λ ptold told asked. not_asked _ _ _ _ c.in-Ok-Audit.ensures.command c.in-Ok-Audit.field-0-is asked refl
+
+pub returns-in-Ok-Audit-clause-kept : goal.returns-in-Ok-Audit-clause-kept
+returns-in-Ok-Audit-clause-kept g c = λ told asked. not_asked _ _ _ _ c.in-Ok-Audit.ensures.command c.in-Ok-Audit.field-0-is asked refl
+
+pub returns-in-Ok-Audit-clause-unsent : goal.returns-in-Ok-Audit-clause-unsent
+returns-in-Ok-Audit-clause-unsent g c = λ asked. not_asked _ _ _ _ c.in-Ok-Audit.ensures.command c.in-Ok-Audit.field-0-is asked refl
+
+pub returns-in-Ok-Audit-clause-untouched : goal.returns-in-Ok-Audit-clause-untouched
+returns-in-Ok-Audit-clause-untouched g c = λ told asked. not_asked _ _ _ _ c.in-Ok-Audit.ensures.command c.in-Ok-Audit.field-0-is asked refl
+
+pub returns-in-Ok-Audit-clause-making : goal.returns-in-Ok-Audit-clause-making
+returns-in-Ok-Audit-clause-making g c = λ ptold told asked. not_asked _ _ _ _ c.in-Ok-Audit.ensures.command c.in-Ok-Audit.field-0-is asked refl
+
+pub returns-in-Ok-Audit-clause-unmade : goal.returns-in-Ok-Audit-clause-unmade
+returns-in-Ok-Audit-clause-unmade g c = λ asked. not_asked _ _ _ _ c.in-Ok-Audit.ensures.command c.in-Ok-Audit.field-0-is asked refl
+
+pub returns-in-Ok-Audit-clause-drilled : goal.returns-in-Ok-Audit-clause-drilled
+returns-in-Ok-Audit-clause-drilled g c = λ told number asked. not_asked _ _ _ _ c.in-Ok-Audit.ensures.command c.in-Ok-Audit.field-0-is asked refl
+
+pub returns-in-Ok-Audit-clause-drill_calls : goal.returns-in-Ok-Audit-clause-drill_calls
+returns-in-Ok-Audit-clause-drill_calls g c = λ told number asked. not_asked _ _ _ _ c.in-Ok-Audit.ensures.command c.in-Ok-Audit.field-0-is asked refl
+
+pub returns-in-Ok-Audit-clause-drill_call : goal.returns-in-Ok-Audit-clause-drill_call
+returns-in-Ok-Audit-clause-drill_call g c = λ number asked. not_asked _ _ _ _ c.in-Ok-Audit.ensures.command c.in-Ok-Audit.field-0-is asked refl
+
+pub returns-in-Ok-Audit-clause-undrilled : goal.returns-in-Ok-Audit-clause-undrilled
+returns-in-Ok-Audit-clause-undrilled g c = λ number asked. not_asked _ _ _ _ c.in-Ok-Audit.ensures.command c.in-Ok-Audit.field-0-is asked refl
+
+pub returns-in-Ok-Audit-clause-init_calls : goal.returns-in-Ok-Audit-clause-init_calls
+returns-in-Ok-Audit-clause-init_calls g c = λ told asked. not_asked _ _ _ _ c.in-Ok-Audit.ensures.command c.in-Ok-Audit.field-0-is asked refl
+
+pub returns-in-Ok-Audit-clause-serve_calls : goal.returns-in-Ok-Audit-clause-serve_calls
+returns-in-Ok-Audit-clause-serve_calls g c = λ ptold itold told batch asked. not_asked _ _ _ _ c.in-Ok-Audit.ensures.command c.in-Ok-Audit.field-0-is asked refl
+
+pub returns-in-Ok-Audit-clause-simulate_calls : goal.returns-in-Ok-Audit-clause-simulate_calls
+returns-in-Ok-Audit-clause-simulate_calls g c = λ itold told asked. not_asked _ _ _ _ c.in-Ok-Audit.ensures.command c.in-Ok-Audit.field-0-is asked refl
+
+pub returns-in-Ok-Audit-clause-complete : goal.returns-in-Ok-Audit-clause-complete
+returns-in-Ok-Audit-clause-complete g c = λ ptold itold told batch asked. not_asked _ _ _ _ c.in-Ok-Audit.ensures.command c.in-Ok-Audit.field-0-is asked refl
+
+pub returns-in-Ok-Audit-clause-simulates : goal.returns-in-Ok-Audit-clause-simulates
+returns-in-Ok-Audit-clause-simulates g c = λ ptold itold asked. not_asked _ _ _ _ c.in-Ok-Audit.ensures.command c.in-Ok-Audit.field-0-is asked refl
+
+pub returns-in-Ok-Audit-clause-drills : goal.returns-in-Ok-Audit-clause-drills
+returns-in-Ok-Audit-clause-drills g c = λ number asked. not_asked _ _ _ _ c.in-Ok-Audit.ensures.command c.in-Ok-Audit.field-0-is asked refl
+
+pub returns-in-Ok-Audit-clause-makes : goal.returns-in-Ok-Audit-clause-makes
+returns-in-Ok-Audit-clause-makes g c = λ ptold told asked. not_asked _ _ _ _ c.in-Ok-Audit.ensures.command c.in-Ok-Audit.field-0-is asked refl
+
+pub returns-in-Ok-Simulate-clause-served : goal.returns-in-Ok-Simulate-clause-served
+returns-in-Ok-Simulate-clause-served g c = λ ptold itold told batch asked. not_asked _ _ _ _ c.in-Ok-Simulate.ensures.command c.in-Ok-Simulate.field-0-is asked refl
+
+pub returns-in-Ok-Simulate-clause-any_moment : goal.returns-in-Ok-Simulate-clause-any_moment
+returns-in-Ok-Simulate-clause-any_moment g c = λ ptold itold told batch asked. not_asked _ _ _ _ c.in-Ok-Simulate.ensures.command c.in-Ok-Simulate.field-0-is asked refl
+
+pub returns-in-Ok-Simulate-clause-undisclosed : goal.returns-in-Ok-Simulate-clause-undisclosed
+returns-in-Ok-Simulate-clause-undisclosed g c = λ ptold told batch asked. not_asked _ _ _ _ c.in-Ok-Simulate.ensures.command c.in-Ok-Simulate.field-0-is asked refl
+
+pub returns-in-Ok-Simulate-clause-lives : goal.returns-in-Ok-Simulate-clause-lives
+returns-in-Ok-Simulate-clause-lives g c = λ ptold itold told batch asked. not_asked _ _ _ _ c.in-Ok-Simulate.ensures.command c.in-Ok-Simulate.field-0-is asked refl
+
+pub returns-in-Ok-Simulate-clause-audited : goal.returns-in-Ok-Simulate-clause-audited
+returns-in-Ok-Simulate-clause-audited g c = λ ptold told asked. not_asked _ _ _ _ c.in-Ok-Simulate.ensures.command c.in-Ok-Simulate.field-0-is asked refl
+
+pub returns-in-Ok-Simulate-clause-auditing : goal.returns-in-Ok-Simulate-clause-auditing
+returns-in-Ok-Simulate-clause-auditing g c = λ ptold told asked. not_asked _ _ _ _ c.in-Ok-Simulate.ensures.command c.in-Ok-Simulate.field-0-is asked refl
+
+pub returns-in-Ok-Simulate-clause-made : goal.returns-in-Ok-Simulate-clause-made
+returns-in-Ok-Simulate-clause-made g c = λ ptold told asked. not_asked _ _ _ _ c.in-Ok-Simulate.ensures.command c.in-Ok-Simulate.field-0-is asked refl
+
+pub returns-in-Ok-Simulate-clause-kept : goal.returns-in-Ok-Simulate-clause-kept
+returns-in-Ok-Simulate-clause-kept g c = λ told asked. not_asked _ _ _ _ c.in-Ok-Simulate.ensures.command c.in-Ok-Simulate.field-0-is asked refl
+
+pub returns-in-Ok-Simulate-clause-unsent : goal.returns-in-Ok-Simulate-clause-unsent
+returns-in-Ok-Simulate-clause-unsent g c = λ asked. not_asked _ _ _ _ c.in-Ok-Simulate.ensures.command c.in-Ok-Simulate.field-0-is asked refl
+
+pub returns-in-Ok-Simulate-clause-untouched : goal.returns-in-Ok-Simulate-clause-untouched
+returns-in-Ok-Simulate-clause-untouched g c = λ told asked. not_asked _ _ _ _ c.in-Ok-Simulate.ensures.command c.in-Ok-Simulate.field-0-is asked refl
+
+pub returns-in-Ok-Simulate-clause-making : goal.returns-in-Ok-Simulate-clause-making
+returns-in-Ok-Simulate-clause-making g c = λ ptold told asked. not_asked _ _ _ _ c.in-Ok-Simulate.ensures.command c.in-Ok-Simulate.field-0-is asked refl
+
+pub returns-in-Ok-Simulate-clause-unmade : goal.returns-in-Ok-Simulate-clause-unmade
+returns-in-Ok-Simulate-clause-unmade g c = λ asked. not_asked _ _ _ _ c.in-Ok-Simulate.ensures.command c.in-Ok-Simulate.field-0-is asked refl
+
+pub returns-in-Ok-Simulate-clause-drilled : goal.returns-in-Ok-Simulate-clause-drilled
+returns-in-Ok-Simulate-clause-drilled g c = λ told number asked. not_asked _ _ _ _ c.in-Ok-Simulate.ensures.command c.in-Ok-Simulate.field-0-is asked refl
+
+pub returns-in-Ok-Simulate-clause-drill_calls : goal.returns-in-Ok-Simulate-clause-drill_calls
+returns-in-Ok-Simulate-clause-drill_calls g c = λ told number asked. not_asked _ _ _ _ c.in-Ok-Simulate.ensures.command c.in-Ok-Simulate.field-0-is asked refl
+
+pub returns-in-Ok-Simulate-clause-drill_call : goal.returns-in-Ok-Simulate-clause-drill_call
+returns-in-Ok-Simulate-clause-drill_call g c = λ number asked. not_asked _ _ _ _ c.in-Ok-Simulate.ensures.command c.in-Ok-Simulate.field-0-is asked refl
+
+pub returns-in-Ok-Simulate-clause-undrilled : goal.returns-in-Ok-Simulate-clause-undrilled
+returns-in-Ok-Simulate-clause-undrilled g c = λ number asked. not_asked _ _ _ _ c.in-Ok-Simulate.ensures.command c.in-Ok-Simulate.field-0-is asked refl
+
+pub returns-in-Ok-Simulate-clause-init_calls : goal.returns-in-Ok-Simulate-clause-init_calls
+returns-in-Ok-Simulate-clause-init_calls g c = λ told asked. not_asked _ _ _ _ c.in-Ok-Simulate.ensures.command c.in-Ok-Simulate.field-0-is asked refl
+
+pub returns-in-Ok-Simulate-clause-serve_calls : goal.returns-in-Ok-Simulate-clause-serve_calls
+returns-in-Ok-Simulate-clause-serve_calls g c = λ ptold itold told batch asked. not_asked _ _ _ _ c.in-Ok-Simulate.ensures.command c.in-Ok-Simulate.field-0-is asked refl
+
+pub returns-in-Ok-Simulate-clause-audit_calls : goal.returns-in-Ok-Simulate-clause-audit_calls
+returns-in-Ok-Simulate-clause-audit_calls g c = λ ptold told asked. not_asked _ _ _ _ c.in-Ok-Simulate.ensures.command c.in-Ok-Simulate.field-0-is asked refl
+
+pub returns-in-Ok-Simulate-clause-complete : goal.returns-in-Ok-Simulate-clause-complete
+returns-in-Ok-Simulate-clause-complete g c = λ ptold itold told batch asked. not_asked _ _ _ _ c.in-Ok-Simulate.ensures.command c.in-Ok-Simulate.field-0-is asked refl
+
+pub returns-in-Ok-Simulate-clause-audits : goal.returns-in-Ok-Simulate-clause-audits
+returns-in-Ok-Simulate-clause-audits g c = λ ptold told asked. not_asked _ _ _ _ c.in-Ok-Simulate.ensures.command c.in-Ok-Simulate.field-0-is asked refl
+
+pub returns-in-Ok-Simulate-clause-drills : goal.returns-in-Ok-Simulate-clause-drills
+returns-in-Ok-Simulate-clause-drills g c = λ number asked. not_asked _ _ _ _ c.in-Ok-Simulate.ensures.command c.in-Ok-Simulate.field-0-is asked refl
+
+pub returns-in-Ok-Simulate-clause-makes : goal.returns-in-Ok-Simulate-clause-makes
+returns-in-Ok-Simulate-clause-makes g c = λ ptold told asked. not_asked _ _ _ _ c.in-Ok-Simulate.ensures.command c.in-Ok-Simulate.field-0-is asked refl
+
+pub returns-in-Ok-Drill-clause-public : goal.returns-in-Ok-Drill-clause-public
+returns-in-Ok-Drill-clause-public g c = λ ptold asked. not_asked _ _ _ _ c.in-Ok-Drill.ensures.command c.in-Ok-Drill.field-0-is asked refl
+
+pub returns-in-Ok-Drill-clause-served : goal.returns-in-Ok-Drill-clause-served
+returns-in-Ok-Drill-clause-served g c = λ ptold itold told batch asked. not_asked _ _ _ _ c.in-Ok-Drill.ensures.command c.in-Ok-Drill.field-0-is asked refl
+
+pub returns-in-Ok-Drill-clause-any_moment : goal.returns-in-Ok-Drill-clause-any_moment
+returns-in-Ok-Drill-clause-any_moment g c = λ ptold itold told batch asked. not_asked _ _ _ _ c.in-Ok-Drill.ensures.command c.in-Ok-Drill.field-0-is asked refl
+
+pub returns-in-Ok-Drill-clause-undisclosed : goal.returns-in-Ok-Drill-clause-undisclosed
+returns-in-Ok-Drill-clause-undisclosed g c = λ ptold told batch asked. not_asked _ _ _ _ c.in-Ok-Drill.ensures.command c.in-Ok-Drill.field-0-is asked refl
+
+pub returns-in-Ok-Drill-clause-lives : goal.returns-in-Ok-Drill-clause-lives
+returns-in-Ok-Drill-clause-lives g c = λ ptold itold told batch asked. not_asked _ _ _ _ c.in-Ok-Drill.ensures.command c.in-Ok-Drill.field-0-is asked refl
+
+pub returns-in-Ok-Drill-clause-audited : goal.returns-in-Ok-Drill-clause-audited
+returns-in-Ok-Drill-clause-audited g c = λ ptold told asked. not_asked _ _ _ _ c.in-Ok-Drill.ensures.command c.in-Ok-Drill.field-0-is asked refl
+
+pub returns-in-Ok-Drill-clause-auditing : goal.returns-in-Ok-Drill-clause-auditing
+returns-in-Ok-Drill-clause-auditing g c = λ ptold told asked. not_asked _ _ _ _ c.in-Ok-Drill.ensures.command c.in-Ok-Drill.field-0-is asked refl
+
+pub returns-in-Ok-Drill-clause-simulated : goal.returns-in-Ok-Drill-clause-simulated
+returns-in-Ok-Drill-clause-simulated g c = λ ptold itold asked. not_asked _ _ _ _ c.in-Ok-Drill.ensures.command c.in-Ok-Drill.field-0-is asked refl
+
+pub returns-in-Ok-Drill-clause-simulating : goal.returns-in-Ok-Drill-clause-simulating
+returns-in-Ok-Drill-clause-simulating g c = λ ptold told asked. not_asked _ _ _ _ c.in-Ok-Drill.ensures.command c.in-Ok-Drill.field-0-is asked refl
+
+pub returns-in-Ok-Drill-clause-undisturbed : goal.returns-in-Ok-Drill-clause-undisturbed
+returns-in-Ok-Drill-clause-undisturbed g c = λ told asked. not_asked _ _ _ _ c.in-Ok-Drill.ensures.command c.in-Ok-Drill.field-0-is asked refl
+
+pub returns-in-Ok-Drill-clause-made : goal.returns-in-Ok-Drill-clause-made
+returns-in-Ok-Drill-clause-made g c = λ ptold told asked. not_asked _ _ _ _ c.in-Ok-Drill.ensures.command c.in-Ok-Drill.field-0-is asked refl
+
+pub returns-in-Ok-Drill-clause-kept : goal.returns-in-Ok-Drill-clause-kept
+returns-in-Ok-Drill-clause-kept g c = λ told asked. not_asked _ _ _ _ c.in-Ok-Drill.ensures.command c.in-Ok-Drill.field-0-is asked refl
+
+pub returns-in-Ok-Drill-clause-unsent : goal.returns-in-Ok-Drill-clause-unsent
+returns-in-Ok-Drill-clause-unsent g c = λ asked. not_asked _ _ _ _ c.in-Ok-Drill.ensures.command c.in-Ok-Drill.field-0-is asked refl
+
+pub returns-in-Ok-Drill-clause-untouched : goal.returns-in-Ok-Drill-clause-untouched
+returns-in-Ok-Drill-clause-untouched g c = λ told asked. not_asked _ _ _ _ c.in-Ok-Drill.ensures.command c.in-Ok-Drill.field-0-is asked refl
+
+pub returns-in-Ok-Drill-clause-making : goal.returns-in-Ok-Drill-clause-making
+returns-in-Ok-Drill-clause-making g c = λ ptold told asked. not_asked _ _ _ _ c.in-Ok-Drill.ensures.command c.in-Ok-Drill.field-0-is asked refl
+
+pub returns-in-Ok-Drill-clause-unmade : goal.returns-in-Ok-Drill-clause-unmade
+returns-in-Ok-Drill-clause-unmade g c = λ asked. not_asked _ _ _ _ c.in-Ok-Drill.ensures.command c.in-Ok-Drill.field-0-is asked refl
+
+pub returns-in-Ok-Drill-clause-init_calls : goal.returns-in-Ok-Drill-clause-init_calls
+returns-in-Ok-Drill-clause-init_calls g c = λ told asked. not_asked _ _ _ _ c.in-Ok-Drill.ensures.command c.in-Ok-Drill.field-0-is asked refl
+
+pub returns-in-Ok-Drill-clause-serve_calls : goal.returns-in-Ok-Drill-clause-serve_calls
+returns-in-Ok-Drill-clause-serve_calls g c = λ ptold itold told batch asked. not_asked _ _ _ _ c.in-Ok-Drill.ensures.command c.in-Ok-Drill.field-0-is asked refl
+
+pub returns-in-Ok-Drill-clause-audit_calls : goal.returns-in-Ok-Drill-clause-audit_calls
+returns-in-Ok-Drill-clause-audit_calls g c = λ ptold told asked. not_asked _ _ _ _ c.in-Ok-Drill.ensures.command c.in-Ok-Drill.field-0-is asked refl
+
+pub returns-in-Ok-Drill-clause-simulate_calls : goal.returns-in-Ok-Drill-clause-simulate_calls
+returns-in-Ok-Drill-clause-simulate_calls g c = λ itold told asked. not_asked _ _ _ _ c.in-Ok-Drill.ensures.command c.in-Ok-Drill.field-0-is asked refl
+
+pub returns-in-Ok-Drill-clause-complete : goal.returns-in-Ok-Drill-clause-complete
+returns-in-Ok-Drill-clause-complete g c = λ ptold itold told batch asked. not_asked _ _ _ _ c.in-Ok-Drill.ensures.command c.in-Ok-Drill.field-0-is asked refl
+
+pub returns-in-Ok-Drill-clause-audits : goal.returns-in-Ok-Drill-clause-audits
+returns-in-Ok-Drill-clause-audits g c = λ ptold told asked. not_asked _ _ _ _ c.in-Ok-Drill.ensures.command c.in-Ok-Drill.field-0-is asked refl
+
+pub returns-in-Ok-Drill-clause-simulates : goal.returns-in-Ok-Drill-clause-simulates
+returns-in-Ok-Drill-clause-simulates g c = λ ptold itold asked. not_asked _ _ _ _ c.in-Ok-Drill.ensures.command c.in-Ok-Drill.field-0-is asked refl
+
+pub returns-in-Ok-Drill-clause-makes : goal.returns-in-Ok-Drill-clause-makes
+returns-in-Ok-Drill-clause-makes g c = λ ptold told asked. not_asked _ _ _ _ c.in-Ok-Drill.ensures.command c.in-Ok-Drill.field-0-is asked refl
+
+pub returns-in-Err-Bad-clause-schema : goal.returns-in-Err-Bad-clause-schema
+returns-in-Err-Bad-clause-schema g c = λ ptold command asked. bad_words _ _ _ c.in-Err-Bad.ensures.bad c.in-Err-Bad.field-0-is asked
+
+pub returns-in-Err-Bad-clause-table : goal.returns-in-Err-Bad-clause-table
+returns-in-Err-Bad-clause-table g c = λ ptold command asked. bad_words _ _ _ c.in-Err-Bad.ensures.bad c.in-Err-Bad.field-0-is asked
+
+pub returns-in-Err-Bad-clause-public : goal.returns-in-Err-Bad-clause-public
+returns-in-Err-Bad-clause-public g c = λ ptold asked. bad_words _ _ _ c.in-Err-Bad.ensures.bad c.in-Err-Bad.field-0-is asked
+
+pub returns-in-Err-Bad-clause-file : goal.returns-in-Err-Bad-clause-file
+returns-in-Err-Bad-clause-file g c = λ ptold told command asked. bad_words _ _ _ c.in-Err-Bad.ensures.bad c.in-Err-Bad.field-0-is asked
+
+pub returns-in-Err-Bad-clause-input : goal.returns-in-Err-Bad-clause-input
+returns-in-Err-Bad-clause-input g c = λ itold command asked. bad_words _ _ _ c.in-Err-Bad.ensures.bad c.in-Err-Bad.field-0-is asked
+
+pub returns-in-Err-Bad-clause-served : goal.returns-in-Err-Bad-clause-served
+returns-in-Err-Bad-clause-served g c = λ ptold itold told batch asked. bad_words _ _ _ c.in-Err-Bad.ensures.bad c.in-Err-Bad.field-0-is asked
+
+pub returns-in-Err-Bad-clause-any_moment : goal.returns-in-Err-Bad-clause-any_moment
+returns-in-Err-Bad-clause-any_moment g c = λ ptold itold told batch asked. bad_words _ _ _ c.in-Err-Bad.ensures.bad c.in-Err-Bad.field-0-is asked
+
+pub returns-in-Err-Bad-clause-undisclosed : goal.returns-in-Err-Bad-clause-undisclosed
+returns-in-Err-Bad-clause-undisclosed g c = λ ptold told batch asked. bad_words _ _ _ c.in-Err-Bad.ensures.bad c.in-Err-Bad.field-0-is asked
+
+pub returns-in-Err-Bad-clause-lives : goal.returns-in-Err-Bad-clause-lives
+returns-in-Err-Bad-clause-lives g c = λ ptold itold told batch asked. bad_words _ _ _ c.in-Err-Bad.ensures.bad c.in-Err-Bad.field-0-is asked
+
+pub returns-in-Err-Bad-clause-audited : goal.returns-in-Err-Bad-clause-audited
+returns-in-Err-Bad-clause-audited g c = λ ptold told asked. bad_words _ _ _ c.in-Err-Bad.ensures.bad c.in-Err-Bad.field-0-is asked
+
+pub returns-in-Err-Bad-clause-auditing : goal.returns-in-Err-Bad-clause-auditing
+returns-in-Err-Bad-clause-auditing g c = λ ptold told asked. bad_words _ _ _ c.in-Err-Bad.ensures.bad c.in-Err-Bad.field-0-is asked
+
+pub returns-in-Err-Bad-clause-simulated : goal.returns-in-Err-Bad-clause-simulated
+returns-in-Err-Bad-clause-simulated g c = λ ptold itold asked. bad_words _ _ _ c.in-Err-Bad.ensures.bad c.in-Err-Bad.field-0-is asked
+
+pub returns-in-Err-Bad-clause-simulating : goal.returns-in-Err-Bad-clause-simulating
+returns-in-Err-Bad-clause-simulating g c = λ ptold told asked. bad_words _ _ _ c.in-Err-Bad.ensures.bad c.in-Err-Bad.field-0-is asked
+
+pub returns-in-Err-Bad-clause-undisturbed : goal.returns-in-Err-Bad-clause-undisturbed
+returns-in-Err-Bad-clause-undisturbed g c = λ told asked. bad_words _ _ _ c.in-Err-Bad.ensures.bad c.in-Err-Bad.field-0-is asked
+
+pub returns-in-Err-Bad-clause-nothing_began : goal.returns-in-Err-Bad-clause-nothing_began
+returns-in-Err-Bad-clause-nothing_began g c = λ ptold told command asked. bad_words _ _ _ c.in-Err-Bad.ensures.bad c.in-Err-Bad.field-0-is asked
+
+pub returns-in-Err-Bad-clause-made : goal.returns-in-Err-Bad-clause-made
+returns-in-Err-Bad-clause-made g c = λ ptold told asked. bad_words _ _ _ c.in-Err-Bad.ensures.bad c.in-Err-Bad.field-0-is asked
+
+pub returns-in-Err-Bad-clause-kept : goal.returns-in-Err-Bad-clause-kept
+returns-in-Err-Bad-clause-kept g c = λ told asked. bad_words _ _ _ c.in-Err-Bad.ensures.bad c.in-Err-Bad.field-0-is asked
+
+pub returns-in-Err-Bad-clause-unsent : goal.returns-in-Err-Bad-clause-unsent
+returns-in-Err-Bad-clause-unsent g c = λ asked. bad_words _ _ _ c.in-Err-Bad.ensures.bad c.in-Err-Bad.field-0-is asked
+
+pub returns-in-Err-Bad-clause-untouched : goal.returns-in-Err-Bad-clause-untouched
+returns-in-Err-Bad-clause-untouched g c = λ told asked. bad_words _ _ _ c.in-Err-Bad.ensures.bad c.in-Err-Bad.field-0-is asked
+
+pub returns-in-Err-Bad-clause-making : goal.returns-in-Err-Bad-clause-making
+returns-in-Err-Bad-clause-making g c = λ ptold told asked. bad_words _ _ _ c.in-Err-Bad.ensures.bad c.in-Err-Bad.field-0-is asked
+
+pub returns-in-Err-Bad-clause-unmade : goal.returns-in-Err-Bad-clause-unmade
+returns-in-Err-Bad-clause-unmade g c = λ asked. bad_words _ _ _ c.in-Err-Bad.ensures.bad c.in-Err-Bad.field-0-is asked
+
+pub returns-in-Err-Bad-clause-drilled : goal.returns-in-Err-Bad-clause-drilled
+returns-in-Err-Bad-clause-drilled g c = λ told number asked. bad_words _ _ _ c.in-Err-Bad.ensures.bad c.in-Err-Bad.field-0-is asked
+
+pub returns-in-Err-Bad-clause-drill_calls : goal.returns-in-Err-Bad-clause-drill_calls
+returns-in-Err-Bad-clause-drill_calls g c = λ told number asked. bad_words _ _ _ c.in-Err-Bad.ensures.bad c.in-Err-Bad.field-0-is asked
+
+pub returns-in-Err-Bad-clause-drill_call : goal.returns-in-Err-Bad-clause-drill_call
+returns-in-Err-Bad-clause-drill_call g c = λ number asked. bad_words _ _ _ c.in-Err-Bad.ensures.bad c.in-Err-Bad.field-0-is asked
+
+pub returns-in-Err-Bad-clause-undrilled : goal.returns-in-Err-Bad-clause-undrilled
+returns-in-Err-Bad-clause-undrilled g c = λ number asked. bad_words _ _ _ c.in-Err-Bad.ensures.bad c.in-Err-Bad.field-0-is asked
+
+pub returns-in-Err-Bad-clause-init_calls : goal.returns-in-Err-Bad-clause-init_calls
+returns-in-Err-Bad-clause-init_calls g c = λ told asked. bad_words _ _ _ c.in-Err-Bad.ensures.bad c.in-Err-Bad.field-0-is asked
+
+pub returns-in-Err-Bad-clause-serve_calls : goal.returns-in-Err-Bad-clause-serve_calls
+returns-in-Err-Bad-clause-serve_calls g c = λ ptold itold told batch asked. bad_words _ _ _ c.in-Err-Bad.ensures.bad c.in-Err-Bad.field-0-is asked
+
+pub returns-in-Err-Bad-clause-audit_calls : goal.returns-in-Err-Bad-clause-audit_calls
+returns-in-Err-Bad-clause-audit_calls g c = λ ptold told asked. bad_words _ _ _ c.in-Err-Bad.ensures.bad c.in-Err-Bad.field-0-is asked
+
+pub returns-in-Err-Bad-clause-simulate_calls : goal.returns-in-Err-Bad-clause-simulate_calls
+returns-in-Err-Bad-clause-simulate_calls g c = λ itold told asked. bad_words _ _ _ c.in-Err-Bad.ensures.bad c.in-Err-Bad.field-0-is asked
+
+pub returns-in-Err-Bad-clause-no_files : goal.returns-in-Err-Bad-clause-no_files
+returns-in-Err-Bad-clause-no_files g c = λ command asked. bad_words _ _ _ c.in-Err-Bad.ensures.bad c.in-Err-Bad.field-0-is asked
+
+pub returns-in-Err-Bad-clause-no_lines : goal.returns-in-Err-Bad-clause-no_lines
+returns-in-Err-Bad-clause-no_lines g c = λ command asked. bad_words _ _ _ c.in-Err-Bad.ensures.bad c.in-Err-Bad.field-0-is asked
+
+pub returns-in-Err-Bad-clause-never_written : goal.returns-in-Err-Bad-clause-never_written
+returns-in-Err-Bad-clause-never_written g c = λ told command asked. bad_words _ _ _ c.in-Err-Bad.ensures.bad c.in-Err-Bad.field-0-is asked
+
+pub returns-in-Err-Bad-clause-complete : goal.returns-in-Err-Bad-clause-complete
+returns-in-Err-Bad-clause-complete g c = λ ptold itold told batch asked. bad_words _ _ _ c.in-Err-Bad.ensures.bad c.in-Err-Bad.field-0-is asked
+
+pub returns-in-Err-Bad-clause-audits : goal.returns-in-Err-Bad-clause-audits
+returns-in-Err-Bad-clause-audits g c = λ ptold told asked. bad_words _ _ _ c.in-Err-Bad.ensures.bad c.in-Err-Bad.field-0-is asked
+
+pub returns-in-Err-Bad-clause-simulates : goal.returns-in-Err-Bad-clause-simulates
+returns-in-Err-Bad-clause-simulates g c = λ ptold itold asked. bad_words _ _ _ c.in-Err-Bad.ensures.bad c.in-Err-Bad.field-0-is asked
+
+pub returns-in-Err-Bad-clause-drills : goal.returns-in-Err-Bad-clause-drills
+returns-in-Err-Bad-clause-drills g c = λ number asked. bad_words _ _ _ c.in-Err-Bad.ensures.bad c.in-Err-Bad.field-0-is asked
+
+pub returns-in-Err-Bad-clause-makes : goal.returns-in-Err-Bad-clause-makes
+returns-in-Err-Bad-clause-makes g c = λ ptold told asked. bad_words _ _ _ c.in-Err-Bad.ensures.bad c.in-Err-Bad.field-0-is asked
+
+-- ---- the steps of the command
+
+pub returns-in-Ok-Init-clause-unread : goal.returns-in-Ok-Init-clause-unread
+returns-in-Ok-Init-clause-unread g c = λ none. none_asked _ _ none c.in-Ok-Init.ensures.command
+
+pub returns-in-Ok-Init-clause-no_files : goal.returns-in-Ok-Init-clause-no_files
+returns-in-Ok-Init-clause-no_files g c = λ command asked none. takes_step reads_files _ _ _ command c.in-Ok-Init.ensures.command c.in-Ok-Init.field-0-is asked refl none
+
+pub returns-in-Ok-Init-clause-never_written : goal.returns-in-Ok-Init-clause-never_written
+returns-in-Ok-Init-clause-never_written g c = λ told command asked none. takes_step writes _ _ _ command c.in-Ok-Init.ensures.command c.in-Ok-Init.field-0-is asked refl none
+
+pub returns-in-Ok-Init-clause-input : goal.returns-in-Ok-Init-clause-input
+returns-in-Ok-Init-clause-input g c = λ itold command asked reads. lacks_step reads_lines _ _ _ command c.in-Ok-Init.ensures.command c.in-Ok-Init.field-0-is asked refl reads
+
+pub returns-in-Ok-Init-clause-nothing_began : goal.returns-in-Ok-Init-clause-nothing_began
+returns-in-Ok-Init-clause-nothing_began g c = λ ptold told command asked opens quiet none. lacks_step opens_journal _ _ _ command c.in-Ok-Init.ensures.command c.in-Ok-Init.field-0-is asked refl opens
+
+pub returns-in-Ok-Serve-clause-unread : goal.returns-in-Ok-Serve-clause-unread
+returns-in-Ok-Serve-clause-unread g c = λ none. none_asked _ _ none c.in-Ok-Serve.ensures.command
+
+pub returns-in-Ok-Serve-clause-no_files : goal.returns-in-Ok-Serve-clause-no_files
+returns-in-Ok-Serve-clause-no_files g c = λ command asked none. takes_step reads_files _ _ _ command c.in-Ok-Serve.ensures.command c.in-Ok-Serve.field-0-is asked refl none
+
+pub returns-in-Ok-Serve-clause-never_written : goal.returns-in-Ok-Serve-clause-never_written
+returns-in-Ok-Serve-clause-never_written g c = λ told command asked none. takes_step writes _ _ _ command c.in-Ok-Serve.ensures.command c.in-Ok-Serve.field-0-is asked refl none
+
+pub returns-in-Ok-Audit-clause-unread : goal.returns-in-Ok-Audit-clause-unread
+returns-in-Ok-Audit-clause-unread g c = λ none. none_asked _ _ none c.in-Ok-Audit.ensures.command
+
+pub returns-in-Ok-Audit-clause-no_files : goal.returns-in-Ok-Audit-clause-no_files
+returns-in-Ok-Audit-clause-no_files g c = λ command asked none. takes_step reads_files _ _ _ command c.in-Ok-Audit.ensures.command c.in-Ok-Audit.field-0-is asked refl none
+
+pub returns-in-Ok-Audit-clause-input : goal.returns-in-Ok-Audit-clause-input
+returns-in-Ok-Audit-clause-input g c = λ itold command asked reads. lacks_step reads_lines _ _ _ command c.in-Ok-Audit.ensures.command c.in-Ok-Audit.field-0-is asked refl reads
+
+pub returns-in-Ok-Simulate-clause-unread : goal.returns-in-Ok-Simulate-clause-unread
+returns-in-Ok-Simulate-clause-unread g c = λ none. none_asked _ _ none c.in-Ok-Simulate.ensures.command
+
+pub returns-in-Ok-Simulate-clause-no_files : goal.returns-in-Ok-Simulate-clause-no_files
+returns-in-Ok-Simulate-clause-no_files g c = λ command asked none. takes_step reads_files _ _ _ command c.in-Ok-Simulate.ensures.command c.in-Ok-Simulate.field-0-is asked refl none
+
+pub returns-in-Ok-Simulate-clause-nothing_began : goal.returns-in-Ok-Simulate-clause-nothing_began
+returns-in-Ok-Simulate-clause-nothing_began g c = λ ptold told command asked opens quiet none. lacks_step opens_journal _ _ _ command c.in-Ok-Simulate.ensures.command c.in-Ok-Simulate.field-0-is asked refl opens
+
+pub returns-in-Ok-Drill-clause-unread : goal.returns-in-Ok-Drill-clause-unread
+returns-in-Ok-Drill-clause-unread g c = λ none. none_asked _ _ none c.in-Ok-Drill.ensures.command
+
+pub returns-in-Err-Bad-clause-unread : goal.returns-in-Err-Bad-clause-unread
+returns-in-Err-Bad-clause-unread g c = λ none. (refl, refl, refl, refl)
+
+pub returns-in-Err-NoMemory-clause-unread : goal.returns-in-Err-NoMemory-clause-unread
+returns-in-Err-NoMemory-clause-unread g c = λ none. (refl, refl, refl, refl)
+
+pub returns-in-Err-NoMemory-clause-no_files : goal.returns-in-Err-NoMemory-clause-no_files
+returns-in-Err-NoMemory-clause-no_files g c = λ command asked none. (refl, refl)
+
+pub returns-in-Err-NoMemory-clause-no_lines : goal.returns-in-Err-NoMemory-clause-no_lines
+returns-in-Err-NoMemory-clause-no_lines g c = λ command asked none. refl
+
+pub returns-in-Err-NoMemory-clause-never_written : goal.returns-in-Err-NoMemory-clause-never_written
+returns-in-Err-NoMemory-clause-never_written g c = λ told command asked none. refl
