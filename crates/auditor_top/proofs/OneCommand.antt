@@ -19,7 +19,7 @@ one_drill asked a b is also = cc
 pub not_false : {Y : Type 0} (step : Command → Bool) (a b : Command) → a ≡ b → step a ≡ true → step b ≡ false → Y
 not_false step a b is taken none = absurd (true≢false (sym taken ∙ ap step is ∙ none))
 
--- the place of a command in the order of their names
+-- the place of a command among the five
 abbrev place_of : Command → ℕ
 place_of Init = 0
 place_of (Serve batch) = 1
@@ -27,6 +27,7 @@ place_of Audit = 2
 place_of Simulate = 3
 place_of (Drill number) = 4
 
+-- one command has one place
 same_place : (a b : Command) → a ≡ b → nat_eq (place_of a) (place_of b) ≡ true
 same_place a b is = subst (λ (k : Command). nat_eq (place_of a) (place_of k) ≡ true) is (to_itself a)
   where
@@ -48,8 +49,8 @@ pub none_asked : {Y : Type 0} (asked : Option Command) (command : Command) → a
 none_asked asked command none is = cc
 
 -- and those that are refused name none
-pub bad_words : {Y : Type 0} (asked : Option Command) (fault : WordFault) (command : Command) → (◌≡◌ {A = Result Command WordFault} (Err fault) (Err Bad) → asked ≡ None) → fault ≡ Bad
-    → asked ≡ Some command → Y
+pub bad_words : {Y : Type 0} (asked : Option Command) (fault : WordFault) (command : Command)
+    → (◌≡◌ {A = Result Command WordFault} (Err fault) (Err Bad) → asked ≡ None) → fault ≡ Bad → asked ≡ Some command → Y
 bad_words asked fault command none bad = none_asked asked command (none (ap (λ (f : WordFault). Err f) bad))
 
 -- the command takes this step, so it isn't one that doesn't
