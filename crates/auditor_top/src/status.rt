@@ -16,7 +16,7 @@ use table_load::TableFault;
 use transcript_sim::{Due, SimulationFault};
 
 /// The sources that a run reads.
-#[derive(Clone, Copy, Debug, PartialEq, Eq)]
+#[derive(Clone, Copy, PartialEq, Eq)]
 pub enum Which {
     Schema,
     Table,
@@ -24,7 +24,7 @@ pub enum Which {
 }
 
 /// How a run ended. docs/OPERATIONS.md says what to do at each.
-#[derive(Clone, Copy, Debug, PartialEq, Eq)]
+#[derive(Clone, Copy, PartialEq, Eq)]
 pub enum Status {
     /// Each step of the command was taken to its end. Of `serve` that is: the input was read, and each line has its reply.
     Done,

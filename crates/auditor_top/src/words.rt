@@ -11,7 +11,7 @@ use clap::{Arg, ArgMatches, Error};
 use std::alloc::{AllocError, Global};
 
 /// What the program is asked to do.
-#[derive(Clone, Copy, Debug, PartialEq, Eq)]
+#[derive(Clone, Copy)]
 pub enum Command {
     /// Make the journal of a table.
     Init,

@@ -1,4 +1,4 @@
-use Rattle.std.proofs.Common.{Some, rules, ◌≡◌, ◌≢◌, ◌+◌, ℕ, List, [], Err, sym, ◌∙◌, ap, subst, Result, refl}
+use Rattle.std.proofs.Common.{Some, inr, rules, ◌≡◌, ◌≢◌, ◌+◌, ℕ, List, [], Err, sym, ◌∙◌, ap, subst, Result, refl}
 use Rattle.audit_types.specs.declared.records.Answered.{Answered}
 use Rattle.audit_types.specs.History.{IsLegal}
 use Rattle.bench_core.specs.Causes.{Rose}
@@ -12,6 +12,7 @@ use Rattle.answer_journal.specs.Moments.{IsUntouched}
 use Rattle.line_wire.specs.Lines.{counted_lines}
 use Rattle.audit_session.specs.Ends.{TakesCalls}
 use Rattle.audit_session.specs.Stops.{IsHarmless, StopsOver}
+use Rattle.audit_store.specs.declared.starting.StartFault.TheVariants as start
 use Rattle.audit_session.specs.declared.serving.EndFault.TheVariants as end
 use Rattle.auditor_top.specs.declared.words.Command.TheVariants.{Serve}
 use Rattle.auditor_top.specs.declared.status.Status.{Status}
@@ -171,6 +172,67 @@ returns-in-Err-new-clause-undisclosed g c = λ ptold told quiet base history ove
     let here = g.met.B.Bench.only_now c.args.bench.now image sent was in
     c.stops_are_legal.ensures _ _ _ image sent base c.args.batch history now [] over.files over.legal
     (untouched_stops base c.args.batch history [] (g.B.Bench.file c.args.bench.now) (g.B.Bench.sent c.args.bench.now) image sent over.stands (here.1, quiet image here.0)) stands
+
+pub returns-in-Err-new-clause-word_cause : goal.returns-in-Err-new-clause-word_cause
+returns-in-Err-new-clause-word_cause g c = tt
+
+pub returns-in-Err-new-clause-schema_cause : goal.returns-in-Err-new-clause-schema_cause
+returns-in-Err-new-clause-schema_cause g c = λ ptold. tt
+
+pub returns-in-Err-new-clause-table_cause : goal.returns-in-Err-new-clause-table_cause
+returns-in-Err-new-clause-table_cause g c = λ ptold columns is. tt
+
+pub returns-in-Err-new-clause-own_schema_fault : goal.returns-in-Err-new-clause-own_schema_fault
+returns-in-Err-new-clause-own_schema_fault g c = (started_past start.NoMemory).own_schema
+
+pub returns-in-Err-new-clause-own_table_fault : goal.returns-in-Err-new-clause-own_table_fault
+returns-in-Err-new-clause-own_table_fault g c = (started_past start.NoMemory).own_table
+
+pub returns-in-Err-new-clause-schema_within : goal.returns-in-Err-new-clause-schema_within
+returns-in-Err-new-clause-schema_within g c = λ ptold is. absurd ((started_past start.NoMemory).no_schema is)
+
+pub returns-in-Err-new-clause-table_within : goal.returns-in-Err-new-clause-table_within
+returns-in-Err-new-clause-table_within g c = λ ptold is. absurd ((started_past start.NoMemory).no_table is)
+
+pub returns-in-Err-new-clause-schema_last : goal.returns-in-Err-new-clause-schema_last
+returns-in-Err-new-clause-schema_last g c = λ is. absurd ((started_past start.NoMemory).no_schema is)
+
+pub returns-in-Err-new-clause-table_last : goal.returns-in-Err-new-clause-table_last
+returns-in-Err-new-clause-table_last g c = λ is. absurd ((started_past start.NoMemory).no_table is)
+
+pub returns-in-Err-new-clause-file_cause : goal.returns-in-Err-new-clause-file_cause
+returns-in-Err-new-clause-file_cause g c = λ ptold told base files. tt
+
+pub returns-in-Err-new-clause-input_cause : goal.returns-in-Err-new-clause-input_cause
+returns-in-Err-new-clause-input_cause g c = λ itold. tt
+
+pub returns-in-Err-new-clause-input_last : goal.returns-in-Err-new-clause-input_last
+returns-in-Err-new-clause-input_last g c = λ is. absurd (start_no_input start.NoMemory is)
+
+pub returns-in-Err-new-clause-complete : goal.returns-in-Err-new-clause-complete
+returns-in-Err-new-clause-complete g c = λ ptold itold told base history over within spare none. inr refl
+
+pub returns-in-Err-new-clause-quiet : goal.returns-in-Err-new-clause-quiet
+returns-in-Err-new-clause-quiet g c = λ told quiet fine. quiet
+
+pub returns-in-Err-new-clause-calls : goal.returns-in-Err-new-clause-calls
+returns-in-Err-new-clause-calls g c = λ ptold itold told done base history over. absurd (start_undone start.NoMemory done)
+
+pub returns-in-Err-new-clause-nothing_began : goal.returns-in-Err-new-clause-nothing_began
+returns-in-Err-new-clause-nothing_began g c = λ ptold told quiet none.
+    started g.B.Bench c.args.bench.now _
+    (λ image sent was.
+    let now = g.met.B.Bench.only_now c.args.bench.now image sent was in
+    (now.1, quiet image now.0))
+
+pub returns-in-Err-new-clause-before_table : goal.returns-in-Err-new-clause-before_table
+returns-in-Err-new-clause-before_table g c = tt
+
+pub returns-in-Err-new-clause-before_bench : goal.returns-in-Err-new-clause-before_bench
+returns-in-Err-new-clause-before_bench g c = tt
+
+pub returns-in-Err-new-clause-before_lines : goal.returns-in-Err-new-clause-before_lines
+returns-in-Err-new-clause-before_lines g c = tt
 
 -- ---- the store wasn't started
 
