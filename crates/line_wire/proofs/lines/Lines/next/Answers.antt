@@ -23,7 +23,7 @@ loop-self-init g c =
 pub returns-in-Over-clause-stop : goal.returns-in-Over-clause-stop
 returns-in-Over-clause-stop g c = λ told.
     let so_far = to_more _ _ _ _ (c.loop-self.invariant.reached told) c.in-Over.ensures.passes.0 in
-    rw c.clear-in-Over.ensures.same.2 (no_whole _ _ _ so_far)
+    rw (c.stop_at_limit.ensures.refuses, c.stop_at_limit.ensures.same.2) (no_whole _ _ _ so_far)
 
 pub returns-in-Some-clause-answer : goal.returns-in-Some-clause-answer
 returns-in-Some-clause-answer g c = λ told.
