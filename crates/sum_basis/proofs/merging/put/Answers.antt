@@ -1,4 +1,4 @@
-use Rattle.std.proofs.Common.{◌≡◌, zero, suc, ℤ, pos, negsuc, List, [], ◌∷◌, ◌++◌, refl, ap, ◌∙◌, cond}
+use Rattle.std.proofs.Common.{◌≡◌, zero, suc, ℤ, pos, negsuc, List, [], ◌∷◌, ◌++◌, refl, ap, ◌∙◌, cond, arith}
 use Rattle.std.specs.Int.{w128}
 use Rattle.std.proofs.lemmas.Int.{to_z-of_z}
 use mir.Val.{of_z}
@@ -16,4 +16,4 @@ pub returns-then-value-ne0-clause-items : goal.returns-then-value-ne0-clause-ite
 returns-then-value-ne0-clause-items c =
     let old = c.args.out.now.items in
     let value = to_z-of_z w128 c.args.value c.ranges.value in
-    appended c.args.value old _ _ c.if-value-ne0.true (c.push_reserved.ensures.items ∙ ap (λ v. old ++ record { place = c.args.place; value = v } ∷ []) value)
+    appended c.args.value old _ _ (omega arith) (c.push_reserved.ensures.items ∙ ap (λ v. old ++ record { place = c.args.place; value = v } ∷ []) value)
