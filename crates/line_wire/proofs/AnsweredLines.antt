@@ -9,7 +9,7 @@ use Rattle.predicate_lang.specs.Trees.{Tree}
 use Rattle.predicate_lang.specs.Places.{Means}
 use Rattle.line_wire.specs.Questions.{Written, taken, text_of, question_in, question_of}
 use Rattle.line_wire.specs.Requests.{IsWithin, Requests, Refuses, Asks, Reads, IsRequest, column_fault, secret_of}
-use Rattle.line_wire.specs.Answers.{Answers, HasNoValue, IsTaken}
+use Rattle.line_wire.specs.Answers.{Answers, FindsColumn, HasNoValue, IsTaken}
 use Rattle.line_wire.specs.declared.question.Take.{Take}
 use Rattle.line_wire.specs.declared.question.Take.TheVariants as take
 use Rattle.line_wire.specs.declared.request.Request.{Request}
@@ -28,6 +28,14 @@ taken_is columns take.Sum name text c t (request.Sum d p) is found = (found ∙ 
 taken_is columns take.Avg name text c t (request.Avg d p) is found = (found ∙ ap Some (sym is.0), is.1)
 taken_is columns take.Max name text c t (request.Max d p) is found = (found ∙ ap Some (sym is.0), is.1)
 taken_is columns k name text c t r is found = absurd is
+
+-- what is wrong with the column that a question names is its first fault
+pub unfound : (columns : List Column) (k : Take) (name text : List ℕ) (f : LineFault) → FindsColumn columns k name (Err f) → Answers columns (taken k name text) (Err f)
+unfound columns k name text fault.Line is = is
+unfound columns k name text fault.Column is = is
+unfound columns k name text fault.Kind is = is
+unfound columns k name text (fault.Condition at) is = absurd is
+unfound columns k name text fault.NoMemory is = tt
 
 -- what is answered is what the line means
 pub found_of : (columns : List Column) (o : Option Written) (w : Written) (r : Result Request LineFault) → o ≡ Some w → Answers columns w r →

@@ -11,6 +11,10 @@ written_back n new old same is =
     ∙ ap (λ (l : List ℕ). take n l) (append-nil new)
     ∙ take_all n new (omega arith)
 
+-- the front of a range of so many bytes
+pub taken_there : (buffer bytes : List ℕ) (at count : ℕ) → buffer ≡ bytes → take count (slice_range buffer at (at + count)) ≡ take count (drop at bytes)
+taken_there buffer bytes at count same = take-take count (at + count - at) (drop at buffer) (omega arith) ∙ ap (λ (l : List ℕ). take count (drop at l)) same
+
 -- a range that begins later
 pub range-later : (bytes : List ℕ) (from end count : ℕ) → from + count ≤ end → slice_range bytes (from + count) end ≡ drop count (slice_range bytes from end)
 range-later bytes from end count fits =

@@ -1,6 +1,6 @@
 -- What a call of the cutter keeps from turn to turn.
-use Rattle.std.proofs.Common.{◌≡◌, ℕ, suc, ◌+◌, ◌<◌, ◌≤◌, ◌⊎◌, inl, inr, true, List, [], ◌∷◌, ◌++◌, length, sym, ap, ◌∙◌, arith, append-nil, length-append}
-use Rattle.line_wire.specs.Lines.{CountedLine, text, long, line_of, whole_lines}
+use Rattle.std.proofs.Common.{◌≡◌, ℕ, suc, ◌+◌, ◌-◌, ◌<◌, ◌≤◌, ◌⊎◌, inl, inr, Bool, true, false, cond, List, [], ◌∷◌, ◌++◌, length, refl, sym, ap, ◌∙◌, arith, append-nil, length-append}
+use Rattle.line_wire.specs.Lines.{CountedLine, text, long, line_of, whole_lines, most_input}
 use Rattle.line_wire.specs.Cutter.{Cutter, IsWithin, PassesFeed, PassesNone, Reached}
 use Rattle.line_wire.specs.Steps.{Gives, GivesLast, Advances}
 use Rattle.line_wire.specs.declared.lines.Next.{Next}
@@ -86,3 +86,35 @@ pub next_unread : {S : Type 0} (old now fed new : Cutter) (first source : S)
     → ((source ≡ first) × Reached (old.pending ++ []) new []) ⊎ (whole_lines (old.pending ++ []) ≡ [])
 next_unread old now fed new first source (inl here) passes none empty same = inl (here.0, to_next _ _ _ _ (to_feed _ _ _ _ here.1 passes) none empty same)
 next_unread old now fed new first source (inr none_whole) passes none empty same = inr none_whole
+
+-- ---- the loop ends
+
+-- up to a line feed at least one byte is given
+pub shrinks_feed : (old new : Cutter) → PassesFeed old new → length new.pending < length old.pending
+shrinks_feed old new passed = omega (arith, ap (λ (l : List ℕ). length l) passed.split, length-append passed.piece (10 ∷ new.pending))
+
+less_at_hand_by : (most taken pending end t p e : ℕ) → t ≡ taken → e ≡ end → p < pending → t ≤ most + p →
+    (most + 65536 - t) + (most + p - t) + e < (most + 65536 - taken) + (most + pending - taken) + end
+less_at_hand_by most taken pending end t p e same ended fewer within = omega arith
+
+-- less is at hand, and as much was taken
+pub less_at_hand : (was mid now : Cutter) → mid.taken ≡ was.taken → mid.ended ≡ was.ended → now.taken ≡ mid.taken → now.ended ≡ mid.ended →
+    now.pending ≡ mid.pending → length mid.pending < length was.pending → mid.taken ≤ most_input + length mid.pending →
+    (most_input + 65536 - now.taken) + (most_input + length now.pending - now.taken) + cond now.ended 0 1
+    < (most_input + 65536 - was.taken) + (most_input + length was.pending - was.taken) + cond was.ended 0 1
+less_at_hand was mid now taken ended taken_so ended_so pending fewer within =
+    less_at_hand_by most_input was.taken (length was.pending) (cond was.ended 0 1) now.taken (length now.pending) (cond now.ended 0 1)
+    (taken_so ∙ taken) (ap (λ (b : Bool). cond b 0 1) (ended_so ∙ ended)) (rw pending fewer) (rw (pending, taken_so) within)
+
+more_read_by : (most taken pending t p : ℕ) (ended : Bool) → taken ≤ most → t ≡ taken + p → (ended ≡ false → taken < t) →
+    (most + 65536 - t) + (most + p - t) + cond ended 0 1 < (most + 65536 - taken) + (most + pending - taken) + 1
+more_read_by most taken pending t p true within is grows = omega arith
+more_read_by most taken pending t p false within is grows = omega (arith, grows refl)
+
+-- more was taken, or the input has ended
+pub more_read : (was mid now : Cutter) → was.ended ≡ false → mid.taken ≡ was.taken → mid.taken ≤ most_input → now.taken ≡ mid.taken + length now.pending →
+    (now.ended ≡ false → mid.taken < now.taken) →
+    (most_input + 65536 - now.taken) + (most_input + length now.pending - now.taken) + cond now.ended 0 1
+    < (most_input + 65536 - was.taken) + (most_input + length was.pending - was.taken) + cond was.ended 0 1
+more_read was mid now open_end taken within is grows =
+    rw open_end (more_read_by most_input was.taken (length was.pending) now.taken (length now.pending) now.ended (rw taken at within) (rw taken at is) (λ goes_on. rw taken at (grows goes_on)))

@@ -6,7 +6,7 @@ use Rattle.std.specs.Str.{bytes_eq}
 use Rattle.std.proofs.lemmas.Slice.Eq.{bytes_eq-Decides}
 use Rattle.std.proofs.lemmas.List.{append_cancel_right}
 use lib.Signed.{mag}
-use Rattle.line_wire.specs.Reply.{IsReply, numbered}
+use Rattle.line_wire.specs.Reply.{IsInRange, IsReply, reply_bytes, numbered}
 use Rattle.line_wire.specs.declared.reply.Reply.{Reply}
 
 -- what is left before an end that was taken off
@@ -33,6 +33,11 @@ same_line line written bytes end same ends feed tests = (to, from)
 
     from : written ≡ line ++ 10 ∷ [] → IsTrue same
     from is = tests ∙ (bytes_eq-Decides bytes line).1 (append_cancel_right bytes line (10 ∷ []) (sym with_feed ∙ is))
+
+-- a reply in range is the line's where its bytes are the line and a line feed
+pub written_line : (line written : List ℕ) (reply : Reply) (same : Bool) → IsInRange reply → written ≡ reply_bytes reply →
+    IsTrue same ↔ (written ≡ line ++ 10 ∷ []) → IsTrue same ↔ IsReply line reply
+written_line line written reply same range is tests = (λ equal. record { range = range; bytes = sym (tests.0 equal) ∙ is }, λ told. tests.1 (is ∙ sym told.bytes))
 
 -- the line of a number after what names it
 pub numbered_line : (line front number : List ℕ) → line ++ 10 ∷ [] ≡ numbered front number → line ≡ front ++ (number ++ codes "}")

@@ -117,10 +117,7 @@ impl Lines {
         self.clear();
         loop {
             match self.absorb() {
-                Step::Over => {
-                    self.clear();
-                    return Err(LineStop::Limit);
-                }
+                Step::Over => return self.stop_at_limit(),
                 Step::Fed => match self.finish() {
                     Some(next) => return Ok(next),
                     None => {}
@@ -141,6 +138,16 @@ impl Lines {
         ensures same { (self.new.taken ≡ self.old.taken) × (self.new.ended ≡ self.old.ended) × (self.new.pending ≡ self.old.pending) }
     {
         self.buffer.clear();
+    }
+
+    // Refuses what is behind the limit. No line is begun.
+    fn stop_at_limit(&mut self) -> Result<Next, LineStop>
+        ensures refuses { result ≡ Err LineStop.Limit }
+        ensures text { self.new.text ≡ [] }
+        ensures same { (self.new.taken ≡ self.old.taken) × (self.new.ended ≡ self.old.ended) × (self.new.pending ≡ self.old.pending) }
+    {
+        self.clear();
+        Err(LineStop::Limit)
     }
 
     // Gives the bytes at hand up to the first line feed, or all of them where there is none.

@@ -7,7 +7,7 @@ ghost use Rattle.sum_basis.specs.Basis.{IsLeastUnit};
 ghost use Rattle.sum_basis.specs.Growth.{Grows, GrowsFor, GrowsWide, Foresees, StaysNarrow};
 ghost use Rattle.sum_basis.specs.declared.Grown.TheVariants.{Same, Wide};
 
-use crate::elimination::{pivot_of, write_set};
+use crate::elimination::{has_no_pivot, write_set};
 use crate::form::{Form, Weighed};
 use crate::sparse::FreeEntry;
 use crate::{Grown, Prospect};
@@ -151,7 +151,7 @@ impl Basis {
         let row = &mut room[..self.form.columns() as usize];
         write_set(row, rows);
         self.form.remainder(row);
-        pivot_of(row) == row.len()
+        has_no_pivot(row)
     }
 
     /// The least row number whose unit row lies in the span.

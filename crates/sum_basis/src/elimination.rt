@@ -24,6 +24,13 @@ pub fn pivot_of(row: &[i128]) -> usize
     row.len()
 }
 
+/// Whether each entry is 0.
+pub fn has_no_pivot(row: &[i128]) -> bool
+    ensures { IsTrue result ↔ (pivot row.now ≡ length row.now) }
+{
+    pivot_of(row) == row.len()
+}
+
 /// Writes 1 at each row of the set, and 0 at every other one.
 pub fn write_set(row: &mut [i128], set: &RowSet)
     requires { length row.old ≡ set.now.n }

@@ -24,7 +24,7 @@ pub use form::Form;
 pub use sparse::FreeEntry;
 
 /// What the row of a set does to a reduced form.
-#[derive(Clone, Copy, Debug, PartialEq, Eq)]
+#[derive(Clone, Copy, PartialEq, Eq)]
 pub enum Grown {
     /// The row lies in the span: the form stays.
     Same,
@@ -35,7 +35,7 @@ pub enum Grown {
 }
 
 /// What the form would become with a new row.
-#[derive(Clone, Copy, Debug, PartialEq, Eq)]
+#[derive(Clone, Copy)]
 pub enum Prospect {
     /// It would not be narrow.
     Wide,

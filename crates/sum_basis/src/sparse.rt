@@ -16,7 +16,7 @@ use int_rows::quotient;
 use std::alloc::Global;
 
 /// An entry of a reduced row that is not 0.
-#[derive(Clone, Copy, Debug, PartialEq, Eq)]
+#[derive(Clone, Copy)]
 pub struct FreeEntry {
     pub place: u16,
     pub value: i128,

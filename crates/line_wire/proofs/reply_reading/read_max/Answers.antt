@@ -5,8 +5,13 @@ use Rattle.std.proofs.lemmas.Option.{same_Some}
 use mir.Val.{SFits}
 use Rattle.line_wire.specs.Reply.{IsReply}
 use Rattle.line_wire.specs.declared.reply.Reply.TheVariants.{Max}
-use Rattle.line_wire.proofs.ReplyParts.{confirmed_is, numbered_line, unconfirmed}
+use Rattle.line_wire.proofs.ReplyParts.{confirmed_is, numbered_line, missed, if_none, unconfirmed}
 use Rattle.line_wire.proofs.reply_reading.read_max.Goals as goal
+
+pub returns-in_err-max-clause-none : goal.returns-in_err-max-clause-none
+returns-in_err-max-clause-none c = if_none c.from_residual.result (λ max reply.
+    missed c.number_between.result max c.in_err-max.was
+    (c.number_between.ensures max (omega (arith, reply.range)) (numbered_line c.args.line.now (codes "{\"max\":") (signed_decimal max) reply.bytes)))
 
 pub returns-clause-none : goal.returns-clause-none
 returns-clause-none c = unconfirmed c.confirmed.result c.args.line.now _ c.confirmed.ensures (λ wrong max reply.

@@ -5,8 +5,13 @@ use Rattle.std.proofs.lemmas.Option.{same_Some}
 use mir.Val.{SFits}
 use Rattle.line_wire.specs.Reply.{IsReply}
 use Rattle.line_wire.specs.declared.reply.Reply.TheVariants.{Sum}
-use Rattle.line_wire.proofs.ReplyParts.{confirmed_is, numbered_line, unconfirmed}
+use Rattle.line_wire.proofs.ReplyParts.{confirmed_is, numbered_line, missed, if_none, unconfirmed}
 use Rattle.line_wire.proofs.reply_reading.read_sum.Goals as goal
+
+pub returns-in_err-sum-clause-none : goal.returns-in_err-sum-clause-none
+returns-in_err-sum-clause-none c = if_none c.from_residual.result (λ sum reply.
+    missed c.number_between.result sum c.in_err-sum.was
+    (c.number_between.ensures sum (omega (arith, reply.range)) (numbered_line c.args.line.now (codes "{\"sum\":") (signed_decimal sum) reply.bytes)))
 
 pub returns-clause-none : goal.returns-clause-none
 returns-clause-none c = unconfirmed c.confirmed.result c.args.line.now _ c.confirmed.ensures (λ wrong sum reply.

@@ -22,12 +22,34 @@ returns-in-Some-clause-within c =
     let within = invariant_of-self c in
     (rw (← c.self.view_is) (record { pending = c.self.invariant.0; given = c.self.invariant.1; small = c.self.invariant.2 }), record { pending = within.0; given = within.1; small = within.2 })
 
+pub invariant_of-self-then-over : goal.invariant_of-self-then-over
+invariant_of-self-then-over c =
+    let given = ap (λ (l : List ℕ). length l) c.add-2.ensures.pending ∙ length-drop c.min-count.result c.self.inside.buffer.pending in
+    let size = ap (λ (l : List ℕ). length l) c.pending-pending.ensures.bytes in
+    (omega (arith, given, size), omega (arith, given, size), omega (arith, given))
+
+pub returns-then-over-clause-within : goal.returns-then-over-clause-within
+returns-then-over-clause-within c =
+    let within = invariant_of-self-then-over c in
+    (rw (← c.self.view_is) (record { pending = c.self.invariant.0; given = c.self.invariant.1; small = c.self.invariant.2 }), record { pending = within.0; given = within.1; small = within.2 })
+
 pub returns-then-over-clause-passes : goal.returns-then-over-clause-passes
 returns-then-over-clause-passes c =
     let is = ap (λ (l : List ℕ). take c.min-count.result l) c.pending-pending.ensures.bytes in
     let size = ap (λ (l : List ℕ). length l) c.pending-pending.ensures.bytes in
     let rest = ap (λ (l : List ℕ). length l) c.add-2.ensures.pending ∙ length-drop c.min-count.result c.self.inside.buffer.pending in
     (rw (← c.self.view_is) (passes_none _ _ _ c.min-count.result is c.in_default.ensures c.add-2.ensures.pending c.add-2.ensures.line), omega arith, omega arith)
+
+pub invariant_of-self-2 : goal.invariant_of-self-2
+invariant_of-self-2 c =
+    let given = ap (λ (l : List ℕ). length l) c.add-2.ensures.pending ∙ length-drop c.min-count.result c.self.inside.buffer.pending in
+    let size = ap (λ (l : List ℕ). length l) c.pending-pending.ensures.bytes in
+    (omega (arith, given, size), omega (arith, given, size), omega (arith, given))
+
+pub returns-clause-within : goal.returns-clause-within
+returns-clause-within c =
+    let within = invariant_of-self-2 c in
+    (rw (← c.self.view_is) (record { pending = c.self.invariant.0; given = c.self.invariant.1; small = c.self.invariant.2 }), record { pending = within.0; given = within.1; small = within.2 })
 
 pub returns-clause-passes : goal.returns-clause-passes
 returns-clause-passes c =

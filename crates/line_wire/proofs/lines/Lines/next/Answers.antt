@@ -3,7 +3,7 @@ use Rattle.std.proofs.lemmas.Bool.{both_ways}
 use Rattle.line_wire.specs.Lines.{whole_lines}
 use Rattle.line_wire.specs.Cutter.{Cutter}
 use Rattle.line_wire.proofs.NextCountedLine.{starts, to_feed, to_more, to_read, to_next, no_whole, answers_fed, answers_last, none_left, counts_from}
-use Rattle.line_wire.proofs.FromTurnToTurn.{grown_feed, grown_none, advances_fed, advances_last, still_unread, next_unread}
+use Rattle.line_wire.proofs.FromTurnToTurn.{grown_feed, grown_none, shrinks_feed, less_at_hand, more_read, advances_fed, advances_last, still_unread, next_unread}
 use Rattle.line_wire.proofs.lines.Lines.next.Goals as goal
 
 pub loop-self-init : goal.loop-self-init
@@ -23,7 +23,7 @@ loop-self-init g c =
 pub returns-in-Over-clause-stop : goal.returns-in-Over-clause-stop
 returns-in-Over-clause-stop g c = λ told.
     let so_far = to_more _ _ _ _ (c.loop-self.invariant.reached told) c.in-Over.ensures.passes.0 in
-    rw c.clear-in-Over.ensures.same.2 (no_whole _ _ _ so_far)
+    rw (c.stop_at_limit.ensures.refuses, c.stop_at_limit.ensures.same.2) (no_whole _ _ _ so_far)
 
 pub returns-in-Some-clause-answer : goal.returns-in-Some-clause-answer
 returns-in-Some-clause-answer g c = λ told.
@@ -51,6 +51,13 @@ loop-self-preserved-in-None g c =
           next_unread c.args.self.now c.loop-self.self c.absorb.new.self c.finish.new.self _ _ turn.unread absorbed.passes finished.counts.0 finished.counts.1 finished.same.2;
       once = λ is. ((turn.once is).0, ended ∙ (turn.once is).1);
     }
+
+pub loop-self-smaller-in-None : goal.loop-self-smaller-in-None
+loop-self-smaller-in-None g c =
+    let absorbed = c.in-Fed.ensures in
+    let finished = c.in-None.ensures in
+    let fewer = shrinks_feed c.loop-self.self c.absorb.new.self absorbed.passes in
+    less_at_hand c.loop-self.self c.absorb.new.self c.finish.new.self absorbed.same.0 absorbed.same.1 finished.same.0 finished.same.1 finished.same.2 fewer absorbed.within.1.given
 
 pub returns-in-Dry-clause-answer : goal.returns-in-Dry-clause-answer
 returns-in-Dry-clause-answer g c = λ told.
@@ -85,6 +92,13 @@ loop-self-preserved g c =
           inr (ap whole_lines (append-nil c.args.self.now.pending) ∙ still_unread c.args.self.now c.loop-self.self c.absorb.new.self _ _ turn.unread absorbed.passes.0 absorbed.passes.1);
       once = λ is. absurd (both_ways _ open_end (absorbed.same.1 ∙ (turn.once is).1));
     }
+
+pub loop-self-smaller : goal.loop-self-smaller
+loop-self-smaller g c =
+    let absorbed = c.in-Dry.ensures in
+    let refilled = c.in-Ok.ensures in
+    let open_end = sym absorbed.same.1 ∙ ap (λ (v : Cutter). v.ended) (sym c.self.view_is) ∙ c.if-self.false in
+    more_read c.loop-self.self c.absorb.new.self c.refill.new.self open_end absorbed.same.0 absorbed.passes.2 refilled.taken refilled.grows
 
 pub returns-in-Err-clause-stop : goal.returns-in-Err-clause-stop
 returns-in-Err-clause-stop g c = λ told.

@@ -1,5 +1,4 @@
-use Rattle.std.proofs.Common.{◌≡◌, ℕ, ℤ, pos, List, length, sym, ap, ◌∙◌, subst}
-use Rattle.std.proofs.lemmas.Bool.{eqb-true, eq-eqb}
+use Rattle.std.proofs.Common.{◌≡◌, ℕ, ℤ, pos, List, ap, ◌∙◌, subst}
 use Rattle.audit_types.specs.Form.{set_row}
 use Rattle.audit_types.specs.PrimitiveLines.{times}
 use Rattle.audit_types.specs.RowNumbers.{all_by_number}
@@ -25,10 +24,10 @@ returns c =
     let is = row_is c.args.rows.now.n c.args.self.now.n c.args.rows.now.list c.write_set.new.row c.write_set.ensures c.requires in
     let all = c.remainder.ensures.remainder in
     let rest = subst (λ (row : List ℤ). IsRemainder c.args.self.now.rows (times (pos all.0) row) c.remainder.new.row) is (subst (λ (e : Echelon). IsRemainder e.rows (times (pos all.0) c.write_set.new.row) c.remainder.new.row) c.self.view_is all.2) in (
-      λ yes. in_span c.args.self.now.rows v c.remainder.new.row all.0 all.1 rest (no_pivot c.remainder.new.row (sym c.pivot_of.ensures ∙ eqb-true c.pivot_of.result (length c.remainder.new.row) yes)),
+      λ yes. in_span c.args.self.now.rows v c.remainder.new.row all.0 all.1 rest (no_pivot c.remainder.new.row (c.has_no_pivot.ensures.0 yes)),
       λ p.
           let small = subst (λ (e : Echelon). IsSmallForm e.n e.rows) c.self.view_is form in
           let none = nothing_left c.args.self.now.rows v c.remainder.new.row all.0 all.1 rest small.echelon (leads_from c.args.self.now.n c.args.self.now.rows small.primitive) p in
           let at_end = pivot_of_zeros c.remainder.new.row (all_by_number (λ x. x ≡ pos 0) c.remainder.new.row none) in
-          eq-eqb c.pivot_of.result (length c.remainder.new.row) (c.pivot_of.ensures ∙ at_end),
+          c.has_no_pivot.ensures.1 at_end,
     )
