@@ -20,8 +20,8 @@ const MOST_OPEN: usize = 64;
 pub(crate) enum Opened {
     Not,
     Bracket {
-        ors: Option<Pred>,
-        ands: Option<Pred>,
+        ors: Option<Box<Pred>>,
+        ands: Option<Box<Pred>>,
     },
 }
 
@@ -42,27 +42,27 @@ pub(crate) enum Spot {
 #[derive(Drop)]
 pub(crate) struct State {
     pub opened: Vec<Opened>,
-    pub ors: Option<Pred>,
-    pub ands: Option<Pred>,
+    pub ors: Option<Box<Pred>>,
+    pub ands: Option<Box<Pred>>,
     pub literals: Vec<Literal>,
     pub spot: Spot,
 }
 
-fn and_of(alloc: Global, ands: Option<Pred>, p: Pred) -> Result<Pred, WhereFault>
+fn and_of(alloc: Global, ands: Option<Box<Pred>>, p: Pred) -> Result<Pred, WhereFault>
     ensures { MakesTree (add_and (part_of ands) (tree_of p)) result }
 {
     match ands {
         None => Ok(p),
-        Some(c) => Ok(Pred::And(Box::new(alloc, c)?, Box::new(alloc, p)?)),
+        Some(c) => Ok(Pred::And(c, Box::new(alloc, p)?)),
     }
 }
 
-fn or_of(alloc: Global, ors: Option<Pred>, p: Pred) -> Result<Pred, WhereFault>
+fn or_of(alloc: Global, ors: Option<Box<Pred>>, p: Pred) -> Result<Pred, WhereFault>
     ensures { MakesTree (add_or (part_of ors) (tree_of p)) result }
 {
     match ors {
         None => Ok(p),
-        Some(d) => Ok(Pred::Or(Box::new(alloc, d)?, Box::new(alloc, p)?)),
+        Some(d) => Ok(Pred::Or(d, Box::new(alloc, p)?)),
     }
 }
 
@@ -73,7 +73,7 @@ fn not_of(alloc: Global, p: Pred) -> Result<Pred, WhereFault>
 }
 
 // Puts a part in place of another.
-fn set_part(part: &mut Option<Pred>, other: Option<Pred>)
+fn set_part(part: &mut Option<Box<Pred>>, other: Option<Box<Pred>>)
     ensures { part.new ≡ other }
 {
     *part = other;
@@ -197,7 +197,7 @@ impl State {
     }
 
     // Waits for an operand after these parts.
-    fn wait_after(&mut self, ors: Option<Pred>, ands: Option<Pred>)
+    fn wait_after(&mut self, ors: Option<Box<Pred>>, ands: Option<Box<Pred>>)
         ensures opened { self.new.opened ≡ self.old.opened }
         ensures ors { self.new.ors ≡ ors }
         ensures ands { self.new.ands ≡ ands }
@@ -403,11 +403,13 @@ impl State {
     }
 
     // Waits for what stands after the `and`.
-    fn go_on_and(&mut self, p: Pred)
-        ensures { build_of self.new ≡ build (frames_of self.old.opened.items) (part_of self.old.ors) (Some (tree_of p)) at_operand }
+    fn go_on_and(&mut self, alloc: Global, p: Pred) -> Result<(), WhereFault>
+        ensures { Makes (build (frames_of self.old.opened.items) (part_of self.old.ors) (Some (tree_of p)) at_operand) result (λ _. build_of self.new) }
     {
-        set_part(&mut self.ands, Some(p));
+        let part = Box::new(alloc, p)?;
+        set_part(&mut self.ands, Some(part));
         self.go_to(Spot::Operand);
+        Ok(())
     }
 
     // Waits for what stands after the `or`.
@@ -415,7 +417,8 @@ impl State {
         ensures { Makes (build (frames_of self.old.opened.items) (Some (add_or (part_of self.old.ors) (tree_of p))) None at_operand) result (λ _. build_of self.new) }
     {
         let ors = or_of(alloc, self.ors.take(), p)?;
-        self.wait_after(Some(ors), None);
+        let part = Box::new(alloc, ors)?;
+        self.wait_after(Some(part), None);
         Ok(())
     }
 
@@ -423,10 +426,7 @@ impl State {
         ensures { (columns : List Column) → Puts columns (build_at self.old (behind (tree_of p))) token at result (λ _. build_of self.new) }
     {
         match token {
-            Token::And => {
-                self.go_on_and(p);
-                Ok(())
-            }
+            Token::And => self.go_on_and(alloc, p),
             Token::Or => self.go_on_or(alloc, p),
             Token::CloseBracket => self.close(alloc, p, at),
             _ => Err(WhereFault::Bad { at }),
