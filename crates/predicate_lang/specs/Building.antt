@@ -37,7 +37,7 @@ stand_of (spot.Operator c o) ls = at_operator c o
 stand_of (spot.In c) ls = at_in c
 stand_of (spot.Comma c) ls = at_comma c ls
 stand_of (spot.Literal c) ls = at_literal c ls
-stand_of (spot.Whole p) ls = behind (tree_of p)
+stand_of (spot.Whole p) ls = behind (tree_of p.value)
 
 -- what is kept around a place
 abbrev pub build_at : State → Stand → Build
@@ -66,8 +66,8 @@ Makes b (Err (Bad n)) left = ⊥
 Makes b (Err NoMemory) left = Unit {0}
 
 -- this tree
-abbrev pub MakesTree : Tree → Result Pred WhereFault → Type 0
-MakesTree t (Ok p) = tree_of p ≡ t
+abbrev pub MakesTree : Tree → Result (Box Pred) WhereFault → Type 0
+MakesTree t (Ok p) = tree_of p.value ≡ t
 MakesTree t (Err (Bad n)) = ⊥
 MakesTree t (Err NoMemory) = Unit {0}
 

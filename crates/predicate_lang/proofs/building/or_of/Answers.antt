@@ -1,5 +1,5 @@
 use Rattle.std.proofs.Common.{sym, ap, ◌∙◌}
-use Rattle.predicate_lang.specs.Trees.{Tree, tree_step, tree_of, either}
+use Rattle.predicate_lang.specs.Trees.{Tree, tree_step, tree_of}
 use Rattle.predicate_lang.specs.Building.{part_of}
 use Rattle.predicate_lang.specs.Machine.{add_or}
 use Rattle.predicate_lang.specs.declared.trees.Pred.TheVariants.{rolls-Or}
@@ -9,6 +9,5 @@ use Rattle.predicate_lang.proofs.building.or_of.Goals as goal
 pub returns-in_ok-new-in-Some : goal.returns-in_ok-new-in-Some
 returns-in_ok-new-in-Some c =
     let left = c.in-Some.d in
-    let right = c.in_ok-new-in-Some.field-0 in
-    ap tree_of (sym (rolls-Or left right)) ∙ fold-roll-Pred Tree tree_step _
-    ∙ ap (λ p. either (tree_of left.value) (tree_of p)) c.in_ok-new-in-Some.ensures.ok ∙ ap (λ ors. add_or (part_of ors) (tree_of c.args.p)) (sym c.in-Some.is)
+    ap tree_of (c.in_ok-new-in-Some.ensures.ok ∙ sym (rolls-Or left c.args.p)) ∙ fold-roll-Pred Tree tree_step _
+    ∙ ap (λ ors. add_or (part_of ors) (tree_of c.args.p.value)) (sym c.in-Some.is)
