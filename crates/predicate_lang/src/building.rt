@@ -1,5 +1,5 @@
 //! The tree as it grows, token by token. What is open is kept in a list: no call goes deeper where brackets do.
-ghost use Rattle.std.specs.Prelude.{◌≡◌, ◌∷◌, ◌<◌, length, List, Some, None, OnOk, true};
+ghost use Rattle.std.specs.Prelude.{◌≡◌, [], ◌∷◌, ◌++◌, ◌<◌, length, List, Some, None, OnOk, true};
 ghost use Rattle.schema_json.specs.Columns.{Column, role_at};
 ghost use Rattle.predicate_lang.specs.Trees.{tree_of, negation, is_of_role, has_operator};
 ghost use Rattle.predicate_lang.specs.Machine.{a_not, a_bracket, build, start, built, whole, closed, add_and, add_or, is_under_not, is_in_bracket, negated, without_nots, at_operand, at_name, at_operator, at_in, at_comma, at_literal, behind, has_room, public_role};
@@ -368,6 +368,15 @@ impl State {
         }
     }
 
+    // Adds a literal to those of the list that is open.
+    fn add_literal(&mut self, column: u8, literal: Literal) -> Result<(), WhereFault>
+        ensures { Makes (build_at self.old (at_literal column (self.old.literals.items ++ literal ∷ []))) result (λ _. build_of self.new) }
+    {
+        self.literals.push(literal)?;
+        self.go_to(Spot::Literal(column));
+        Ok(())
+    }
+
     fn on_comma(
         &mut self,
         schema: &Schema,
@@ -380,9 +389,7 @@ impl State {
         match token {
             Token::Value(literal) => {
                 if takes_literal(role_of(schema, column), &literal) {
-                    self.literals.push(literal)?;
-                    self.go_to(Spot::Literal(column));
-                    Ok(())
+                    self.add_literal(column, literal)
                 } else {
                     Err(WhereFault::Bad { at })
                 }
