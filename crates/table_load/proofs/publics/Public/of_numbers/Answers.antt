@@ -1,5 +1,4 @@
-use Rattle.std.proofs.Common.{◌≡◌, ◌<◌, ◌+◌, ◌∷◌, ◌++◌, [], ℕ, ℤ, List, Vec, Global, map, drop, length, get_or, sym, ap, ◌∙◌, arith, true, not, subst, append_assoc, append-nil}
-use Rattle.std.specs.Result.{is_ok}
+use Rattle.std.proofs.Common.{◌≡◌, ◌<◌, ◌+◌, ◌∷◌, ◌++◌, [], ℕ, ℤ, List, Vec, Global, map, drop, length, get_or, sym, ap, ◌∙◌, arith, subst, append_assoc, append-nil}
 use Rattle.std.specs.List.{AllByRecursion}
 use Rattle.std.specs.Vec.Iter.{into_iter_items}
 use Rattle.std.proofs.lemmas.List.{map-append}
@@ -24,8 +23,7 @@ loop-place-preserved c =
     let lists = into_iter_items c.loop-place.left in
     let left = into_iter_items c.next_column.new.left in
     let within : place < length cs = omega (arith, c.count-place-end.ensures.count) in
-    let pushed : is_ok c.push.result ≡ true = c.is_err.ensures.negation ∙ ap not c.if-is_err.false in
-    let items = rw pushed at c.push.ensures.items in
+    let items = c.in_ok-push.ensures.items in
     let more = ap (map cells_kept) items ∙ map-append cells_kept c.loop-place.columns.items (c.next_column.result ∷ []) in
     record {
       columns = rw more (
