@@ -1,9 +1,10 @@
-use Rattle.std.proofs.Common.{◌∷◌, arith, sym, ◌∙◌, List, ℕ}
+use Rattle.std.proofs.Common.{◌∷◌, arith, sym, ◌∙◌, subst, List, ℕ}
+use Rattle.std.proofs.lemmas.Grind.{common_steps}
 use Rattle.std.proofs.lemmas.Bool.{true≢false}
 use Rattle.audit_types.specs.RowLaws.{walk_row, walk_more}
 use Rattle.max_bounds.specs.Reaching.{bound_at}
-use Rattle.max_bounds.proofs.Walks.{fresh, seen_before, equal_bounds, other_bounds, without_bound}
-use Rattle.max_bounds.proofs.HighestBounds.{highest_begins, highest_equal, highest_above, highest_below, two_free}
+use Rattle.max_bounds.proofs.Walks.{walk_ends, fresh, seen_before, equal_bounds, other_bounds, without_bound}
+use Rattle.max_bounds.proofs.HighestBounds.{IsHighest, highest_ends, highest_begins, highest_equal, highest_above, highest_below, two_free}
 use Rattle.max_bounds.proofs.highest.one_highest.Goals as goal
 
 pub bounds-upper-row : goal.bounds-upper-row
@@ -61,5 +62,12 @@ loop-row-preserved c =
           (λ above. true≢false (sym (c.is_higher.ensures.1 above) ∙ c.if-is_higher.false));
     }
 
-pub loop-row-init-clause-highest : goal.loop-row-init-clause-highest
-loop-row-init-clause-highest c = highest_begins (bound_at c.args.upper.now) c.in-Some.first
+pub loop-row-init : goal.loop-row-init
+loop-row-init c = record { together = grind (arith, common_steps); highest = highest_begins (bound_at c.args.upper.now) c.in-Some.first }
+
+pub returns : goal.returns
+returns c =
+    let seen : List ℕ = c.in-Some.first ∷ c.loop-row.yielded in
+    let all = walk_ends seen c.loop-row.row-iterator c.args.rows.now.list c.loop-row.invariant.together c.in-None.ensures.steps.0 in
+    highest_ends (bound_at c.args.upper.now) c.args.rows.now.list c.loop-row.highest c.loop-row.alone
+    (subst (λ l. IsHighest (bound_at c.args.upper.now) l c.loop-row.highest c.loop-row.alone) all c.loop-row.invariant.highest)
