@@ -23,7 +23,8 @@ loop-row-preserved c =
     let equal = equal_bounds _ _ (not_false _ (sym c.ne.ensures ∙ c.if-ne.false)) in
     record {
       together =
-          walk_more c.loop-row.yielded c.loop-row.row-iterator c.next.new.self c.args.rows.now.list c.in-Some.row c.loop-row.invariant.together c.in-Some.ensures.steps;
+          walk_more c.loop-row.yielded c.loop-row.row-iterator c.next.new.self c.args.rows.now.list c.in-Some.row
+          c.loop-row.invariant.together c.in-Some.ensures.steps;
       settled = λ r there. elim (has-push c.loop-row.yielded c.in-Some.row r there) [
         | inl before ↦ c.loop-row.invariant.settled r before
         | inr last ↦ ap (bound_at c.args.upper.now) (sym last) ∙ equal
@@ -34,4 +35,5 @@ pub returns : goal.returns
 returns c = λ yes.
     let same : to_z w64 (of_z w64 c.args.answer) ≡ c.args.answer = to_z-of_z w64 c.args.answer c.ranges.answer in
     let all = walk_ends c.loop-row.yielded c.loop-row.row-iterator c.args.rows.now.list c.loop-row.invariant.together c.in-None.ensures.steps.0 in
-    subst (AreSettled (bound_at c.args.upper.now) c.args.answer) all (subst (λ a. AreSettled (bound_at c.args.upper.now) a c.loop-row.yielded) same c.loop-row.invariant.settled)
+    subst (AreSettled (bound_at c.args.upper.now) c.args.answer) all
+    (subst (λ a. AreSettled (bound_at c.args.upper.now) a c.loop-row.yielded) same c.loop-row.invariant.settled)

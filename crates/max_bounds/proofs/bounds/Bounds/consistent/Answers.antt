@@ -7,5 +7,6 @@ use Rattle.max_bounds.proofs.bounds.Bounds.consistent.Goals as goal
 
 pub returns : goal.returns
 returns c =
-    subst (λ (l : List Answer). IsTrue c.survey.result.consistent ↔ IsConsistent l) (ap answers_of c.deref.ensures.value ∙ ap (λ (m : Maxima). m.answers) c.self.view_is)
+    subst (λ (l : List Answer). IsTrue c.survey.result.consistent ↔ IsConsistent l)
+    (ap answers_of c.deref.ensures.value ∙ ap (λ (m : Maxima). m.answers) c.self.view_is)
     c.survey.ensures.tells.consistent
