@@ -22,4 +22,5 @@ pub returns-clause-cause : goal.returns-clause-cause
 returns-clause-cause c = rw c.pass.ensures (record { later = omega arith; failed = tt; steady = refl })
 
 pub returns-then-next_fails-clause-cause : goal.returns-then-next_fails-clause-cause
-returns-then-next_fails-clause-cause c = let below = c.fail.ensures.faults in rw c.fail.ensures.changed (record { later = omega arith; failed = refl; steady = tt })
+returns-then-next_fails-clause-cause c =
+    let below = c.fail.ensures.faults in rw c.fail.ensures.changed (record { later = omega arith; failed = refl; steady = tt })
