@@ -5,6 +5,11 @@ use Rattle.std.proofs.lemmas.List.{drop_more}
 use Rattle.std.proofs.lemmas.Bool.{ne_eqb}
 use Rattle.predicate_lang.specs.Tokens.{Quoted, quoted, with_front}
 
+-- where nothing stands in front
+pub with_front-nothing : (q : Option Quoted) → q ≡ with_front [] 0 q
+with_front-nothing None = refl
+with_front-nothing (Some q) = let none : q.bytes ≡ 0 + q.bytes = omega arith in ap (λ n. Some (record { text = q.text; bytes = n })) none
+
 -- what stands in front may be put there in two steps
 with_front-with_front : (xs ys : List ℕ) (n m : ℕ) (q : Option Quoted) → with_front xs n (with_front ys m q) ≡ with_front (xs ++ ys) (n + m) q
 with_front-with_front xs ys n m None = refl

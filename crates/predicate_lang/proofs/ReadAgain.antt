@@ -102,23 +102,25 @@ name_token w h = go (bytes_eq w (codes "and")) (bytes_eq w (codes "or")) (bytes_
     go false false false false true e = absurd cc
     go false false false false false e = refl
 
+-- the parts of a test
+test_parts : (x y z : Bool) → (x && (y && not z)) ≡ true → (x ≡ true) × (y ≡ true) × (z ≡ false)
+test_parts true true false h = (refl, refl, refl)
+test_parts true true true h = absurd cc
+test_parts true false z h = absurd cc
+test_parts false y z h = absurd cc
+
 -- a name
 name_read : (n rest : List ℕ) → is_name n ≡ true → is_stop rest ≡ true → IsReadBefore (name n) rest
 name_read [] rest h stop = absurd cc
-name_read (b ∷ bytes) rest h stop = go (is_ascii_alphabetic b) (list_all is_name_byte bytes) (is_keyword (b ∷ bytes)) refl refl refl h
-  where
-    go : (x y z : Bool) → is_ascii_alphabetic b ≡ x → list_all is_name_byte bytes ≡ y → is_keyword (b ∷ bytes) ≡ z → (x && (y && not z)) ≡ true →
-        IsReadBefore (name (b ∷ bytes)) rest
-    go true true false e f g i = record {
+name_read (b ∷ bytes) rest h stop =
+    let parts = test_parts (is_ascii_alphabetic b) (list_all is_name_byte bytes) (is_keyword (b ∷ bytes)) h in
+    record {
       first = b;
       more = bytes;
       is = refl;
-      solid = letter_solid b e;
-      front = word_read b bytes rest e f stop ∙ ap (λ t. Some (record { token = t; more = length bytes })) (name_token (b ∷ bytes) g);
+      solid = letter_solid b parts.0;
+      front = word_read b bytes rest parts.0 parts.1 stop ∙ ap (λ t. Some (record { token = t; more = length bytes })) (name_token (b ∷ bytes) parts.2);
     }
-    go true true true e f g i = absurd cc
-    go true false z e f g i = absurd cc
-    go false y z e f g i = absurd cc
 
 -- ---- numbers
 

@@ -1,5 +1,6 @@
 -- How the reader keeps the machine's state. Contracts of private calls speak of it.
 use Rattle.std.specs.Prelude.{ℕ, Bool, true, false, List, map, reverse, Option, Some, None, ◌≡◌, Result, Ok, Err}
+use Rattle.std.specs.Global.{Box}
 use Rattle.schema_json.specs.Columns.{Column}
 use Rattle.predicate_lang.specs.Trees.{Tree, tree_of}
 use Rattle.predicate_lang.specs.Machine.{Frame, a_not, a_bracket, Stand, at_operand, at_name, at_operator, at_in, at_comma, at_literal, behind, Build, build, put, may_put}
@@ -15,9 +16,9 @@ use Rattle.predicate_lang.specs.declared.building.Spot.TheVariants as spot
 use Rattle.predicate_lang.specs.declared.building.State.{State}
 
 -- a part that stands before the operand, if there is one
-abbrev pub part_of : Option Pred → Option Tree
+abbrev pub part_of : Option (Box Pred) → Option Tree
 part_of None = None
-part_of (Some p) = Some (tree_of p)
+part_of (Some p) = Some (tree_of p.value)
 
 -- what is open
 abbrev pub frame_of : Opened → Frame
@@ -36,7 +37,7 @@ stand_of (spot.Operator c o) ls = at_operator c o
 stand_of (spot.In c) ls = at_in c
 stand_of (spot.Comma c) ls = at_comma c ls
 stand_of (spot.Literal c) ls = at_literal c ls
-stand_of (spot.Whole p) ls = behind (tree_of p)
+stand_of (spot.Whole p) ls = behind (tree_of p.value)
 
 -- what is kept around a place
 abbrev pub build_at : State → Stand → Build
@@ -65,8 +66,8 @@ Makes b (Err (Bad n)) left = ⊥
 Makes b (Err NoMemory) left = Unit {0}
 
 -- this tree
-abbrev pub MakesTree : Tree → Result Pred WhereFault → Type 0
-MakesTree t (Ok p) = tree_of p ≡ t
+abbrev pub MakesTree : Tree → Result (Box Pred) WhereFault → Type 0
+MakesTree t (Ok p) = tree_of p.value ≡ t
 MakesTree t (Err (Bad n)) = ⊥
 MakesTree t (Err NoMemory) = Unit {0}
 

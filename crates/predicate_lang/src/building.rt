@@ -1,5 +1,5 @@
 //! The tree as it grows, token by token. What is open is kept in a list: no call goes deeper where brackets do.
-ghost use Rattle.std.specs.Prelude.{◌≡◌, ◌∷◌, ◌<◌, length, List, Some, None, OnOk, true};
+ghost use Rattle.std.specs.Prelude.{◌≡◌, [], ◌∷◌, ◌++◌, ◌<◌, length, List, Some, None, OnOk, true};
 ghost use Rattle.schema_json.specs.Columns.{Column, role_at};
 ghost use Rattle.predicate_lang.specs.Trees.{tree_of, negation, is_of_role, has_operator};
 ghost use Rattle.predicate_lang.specs.Machine.{a_not, a_bracket, build, start, built, whole, closed, add_and, add_or, is_under_not, is_in_bracket, negated, without_nots, at_operand, at_name, at_operator, at_in, at_comma, at_literal, behind, has_room, public_role};
@@ -20,8 +20,8 @@ const MOST_OPEN: usize = 64;
 pub(crate) enum Opened {
     Not,
     Bracket {
-        ors: Option<Pred>,
-        ands: Option<Pred>,
+        ors: Option<Box<Pred>>,
+        ands: Option<Box<Pred>>,
     },
 }
 
@@ -34,7 +34,7 @@ pub(crate) enum Spot {
     In(u8),
     Comma(u8),
     Literal(u8),
-    Whole(Pred),
+    Whole(Box<Pred>),
 }
 
 /// What the reader keeps between two tokens: what is open, the innermost last, what stands before the operand, the literals
@@ -42,38 +42,38 @@ pub(crate) enum Spot {
 #[derive(Drop)]
 pub(crate) struct State {
     pub opened: Vec<Opened>,
-    pub ors: Option<Pred>,
-    pub ands: Option<Pred>,
+    pub ors: Option<Box<Pred>>,
+    pub ands: Option<Box<Pred>>,
     pub literals: Vec<Literal>,
     pub spot: Spot,
 }
 
-fn and_of(alloc: Global, ands: Option<Pred>, p: Pred) -> Result<Pred, WhereFault>
-    ensures { MakesTree (add_and (part_of ands) (tree_of p)) result }
+fn and_of(alloc: Global, ands: Option<Box<Pred>>, p: Box<Pred>) -> Result<Box<Pred>, WhereFault>
+    ensures { MakesTree (add_and (part_of ands) (tree_of p.value)) result }
 {
     match ands {
         None => Ok(p),
-        Some(c) => Ok(Pred::And(Box::new(alloc, c)?, Box::new(alloc, p)?)),
+        Some(c) => Ok(Box::new(alloc, Pred::And(c, p))?),
     }
 }
 
-fn or_of(alloc: Global, ors: Option<Pred>, p: Pred) -> Result<Pred, WhereFault>
-    ensures { MakesTree (add_or (part_of ors) (tree_of p)) result }
+fn or_of(alloc: Global, ors: Option<Box<Pred>>, p: Box<Pred>) -> Result<Box<Pred>, WhereFault>
+    ensures { MakesTree (add_or (part_of ors) (tree_of p.value)) result }
 {
     match ors {
         None => Ok(p),
-        Some(d) => Ok(Pred::Or(Box::new(alloc, d)?, Box::new(alloc, p)?)),
+        Some(d) => Ok(Box::new(alloc, Pred::Or(d, p))?),
     }
 }
 
-fn not_of(alloc: Global, p: Pred) -> Result<Pred, WhereFault>
-    ensures { MakesTree (negation (tree_of p)) result }
+fn not_of(alloc: Global, p: Box<Pred>) -> Result<Box<Pred>, WhereFault>
+    ensures { MakesTree (negation (tree_of p.value)) result }
 {
-    Ok(Pred::Not(Box::new(alloc, p)?))
+    Ok(Box::new(alloc, Pred::Not(p))?)
 }
 
 // Puts a part in place of another.
-fn set_part(part: &mut Option<Pred>, other: Option<Pred>)
+fn set_part(part: &mut Option<Box<Pred>>, other: Option<Box<Pred>>)
     ensures { part.new ≡ other }
 {
     *part = other;
@@ -110,8 +110,12 @@ fn end_not(opened: &mut Vec<Opened>)
 }
 
 // The operand under each `not` right before it. These end there.
-fn negate(alloc: Global, opened: &mut Vec<Opened>, operand: Pred) -> Result<Pred, WhereFault>
-    ensures tree { MakesTree (negated (frames_of opened.old.items) (tree_of operand)) result }
+fn negate(
+    alloc: Global,
+    opened: &mut Vec<Opened>,
+    operand: Box<Pred>,
+) -> Result<Box<Pred>, WhereFault>
+    ensures tree { MakesTree (negated (frames_of opened.old.items) (tree_of operand.value)) result }
     ensures rest { OnOk result (frames_of opened.new.items ≡ without_nots (frames_of opened.old.items)) }
 {
     let mut p = operand;
@@ -197,7 +201,7 @@ impl State {
     }
 
     // Waits for an operand after these parts.
-    fn wait_after(&mut self, ors: Option<Pred>, ands: Option<Pred>)
+    fn wait_after(&mut self, ors: Option<Box<Pred>>, ands: Option<Box<Pred>>)
         ensures opened { self.new.opened ≡ self.old.opened }
         ensures ors { self.new.ors ≡ ors }
         ensures ands { self.new.ands ≡ ands }
@@ -209,13 +213,21 @@ impl State {
     }
 
     // Puts a whole operand after what stands before it.
-    fn end_operand(&mut self, alloc: Global, operand: Pred) -> Result<(), WhereFault>
-        ensures { Makes (whole (frames_of self.old.opened.items) (part_of self.old.ors) (part_of self.old.ands) (tree_of operand)) result (λ _. build_of self.new) }
+    fn end_operand(&mut self, alloc: Global, operand: Box<Pred>) -> Result<(), WhereFault>
+        ensures { Makes (whole (frames_of self.old.opened.items) (part_of self.old.ors) (part_of self.old.ands) (tree_of operand.value)) result (λ _. build_of self.new) }
     {
         let p = negate(alloc, &mut self.opened, operand)?;
         let p = and_of(alloc, self.ands.take(), p)?;
         self.go_to(Spot::Whole(p));
         Ok(())
+    }
+
+    // Puts an operand that isn't in a bracket.
+    fn put_operand(&mut self, alloc: Global, operand: Pred) -> Result<(), WhereFault>
+        ensures { Makes (whole (frames_of self.old.opened.items) (part_of self.old.ors) (part_of self.old.ands) (tree_of operand)) result (λ _. build_of self.new) }
+    {
+        let operand = Box::new(alloc, operand)?;
+        self.end_operand(alloc, operand)
     }
 
     // Opens one `not` or bracket more.
@@ -250,8 +262,8 @@ impl State {
 
     // Closes the innermost bracket.
     #[tactic(auto, using(crate::proofs::Frames::frames_of_push))]
-    fn close(&mut self, alloc: Global, inner: Pred, at: u32) -> Result<(), WhereFault>
-        ensures { Goes (is_in_bracket (frames_of self.old.opened.items)) (closed (frames_of self.old.opened.items) (part_of self.old.ors) (tree_of inner)) at result (λ _. build_of self.new) }
+    fn close(&mut self, alloc: Global, inner: Box<Pred>, at: u32) -> Result<(), WhereFault>
+        ensures { Goes (is_in_bracket (frames_of self.old.opened.items)) (closed (frames_of self.old.opened.items) (part_of self.old.ors) (tree_of inner.value)) at result (λ _. build_of self.new) }
     {
         match self.opened.pop() {
             Some(Opened::Bracket { ors, ands }) => {
@@ -276,7 +288,7 @@ impl State {
         match token {
             Token::Not => self.open_not(at),
             Token::OpenBracket => self.open_bracket(at),
-            Token::All => self.end_operand(alloc, Pred::All),
+            Token::All => self.put_operand(alloc, Pred::All),
             Token::Column(Some(column)) => {
                 if is_public(role_of(schema, column)) {
                     self.go_to(Spot::Name(column));
@@ -334,7 +346,7 @@ impl State {
                         op,
                         literal,
                     };
-                    self.end_operand(alloc, operand)
+                    self.put_operand(alloc, operand)
                 } else {
                     Err(WhereFault::Bad { at })
                 }
@@ -356,6 +368,15 @@ impl State {
         }
     }
 
+    // Adds a literal to those of the list that is open.
+    fn add_literal(&mut self, column: u8, literal: Literal) -> Result<(), WhereFault>
+        ensures { Makes (build_at self.old (at_literal column (self.old.literals.items ++ literal ∷ []))) result (λ _. build_of self.new) }
+    {
+        self.literals.push(literal)?;
+        self.go_to(Spot::Literal(column));
+        Ok(())
+    }
+
     fn on_comma(
         &mut self,
         schema: &Schema,
@@ -368,9 +389,7 @@ impl State {
         match token {
             Token::Value(literal) => {
                 if takes_literal(role_of(schema, column), &literal) {
-                    self.literals.push(literal)?;
-                    self.go_to(Spot::Literal(column));
-                    Ok(())
+                    self.add_literal(column, literal)
                 } else {
                     Err(WhereFault::Bad { at })
                 }
@@ -396,31 +415,37 @@ impl State {
             Token::CloseBracket => {
                 let list = mem::replace(&mut self.literals, Vec::new(alloc));
                 let literals = Literals { list };
-                self.end_operand(alloc, Pred::Within { column, literals })
+                self.put_operand(alloc, Pred::Within { column, literals })
             }
             _ => Err(WhereFault::Bad { at }),
         }
     }
 
     // Waits for what stands after the `and`.
-    fn go_on_and(&mut self, p: Pred)
-        ensures { build_of self.new ≡ build (frames_of self.old.opened.items) (part_of self.old.ors) (Some (tree_of p)) at_operand }
+    fn go_on_and(&mut self, p: Box<Pred>)
+        ensures { build_of self.new ≡ build (frames_of self.old.opened.items) (part_of self.old.ors) (Some (tree_of p.value)) at_operand }
     {
         set_part(&mut self.ands, Some(p));
         self.go_to(Spot::Operand);
     }
 
     // Waits for what stands after the `or`.
-    fn go_on_or(&mut self, alloc: Global, p: Pred) -> Result<(), WhereFault>
-        ensures { Makes (build (frames_of self.old.opened.items) (Some (add_or (part_of self.old.ors) (tree_of p))) None at_operand) result (λ _. build_of self.new) }
+    fn go_on_or(&mut self, alloc: Global, p: Box<Pred>) -> Result<(), WhereFault>
+        ensures { Makes (build (frames_of self.old.opened.items) (Some (add_or (part_of self.old.ors) (tree_of p.value))) None at_operand) result (λ _. build_of self.new) }
     {
         let ors = or_of(alloc, self.ors.take(), p)?;
         self.wait_after(Some(ors), None);
         Ok(())
     }
 
-    fn on_whole(&mut self, alloc: Global, p: Pred, token: Token, at: u32) -> Result<(), WhereFault>
-        ensures { (columns : List Column) → Puts columns (build_at self.old (behind (tree_of p))) token at result (λ _. build_of self.new) }
+    fn on_whole(
+        &mut self,
+        alloc: Global,
+        p: Box<Pred>,
+        token: Token,
+        at: u32,
+    ) -> Result<(), WhereFault>
+        ensures { (columns : List Column) → Puts columns (build_at self.old (behind (tree_of p.value))) token at result (λ _. build_of self.new) }
     {
         match token {
             Token::And => {
@@ -461,7 +486,8 @@ impl State {
         match mem::replace(&mut self.spot, Spot::Operand) {
             Spot::Whole(p) => {
                 if self.opened.is_empty() {
-                    or_of(alloc, self.ors.take(), p)
+                    let tree = or_of(alloc, self.ors.take(), p)?;
+                    Ok(Box::into_inner(tree))
                 } else {
                     Err(WhereFault::Bad { at: end })
                 }

@@ -50,6 +50,22 @@ fn op_text(op: Op) -> &'static str
     }
 }
 
+// Writes what stands before a quote, and the quote twice.
+fn write_doubled(out: &mut String, front: &str) -> Result<(), AllocError>
+    ensures { OnOk result (string_bytes out.new ≡ (string_bytes out.old ++ front.now) ++ codes "''") }
+{
+    out.push_str(front)?;
+    out.push_str("''")
+}
+
+// Writes what stands after the last quote, and the quote that closes the text.
+fn write_end(out: &mut String, rest: &str) -> Result<(), AllocError>
+    ensures { OnOk result (string_bytes out.new ≡ (string_bytes out.old ++ rest.now) ++ codes "'") }
+{
+    out.push_str(rest)?;
+    out.push('\'')
+}
+
 // Writes a text in quotes, each quote in it twice.
 fn write_text(out: &mut String, text: &str) -> Result<(), AllocError>
     ensures { OnOk result (string_bytes out.new ≡ string_bytes out.old ++ literal_text (Text text.now)) }
@@ -57,12 +73,10 @@ fn write_text(out: &mut String, text: &str) -> Result<(), AllocError>
     out.push('\'')?;
     let mut rest = text;
     'quotes: while let Some((front, behind)) = rest.split_once('\'') {
-        out.push_str(front)?;
-        out.push_str("''")?;
+        write_doubled(out, front)?;
         rest = behind;
     }
-    out.push_str(rest)?;
-    out.push('\'')
+    write_end(out, rest)
 }
 
 fn write_literal(out: &mut String, literal: &Literal) -> Result<(), AllocError>
@@ -167,6 +181,15 @@ fn lead(out: &mut String, word: &str, wanted: bool) -> Result<(), AllocError>
     open(out, wanted)
 }
 
+// Writes the bracket that closes the part before a word, the word, and the bracket of the part after it, where they are
+// wanted.
+fn write_between(out: &mut String, closes: bool, word: &str, opens: bool) -> Result<(), AllocError>
+    ensures { OnOk result (string_bytes out.new ≡ ((string_bytes out.old ++ cond closes (codes ")") []) ++ word.now) ++ cond opens (codes "(") []) }
+{
+    close(out, closes)?;
+    lead(out, word, opens)
+}
+
 // Writes a predicate. Calls go as deep as its tree, which for one that was read is at most 512.
 fn write_pred(out: &mut String, schema: &Schema, pred: &Pred) -> Result<(), AllocError>
     requires fitting { fits schema.now.columns (tree_of pred.now) ≡ true }
@@ -185,8 +208,7 @@ fn write_pred(out: &mut String, schema: &Schema, pred: &Pred) -> Result<(), Allo
             let (left, right) = (is_or(p), is_or_and(q));
             open(out, left)?;
             write_pred(out, schema, p)?;
-            close(out, left)?;
-            lead(out, " and ", right)?;
+            write_between(out, left, " and ", right)?;
             write_pred(out, schema, q)?;
             close(out, right)
         }

@@ -42,9 +42,7 @@ fn number_column(
 {
     let mut numbers = Vec::new(alloc);
     for row in rows {
-        if numbers.push(number_of(field(row, k))).is_err() {
-            return Err(NoMemory);
-        }
+        numbers.push(number_of(field(row, k)))?;
     }
     Ok(numbers)
 }
@@ -60,12 +58,7 @@ fn text_column(
 {
     let mut texts = Vec::new(alloc);
     for row in rows {
-        let Ok(text) = field(row, k).to_vec(alloc) else {
-            return Err(NoMemory);
-        };
-        if texts.push(text).is_err() {
-            return Err(NoMemory);
-        }
+        texts.push(field(row, k).to_vec(alloc)?)?;
     }
     Ok(texts)
 }
@@ -103,12 +96,7 @@ pub(crate) fn public_columns(
     let mut k = 0usize;
     for place in 0..schema.count() {
         let role = schema.role(place);
-        let Ok(column) = cells(alloc, role, k, rows) else {
-            return Err(NoMemory);
-        };
-        if columns.push(column).is_err() {
-            return Err(NoMemory);
-        }
+        columns.push(cells(alloc, role, k, rows)?)?;
         if which.has(role) {
             k += 1;
         }
@@ -129,12 +117,7 @@ pub(crate) fn secret_lists(
     for place in 0..schema.count() {
         let role = schema.role(place);
         if role.is_secret() {
-            let Ok(list) = number_column(alloc, role, place as usize, rows) else {
-                return Err(NoMemory);
-            };
-            if lists.push(list).is_err() {
-                return Err(NoMemory);
-            }
+            lists.push(number_column(alloc, role, place as usize, rows)?)?;
         }
     }
     Ok(lists)

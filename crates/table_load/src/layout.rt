@@ -34,9 +34,7 @@ impl FileColumns {
         for place in 0..schema.count() {
             let role = schema.role(place);
             if self.has(role) {
-                if roles.push(role).is_err() {
-                    return Err(NoMemory);
-                }
+                roles.push(role)?;
             }
         }
         Ok(roles)

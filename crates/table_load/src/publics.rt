@@ -83,12 +83,7 @@ impl Public {
         let mut columns = Vec::new(alloc);
         let mut left = lists.into_iter();
         for place in 0..schema.count() {
-            if columns
-                .push(next_column(schema.role(place), &mut left))
-                .is_err()
-            {
-                return Err(NoMemory);
-            }
+            columns.push(next_column(schema.role(place), &mut left))?;
         }
         Ok(Public::of(rows, columns))
     }

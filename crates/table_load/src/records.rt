@@ -68,7 +68,6 @@ fn cell_fault(role: Role, line: u32, column: u8, field: &[u8]) -> Option<TableFa
     }
 }
 
-#[tactic(auto, using(crate::proofs::FieldPlaces::cells_fault_from))]
 fn cells_fault(roles: &[Role], line: u32, row: &ByteRecord) -> Option<TableFault>
     requires one_each { length (fields_of row.now) ≡ length roles.now }
     requires few { length roles.now ≤ 32 }

@@ -1,4 +1,4 @@
-use Rattle.std.proofs.Common.{◌≡◌, ◌<◌, ◌≤◌, ◌-◌, ℕ, arith, ap, sym, ◌∙◌, length, take_all, map, get_or}
+use Rattle.std.proofs.Common.{refl, ◌≡◌, ◌<◌, ◌≤◌, ◌-◌, ℕ, arith, ap, sym, ◌∙◌, length, take_all, map, get_or}
 use Rattle.audit_types.specs.Column.{Answer}
 use Rattle.max_bounds.specs.Maxima.{answer_of, answers_of}
 use Rattle.max_bounds.specs.Reaching.{bound_at, reaching}
@@ -47,3 +47,6 @@ returns c =
       lowered = sym (take_all c.loop-k.k c.loop-k.counts (omega (arith, c.loop-k.auto.counts))) ∙ c.loop-k.invariant.done
           ∙ ap (λ l. map (λ a. length (reaching (bound_at c.args.upper.now) a.rows a.value) - length (falls_of (bound_at c.args.upper.now) c.args.falling.now.list a)) (answers_of l)) (take_all c.loop-k.k c.args.pairs.now c.loop-k-test.false);
     }
+
+pub loop-k-init : goal.loop-k-init
+loop-k-init c = record { done = refl; left = refl }

@@ -1,10 +1,10 @@
-use Rattle.std.proofs.Common.{◌∷◌, arith, sym, ◌∙◌, List, ℕ}
+use Rattle.std.proofs.Common.{◌∷◌, arith, sym, ◌∙◌, subst, List, ℕ}
 use Rattle.std.proofs.lemmas.Grind.{common_steps}
 use Rattle.std.proofs.lemmas.Bool.{true≢false}
 use Rattle.audit_types.specs.RowLaws.{walk_row, walk_more}
 use Rattle.max_bounds.specs.Reaching.{bound_at}
-use Rattle.max_bounds.proofs.Walks.{fresh, seen_before, equal_bounds, other_bounds, without_bound}
-use Rattle.max_bounds.proofs.HighestBounds.{highest_equal, highest_above, highest_below, two_free}
+use Rattle.max_bounds.proofs.Walks.{walk_ends, fresh, seen_before, equal_bounds, other_bounds, without_bound}
+use Rattle.max_bounds.proofs.HighestBounds.{IsHighest, highest_ends, highest_begins, highest_equal, highest_above, highest_below, two_free}
 use Rattle.max_bounds.proofs.highest.one_highest.Goals as goal
 
 pub bounds-upper-row : goal.bounds-upper-row
@@ -63,4 +63,11 @@ loop-row-preserved c =
     }
 
 pub loop-row-init : goal.loop-row-init
-loop-row-init c = grind (arith, common_steps)
+loop-row-init c = record { together = grind (arith, common_steps); highest = highest_begins (bound_at c.args.upper.now) c.in-Some.first }
+
+pub returns : goal.returns
+returns c =
+    let seen : List ℕ = c.in-Some.first ∷ c.loop-row.yielded in
+    let all = walk_ends seen c.loop-row.row-iterator c.args.rows.now.list c.loop-row.invariant.together c.in-None.ensures.steps.0 in
+    highest_ends (bound_at c.args.upper.now) c.args.rows.now.list c.loop-row.highest c.loop-row.alone
+    (subst (λ l. IsHighest (bound_at c.args.upper.now) l c.loop-row.highest c.loop-row.alone) all c.loop-row.invariant.highest)

@@ -7,7 +7,7 @@ use Rattle.predicate_lang.proofs.building.negate.Given as goal
 
 abbrev pub invariant-nots : goal.invariant-nots
 invariant-nots l = record {
-  same_tree : negated (frames_of l.opened.items) (tree_of l.p) ≡ negated (frames_of l.initial.opened.items) (tree_of l.initial.p);
+  same_tree : negated (frames_of l.opened.items) (tree_of l.p.value) ≡ negated (frames_of l.initial.opened.items) (tree_of l.initial.p.value);
   same_rest : without_nots (frames_of l.opened.items) ≡ without_nots (frames_of l.initial.opened.items);
 }
 

@@ -1,7 +1,11 @@
-use Rattle.std.proofs.Common.{arith}
-use Rattle.predicate_lang.proofs.Quotes.{plain_byte, doubled_quote, closed_last, closed_before, not_closed}
+use Rattle.std.proofs.Common.{false, arith}
+use Rattle.predicate_lang.proofs.Quotes.{with_front-nothing, plain_byte, doubled_quote, closed_last, closed_before, not_closed}
+use Rattle.predicate_lang.specs.Tokens.{quoted}
 use Rattle.predicate_lang.proofs.lexing.quoted.Goals.{else-at-rest-via-then-at-rest+else-rest-at-eq39, else-at-rest-via-else-at-rest}
 use Rattle.predicate_lang.proofs.lexing.quoted.Goals as goal
+
+pub bytes-init : goal.bytes-init
+bytes-init c = record { within = omega arith; same = rw c.new-list.ensures.items (with_front-nothing (quoted false c.args.rest.now)) }
 
 pub bytes-preserved-then-byte-ne39 : goal.bytes-preserved-then-byte-ne39
 bytes-preserved-then-byte-ne39 c = record {

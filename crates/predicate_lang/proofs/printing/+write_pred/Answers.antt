@@ -1,4 +1,4 @@
-use Rattle.std.proofs.Common.{◌≡◌, ◌++◌, refl, ap, sym, ◌∙◌}
+use Rattle.std.proofs.Common.{◌≡◌, ◌++◌, [], cond, refl, ap, sym, ◌∙◌}
 use Rattle.std.specs.Prelude.{codes, string_bytes}
 use Rattle.predicate_lang.specs.Trees.{Tree, tree_step, tree_of, negation, both, either, compared, among, has_literals}
 use Rattle.predicate_lang.specs.declared.trees.Pred.TheVariants.{rolls-Not, rolls-And, rolls-Or, rolls-Compare, rolls-Within}
@@ -40,12 +40,13 @@ returns-in_ok-write_pred-in-And-2 t c =
     let left = c.is_or-left.ensures ∙ ap is_or (ap tree_of c.deref-in-And.ensures) in
     let right = c.is_or_and-right.ensures ∙ ap is_or_and (ap tree_of c.deref-in-And-2.ensures) in
     let first = c.in_ok-write_pred-in-And.ensures ∙ ap (λ u. string_bytes c.open.new.out ++ printed c.args.schema.now.columns u) (ap tree_of c.deref-in-And-3.ensures) in
-    let second = c.in_ok-write_pred-in-And-2.ensures ∙ ap (λ u. string_bytes c.lead-in-And.new.out ++ printed c.args.schema.now.columns u) (ap tree_of c.deref-in-And-4.ensures) in
-    then_ok c.close-in-And-2.result _ _ c.close-in-And-2.ensures
+    let second = c.in_ok-write_pred-in-And-2.ensures ∙ ap (λ u. string_bytes c.write_between.new.out ++ printed c.args.schema.now.columns u) (ap tree_of c.deref-in-And-4.ensures) in
+    then_ok c.close-in-And.result _ _ c.close-in-And.ensures
     (λ last. last ∙ both_written c.args.schema.now.columns (tree_of c.args.pred.now) (tree_of c.in-And.p.value) (tree_of c.in-And.q.value) c.is_or-left.result c.is_or_and-right.result
-    (string_bytes c.args.out.now) (string_bytes c.open.new.out) (string_bytes c.write_pred-in-And.new.out) (string_bytes c.close-in-And.new.out)
-    (string_bytes c.close-in-And.new.out ++ codes " and ") (string_bytes c.lead-in-And.new.out) (string_bytes c.write_pred-in-And-2.new.out)
-    is c.requires.fitting left right c.in_ok-open-in-And.ensures first c.in_ok-close-in-And.ensures refl c.in_ok-lead-in-And.ensures second)
+    (string_bytes c.args.out.now) (string_bytes c.open.new.out) (string_bytes c.write_pred-in-And.new.out)
+    (string_bytes c.write_pred-in-And.new.out ++ cond c.is_or-left.result (codes ")") []) ((string_bytes c.write_pred-in-And.new.out ++ cond c.is_or-left.result (codes ")") []) ++ codes " and ")
+    (string_bytes c.write_between.new.out) (string_bytes c.write_pred-in-And-2.new.out)
+    is c.requires.fitting left right c.in_ok-open-in-And.ensures first refl refl c.in_ok-write_between-in-And.ensures second)
 
 pub returns-in_ok-write_pred-in-Or-2 : goal.returns-in_ok-write_pred-in-Or-2
 returns-in_ok-write_pred-in-Or-2 t c =

@@ -1,4 +1,5 @@
-use Rattle.std.proofs.Common.{cond, map, rules, SFits, ◌≡◌, ◌≤◌, ◌+◌, ◌*◌, ap, ◌∙◌, get_or, to_z, of_z}
+use Rattle.std.proofs.Common.{arith, cond, map, rules, SFits, ◌≡◌, ◌≤◌, ◌+◌, ◌*◌, ap, ◌∙◌, get_or, to_z, of_z}
+use Rattle.std.proofs.lemmas.Grind.{common_steps}
 use Rattle.std.specs.Prelude.{pos}
 use Rattle.std.specs.Int.{w64}
 use Rattle.std.proofs.lemmas.Int.{to_z-of_z}
@@ -44,3 +45,6 @@ loop-block-preserved c =
                 ∙ ap (λ l. fold int_max (to_z w64 c.loop-block.greatest-bits) (map (number_at c.args.list.now) l)) kept ∙ c.loop-block.invariant.greatest;
           }
     ]
+
+pub loop-block-init : goal.loop-block-init
+loop-block-init c = grind (arith, common_steps)

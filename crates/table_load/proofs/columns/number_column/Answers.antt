@@ -1,7 +1,6 @@
-use Rattle.std.proofs.Common.{◌≡◌, ◌+◌, ◌∷◌, ◌++◌, [], map, drop, sym, ap, ◌∙◌, arith, true, not, append_assoc, to_z, of_z, w64}
+use Rattle.std.proofs.Common.{◌≡◌, ◌+◌, ◌∷◌, ◌++◌, [], map, drop, sym, ap, ◌∙◌, arith, append_assoc, to_z, of_z, w64}
 use Rattle.std.proofs.lemmas.Int.{ints}
 use Rattle.std.specs.Prelude.{pos, unwrap_or}
-use Rattle.std.specs.Result.{is_ok}
 use Rattle.csv.specs.Records.{fields_of}
 use Rattle.table_load.specs.Numerals.{number_in}
 use Rattle.table_load.specs.Tables.{HasCell, field_of, number_of_field, number_column}
@@ -20,8 +19,7 @@ number_of-requires c =
 
 pub loop-row-preserved : goal.loop-row-preserved
 loop-row-preserved c =
-    let pushed : is_ok c.push.result ≡ true = c.is_err.ensures.negation ∙ ap not c.if-is_err.false in
-    let items = rw pushed at c.push.ensures.items in
+    let items = c.in_ok-push.ensures.items in
     let rest = number_column c.args.k (map fields_of (drop (c.loop-row.row-index + 1) c.args.rows.now)) in
     let number : number_of_field (field_of c.args.k (fields_of c.row-item.result)) ≡ c.number_of.result =
     ap (λ f. unwrap_or (number_in f) (pos 0)) (sym c.field.ensures) ∙ ap (λ o. unwrap_or o (pos 0)) c.number_of.ensures in

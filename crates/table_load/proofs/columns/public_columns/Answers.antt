@@ -1,5 +1,4 @@
-use Rattle.std.proofs.Common.{◌≡◌, ◌<◌, ◌+◌, ◌∷◌, ◌++◌, [], map, drop, length, sym, ap, ◌∙◌, arith, true, false, cond, not, append_assoc}
-use Rattle.std.specs.Result.{is_ok}
+use Rattle.std.proofs.Common.{◌≡◌, ◌<◌, ◌+◌, ◌∷◌, ◌++◌, [], map, drop, length, sym, ap, ◌∙◌, arith, true, false, cond, append_assoc}
 use Rattle.std.proofs.lemmas.List.{map-append}
 use Rattle.csv.specs.Records.{fields_of}
 use Rattle.table_load.specs.Kept.{cells_kept}
@@ -26,11 +25,10 @@ loop-place-preserved c =
     let k = c.loop-place.k in
     let place = c.loop-place.place in
     let within : place < length cs = omega (arith, c.count-place-end.ensures.count) in
-    let pushed : is_ok c.push.result ≡ true = c.is_err.ensures.negation ∙ ap not c.if-is_err.false in
-    let items = rw pushed at c.push.ensures.items in
+    let items = c.in_ok-push.ensures.items in
     let more : map cells_kept c.push.new.self.items ≡ map cells_kept c.loop-place.columns.items ++ cells_of role k rows ∷ [] =
-    ap (map cells_kept) items ∙ map-append cells_kept c.loop-place.columns.items (c.in-Ok.column ∷ [])
-    ∙ ap (λ x. map cells_kept c.loop-place.columns.items ++ x ∷ []) c.in-Ok.ensures in
+    ap (map cells_kept) items ∙ map-append cells_kept c.loop-place.columns.items (c.in_ok-cells.field-0 ∷ [])
+    ∙ ap (λ x. map cells_kept c.loop-place.columns.items ++ x ∷ []) c.in_ok-cells.ensures in
     let step = c.loop-place.invariant.columns ∙ ap (λ xs. map cells_kept c.loop-place.columns.items ++ xs) (cells_step c.args.which k cs place role rows within c.role-role.ensures) in
     elim c.if-has.branch [
       | then-has w ↦

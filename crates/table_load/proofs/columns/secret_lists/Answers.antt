@@ -1,5 +1,4 @@
-use Rattle.std.proofs.Common.{◌≡◌, ◌<◌, ◌+◌, ◌∷◌, ◌++◌, [], map, drop, length, sym, ap, ◌∙◌, arith, true, false, cond, not, append_assoc, Vec, Global, ℤ}
-use Rattle.std.specs.Result.{is_ok}
+use Rattle.std.proofs.Common.{◌≡◌, ◌<◌, ◌+◌, ◌∷◌, ◌++◌, [], map, drop, length, sym, ap, ◌∙◌, arith, true, false, cond, append_assoc, Vec, Global, ℤ}
 use Rattle.std.proofs.lemmas.List.{map-append}
 use Rattle.csv.specs.Records.{fields_of}
 use Rattle.schema_json.specs.Columns.{is_secret}
@@ -7,7 +6,7 @@ use Rattle.table_load.specs.Reading.{roles_of}
 use Rattle.table_load.specs.Tables.{number_column, secrets_from}
 use Rattle.table_load.proofs.GoodCells.{records_hold}
 use Rattle.table_load.proofs.ColumnSteps.{secrets_step, role_of_all}
-use Rattle.table_load.proofs.columns.secret_lists.Goals.{then-is_secret+in-Ok+else-is_err, else-is_secret}
+use Rattle.table_load.proofs.columns.secret_lists.Goals.{then-is_secret+in_ok-number_column+in_ok-push, else-is_secret}
 use Rattle.table_load.proofs.columns.secret_lists.Goals as goal
 
 pub number_column-requires-clause-cells : goal.number_column-requires-clause-cells
@@ -28,13 +27,12 @@ loop-place-preserved c =
     let within : place < length cs = omega (arith, c.count-place-end.ensures.count) in
     let step = c.loop-place.invariant ∙ ap (λ xs. old ++ xs) (secrets_step place cs place role rows within c.role-role.ensures) in
     elim c.if-is_secret.branch [
-      | then-is_secret+in-Ok+else-is_err w ↦
+      | then-is_secret+in_ok-number_column+in_ok-push w ↦
           let secret : is_secret role ≡ true = sym c.is_secret.ensures ∙ w.if-is_secret.true in
-          let pushed : is_ok w.push.result ≡ true = w.is_err.ensures.negation ∙ ap not w.if-is_err.false in
-          let items = rw pushed at w.push.ensures.items in
+          let items = w.in_ok-push.ensures.items in
           let more : map (λ (v : Vec ℤ Global). v.items) w.push.new.self.items ≡ old ++ number_column place rows ∷ [] =
-          ap (map (λ (v : Vec ℤ Global). v.items)) items ∙ map-append (λ (v : Vec ℤ Global). v.items) c.loop-place.lists.items (w.in-Ok.list ∷ [])
-          ∙ ap (λ x. old ++ x ∷ []) w.in-Ok.ensures in
+          ap (map (λ (v : Vec ℤ Global). v.items)) items ∙ map-append (λ (v : Vec ℤ Global). v.items) c.loop-place.lists.items (w.in_ok-number_column.field-0 ∷ [])
+          ∙ ap (λ x. old ++ x ∷ []) w.in_ok-number_column.ensures in
           rw (w.lists-is, more) (
           step
           ∙ ap (λ b. old ++ cond b (number_column place rows ∷ rest) rest) secret

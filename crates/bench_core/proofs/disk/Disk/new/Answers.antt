@@ -19,3 +19,16 @@ returns-clause-file c =
           (stored c.put-2.new.bytes c.deref_mut-2.result.now stable.items stable.len c.put-2.auto.bytes c.deref_mut-2.ensures.len ∙ c.put-2.ensures)
           ∙ piece_at_front c.deref_mut-2.result.now file (length file) refl,
     )
+
+pub invariant_of-result : goal.invariant_of-result
+invariant_of-result c =
+    let bytes = c.in_ok-bytes.bytes in
+    let stable = c.in_ok-stable.stable in
+    let file = ap length (stored c.put.new.bytes c.deref_mut.result.now bytes.items bytes.len c.put.auto.bytes c.deref_mut.ensures.len) in
+    let kept = ap length (stored c.put-2.new.bytes c.deref_mut-2.result.now stable.items stable.len c.put-2.auto.bytes c.deref_mut-2.ensures.len) in (
+      omega (arith, c.requires, file, c.put.auto.bytes, c.deref_mut.ensures.len, c.in_ok-bytes.ensures.len),
+      omega (arith, c.requires, kept, c.put-2.auto.bytes, c.deref_mut-2.ensures.len, c.in_ok-stable.ensures.len),
+      omega (arith, file, kept, c.put.auto.bytes, c.put-2.auto.bytes, c.deref_mut.ensures.len, c.deref_mut-2.ensures.len,
+      c.in_ok-bytes.ensures.len, c.in_ok-stable.ensures.len),
+      omega (arith, file, c.put.auto.bytes, c.deref_mut.ensures.len, c.in_ok-bytes.ensures.len, c.in_ok-dirty.ensures.len, c.in_ok-dirty.dirty.ok.0),
+    )

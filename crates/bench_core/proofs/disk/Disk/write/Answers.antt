@@ -1,4 +1,4 @@
-use Rattle.std.proofs.Common.{◌≡◌, ◌≤◌, Bool, List, length, take, length-take, arith, ap, ◌∙◌}
+use Rattle.std.proofs.Common.{◌≡◌, ◌≤◌, Bool, List, length, take, length-take, arith, ap, ◌∙◌, sym}
 use Rattle.bench_core.specs.Machine.{dirtied, written}
 use Rattle.bench_core.specs.DiskContents.{DiskContents, is_dirty}
 use Rattle.bench_core.proofs.Buffers.{stored, front_written}
@@ -31,3 +31,17 @@ returns-clause-touched c = λ place lt.
     let kept = stored c.mark.new.dirty c.deref_mut-2.result.now d.dirty.items d.dirty.len c.mark.ensures.len c.deref_mut-2.ensures.len in
     ap (λ (l : List Bool). is_dirty l place) kept ∙ c.mark.ensures.touched place (omega (arith, lt, ap length lent))
     ∙ ap (λ (l : List Bool). dirtied (is_dirty l) c.args.at (length c.args.piece.now) place) lent
+
+pub invariant_of-self : goal.invariant_of-self
+invariant_of-self c =
+    let d = c.self.inside in
+    let file = ap length (stored c.put.new.bytes c.deref_mut.result.now d.file.items d.file.len c.put.auto.bytes c.deref_mut.ensures.len) in
+    let dirty = ap length (stored c.mark.new.dirty c.deref_mut-2.result.now d.dirty.items d.dirty.len c.mark.ensures.len c.deref_mut-2.ensures.len) in
+    let same : length c.put.new.bytes ≡ length d.file.items = c.put.auto.bytes ∙ ap length c.deref_mut.ensures.value in
+    let flags : length c.mark.new.dirty ≡ length d.dirty.items = c.mark.ensures.len ∙ ap length c.deref_mut-2.ensures.value in
+    let room = ap (λ (v : DiskContents). v.room) c.self.view_is in (
+      omega (arith, file, same, room, c.self.invariant.0, c.requires.room, c.max-self-inside.ensures),
+      c.self.invariant.1,
+      c.self.invariant.2 ∙ sym (file ∙ same),
+      dirty ∙ flags ∙ c.self.invariant.3 ∙ sym (file ∙ same),
+    )

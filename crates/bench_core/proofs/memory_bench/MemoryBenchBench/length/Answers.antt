@@ -1,4 +1,4 @@
-use Rattle.std.proofs.Common.{length, ap, refl, ◌∙◌}
+use Rattle.std.proofs.Common.{length, ap, refl, ◌∙◌, arith}
 use Rattle.bench_core.specs.Machine.{State, other}
 use Rattle.bench_core.proofs.WhatCallsLeave.{passed_state, time_unsent, same_images}
 use Rattle.bench_core.proofs.memory_bench.MemoryBenchBench.length.Goals as goal
@@ -17,3 +17,10 @@ returns-clause-time c = rw c.pass.ensures (time_unsent c.args.self.now other (λ
 
 pub returns-clause-length : goal.returns-clause-length
 returns-clause-length c = λ told. ap length (c.file.ensures.file ∙ (rw c.pass.ensures (ap (λ (s : State). s.file) (passed_state c.args.self.now other))))
+
+pub returns-clause-cause : goal.returns-clause-cause
+returns-clause-cause c = rw c.pass.ensures (record { later = omega arith; failed = tt; steady = refl })
+
+pub returns-then-next_fails-clause-cause : goal.returns-then-next_fails-clause-cause
+returns-then-next_fails-clause-cause c =
+    let below = c.fail.ensures.faults in rw c.fail.ensures.changed (record { later = omega arith; failed = refl; steady = tt })

@@ -1,4 +1,4 @@
-use Rattle.std.proofs.Common.{ℕ, ◌-◌, List, length, take, drop, min, ap, refl, ◌∙◌}
+use Rattle.std.proofs.Common.{ℕ, ◌-◌, List, length, take, drop, min, ap, refl, ◌∙◌, arith}
 use Rattle.bench_core.specs.Machine.{State, other}
 use Rattle.bench_core.proofs.WhatCallsLeave.{passed_state, time_unsent, same_images}
 use Rattle.bench_core.proofs.memory_bench.MemoryBenchBench.read_at.Goals as goal
@@ -22,3 +22,10 @@ returns-clause-count c =
 pub returns-clause-bytes : goal.returns-clause-bytes
 returns-clause-bytes c =
     λ told. c.copy_from.ensures.copied ∙ ap (λ (f : List ℕ). take c.copy_from.result (drop c.args.at f)) (c.file.ensures.file ∙ (rw c.pass.ensures (ap (λ (s : State). s.file) (passed_state c.args.self.now other))))
+
+pub returns-clause-cause : goal.returns-clause-cause
+returns-clause-cause c = rw c.pass.ensures (record { later = omega arith; failed = tt; steady = refl })
+
+pub returns-then-next_fails-clause-cause : goal.returns-then-next_fails-clause-cause
+returns-then-next_fails-clause-cause c =
+    let below = c.fail.ensures.faults in rw c.fail.ensures.changed (record { later = omega arith; failed = refl; steady = tt })

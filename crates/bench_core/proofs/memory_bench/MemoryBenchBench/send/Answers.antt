@@ -59,3 +59,6 @@ returns-then-send_fails-clause-half c =
     let left : c.room_to_send.result ≡ room = omega (arith, c.room_to_send.ensures) in
     let count : c.min-count.result ≡ min (length c.args.piece.now / 2) room = c.min-count.ensures ∙ ap (min (length c.args.piece.now / 2)) left in
     c.fail_send.ensures.changed ∙ ap (λ n. failed_send c.args.self.now (take n c.args.piece.now)) count
+
+pub returns-clause-cause : goal.returns-clause-cause
+returns-clause-cause c = rw c.pass_send.ensures (record { later = omega arith; failed = tt; steady = refl })

@@ -1,4 +1,4 @@
-use Rattle.std.proofs.Common.{ap, refl}
+use Rattle.std.proofs.Common.{ap, refl, arith}
 use Rattle.bench_core.specs.Machine.{State, synced}
 use Rattle.bench_core.proofs.WhatCallsLeave.{passed_state, time_unsent, synced_file, synced_images}
 use Rattle.bench_core.proofs.memory_bench.MemoryBenchBench.sync.Goals as goal
@@ -17,3 +17,10 @@ returns-clause-time c = rw c.pass_sync.ensures (time_unsent c.args.self.now sync
 
 pub returns-clause-stable : goal.returns-clause-stable
 returns-clause-stable c = λ told. rw c.pass_sync.ensures (synced_file c.args.self.now)
+
+pub returns-clause-cause : goal.returns-clause-cause
+returns-clause-cause c = rw c.pass_sync.ensures (record { later = omega arith; failed = tt; steady = refl })
+
+pub returns-then-next_fails-clause-cause : goal.returns-then-next_fails-clause-cause
+returns-then-next_fails-clause-cause c =
+    let below = c.fail.ensures.faults in rw c.fail.ensures.changed (record { later = omega arith; failed = refl; steady = tt })

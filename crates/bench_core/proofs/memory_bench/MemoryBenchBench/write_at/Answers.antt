@@ -52,3 +52,6 @@ pub returns-then-write_fails-clause-one_tick : goal.returns-then-write_fails-cla
 returns-then-write_fails-clause-one_tick c =
     rw c.fail_write.ensures.changed
     (touched_or_not c.args.self.now c.args.at (length c.args.piece.now) (λ v. length v.past ≤ length c.args.self.now.past + 1) (omega (arith, length-append c.args.self.now.past (unwritten c.args.at (length c.args.piece.now) ∷ []))) (omega arith))
+
+pub returns-clause-cause : goal.returns-clause-cause
+returns-clause-cause c = rw c.pass_write.ensures (record { later = omega arith; failed = tt; steady = refl })

@@ -1,5 +1,6 @@
 use Rattle.std.proofs.Common.{ℕ, Vec, Global, ◌≡◌, ◌≤◌, ◌++◌, ◌∷◌, [], List, Some, arith, sym, ap, ◌∙◌, subst, length, map, cond, min, to_z, of_z}
 use Rattle.std.specs.Int.{w64}
+use Rattle.std.specs.Prelude.{Result, Ok, Err, IsErr, OnOk, OnErr}
 use Rattle.std.specs.List.{AllByRecursion}
 use Rattle.std.proofs.Math.Path.{fun_ext}
 use Rattle.std.proofs.lemmas.Int.{to_z-of_z}
@@ -200,3 +201,19 @@ insert-requires-clause-told c =
     subst (λ l. AreLeast (extremes (and_answer (answers_of l) rows x)) (answers_of l) (answers_of (with_items c.make_room.new.least c.fall-fewest.new.least).items))
     (c.deref-3.ensures.value ∙ sym c.deref-5.ensures.value)
     (subst (λ s. AreLeast (extremes (and_answer (answers_of c.deref-3.result.now) rows x)) (answers_of c.deref-3.result.now) (answers_of s)) (sym least_is) c.fall-fewest.ensures.tells.are_least)
+
+-- an error
+no_ok : {A E : Type 0} (r : Result A E) (P : Type 0) → IsErr r → OnOk r P
+no_ok (Ok u) P is = absurd cc
+no_ok (Err e) P is = tt
+
+at_err : {A E : Type 0} (r : Result A E) (P : Type 0) → P → OnErr r P
+at_err (Ok u) P h = tt
+at_err (Err e) P h = h
+
+pub returns-in_err-make_room : goal.returns-in_err-make_room
+returns-in_err-make_room c = record {
+  ok = no_ok c.from_residual.result _ c.from_residual.ensures.0;
+  err = at_err c.from_residual.result _
+      (ap (λ (l : List AnsweredMax). record { n = c.self.inside.n; answers = answers_of l }) c.in_err-make_room.ensures.pairs ∙ c.self.view_is);
+}

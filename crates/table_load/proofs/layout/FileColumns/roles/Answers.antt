@@ -1,10 +1,9 @@
-use Rattle.std.proofs.Common.{◌≡◌, ◌<◌, ◌+◌, true, not, sym, ap, ◌∙◌, arith, length, drop, List, [], ◌∷◌, ◌++◌, append_assoc, append-nil}
-use Rattle.std.specs.Result.{is_ok}
+use Rattle.std.proofs.Common.{◌<◌, ◌+◌, sym, ap, ◌∙◌, arith, length, drop, List, [], ◌∷◌, ◌++◌, append_assoc, append-nil}
 use Rattle.std.proofs.Math.ListN.{drop_of_length-le}
 use Rattle.schema_json.specs.declared.roles.Role.{Role}
 use Rattle.table_load.specs.Reading.{file_columns, roles_of}
 use Rattle.table_load.proofs.FileRoles.{few_roles, roles_with, columns_without}
-use Rattle.table_load.proofs.layout.FileColumns.roles.Goals.{then-has+else-is_err, else-has}
+use Rattle.table_load.proofs.layout.FileColumns.roles.Goals.{then-has+in_ok-push, else-has}
 use Rattle.table_load.proofs.layout.FileColumns.roles.Goals as goal
 
 pub loop-place-preserved : goal.loop-place-preserved
@@ -15,10 +14,8 @@ loop-place-preserved c =
     let rest = roles_of (file_columns c.args.self (drop (place + 1) cs)) in
     let within : place < length cs = omega (arith, c.count-place-end.ensures.count) in
     elim c.if-has.branch [
-      | then-has+else-is_err w ↦
-          let good : is_ok w.push.result ≡ true = w.is_err.ensures.negation ∙ ap not w.if-is_err.false in
-          let items = rw good at w.push.ensures.items in
-          rw (w.roles-is, items) (
+      | then-has+in_ok-push w ↦
+          rw (w.roles-is, w.in_ok-push.ensures.items) (
           c.loop-place.invariant
           ∙ ap (λ (rs : List Role). c.loop-place.roles.items ++ rs)
           (roles_with c.args.self cs place role within c.role-role.ensures (sym c.has.ensures ∙ w.if-has.true))
@@ -32,8 +29,8 @@ loop-place-preserved c =
           )
     ]
 
-pub returns-then-is_err-clause-few : goal.returns-then-is_err-clause-few
-returns-then-is_err-clause-few c = few_roles c.args.self c.args.schema.now.columns c.count-place-end.ensures.columns
+pub returns-in_err-push-clause-few : goal.returns-in_err-push-clause-few
+returns-in_err-push-clause-few c = few_roles c.args.self c.args.schema.now.columns c.count-place-end.ensures.columns
 
 pub returns-clause-few : goal.returns-clause-few
 returns-clause-few c = few_roles c.args.self c.args.schema.now.columns c.count-place-end.ensures.columns

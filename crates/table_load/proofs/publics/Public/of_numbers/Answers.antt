@@ -1,8 +1,7 @@
-use Rattle.std.proofs.Common.{◌≡◌, ◌<◌, ◌+◌, ◌∷◌, ◌++◌, [], ℕ, ℤ, List, Vec, Global, map, drop, length, get_or, sym, ap, ◌∙◌, arith, true, not, subst, append_assoc, append-nil}
-use Rattle.std.specs.Result.{is_ok}
+use Rattle.std.proofs.Common.{◌≡◌, ◌<◌, ◌+◌, ◌∷◌, ◌++◌, [], ℕ, ℤ, List, Vec, Global, map, drop, length, get_or, refl, sym, ap, ◌∙◌, arith, subst, append_assoc, append-nil}
 use Rattle.std.specs.List.{AllByRecursion}
 use Rattle.std.specs.Vec.Iter.{into_iter_items}
-use Rattle.std.proofs.lemmas.List.{map-append}
+use Rattle.std.proofs.lemmas.List.{length-map, map-append}
 use Rattle.std.proofs.lemmas.Grind.{common_steps}
 use Rattle.std.proofs.Math.ListN.{drop_of_length-le}
 use Rattle.table_load.specs.Cells.{Cells, PublicView, AreCells, HoldsRole, first_list, hidden, numbered}
@@ -24,8 +23,7 @@ loop-place-preserved c =
     let lists = into_iter_items c.loop-place.left in
     let left = into_iter_items c.next_column.new.left in
     let within : place < length cs = omega (arith, c.count-place-end.ensures.count) in
-    let pushed : is_ok c.push.result ≡ true = c.is_err.ensures.negation ∙ ap not c.if-is_err.false in
-    let items = rw pushed at c.push.ensures.items in
+    let items = c.in_ok-push.ensures.items in
     let more = ap (map cells_kept) items ∙ map-append cells_kept c.loop-place.columns.items (c.next_column.result ∷ []) in
     record {
       columns = rw more (
@@ -67,3 +65,14 @@ returns-clause-fits c = λ place role is.
     ∙ append-nil (map cells_kept c.loop-place.columns.items) in
     let P : List Cells → Type 0 = λ cells. HoldsRole role (get_or cells place hidden) in
     subst P (made ∙ sym (ap (λ (p : PublicView). p.columns) c.of.ensures)) (numbered_fit cs lists place role c.requires.no_texts is)
+
+pub overflow_cast-rows : goal.overflow_cast-rows
+overflow_cast-rows c =
+    let rows : c.len.result ≡ length (first_list (map (λ (v : Vec ℤ Global). v.items) c.args.lists.items)) = grind (arith, common_steps) in
+    omega (arith, rows, c.requires.at_most)
+
+pub loop-place-init : goal.loop-place-init
+loop-place-init c = record {
+  columns = rw (c.new-columns.ensures.items, c.into_iter-left.ensures.rest) refl;
+  enough = omega (arith, ap length c.into_iter-left.ensures.rest, length-map c.args.lists.items (λ (v : Vec ℤ Global). v.items), c.requires.one_each);
+}

@@ -1,0 +1,9 @@
+use Rattle.std.proofs.Common.{◌++◌, ap}
+use Rattle.std.specs.Prelude.{codes, string_bytes}
+use Rattle.predicate_lang.proofs.Pushes.{pushed}
+use Rattle.predicate_lang.proofs.printing.write_doubled.Goals as goal
+
+pub returns : goal.returns
+returns c =
+    pushed c.push_str-2.result (string_bytes c.push_str-2.new.self) (string_bytes c.push_str.new.self) (codes "''") _ c.push_str-2.ensures.bytes
+    (ap (λ xs. xs ++ codes "''") c.in_ok-push_str.ensures.bytes)
