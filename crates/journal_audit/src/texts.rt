@@ -22,12 +22,18 @@ fn comma_unless(first: bool) -> &'static [u8]
     if first { b"" } else { b"," }
 }
 
-// Appends a number after its row, behind a comma or nothing.
-fn put_at_row(line: &mut Vec<u8>, comma: &[u8], row: usize, number: i128) -> Result<(), AllocError>
-    ensures { OnOk result (line.new.items ≡ line.old.items ++ comma.now ++ spec.at_row row number) }
+// What stands before a row: a bracket, behind a comma unless the row would be the first of a list.
+fn row_start(first: bool) -> &'static [u8]
+    ensures { result.now ≡ spec.comma_unless first ++ codes "[" }
 {
-    line.extend_from_slice(comma)?;
-    put_number(line, b"[", row)?;
+    if first { b"[" } else { b",[" }
+}
+
+// Appends a number after its row, the first of a list or a later one.
+fn put_at_row(line: &mut Vec<u8>, first: bool, row: usize, number: i128) -> Result<(), AllocError>
+    ensures { OnOk result (line.new.items ≡ line.old.items ++ spec.comma_unless first ++ spec.at_row row number) }
+{
+    put_number(line, row_start(first), row)?;
     put_number(line, b",", number)?;
     line.extend_from_slice(b"]")
 }
@@ -39,7 +45,7 @@ fn put_moved_rows(line: &mut Vec<u8>, direction: &[i128]) -> Result<(), AllocErr
     let mut first = true;
     for (row, number) in direction.iter().enumerate() {
         if *number != 0 {
-            put_at_row(line, comma_unless(first), row, *number)?;
+            put_at_row(line, first, row, *number)?;
             first = false;
         }
     }
