@@ -23,8 +23,8 @@ from_zero number which span rows =
     λ i. drawn number which (λ d. same d i) rows
 
 -- the lists that two vectors hold
-pub pair_of : {vectors : List (Vec ℤ Global)} {first second : Vec ℤ Global} {one two : List ℤ} → vectors ≡ first ∷ second ∷ [] → first.items ≡ one → second.items ≡ two
-    → map (λ (v : Vec ℤ Global). v.items) vectors ≡ one ∷ two ∷ []
+pub pair_of : {vectors : List (Vec ℤ Global)} {first second : Vec ℤ Global} {one two : List ℤ} → vectors ≡ first ∷ second ∷ []
+    → first.items ≡ one → second.items ≡ two → map (λ (v : Vec ℤ Global). v.items) vectors ≡ one ∷ two ∷ []
 pair_of are one two = ap (map (λ (v : Vec ℤ Global). v.items)) are ∙ (λ i. one i ∷ two i ∷ [])
 
 within : (f : ℕ → ℤ) → ((k : ℕ) → in_range (f k) ≡ true) → (start count : ℕ) → AllByRecursion (λ z. in_range z ≡ true) (map f (range_with_len start count))
@@ -45,10 +45,12 @@ are_numbers number which of_draw least rows = record {
 public_numbers : (number rows : ℕ) → AllByRecursion (AreNumbers rows) (bands number rows ∷ ages number rows ∷ [])
 public_numbers number rows = (are_numbers number 0 (λ d. d % 8) (λ d. omega arith) rows, (are_numbers number 1 (λ d. 20 + d % 50) (λ d. omega arith) rows, tt))
 
+-- a drill has rows
 pub some_rows : 0 < drill_rows
 unfolding drill_rows
 some_rows = omega arith
 
+-- and no more than a table may have
 pub few_rows : drill_rows ≤ 1024
 unfolding drill_rows
 few_rows = omega arith
@@ -84,6 +86,7 @@ pub public_part : {E : Type 0} (number : ℕ) (columns : List Column) (lists : L
     → IfOk part (λ p. (p ≡ drill_public number) × FitsSchema drill_columns p)
 public_part number columns lists (Err fault) schema are long cells fits = tt
 public_part number columns lists (Ok part) schema are long cells fits =
-    let counted : part.rows ≡ drill_rows = long ∙ ap (λ ls. length (first_list ls)) are ∙ length-map-range_with_len (λ row. pos (draw number (4 * row + 0) % 8)) 0 drill_rows in
+    let counted : part.rows ≡ drill_rows =
+    long ∙ ap (λ ls. length (first_list ls)) are ∙ length-map-range_with_len (λ row. pos (draw number (4 * row + 0) % 8)) 0 drill_rows in
     let held : part.columns ≡ numbered drill_columns (bands number drill_rows ∷ ages number drill_rows ∷ []) = cells ∙ (λ i. numbered (schema i) (are i)) in
     ((λ i. record { rows = counted i; columns = held i }), subst (λ (cs : List Column). FitsSchema cs part) schema fits)

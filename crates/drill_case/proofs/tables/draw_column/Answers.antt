@@ -13,7 +13,8 @@ loop-row-preserved c =
     let next = c.four-four.ensures number (4 * row) had.state in
     let put : c.push.new.self.items ≡ c.loop-row.list.items ++ pos (c.args.least + get_or c.four-four.result c.args.place 0 % c.args.span) ∷ [] =
     grind (arith, common_steps) in
+    let drawn = one_of_four number (4 * row) c.args.place c.four-four.result c.requires.place next.1 in
     record {
       state = next.0 ∙ ap (state_after number) (omega arith);
-      items = grows number c.args.place row _ (λ d. c.args.least + d % c.args.span) _ _ had.items put (one_of_four number (4 * row) c.args.place c.four-four.result c.requires.place next.1);
+      items = grows number c.args.place row _ (λ d. c.args.least + d % c.args.span) _ _ had.items put drawn;
     }
