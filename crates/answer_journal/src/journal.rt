@@ -19,7 +19,7 @@ use std::alloc::{AllocError, Global};
 use std::marker::Model;
 
 /// Why a group was not appended.
-#[derive(Clone, Copy, Debug, PartialEq, Eq)]
+#[derive(Clone, Copy)]
 pub enum AppendFault {
     /// A call of the bench failed. The journal has to be read back.
     Failed,
@@ -48,7 +48,7 @@ impl From<Failed> for AppendFault {
 }
 
 /// Why a journal was not read back.
-#[derive(Clone, Copy, Debug, PartialEq, Eq)]
+#[derive(Clone, Copy)]
 pub enum BackFault {
     /// The file is shorter than a journal, or its header gate isn't open.
     NotMade,

@@ -14,7 +14,7 @@ use bench_core::{Bench, Failed};
 use journal_form::{FRESH_SIZE, write_header};
 
 /// Why no journal was made.
-#[derive(Clone, Copy, Debug, PartialEq, Eq)]
+#[derive(Clone, Copy)]
 pub enum MakeFault {
     /// There is one, or another file. Nothing was written.
     AlreadyThere,

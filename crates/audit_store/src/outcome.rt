@@ -5,7 +5,7 @@ use audit_types::NoMemory;
 use bench_core::Failed;
 
 /// Why questions were not decided. The store is then no longer usable.
-#[derive(Clone, Copy, Debug, PartialEq, Eq)]
+#[derive(Clone, Copy)]
 pub enum StoreFault {
     /// A call of the bench failed. The journal has to be opened again.
     Failed,

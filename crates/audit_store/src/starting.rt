@@ -16,7 +16,7 @@ use sum_basis::laws::narrow_or_wide;
 use table_load::Secret;
 
 /// Why a store was not started.
-#[derive(Clone, Copy, Debug, PartialEq, Eq)]
+#[derive(Clone, Copy)]
 pub enum StartFault {
     /// The file is shorter than a journal, or its header gate isn't open.
     NotMade,

@@ -1,5 +1,5 @@
 -- The draws, one after another.
-use Rattle.std.proofs.Common.{◌≡◌, ℕ, suc, ◌+◌, ◌/◌, ◌^◌, List, [], ◌∷◌, refl, sym, ap, ◌∙◌, arith}
+use Rattle.std.proofs.Common.{◌≡◌, ℕ, zero, suc, ◌+◌, ◌<◌, ◌/◌, ◌^◌, List, [], ◌∷◌, get_or, refl, sym, ap, ◌∙◌, arith}
 use Rattle.drill_case.specs.Draws.{next_state, state_after, draw}
 
 -- the generator begins with the number
@@ -29,3 +29,13 @@ four_steps number place first second third fourth state one two three four at =
     let d : fourth ≡ state_after number (place + 4) = four ∙ steps number (place + 3) (place + 4) third (omega arith) c in
     let later : (before k : ℕ) → before ≡ k + 1 → state_after number before ≡ state_after number (k + 1) = λ before k is. ap (state_after number) is in
     (d, λ i. a i / 2 ^ 33 ∷ (b ∙ later (place + 2) (place + 1) (omega arith)) i / 2 ^ 33 ∷ (c ∙ later (place + 3) (place + 2) (omega arith)) i / 2 ^ 33 ∷ (d ∙ later (place + 4) (place + 3) (omega arith)) i / 2 ^ 33 ∷ [])
+
+-- the draw at a place among four
+pub one_of_four : (number start place : ℕ) (four : List ℕ) → place < 4
+    → four ≡ draw number start ∷ draw number (start + 1) ∷ draw number (start + 2) ∷ draw number (start + 3) ∷ []
+    → get_or four place 0 ≡ draw number (start + place)
+one_of_four number start zero four within are = ap (λ (l : List ℕ). get_or l 0 0) are ∙ ap (draw number) (omega arith)
+one_of_four number start (suc zero) four within are = ap (λ (l : List ℕ). get_or l 1 0) are
+one_of_four number start (suc (suc zero)) four within are = ap (λ (l : List ℕ). get_or l 2 0) are
+one_of_four number start (suc (suc (suc zero))) four within are = ap (λ (l : List ℕ). get_or l 3 0) are
+one_of_four number start (suc (suc (suc (suc place)))) four within are = absurd (omega (arith, within))

@@ -1,5 +1,5 @@
 //! The questions of a drill.
-ghost use Rattle.std.specs.Prelude.{◌≡◌, ◌≤◌, ◌+◌, ◌*◌, ◌%◌, ◌++◌, decimal, length, IfOk, OnOk};
+ghost use Rattle.std.specs.Prelude.{◌≡◌, ◌≤◌, ◌+◌, ◌*◌, ◌%◌, ◌++◌, codes, decimal, length, IfOk, OnOk};
 ghost use Rattle.drill_case.specs.Draws.{state_after};
 ghost use Rattle.drill_case.specs.Tables.{drill_rows};
 ghost use Rattle.drill_case.specs.Lines.{drill_count, question_text, ages_text, band_text, line_of_draws, first_lines, drill_text};
@@ -19,24 +19,25 @@ fn line_count() -> u16
     600
 }
 
-// What is asked of which column, by a draw.
-fn question_text(draw: u32) -> &'static [u8]
-    ensures exact { result.now ≡ question_text (draw % 3) }
-    ensures short { length result.now ≤ 21 }
+// How a line begins: what is asked of which column, by a draw.
+fn line_start(draw: u32) -> &'static [u8]
+    ensures exact { result.now ≡ codes "{\"ask\":" ++ question_text (draw % 3) ++ codes ",\"where\":\"" }
+    ensures short { length result.now ≤ 38 }
 {
     match draw % 3 {
-        0 => b"\"sum\",\"column\":\"pay\"",
-        1 => b"\"avg\",\"column\":\"pay\"",
-        _ => b"\"max\",\"column\":\"best\"",
+        0 => b"{\"ask\":\"sum\",\"column\":\"pay\",\"where\":\"",
+        1 => b"{\"ask\":\"avg\",\"column\":\"pay\",\"where\":\"",
+        _ => b"{\"ask\":\"max\",\"column\":\"best\",\"where\":\"",
     }
 }
 
-// Appends a number in decimal.
-fn put_number(lines: &mut Vec<u8>, number: u8) -> Result<(), AllocError>
-    ensures exact { OnOk result (lines.new.items ≡ lines.old.items ++ decimal number) }
-    ensures short { OnOk result (length lines.new.items ≤ length lines.old.items + 3) }
+// Appends words, and a number in decimal.
+fn put_number(lines: &mut Vec<u8>, words: &[u8], number: u8) -> Result<(), AllocError>
+    ensures exact { OnOk result (lines.new.items ≡ lines.old.items ++ words.now ++ decimal number) }
+    ensures short { OnOk result (length lines.new.items ≤ length lines.old.items + length words.now + 3) }
 {
     let mut buffer = Buffer::new();
+    lines.extend_from_slice(words)?;
     lines.extend_from_slice(buffer.format(number).as_bytes())
 }
 
@@ -48,8 +49,7 @@ fn put_band(lines: &mut Vec<u8>, draw: u32) -> Result<(), AllocError>
     if draw % 4 != 0 {
         return Ok(());
     }
-    lines.extend_from_slice(b" or band = ")?;
-    put_number(lines, (draw / 4 % 8) as u8)
+    put_number(lines, b" or band = ", (draw / 4 % 8) as u8)
 }
 
 // Appends the condition on the ages from one to another.
@@ -58,10 +58,8 @@ fn put_ages(lines: &mut Vec<u8>, least: u8, most: u8) -> Result<(), AllocError>
     ensures exact { OnOk result (lines.new.items ≡ lines.old.items ++ ages_text least most) }
     ensures short { OnOk result (length lines.new.items ≤ length lines.old.items + 30) }
 {
-    lines.extend_from_slice(b"age >= ")?;
-    put_number(lines, least)?;
-    lines.extend_from_slice(b" and age <= ")?;
-    put_number(lines, most)
+    put_number(lines, b"age >= ", least)?;
+    put_number(lines, b" and age <= ", most)
 }
 
 // The least and the most age that a line asks for, by two draws.
@@ -86,9 +84,7 @@ fn put_line(
     ensures short { OnOk result (length lines.new.items ≤ length lines.old.items + 100) }
 {
     let (least, most) = ages_of_draws(from, span);
-    lines.extend_from_slice(b"{\"ask\":")?;
-    lines.extend_from_slice(question_text(ask))?;
-    lines.extend_from_slice(b",\"where\":\"")?;
+    lines.extend_from_slice(line_start(ask))?;
     put_ages(lines, least, most)?;
     put_band(lines, band)?;
     lines.extend_from_slice(b"\"}\n")

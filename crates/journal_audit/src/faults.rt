@@ -6,7 +6,7 @@ use audit_types::NoMemory;
 use std::alloc::AllocError;
 
 /// Why a report wasn't sent whole.
-#[derive(Clone, Copy, Debug, PartialEq, Eq)]
+#[derive(Clone, Copy)]
 pub enum AuditFault {
     /// A send failed. The last line may have left in part.
     Failed,

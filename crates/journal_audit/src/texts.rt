@@ -1,40 +1,41 @@
 //! Writing the lines of a report.
-ghost use Rattle.std.specs.Prelude.{◌≡◌, ◌++◌, ◌∷◌, map, codes, OnOk};
+ghost use Rattle.std.specs.Prelude.{◌≡◌, ◌++◌, map, codes, OnOk};
 ghost use Rattle.std.specs.Fmt.{signed_decimal};
 ghost use Rattle.journal_audit.specs.Texts as spec;
 
 use itoa::{Buffer, Integer};
 use std::alloc::AllocError;
 
-// Appends a number in decimal.
-fn put_number<I: Integer>(line: &mut Vec<u8>, number: I) -> Result<(), AllocError>
-    ensures { OnOk result (line.new.items ≡ line.old.items ++ I.text number) }
+// Appends words, and a number in decimal.
+fn put_number<I: Integer>(line: &mut Vec<u8>, words: &[u8], number: I) -> Result<(), AllocError>
+    ensures { OnOk result (line.new.items ≡ line.old.items ++ words.now ++ I.text number) }
 {
     let mut buffer = Buffer::new();
+    line.extend_from_slice(words)?;
     line.extend_from_slice(buffer.format(number).as_bytes())
 }
 
-// Appends a comma, unless it would be the first of a list.
-fn put_comma(line: &mut Vec<u8>, first: bool) -> Result<(), AllocError>
-    ensures { OnOk result (line.new.items ≡ line.old.items ++ spec.comma_unless first) }
+// A comma, unless it would be the first of a list.
+fn comma_unless(first: bool) -> &'static [u8]
+    ensures { result.now ≡ spec.comma_unless first }
 {
-    if first {
-        return Ok(());
-    }
-    line.push(b',')?;
-    Ok(())
+    if first { b"" } else { b"," }
 }
 
-// Appends a number after its row.
-fn put_at_row(line: &mut Vec<u8>, row: usize, number: i128) -> Result<(), AllocError>
-    ensures { OnOk result (line.new.items ≡ line.old.items ++ spec.at_row row number) }
+// What stands before a row: a bracket, behind a comma unless the row would be the first of a list.
+fn row_start(first: bool) -> &'static [u8]
+    ensures { result.now ≡ spec.comma_unless first ++ codes "[" }
 {
-    line.push(b'[')?;
-    put_number(line, row)?;
-    line.push(b',')?;
-    put_number(line, number)?;
-    line.push(b']')?;
-    Ok(())
+    if first { b"[" } else { b",[" }
+}
+
+// Appends a number after its row, the first of a list or a later one.
+fn put_at_row(line: &mut Vec<u8>, first: bool, row: usize, number: i128) -> Result<(), AllocError>
+    ensures { OnOk result (line.new.items ≡ line.old.items ++ spec.comma_unless first ++ spec.at_row row number) }
+{
+    put_number(line, row_start(first), row)?;
+    put_number(line, b",", number)?;
+    line.extend_from_slice(b"]")
 }
 
 // Appends the numbers that aren't 0, each after its row.
@@ -44,8 +45,7 @@ fn put_moved_rows(line: &mut Vec<u8>, direction: &[i128]) -> Result<(), AllocErr
     let mut first = true;
     for (row, number) in direction.iter().enumerate() {
         if *number != 0 {
-            put_comma(line, first)?;
-            put_at_row(line, row, *number)?;
+            put_at_row(line, first, row, *number)?;
             first = false;
         }
     }
@@ -58,11 +58,19 @@ fn put_numbers(line: &mut Vec<u8>, numbers: &[i128]) -> Result<(), AllocError>
 {
     let mut first = true;
     for number in numbers {
-        put_comma(line, first)?;
-        put_number(line, *number)?;
+        put_number(line, comma_unless(first), *number)?;
         first = false;
     }
     Ok(())
+}
+
+// Begins the line on a column, in place of what the buffer held.
+fn begin_line(line: &mut Vec<u8>, name: &str) -> Result<(), AllocError>
+    ensures { OnOk result (line.new.items ≡ codes "{\"column\":\"" ++ name.now) }
+{
+    line.clear();
+    line.extend_from_slice(b"{\"column\":\"")?;
+    line.extend_from_slice(name.as_bytes())
 }
 
 /// Writes the line on a row of a column of sums, in place of what the buffer held.
@@ -75,11 +83,8 @@ pub fn write_direction(
 ) -> Result<(), AllocError>
     ensures { OnOk result (line.new.items ≡ spec.direction_line name.now row direction.now) }
 {
-    line.clear();
-    line.extend_from_slice(b"{\"column\":\"")?;
-    line.extend_from_slice(name.as_bytes())?;
-    line.extend_from_slice(b"\",\"row\":")?;
-    put_number(line, row)?;
+    begin_line(line, name)?;
+    put_number(line, b"\",\"row\":", row)?;
     line.extend_from_slice(b",\"direction\":[")?;
     put_moved_rows(line, direction)?;
     line.extend_from_slice(b"]}\n")
@@ -90,9 +95,7 @@ pub fn write_direction(
 pub fn write_high(line: &mut Vec<u8>, name: &str, high: &[i128]) -> Result<(), AllocError>
     ensures { OnOk result (line.new.items ≡ spec.high_line name.now high.now) }
 {
-    line.clear();
-    line.extend_from_slice(b"{\"column\":\"")?;
-    line.extend_from_slice(name.as_bytes())?;
+    begin_line(line, name)?;
     line.extend_from_slice(b"\",\"high\":[")?;
     put_numbers(line, high)?;
     line.extend_from_slice(b"]}\n")
@@ -109,11 +112,8 @@ pub fn write_totals(
     ensures { OnOk result (line.new.items ≡ spec.total_line records columns rows) }
 {
     line.clear();
-    line.extend_from_slice(b"{\"audited\":")?;
-    put_number(line, records)?;
-    line.extend_from_slice(b",\"columns\":")?;
-    put_number(line, columns)?;
-    line.extend_from_slice(b",\"rows\":")?;
-    put_number(line, rows)?;
+    put_number(line, b"{\"audited\":", records)?;
+    put_number(line, b",\"columns\":", columns)?;
+    put_number(line, b",\"rows\":", rows)?;
     line.extend_from_slice(b"}\n")
 }

@@ -1,6 +1,6 @@
 //! The verdict on a question of a transcript.
 ghost use Rattle.std.specs.Prelude.{◌≡◌};
-ghost use Rattle.transcript_sim.specs.Verdicts.{verdict_bytes};
+ghost use Rattle.transcript_sim.specs.Verdicts.{verdict_bytes, word_of};
 
 use std::fmt;
 
@@ -19,20 +19,26 @@ pub enum Due {
     Wide,
 }
 
+// The word for a verdict.
+fn word_of(due: &Due) -> &'static str
+    ensures { result.now ≡ word_of due.now }
+{
+    match due {
+        Due::Counted => "count",
+        Due::Refused => "refused",
+        Due::Released => "released",
+        Due::Unsafe => "unsafe",
+        Due::Wide => "wide",
+    }
+}
+
 impl fmt::Display for Due {
     ghost use Rattle.std.specs.Prelude.{Some};
-    ghost use Rattle.transcript_sim.specs.Verdicts.{word_of};
 
     ghost output = { λ due. Some (word_of due) };
 
     fn fmt<W: fmt::Write>(&self, f: &mut fmt::Formatter<W>) -> fmt::Result {
-        match self {
-            Due::Counted => f.write_str("count"),
-            Due::Refused => f.write_str("refused"),
-            Due::Released => f.write_str("released"),
-            Due::Unsafe => f.write_str("unsafe"),
-            Due::Wide => f.write_str("wide"),
-        }
+        f.write_str(word_of(self))
     }
 }
 

@@ -1,4 +1,5 @@
 use Rattle.std.proofs.Common.{[], ◌∷◌, ◌∙◌, subst}
+use Rattle.std.proofs.lemmas.Result.{IfOk-from_err}
 use Rattle.bench_core.specs.Bench.{Holds}
 use Rattle.answer_journal.proofs.Writes.{opened}
 use Rattle.answer_journal.proofs.Appends.{after_write, after_sync, after_opening, after_all}
@@ -54,3 +55,41 @@ returns-clause-done g c = λ told.
     let gate_holds = subst (λ f. Holds f c.args.gate (1 ∷ []) (g.B.Bench.file c.write_at-2.new.self)) c.sync.ensures.file (c.in_ok-write_at-2.ensures.written told) in
     c.sync-2.ensures.file
     ∙ opened c.args.gate c.args.group.now (g.B.Bench.file c.args.bench.now) (g.B.Bench.sent c.args.bench.now) (c.requires.gate told) _ _ holds gate_holds
+
+-- ---- what a refusal gives
+
+pub returns-in_err-write_at-clause-done : goal.returns-in_err-write_at-clause-done
+returns-in_err-write_at-clause-done g c = λ told. IfOk-from_err _ _ c.from_residual.ensures.0
+
+pub returns-in_err-write_at-clause-quiet : goal.returns-in_err-write_at-clause-quiet
+returns-in_err-write_at-clause-quiet g c = λ told. IfOk-from_err _ _ c.from_residual.ensures.0
+
+pub returns-in_err-write_at-clause-ticks : goal.returns-in_err-write_at-clause-ticks
+returns-in_err-write_at-clause-ticks g c = λ told. IfOk-from_err _ _ c.from_residual.ensures.0
+
+pub returns-in_err-sync-clause-done : goal.returns-in_err-sync-clause-done
+returns-in_err-sync-clause-done g c = λ told. IfOk-from_err _ _ c.from_residual-in_err-sync.ensures.0
+
+pub returns-in_err-sync-clause-quiet : goal.returns-in_err-sync-clause-quiet
+returns-in_err-sync-clause-quiet g c = λ told. IfOk-from_err _ _ c.from_residual-in_err-sync.ensures.0
+
+pub returns-in_err-sync-clause-ticks : goal.returns-in_err-sync-clause-ticks
+returns-in_err-sync-clause-ticks g c = λ told. IfOk-from_err _ _ c.from_residual-in_err-sync.ensures.0
+
+pub returns-in_err-write_at-2-clause-done : goal.returns-in_err-write_at-2-clause-done
+returns-in_err-write_at-2-clause-done g c = λ told. IfOk-from_err _ _ c.from_residual-in_err-write_at-2.ensures.0
+
+pub returns-in_err-write_at-2-clause-quiet : goal.returns-in_err-write_at-2-clause-quiet
+returns-in_err-write_at-2-clause-quiet g c = λ told. IfOk-from_err _ _ c.from_residual-in_err-write_at-2.ensures.0
+
+pub returns-in_err-write_at-2-clause-ticks : goal.returns-in_err-write_at-2-clause-ticks
+returns-in_err-write_at-2-clause-ticks g c = λ told. IfOk-from_err _ _ c.from_residual-in_err-write_at-2.ensures.0
+
+pub returns-in_err-sync-2-clause-done : goal.returns-in_err-sync-2-clause-done
+returns-in_err-sync-2-clause-done g c = λ told. IfOk-from_err _ _ c.from_residual-in_err-sync-2.ensures.0
+
+pub returns-in_err-sync-2-clause-quiet : goal.returns-in_err-sync-2-clause-quiet
+returns-in_err-sync-2-clause-quiet g c = λ told. IfOk-from_err _ _ c.from_residual-in_err-sync-2.ensures.0
+
+pub returns-in_err-sync-2-clause-ticks : goal.returns-in_err-sync-2-clause-ticks
+returns-in_err-sync-2-clause-ticks g c = λ told. IfOk-from_err _ _ c.from_residual-in_err-sync-2.ensures.0

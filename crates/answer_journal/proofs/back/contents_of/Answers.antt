@@ -1,5 +1,6 @@
 use Rattle.std.proofs.Common.{◌≡◌, List, ℕ, take, subst, ◌∙◌}
 use Rattle.std.proofs.lemmas.Result.{IfOk-weaker, IfErr-weaker}
+use Rattle.std.proofs.lemmas.Result.{IfOk-from_err}
 use Rattle.journal_form.specs.Journal.{most_bytes, StandsAt}
 use Rattle.answer_journal.specs.declared.journal.BackFault.{BackFault}
 use Rattle.answer_journal.specs.declared.reading.Contents.{Contents}
@@ -27,3 +28,14 @@ returns-in_err-bytes-clause-untouched g c = c.front_of.ensures.untouched
 
 pub returns-clause-untouched : goal.returns-clause-untouched
 returns-clause-untouched g c = c.front_of.ensures.untouched
+
+-- ---- what a refusal gives
+
+pub returns-in_err-bytes-clause-ok : goal.returns-in_err-bytes-clause-ok
+returns-in_err-bytes-clause-ok g c = λ told. IfOk-from_err _ _ c.from_residual.ensures.0
+
+pub returns-in_err-bytes-clause-journal : goal.returns-in_err-bytes-clause-journal
+returns-in_err-bytes-clause-journal g c = IfOk-from_err _ _ c.from_residual.ensures.0
+
+pub returns-in_err-bytes-clause-ticks : goal.returns-in_err-bytes-clause-ticks
+returns-in_err-bytes-clause-ticks g c = λ told. IfOk-from_err _ _ c.from_residual.ensures.0

@@ -1,4 +1,5 @@
 use Rattle.std.proofs.Common.{◌≡◌, length, drop, min, ap, ◌∙◌}
+use Rattle.std.proofs.lemmas.Result.{IfOk-from_err}
 use Rattle.journal_form.specs.Journal.{most_bytes}
 use Rattle.answer_journal.proofs.DueIsAnswered.{front_read}
 use Rattle.answer_journal.proofs.FileCalls.{untouched_by_one, untouched_by_two}
@@ -39,3 +40,23 @@ returns-clause-untouched g c = λ told quiet.
     let now = g.met.B.Bench.only_now bench in
     untouched_by_two g.B.Bench bench now quiet c.length.new.self c.read_at.new.self c.length.ensures.time c.length.ensures.crash c.length.ensures.sent
     c.read_at.ensures.time c.read_at.ensures.crash
+
+-- ---- what a refusal gives
+
+pub returns-in_err-length-clause-bytes : goal.returns-in_err-length-clause-bytes
+returns-in_err-length-clause-bytes g c = λ told. IfOk-from_err _ _ c.from_residual.ensures.0
+
+pub returns-in_err-length-clause-ticks : goal.returns-in_err-length-clause-ticks
+returns-in_err-length-clause-ticks g c = λ told. IfOk-from_err _ _ c.from_residual.ensures.0
+
+pub returns-in_err-bytes-clause-bytes : goal.returns-in_err-bytes-clause-bytes
+returns-in_err-bytes-clause-bytes g c = λ told. IfOk-from_err _ _ c.from_residual-in_err-bytes.ensures.0
+
+pub returns-in_err-bytes-clause-ticks : goal.returns-in_err-bytes-clause-ticks
+returns-in_err-bytes-clause-ticks g c = λ told. IfOk-from_err _ _ c.from_residual-in_err-bytes.ensures.0
+
+pub returns-in_err-count-clause-bytes : goal.returns-in_err-count-clause-bytes
+returns-in_err-count-clause-bytes g c = λ told. IfOk-from_err _ _ c.from_residual-in_err-count.ensures.0
+
+pub returns-in_err-count-clause-ticks : goal.returns-in_err-count-clause-ticks
+returns-in_err-count-clause-ticks g c = λ told. IfOk-from_err _ _ c.from_residual-in_err-count.ensures.0

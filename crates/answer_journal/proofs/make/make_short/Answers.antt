@@ -1,4 +1,5 @@
 use Rattle.std.proofs.Common.{◌≡◌, List, ℕ, subst}
+use Rattle.std.proofs.lemmas.Result.{IfOk-from_err}
 use Rattle.bench_core.specs.Calls.{LeavesOnly}
 use Rattle.bench_core.specs.Moments.{weakens, joins}
 use Rattle.answer_journal.specs.Moments.{IsShort, IsUnmadeOrEmpty}
@@ -24,3 +25,17 @@ returns-clause-any_moment g c = λ told quiet.
     let opening = c.open.ensures.any_moment told (c.in_ok-shut.ensures.quiet told) in
     joins g.B.Bench bench c.shut.new.bench c.open.new.bench (IsUnmadeOrEmpty shape before) closed
     (subst (λ (sent : List ℕ). LeavesOnly g.B.Bench c.shut.new.bench c.open.new.bench (IsUnmadeOrEmpty shape sent)) c.shut.ensures.sent opening)
+
+-- ---- what a refusal gives
+
+pub returns-in_err-shut-clause-done : goal.returns-in_err-shut-clause-done
+returns-in_err-shut-clause-done g c = λ told. IfOk-from_err _ _ c.from_residual.ensures.0
+
+pub returns-in_err-shut-clause-written : goal.returns-in_err-shut-clause-written
+returns-in_err-shut-clause-written g c = λ told. IfOk-from_err _ _ c.from_residual.ensures.0
+
+pub returns-in_err-shut-clause-ticks : goal.returns-in_err-shut-clause-ticks
+returns-in_err-shut-clause-ticks g c = λ told. IfOk-from_err _ _ c.from_residual.ensures.0
+
+pub returns-in_err-shut-clause-quiet : goal.returns-in_err-shut-clause-quiet
+returns-in_err-shut-clause-quiet g c = λ told. IfOk-from_err _ _ c.from_residual.ensures.0

@@ -1,3 +1,4 @@
+use Rattle.std.proofs.lemmas.Result.{IfOk-from_err}
 use Rattle.answer_journal.specs.Moments.{IsShort}
 use Rattle.answer_journal.proofs.FileCalls.{first_call, next_call}
 use Rattle.answer_journal.proofs.Makes.{quiet_short, torn_short}
@@ -30,3 +31,23 @@ returns-clause-any_moment g c = λ told quiet.
     let wrote = first_call g.B.Bench bench IsShort c.write_at.new.self (g.met.B.Bench.only_now bench) c.write_at.ensures.time before short in
     next_call g.B.Bench bench IsShort c.write_at.new.self c.sync.new.self wrote c.sync.ensures.time
     (λ image is. short image (c.sync.ensures.crash image is)) c.write_at.ensures.sent
+
+-- ---- what a refusal gives
+
+pub returns-in_err-write_at-clause-done : goal.returns-in_err-write_at-clause-done
+returns-in_err-write_at-clause-done g c = λ told. IfOk-from_err _ _ c.from_residual.ensures.0
+
+pub returns-in_err-write_at-clause-ticks : goal.returns-in_err-write_at-clause-ticks
+returns-in_err-write_at-clause-ticks g c = λ told. IfOk-from_err _ _ c.from_residual.ensures.0
+
+pub returns-in_err-write_at-clause-quiet : goal.returns-in_err-write_at-clause-quiet
+returns-in_err-write_at-clause-quiet g c = λ told. IfOk-from_err _ _ c.from_residual.ensures.0
+
+pub returns-in_err-sync-clause-done : goal.returns-in_err-sync-clause-done
+returns-in_err-sync-clause-done g c = λ told. IfOk-from_err _ _ c.from_residual-in_err-sync.ensures.0
+
+pub returns-in_err-sync-clause-ticks : goal.returns-in_err-sync-clause-ticks
+returns-in_err-sync-clause-ticks g c = λ told. IfOk-from_err _ _ c.from_residual-in_err-sync.ensures.0
+
+pub returns-in_err-sync-clause-quiet : goal.returns-in_err-sync-clause-quiet
+returns-in_err-sync-clause-quiet g c = λ told. IfOk-from_err _ _ c.from_residual-in_err-sync.ensures.0

@@ -1,5 +1,6 @@
 use Rattle.std.proofs.Common.{ℕ, ◌+◌, ◌<◌, ◌++◌, List, length, refl, sym, ◌∙◌, ap, subst, arith}
 use Rattle.std.proofs.lemmas.Grind.{common_steps}
+use Rattle.std.proofs.lemmas.Result.{IfOk-from_err}
 use Rattle.audit_types.specs.declared.records.Answered.{Answered}
 use Rattle.bench_core.specs.Calls.{LeavesOnly}
 use Rattle.journal_form.specs.Journal.{StandsAt}
@@ -81,3 +82,47 @@ returns-clause-last_call g c = λ is. no_refusal _ _ is
 
 pub returns-clause-counted : goal.returns-clause-counted
 returns-clause-counted g c = grind (arith, common_steps)
+
+-- ---- nothing was kept
+
+pub returns-in_err-ready-clause-done : goal.returns-in_err-ready-clause-done
+returns-in_err-ready-clause-done g c = λ history told stands many. IfOk-from_err _ _ c.from_residual.ensures.0
+
+pub returns-in_err-ready-clause-written : goal.returns-in_err-ready-clause-written
+returns-in_err-ready-clause-written g c = λ told. IfOk-from_err _ _ c.from_residual.ensures.0
+
+pub returns-in_err-ready-clause-quiet : goal.returns-in_err-ready-clause-quiet
+returns-in_err-ready-clause-quiet g c = λ told quiet. IfOk-from_err _ _ c.from_residual.ensures.0
+
+pub returns-in_err-ready-clause-ticks : goal.returns-in_err-ready-clause-ticks
+returns-in_err-ready-clause-ticks g c = λ told. IfOk-from_err _ _ c.from_residual.ensures.0
+
+pub returns-in_err-ready-clause-unasked : goal.returns-in_err-ready-clause-unasked
+returns-in_err-ready-clause-unasked g c = λ none. IfOk-from_err _ _ c.from_residual.ensures.0
+
+pub returns-in_err-ready-clause-usable : goal.returns-in_err-ready-clause-usable
+returns-in_err-ready-clause-usable g c = IfOk-from_err _ _ c.from_residual.ensures.0
+
+pub returns-in_err-ready-clause-counted : goal.returns-in_err-ready-clause-counted
+returns-in_err-ready-clause-counted g c = IfOk-from_err _ _ c.from_residual.ensures.0
+
+pub returns-in_err-append_ready-clause-done : goal.returns-in_err-append_ready-clause-done
+returns-in_err-append_ready-clause-done g c = λ history told stands many. IfOk-from_err _ _ c.from_residual-in_err-append_ready.ensures.0
+
+pub returns-in_err-append_ready-clause-written : goal.returns-in_err-append_ready-clause-written
+returns-in_err-append_ready-clause-written g c = λ told. IfOk-from_err _ _ c.from_residual-in_err-append_ready.ensures.0
+
+pub returns-in_err-append_ready-clause-quiet : goal.returns-in_err-append_ready-clause-quiet
+returns-in_err-append_ready-clause-quiet g c = λ told quiet. IfOk-from_err _ _ c.from_residual-in_err-append_ready.ensures.0
+
+pub returns-in_err-append_ready-clause-ticks : goal.returns-in_err-append_ready-clause-ticks
+returns-in_err-append_ready-clause-ticks g c = λ told. IfOk-from_err _ _ c.from_residual-in_err-append_ready.ensures.0
+
+pub returns-in_err-append_ready-clause-unasked : goal.returns-in_err-append_ready-clause-unasked
+returns-in_err-append_ready-clause-unasked g c = λ none. IfOk-from_err _ _ c.from_residual-in_err-append_ready.ensures.0
+
+pub returns-in_err-append_ready-clause-usable : goal.returns-in_err-append_ready-clause-usable
+returns-in_err-append_ready-clause-usable g c = IfOk-from_err _ _ c.from_residual-in_err-append_ready.ensures.0
+
+pub returns-in_err-append_ready-clause-counted : goal.returns-in_err-append_ready-clause-counted
+returns-in_err-append_ready-clause-counted g c = IfOk-from_err _ _ c.from_residual-in_err-append_ready.ensures.0

@@ -27,20 +27,34 @@ then_totals g c =
     and_then g.B.Bench g.met.B.Bench.only_now audit (subjects_before shape (columns shape))
     (totals ∷ []) c.args.bench.now c.send_columns.new.bench c.send_totals.new.bench c.in_ok-send_columns.ensures c.send_totals.result c.send_totals.ensures
 
-pub returns-in_err-send_columns-clause-part : goal.returns-in_err-send_columns-clause-part
-returns-in_err-send_columns-clause-part g c = (refused_first g c).part
+pub returns-in_err-send_columns : goal.returns-in_err-send_columns
+returns-in_err-send_columns g c =
+    let all = refused_first g c in
+    record {
+      report = all.sends;
+      part = all.part;
+      any_moment = all.moments;
+      ticks = all.ticks;
+      file = all.file;
+      crash = all.crash;
+      failed = all.failed;
+      last_call = all.last_call;
+      later = all.later;
+      steady = all.steady;
+    }
 
-pub returns-in_err-send_columns-clause-any_moment : goal.returns-in_err-send_columns-clause-any_moment
-returns-in_err-send_columns-clause-any_moment g c = (refused_first g c).moments
-
-pub returns-clause-report : goal.returns-clause-report
-returns-clause-report g c = (then_totals g c).sends
-
-pub returns-clause-part : goal.returns-clause-part
-returns-clause-part g c = (then_totals g c).part
-
-pub returns-clause-ticks : goal.returns-clause-ticks
-returns-clause-ticks g c = (then_totals g c).ticks
-
-pub returns-clause-any_moment : goal.returns-clause-any_moment
-returns-clause-any_moment g c = (then_totals g c).moments
+pub returns : goal.returns
+returns g c =
+    let all = then_totals g c in
+    record {
+      report = all.sends;
+      part = all.part;
+      any_moment = all.moments;
+      ticks = all.ticks;
+      file = all.file;
+      crash = all.crash;
+      failed = all.failed;
+      last_call = all.last_call;
+      later = all.later;
+      steady = all.steady;
+    }

@@ -1,4 +1,4 @@
-use Rattle.std.proofs.Common.{◌≡◌, [], ◌∷◌, Ok, Err, sym, ap, ◌∙◌, subst, arith}
+use Rattle.std.proofs.Common.{◌≡◌, ◌<◌, [], ◌∷◌, Ok, Err, sym, ap, ◌∙◌, subst, arith}
 use Rattle.std.specs.Prelude.{◌==◌, filter, map}
 use Rattle.std.specs.List.{AllByRecursion}
 use Rattle.audit_types.specs.declared.records.Answered.{Answered}
@@ -23,6 +23,9 @@ returns-in_err-sets g c =
 
 pub loop-row-init : goal.loop-row-init
 loop-row-init g c = no_lines g.B.Bench g.met.B.Bench.only_now (audit_of c.args.schema.now.columns c.args.store.now) c.args.bench.now
+
+pub write_row-requires-clause-row : goal.write_row-requires-clause-row
+write_row-requires-clause-row g c = subst (λ n. c.loop-row.row < n) c.n-row-end.ensures.n c.loop-row-test.true
 
 pub write_row-requires-clause-free : goal.write_row-requires-clause-free
 write_row-requires-clause-free g c =
@@ -83,3 +86,9 @@ loop-row-preserved g c =
     subst (λ l. SendsLinesOn g.B.Bench audit l c.args.bench.now c.send_line.new.bench (Ok tt)) (sym (rows_before-more column row))
     (and_then g.B.Bench g.met.B.Bench.only_now audit (rows_before column row) (row_of column row ∷ []) c.args.bench.now c.loop-row.bench c.send_line.new.bench c.loop-row.invariant (Ok tt)
     (line_on g.B.Bench g.met.B.Bench.only_now audit (row_of column row) c.deref-in-loop-row.result.now line c.loop-row.bench c.send_line.new.bench (Ok tt) c.in_ok-send_line.ensures))
+
+pub returns : goal.returns
+returns g c =
+    let audit = audit_of c.args.schema.now.columns c.args.store.now in
+    let all : c.loop-row.row ≡ audit.shape.rows = omega (arith, c.loop-row-test.false, c.loop-row.auto.row-end, c.n-row-end.ensures.n, c.requires.part.n) in
+    subst (λ n. SendsLinesOn g.B.Bench audit (rows_before c.args.column n) c.args.bench.now c.loop-row.bench (Ok tt)) all c.loop-row.invariant

@@ -1,4 +1,4 @@
-use Rattle.std.proofs.Common.{◌≡◌, [], ◌∷◌, Err, sym, ap, ◌∙◌, subst, length, arith}
+use Rattle.std.proofs.Common.{◌≡◌, [], ◌∷◌, Err, sym, ap, ◌∙◌, subst, length}
 use Rattle.audit_types.specs.Shapes.{columns}
 use Rattle.journal_audit.specs.Texts.{total_line}
 use Rattle.journal_audit.specs.Reports.{audit_of, totals, SendsLinesOn}
@@ -15,5 +15,8 @@ returns-in_err-write_totals g c =
 pub returns : goal.returns
 returns g c =
     let audit = audit_of c.args.schema.now.columns c.args.store.now in
-    let line : c.deref.result.now ≡ total_line (length audit.history) (columns audit.shape) audit.shape.rows = grind arith in
+    let shape : c.shape-shape.result ≡ audit.shape = c.shape-shape.ensures.shape ∙ ap (λ s. s.shape) c.secret.ensures in
+    let counted : c.columns.result ≡ columns audit.shape = c.columns.ensures ∙ ap columns shape in
+    let line : c.deref.result.now ≡ total_line (length audit.history) (columns audit.shape) audit.shape.rows =
+    c.deref.ensures.value ∙ c.in_ok-write_totals.ensures ∙ (λ i. total_line (length (c.history.ensures.history i)) (counted i) (shape i).rows) in
     line_on g.B.Bench g.met.B.Bench.only_now audit totals c.deref.result.now line c.args.bench.now c.send_line.new.bench c.send_line.result c.send_line.ensures

@@ -1,10 +1,10 @@
 use Rattle.std.proofs.Common.{◌≡◌, ◌++◌, ◌∙◌, sym, ap, arith, ℤ, pos, get_or, take, to_z, of_z}
 use Rattle.std.proofs.lemmas.Int.{to_z-of_z}
 use mir.Syntax.{w128}
-use Rattle.journal_audit.specs.Texts.{with_commas, moved_rows, at_row}
+use Rattle.journal_audit.specs.Texts.{with_commas, comma_unless, moved_rows, at_row}
 use Rattle.journal_audit.proofs.Commas.{is_none, is_none-snoc, text_more, moved_by, not_moved_by}
 use Rattle.journal_audit.proofs.texts.put_moved_rows.Goals as goal
-use Rattle.journal_audit.proofs.texts.put_moved_rows.Goals.{then-number-ne0+in_ok-put_comma+in_ok-put_at_row, else-number-ne0}
+use Rattle.journal_audit.proofs.texts.put_moved_rows.Goals.{then-number-ne0+in_ok-put_at_row, else-number-ne0}
 
 pub loop-row-preserved : goal.loop-row-preserved
 loop-row-preserved c =
@@ -15,9 +15,9 @@ loop-row-preserved c =
     let texts = moved_rows 0 (take i d) in
     let same : to_z w128 (of_z w128 x) ≡ x = grind (arith, to_z-of_z) in
     elim c.if-number-ne0.branch [
-      | then-number-ne0+in_ok-put_comma+in_ok-put_at_row w ↦
+      | then-number-ne0+in_ok-put_at_row w ↦
           let more = moved_by d i c.loop-row-test.true (λ e. w.if-number-ne0.true (ap (of_z w128) e)) in
-          let put = w.in_ok-put_at_row.ensures ∙ ap (λ z. w.put_comma.new.line.items ++ at_row i z) same ∙ ap (λ l. l ++ at_row i x) w.in_ok-put_comma.ensures in
+          let put = w.in_ok-put_at_row.ensures ∙ ap (λ z. c.loop-row.line.items ++ comma_unless c.loop-row.first ++ at_row i z) same in
           record {
             so_far =
                 ap (λ v. v.items) w.line-is

@@ -14,7 +14,9 @@ loop-number-preserved c =
     let texts = map signed_decimal (take i c.args.numbers.now) in
     let same : to_z w128 (of_z w128 x) ≡ x = grind (arith, to_z-of_z) in
     let more = numbers_more c.args.numbers.now i c.loop-number-test.true in
-    let put = c.in_ok-put_number.ensures ∙ ap (λ z. c.put_comma.new.line.items ++ signed_decimal z) same ∙ ap (λ l. l ++ signed_decimal x) c.in_ok-put_comma.ensures in
+    let put =
+    c.in_ok-put_number.ensures ∙ ap (λ z. c.loop-number.line.items ++ c.comma_unless.result.now ++ signed_decimal z) same
+    ∙ ap (λ l. c.loop-number.line.items ++ l ++ signed_decimal x) c.comma_unless.ensures in
     record {
       so_far =
           text_more before c.put_number.new.line.items c.loop-number.line.items c.loop-number.first texts

@@ -1,4 +1,5 @@
 use Rattle.std.proofs.Common.{rules, ◌≡◌, Result, Err, IfErr, sym, subst}
+use Rattle.std.proofs.lemmas.Result.{IfOk-from_err}
 use Rattle.line_wire.specs.declared.lines.Next.{Next}
 use Rattle.transcript_sim.specs.declared.simulating.SimulationFault.{SimulationFault}
 use Rattle.transcript_sim.specs.Steps.{IsCutShort, stop_fault}
@@ -28,3 +29,6 @@ pub returns-in_err-next-clause-cuts : goal.returns-in_err-next-clause-cuts
 returns-in_err-next-clause-cuts g c =
     let said = c.in_err-next.ensures in
     record { same = said.same; taken = said.taken; within = said.within; still = λ ended. (said.once ended).1; later = said.later }
+
+pub returns-in_err-next-clause-gives : goal.returns-in_err-next-clause-gives
+returns-in_err-next-clause-gives g c = IfOk-from_err _ _ c.from_residual.ensures.0

@@ -25,3 +25,20 @@ pub returns-in_err-simulation-clause-any_moment : goal.returns-in_err-simulation
 returns-in_err-simulation-clause-any_moment g c = λ told quiet.
     nothing_sent g.P.Source g.B.Bench c.args.schema.now.columns c.args.index.now c.args.source.now c.args.bench.now
     (λ image bytes was. g.met.B.Bench.only_now c.args.bench.now image bytes was) quiet
+
+pub returns : goal.returns
+returns g c =
+    let all = c.judge.ensures in
+    record {
+      verdicts = all.verdicts;
+      calls = all.calls;
+      reads = all.reads;
+      any_moment = all.moments;
+      file = all.file;
+      crash = all.crash;
+      later = (all.source_later, all.bench_later);
+      input = all.source_rose;
+      bench = all.bench_rose;
+      last_call = (all.source_last, all.bench_last);
+      steady = (all.source_steady, all.bench_steady);
+    }

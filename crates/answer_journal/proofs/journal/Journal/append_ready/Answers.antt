@@ -1,5 +1,6 @@
 use Rattle.std.proofs.Common.{◌≡◌, ◌≤◌, ◌+◌, ℕ, length, arith, ap, sym, subst, ◌∙◌, length-append, ◌∷◌, []}
 use Rattle.std.proofs.lemmas.Grind.{common_steps}
+use Rattle.std.proofs.lemmas.Result.{IfOk-from_err}
 use Rattle.journal_form.specs.Journal.{StandsAt}
 use Rattle.answer_journal.specs.Contents.{JournalContents}
 use Rattle.answer_journal.proofs.Histories.{at_every_moment, at_end}
@@ -55,3 +56,23 @@ invariant_of-self-2 g c =
 
 pub returns-in_err-append_bytes-clause-unusable : goal.returns-in_err-append_bytes-clause-unusable
 returns-in_err-append_bytes-clause-unusable g c = grind (arith, common_steps)
+
+-- ---- what a refusal gives
+
+pub returns-in_err-append_bytes-clause-done : goal.returns-in_err-append_bytes-clause-done
+returns-in_err-append_bytes-clause-done g c = λ history told stands many. IfOk-from_err _ _ c.from_residual.ensures.0
+
+pub returns-in_err-append_bytes-clause-written : goal.returns-in_err-append_bytes-clause-written
+returns-in_err-append_bytes-clause-written g c = λ told. IfOk-from_err _ _ c.from_residual.ensures.0
+
+pub returns-in_err-append_bytes-clause-quiet : goal.returns-in_err-append_bytes-clause-quiet
+returns-in_err-append_bytes-clause-quiet g c = λ told. IfOk-from_err _ _ c.from_residual.ensures.0
+
+pub returns-in_err-append_bytes-clause-ticks : goal.returns-in_err-append_bytes-clause-ticks
+returns-in_err-append_bytes-clause-ticks g c = λ told. IfOk-from_err _ _ c.from_residual.ensures.0
+
+pub returns-in_err-append_bytes-clause-counted : goal.returns-in_err-append_bytes-clause-counted
+returns-in_err-append_bytes-clause-counted g c = IfOk-from_err _ _ c.from_residual.ensures.0
+
+pub returns-in_err-append_bytes-clause-usable : goal.returns-in_err-append_bytes-clause-usable
+returns-in_err-append_bytes-clause-usable g c = IfOk-from_err _ _ c.from_residual.ensures.0

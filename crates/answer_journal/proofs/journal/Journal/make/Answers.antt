@@ -1,4 +1,5 @@
 use Rattle.std.proofs.Common.{subst}
+use Rattle.std.proofs.lemmas.Result.{IfOk-from_err}
 use Rattle.bench_core.specs.Moments.{weakens}
 use Rattle.answer_journal.specs.declared.make.Found.{Found}
 use Rattle.answer_journal.specs.Moments.{IsUntouched, IsFound, IsUnmadeOrEmpty}
@@ -89,3 +90,17 @@ returns-in_ok-make_short-in-Short-clause-any_moment g c = λ told unmade quiet.
     let calm = still_quiet g.B.Bench bench (g.met.B.Bench.only_now bench) quiet c.look.new.bench c.look.ensures.crash c.look.ensures.file in
     after_untouched g.B.Bench bench c.look.new.bench c.make_short.new.bench (IsUnmadeOrEmpty shape) (untouched_unmade shape file sent unmade)
     (c.look.ensures.untouched told quiet) c.look.ensures.sent (c.make_short.ensures.any_moment told calm)
+
+-- ---- what a refusal gives
+
+pub returns-in_err-look-clause-done : goal.returns-in_err-look-clause-done
+returns-in_err-look-clause-done g c = λ told. IfOk-from_err _ _ c.from_residual.ensures.0
+
+pub returns-in_err-look-clause-written : goal.returns-in_err-look-clause-written
+returns-in_err-look-clause-written g c = λ told. IfOk-from_err _ _ c.from_residual.ensures.0
+
+pub returns-in_err-look-clause-ticks : goal.returns-in_err-look-clause-ticks
+returns-in_err-look-clause-ticks g c = λ told. IfOk-from_err _ _ c.from_residual.ensures.0
+
+pub returns-in_err-look-clause-quiet : goal.returns-in_err-look-clause-quiet
+returns-in_err-look-clause-quiet g c = λ told. IfOk-from_err _ _ c.from_residual.ensures.0

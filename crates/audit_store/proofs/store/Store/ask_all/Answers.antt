@@ -1,5 +1,6 @@
 use Rattle.std.proofs.Common.{◌≡◌, true, List, ◌+◌, ◌-◌, refl, ◌++◌, length, take, drop, sym, ap, subst, ◌∙◌}
 use Rattle.std.proofs.Math.Seq.{take-length}
+use Rattle.std.proofs.lemmas.Result.{IfOk-from_err}
 use Rattle.audit_types.specs.declared.records.Answered.{Answered}
 use Rattle.audit_types.specs.declared.shapes.Shape.{Shape}
 use Rattle.journal_form.specs.Journal.{StandsAt}
@@ -158,3 +159,59 @@ returns-in_err-keep-clause-any_moment g c = λ told quiet other.
     subst (λ (s : StoreContents). AreOutcomes (secret_table s.secret) s.history c.args.asked.now c.in_ok-outcomes.outcomes.items) c.self.view_is
     (subst (λ (h : List Answered). AreOutcomes (secret_table i.secret) h c.args.asked.now c.in_ok-outcomes.outcomes.items) all c.in_ok-outcomes.ensures.outcomes) in
     record { outcomes = c.in_ok-outcomes.outcomes.items; due = due; moments = moments }
+
+-- ---- no outcome
+
+pub returns-in_err-outcomes-clause-outcomes : goal.returns-in_err-outcomes-clause-outcomes
+returns-in_err-outcomes-clause-outcomes g c = IfOk-from_err _ _ c.from_residual.ensures.0
+
+pub returns-in_err-outcomes-clause-history : goal.returns-in_err-outcomes-clause-history
+returns-in_err-outcomes-clause-history g c = IfOk-from_err _ _ c.from_residual.ensures.0
+
+pub returns-in_err-outcomes-clause-stands : goal.returns-in_err-outcomes-clause-stands
+returns-in_err-outcomes-clause-stands g c = λ told. IfOk-from_err _ _ c.from_residual.ensures.0
+
+pub returns-in_err-outcomes-clause-usable : goal.returns-in_err-outcomes-clause-usable
+returns-in_err-outcomes-clause-usable g c = IfOk-from_err _ _ c.from_residual.ensures.0
+
+pub returns-in_err-outcomes-clause-moments : goal.returns-in_err-outcomes-clause-moments
+returns-in_err-outcomes-clause-moments g c = λ told quiet. IfOk-from_err _ _ c.from_residual.ensures.0
+
+pub returns-in_err-outcomes-clause-written : goal.returns-in_err-outcomes-clause-written
+returns-in_err-outcomes-clause-written g c = λ told. IfOk-from_err _ _ c.from_residual.ensures.0
+
+pub returns-in_err-outcomes-clause-quiet : goal.returns-in_err-outcomes-clause-quiet
+returns-in_err-outcomes-clause-quiet g c = λ told quiet. IfOk-from_err _ _ c.from_residual.ensures.0
+
+pub returns-in_err-outcomes-clause-ticks : goal.returns-in_err-outcomes-clause-ticks
+returns-in_err-outcomes-clause-ticks g c = λ told. IfOk-from_err _ _ c.from_residual.ensures.0
+
+pub returns-in_err-outcomes-clause-unasked : goal.returns-in_err-outcomes-clause-unasked
+returns-in_err-outcomes-clause-unasked g c = IfOk-from_err _ _ c.from_residual.ensures.0
+
+pub returns-in_err-keep-clause-outcomes : goal.returns-in_err-keep-clause-outcomes
+returns-in_err-keep-clause-outcomes g c = IfOk-from_err _ _ c.from_residual-in_err-keep.ensures.0
+
+pub returns-in_err-keep-clause-history : goal.returns-in_err-keep-clause-history
+returns-in_err-keep-clause-history g c = IfOk-from_err _ _ c.from_residual-in_err-keep.ensures.0
+
+pub returns-in_err-keep-clause-stands : goal.returns-in_err-keep-clause-stands
+returns-in_err-keep-clause-stands g c = λ told. IfOk-from_err _ _ c.from_residual-in_err-keep.ensures.0
+
+pub returns-in_err-keep-clause-usable : goal.returns-in_err-keep-clause-usable
+returns-in_err-keep-clause-usable g c = IfOk-from_err _ _ c.from_residual-in_err-keep.ensures.0
+
+pub returns-in_err-keep-clause-moments : goal.returns-in_err-keep-clause-moments
+returns-in_err-keep-clause-moments g c = λ told quiet. IfOk-from_err _ _ c.from_residual-in_err-keep.ensures.0
+
+pub returns-in_err-keep-clause-written : goal.returns-in_err-keep-clause-written
+returns-in_err-keep-clause-written g c = λ told. IfOk-from_err _ _ c.from_residual-in_err-keep.ensures.0
+
+pub returns-in_err-keep-clause-quiet : goal.returns-in_err-keep-clause-quiet
+returns-in_err-keep-clause-quiet g c = λ told quiet. IfOk-from_err _ _ c.from_residual-in_err-keep.ensures.0
+
+pub returns-in_err-keep-clause-ticks : goal.returns-in_err-keep-clause-ticks
+returns-in_err-keep-clause-ticks g c = λ told. IfOk-from_err _ _ c.from_residual-in_err-keep.ensures.0
+
+pub returns-in_err-keep-clause-unasked : goal.returns-in_err-keep-clause-unasked
+returns-in_err-keep-clause-unasked g c = IfOk-from_err _ _ c.from_residual-in_err-keep.ensures.0

@@ -1,6 +1,10 @@
-use Rattle.std.proofs.Common.{arith}
-use Rattle.std.proofs.lemmas.Grind.{common_steps}
+use Rattle.std.proofs.Common.{rules, tests, ◌≡◌, None, refl, sym, subst, arith}
 use Rattle.audit_types.specs.RowLaws.{length-rows}
+use Rattle.line_wire.specs.Lines.{text}
+use Rattle.line_wire.specs.Reply.{IsReply}
+use Rattle.line_wire.specs.declared.reply.Reply.{Reply}
+use Rattle.transcript_sim.specs.declared.expecting.Expected.{Expected}
+use Rattle.transcript_sim.specs.Verdicts.{AgreesWith}
 use Rattle.transcript_sim.proofs.expecting.Expected.shown.Goals as goal
 
 pub answer_told-requires-clause-at_most : goal.answer_told-requires-clause-at_most
@@ -8,4 +12,7 @@ answer_told-requires-clause-at_most c =
     omega (arith, length-rows c.in-Answer.asked.rows.n c.in-Answer.asked.rows.list c.n.ensures.are_rows, c.n.ensures.at_most, c.len.ensures)
 
 pub returns-in-Only : goal.returns-in-Only
-returns-in-Only c = grind (arith, common_steps)
+returns-in-Only c =
+    let same : c.in-Some.told ≡ c.in-Only.reply = search (rules, tests) in
+    subst (λ (expected : Expected). AgreesWith (text c.args.line.now) expected None) (sym c.in-Only.is)
+    (subst (λ (reply : Reply). IsReply c.args.line.now reply) same c.in-Some.ensures.found, refl)

@@ -1,4 +1,5 @@
 use Rattle.std.proofs.Common.{List, ℕ, subst}
+use Rattle.std.proofs.lemmas.Result.{IfOk-from_err}
 use Rattle.audit_types.specs.History.{Setting}
 use Rattle.line_wire.specs.Lines.{text}
 use Rattle.line_wire.specs.declared.lines.Next.{Next}
@@ -24,3 +25,6 @@ returns-in_ok-expected_of-in-Line-clause-asks g c =
       };
       can = subst (λ (s : Setting). CanBeTaken s history expected) c.requires.setting c.in_ok-expected_of-in-Line.ensures.can;
     }
+
+pub returns-in_err-next_line-clause-asks : goal.returns-in_err-next_line-clause-asks
+returns-in_err-next_line-clause-asks g c = IfOk-from_err _ _ c.from_residual.ensures.0
