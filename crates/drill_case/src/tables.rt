@@ -36,7 +36,7 @@ pub fn drill_schema(alloc: Global) -> Result<Schema, NoMemory>
     }
 }
 
-// The numbers of a column: of each row's four draws it takes the one at `place`, and cuts it to so many numbers from the least on.
+// The numbers of a column. Of each row's four draws the one at `place` counts: its remainder by `span`, from `least` on.
 fn draw_column(
     alloc: Global,
     number: u32,
