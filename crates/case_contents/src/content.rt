@@ -3,7 +3,6 @@ use crate::keys::{Keys, byte_of, count_of};
 use crate::pieces::{Piece, whole};
 use anyhow::{Result, bail};
 use std::alloc::Global;
-use std::rt::Files;
 use std::{fs, slice};
 use toml::Value;
 
@@ -28,7 +27,7 @@ enum Given<'a> {
 }
 
 // A file whose name ends in `.hex` is read as hex.
-fn read_file<R: Files + AllocGlobal>(rt: &R, name: &str) -> Result<Vec<u8>> {
+fn read_file(rt: &HostRuntime, name: &str) -> Result<Vec<u8>> {
     let path = format!(in rt.alloc(); "sources/{name}")?;
     let bytes = fs::read(rt, path.as_str())?;
     if name.ends_with(".hex") {
@@ -80,7 +79,7 @@ impl<'a> Part<'a> {
         Ok(())
     }
 
-    fn piece<R: Files + AllocGlobal>(self, rt: &R) -> Result<Piece> {
+    fn piece(self, rt: &HostRuntime) -> Result<Piece> {
         let times = self.keys.count("times")?.unwrap_or(1);
         let length = usize::try_from(self.keys.count("cut")?.unwrap_or(u64::MAX))?;
         let mut bytes = bytes_given(rt, self.given()?)?;
@@ -90,7 +89,7 @@ impl<'a> Part<'a> {
     }
 }
 
-fn bytes_given<R: Files + AllocGlobal>(rt: &R, given: Given) -> Result<Vec<u8>> {
+fn bytes_given(rt: &HostRuntime, given: Given) -> Result<Vec<u8>> {
     match given {
         Given::File(name) => read_file(rt, name),
         Given::Text(text) => Ok(text.as_bytes().to_vec(rt.alloc())?),
@@ -99,7 +98,7 @@ fn bytes_given<R: Files + AllocGlobal>(rt: &R, given: Given) -> Result<Vec<u8>> 
 }
 
 // A name is that of a file.
-fn piece_of<R: Files + AllocGlobal>(rt: &R, value: &Value) -> Result<Piece> {
+fn piece_of(rt: &HostRuntime, value: &Value) -> Result<Piece> {
     match value {
         Value::String(name) => Ok(Piece {
             bytes: read_file(rt, name.as_str())?,
@@ -115,7 +114,7 @@ impl<'a> Content<'a> {
     }
 
     /// The pieces, in order.
-    pub fn pieces<R: Files + AllocGlobal>(self, rt: &R) -> Result<Vec<Piece>> {
+    pub fn pieces(self, rt: &HostRuntime) -> Result<Vec<Piece>> {
         let values = match self.value {
             Value::Array(parts) => parts.as_slice(),
             value => slice::from_ref(value),
@@ -128,14 +127,14 @@ impl<'a> Content<'a> {
     }
 
     /// All the bytes.
-    pub fn whole<R: Files + AllocGlobal>(self, rt: &R) -> Result<Vec<u8>> {
+    pub fn whole(self, rt: &HostRuntime) -> Result<Vec<u8>> {
         let pieces = self.pieces(rt)?;
         Ok(whole(rt.alloc(), &pieces)?)
     }
 }
 
 /// The pieces of contents, where there are any.
-pub fn pieces_of<R: Files + AllocGlobal>(rt: &R, content: Option<Content>) -> Result<Vec<Piece>> {
+pub fn pieces_of(rt: &HostRuntime, content: Option<Content>) -> Result<Vec<Piece>> {
     match content {
         Some(content) => content.pieces(rt),
         None => Ok(Vec::new(rt.alloc())),
@@ -143,7 +142,7 @@ pub fn pieces_of<R: Files + AllocGlobal>(rt: &R, content: Option<Content>) -> Re
 }
 
 /// The bytes of contents, where there are any.
-pub fn bytes_of<R: Files + AllocGlobal>(rt: &R, content: Option<Content>) -> Result<Vec<u8>> {
+pub fn bytes_of(rt: &HostRuntime, content: Option<Content>) -> Result<Vec<u8>> {
     match content {
         Some(content) => content.whole(rt),
         None => Ok(Vec::new(rt.alloc())),

@@ -3,7 +3,6 @@ use crate::failures::Failures;
 use crate::history::History;
 use anyhow::{Result, bail};
 use case_contents::Keys;
-use std::rt::Files;
 use toml::Value;
 
 /// What is tried at each call of an object, and what is due then.
@@ -29,7 +28,7 @@ impl<'a> Each<'a> {
     }
 
     /// What the journal may stand as then, in order.
-    pub(crate) fn histories<R: Files + AllocGlobal>(self, rt: &R) -> Result<Vec<History>> {
+    pub(crate) fn histories(self, rt: &HostRuntime) -> Result<Vec<History>> {
         match self.keys.list("histories")? {
             Some(values) => histories_of(rt, values),
             None => bail!("no histories"),
@@ -42,7 +41,7 @@ impl<'a> Each<'a> {
     }
 }
 
-fn histories_of<R: Files + AllocGlobal>(rt: &R, values: &[Value]) -> Result<Vec<History>> {
+fn histories_of(rt: &HostRuntime, values: &[Value]) -> Result<Vec<History>> {
     let mut histories = Vec::new(rt.alloc());
     for value in values {
         histories.push(history_of(rt, value)?)?;
@@ -50,7 +49,7 @@ fn histories_of<R: Files + AllocGlobal>(rt: &R, values: &[Value]) -> Result<Vec<
     Ok(histories)
 }
 
-fn history_of<R: Files + AllocGlobal>(rt: &R, value: &Value) -> Result<History> {
+fn history_of(rt: &HostRuntime, value: &Value) -> Result<History> {
     let keys = Keys::of_value(value, &["records", "file"])?;
     let records = keys.count("records")?;
     match keys.content("file") {

@@ -4,7 +4,6 @@ use crate::terminal::Terminal;
 use anyhow::{Result, bail};
 use case_contents::{Content, Piece, bytes_of, pieces_of};
 use std::alloc::Global;
-use std::rt::Files;
 
 /// What a run is typed, and what is due in reply.
 #[derive(Drop)]
@@ -14,7 +13,7 @@ pub struct Exchange {
 }
 
 impl Exchange {
-    pub fn of<R: Files + AllocGlobal>(rt: &R, run: Run) -> Result<Exchange> {
+    pub fn of(rt: &HostRuntime, run: Run) -> Result<Exchange> {
         let (input, sent) = (run.content("input"), run.content("sent"));
         let Some(screen) = run.terminal()? else {
             return Exchange::of_contents(rt, input, sent);
@@ -25,8 +24,8 @@ impl Exchange {
         Exchange::of_terminal(rt.alloc(), screen)
     }
 
-    fn of_contents<R: Files + AllocGlobal>(
-        rt: &R,
+    fn of_contents(
+        rt: &HostRuntime,
         input: Option<Content>,
         sent: Option<Content>,
     ) -> Result<Exchange> {

@@ -6,7 +6,6 @@ use crate::terminal::Terminal;
 use anyhow::{Result, bail};
 use std::alloc::Global;
 use std::fmt;
-use std::rt::Files;
 
 /// What is due at each call: what the whole run is, the files that the journal may stand as, and what is answered over the
 /// last of these.
@@ -43,7 +42,7 @@ impl fmt::Display for Breach {
 }
 
 impl<'a> Law<'a> {
-    pub fn of<R: Files + AllocGlobal>(rt: &R, run: Run<'a>, each: Each) -> Result<Law<'a>> {
+    pub fn of(rt: &HostRuntime, run: Run<'a>, each: Each) -> Result<Law<'a>> {
         let Some(screen) = run.terminal()? else {
             bail!("no terminal");
         };
@@ -61,9 +60,9 @@ impl<'a> Law<'a> {
 
     /// Whether a run that failed at a call may have sent this: a front of the replies where the bench failed, and where the
     /// input did, those to the lines that came before.
-    pub fn may_have_sent<R: AllocGlobal>(
+    pub fn may_have_sent(
         &self,
-        rt: &R,
+        rt: &HostRuntime,
         run: Run,
         call: u64,
         sent: &[u8],

@@ -5,11 +5,10 @@ use crate::telling::{Bytes, Case};
 use anyhow::Result;
 use bench_core::MemoryBench;
 use case_contents::Content;
-use std::rt::Files;
 
 /// Whether the journal's file is as due of a run over this one, as it reads and after a crash; a difference is printed.
-pub fn leaves_files<R: Files + Print + AllocGlobal>(
-    rt: &R,
+pub fn leaves_files(
+    rt: &HostRuntime,
     name: Case,
     run: Run,
     start: &[u8],
@@ -25,8 +24,8 @@ pub fn leaves_files<R: Files + Print + AllocGlobal>(
 }
 
 // Whether the file is as due, as it reads, where that is looked at.
-fn leaves_file<R: Files + Print + AllocGlobal>(
-    rt: &R,
+fn leaves_file(
+    rt: &HostRuntime,
     name: Case,
     run: Run,
     start: &[u8],
@@ -46,8 +45,8 @@ fn ends_before_lines(status: u8) -> bool {
 }
 
 // Whether the bench leaves the file with these contents.
-fn leaves<R: Files + Print + AllocGlobal>(
-    rt: &R,
+fn leaves(
+    rt: &HostRuntime,
     name: Case,
     bench: &MemoryBench,
     over: Over,
@@ -58,8 +57,8 @@ fn leaves<R: Files + Print + AllocGlobal>(
 }
 
 // Whether the bench leaves the file with these bytes.
-fn is_left<R: Print + AllocGlobal>(
-    rt: &R,
+fn is_left(
+    rt: &HostRuntime,
     name: Case,
     bench: &MemoryBench,
     over: Over,

@@ -4,7 +4,6 @@ use crate::telling::no_memory;
 use anyhow::{Result, bail};
 use bench_core::MemoryBench;
 use std::alloc::Global;
-use std::rt::Files;
 
 /// Which file the run before left.
 #[derive(Clone, Copy)]
@@ -45,11 +44,7 @@ impl Over {
 }
 
 /// The journal's file at the start of a run, where a run before left this bench.
-pub fn start_of<R: Files + AllocGlobal>(
-    rt: &R,
-    run: Run,
-    before: &Option<MemoryBench>,
-) -> Result<Vec<u8>> {
+pub fn start_of(rt: &HostRuntime, run: Run, before: &Option<MemoryBench>) -> Result<Vec<u8>> {
     let Some(over) = run.over()? else {
         return run.journal(rt);
     };

@@ -5,7 +5,6 @@ use crate::over::Over;
 use anyhow::{Result, bail};
 use case_contents::{Content, Keys, Piece, byte_of, bytes_of, pieces_of};
 use std::alloc::Global;
-use std::rt::Files;
 use toml::Value;
 
 const KEYS: [&str; 17] = [
@@ -67,12 +66,12 @@ impl<'a> Run<'a> {
     }
 
     // The journal's file at the start, where no run before left one.
-    pub(crate) fn journal<R: Files + AllocGlobal>(self, rt: &R) -> Result<Vec<u8>> {
+    pub(crate) fn journal(self, rt: &HostRuntime) -> Result<Vec<u8>> {
         bytes_of(rt, self.file_at_start("journal"))
     }
 
     // The bytes of a file that is read.
-    pub(crate) fn pieces<R: Files + AllocGlobal>(self, rt: &R, name: &str) -> Result<Vec<Piece>> {
+    pub(crate) fn pieces(self, rt: &HostRuntime, name: &str) -> Result<Vec<Piece>> {
         pieces_of(rt, self.file_at_start(name))
     }
 

@@ -3,7 +3,6 @@ use crate::failures::Failures;
 use crate::run::Run;
 use anyhow::Result;
 use case_contents::{Piece, Pieces};
-use std::rt::Files;
 
 /// What a run reads.
 #[derive(Drop)]
@@ -15,8 +14,8 @@ pub struct Sources {
 
 impl Sources {
     /// The sources of a run that is typed this, of which these calls fail.
-    pub fn of<R: Files + AllocGlobal>(
-        rt: &R,
+    pub fn of(
+        rt: &HostRuntime,
         run: Run,
         typed: Vec<Piece>,
         failures: Failures,

@@ -17,9 +17,9 @@ pub struct Case<'a> {
 
 impl Case<'_> {
     /// Prints what is wrong, and where.
-    pub fn tell<R: Print, P: fmt::Display + Drop, W: fmt::Display + Drop>(
+    pub fn tell<P: fmt::Display + Drop, W: fmt::Display + Drop>(
         self,
-        rt: &R,
+        rt: &HostRuntime,
         place: P,
         what: W,
     ) -> io::Result<()> {
@@ -28,9 +28,9 @@ impl Case<'_> {
     }
 
     /// Whether what came is what was due; a difference is printed.
-    pub fn agrees<R: Print, T: PartialEq + fmt::Display>(
+    pub fn agrees<T: PartialEq + fmt::Display>(
         self,
-        rt: &R,
+        rt: &HostRuntime,
         what: &str,
         due: &T,
         came: &T,

@@ -3,11 +3,10 @@ use crate::stage::{End, Stage};
 use anyhow::Result;
 use auditor_top::{Status, status_code, status_text};
 use case_scripts::{Bytes, Case, Run, leaves_files, no_memory};
-use std::rt::Files;
 
 /// Whether all that was due of a run came; each difference is printed.
-pub fn is_as_due<R: Files + Print + AllocGlobal>(
-    rt: &R,
+pub fn is_as_due(
+    rt: &HostRuntime,
     name: Case,
     stage: Stage,
     replies: &[u8],
@@ -23,7 +22,7 @@ pub fn is_as_due<R: Files + Print + AllocGlobal>(
 }
 
 // Whether a run ends with the status that is due.
-fn ends<R: Print + AllocGlobal>(rt: &R, name: Case, run: Run, status: &Status) -> Result<bool> {
+fn ends(rt: &HostRuntime, name: Case, run: Run, status: &Status) -> Result<bool> {
     let (code, text) = run.ends()?;
     let mut met = name.agrees(rt, "status", &code, &status_code(status))?;
     let told = status_text(rt.alloc(), status).map_err(no_memory)?;

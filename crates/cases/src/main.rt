@@ -12,7 +12,6 @@ use anyhow::{Context, Result};
 use case_scripts::{Script, Tally};
 use std::fs;
 use std::process::ExitCode;
-use std::rt::Files;
 
 fn main(rt: HostRuntime) -> ExitCode {
     match run_listed(&rt) {
@@ -26,7 +25,7 @@ fn main(rt: HostRuntime) -> ExitCode {
 }
 
 // Runs the scripts that standard input names, and prints how many cases passed.
-fn run_listed<R: Files + Input + Print + AllocGlobal>(rt: &R) -> Result<Tally> {
+fn run_listed(rt: &HostRuntime) -> Result<Tally> {
     let mut tally = Tally::default();
     for line in rt.lines(rt.alloc()) {
         let path = line?;
@@ -36,7 +35,7 @@ fn run_listed<R: Files + Input + Print + AllocGlobal>(rt: &R) -> Result<Tally> {
     Ok(tally)
 }
 
-fn run_script<R: Files + Print + AllocGlobal>(rt: &R, path: &str, tally: &mut Tally) -> Result<()> {
+fn run_script(rt: &HostRuntime, path: &str, tally: &mut Tally) -> Result<()> {
     let text = fs::read_to_string(rt, path)?;
     let table = toml::table_from_str(rt.alloc(), text.as_str())?;
     playing::play(rt, path, Script::of(&table)?, tally)

@@ -5,22 +5,16 @@ use crate::stopping::play_each;
 use anyhow::Result;
 use bench_core::MemoryBench;
 use case_scripts::{Case, Exchange, Run, Script, Tally, start_of};
-use std::rt::Files;
 
 /// Runs each case of a script, and counts it.
-pub fn play<R: Files + Print + AllocGlobal>(
-    rt: &R,
-    path: &str,
-    script: Script,
-    tally: &mut Tally,
-) -> Result<()> {
+pub fn play(rt: &HostRuntime, path: &str, script: Script, tally: &mut Tally) -> Result<()> {
     let mut before = None;
     play_after(rt, path, script, tally, &mut before)
 }
 
 // Runs each case of a script after a run that left this bench, and counts it.
-fn play_after<R: Files + Print + AllocGlobal>(
-    rt: &R,
+fn play_after(
+    rt: &HostRuntime,
     path: &str,
     script: Script,
     tally: &mut Tally,
@@ -35,8 +29,8 @@ fn play_after<R: Files + Print + AllocGlobal>(
 }
 
 // Whether what is due of a case came. The bench that it leaves stays for the next one.
-fn play_case<R: Files + Print + AllocGlobal>(
-    rt: &R,
+fn play_case(
+    rt: &HostRuntime,
     path: &str,
     case: Run,
     before: &mut Option<MemoryBench>,
@@ -57,8 +51,8 @@ fn play_case<R: Files + Print + AllocGlobal>(
 }
 
 // Whether what is due of a run came, whose bench then stands for the one before.
-fn play_once<R: Files + Print + AllocGlobal>(
-    rt: &R,
+fn play_once(
+    rt: &HostRuntime,
     name: Case,
     stage: Stage,
     before: &mut Option<MemoryBench>,

@@ -5,7 +5,6 @@ use bench_core::MemoryBench;
 use case_contents::Piece;
 use case_scripts::{Failures, Run, Sources, bench_over};
 use std::alloc::Global;
-use std::rt::Files;
 
 /// A case of a script, and the journal's file at its start.
 #[derive(Clone, Copy)]
@@ -23,9 +22,9 @@ pub struct End {
 
 impl Stage<'_> {
     /// Runs the program over this file, with what is typed and the calls that fail.
-    pub fn run<R: Files + AllocGlobal>(
+    pub fn run(
         self,
-        rt: &R,
+        rt: &HostRuntime,
         file: &[u8],
         typed: Vec<Piece>,
         failures: Failures,

@@ -4,7 +4,6 @@ use anyhow::{Result, bail};
 use auditor_top::{Status, Which};
 use case_scripts::{Breach, Bytes, Case, Each, Failures, Fault, Law, Over, ROOM, Terminal};
 use std::fmt;
-use std::rt::Files;
 
 // A run that is tried with a fault at each call, and what is due of it.
 #[derive(Clone, Copy)]
@@ -28,12 +27,7 @@ impl fmt::Display for Moment {
 }
 
 /// Whether all is as due at each call, up to the first run that is done; what isn't is printed.
-pub fn play_each<R: Files + Print + AllocGlobal>(
-    rt: &R,
-    name: Case,
-    stage: Stage,
-    each: Each,
-) -> Result<bool> {
+pub fn play_each(rt: &HostRuntime, name: Case, stage: Stage, each: Each) -> Result<bool> {
     let law = Law::of(rt, stage.case, each)?;
     let trial = Trial {
         name,
@@ -44,7 +38,7 @@ pub fn play_each<R: Files + Print + AllocGlobal>(
 }
 
 impl Trial<'_> {
-    fn play<R: Files + Print + AllocGlobal>(self, rt: &R) -> Result<bool> {
+    fn play(self, rt: &HostRuntime) -> Result<bool> {
         let mut met = true;
         for call in 0..ROOM {
             let (status, kept) = self.play_call(rt, call)?;
@@ -57,11 +51,7 @@ impl Trial<'_> {
     }
 
     // How the run ends with a fault at this call, and whether all is then as due.
-    fn play_call<R: Files + Print + AllocGlobal>(
-        self,
-        rt: &R,
-        call: u64,
-    ) -> Result<(Status, bool)> {
+    fn play_call(self, rt: &HostRuntime, call: u64) -> Result<(Status, bool)> {
         let typed = self.law.whole.pieces(rt.alloc())?;
         let end = self
             .stage
@@ -70,7 +60,7 @@ impl Trial<'_> {
     }
 
     // Whether the replies due were sent by a run that is done, and nothing is wrong with one that failed.
-    fn is_kept<R: Files + Print + AllocGlobal>(self, rt: &R, call: u64, end: &End) -> Result<bool> {
+    fn is_kept(self, rt: &HostRuntime, call: u64, end: &End) -> Result<bool> {
         if end.status == Status::Done {
             let (due, came) = (Bytes(&self.law.whole.shown), Bytes(end.bench.sent()));
             return self.name.agrees(rt, "sent", &due, &came);
@@ -86,13 +76,7 @@ impl Trial<'_> {
     }
 
     // What is wrong with a run that failed at a call, in the file that a crash leaves.
-    fn breach<R: Files + AllocGlobal>(
-        self,
-        rt: &R,
-        call: u64,
-        end: &End,
-        over: Over,
-    ) -> Result<Option<Breach>> {
+    fn breach(self, rt: &HostRuntime, call: u64, end: &End, over: Over) -> Result<Option<Breach>> {
         let sent = end.bench.sent();
         if end.status != status_of(self.law.fault) {
             return Ok(Some(Breach::OtherStatus));
@@ -108,7 +92,7 @@ impl Trial<'_> {
     }
 
     // What is wrong with the answers to the lines that are asked over a file after a crash.
-    fn breach_then<R: Files + AllocGlobal>(self, rt: &R, file: &[u8]) -> Result<Option<Breach>> {
+    fn breach_then(self, rt: &HostRuntime, file: &[u8]) -> Result<Option<Breach>> {
         match self.law.asked_over(file) {
             Some(then) if !self.is_answered(rt, then, file)? => Ok(Some(Breach::OtherAnswers)),
             _ => Ok(None),
@@ -116,12 +100,7 @@ impl Trial<'_> {
     }
 
     // Whether the lines of a terminal are answered as due over a file.
-    fn is_answered<R: Files + AllocGlobal>(
-        self,
-        rt: &R,
-        then: &Terminal,
-        file: &[u8],
-    ) -> Result<bool> {
+    fn is_answered(self, rt: &HostRuntime, then: &Terminal, file: &[u8]) -> Result<bool> {
         let typed = then.pieces(rt.alloc())?;
         let end = self.stage.run(rt, file, typed, Failures::default())?;
         Ok(end.status == Status::Done && end.bench.sent() == then.shown.as_slice())
