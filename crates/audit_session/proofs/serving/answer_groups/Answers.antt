@@ -243,3 +243,6 @@ returns-in_err-answer-clause-rests g c = λ no.
     let served = c.loop-more.invariant.served in
     rests_by {X = Unit {0}} fault e.others.0 e.others.1 (λ is. no (same ∙ is)) g.B.Bench c.args.bench.now c.loop-more.bench c.answer.new.bench c.loop-more.store c.answer.new.store
     e.no_memory e.secret (record { stands = λ u. (c.loop-more.store.journal.gate, served.as_left u); quiet = served.quiet })
+
+pub loop-more-smaller : goal.loop-more-smaller
+loop-more-smaller g c = omega (arith, c.in_ok-more.ensures.takes (ap given c.if-not-more.false), c.in_ok-more.ensures.within, c.loop-more.invariant.served.within)

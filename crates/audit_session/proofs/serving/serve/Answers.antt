@@ -103,3 +103,6 @@ returns-clause-read g c = λ t. read_by _ (g.P.Source.left c.args.source.now) _ 
 
 pub returns-clause-within : goal.returns-clause-within
 returns-clause-within g c = λ t. within_by _ _ (g.P.Source.left c.answer_groups.new.source) (c.answer_groups.ensures.reads t)
+
+pub returns-in_err-lines-clause-stands : goal.returns-in_err-lines-clause-stands
+returns-in_err-lines-clause-stands g c = λ u no. (c.args.store.now.journal.gate, c.requires.stands u)
