@@ -1,13 +1,18 @@
 -- How a session ends, by the fault.
-use Rattle.std.proofs.Common.{◌≡◌, ℕ, ◌+◌, ◌<◌, ◌≤◌, List, ◌++◌, length, take, Result, Err, refl, sym, ◌∙◌, ap}
-use Rattle.std.specs.Prelude.{IsErrOf}
+use Rattle.std.proofs.Common.{◌≡◌, ℕ, ◌+◌, ◌<◌, ◌≤◌, List, [], ◌∷◌, ◌++◌, length, take, Result, Ok, Err, refl, sym, ◌∙◌, ap, subst, arith}
+use Rattle.std.specs.Prelude.{IsErrOf, OnOk}
 use Rattle.std.proofs.Math.Seq.{take-append_seam}
 use Rattle.audit_types.specs.declared.records.Answered.{Answered}
+use Rattle.table_load.specs.Cells.{SecretView}
 use Rattle.table_load.specs.Database.{Database}
 use Rattle.line_wire.specs.Lines.{counted_lines, most_input}
 use Rattle.audit_session.specs.declared.serving.EndFault.{EndFault}
 use Rattle.audit_session.specs.declared.serving.EndFault.TheVariants as end
-use Rattle.audit_session.specs.Ends.{Ends, Reads, ServesWhole, ServesSome, ServesLimited, limited}
+use Rattle.bench_core.specs.declared.bench.Bench.{Ghosts}
+use Rattle.bench_core.specs.Calls.{IsQuiet}
+use Rattle.journal_form.specs.Journal.{StandsFor}
+use Rattle.audit_store.specs.Stores.{StoreContents}
+use Rattle.audit_session.specs.Ends.{Ends, Reads, Rests, Serves, ServesWhole, ServesSome, ServesLimited, limited}
 
 pub ends_by : {X : Type 0} (batch : ℕ) (base : Database) (history : List Answered) (input left : List ℕ) (now : List Answered) (before after : List ℕ) (fault : EndFault)
     → (IsErrOf {T = X} (Err fault) end.Input → ServesWhole base history batch input left now before after)
@@ -24,6 +29,41 @@ reads_by input left end.Input within over = within refl
 reads_by input left end.Limit within over = over refl
 reads_by input left end.NoMemory within over = tt
 reads_by input left end.Bench within over = tt
+
+-- the clauses on an end without a fault
+pub all_by : (answer : Result (Unit {0}) EndFault) (batch : ℕ) (base : Database) (history : List Answered) (input left : List ℕ) (now : List Answered) (before after : List ℕ)
+    → Ends batch answer base history input left now before after → OnOk answer (Serves base history (counted_lines input) now before after)
+all_by (Ok done) batch base history input left now before after ends = ends
+all_by (Err fault) batch base history input left now before after ends = tt
+
+pub read_by : (answer : Result (Unit {0}) EndFault) (input left : List ℕ) → Reads answer input left → OnOk answer (left ≡ [])
+read_by (Ok done) input left reads = reads.0
+read_by (Err fault) input left reads = tt
+
+pub within_by : (answer : Result (Unit {0}) EndFault) (input left : List ℕ) → Reads answer input left → OnOk answer (length input ≤ most_input)
+within_by (Ok done) input left reads = reads.1
+within_by (Err fault) input left reads = tt
+
+-- nothing is left of an input that was read within the limit
+pub all_read : (input pending left : List ℕ) (taken : ℕ) → pending ++ left ≡ [] → taken + length left ≡ length input → taken ≤ most_input + length pending
+    → (left ≡ []) × (length input ≤ most_input)
+all_read input [] left taken none read within = (none, omega (arith, read, within, ap (λ (l : List ℕ). length l) none))
+all_read input (byte ∷ pending) left taken none read within = let never : ⊥ = cc in absurd never
+
+-- an answer that refused for want of memory alone leaves all as it stood
+pub rests_by : {B X : Type 0} (fault : EndFault) → (IsErrOf {T = X} (Err fault) end.Input → ⊥) → (IsErrOf {T = X} (Err fault) end.Limit → ⊥) → (IsErrOf {T = X} (Err fault) end.Bench → ⊥)
+    → (bench : Ghosts B) (old mid new : B) (was now : StoreContents) → (IsErrOf {T = X} (Err fault) end.NoMemory → (new ≡ mid) × (now.history ≡ was.history))
+    → now.secret ≡ was.secret → Rests bench old mid was → Rests bench old new now
+rests_by end.Input no_input no_limit no_bench bench old mid new was now still secret rests = absurd (no_input refl)
+rests_by end.Limit no_input no_limit no_bench bench old mid new was now still secret rests = absurd (no_limit refl)
+rests_by end.Bench no_input no_limit no_bench bench old mid new was now still secret rests = absurd (no_bench refl)
+rests_by end.NoMemory no_input no_limit no_bench bench old mid new was now still secret rests = record {
+  stands = λ t.
+      subst (λ (h : List Answered). StandsFor (bench.file new) now.secret.shape h) (sym (still refl).1)
+      (subst (λ (s : SecretView). StandsFor (bench.file new) s.shape was.history) (sym secret)
+      (subst (λ b. StandsFor (bench.file b) was.secret.shape was.history) (sym (still refl).0) (rests.stands t)));
+  quiet = λ t quiet. subst (λ b. IsQuiet bench b) (sym (still refl).0) (rests.quiet t quiet);
+}
 
 -- a refusal in another result
 pub same_fault : {X Y : Type 0} (fault other : EndFault) → IsErrOf {T = X} (Err fault) other → IsErrOf {T = Y} (Err fault) other

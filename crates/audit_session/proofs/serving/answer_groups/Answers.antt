@@ -6,7 +6,7 @@ use Rattle.line_wire.specs.Lines.{counted_lines}
 use Rattle.audit_session.specs.declared.serving.EndFault.{EndFault}
 use Rattle.audit_session.specs.declared.serving.EndFault.TheVariants as end
 use Rattle.audit_session.specs.Ends.{Ends, Reads, ServesSome}
-use Rattle.audit_session.proofs.EndsByFault.{ends_by, reads_by, same_fault}
+use Rattle.audit_session.proofs.EndsByFault.{all_read, ends_by, reads_by, rests_by, same_fault}
 use Rattle.audit_session.proofs.GatheredLines.{still_ended, whole_or_last}
 use Rattle.audit_session.proofs.Served.{nothing_served, some_served, served_whole, served_limited, cut_not_over, turn_moments, next_turn, all_served, all_calls}
 use Rattle.audit_store.specs.Refusals.{no_refusal}
@@ -227,3 +227,22 @@ returns-in_err-answer-clause-last_call g c = let same : c.from_residual-in_err-a
 
 pub returns-in_err-answer-clause-steady : goal.returns-in_err-answer-clause-steady
 returns-in_err-answer-clause-steady g c = let same : c.from_residual-in_err-answer.result ≡ ended_by c.in_err-answer.field-0.0 = search rules in (λ other. c.in_ok-more.ensures.steady (λ is. no_refusal _ _ is) ∙ c.loop-more.invariant.served.source_steady, λ other. c.in_err-answer.ensures.steady (λ is. other (same ∙ is)) ∙ c.loop-more.invariant.served.bench_steady)
+
+pub returns-then-not-more-clause-reads : goal.returns-then-not-more-clause-reads
+returns-then-not-more-clause-reads g c = λ t.
+    let e = c.in_ok-more.ensures in
+    let more_is : c.in_ok-more.more ≡ false = search rules in
+    all_read (g.P.Source.left c.args.source.now) c.gather.new.lines.pending (g.P.Source.left c.gather.new.source) c.gather.new.lines.taken (e.last t (ap given more_is))
+    (e.taken t ∙ c.loop-more.invariant.served.taken t) e.within
+
+pub returns-in_err-answer-clause-rests : goal.returns-in_err-answer-clause-rests
+returns-in_err-answer-clause-rests g c = λ no.
+    let e = c.in_err-answer.ensures in
+    let fault = c.in_err-answer.field-0.0 in
+    let same : c.from_residual-in_err-answer.result ≡ ended_by fault = search rules in
+    let served = c.loop-more.invariant.served in
+    rests_by {X = Unit {0}} fault e.others.0 e.others.1 (λ is. no (same ∙ is)) g.B.Bench c.args.bench.now c.loop-more.bench c.answer.new.bench c.loop-more.store c.answer.new.store
+    e.no_memory e.secret (record { stands = λ u. (c.loop-more.store.journal.gate, served.as_left u); quiet = served.quiet })
+
+pub loop-more-smaller : goal.loop-more-smaller
+loop-more-smaller g c = omega (arith, c.in_ok-more.ensures.takes (ap given c.if-not-more.false), c.in_ok-more.ensures.within, c.loop-more.invariant.served.within)

@@ -4,6 +4,7 @@ use Rattle.line_wire.specs.Lines.{counted_lines}
 use Rattle.table_load.specs.Database.{base_of}
 use Rattle.audit_session.specs.declared.serving.EndFault.{EndFault}
 use Rattle.audit_session.specs.Ends.{Ends, Reads}
+use Rattle.audit_session.proofs.EndsByFault.{all_by, read_by, within_by}
 use Rattle.audit_session.proofs.FirstStop.{stops_first}
 use Rattle.audit_session.proofs.serving.serve.Goals as goal
 
@@ -89,3 +90,19 @@ returns-clause-last_call g c = c.answer_groups.ensures.last_call
 
 pub returns-clause-steady : goal.returns-clause-steady
 returns-clause-steady g c = c.answer_groups.ensures.steady
+
+pub returns-clause-any_moment : goal.returns-clause-any_moment
+returns-clause-any_moment g c = λ t u quiet.
+    weakens g.B.Bench c.args.bench.now c.answer_groups.new.bench _ _ (λ image sent stop. stop.1 t) (c.answer_groups.ensures.moments u quiet)
+
+pub returns-clause-done : goal.returns-clause-done
+returns-clause-done g c = λ t u. all_by _ c.args.batch _ _ _ (g.P.Source.left c.answer_groups.new.source) _ _ _ (c.answer_groups.ensures.ends t u)
+
+pub returns-clause-read : goal.returns-clause-read
+returns-clause-read g c = λ t. read_by _ (g.P.Source.left c.args.source.now) _ (c.answer_groups.ensures.reads t)
+
+pub returns-clause-within : goal.returns-clause-within
+returns-clause-within g c = λ t. within_by _ _ (g.P.Source.left c.answer_groups.new.source) (c.answer_groups.ensures.reads t)
+
+pub returns-in_err-lines-clause-stands : goal.returns-in_err-lines-clause-stands
+returns-in_err-lines-clause-stands g c = λ u no. (c.args.store.now.journal.gate, c.requires.stands u)
