@@ -1,5 +1,6 @@
 -- What is due of a file is answered, unless reading gave up.
-use Rattle.std.proofs.Common.{◌≡◌, ℕ, ◌-◌, inl, inr, List, ◌++◌, length, get_or, take, min, refl, sym, ap, ◌∙◌, arith, length-append, length-take}
+use Rattle.std.proofs.Common.{◌≡◌, ℕ, ◌-◌, inl, inr, List, ◌++◌, length, get_or, take, min, refl, sym, ap, ◌∙◌, arith, length-append, length-take, Result, Ok, Err}
+use Rattle.std.specs.Prelude.{OnOk}
 use Rattle.std.proofs.lemmas.List.{get_or-take, take_at, take_min}
 use Rattle.audit_types.specs.declared.shapes.Shape.{Shape}
 use Rattle.audit_types.specs.declared.records.Answered.{Answered}
@@ -69,3 +70,8 @@ module _ (file : List ℕ) where
   whole_has_no_fault (Damaged at) shape history gate unbroken is stands = unbroken file shape history gate at stands is.1
   whole_has_no_fault Failed shape history gate unbroken is stands = tt
   whole_has_no_fault NoMemory shape history gate unbroken is stands = tt
+
+-- what is true anyhow is true where something was read
+pub on_ok_always : {T E P : Type 0} (r : Result T E) → P → OnOk r P
+on_ok_always (Ok x) p = p
+on_ok_always (Err e) p = tt

@@ -1,8 +1,8 @@
 -- What a crash leaves while a journal is made.
-use Rattle.std.proofs.Common.{◌≡◌, ◌≢◌, ℕ, ◌+◌, ◌<◌, inl, inr, List, [], ◌∷◌, ◌++◌, length, get_or, take, drop, refl, sym, ap, ◌∙◌, arith, append_assoc, append-nil, length-append, length-take, length-drop}
+use Rattle.std.proofs.Common.{◌≡◌, ◌≢◌, ℕ, ◌+◌, ◌<◌, ◌≤◌, inl, inr, List, [], ◌∷◌, ◌++◌, length, get_or, take, drop, refl, sym, ap, ◌∙◌, arith, append_assoc, append-nil, length-append, length-take, length-drop}
 use Rattle.std.proofs.Math.Seq.{drop-cons}
 use Rattle.std.proofs.lemmas.Bool.{cases_eq, cases_lt}
-use Rattle.std.proofs.lemmas.List.{take-append-drop, get_or-take, take_all}
+use Rattle.std.proofs.lemmas.List.{take-append-drop, get_or-take, take_all, drop_all}
 use Rattle.audit_types.specs.declared.shapes.Shape.{Shape}
 use Rattle.journal_form.specs.Header.{header, named, IsWholeShape}
 use Rattle.journal_form.specs.Journal.{StandsAt}
@@ -11,6 +11,7 @@ use Rattle.bench_core.specs.Bench.{Torn, Follows}
 use Rattle.bench_core.specs.Calls.{LeavesOnly}
 use Rattle.bench_core.specs.Moments.{weakens}
 use Rattle.answer_journal.specs.Append.{Appending, appended}
+use Rattle.answer_journal.specs.Make.{empty_journal}
 use Rattle.answer_journal.specs.Moments.{IsShort, IsAlready, IsFound, IsUntouched, IsUnmadeOrEmpty}
 use Rattle.answer_journal.specs.declared.make.Found.TheVariants.{Closed, Short}
 use Rattle.answer_journal.proofs.Histories.{stands_by}
@@ -39,6 +40,11 @@ module _ (file : List ℕ) (shape : Shape) (shaped : IsWholeShape shape) (some :
 
   pub opened : (new : List ℕ) → new ≡ appended 0 (named shape ++ 0 ∷ []) file → StandsAt new shape [] 20
   opened new is = fresh new shape (drop (1 + length (named shape ++ 0 ∷ [])) file) shaped is
+
+  pub opened_whole : length file ≤ 21 → (new : List ℕ) → new ≡ appended 0 (named shape ++ 0 ∷ []) file → new ≡ empty_journal shape
+  opened_whole fits new is =
+      let none = drop_all (1 + length (named shape ++ 0 ∷ [])) file (omega (arith, fits, length-append (named shape) (0 ∷ []), shaped.eight)) in
+      is ∙ ap (λ l. 1 ∷ ((named shape ++ 0 ∷ []) ++ l)) none ∙ ap (λ l. 1 ∷ l) (append-nil (named shape ++ 0 ∷ []))
 
   pub opening_moments : {D : Type 0} (bench : Ghosts D) (old new : D) (before : List ℕ) →
       LeavesOnly bench old new (Appending 0 (named shape ++ 0 ∷ []) file before) → LeavesOnly bench old new (IsUnmadeOrEmpty shape before)

@@ -1,5 +1,5 @@
 -- What is true of every store.
-use Rattle.std.proofs.Common.{◌≡◌, ℕ, ◌<◌, Bool, true, List, [], ◌∷◌, refl, ◌-◌, ◌++◌, length, length-drop, take, drop, sym, ap, ◌∙◌, arith}
+use Rattle.std.proofs.Common.{◌≡◌, ℕ, ◌+◌, ◌<◌, ◌≤◌, Bool, true, false, List, [], ◌∷◌, refl, ◌-◌, ◌++◌, length, length-append, length-take, length-drop, take, drop, sym, ap, subst, ◌∙◌, arith}
 use Rattle.std.proofs.Math.Seq.{take-length, drop-append_seam}
 use Rattle.std.proofs.lemmas.List.{take-append-drop, take_all}
 use Rattle.audit_types.specs.declared.records.Answered.{Answered}
@@ -76,3 +76,45 @@ has_group shape (r ∷ group) gate old new some appends = appends
 pub four_calls : (group : List Answered) → 0 < length group → calls_for group ≡ 4
 four_calls [] some = absurd (omega (arith, some))
 four_calls (r ∷ group) some = refl
+
+-- a refused group leaves the history, whatever the core took and whatever became of the journal
+pub refused_store : (secret : SecretView) (old new : Audited) (released : ℕ) (before after : JournalContents) (usable : Bool) → usable ≡ true →
+    IsStore (record { secret = secret; history = take released old.history; journal = before; usable = usable }) → IsAuditedBy secret old released usable →
+    take (length old.history) new.history ≡ old.history → length old.history ≤ length new.history → new.setting ≡ old.setting →
+    IsStore (record { secret = secret; history = take released new.history; journal = after; usable = false }) × IsAuditedBy secret new released false
+refused_store secret old new released before after usable is_usable store audited begins within setting =
+    let all : released ≡ length old.history = audited.all is_usable in
+    let whole : take released old.history ≡ old.history = ap (λ n. take n old.history) all ∙ take-length old.history in
+    let same : take released old.history ≡ take released new.history = whole ∙ sym begins ∙ ap (λ n. take n new.history) (sym all) in (
+      record {
+        numbers = store.numbers;
+        legal = subst (λ (h : List Answered). IsLegal (secret_table secret) h) same store.legal;
+        journal_usable = λ is. let none : ⊥ = cc in absurd none;
+        same_shape = λ is. let none : ⊥ = cc in absurd none;
+        counted = λ is. let none : ⊥ = cc in absurd none;
+      },
+      record { same_setting = setting ∙ audited.same_setting; within = omega (arith, all, within); all = λ is. let none : ⊥ = cc in absurd none },
+    )
+
+-- a group that was kept belongs to the history
+pub kept_store : (secret : SecretView) (old new : Audited) (released now : ℕ) (before after : JournalContents) (usable : Bool) (group made : List Answered) →
+    usable ≡ true → IsStore (record { secret = secret; history = take released old.history; journal = before; usable = usable }) →
+    IsAuditedBy secret old released usable → new.history ≡ old.history ++ made → new.setting ≡ old.setting →
+    IsLegal (secret_table secret) new.history → now ≡ length new.history →
+    group ≡ made → after.usable ≡ true → after.shape ≡ before.shape → after.count ≡ before.count + length group →
+    IsStore (record { secret = secret; history = take now new.history; journal = after; usable = true }) × IsAuditedBy secret new now true
+kept_store secret old new released now before after usable group made is_usable store audited grown setting legal now_is group_is usable_after shape counted =
+    let all : released ≡ length old.history = audited.all is_usable in
+    let whole : take now new.history ≡ new.history = ap (λ n. take n new.history) now_is ∙ take-length new.history in
+    let was : before.count ≡ length old.history = omega (arith, store.counted is_usable, length-take released old.history, all) in
+    let is : length (take now new.history) ≡ length old.history + length made = ap length whole ∙ ap length grown ∙ length-append old.history made in
+    let count_is : after.count ≡ length (take now new.history) = omega (arith, counted, ap length group_is, was, is) in (
+      record {
+        numbers = store.numbers;
+        legal = subst (λ (h : List Answered). IsLegal (secret_table secret) h) (sym whole) legal;
+        journal_usable = λ _. usable_after;
+        same_shape = λ _. shape ∙ store.same_shape is_usable;
+        counted = λ _. count_is;
+      },
+      record { same_setting = setting ∙ audited.same_setting; within = omega (arith, now_is); all = λ _. now_is },
+    )

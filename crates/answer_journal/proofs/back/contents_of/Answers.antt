@@ -5,7 +5,7 @@ use Rattle.journal_form.specs.Journal.{most_bytes, StandsAt}
 use Rattle.answer_journal.specs.declared.journal.BackFault.{BackFault}
 use Rattle.answer_journal.specs.declared.reading.Contents.{Contents}
 use Rattle.answer_journal.specs.Faults.{IsFaultOf}
-use Rattle.answer_journal.proofs.DueIsAnswered.{fault_of_file}
+use Rattle.answer_journal.proofs.DueIsAnswered.{fault_of_file, on_ok_always}
 use Rattle.answer_journal.proofs.back.contents_of.Goals as goal
 
 pub returns-clause-ok : goal.returns-clause-ok
@@ -39,3 +39,8 @@ returns-in_err-bytes-clause-journal g c = IfOk-from_err _ _ c.from_residual.ensu
 
 pub returns-in_err-bytes-clause-ticks : goal.returns-in_err-bytes-clause-ticks
 returns-in_err-bytes-clause-ticks g c = λ told. IfOk-from_err _ _ c.from_residual.ensures.0
+
+-- ---- what was read
+
+pub returns-clause-ticks : goal.returns-clause-ticks
+returns-clause-ticks g c = λ told. on_ok_always c.read_all.result (c.in_ok-bytes.ensures.ticks told)

@@ -3,7 +3,7 @@ use Rattle.std.proofs.lemmas.Result.{on_ok_weaker}
 use Rattle.bench_core.specs.Calls.{LeavesOnly}
 use Rattle.journal_form.specs.Header.{IsWholeShape}
 use Rattle.answer_journal.specs.Append.{Appending, appended}
-use Rattle.answer_journal.proofs.Makes.{header_behind, opened, opening_moments}
+use Rattle.answer_journal.proofs.Makes.{header_behind, opened, opened_whole, opening_moments}
 use Rattle.answer_journal.proofs.make.open.Goals as goal
 
 pub returns-clause-any_moment : goal.returns-clause-any_moment
@@ -24,4 +24,16 @@ returns-clause-done g c = λ told.
     let shaped : IsWholeShape shape = c.write_header.ensures.whole in
     on_ok_weaker c.append_bytes.result
     (λ is. opened file shape shaped closed.0 closed.1 (g.B.Bench.file c.append_bytes.new.bench) (is ∙ ap (λ group. appended 0 group file) (header_behind shape c.write_header.new.out shaped.eight c.write_header.ensures.bytes)))
+    (c.append_bytes.ensures.done told)
+
+pub returns-clause-written : goal.returns-clause-written
+returns-clause-written g c = λ told.
+    let file = g.B.Bench.file c.args.bench.now in
+    let shape = c.args.shape.now in
+    let closed = c.requires.closed told in
+    let shaped : IsWholeShape shape = c.write_header.ensures.whole in
+    let header = header_behind shape c.write_header.new.out shaped.eight c.write_header.ensures.bytes in
+    on_ok_weaker c.append_bytes.result
+    (λ is. opened_whole file shape shaped closed.0 closed.1 (c.requires.fits told) (g.B.Bench.file c.append_bytes.new.bench)
+    (is ∙ ap (λ group. appended 0 group file) header))
     (c.append_bytes.ensures.done told)

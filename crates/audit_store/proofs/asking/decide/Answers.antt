@@ -1,4 +1,4 @@
-use Rattle.std.proofs.Common.{rules, List, [], ◌∷◌, ◌++◌, sym, ap, subst, ◌∙◌, FitsSigned, to_z, of_z}
+use Rattle.std.proofs.Common.{rules, List, [], ◌∷◌, ◌++◌, sym, ap, subst, ◌∙◌, FitsSigned, to_z, of_z, append-nil}
 use Rattle.std.specs.Int.{w64}
 use Rattle.std.proofs.Math.Facts.{to_z-of_z}
 use Rattle.audit_types.specs.declared.records.Answered.{Answered}
@@ -20,3 +20,10 @@ returns-in_ok-take-in-Answer-clause-legal c =
     let grown = ap (λ (a : Audited). a.history) c.in_ok-take-in-Answer.ensures.ok ∙ ap (λ (a : Audited). a.history ++ r ∷ []) c.in_ok-answer.ensures.same in
     let more = c.released_records.ensures table history r c.requires.legal outcome.0 (record { fits = c.requires.fits; true_answer = to_z-of_z in_range ∙ outcome.2; released = outcome.1 }) in
     subst (λ (h : List Answered). IsLegal table h) (sym grown) more
+
+pub returns-in-Full-clause-outcome : goal.returns-in-Full-clause-outcome
+returns-in-Full-clause-outcome c =
+    subst (λ (o : Outcome). IsOutcome (secret_table c.args.secret.now) c.args.core.now.history c.args.asked.now o) c.in-Full.is c.in_ok-answer.ensures.outcome
+
+pub returns-in-Full-clause-history : goal.returns-in-Full-clause-history
+returns-in-Full-clause-history c = ap (λ (a : Audited). a.history) c.in_ok-answer.ensures.same ∙ sym (append-nil c.args.core.now.history)

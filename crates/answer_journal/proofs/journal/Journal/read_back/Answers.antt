@@ -1,11 +1,15 @@
 use Rattle.std.proofs.Common.{rules, ◌≡◌, ℕ, true, length, All, sym, ap, ◌∙◌, subst}
+use Rattle.std.proofs.lemmas.Result.{IfErr-at_err}
 use Rattle.audit_types.specs.declared.shapes.Shape.{Shape}
 use Rattle.audit_types.specs.declared.records.Answered.{Answered}
 use Rattle.audit_types.specs.History.{FitsShape}
+use Rattle.journal_form.specs.Journal.{StandsAt}
 use Rattle.answer_journal.specs.Contents.{IsJournal, JournalContents}
+use Rattle.answer_journal.specs.declared.journal.BackFault.{BackFault}
+use Rattle.answer_journal.specs.Faults.{IsFaultOf}
 use Rattle.answer_journal.proofs.Histories.{is_journal}
 use Rattle.answer_journal.proofs.RecordsFit.{history_fits}
-use Rattle.answer_journal.proofs.DueIsAnswered.{damage_is_due, whole_has_no_fault}
+use Rattle.answer_journal.proofs.DueIsAnswered.{stands_is_made, not_made_is_due, damage_is_due, whole_has_no_fault}
 use Rattle.answer_journal.proofs.journal.Journal.read_back.Goals as goal
 
 pub ending_at-requires : goal.ending_at-requires
@@ -48,3 +52,21 @@ returns-in-Ok-clause-untouched g c = c.contents_of.ensures.untouched
 
 pub returns-in-Err-clause-untouched : goal.returns-in-Err-clause-untouched
 returns-in-Err-clause-untouched g c = c.contents_of.ensures.untouched
+
+pub returns-in-Ok-clause-stands : goal.returns-in-Ok-clause-stands
+returns-in-Ok-clause-stands g c = λ told.
+    let contents = c.in-Ok.contents in
+    let ended = λ (j : JournalContents). StandsAt (g.B.Bench.file c.args.bench.now) j.shape contents.list.items j.gate in
+    subst ended (sym c.ending_at.ensures) (c.in-Ok.ensures.ok told)
+
+pub returns-in-Ok-clause-made : goal.returns-in-Ok-clause-made
+returns-in-Ok-clause-made g c = λ told unmade.
+    let contents = c.in-Ok.contents in
+    unmade (stands_is_made (g.B.Bench.file c.args.bench.now) contents.shape contents.list.items contents.gate (c.in-Ok.ensures.ok told))
+
+pub returns-in-Err-clause-made : goal.returns-in-Err-clause-made
+returns-in-Err-clause-made g c = λ told unmade. not_made_is_due (g.B.Bench.file c.args.bench.now) c.in-Err.fault (c.in-Err.ensures.err told) unmade
+
+pub returns-in-Err-clause-damaged : goal.returns-in-Err-clause-damaged
+returns-in-Err-clause-damaged g c = λ at told is.
+    IfErr-at_err (λ (f : BackFault). IsFaultOf (g.B.Bench.file c.args.bench.now) f) is (c.in-Err.ensures.err told)

@@ -1,15 +1,17 @@
-use Rattle.std.proofs.Common.{◌≡◌, true, List, ◌+◌, ◌-◌, refl, ◌++◌, length, take, drop, sym, ap, subst, ◌∙◌}
+use Rattle.std.proofs.Common.{◌≡◌, true, List, All, ◌+◌, ◌-◌, refl, ◌++◌, length, take, drop, sym, ap, subst, ◌∙◌, arith}
 use Rattle.std.proofs.Math.Seq.{take-length}
+use Rattle.std.proofs.lemmas.List.Elements.{All-take, All-drop}
 use Rattle.std.proofs.lemmas.Result.{IfOk-from_err}
 use Rattle.audit_types.specs.declared.records.Answered.{Answered}
 use Rattle.audit_types.specs.declared.shapes.Shape.{Shape}
+use Rattle.audit_types.specs.History.{FitsShape, Setting}
 use Rattle.journal_form.specs.Journal.{StandsAt}
 use Rattle.answer_journal.specs.Moments.{IsBeforeOrAfter}
 use Rattle.bench_core.specs.Calls.{LeavesOnly}
 use Rattle.audit_core.specs.Outcomes.{AreOutcomes, records_made}
 use Rattle.table_load.specs.Database.{secret_table}
 use Rattle.audit_store.specs.Stores.{StoreContents, HasGroup, calls_for}
-use Rattle.audit_store.proofs.Stores.{core_is_history, released_and_more, more_released, taken_since}
+use Rattle.audit_store.proofs.Stores.{core_is_history, released_and_more, more_released, taken_since, refused_store, kept_store}
 use Rattle.audit_store.specs.Refusals.{no_refusal}
 use Rattle.audit_store.proofs.store.Store.ask_all.Goals as goal
 
@@ -74,6 +76,77 @@ keep-requires-clause-stands g c = λ told.
     let before : StandsAt file i.secret.shape history i.journal.gate = subst (λ (s : StoreContents). StandsAt file s.secret.shape s.history s.journal.gate) (sym c.self.view_is) (c.requires.stands told) in
     let here : StandsAt file i.journal.shape history i.journal.gate = subst (λ (s : Shape). StandsAt file s history i.journal.gate) (sym shape) before in
     (history, here, sym (c.self.invariant.0.counted usable))
+
+pub invariant_of-self : goal.invariant_of-self
+invariant_of-self g c =
+    let i = c.self.inside in
+    let usable : i.usable ≡ true = ap (λ (s : StoreContents). s.usable) c.self.view_is ∙ c.requires.usable in
+    let took = c.decide_all.ensures in
+    refused_store i.secret i.core c.decide_all.new.core i.released i.journal i.journal i.usable usable c.self.invariant.0 c.self.invariant.1
+    took.begins took.within took.setting
+
+pub returns-in_err-outcomes-clause-is : goal.returns-in_err-outcomes-clause-is
+returns-in_err-outcomes-clause-is g c = (invariant_of-self g c).0
+
+pub invariant_of-self-in_err-keep : goal.invariant_of-self-in_err-keep
+invariant_of-self-in_err-keep g c =
+    let i = c.self.inside in
+    let usable : i.usable ≡ true = ap (λ (s : StoreContents). s.usable) c.self.view_is ∙ c.requires.usable in
+    let took = c.decide_all.ensures in
+    refused_store i.secret i.core c.decide_all.new.core i.released i.journal c.keep.new.journal i.usable usable c.self.invariant.0 c.self.invariant.1
+    took.begins took.within took.setting
+
+pub returns-in_err-keep-clause-is : goal.returns-in_err-keep-clause-is
+returns-in_err-keep-clause-is g c = (invariant_of-self-in_err-keep g c).0
+
+pub invariant_of-self-2 : goal.invariant_of-self-2
+invariant_of-self-2 g c =
+    let i = c.self.inside in
+    let usable : i.usable ≡ true = ap (λ (s : StoreContents). s.usable) c.self.view_is ∙ c.requires.usable in
+    let took = c.in_ok-outcomes.ensures in
+    let made = records_made c.args.asked.now c.in_ok-outcomes.outcomes.items in
+    let shown = c.history.result.now in
+    let all = c.self.invariant.1.all usable in
+    let group = taken_since i.core.history c.decide_all.new.core.history shown made i.released c.history.ensures.is all took.history in
+    let kept = c.in_ok-keep.ensures in
+    kept_store i.secret i.core c.decide_all.new.core i.released (length c.history-2.result.now) i.journal c.keep.new.journal i.usable
+    (take (length shown - i.released) (drop i.released shown)) made usable c.self.invariant.0 c.self.invariant.1 took.history c.decide_all.ensures.setting
+    took.legal (ap length c.history-2.ensures.is) group kept.usable c.keep.ensures.shape kept.counted
+
+pub returns-clause-is : goal.returns-clause-is
+returns-clause-is g c = (invariant_of-self-2 g c).0
+
+pub keep-requires-clause-group : goal.keep-requires-clause-group
+keep-requires-clause-group g c =
+    let i = c.self.inside in
+    let usable : i.usable ≡ true = ap (λ (s : StoreContents). s.usable) c.self.view_is ∙ c.requires.usable in
+    let all = c.self.invariant.1.all usable in
+    let took = c.in_ok-outcomes.ensures in
+    let made = records_made c.args.asked.now c.in_ok-outcomes.outcomes.items in
+    let shown = c.history.result.now in
+    let group = taken_since i.core.history c.decide_all.new.core.history shown made i.released c.history.ensures.is all took.history in
+    omega (arith, ap length group, took.few, c.requires.few)
+
+pub keep-requires-clause-fit : goal.keep-requires-clause-fit
+keep-requires-clause-fit g c =
+    let i = c.self.inside in
+    let usable : i.usable ≡ true = ap (λ (s : StoreContents). s.usable) c.self.view_is ∙ c.requires.usable in
+    let setting = c.decide_all.ensures.setting ∙ c.self.invariant.1.same_setting in
+    let shown = c.history.result.now in
+    let group = take (length shown - i.released) (drop i.released shown) in
+    let fits = λ (s : Shape). λ (r : Answered). FitsShape s r.column r.rows in
+    let core = c.decide_all.new.core.setting.shape in
+    let shape : core ≡ i.journal.shape = ap (λ (s : Setting). s.shape) setting ∙ sym (c.self.invariant.0.same_shape usable) in
+    subst (λ (s : Shape). All (λ (r : Answered). FitsShape s r.column r.rows) group) shape
+    (All-take (fits core) (length shown - i.released) (drop i.released shown) (All-drop (fits core) i.released shown c.history.ensures.fit))
+
+pub returns-clause-outcomes : goal.returns-clause-outcomes
+returns-clause-outcomes g c =
+    let i = c.self.inside in
+    let usable : i.usable ≡ true = ap (λ (s : StoreContents). s.usable) c.self.view_is ∙ c.requires.usable in
+    let all = core_is_history i.secret i.core i.released i.usable (take i.released i.core.history) c.self.invariant.1 usable refl in
+    subst (λ (s : StoreContents). AreOutcomes (secret_table s.secret) s.history c.args.asked.now c.in_ok-outcomes.outcomes.items) c.self.view_is
+    (subst (λ (h : List Answered). AreOutcomes (secret_table i.secret) h c.args.asked.now c.in_ok-outcomes.outcomes.items) all c.in_ok-outcomes.ensures.outcomes)
 
 pub returns-clause-ticks : goal.returns-clause-ticks
 returns-clause-ticks g c = λ told.

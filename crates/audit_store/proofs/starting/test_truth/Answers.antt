@@ -1,0 +1,22 @@
+use Rattle.std.proofs.Common.{rules, refl, FitsSigned, ◌∙◌}
+use Rattle.std.specs.Int.{w64}
+use Rattle.std.proofs.Math.Facts.{to_z-of_z}
+use Rattle.std.proofs.lemmas.Option.{slice_get_read}
+use Rattle.audit_store.proofs.starting.test_truth.Goals as goal
+
+pub returns-then-now-answered-clause-err : goal.returns-then-now-answered-clause-err
+returns-then-now-answered-clause-err c =
+    let list = c.args.list.now in
+    let r = c.index-list-place.result in
+    let kept : FitsSigned w64 r.answer = search rules in
+    let now : FitsSigned w64 c.truth-now.result = search rules in (
+      refl,
+      record {
+        at = r;
+        stands = slice_get_read list _ c.loop-place.place r refl c.loop-place-test.true c.index-list-place.is;
+        kept_is = to_z-of_z kept;
+        now_is = to_z-of_z now ∙ c.truth-now.ensures;
+        differ = search rules;
+        before = c.loop-place.invariant;
+      },
+    )
