@@ -28,7 +28,8 @@ module _ (list : List Value) (columns : List (String Global × Role)) (index : �
     (kept : columns_in (items_view list) ≡ option_map (λ cs. map column_of_entry columns ++ cs) (columns_in (items_view (drop index list)))) where
   -- the columns of the values that are left
   left : (value : Value) → index < length list → value ≡ get_or list index value
-      → columns_in (items_view (drop index list)) ≡ option_and_then (λ c. option_map (λ cs. c ∷ cs) (columns_in (items_view (drop (index + 1) list)))) (column_of (view value))
+      → columns_in (items_view (drop index list))
+      ≡ option_and_then (λ c. option_map (λ cs. c ∷ cs) (columns_in (items_view (drop (index + 1) list)))) (column_of (view value))
   left value below is = ap (λ vs. columns_in (items_view vs)) (drop_more list index value below ∙ ap (λ v. v ∷ drop (index + 1) list) (sym is))
 
   -- a value that is no column leaves none
@@ -38,7 +39,8 @@ module _ (list : List Value) (columns : List (String Global × Role)) (index : �
       kept ∙ ap (option_map (λ cs. map column_of_entry columns ++ cs)) (left value below is ∙ ap (option_and_then (λ c. option_map (λ cs. c ∷ cs) rest)) none)
 
   -- a value that is a column is kept after those before it
-  pub column_more : (value : Value) (name : String Global) (role : Role) (more : List (String Global × Role)) → index < length list → value ≡ get_or list index value
+  pub column_more : (value : Value) (name : String Global) (role : Role) (more : List (String Global × Role))
+      → index < length list → value ≡ get_or list index value
       → column_of (view value) ≡ Some (column_of_entry (name, role)) → more ≡ columns ++ (name, role) ∷ []
       → columns_in (items_view list) ≡ option_map (λ cs. map column_of_entry more ++ cs) (columns_in (items_view (drop (index + 1) list)))
   column_more value name role more below is some taken =

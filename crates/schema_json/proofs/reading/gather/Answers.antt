@@ -6,14 +6,17 @@ use Rattle.schema_json.proofs.reading.gather.Goals as goal
 
 pub returns-in_default : goal.returns-in_default
 returns-in_default c =
-    no_column c.args.list.now c.loop-value.columns.items c.loop-value.value-index c.loop-value.invariant c.value-item.result c.loop-value-test.true c.value-item.is
+    no_column
+    c.args.list.now c.loop-value.columns.items c.loop-value.value-index c.loop-value.invariant c.value-item.result
+    c.loop-value-test.true c.value-item.is
     (sym c.in_default.ensures)
 
 pub loop-value-preserved : goal.loop-value-preserved
 loop-value-preserved c =
     let column : List ℕ → Column = λ name. record { name = name; role = c.in-Some.role } in
     column_more
-    c.args.list.now c.loop-value.columns.items c.loop-value.value-index c.loop-value.invariant c.value-item.result c.in-Ok.name c.in-Some.role c.push.new.self.items
+    c.args.list.now c.loop-value.columns.items c.loop-value.value-index c.loop-value.invariant c.value-item.result
+    c.in-Ok.name c.in-Some.role c.push.new.self.items
     c.loop-value-test.true c.value-item.is
     (sym c.in-Some.ensures ∙ ap (λ name. Some (column name)) (sym c.in-Ok.ensures.ok))
     (pushed c.push.result c.loop-value.columns.items c.push.new.self.items (c.in-Ok.name, c.in-Some.role) (sym c.if-is_err.ensures.value) c.push.ensures.items)
