@@ -5,4 +5,5 @@ pub mod RepeatedNames
 pub mod SecretPlaces
 pub mod ShapeKinds
 pub mod KeyCount
+pub mod GatheredColumns
 pub mod ValidShapes

@@ -1,7 +1,8 @@
 -- What one read more of a file gives.
-use Rattle.std.proofs.Common.{Bor, List, ℕ, ◌≡◌, ◌∙◌, ◌++◌, ◌∷◌, [], inl, Some, None, true, false, sym, ap, append_assoc, Option}
+use Rattle.std.proofs.Common.{Bor, Vec, Global, List, ℕ, ◌≡◌, ◌<◌, ◌≤◌, ◌∙◌, ◌++◌, ◌∷◌, [], inl, Some, None, true, false, sym, ap, arith, map, drop, length, append_assoc, Option}
+use Rattle.std.proofs.lemmas.List.{length-map}
 use Rattle.std.proofs.lemmas.Bool.{false≢true}
-use Rattle.std.specs.Prelude.{Ok}
+use Rattle.std.specs.Prelude.{Result, Ok, Err}
 use Rattle.csv.specs.Reading.{ExplainsRead, RowStep, default_config, is_flexible, strip_bom}
 use Rattle.csv.specs.declared.error.ErrorKind.{ErrorKind}
 use Rattle.csv.specs.declared.error.ErrorKind.TheVariants as kind
@@ -12,11 +13,11 @@ use Rattle.csv.specs.declared.parser.State.TheVariants as state
 use Rattle.csv.proofs.ReadFacts.{rows-end, rows-more}
 use Rattle.schema_json.specs.Columns.{Column}
 use Rattle.table_load.specs.Faults.{UnlessMemory}
-use Rattle.table_load.specs.Reading.{Fields, records_of, roles_of, data_fault, file_fault}
-use Rattle.table_load.specs.Steps.{HasRead, HasOpened, IsOfMemory}
+use Rattle.table_load.specs.Reading.{Fields, records_of, records_fault, roles_of, data_fault, file_fault}
+use Rattle.table_load.specs.Steps.{HasRead, HasOpened, IsOfMemory, ReadsData, SomeRows}
 use Rattle.table_load.specs.declared.faults.TableFault.{TableFault}
 use Rattle.table_load.specs.declared.faults.TableFault.TheVariants.{TooLong, Header, Length, NotText, NotNumber, OutOfRange, TooManyRows, NoRows, NoMemory}
-use Rattle.table_load.proofs.FirstFaults.{short_file, good_header}
+use Rattle.table_load.proofs.FirstFaults.{short_file, good_header, good_rows, no_rows}
 use Rattle.table_load.proofs.RecordsOfBytes.{all_of_records, front_of_records}
 
 -- a reader of bytes, and what it knows of them
@@ -104,3 +105,23 @@ fault_answered (OutOfRange line column) P h = h
 fault_answered TooManyRows P h = h
 fault_answered NoRows P h = h
 fault_answered NoMemory P h = tt
+
+-- the rows of an opened file of which no record is left are its data, unless there are none
+pub rows_read : (columns : List Column) (bytes : List ℕ) (rows : Vec Row Global) (a b : Reads) (result : Result (Vec Row Global) TableFault)
+    → HasOpened columns bytes (map fields_of rows.items) a → RowStep (λ (s : Bor (List ℕ)). Some s.now) a.rdr b.rdr b.left None
+    → records_fault (roles_of columns) 2 (map fields_of rows.items) ≡ None → length rows.items ≤ 1024 → SomeRows result rows → ReadsData result columns bytes
+rows_read columns bytes rows a b (Ok v) opened step good few answered =
+    let read = map fields_of rows.items in
+    let same = length-map rows.items fields_of in
+    let some : 0 < length read = omega (arith, same, answered.1) in
+    let at_most : length read ≤ 1024 = omega (arith, same, few) in
+    rw answered.0 (record {
+      no_fault = judged_all columns bytes read a b opened step ∙ good_rows (roles_of columns) read some at_most good;
+      data_are = ap (drop 1) (all_read columns bytes read a b opened step);
+      good = good;
+      some = some;
+      at_most = at_most;
+    })
+rows_read columns bytes rows a b (Err fault) opened step good few answered =
+    let none : length (map fields_of rows.items) ≡ 0 = length-map rows.items fields_of ∙ answered.1 in
+    rw answered.0 (judged_all columns bytes (map fields_of rows.items) a b opened step ∙ no_rows (roles_of columns) (map fields_of rows.items) none)

@@ -1,6 +1,6 @@
 -- Sums and greatest numbers over sets, a block of rows at a time.
 use Rattle.std.proofs.Common.{◌≡◌, ◌≢◌, ℕ, zero, suc, ◌+◌, ◌*◌, ◌/◌, ◌<◌, ◌≤◌, ◌^◌, Bool, true, false, cond, not, ◌&&◌, ◌||◌, ◌==◌, List, [], ◌∷◌, ◌++◌, map, get_or, refl, sym, ap, ◌∙◌, arith, inl, inr}
-use Rattle.std.specs.Prelude.{ℤ, pos, ◌+ℤ◌, unsigned_abs, nat_lt}
+use Rattle.std.specs.Prelude.{ℤ, pos, neg_ℤ, ◌+ℤ◌, unsigned_abs, nat_lt}
 use Rattle.std.specs.List.{fold}
 use Rattle.std.specs.Int.{int_max}
 use Rattle.std.proofs.lemmas.Int.{ints, clamps}
@@ -15,6 +15,7 @@ use Rattle.audit_types.specs.SumLaws.{sum_over-append}
 use Rattle.table_load.specs.Cells.{AreNumbers}
 use Rattle.table_load.specs.Kept.{block_rows, AreBlocks}
 use Rattle.table_load.proofs.AnswerSizes.{sum_small}
+use Rattle.table_load.proofs.SetSums.{number_small}
 
 -- the rows of a list that are not in a block
 abbrev pub rows_left : ℕ → List ℕ → ℕ → List ℕ
@@ -105,6 +106,15 @@ fold_early a b (y ∷ l) =
 pub greatest_joined : (a : ℤ) (w : List ℤ) (rows : List ℕ) → rows ≢ [] → fold int_max a (map (number_at w) rows) ≡ int_max a (greatest_over w rows)
 greatest_joined a w [] some = absurd (some refl)
 greatest_joined a w (r ∷ rows) some = fold_early a (number_at w r) (map (number_at w) rows)
+
+-- the greatest over some rows, looked for from the least number on
+pub greatest_from_least : (n : ℕ) (w : List ℤ) (rows : List ℕ) → AreNumbers n w → AreRows n rows → rows ≢ [] →
+    fold int_max (neg_ℤ (pos (2 ^ 63))) (map (number_at w) rows) ≡ greatest_over w rows
+greatest_from_least n w [] numbers are some = absurd (some refl)
+greatest_from_least n w (r ∷ rows) numbers are some =
+    let small : unsigned_abs (number_at w r) ≤ 10 ^ 12 = number_small n w r numbers are.1 in
+    let first : int_max (neg_ℤ (pos (2 ^ 63))) (number_at w r) ≡ number_at w r = omega (arith, ints, clamps) in
+    ap (λ z. fold int_max z (map (number_at w) rows)) first
 
 -- the rows of a block that are below a row
 abbrev pub rows_below : ℕ → ℕ → ℕ → List ℕ

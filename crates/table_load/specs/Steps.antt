@@ -17,7 +17,7 @@ use Rattle.table_load.specs.Faults.{UnlessMemory}
 use Rattle.table_load.specs.Reading.{Fields, names_are, record_fault, records_fault, roles_of, file_fault, most_table}
 use Rattle.table_load.specs.Tables.{data_of}
 use Rattle.table_load.specs.declared.faults.TableFault.{TableFault}
-use Rattle.table_load.specs.declared.faults.TableFault.TheVariants.{Header, TooManyRows, NoMemory}
+use Rattle.table_load.specs.declared.faults.TableFault.TheVariants.{Header, TooManyRows, NoRows, NoMemory}
 
 -- these are the first records of the bytes, and the reader stands after them
 pub record HasRead (bytes : List ℕ) (rows : List Fields) (reader : ByteRecordsIntoIter (Bor (List ℕ))) : Type 0 where
@@ -80,6 +80,11 @@ pub record AreData (columns : List Column) (bytes : List ℕ) (rows : List Field
   pub good : records_fault (roles_of columns) 2 rows ≡ None
   pub some : 0 < length rows
   pub at_most : length rows ≤ most_rows
+
+-- these rows, of which there are some, or the fault of a file without any
+abbrev pub SomeRows : Result (Vec Row Global) TableFault → Vec Row Global → Type 0
+SomeRows (Ok v) rows = (v ≡ rows) × (0 < length rows.items)
+SomeRows (Err fault) rows = (fault ≡ NoRows) × (length rows.items ≡ 0)
 
 -- the data records of the file, or its first fault
 abbrev pub ReadsData : Result (Vec Row Global) TableFault → List Column → List ℕ → Type 0

@@ -3,7 +3,7 @@ ghost use Rattle.std.specs.Prelude.{◌≡◌, ◌++◌, ◌∷◌, [], length, 
 ghost use Rattle.table_load.specs.Reading.{file_columns, roles_of};
 ghost use Rattle.csv.specs.Reading.{error_kind};
 ghost use Rattle.csv.specs.Records.{fields_of};
-ghost use Rattle.table_load.specs.Steps.{AddsRow, ChecksHeader, HasRead, IsOfMemory, Opens, ReadsData, next_fault};
+ghost use Rattle.table_load.specs.Steps.{AddsRow, ChecksHeader, HasRead, IsOfMemory, Opens, ReadsData, SomeRows, next_fault};
 ghost use Rattle.table_load.specs.declared.faults.TableFault.TheVariants.{NoMemory};
 
 use crate::faults::TableFault;
@@ -42,20 +42,20 @@ fn read_fault(error: &Error) -> TableFault
     }
 }
 
-// Tells whether the first record is the header of a file.
+// Tells whether a first record is the header of a file.
 fn check_header(
     schema: &Schema,
     which: FileColumns,
-    first: &Option<Result<ByteRecord, Error>>,
+    first: Option<Result<ByteRecord, Error>>,
 ) -> Result<(), TableFault>
-    requires { IfSome first.now (λ read. IfErr read (λ error. IsOfMemory (error_kind error))) }
-    ensures { ChecksHeader result (file_columns which schema.now.columns) first.now }
+    requires { IfSome first (λ read. IfErr read (λ error. IsOfMemory (error_kind error))) }
+    ensures { ChecksHeader result (file_columns which schema.now.columns) first }
 {
     match first {
         None => Err(TableFault::Header),
-        Some(Err(error)) => Err(read_fault(error)),
+        Some(Err(error)) => Err(read_fault(&error)),
         Some(Ok(header)) => {
-            if is_header(schema, which, header) {
+            if is_header(schema, which, &header) {
                 Ok(())
             } else {
                 Err(TableFault::Header)
@@ -78,7 +78,7 @@ fn open_file<'b>(
     }
     let mut records = records_of(alloc, bytes);
     let first = records.next();
-    match check_header(schema, which, &first) {
+    match check_header(schema, which, first) {
         Ok(()) => Ok(records),
         Err(fault) => Err(fault),
     }
@@ -126,6 +126,16 @@ fn add_row(
     }
 }
 
+// The rows, unless there are none.
+fn some_rows(rows: Vec<ByteRecord>) -> Result<Vec<ByteRecord>, TableFault>
+    ensures { SomeRows result rows }
+{
+    if rows.is_empty() {
+        return Err(TableFault::NoRows);
+    }
+    Ok(rows)
+}
+
 /// The data records of a file, where none of them has a fault. Records of another length are read too, and only want of
 /// memory is left as an error of a read.
 pub(crate) fn read_rows(
@@ -149,8 +159,5 @@ pub(crate) fn read_rows(
             return Err(fault);
         }
     }
-    if rows.is_empty() {
-        return Err(TableFault::NoRows);
-    }
-    Ok(rows)
+    some_rows(rows)
 }

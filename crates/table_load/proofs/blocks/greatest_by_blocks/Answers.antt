@@ -1,12 +1,11 @@
-use Rattle.std.proofs.Common.{arith, cond, map, rules, SFits, ◌≡◌, ◌≤◌, ◌+◌, ◌*◌, ap, ◌∙◌, get_or, to_z, of_z}
-use Rattle.std.proofs.lemmas.Grind.{common_steps}
+use Rattle.std.proofs.Common.{cond, map, rules, SFits, ◌≡◌, ◌≤◌, ◌+◌, ◌*◌, refl, ap, ◌∙◌, get_or, to_z, of_z}
 use Rattle.std.specs.Prelude.{pos}
 use Rattle.std.specs.Int.{w64}
 use Rattle.std.proofs.lemmas.Int.{to_z-of_z}
 use Rattle.std.specs.Int.{int_max}
 use Rattle.std.specs.List.{fold}
 use Rattle.audit_types.specs.Truth.{number_at}
-use Rattle.table_load.proofs.WholeBlocks.{block_within, rows_left, greatest_step, are_left}
+use Rattle.table_load.proofs.WholeBlocks.{block_within, rows_left, greatest_step, greatest_from_least, are_left}
 use Rattle.table_load.proofs.blocks.greatest_by_blocks.Goals as goal
 use Rattle.table_load.proofs.blocks.greatest_by_blocks.Goals.{then-take_block, else-take_block}
 
@@ -47,4 +46,8 @@ loop-block-preserved c =
     ]
 
 pub loop-block-init : goal.loop-block-init
-loop-block-init c = grind (arith, common_steps)
+loop-block-init c = record {
+  same_n = refl;
+  are = c.n-n.ensures.are_rows;
+  greatest = greatest_from_least c.args.rows.now.n c.args.list.now c.args.rows.now.list c.requires.numbers c.n-n.ensures.are_rows c.requires.some;
+}
