@@ -28,7 +28,16 @@ invariant_of-result c =
     let kept = ap length (stored c.put-2.new.bytes c.deref_mut-2.result.now stable.items stable.len c.put-2.auto.bytes c.deref_mut-2.ensures.len) in (
       omega (arith, c.requires, file, c.put.auto.bytes, c.deref_mut.ensures.len, c.in_ok-bytes.ensures.len),
       omega (arith, c.requires, kept, c.put-2.auto.bytes, c.deref_mut-2.ensures.len, c.in_ok-stable.ensures.len),
-      omega (arith, file, kept, c.put.auto.bytes, c.put-2.auto.bytes, c.deref_mut.ensures.len, c.deref_mut-2.ensures.len,
-      c.in_ok-bytes.ensures.len, c.in_ok-stable.ensures.len),
+      omega (
+        arith,
+        file,
+        kept,
+        c.put.auto.bytes,
+        c.put-2.auto.bytes,
+        c.deref_mut.ensures.len,
+        c.deref_mut-2.ensures.len,
+        c.in_ok-bytes.ensures.len,
+        c.in_ok-stable.ensures.len,
+      ),
       omega (arith, file, c.put.auto.bytes, c.deref_mut.ensures.len, c.in_ok-bytes.ensures.len, c.in_ok-dirty.ensures.len, c.in_ok-dirty.dirty.ok.0),
     )
