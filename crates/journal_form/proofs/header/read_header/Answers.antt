@@ -1,5 +1,4 @@
 use Rattle.std.proofs.Common.{arith, inl, inr, refl}
-use Rattle.std.proofs.lemmas.Grind.{common_steps}
 use Rattle.journal_form.proofs.Headers.{before_middle, header_is_read}
 use Rattle.journal_form.proofs.header.read_header.Goals as goal
 
@@ -28,4 +27,9 @@ pub returns-clause-ok : goal.returns-clause-ok
 returns-clause-ok c = header_is_read c.args.bytes.now c.told-bytes (λ k. omega (arith, c.type_inv.bytes)) c.in_default-bad_kind.ensures.none
 
 pub returns-then-bytes-gt4-clause-err : goal.returns-then-bytes-gt4-clause-err
-returns-then-bytes-gt4-clause-err c = grind (arith, common_steps)
+returns-then-bytes-gt4-clause-err c = record {
+  before =
+      before_middle c.args.bytes.now 9 c.in_default.ensures.none (omega arith) (λ at. absurd (omega arith)) (λ at. absurd (omega arith)) (λ at. absurd (omega arith));
+  within = omega arith;
+  stops = inr (omega arith, λ good. let low = good.rows_high refl in omega arith);
+}

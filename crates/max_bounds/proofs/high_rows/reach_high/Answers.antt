@@ -1,6 +1,5 @@
 use Rattle.std.proofs.Common.{arith}
-use Rattle.std.proofs.lemmas.Grind.{common_steps}
 use Rattle.max_bounds.proofs.high_rows.reach_high.Goals as goal
 
 pub reach-requires-clause-reaches : goal.reach-requires-clause-reaches
-reach-requires-clause-reaches c = grind (arith, common_steps)
+reach-requires-clause-reaches c = grind arith

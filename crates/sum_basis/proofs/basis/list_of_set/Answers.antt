@@ -1,6 +1,5 @@
 use Rattle.std.proofs.Common.{arith}
-use Rattle.std.proofs.lemmas.Grind.{common_steps}
 use Rattle.sum_basis.proofs.basis.list_of_set.Goals as goal
 
 pub returns-then-same : goal.returns-then-same
-returns-then-same c = grind (arith, common_steps)
+returns-then-same c = grind arith

@@ -1,6 +1,5 @@
 use Rattle.std.proofs.Common.{arith}
-use Rattle.std.proofs.lemmas.Grind.{common_steps}
 use Rattle.bench_core.proofs.memory_bench.MemoryBench.torn_byte.Goals as goal
 
 pub returns-else-place-stable : goal.returns-else-place-stable
-returns-else-place-stable c = grind (arith, common_steps)
+returns-else-place-stable c = grind arith
