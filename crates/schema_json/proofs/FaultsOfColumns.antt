@@ -5,7 +5,7 @@ use Rattle.std.specs.List.{list_any, list_all}
 use Rattle.std.specs.declared.alloc.Global.{Global}
 use Rattle.schema_json.specs.Columns.{Column, SchemaView, AreColumns, has_public, has_good_names, repeats, too_many, is_good_name, is_secret}
 use Rattle.schema_json.specs.Kept.{column_of_entry}
-use Rattle.schema_json.specs.Reading.{checked, with_public, IsFaultOf, IsMapFault, Gathers, ReadsColumns, ReadsSchema, schema_of}
+use Rattle.schema_json.specs.Reading.{checked, with_public, IsFaultOf, Gathers, ReadsColumns, ReadsSchema, schema_of}
 use Rattle.schema_json.proofs.FirstFault.{public_of_entries, good_of_entries, many_of_entries, fault_along}
 use Rattle.schema_json.specs.declared.roles.Role.{Role}
 use Rattle.schema_json.specs.declared.faults.SchemaFault.{SchemaFault}
@@ -94,17 +94,6 @@ pub are_columns : (es : Entries) → list_any (λ c. not (is_secret c.1)) es ≡
     → (nat_lt 32 (length es) || nat_lt 8 (count_by (λ c. is_secret c.1) es)) ≡ false → AreColumns (map column_of_entry es)
 are_columns es some good once few =
     record { public = some_public es some; good = sym (good_of_entries es) ∙ good; once = once; within = sym (many_of_entries es) ∙ few }
-
--- a fault of the map of the columns is their first fault
-pub maps_fault : (f : SchemaFault) (es : Entries) → list_any (λ c. not (is_secret c.1)) es ≡ true → list_all (λ c. is_good_name (string_bytes c.0)) es ≡ true
-    → IsMapFault f es → IsFaultOf f (checked (with_public (map column_of_entry es)))
-maps_fault NoMemory es some good h = tt
-maps_fault Repeated es some good h = checked_again es some good h
-maps_fault TooLong es some good h = absurd h
-maps_fault NotJson es some good h = absurd h
-maps_fault Shape es some good h = absurd h
-maps_fault BadName es some good h = absurd h
-maps_fault TooMany es some good h = absurd h
 
 -- a fault of gathering the columns is the first fault of the value
 pub gathers_fault : (f : SchemaFault) (o : Option (List Column)) → Gathers (Err f) o → IsFaultOf f (checked (option_and_then with_public o))

@@ -1,11 +1,10 @@
 -- The schema that bytes mean, and the first fault of bytes that mean none.
-use Rattle.std.specs.Prelude.{◌≡◌, ℕ, suc, true, false, not, if◌then◌else◌, List, [], ◌∷◌, length, Option, Some, None, is_none, option_map, option_and_then, unwrap_or, map, String, Vec, Result, Ok, Err, nat_lt, codes, ◌==◌}
+use Rattle.std.specs.Prelude.{◌≡◌, ℕ, suc, not, if◌then◌else◌, List, [], ◌∷◌, length, Option, Some, None, is_none, option_map, option_and_then, unwrap_or, map, String, Vec, Result, Ok, Err, nat_lt, codes, ◌==◌}
 use Rattle.std.specs.Str.{bytes_eq, is_utf8}
 use Rattle.serde_json.specs.Data.{Data, Items, no_items, item, Members, no_members, member}
 use Rattle.serde_json.specs.Read.{read}
 use Rattle.serde_json.specs.Find.{get, as_str, as_array, as_object}
 use Rattle.std.specs.declared.alloc.Global.{Global}
-use Rattle.indexmap.specs.IndexMap.{IndexMap}
 use Rattle.schema_json.specs.Kept.{column_of_entry}
 use Rattle.schema_json.specs.Columns.{Column, SchemaView, has_good_names, repeats, too_many, has_public}
 use Rattle.schema_json.specs.declared.roles.Role.{Role}
@@ -103,18 +102,3 @@ Gathers (Err NotJson) meant = ⊥
 Gathers (Err BadName) meant = ⊥
 Gathers (Err Repeated) meant = ⊥
 Gathers (Err TooMany) meant = ⊥
-
--- the map of the columns can't be made: a name comes twice, or there is no memory
-abbrev pub IsMapFault : SchemaFault → List (String Global × Role) → Type 0
-IsMapFault NoMemory columns = Unit {0}
-IsMapFault Repeated columns = repeats (map column_of_entry columns) ≡ true
-IsMapFault TooLong columns = ⊥
-IsMapFault NotJson columns = ⊥
-IsMapFault Shape columns = ⊥
-IsMapFault BadName columns = ⊥
-IsMapFault TooMany columns = ⊥
-
--- the map of the columns, in their order, each name once
-abbrev pub Maps : {S : Type 0} → Result (IndexMap (String Global) Role S) SchemaFault → List (String Global × Role) → Type 0
-Maps (Ok roles) columns = (roles.entries ≡ columns) × (repeats (map column_of_entry columns) ≡ false)
-Maps (Err fault) columns = IsMapFault fault columns

@@ -1,16 +1,17 @@
 //! From bytes to a schema.
-ghost use Rattle.std.specs.Prelude.{◌≡◌, ℕ, Option, Some, None, option_map, List, map, length, not, ◌||◌, nat_lt, count_by, string_bytes};
+ghost use Rattle.std.specs.Prelude.{◌≡◌, ℕ, Option, Some, None, option_map, List, map, length, not, ◌||◌, nat_lt, count_by, string_bytes, IfOk};
 ghost use Rattle.serde_json.specs.View.{view, items_view};
-ghost use Rattle.schema_json.specs.Columns.{Column, is_secret, is_good_name};
+ghost use Rattle.schema_json.specs.Columns.{Column, is_secret, is_good_name, repeats};
 ghost use Rattle.std.specs.List.{list_any, list_all};
 ghost use Rattle.schema_json.specs.Kept.{column_of_entry};
-ghost use Rattle.schema_json.specs.Reading.{ReadsSchema, IsFaultOf, Gathers, ReadsColumns, checked, role_of, column_of, columns_in, columns_of, key_count, listed_items, with_public, Maps};
+ghost use Rattle.schema_json.specs.Reading.{ReadsSchema, IsFaultOf, Gathers, ReadsColumns, checked, role_of, column_of, columns_in, columns_of, key_count, listed_items, with_public};
 
 use crate::faults::SchemaFault;
 use crate::names::is_good_name;
 use crate::roles::Role;
 use crate::schemas::Schema;
-use indexmap::IndexMap;
+use audit_types::NoMemory;
+use indexmap::IndexSet;
 use serde_json::Value;
 use std::alloc::Global;
 
@@ -146,22 +147,17 @@ fn has_too_many(columns: &[(String, Role)]) -> bool
     columns.len() > 32 || columns.iter().filter(|column| column.1.is_secret()).count() > 8
 }
 
-// A map of the columns in order, or None where a name comes twice.
-fn map_of(
-    alloc: Global,
-    columns: Vec<(String, Role)>,
-) -> Result<IndexMap<String, Role>, SchemaFault>
-    ensures { Maps result columns.items }
+// Whether two columns have one name.
+fn repeats_a_name(alloc: Global, columns: &[(String, Role)]) -> Result<bool, NoMemory>
+    ensures { IfOk result (λ again. again ≡ repeats (map column_of_entry columns.now)) }
 {
-    let mut roles = IndexMap::new(alloc);
-    for (name, role) in columns {
-        match roles.insert(name, role) {
-            Ok(None) => {}
-            Ok(Some(_)) => return Err(SchemaFault::Repeated),
-            Err(_) => return Err(SchemaFault::NoMemory),
+    let mut names = IndexSet::new(alloc);
+    for (name, _) in columns {
+        if !names.insert(name.as_str())? {
+            return Ok(true);
         }
     }
-    Ok(roles)
+    Ok(false)
 }
 
 #[tactic(auto, using(crate::proofs::FaultsOfColumns::checked_private, crate::proofs::FaultsOfColumns::checked_bad))]
@@ -175,15 +171,14 @@ fn schema_of_columns(alloc: Global, columns: Vec<(String, Role)>) -> Result<Sche
     if !has_good_names(list) {
         return Err(SchemaFault::BadName);
     }
-    let many = has_too_many(list);
-    match map_of(alloc, columns) {
-        Err(fault) => Err(fault),
-        Ok(roles) => {
-            if many {
-                Err(SchemaFault::TooMany)
-            } else {
-                Ok(Schema::of(roles))
-            }
-        }
+    let Ok(is_repeated) = repeats_a_name(alloc, list) else {
+        return Err(SchemaFault::NoMemory);
+    };
+    if is_repeated {
+        return Err(SchemaFault::Repeated);
     }
+    if has_too_many(list) {
+        return Err(SchemaFault::TooMany);
+    }
+    Ok(Schema::of(columns))
 }

@@ -1,5 +1,7 @@
 //! A schema as it was read: its columns in order, and where each of them stands.
-ghost use Rattle.std.specs.Prelude.{◌≡◌, ℕ, ◌<◌, ◌≤◌, Some, IfSome, length, map};
+ghost use Rattle.std.specs.Prelude.{◌≡◌, ℕ, ◌<◌, ◌≤◌, Some, IfSome, length, map, string_bytes};
+ghost use Rattle.std.specs.List.{position};
+ghost use Rattle.std.specs.Str.{bytes_eq};
 ghost use Rattle.audit_types.specs.Limits.{most_rows};
 ghost use Rattle.audit_types.specs.Shapes.{IsShape, columns, kind_at};
 ghost use Rattle.schema_json.specs.Columns.{AreColumns, name_at, role_at, place_of, secret_count, secret_place};
@@ -8,13 +10,20 @@ ghost use Rattle.schema_json.specs.Kept.{column_of_entry};
 
 use crate::roles::Role;
 use audit_types::Shape;
-use indexmap::IndexMap;
 use std::marker::Model;
+
+// The place of the first column with this name.
+fn place_among(columns: &[(String, Role)], name: &str) -> Option<usize>
+    ensures place { result ≡ position (λ c. bytes_eq name.now (string_bytes c.0)) columns.now }
+    ensures below { IfSome result (λ place. place < length columns.now) }
+{
+    columns.iter().position(|column| name == column.0.as_str())
+}
 
 /// The columns of a table, in order.
 #[derive(Drop)]
 pub struct Schema {
-    roles: IndexMap<String, Role>,
+    columns: Vec<(String, Role)>,
 }
 
 impl Model for Schema {
@@ -31,11 +40,11 @@ impl Model for Schema {
 
 impl Schema {
     // The schema that keeps these columns.
-    pub(crate) fn of(roles: IndexMap<String, Role>) -> Schema
-        requires { AreColumns (map column_of_entry roles.entries) }
-        ensures { result.columns ≡ map column_of_entry roles.entries }
+    pub(crate) fn of(columns: Vec<(String, Role)>) -> Schema
+        requires { AreColumns (map column_of_entry columns.items) }
+        ensures { result.columns ≡ map column_of_entry columns.items }
     {
-        Schema { roles }
+        Schema { columns }
     }
 
     /// How many columns there are.
@@ -43,7 +52,7 @@ impl Schema {
         ensures count { result ≡ length self.now.columns }
         ensures columns { AreColumns self.now.columns }
     {
-        self.roles.len() as u8
+        self.columns.len() as u8
     }
 
     /// The name of a column.
@@ -51,10 +60,7 @@ impl Schema {
         requires { place < length self.now.columns }
         ensures { Some result.now ≡ name_at self.now.columns place }
     {
-        match self.roles.get_index(place as usize) {
-            Some((name, _)) => name.as_str(),
-            None => unreachable!(),
-        }
+        self.columns[place as usize].0.as_str()
     }
 
     /// What a column holds.
@@ -62,20 +68,16 @@ impl Schema {
         requires { place < length self.now.columns }
         ensures { Some result ≡ role_at self.now.columns place }
     {
-        match self.roles.get_index(place as usize) {
-            Some((_, role)) => *role,
-            None => unreachable!(),
-        }
+        self.columns[place as usize].1
     }
 
     /// The place of the column with this name, among all columns, from 0.
     pub fn find(&self, name: &str) -> Option<u8>
         ensures { result ≡ place_of name.now self.now.columns }
     {
-        match self.roles.get_index_of(name) {
-            Some(place) => Some(place as u8),
-            None => None,
-        }
+        // The count says that there are at most 32.
+        let _count = self.count();
+        Some(place_among(&self.columns, name)? as u8)
     }
 
     /// The place of a column among the secret ones, from 0, where it is secret.
