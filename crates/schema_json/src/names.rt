@@ -12,7 +12,7 @@ fn is_name_byte(byte: u8) -> bool
 fn is_keyword(name: &str) -> bool
     ensures { result ≡ is_keyword name.now }
 {
-    name == "and" || name == "or" || name == "not" || name == "all" || name == "in"
+    matches!(name, "and" | "or" | "not" | "all" | "in")
 }
 
 fn has_name_bytes(name: &[u8]) -> bool

@@ -21,16 +21,12 @@ pub const MOST_SCHEMA: usize = 65_536;
 fn role_of(word: &str) -> Option<Role>
     ensures { result ≡ role_of word.now }
 {
-    if word == "text" {
-        Some(Role::Text)
-    } else if word == "number" {
-        Some(Role::Number)
-    } else if word == "sum" {
-        Some(Role::Sum)
-    } else if word == "max" {
-        Some(Role::Max)
-    } else {
-        None
+    match word {
+        "text" => Some(Role::Text),
+        "number" => Some(Role::Number),
+        "sum" => Some(Role::Sum),
+        "max" => Some(Role::Max),
+        _ => None,
     }
 }
 
@@ -52,15 +48,10 @@ fn column_of(value: &Value) -> Option<(&str, Role)>
     if key_count(value) != 2 {
         return None;
     }
-    let name = value.get("name").and_then(Value::as_str);
-    let word = value.get("is").and_then(Value::as_str);
-    match (name, word) {
-        (Some(name), Some(word)) => match role_of(word) {
-            Some(role) => Some((name, role)),
-            None => None,
-        },
-        _ => None,
-    }
+    let name = value.get("name").and_then(Value::as_str)?;
+    let word = value.get("is").and_then(Value::as_str)?;
+    let role = role_of(word)?;
+    Some((name, role))
 }
 
 // The columns that the values of an array are.

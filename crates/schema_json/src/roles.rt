@@ -3,7 +3,7 @@ ghost use Rattle.std.specs.Prelude.{◌≡◌};
 ghost use Rattle.schema_json.specs.Columns.{is_secret};
 
 /// What a column holds. Text and numbers are public; the columns of sums and maxima are secret.
-#[derive(Clone, Copy, Debug, PartialEq, Eq, Drop)]
+#[derive(Clone, Copy, Drop)]
 pub enum Role {
     Text,
     Number,

@@ -1,6 +1,6 @@
-use Rattle.std.proofs.Common.{arith}
-use Rattle.std.proofs.lemmas.Grind.{common_steps}
+use Rattle.std.proofs.Common.{sym, ap}
+use Rattle.schema_json.specs.Reading.{role_of}
 use Rattle.schema_json.proofs.reading.role_of.Goals as goal
 
-pub returns-then-eq-4 : goal.returns-then-eq-4
-returns-then-eq-4 c = grind (arith, common_steps)
+pub returns-in-max : goal.returns-in-max
+returns-in-max c = ap role_of (sym c.in-max.is)
