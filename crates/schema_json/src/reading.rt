@@ -109,15 +109,8 @@ fn list_of(value: &Value) -> Option<&[Value]>
 fn schema_of_value(alloc: Global, value: &Value) -> Result<Schema, SchemaFault>
     ensures { ReadsColumns result (checked (columns_of (view value.now))) }
 {
-    match list_of(value) {
-        Some(list) => {
-            match gather(alloc, list) {
-                Ok(columns) => schema_of_columns(alloc, columns),
-                Err(fault) => Err(fault),
-            }
-        }
-        None => Err(SchemaFault::Shape),
-    }
+    let list = list_of(value).ok_or(SchemaFault::Shape)?;
+    schema_of_columns(alloc, gather(alloc, list)?)
 }
 
 fn has_public(columns: &[(String, Role)]) -> bool
