@@ -4,12 +4,25 @@
 #![tactic(auto)]
 
 mod due;
+mod exchange;
+mod failures;
+mod history;
+mod law;
+mod leaving;
+mod over;
+mod pieces;
 mod playing;
+mod script;
+mod sources;
 mod stage;
 mod stopping;
+mod tally;
+mod telling;
+mod terminal;
 
+use crate::script::Script;
+use crate::tally::Tally;
 use anyhow::{Context, Result};
-use case_scripts::{Script, Tally};
 use std::fs;
 use std::process::ExitCode;
 

@@ -1,10 +1,14 @@
 //! The runs of a script, one after another.
 use crate::due::is_as_due;
-use crate::stage::{End, Stage};
+use crate::exchange::Exchange;
+use crate::over::start_of;
+use crate::script::{Run, Script};
+use crate::stage::Stage;
 use crate::stopping::play_each;
+use crate::tally::Tally;
+use crate::telling::Case;
 use anyhow::Result;
 use bench_core::MemoryBench;
-use case_scripts::{Case, Exchange, Run, Script, Tally, start_of};
 
 /// Runs each case of a script, and counts it.
 pub fn play(rt: &HostRuntime, path: &str, script: Script, tally: &mut Tally) -> Result<()> {
@@ -23,7 +27,7 @@ fn play_after(
     for value in script.runs()? {
         let case = script.run(value)?;
         let met = play_case(rt, path, case, before)?;
-        tally.count(met, case.differs()?);
+        tally.count(met, case.differs());
     }
     Ok(())
 }
@@ -39,22 +43,23 @@ fn play_case(
         script: path,
         shows: case.shows()?,
     };
+    let each = case.each()?;
     let start = start_of(rt, case, before)?;
     let stage = Stage {
         case,
         start: &start,
     };
-    match case.each()? {
+    match each {
         Some(each) => play_each(rt, name, stage, each),
-        None => play_once(rt, name, stage, before),
+        None => play_once(rt, &name, &stage, before),
     }
 }
 
 // Whether what is due of a run came, whose bench then stands for the one before.
 fn play_once(
     rt: &HostRuntime,
-    name: Case,
-    stage: Stage,
+    name: &Case,
+    stage: &Stage,
     before: &mut Option<MemoryBench>,
 ) -> Result<bool> {
     let fails = stage.case.fails()?;

@@ -1,9 +1,11 @@
 //! What a run of the program is over, in memory, and how it ends.
+use crate::failures::{Failures, bench_over};
+use crate::pieces::Piece;
+use crate::script::Run;
+use crate::sources::Sources;
 use anyhow::Result;
 use auditor_top::{Status, run};
 use bench_core::MemoryBench;
-use case_contents::Piece;
-use case_scripts::{Failures, Run, Sources, bench_over};
 use std::alloc::Global;
 
 /// A case of a script, and the journal's file at its start.
@@ -23,7 +25,7 @@ pub struct End {
 impl Stage<'_> {
     /// Runs the program over this file, with what is typed and the calls that fail.
     pub fn run(
-        self,
+        &self,
         rt: &HostRuntime,
         file: &[u8],
         typed: Vec<Piece>,
@@ -36,7 +38,7 @@ impl Stage<'_> {
     }
 
     fn run_over(
-        self,
+        &self,
         alloc: Global,
         sources: &mut Sources,
         bench: &mut MemoryBench,

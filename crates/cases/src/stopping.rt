@@ -1,16 +1,21 @@
 //! One run of which each call of an object fails in turn, and what a crash then leaves.
+use crate::exchange::Exchange;
+use crate::failures::{Failures, ROOM};
+use crate::law::{Breach, Law};
+use crate::over::Over;
+use crate::script::Each;
 use crate::stage::{End, Stage};
+use crate::telling::{Bytes, Case};
 use anyhow::{Result, bail};
-use auditor_top::{Status, Which};
-use case_scripts::{Breach, Bytes, Case, Each, Failures, Fault, Law, Over, ROOM, Terminal};
+use auditor_top::Status;
 use std::fmt;
 
 // A run that is tried with a fault at each call, and what is due of it.
-#[derive(Clone, Copy)]
+#[derive(Drop)]
 struct Trial<'a> {
     name: Case<'a>,
     stage: Stage<'a>,
-    law: &'a Law<'a>,
+    law: Law<'a>,
 }
 
 // A call that failed, and the file that is left after it.
@@ -29,16 +34,12 @@ impl fmt::Display for Moment {
 /// Whether all is as due at each call, up to the first run that is done; what isn't is printed.
 pub fn play_each(rt: &HostRuntime, name: Case, stage: Stage, each: Each) -> Result<bool> {
     let law = Law::of(rt, stage.case, each)?;
-    let trial = Trial {
-        name,
-        stage,
-        law: &law,
-    };
+    let trial = Trial { name, stage, law };
     trial.play(rt)
 }
 
 impl Trial<'_> {
-    fn play(self, rt: &HostRuntime) -> Result<bool> {
+    fn play(&self, rt: &HostRuntime) -> Result<bool> {
         let mut met = true;
         for call in 0..ROOM {
             let (status, kept) = self.play_call(rt, call)?;
@@ -51,7 +52,7 @@ impl Trial<'_> {
     }
 
     // How the run ends with a fault at this call, and whether all is then as due.
-    fn play_call(self, rt: &HostRuntime, call: u64) -> Result<(Status, bool)> {
+    fn play_call(&self, rt: &HostRuntime, call: u64) -> Result<(Status, bool)> {
         let typed = self.law.whole.pieces(rt.alloc())?;
         let end = self
             .stage
@@ -60,7 +61,7 @@ impl Trial<'_> {
     }
 
     // Whether the replies due were sent by a run that is done, and nothing is wrong with one that failed.
-    fn is_kept(self, rt: &HostRuntime, call: u64, end: &End) -> Result<bool> {
+    fn is_kept(&self, rt: &HostRuntime, call: u64, end: &End) -> Result<bool> {
         if end.status == Status::Done {
             let (due, came) = (Bytes(&self.law.whole.shown), Bytes(end.bench.sent()));
             return self.name.agrees(rt, "sent", &due, &came);
@@ -76,12 +77,12 @@ impl Trial<'_> {
     }
 
     // What is wrong with a run that failed at a call, in the file that a crash leaves.
-    fn breach(self, rt: &HostRuntime, call: u64, end: &End, over: Over) -> Result<Option<Breach>> {
+    fn breach(&self, rt: &HostRuntime, call: u64, end: &End, over: Over) -> Result<Option<Breach>> {
         let sent = end.bench.sent();
-        if end.status != status_of(self.law.fault) {
+        if end.status != self.law.fault.status() {
             return Ok(Some(Breach::OtherStatus));
         }
-        if !self.law.may_have_sent(rt, self.stage.case, call, sent)? {
+        if !self.law.may_have_sent(rt.alloc(), call, sent)? {
             return Ok(Some(Breach::OtherReplies));
         }
         let file = over.file(rt.alloc(), &end.bench)?;
@@ -92,27 +93,17 @@ impl Trial<'_> {
     }
 
     // What is wrong with the answers to the lines that are asked over a file after a crash.
-    fn breach_then(self, rt: &HostRuntime, file: &[u8]) -> Result<Option<Breach>> {
+    fn breach_then(&self, rt: &HostRuntime, file: &[u8]) -> Result<Option<Breach>> {
         match self.law.asked_over(file) {
-            Some(then) if !self.is_answered(rt, then, file)? => Ok(Some(Breach::OtherAnswers)),
+            Some(screen) if !self.is_answered(rt, screen, file)? => Ok(Some(Breach::OtherAnswers)),
             _ => Ok(None),
         }
     }
 
     // Whether the lines of a terminal are answered as due over a file.
-    fn is_answered(self, rt: &HostRuntime, then: &Terminal, file: &[u8]) -> Result<bool> {
-        let typed = then.pieces(rt.alloc())?;
+    fn is_answered(&self, rt: &HostRuntime, screen: &str, file: &[u8]) -> Result<bool> {
+        let Exchange { typed, shown } = Exchange::of_terminal(rt.alloc(), screen)?;
         let end = self.stage.run(rt, file, typed, Failures::default())?;
-        Ok(end.status == Status::Done && end.bench.sent() == then.shown.as_slice())
-    }
-}
-
-// How a run ends that a fault befalls.
-fn status_of(fault: Fault) -> Status {
-    match fault {
-        Fault::Stop | Fault::Fail => Status::BenchFault,
-        Fault::Schema => Status::SourceFault(Which::Schema),
-        Fault::Table => Status::SourceFault(Which::Table),
-        Fault::Input => Status::SourceFault(Which::Input),
+        Ok(end.status == Status::Done && end.bench.sent() == shown.as_slice())
     }
 }

@@ -1,21 +1,20 @@
 //! Whether a run leaves the journal's file that is due.
 use crate::over::Over;
-use crate::run::Run;
+use crate::script::Content;
+use crate::stage::Stage;
 use crate::telling::{Bytes, Case};
 use anyhow::Result;
 use bench_core::MemoryBench;
-use case_contents::Content;
 
-/// Whether the journal's file is as due of a run over this one, as it reads and after a crash; a difference is printed.
+/// Whether the journal's file is as due of a run, as it reads and after a crash; a difference is printed.
 pub fn leaves_files(
     rt: &HostRuntime,
-    name: Case,
-    run: Run,
-    start: &[u8],
+    name: &Case,
+    stage: &Stage,
     bench: &MemoryBench,
 ) -> Result<bool> {
-    let is_file_due = leaves_file(rt, name, run, start, bench)?;
-    let Some(crash) = run.crash()? else {
+    let is_file_due = leaves_file(rt, name, stage, bench)?;
+    let Some(crash) = stage.case.crash()? else {
         return Ok(is_file_due);
     };
     let is_synced_due = leaves(rt, name, bench, Over::Synced, crash.synced)?;
@@ -24,17 +23,11 @@ pub fn leaves_files(
 }
 
 // Whether the file is as due, as it reads, where that is looked at.
-fn leaves_file(
-    rt: &HostRuntime,
-    name: Case,
-    run: Run,
-    start: &[u8],
-    bench: &MemoryBench,
-) -> Result<bool> {
-    let (status, _) = run.ends()?;
-    match run.content("file") {
+fn leaves_file(rt: &HostRuntime, name: &Case, stage: &Stage, bench: &MemoryBench) -> Result<bool> {
+    let (status, _) = stage.case.ends()?;
+    match stage.case.content("file") {
         Some(content) => leaves(rt, name, bench, Over::Left, content),
-        None if ends_before_lines(status) => is_left(rt, name, bench, Over::Left, start),
+        None if ends_before_lines(status) => is_left(rt, name, bench, Over::Left, stage.start),
         None => Ok(true),
     }
 }
@@ -47,7 +40,7 @@ fn ends_before_lines(status: u8) -> bool {
 // Whether the bench leaves the file with these contents.
 fn leaves(
     rt: &HostRuntime,
-    name: Case,
+    name: &Case,
     bench: &MemoryBench,
     over: Over,
     content: Content,
@@ -59,7 +52,7 @@ fn leaves(
 // Whether the bench leaves the file with these bytes.
 fn is_left(
     rt: &HostRuntime,
-    name: Case,
+    name: &Case,
     bench: &MemoryBench,
     over: Over,
     due: &[u8],

@@ -1,8 +1,8 @@
 //! What a run is typed, and what is due in reply.
-use crate::run::Run;
+use crate::pieces::Piece;
+use crate::script::{Content, Run, bytes_of, pieces_of};
 use crate::terminal::Terminal;
 use anyhow::{Result, bail};
-use case_contents::{Content, Piece, bytes_of, pieces_of};
 use std::alloc::Global;
 
 /// What a run is typed, and what is due in reply.
@@ -15,13 +15,13 @@ pub struct Exchange {
 impl Exchange {
     pub fn of(rt: &HostRuntime, run: Run) -> Result<Exchange> {
         let (input, sent) = (run.content("input"), run.content("sent"));
-        let Some(screen) = run.terminal()? else {
-            return Exchange::of_contents(rt, input, sent);
-        };
-        if input.is_some() || sent.is_some() {
-            bail!("a terminal beside an input or what is sent");
+        match run.terminal() {
+            None => Exchange::of_contents(rt, input, sent),
+            Some(screen) if input.is_none() && sent.is_none() => {
+                Exchange::of_terminal(rt.alloc(), screen)
+            }
+            Some(_) => bail!("a terminal beside an input or what is sent"),
         }
-        Exchange::of_terminal(rt.alloc(), screen)
     }
 
     fn of_contents(
@@ -36,7 +36,8 @@ impl Exchange {
         })
     }
 
-    fn of_terminal(alloc: Global, screen: &str) -> Result<Exchange> {
+    /// What a terminal shows.
+    pub fn of_terminal(alloc: Global, screen: &str) -> Result<Exchange> {
         let terminal = Terminal::read(alloc, screen)?;
         Ok(Exchange {
             typed: terminal.pieces(alloc)?,

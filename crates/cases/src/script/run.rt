@@ -1,16 +1,36 @@
 //! A run of the program, as a script says it.
-use crate::each::Each;
 use crate::failures::Failures;
 use crate::over::Over;
+use crate::pieces::Piece;
+use crate::script::content::{Content, bytes_of, pieces_of};
+use crate::script::each::Each;
+use crate::script::keys::Keys;
+use crate::script::kind::{Kind, byte_of};
 use anyhow::{Result, bail};
-use case_contents::{Content, Keys, Piece, byte_of, bytes_of, pieces_of};
 use std::alloc::Global;
 use toml::Value;
 
-const KEYS: [&str; 17] = [
-    "shows", "words", "schema", "table", "journal", "over", "terminal", "input", "sent", "piece",
-    "fails", "ends", "file", "crash", "calls", "each", "differs",
+const KEYS: [(&str, Kind); 17] = [
+    ("shows", Kind::Text),
+    ("words", Kind::List),
+    ("schema", Kind::Contents),
+    ("table", Kind::Contents),
+    ("journal", Kind::Contents),
+    ("over", Kind::Text),
+    ("terminal", Kind::Text),
+    ("input", Kind::Contents),
+    ("sent", Kind::Contents),
+    ("piece", Kind::Count),
+    ("fails", Kind::Table),
+    ("ends", Kind::List),
+    ("file", Kind::Contents),
+    ("crash", Kind::Table),
+    ("calls", Kind::Count),
+    ("each", Kind::Table),
+    ("differs", Kind::Flag),
 ];
+
+const CRASH_KEYS: [(&str, Kind); 2] = [("synced", Kind::Contents), ("torn", Kind::Contents)];
 
 const BESIDE_NO_EACH: [&str; 6] = ["input", "sent", "ends", "file", "crash", "calls"];
 
@@ -26,7 +46,7 @@ pub struct Run<'a> {
 }
 
 impl<'a> Run<'a> {
-    pub(crate) fn of(common: Keys<'a>, value: &'a Value) -> Result<Run<'a>> {
+    pub fn of(common: Keys<'a>, value: &'a Value) -> Result<Run<'a>> {
         Ok(Run {
             common,
             own: Keys::of_value(value, &KEYS)?,
@@ -34,30 +54,27 @@ impl<'a> Run<'a> {
     }
 
     pub fn shows(self) -> Result<&'a str> {
-        match self.own.text("shows")? {
+        match self.own.text("shows") {
             Some(shows) => Ok(shows),
             None => bail!("a run doesn't say what it shows"),
         }
     }
 
     /// Whether the run is there to differ.
-    pub fn differs(self) -> Result<bool> {
+    pub fn differs(self) -> bool {
         self.own.flag("differs")
     }
 
     /// The words after the program's name, else `serve`.
     pub fn words(self, alloc: Global) -> Result<Vec<String>> {
-        match self.given_words()? {
+        match self.given_words() {
             Some(given) => texts_of(alloc, given),
             None => Ok(vec![in alloc; String::from_str(alloc, "serve")?]?),
         }
     }
 
-    fn given_words(self) -> Result<Option<&'a [Value]>> {
-        match self.own.list("words")? {
-            Some(words) => Ok(Some(words)),
-            None => self.common.list("words"),
-        }
+    fn given_words(self) -> Option<&'a [Value]> {
+        self.own.list("words").or(self.common.list("words"))
     }
 
     // The contents of a file at the start.
@@ -65,28 +82,29 @@ impl<'a> Run<'a> {
         self.own.content(name).or(self.common.content(name))
     }
 
-    // The journal's file at the start, where no run before left one.
-    pub(crate) fn journal(self, rt: &HostRuntime) -> Result<Vec<u8>> {
+    /// The journal's file at the start, where no run before left one.
+    pub fn journal(self, rt: &HostRuntime) -> Result<Vec<u8>> {
         bytes_of(rt, self.file_at_start("journal"))
     }
 
-    // The bytes of a file that is read.
-    pub(crate) fn pieces(self, rt: &HostRuntime, name: &str) -> Result<Vec<Piece>> {
+    /// The bytes of a file that is read.
+    pub fn pieces(self, rt: &HostRuntime, name: &str) -> Result<Vec<Piece>> {
         pieces_of(rt, self.file_at_start(name))
     }
 
-    // The most bytes that a source gives at a read.
-    pub(crate) fn most(self) -> Result<usize> {
-        Ok(usize::try_from(self.own.count("piece")?.unwrap_or(PIECE))?)
+    /// The most bytes that a source gives at a read.
+    pub fn most(self) -> usize {
+        let most = self.own.count("piece").unwrap_or(PIECE);
+        usize::try_from(most).unwrap_or(usize::MAX)
     }
 
-    // Contents that only a run has.
-    pub(crate) fn content(self, name: &str) -> Option<Content<'a>> {
+    /// Contents that only a run has.
+    pub fn content(self, name: &str) -> Option<Content<'a>> {
         self.own.content(name)
     }
 
     pub fn over(self) -> Result<Option<Over>> {
-        match self.own.text("over")? {
+        match self.own.text("over") {
             None => Ok(None),
             Some("left") => Ok(Some(Over::Left)),
             Some("synced") => Ok(Some(Over::Synced)),
@@ -95,34 +113,36 @@ impl<'a> Run<'a> {
         }
     }
 
-    pub fn terminal(self) -> Result<Option<&'a str>> {
+    pub fn terminal(self) -> Option<&'a str> {
         self.own.text("terminal")
     }
 
-    pub fn calls(self) -> Result<Option<u64>> {
+    pub fn calls(self) -> Option<u64> {
         self.own.count("calls")
     }
 
     /// The calls that fail.
     pub fn fails(self) -> Result<Failures> {
         match self.own.table("fails", &Failures::KEYS)? {
-            Some(keys) => Failures::of(keys),
+            Some(keys) => Ok(Failures::of(keys)),
             None => Ok(Failures::default()),
         }
     }
 
     /// The exit status and its text.
     pub fn ends(self) -> Result<(u8, &'a str)> {
-        match self.own.list("ends")? {
-            None => Ok((0, "")),
-            Some([status, Value::String(text)]) => Ok((byte_of(status)?, text.as_str())),
-            Some(_) => bail!("ends is a status and a text"),
+        let Some(values) = self.own.list("ends") else {
+            return Ok((0, ""));
+        };
+        match status_and_text(values) {
+            Some(ends) => Ok(ends),
+            None => bail!("ends is a status and a text"),
         }
     }
 
     /// The journal's files that a crash at the end leaves.
-    pub(crate) fn crash(self) -> Result<Option<Crash<'a>>> {
-        let Some(keys) = self.own.table("crash", &["synced", "torn"])? else {
+    pub fn crash(self) -> Result<Option<Crash<'a>>> {
+        let Some(keys) = self.own.table("crash", &CRASH_KEYS)? else {
             return Ok(None);
         };
         match (keys.content("synced"), keys.content("torn")) {
@@ -133,19 +153,19 @@ impl<'a> Run<'a> {
 
     /// With it the run is tried with a fault at each call of an object in turn.
     pub fn each(self) -> Result<Option<Each<'a>>> {
-        let Some(keys) = self.own.table("each", &["fault", "histories", "then"])? else {
+        let Some(keys) = self.own.table("each", &Each::KEYS)? else {
             return Ok(None);
         };
-        if let Some(key) = self.first_of(&BESIDE_NO_EACH) {
-            bail!("{key} beside each");
+        match self.first_of(&BESIDE_NO_EACH) {
+            Some(key) => bail!("{key} beside each"),
+            None => Ok(Some(Each::of(keys))),
         }
-        Ok(Some(Each::of(keys)))
     }
 
     // The first of these keys that it has.
     fn first_of(self, keys: &[&'static str]) -> Option<&'static str> {
         for key in keys {
-            if self.own.has(key) {
+            if self.own.value(key).is_some() {
                 return Some(key);
             }
         }
@@ -155,9 +175,16 @@ impl<'a> Run<'a> {
 
 /// The journal's file that a crash leaves: that of the last sync, and torn.
 #[derive(Clone, Copy)]
-pub(crate) struct Crash<'a> {
+pub struct Crash<'a> {
     pub synced: Content<'a>,
     pub torn: Content<'a>,
+}
+
+fn status_and_text(values: &[Value]) -> Option<(u8, &str)> {
+    let [status, text] = values else {
+        return None;
+    };
+    Some((byte_of(status)?, text.as_str()?))
 }
 
 fn texts_of(alloc: Global, values: &[Value]) -> Result<Vec<String>> {

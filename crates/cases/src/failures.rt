@@ -1,8 +1,8 @@
 //! Which call of each object fails, and a bench of which it does.
+use crate::script::{Keys, Kind};
 use crate::telling::no_memory;
 use anyhow::Result;
 use bench_core::{MemoryBench, Room};
-use case_contents::Keys;
 use std::alloc::Global;
 
 /// How many bytes a run may write, and at how many calls of a run a fault is tried.
@@ -24,16 +24,22 @@ pub struct Failures {
 }
 
 impl Failures {
-    pub(crate) const KEYS: [&'static str; 5] = ["schema", "table", "input", "bench", "stop"];
+    pub const KEYS: [(&'static str, Kind); 5] = [
+        ("schema", Kind::Count),
+        ("table", Kind::Count),
+        ("input", Kind::Count),
+        ("bench", Kind::Count),
+        ("stop", Kind::Count),
+    ];
 
-    pub(crate) fn of(keys: Keys) -> Result<Failures> {
-        Ok(Failures {
-            schema: keys.count("schema")?,
-            table: keys.count("table")?,
-            input: keys.count("input")?,
-            bench: keys.count("bench")?,
-            stop: keys.count("stop")?,
-        })
+    pub fn of(keys: Keys) -> Failures {
+        Failures {
+            schema: keys.count("schema"),
+            table: keys.count("table"),
+            input: keys.count("input"),
+            bench: keys.count("bench"),
+            stop: keys.count("stop"),
+        }
     }
 }
 

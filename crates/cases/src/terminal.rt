@@ -1,5 +1,5 @@
 //! What a terminal shows: the lines that are typed, each after `> `, and the replies between them.
-use case_contents::Piece;
+use crate::pieces::Piece;
 use std::alloc::{AllocError, Global};
 
 /// What is typed, and what is shown in reply.

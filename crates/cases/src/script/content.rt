@@ -1,9 +1,10 @@
 //! Bytes as a script says them: a file of `sources/`, a text, or hex, as it is or changed.
-use crate::keys::{Keys, byte_of, count_of};
 use crate::pieces::{Piece, whole};
+use crate::script::keys::Keys;
+use crate::script::kind::{Kind, byte_of, count_of};
 use anyhow::{Result, bail};
 use std::alloc::Global;
-use std::{fs, slice};
+use std::{fs, io, slice};
 use toml::Value;
 
 /// The bytes of a file, of one part, or of parts one after another.
@@ -26,10 +27,14 @@ enum Given<'a> {
     Hex(&'a str),
 }
 
+fn read_source(rt: &HostRuntime, name: &str) -> io::Result<Vec<u8>> {
+    let path = format!(in rt.alloc(); "sources/{name}")?;
+    fs::read(rt, path.as_str())
+}
+
 // A file whose name ends in `.hex` is read as hex.
 fn read_file(rt: &HostRuntime, name: &str) -> Result<Vec<u8>> {
-    let path = format!(in rt.alloc(); "sources/{name}")?;
-    let bytes = fs::read(rt, path.as_str())?;
+    let bytes = read_source(rt, name)?;
     if name.ends_with(".hex") {
         decode_hex(rt.alloc(), &bytes)
     } else {
@@ -39,25 +44,41 @@ fn read_file(rt: &HostRuntime, name: &str) -> Result<Vec<u8>> {
 
 // Blanks and line ends stand anywhere among the digits.
 fn decode_hex(alloc: Global, text: &[u8]) -> Result<Vec<u8>> {
-    let digits: Vec<u8> = text
-        .iter()
-        .copied()
-        .filter(|byte| !byte.is_ascii_whitespace())
-        .collect(alloc)?;
+    let mut digits = text.to_vec(alloc)?;
+    digits.retain(|byte| !byte.is_ascii_whitespace());
     Ok(hex::decode(alloc, digits.as_slice())?)
 }
+
+// Sets the byte at a place.
+fn set_byte(bytes: &mut [u8], place_and_byte: &[Value]) -> Option<()> {
+    let [place, byte] = place_and_byte else {
+        return None;
+    };
+    let place = usize::try_from(count_of(place)?).ok()?;
+    *bytes.get_mut(place)? = byte_of(byte)?;
+    Some(())
+}
+
+const KEYS: [(&str, Kind); 6] = [
+    ("file", Kind::Text),
+    ("text", Kind::Text),
+    ("hex", Kind::Text),
+    ("cut", Kind::Count),
+    ("set", Kind::List),
+    ("times", Kind::Count),
+];
 
 impl<'a> Part<'a> {
     fn of(value: &'a Value) -> Result<Part<'a>> {
         Ok(Part {
-            keys: Keys::of_value(value, &["file", "text", "hex", "cut", "set", "times"])?,
+            keys: Keys::of_value(value, &KEYS)?,
         })
     }
 
     // The one that is given.
     fn given(self) -> Result<Given<'a>> {
-        let (file, text) = (self.keys.text("file")?, self.keys.text("text")?);
-        match (file, text, self.keys.text("hex")?) {
+        let (file, text) = (self.keys.text("file"), self.keys.text("text"));
+        match (file, text, self.keys.text("hex")) {
             (Some(name), None, None) => Ok(Given::File(name)),
             (None, Some(text), None) => Ok(Given::Text(text)),
             (None, None, Some(digits)) => Ok(Given::Hex(digits)),
@@ -66,24 +87,20 @@ impl<'a> Part<'a> {
     }
 
     // Changes the byte that is to be set.
-    fn change(self, bytes: &mut Vec<u8>) -> Result<()> {
-        let (place, byte) = match self.keys.list("set")? {
-            None => return Ok(()),
-            Some([place, byte]) => (count_of(place)?, byte_of(byte)?),
-            Some(_) => bail!("set is a place and a byte"),
-        };
-        match bytes.get_mut(usize::try_from(place)?) {
-            Some(there) => *there = byte,
-            None => bail!("no byte {place} to set"),
+    fn change(self, bytes: &mut [u8]) -> Result<()> {
+        match self.keys.list("set") {
+            Some(values) if set_byte(bytes, values).is_none() => {
+                bail!("set is the place of a byte, and a byte")
+            }
+            _ => Ok(()),
         }
-        Ok(())
     }
 
     fn piece(self, rt: &HostRuntime) -> Result<Piece> {
-        let times = self.keys.count("times")?.unwrap_or(1);
-        let length = usize::try_from(self.keys.count("cut")?.unwrap_or(u64::MAX))?;
+        let times = self.keys.count("times").unwrap_or(1);
+        let length = self.keys.count("cut").unwrap_or(u64::MAX);
         let mut bytes = bytes_given(rt, self.given()?)?;
-        bytes.truncate(length);
+        bytes.truncate(usize::try_from(length).unwrap_or(usize::MAX));
         self.change(&mut bytes)?;
         Ok(Piece { bytes, times })
     }
@@ -109,7 +126,7 @@ fn piece_of(rt: &HostRuntime, value: &Value) -> Result<Piece> {
 }
 
 impl<'a> Content<'a> {
-    pub(crate) fn of(value: &'a Value) -> Content<'a> {
+    pub fn of(value: &'a Value) -> Content<'a> {
         Content { value }
     }
 

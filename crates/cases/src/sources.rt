@@ -1,8 +1,8 @@
 //! The sources that a run reads.
 use crate::failures::Failures;
-use crate::run::Run;
+use crate::pieces::{Piece, Pieces};
+use crate::script::Run;
 use anyhow::Result;
-use case_contents::{Piece, Pieces};
 
 /// What a run reads.
 #[derive(Drop)]
@@ -20,7 +20,7 @@ impl Sources {
         typed: Vec<Piece>,
         failures: Failures,
     ) -> Result<Sources> {
-        let most = run.most()?;
+        let most = run.most();
         let input = Pieces::new(typed, most, failures.input);
         let schema = Pieces::new(run.pieces(rt, "schema")?, most, failures.schema);
         let table = Pieces::new(run.pieces(rt, "table")?, most, failures.table);

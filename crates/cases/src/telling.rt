@@ -18,7 +18,7 @@ pub struct Case<'a> {
 impl Case<'_> {
     /// Prints what is wrong, and where.
     pub fn tell<P: fmt::Display + Drop, W: fmt::Display + Drop>(
-        self,
+        &self,
         rt: &HostRuntime,
         place: P,
         what: W,
@@ -29,7 +29,7 @@ impl Case<'_> {
 
     /// Whether what came is what was due; a difference is printed.
     pub fn agrees<T: PartialEq + fmt::Display>(
-        self,
+        &self,
         rt: &HostRuntime,
         what: &str,
         due: &T,

@@ -1,10 +1,9 @@
 //! What is due of a run at each of whose calls a fault befalls in turn.
-use crate::each::{Each, Fault};
 use crate::history::History;
-use crate::run::Run;
+use crate::script::{Each, Fault, Run};
 use crate::terminal::Terminal;
 use anyhow::{Result, bail};
-use std::alloc::Global;
+use std::alloc::{AllocError, Global};
 use std::fmt;
 
 /// What is due at each call: what the whole run is, the files that the journal may stand as, and what is answered over the
@@ -15,8 +14,10 @@ pub struct Law<'a> {
     /// The run that no fault befalls.
     pub whole: Terminal,
     screen: &'a str,
+    // The most bytes that a source gives at a read.
+    most: usize,
     histories: Vec<History>,
-    then: Option<Terminal>,
+    then: Option<&'a str>,
 }
 
 /// What is wrong with a run that a fault befell at a call, and with a file that it may leave.
@@ -42,40 +43,37 @@ impl fmt::Display for Breach {
 }
 
 impl<'a> Law<'a> {
-    pub fn of(rt: &HostRuntime, run: Run<'a>, each: Each) -> Result<Law<'a>> {
-        let Some(screen) = run.terminal()? else {
+    pub fn of(rt: &HostRuntime, run: Run<'a>, each: Each<'a>) -> Result<Law<'a>> {
+        let Some(screen) = run.terminal() else {
             bail!("no terminal");
         };
         let fault = each.fault()?;
         let whole = Terminal::read(rt.alloc(), screen)?;
-        let histories = each.histories(rt)?;
         Ok(Law {
             fault,
             whole,
             screen,
-            histories,
-            then: asked_then(rt.alloc(), each)?,
+            most: run.most(),
+            histories: each.histories(rt)?,
+            then: each.then(),
         })
     }
 
     /// Whether a run that failed at a call may have sent this: a front of the replies where the bench failed, and where the
     /// input did, those to the lines that came before.
-    pub fn may_have_sent(
-        &self,
-        rt: &HostRuntime,
-        run: Run,
-        call: u64,
-        sent: &[u8],
-    ) -> Result<bool> {
+    pub fn may_have_sent(&self, alloc: Global, call: u64, sent: &[u8]) -> Result<bool, AllocError> {
         match self.fault {
             Fault::Stop | Fault::Fail => Ok(self.whole.shown.starts_with(sent)),
             Fault::Schema | Fault::Table => Ok(sent.is_empty()),
-            Fault::Input => {
-                let read = usize::try_from(call)?.saturating_mul(run.most()?);
-                let due = Terminal::read_up_to(rt.alloc(), self.screen, read)?;
-                Ok(due.shown.as_slice() == sent)
-            }
+            Fault::Input => self.sends_by_then(alloc, call, sent),
         }
+    }
+
+    // Whether this is sent of the lines that so many reads have brought.
+    fn sends_by_then(&self, alloc: Global, reads: u64, sent: &[u8]) -> Result<bool, AllocError> {
+        let reads = usize::try_from(reads).unwrap_or(usize::MAX);
+        let due = Terminal::read_up_to(alloc, self.screen, reads.saturating_mul(self.most))?;
+        Ok(due.shown.as_slice() == sent)
     }
 
     /// What is wrong with a file that may be left after this was sent.
@@ -87,19 +85,11 @@ impl<'a> Law<'a> {
         }
     }
 
-    /// What is then asked over a file, where it holds the last history.
-    pub fn asked_over(&self, file: &[u8]) -> Option<&Terminal> {
-        match (&self.then, self.histories.last()) {
-            (Some(then), Some(last)) if last.is_in(file) => Some(then),
+    /// The terminal over a file, where it holds the last history.
+    pub fn asked_over(&self, file: &[u8]) -> Option<&'a str> {
+        match self.histories.last() {
+            Some(last) if last.is_in(file) => self.then,
             _ => None,
         }
-    }
-}
-
-// What is asked over a file with the last history, and what is due.
-fn asked_then(alloc: Global, each: Each) -> Result<Option<Terminal>> {
-    match each.then()? {
-        Some(screen) => Ok(Some(Terminal::read(alloc, screen)?)),
-        None => Ok(None),
     }
 }

@@ -1,5 +1,5 @@
 //! The files that a run may leave, one of which the next may be over.
-use crate::run::Run;
+use crate::script::Run;
 use crate::telling::no_memory;
 use anyhow::{Result, bail};
 use bench_core::MemoryBench;
@@ -45,11 +45,9 @@ impl Over {
 
 /// The journal's file at the start of a run, where a run before left this bench.
 pub fn start_of(rt: &HostRuntime, run: Run, before: &Option<MemoryBench>) -> Result<Vec<u8>> {
-    let Some(over) = run.over()? else {
-        return run.journal(rt);
-    };
-    match before {
-        Some(bench) => over.file(rt.alloc(), bench),
-        None => bail!("no run before {:?}", run.shows()?),
+    match (run.over()?, before) {
+        (None, _) => run.journal(rt),
+        (Some(over), Some(bench)) => over.file(rt.alloc(), bench),
+        (Some(_), None) => bail!("no run before {:?}", run.shows()?),
     }
 }

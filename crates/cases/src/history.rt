@@ -2,7 +2,7 @@
 
 /// The file of a journal, and how many records it has, where that is asked.
 #[derive(Drop)]
-pub(crate) struct History {
+pub struct History {
     pub records: Option<u64>,
     pub file: Vec<u8>,
 }
@@ -18,13 +18,10 @@ impl History {
 
     /// Whether the file has the bytes of this one up to its last gate, and there a gate that isn't open.
     pub fn is_in(&self, file: &[u8]) -> bool {
-        match (self.file.split_last(), file.get(..self.file.len())) {
-            (Some((_, records)), Some(front)) => match front.split_last() {
-                Some((gate, same)) => *gate != 1 && same == records,
-                None => false,
-            },
-            _ => false,
-        }
+        let Some((_, records)) = self.file.split_last() else {
+            return false;
+        };
+        file.starts_with(records) && file.get(records.len()).is_some_and(|gate| *gate != 1)
     }
 }
 

@@ -22,7 +22,7 @@ impl Piece {
 }
 
 /// All the bytes, one piece after another.
-pub(crate) fn whole(alloc: Global, pieces: &[Piece]) -> Result<Vec<u8>, AllocError> {
+pub fn whole(alloc: Global, pieces: &[Piece]) -> Result<Vec<u8>, AllocError> {
     let mut bytes = Vec::new(alloc);
     for piece in pieces {
         piece.append_to(&mut bytes)?;

@@ -1,0 +1,44 @@
+//! What befalls an object at a call.
+use crate::failures::Failures;
+use auditor_top::{Status, Which};
+
+/// What befalls an object at a call.
+#[derive(Clone, Copy)]
+pub enum Fault {
+    /// This call of the bench fails, and all after it.
+    Stop,
+    /// This call of the bench alone fails.
+    Fail,
+    /// This read of the schema fails.
+    Schema,
+    /// This read of the table fails.
+    Table,
+    /// This read of the input fails.
+    Input,
+}
+
+impl Fault {
+    /// What fails where it befalls the call of this number.
+    pub fn at(self, call: u64) -> Failures {
+        let mut failures = Failures::default();
+        let failing = match self {
+            Fault::Stop => &mut failures.stop,
+            Fault::Fail => &mut failures.bench,
+            Fault::Schema => &mut failures.schema,
+            Fault::Table => &mut failures.table,
+            Fault::Input => &mut failures.input,
+        };
+        *failing = Some(call);
+        failures
+    }
+
+    /// How a run ends that it befalls.
+    pub fn status(self) -> Status {
+        match self {
+            Fault::Stop | Fault::Fail => Status::BenchFault,
+            Fault::Schema => Status::SourceFault(Which::Schema),
+            Fault::Table => Status::SourceFault(Which::Table),
+            Fault::Input => Status::SourceFault(Which::Input),
+        }
+    }
+}

@@ -1,0 +1,72 @@
+//! A table of a script, of which each key is read by its name.
+use crate::script::content::Content;
+use crate::script::kind::{Kind, count_of};
+use anyhow::{Result, bail};
+use toml::{Table, Value};
+
+/// A table that has no keys but those it may have, each with a value of its kind.
+#[derive(Clone, Copy)]
+pub struct Keys<'a> {
+    table: &'a Table,
+}
+
+impl<'a> Keys<'a> {
+    pub fn of(table: &'a Table, known: &[(&str, Kind)]) -> Result<Keys<'a>> {
+        for (key, value) in table {
+            if !is_known(key.as_str(), value, known) {
+                bail!("{key} is an unknown key, or its value is of another kind");
+            }
+        }
+        Ok(Keys { table })
+    }
+
+    pub fn of_value(value: &'a Value, known: &[(&str, Kind)]) -> Result<Keys<'a>> {
+        match value {
+            Value::Table(table) => Keys::of(table, known),
+            _ => bail!("a table is due"),
+        }
+    }
+
+    pub fn value(self, key: &str) -> Option<&'a Value> {
+        self.table.get(key)
+    }
+
+    pub fn content(self, key: &str) -> Option<Content<'a>> {
+        Some(Content::of(self.table.get(key)?))
+    }
+
+    pub fn table(self, key: &str, known: &[(&str, Kind)]) -> Result<Option<Keys<'a>>> {
+        match self.table.get(key) {
+            Some(value) => Ok(Some(Keys::of_value(value, known)?)),
+            None => Ok(None),
+        }
+    }
+
+    pub fn text(self, key: &str) -> Option<&'a str> {
+        self.table.get(key)?.as_str()
+    }
+
+    pub fn list(self, key: &str) -> Option<&'a [Value]> {
+        match self.table.get(key) {
+            Some(Value::Array(list)) => Some(list.as_slice()),
+            _ => None,
+        }
+    }
+
+    pub fn count(self, key: &str) -> Option<u64> {
+        count_of(self.table.get(key)?)
+    }
+
+    pub fn flag(self, key: &str) -> bool {
+        matches!(self.table.get(key), Some(Value::Boolean(true)))
+    }
+}
+
+fn is_known(key: &str, value: &Value, known: &[(&str, Kind)]) -> bool {
+    for (name, kind) in known {
+        if *name == key {
+            return kind.has(value);
+        }
+    }
+    false
+}

@@ -1,0 +1,39 @@
+//! What may stand at a key.
+use toml::Value;
+
+/// What may stand at a key.
+#[derive(Clone, Copy)]
+pub enum Kind {
+    Text,
+    /// A number from 0.
+    Count,
+    Flag,
+    List,
+    Table,
+    /// What contents are is looked at where they are read.
+    Contents,
+}
+
+impl Kind {
+    /// Whether a value is one of the kind.
+    pub fn has(self, value: &Value) -> bool {
+        match self {
+            Kind::Text => value.is_str(),
+            Kind::Count => count_of(value).is_some(),
+            Kind::Flag => value.is_bool(),
+            Kind::List => value.is_array(),
+            Kind::Table => value.is_table(),
+            Kind::Contents => true,
+        }
+    }
+}
+
+/// The number that a value is, from 0.
+pub fn count_of(value: &Value) -> Option<u64> {
+    u64::try_from(value.as_integer()?).ok()
+}
+
+/// The number that a value is, where it is one of a byte.
+pub fn byte_of(value: &Value) -> Option<u8> {
+    u8::try_from(value.as_integer()?).ok()
+}
