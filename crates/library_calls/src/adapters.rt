@@ -26,39 +26,44 @@ const CALLS: [(Call, usize); 14] = [
 ];
 
 // Whether a call was done, and whether the refused one of the system's was the last by then.
-fn answer<T: Drop>(calls: &Calls, outcome: Result<T, Failed>) -> (bool, bool) {
-    (outcome.is_ok(), calls.ends_refused())
+fn answer(calls: &Calls, is_done: bool) -> (bool, bool) {
+    (is_done, calls.ends_refused())
 }
 
 // The answers of five calls on a bench over an empty file.
-fn five_calls(rt: &HostRuntime, calls: &Calls, path: &'static str) -> [(bool, bool); 5] {
+fn five_calls<B: Bench>(bench: &mut B, calls: &Calls) -> [(bool, bool); 5] {
+    [
+        answer(calls, bench.length().is_ok()),
+        answer(calls, bench.write_at(0, b"abc").is_ok()),
+        answer(calls, bench.sync().is_ok()),
+        answer(calls, bench.read_at(0, &mut [0; 8]).is_ok()),
+        answer(calls, bench.send(b"{}").is_ok()),
+    ]
+}
+
+// The same of a file at this path, which is made anew.
+fn answers(rt: &HostRuntime, calls: &Calls, path: &'static str) -> [(bool, bool); 5] {
     let _ = fs::remove_file(rt, path);
     let files = CountedFiles { rt, calls };
-    let mut bench = FileBench::new(&files, path);
-    [
-        answer(calls, bench.length()),
-        answer(calls, bench.write_at(0, b"abc")),
-        answer(calls, bench.sync()),
-        answer(calls, bench.read_at(0, &mut [0; 8])),
-        answer(calls, bench.send(b"{}")),
-    ]
+    five_calls(&mut FileBench::new(&files, path), calls)
 }
 
 #[test]
 fn a_refused_call_fails_at_once_and_no_other_does(rt: HostRuntime) {
     for (refused, (_, fails)) in CALLS.into_iter().enumerate() {
         let calls = Calls::new(rt.alloc(), refused);
-        let answers = five_calls(&rt, &calls, "refused.journal");
         let wanted = [0, 1, 2, 3, 4].map(|number| (number != fails, number == fails));
-        assert!(rt; answers == wanted, "{refused} refused");
+        assert!(rt;
+            answers(&rt, &calls, "refused.journal") == wanted,
+            "{refused} refused"
+        );
     }
 }
 
 #[test]
 fn each_call_of_the_system_is_made_in_order(rt: HostRuntime) {
     let calls = Calls::new(rt.alloc(), CALLS.len());
-    let answers = five_calls(&rt, &calls, "counted.journal");
-    assert!(rt; answers == [(true, false); 5]);
+    assert!(rt; answers(&rt, &calls, "counted.journal") == [(true, false); 5]);
     assert!(rt; calls.are(&CALLS.map(|(call, _)| call)));
 }
 
@@ -72,7 +77,7 @@ fn writes(bench: &mut FileBench<'_, HostRuntime>) -> [bool; 3] {
 }
 
 // Whether each call on the journal's file was done.
-fn tries(bench: &mut FileBench<'_, HostRuntime>) -> [bool; 4] {
+fn tries<B: Bench>(bench: &mut B) -> [bool; 4] {
     [
         bench.length().is_ok(),
         bench.read_at(0, &mut [0; 8]).is_ok(),
@@ -82,9 +87,7 @@ fn tries(bench: &mut FileBench<'_, HostRuntime>) -> [bool; 4] {
 }
 
 // The length of the journal's file, and what stands in it behind its first byte.
-fn found(
-    bench: &mut FileBench<'_, HostRuntime>,
-) -> (Result<u64, Failed>, Result<usize, Failed>, [u8; 8]) {
+fn found<B: Bench>(bench: &mut B) -> (Result<u64, Failed>, Result<usize, Failed>, [u8; 8]) {
     let mut bytes = [0; 8];
     (bench.length(), bench.read_at(1, &mut bytes), bytes)
 }

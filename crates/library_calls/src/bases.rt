@@ -1,7 +1,7 @@
 //! A reduced form that is copied.
 ghost use Rattle.std.specs.Prelude.{◌≡◌, ◌≤◌};
 
-use audit_types::RowSet;
+use audit_types::{NoMemory, RowSet};
 use sum_basis::{Basis, Grown};
 
 // A row and the next one, of three.
@@ -15,12 +15,20 @@ fn pair(first: u16) -> RowSet
     rows
 }
 
+// Whether the form grows, and the copy that was taken between stays.
+fn keeps_its_copy(basis: &mut Basis) -> Result<bool, NoMemory>
+    requires { basis.old.n ≡ 3 }
+{
+    let first = basis.extend(&pair(0))?;
+    let copy = basis.copy()?;
+    let second = basis.extend(&pair(1))?;
+    let grew = first == Grown::Added && second == Grown::Added && basis.rank() == 2;
+    Ok(grew && copy.rank() == 1 && copy.contains(&pair(0)))
+}
+
 // The set {0, 1}, then {1, 2}: rows (1, 0, -1) and (0, 1, 1). The copy stays when the form grows.
 #[test]
 fn a_copy_is_a_basis_of_its_own(rt: HostRuntime) {
     let mut basis = Basis::new(rt.alloc(), 3).expect(&rt, "memory");
-    assert!(rt; basis.extend(&pair(0)) == Ok(Grown::Added));
-    let copy = basis.copy().expect(&rt, "memory");
-    assert!(rt; basis.extend(&pair(1)) == Ok(Grown::Added));
-    assert!(rt; basis.rank() == 2 && copy.rank() == 1 && copy.contains(&pair(0)));
+    assert!(rt; keeps_its_copy(&mut basis) == Ok(true));
 }

@@ -95,13 +95,17 @@ fn another_table_gives_the_same_answers_until_the_denied_one(rt: HostRuntime) {
         sum(&FROM_41, 1200),
         sum(&OPS, 700),
     ];
-    assert!(rt; agrees(Kind::Sum, &SALARIES, &answered, 0));
-    assert!(rt; agrees(Kind::Sum, &OTHER_SALARIES, &answered, 0));
+    same(&rt, &agrees(Kind::Sum, &SALARIES, &answered, 0), &true);
+    same(
+        &rt,
+        &agrees(Kind::Sum, &OTHER_SALARIES, &answered, 0),
+        &true,
+    );
 
     let denied = [sum(&FROM_41_NOT_DEV, 600)];
-    assert!(rt; agrees(Kind::Sum, &SALARIES, &denied, 0));
-    assert!(rt; !agrees(Kind::Sum, &OTHER_SALARIES, &denied, 0));
-    assert!(rt; agrees(Kind::Sum, &OTHER_SALARIES, &denied, 1));
+    same(&rt, &agrees(Kind::Sum, &SALARIES, &denied, 0), &true);
+    same(&rt, &agrees(Kind::Sum, &OTHER_SALARIES, &denied, 0), &false);
+    same(&rt, &agrees(Kind::Sum, &OTHER_SALARIES, &denied, 1), &true);
 }
 
 #[test]
@@ -113,7 +117,7 @@ fn two_sums_over_three_rows_leave_a_direction_and_three_leave_none(rt: HostRunti
         sum(&[true, false, true], 4),
     ];
     for (numbers, third) in [([1, 2, 3], true), ([0, 3, 2], false), ([6, -3, 8], false)] {
-        assert!(rt; agrees(Kind::Sum, &numbers, &two, 0));
+        same(&rt, &agrees(Kind::Sum, &numbers, &two, 0), &true);
         same(&rt, &agrees(Kind::Sum, &numbers, &three, 0), &third);
     }
 }
@@ -121,7 +125,7 @@ fn two_sums_over_three_rows_leave_a_direction_and_three_leave_none(rt: HostRunti
 #[test]
 fn the_extremes_of_three_maxima_are_all_their_rows(rt: HostRuntime) {
     let answered = [maximum(&EVERYBODY, 9), maximum(&QA, 9), maximum(&OTHERS, 9)];
-    assert!(rt; agrees(Kind::Max, &BONUSES, &answered, 1));
+    same(&rt, &agrees(Kind::Max, &BONUSES, &answered, 1), &true);
     same(&rt, &extremes(&answered, &answered[0]), &rows(&EVERYBODY));
     same(&rt, &extremes(&answered, &answered[1]), &rows(&QA));
     same(&rt, &extremes(&answered, &answered[2]), &rows(&OTHERS));
