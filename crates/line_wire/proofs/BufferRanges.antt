@@ -15,6 +15,14 @@ written_back n new old same is =
 pub taken_there : (buffer bytes : List ℕ) (at count : ℕ) → buffer ≡ bytes → take count (slice_range buffer at (at + count)) ≡ take count (drop at bytes)
 taken_there buffer bytes at count same = take-take count (at + count - at) (drop at buffer) (omega arith) ∙ ap (λ (l : List ℕ). take count (drop at l)) same
 
+-- a line that was moved to the front is still there after a read behind it
+pub still_in_front : (after read before moved line : List ℕ) (n : ℕ) → after ≡ read → take n read ≡ take n before → before ≡ moved → slice_range moved 0 (0 + n) ≡ line →
+    slice_range after 0 n ≡ line
+still_in_front after read before moved line n was kept is there =
+    let size : n - 0 ≡ n = omega arith in
+    let whole : 0 + n - 0 ≡ n = omega arith in
+    ap (λ (k : ℕ). take k after) size ∙ ap (λ (l : List ℕ). take n l) was ∙ kept ∙ ap (λ (l : List ℕ). take n l) is ∙ ap (λ (k : ℕ). take k moved) (sym whole) ∙ there
+
 -- a range that begins later
 pub range-later : (bytes : List ℕ) (from end count : ℕ) → from + count ≤ end → slice_range bytes (from + count) end ≡ drop count (slice_range bytes from end)
 range-later bytes from end count fits =

@@ -1,8 +1,9 @@
 -- What a call of the cutter keeps from turn to turn.
-use Rattle.std.proofs.Common.{◌≡◌, ℕ, suc, ◌+◌, ◌-◌, ◌<◌, ◌≤◌, ◌⊎◌, inl, inr, Bool, true, false, cond, List, [], ◌∷◌, ◌++◌, length, refl, sym, ap, ◌∙◌, arith, append-nil, length-append}
+use Rattle.std.proofs.Common.{◌≢◌, ◌≡◌, ℕ, suc, ◌+◌, ◌-◌, ◌<◌, ◌≤◌, ◌⊎◌, inl, inr, Bool, true, false, cond, List, [], ◌∷◌, ◌++◌, length, refl, sym, ap, ◌∙◌, arith, append-nil, length-append, Ok}
+use Rattle.std.proofs.lemmas.Grind.{common_steps}
 use Rattle.line_wire.specs.Lines.{CountedLine, text, long, line_of, whole_lines, most_input}
 use Rattle.line_wire.specs.Cutter.{Cutter, IsWithin, PassesFeed, PassesNone, Reached}
-use Rattle.line_wire.specs.Steps.{Gives, GivesLast, Advances}
+use Rattle.line_wire.specs.Steps.{Gives, GivesLast, ShowsText, Advances}
 use Rattle.line_wire.specs.declared.lines.Next.{Next}
 use Rattle.line_wire.specs.declared.lines.Next.TheVariants as next
 use Rattle.line_wire.specs.LineLaws.{kept-le}
@@ -55,6 +56,27 @@ pub last_gives : (answer : Next) (shown : List ℕ) (lines : List CountedLine) �
 last_gives next.Line shown lines gives = gives
 last_gives next.Long shown lines gives = gives
 last_gives next.End shown lines gives = absurd gives
+
+-- the text of a line has at most 8,192 bytes
+is_short : (shown piece : List ℕ) → line_of piece ≡ text shown ∷ [] → length shown ≤ 8192
+is_short shown piece is = grind (arith, common_steps)
+
+-- only an answer Line shows a text
+pub shows_line : (answer : Next) (shown piece : List ℕ) → Gives answer shown (line_of piece) → ShowsText (Ok answer) shown
+shows_line next.Line shown piece gives = is_short shown piece gives
+shows_line next.Long shown piece gives = gives.1
+shows_line next.End shown piece gives = absurd gives
+
+pub shows_last : (answer : Next) (shown piece : List ℕ) → GivesLast answer shown (line_of piece) → ShowsText (Ok answer) shown
+shows_last next.Line shown piece gives = is_short shown piece gives
+shows_last next.Long shown piece gives = gives.1
+shows_last next.End shown piece gives = gives.1
+
+-- where a whole line is at hand, nothing was read
+pub nothing_read : {S : Type 0} (old now : Cutter) (first source : S) → ((source ≡ first) × Reached (old.pending ++ []) now []) ⊎ (whole_lines (old.pending ++ []) ≡ []) →
+    whole_lines old.pending ≢ [] → source ≡ first
+nothing_read old now first source (inl here) some = here.0
+nothing_read old now first source (inr none) some = absurd (some (ap whole_lines (sym (append-nil old.pending)) ∙ none))
 
 -- a last line took a byte
 pub advances_last : (answer : Next) (old now new : Cutter) → old.taken + length now.pending + length now.text ≤ now.taken + length old.pending

@@ -135,13 +135,8 @@ pub(crate) fn question_in(value: &Value) -> Option<Question<'_>>
     if !has_known_keys(value) || !may_be_text(value.get("user")) {
         return None;
     }
-    let text = text_at(value, "where");
-    let word = text_at(value, "ask");
-    match (text, word) {
-        (Some(text), Some(word)) => match ask_of(word) {
-            Some(ask) => with_column(ask, value.get("column"), text),
-            None => None,
-        },
-        _ => None,
-    }
+    let text = text_at(value, "where")?;
+    let word = text_at(value, "ask")?;
+    let ask = ask_of(word)?;
+    with_column(ask, value.get("column"), text)
 }

@@ -3,7 +3,7 @@ use Rattle.std.proofs.lemmas.Bool.{both_ways}
 use Rattle.line_wire.specs.Lines.{whole_lines}
 use Rattle.line_wire.specs.Cutter.{Cutter}
 use Rattle.line_wire.proofs.NextCountedLine.{starts, to_feed, to_more, to_read, to_next, no_whole, answers_fed, answers_last, none_left, counts_from}
-use Rattle.line_wire.proofs.FromTurnToTurn.{grown_feed, grown_none, shrinks_feed, less_at_hand, more_read, advances_fed, advances_last, still_unread, next_unread}
+use Rattle.line_wire.proofs.FromTurnToTurn.{grown_feed, grown_none, shrinks_feed, less_at_hand, more_read, advances_fed, advances_last, still_unread, next_unread, nothing_read, shows_line, shows_last}
 use Rattle.line_wire.proofs.lines.Lines.next.Goals as goal
 
 pub loop-self-init : goal.loop-self-init
@@ -129,3 +129,54 @@ pub returns-in-Err-clause-at_hand : goal.returns-in-Err-clause-at_hand
 returns-in-Err-clause-at_hand g c = λ some.
     let absorbed = c.in-Dry.ensures in
     absurd (some (still_unread c.args.self.now c.loop-self.self c.absorb.new.self _ _ c.loop-self.invariant.unread absorbed.passes.0 absorbed.passes.1))
+
+pub returns-in-Over-clause-text : goal.returns-in-Over-clause-text
+returns-in-Over-clause-text g c = rw c.stop_at_limit.ensures.refuses c.stop_at_limit.ensures.text
+
+pub returns-in-Some-clause-text : goal.returns-in-Some-clause-text
+returns-in-Some-clause-text g c = shows_line c.in-Some.next c.finish.new.self.text c.absorb.new.self.text c.in-Some.ensures.counts
+
+pub returns-in-Dry-clause-text : goal.returns-in-Dry-clause-text
+returns-in-Dry-clause-text g c = shows_last c.last.result c.last.new.self.text c.absorb.new.self.text c.last.ensures.gives
+
+pub returns-in-Over-clause-at_hand : goal.returns-in-Over-clause-at_hand
+returns-in-Over-clause-at_hand g c = nothing_read c.args.self.now c.loop-self.self _ _ c.loop-self.invariant.unread
+
+pub returns-in-Some-clause-at_hand : goal.returns-in-Some-clause-at_hand
+returns-in-Some-clause-at_hand g c = nothing_read c.args.self.now c.loop-self.self _ _ c.loop-self.invariant.unread
+
+pub returns-in-Dry-clause-at_hand : goal.returns-in-Dry-clause-at_hand
+returns-in-Dry-clause-at_hand g c = nothing_read c.args.self.now c.loop-self.self _ _ c.loop-self.invariant.unread
+
+pub returns-in-Over-clause-taken : goal.returns-in-Over-clause-taken
+returns-in-Over-clause-taken g c = λ told.
+    rw (c.stop_at_limit.ensures.same.0, c.in-Over.ensures.same.0) (c.loop-self.invariant.taken told)
+
+pub returns-in-Some-clause-taken : goal.returns-in-Some-clause-taken
+returns-in-Some-clause-taken g c = λ told.
+    rw (c.in-Some.ensures.same.0, c.in-Fed.ensures.same.0) (c.loop-self.invariant.taken told)
+
+pub returns-in-Dry-clause-taken : goal.returns-in-Dry-clause-taken
+returns-in-Dry-clause-taken g c = λ told.
+    rw (c.last.ensures.same.0, c.in-Dry.ensures.same.0) (c.loop-self.invariant.taken told)
+
+pub returns-in-Over-clause-within : goal.returns-in-Over-clause-within
+returns-in-Over-clause-within g c = rw (c.stop_at_limit.ensures.same.0, c.stop_at_limit.ensures.same.2) c.in-Over.ensures.within.1.given
+
+pub returns-in-Some-clause-within : goal.returns-in-Some-clause-within
+returns-in-Some-clause-within g c = rw (c.in-Some.ensures.same.0, c.in-Some.ensures.same.2) c.in-Fed.ensures.within.1.given
+
+pub returns-in-Dry-clause-within : goal.returns-in-Dry-clause-within
+returns-in-Dry-clause-within g c = rw (c.last.ensures.same.0, c.last.ensures.same.2) c.in-Dry.ensures.within.1.given
+
+pub returns-in-Over-clause-same : goal.returns-in-Over-clause-same
+returns-in-Over-clause-same g c = λ told is.
+    c.loop-self.invariant.same told (sym c.in-Over.ensures.same.1 ∙ sym c.stop_at_limit.ensures.same.1 ∙ is)
+
+pub returns-in-Some-clause-same : goal.returns-in-Some-clause-same
+returns-in-Some-clause-same g c = λ told is.
+    c.loop-self.invariant.same told (sym c.in-Fed.ensures.same.1 ∙ sym c.in-Some.ensures.same.1 ∙ is)
+
+pub returns-in-Dry-clause-same : goal.returns-in-Dry-clause-same
+returns-in-Dry-clause-same g c = λ told is.
+    c.loop-self.invariant.same told (sym c.in-Dry.ensures.same.1 ∙ sym c.last.ensures.same.1 ∙ is)
