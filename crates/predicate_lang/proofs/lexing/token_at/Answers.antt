@@ -56,3 +56,12 @@ returns-in-None-clause-exact c =
     let front = front_of_mark (get_or c.args.text.now c.args.at 0) (drop (c.args.at + 1) c.args.text.now) (sym letter) number (ne_eqb _ 39 quote) in
     let mark = simp (c.as_bytes-bytes.ensures.value, take_rest) at (c.in-None.ensures.exact c.args.schema.now.columns) in
     (ap (lexeme c.args.schema.now.columns c.args.at) front ∙ no_mark_is c.args.schema.now.columns c.args.at _ mark, refl)
+
+pub returns-then-is_ascii_alphabetic-clause-within : goal.returns-then-is_ascii_alphabetic-clause-within
+returns-then-is_ascii_alphabetic-clause-within c = c.word.ensures.within
+
+pub returns-then-is_ascii_digit-clause-within : goal.returns-then-is_ascii_digit-clause-within
+returns-then-is_ascii_digit-clause-within c = rw c.as_bytes-bytes.ensures.value at c.number.ensures.within
+
+pub returns-then-first-eq39-clause-within : goal.returns-then-first-eq39-clause-within
+returns-then-first-eq39-clause-within c = rw c.as_bytes-bytes.ensures.value at c.text_literal.ensures.within
