@@ -68,10 +68,10 @@ AddsRow (Ok u) roles rows (Err error) more = ⊥
 AddsRow (Err fault) roles rows (Ok row) more = UnlessMemory fault (next_fault roles (length rows) (fields_of row) ≡ Some fault)
 AddsRow (Err fault) roles rows (Err error) more = fault ≡ NoMemory
 
--- the file with its header read, or its first fault
-abbrev pub Opens : Result (ByteRecordsIntoIter (Bor (List ℕ))) TableFault → List Column → List ℕ → Type 0
-Opens (Ok reader) columns bytes = HasOpened columns bytes [] reader
-Opens (Err fault) columns bytes = UnlessMemory fault (file_fault columns bytes ≡ Some fault)
+-- the reader stands after the header, or the file's first fault is answered
+abbrev pub Opens : Result Unit TableFault → List Column → List ℕ → ByteRecordsIntoIter (Bor (List ℕ)) → Type 0
+Opens (Ok u) columns bytes reader = HasOpened columns bytes [] reader
+Opens (Err fault) columns bytes reader = UnlessMemory fault (file_fault columns bytes ≡ Some fault)
 
 -- 1 to 1,024 records after the header, in a file with these columns and no fault
 pub record AreData (columns : List Column) (bytes : List ℕ) (rows : List Fields) : Type 0 where

@@ -4,7 +4,7 @@ ghost use Rattle.table_load.specs.Faults.{fault_number};
 
 /// Why bytes are no table of a schema. `line` is the number of the record, from 1 with the header; `column` is the place
 /// in the file, from 0. docs/FORMATS.md tells in words which fault is the first.
-#[derive(Clone, Copy, Debug, PartialEq, Eq, Drop)]
+#[derive(Clone, Copy, PartialEq, Eq, Drop)]
 pub enum TableFault {
     /// More than 16,777,216 bytes.
     TooLong,

@@ -1,6 +1,7 @@
 //! The public part of a table.
-ghost use Rattle.std.specs.Prelude.{◌≡◌, ◌<◌, cond, false, drop, length, map, IfOk};
+ghost use Rattle.std.specs.Prelude.{◌≡◌, ◌<◌, ◌≤◌, cond, false, drop, length, map, IfOk};
 ghost use Rattle.std.specs.Vec.Iter.{into_iter_items};
+ghost use Rattle.audit_types.specs.Limits.{most_rows};
 ghost use Rattle.schema_json.specs.Columns.{is_secret};
 ghost use Rattle.table_load.specs.Kept.{cells_kept, public_with};
 ghost use Rattle.table_load.specs.Cells.{AreLists, FitsSchema, IsPublic, first_list, hidden, numbers, numbered, number_of_cell, text_of_cell, cells_at, HasNumbers, HasTexts};
@@ -36,6 +37,17 @@ impl Model for Public {
     ghost view = { public_view };
 
     ghost invariant = { IsKeptPublic };
+}
+
+// How many rows lists have: as many as the first of them.
+fn rows_in(lists: &[Vec<i64>]) -> u16
+    requires { length (first_list (map (λ v. v.items) lists.now)) ≤ most_rows }
+    ensures { result ≡ length (first_list (map (λ v. v.items) lists.now)) }
+{
+    match lists.first() {
+        Some(list) => list.len() as u16,
+        None => 0,
+    }
 }
 
 // The column of a role: a secret one shows nothing, a public one has the next of the lists that are left.
@@ -76,10 +88,7 @@ impl Public {
         ensures columns { IfOk result (λ p. p.columns ≡ numbered schema.now.columns (map (λ v. v.items) lists.items)) }
         ensures fits { IfOk result (λ p. FitsSchema schema.now.columns p) }
     {
-        let rows = match lists.first() {
-            Some(list) => list.len() as u16,
-            None => unreachable!(),
-        };
+        let rows = rows_in(lists.as_slice());
         let mut columns = Vec::new(alloc);
         let mut left = lists.into_iter();
         for place in 0..schema.count() {

@@ -64,24 +64,20 @@ fn check_header(
     }
 }
 
-// A reader after the header of a file.
-fn open_file<'b>(
-    alloc: Global,
+// Reads the header of a file, at whose front the reader stands.
+fn read_header(
     schema: &Schema,
     which: FileColumns,
-    bytes: &'b [u8],
-) -> Result<ByteRecordsIntoIter<&'b [u8]>, TableFault>
-    ensures { Opens result (file_columns which schema.now.columns) bytes.now }
+    bytes: &[u8],
+    records: &mut ByteRecordsIntoIter<&[u8]>,
+) -> Result<(), TableFault>
+    requires { HasRead bytes.now [] records.old }
+    ensures { Opens result (file_columns which schema.now.columns) bytes.now records.new }
 {
     if bytes.len() > MOST_TABLE {
         return Err(TableFault::TooLong);
     }
-    let mut records = records_of(alloc, bytes);
-    let first = records.next();
-    match check_header(schema, which, first) {
-        Ok(()) => Ok(records),
-        Err(fault) => Err(fault),
-    }
+    check_header(schema, which, records.next())
 }
 
 // The fault of a record that stands behind so many.
@@ -136,6 +132,32 @@ fn some_rows(rows: Vec<ByteRecord>) -> Result<Vec<ByteRecord>, TableFault>
     Ok(rows)
 }
 
+// The data records of a file, at whose front the reader stands.
+fn data_records(
+    alloc: Global,
+    schema: &Schema,
+    which: FileColumns,
+    roles: &[Role],
+    bytes: &[u8],
+    records: &mut ByteRecordsIntoIter<&[u8]>,
+) -> Result<Vec<ByteRecord>, TableFault>
+    requires roles { roles.now ≡ roles_of (file_columns which schema.now.columns) }
+    requires few { length roles.now ≤ 32 }
+    requires front { HasRead bytes.now [] records.old }
+    ensures { ReadsData result (file_columns which schema.now.columns) bytes.now }
+{
+    if let Err(fault) = read_header(schema, which, bytes, records) {
+        return Err(fault);
+    }
+    let mut rows = Vec::new(alloc);
+    'records: while let Some(row) = records.next() {
+        if let Err(fault) = add_row(roles, &mut rows, row) {
+            return Err(fault);
+        }
+    }
+    some_rows(rows)
+}
+
 /// The data records of a file, where none of them has a fault. Records of another length are read too, and only want of
 /// memory is left as an error of a read.
 pub(crate) fn read_rows(
@@ -149,15 +171,6 @@ pub(crate) fn read_rows(
     requires few { length roles.now ≤ 32 }
     ensures { ReadsData result (file_columns which schema.now.columns) bytes.now }
 {
-    let records = match open_file(alloc, schema, which, bytes) {
-        Ok(records) => records,
-        Err(fault) => return Err(fault),
-    };
-    let mut rows = Vec::new(alloc);
-    for row in records {
-        if let Err(fault) = add_row(roles, &mut rows, row) {
-            return Err(fault);
-        }
-    }
-    some_rows(rows)
+    let mut records = records_of(alloc, bytes);
+    data_records(alloc, schema, which, roles, bytes, &mut records)
 }

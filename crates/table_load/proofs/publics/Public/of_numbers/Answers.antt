@@ -2,7 +2,6 @@ use Rattle.std.proofs.Common.{◌≡◌, ◌<◌, ◌+◌, ◌∷◌, ◌++◌, 
 use Rattle.std.specs.List.{AllByRecursion}
 use Rattle.std.specs.Vec.Iter.{into_iter_items}
 use Rattle.std.proofs.lemmas.List.{length-map, map-append}
-use Rattle.std.proofs.lemmas.Grind.{common_steps}
 use Rattle.std.proofs.Math.ListN.{drop_of_length-le}
 use Rattle.table_load.specs.Cells.{Cells, PublicView, AreCells, HoldsRole, first_list, hidden, numbered}
 use Rattle.table_load.specs.Kept.{cells_kept}
@@ -40,14 +39,14 @@ of-requires c =
     let cs = c.args.schema.now.columns in
     let lists = map (λ (v : Vec ℤ Global). v.items) c.args.lists.items in
     let n = length (first_list lists) in
-    let rows : c.len.result ≡ n = grind (arith, common_steps) in
+    let rows : c.rows_in-rows.result ≡ n = rw c.as_slice.ensures.value at c.rows_in-rows.ensures in
     let done = drop_of_length-le cs {i = c.loop-place.place} (omega (arith, c.count-place-end.ensures.count)) in
     let made : numbered cs lists ≡ map cells_kept c.loop-place.columns.items =
     c.loop-place.invariant.columns
     ∙ ap (λ columns. map cells_kept c.loop-place.columns.items ++ numbered columns (map (λ (v : Vec ℤ Global). v.items) (into_iter_items c.loop-place.left))) done
     ∙ append-nil (map cells_kept c.loop-place.columns.items) in
     let P : ℕ → Type 0 = λ m. AllByRecursion (AreCells m) (numbered cs lists) in
-    let Q : List Cells → Type 0 = λ cells. AllByRecursion (AreCells c.len.result) cells in
+    let Q : List Cells → Type 0 = λ cells. AllByRecursion (AreCells c.rows_in-rows.result) cells in
     record {
       some = omega (arith, rows, c.requires.some);
       at_most = omega (arith, rows, c.requires.at_most);
@@ -66,10 +65,22 @@ returns-clause-fits c = λ place role is.
     let P : List Cells → Type 0 = λ cells. HoldsRole role (get_or cells place hidden) in
     subst P (made ∙ sym (ap (λ (p : PublicView). p.columns) c.of.ensures)) (numbered_fit cs lists place role c.requires.no_texts is)
 
-pub overflow_cast-rows : goal.overflow_cast-rows
-overflow_cast-rows c =
-    let rows : c.len.result ≡ length (first_list (map (λ (v : Vec ℤ Global). v.items) c.args.lists.items)) = grind (arith, common_steps) in
-    omega (arith, rows, c.requires.at_most)
+pub returns-clause-rows : goal.returns-clause-rows
+returns-clause-rows c = ap (λ (p : PublicView). p.rows) c.of.ensures ∙ rw c.as_slice.ensures.value at c.rows_in-rows.ensures
+
+pub returns-clause-columns : goal.returns-clause-columns
+returns-clause-columns c =
+    let cs = c.args.schema.now.columns in
+    let lists = map (λ (v : Vec ℤ Global). v.items) c.args.lists.items in
+    let done = drop_of_length-le cs {i = c.loop-place.place} (omega (arith, c.count-place-end.ensures.count)) in
+    let made : numbered cs lists ≡ map cells_kept c.loop-place.columns.items =
+    c.loop-place.invariant.columns
+    ∙ ap (λ columns. map cells_kept c.loop-place.columns.items ++ numbered columns (map (λ (v : Vec ℤ Global). v.items) (into_iter_items c.loop-place.left))) done
+    ∙ append-nil (map cells_kept c.loop-place.columns.items) in
+    ap (λ (p : PublicView). p.columns) c.of.ensures ∙ sym made
+
+pub rows_in-rows-requires : goal.rows_in-rows-requires
+rows_in-rows-requires c = rw c.as_slice.ensures.value c.requires.at_most
 
 pub loop-place-init : goal.loop-place-init
 loop-place-init c = record {
