@@ -64,3 +64,8 @@ pub lacks_step : {Y : Type 0} (step : Command → Bool) (asked : Option Command)
     → asked ≡ Some another → step one ≡ false → step another ≡ true → Y
 lacks_step step asked command one another is named also none taken =
     not_false step another one (sym (one_command asked command another is also) ∙ named) taken none
+
+-- words that are refused are no command
+pub refused_words : (asked : Option Command) (fault : WordFault) → (◌≡◌ {A = Result Command WordFault} (Err fault) (Err Bad) → asked ≡ None) → fault ≡ Bad
+    → asked ≡ None
+refused_words asked fault none bad = none (ap (λ (f : WordFault). Err f) bad)

@@ -7,7 +7,7 @@ use Rattle.schema_json.specs.Columns.{Column}
 use Rattle.table_load.specs.Cells.{TableView, SecretView}
 use Rattle.table_load.specs.Database.{Database}
 use Rattle.journal_form.specs.Journal.{StandsFor}
-use Rattle.answer_journal.specs.Moments.{IsAlready}
+use Rattle.answer_journal.specs.Moments.{IsAlready, IsMade}
 use Rattle.answer_journal.specs.declared.make.MakeFault.{MakeFault}
 use Rattle.answer_journal.specs.declared.make.MakeFault.TheVariants as make
 use Rattle.audit_store.specs.Starting.{StartCause, StartsUnlessFailed}
@@ -43,6 +43,18 @@ pub moved : (status : Status) (before : FaultCounts) (schema later_schema table 
 moved status before schema later_schema table later_table input bench spare is also cause =
     subst (λ (s : ℕ). FaultCause status before (counts s later_table input bench spare)) (sym is)
     (subst (λ (t : ℕ). FaultCause status before (counts schema t input bench spare)) (sym also) cause)
+
+-- a file that isn't there already is no made journal
+pub not_made : (file : List ℕ) → (IsAlready file → ⊥) → IsMade file → ⊥
+not_made file absent made = grind arith
+
+-- a store that there was no memory for wasn't refused since the bench failed
+pub wants_not_failed : {X : Type 0} → ◌≢◌ {A = Result X StartFault} (Err start.NoMemory) (Err start.Failed)
+wants_not_failed is = cc
+
+-- a fault that is handed on is the same
+pub same_start : {X Y : Type 0} (a b : StartFault) → ◌≡◌ {A = Result X StartFault} (Err a) (Err b) → ◌≡◌ {A = Result Y StartFault} (Err a) (Err b)
+same_start a b is = cc
 
 -- ---- opening the files
 

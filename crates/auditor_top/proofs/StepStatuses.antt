@@ -1,5 +1,5 @@
 -- What follows from the status of each step of a run by itself.
-use Rattle.std.proofs.Common.{◌≡◌, ◌≢◌, List, ℕ, true, false, Bool, Some, Result, Ok, Err, IsErrOf, refl, subst, sym}
+use Rattle.std.proofs.Common.{◌≡◌, ◌≢◌, ◌≤◌, List, ℕ, true, false, Bool, Some, Result, Ok, Err, IsErrOf, arith, refl, subst, sym}
 use Rattle.std.specs.Bool.{OnTrue}
 use Rattle.schema_json.specs.Columns.{Column}
 use Rattle.schema_json.specs.Reading.{schema_of}
@@ -22,12 +22,13 @@ use Rattle.auditor_top.specs.declared.opening.OpenFault.{OpenFault}
 use Rattle.auditor_top.specs.declared.opening.OpenFault.TheVariants as opening
 use Rattle.auditor_top.specs.declared.words.Command.{Command}
 use Rattle.auditor_top.specs.declared.words.Command.TheVariants.{Init, Serve, Audit, Simulate}
+use Rattle.auditor_top.specs.declared.status.Which.{Which}
 use Rattle.auditor_top.specs.declared.status.Which.TheVariants.{Schema, Table, Input}
 use Rattle.auditor_top.specs.declared.status.Status.{Status}
-use Rattle.auditor_top.specs.declared.status.Status.TheVariants.{Done, BadSchema, BadTable, SourceFault, BenchFault}
+use Rattle.auditor_top.specs.declared.status.Status.TheVariants.{Done, BadWords, BadSchema, BadTable, SourceFault, BenchFault, NoMemory}
 use Rattle.auditor_top.specs.Status.{open_status, start_status, making_status, session_status, audit_status, simulation_status}
 use Rattle.auditor_top.specs.Commands.{reads_files, opens_journal}
-use Rattle.auditor_top.specs.Causes.{WordCause, SchemaCause, TableCause, FileCause, InputCause}
+use Rattle.auditor_top.specs.Causes.{FaultCounts, counts, NeverFall, WordCause, SchemaCause, TableCause, FileCause, InputCause}
 use Rattle.auditor_top.specs.Stages.{Stage, reading_table, opening_journal, reading_lines, is_short_of, reached, Before}
 use Rattle.auditor_top.proofs.OneTable.{same_ok}
 
@@ -38,6 +39,50 @@ on_any false holds = tt
 
 pub always_before : {P : Type 0} (stage : Stage) (status : Status) → P → Before stage status P
 always_before stage status holds = on_any (is_short_of stage (reached status)) holds
+
+-- and what follows from it
+so_then : {P Q : Type 0} (b : Bool) → (P → Q) → OnTrue b P → OnTrue b Q
+so_then true to holds = to holds
+so_then false to holds = tt
+
+pub before_so : {P Q : Type 0} (stage : Stage) (status : Status) → (P → Q) → Before stage status P → Before stage status Q
+before_so stage status to holds = so_then (is_short_of stage (reached status)) to holds
+
+-- no count of faults fell where they are as they were
+pub never_fall : (before : FaultCounts) → NeverFall before before
+never_fall before = record { schema = omega arith; table = omega arith; input = omega arith; bench = omega arith }
+
+-- nor where the bench's alone rose
+pub bench_rose : (schema table input bench later spare : ℕ) → bench ≤ later → NeverFall (counts schema table input bench spare) (counts schema table input later spare)
+bench_rose schema table input bench later spare rose = record { schema = omega arith; table = omega arith; input = omega arith; bench = rose }
+
+-- ---- no command was taken
+
+-- a status that is no fault of a step
+pub record IsNoStep (status : Status) : Type 0 where
+  pub own_schema : status ≢ BadSchema schema_fault.NoMemory
+  pub own_table : status ≢ BadTable table_fault.NoMemory
+  pub no_schema : status ≢ SourceFault Schema
+  pub no_table : status ≢ SourceFault Table
+  pub no_input : status ≢ SourceFault Input
+  pub no_bench : status ≢ BenchFault
+  pub undone : status ≢ Done
+
+pub bad_words_say : IsNoStep BadWords
+bad_words_say = record { own_schema = λ is. cc; own_table = λ is. cc; no_schema = λ is. cc; no_table = λ is. cc; no_input = λ is. cc; no_bench = λ is. cc; undone = λ is. cc }
+
+pub no_memory_says : IsNoStep NoMemory
+no_memory_says = record { own_schema = λ is. cc; own_table = λ is. cc; no_schema = λ is. cc; no_table = λ is. cc; no_input = λ is. cc; no_bench = λ is. cc; undone = λ is. cc }
+
+-- no source failed where the run is done, where the bench failed and where memory was wanting
+pub done_no_source : (which : Which) → Done ≢ SourceFault which
+done_no_source which is = cc
+
+pub bench_no_source : (which : Which) → BenchFault ≢ SourceFault which
+bench_no_source which is = cc
+
+pub memory_no_source : (which : Which) → NoMemory ≢ SourceFault which
+memory_no_source which is = cc
 
 -- ---- the files weren't opened
 
@@ -229,6 +274,12 @@ simulation_input (Err verdict.Bench) is = cc
 simulation_input (Err verdict.Limit) is = cc
 simulation_input (Err (verdict.Disagrees line due)) is = cc
 simulation_input (Err verdict.NoMemory) is = cc
+
+-- a journal is made in no memory that could be wanting
+pub making_wants_no_memory : {X : Type 0} (ended : Result X MakeFault) → making_status ended ≢ NoMemory
+making_wants_no_memory (Ok done) is = cc
+making_wants_no_memory (Err make.AlreadyThere) is = cc
+making_wants_no_memory (Err make.Failed) is = cc
 
 -- ---- the lines were reached
 pub report_at_lines : {X : Type 0} (P : Type 0) (ended : Result X AuditFault) → Before reading_lines (audit_status ended) P

@@ -1,5 +1,5 @@
 -- A file that is read past its limit has the fault of the whole file, and one that is read to its end is what was read.
-use Rattle.std.proofs.Common.{◌≡◌, ℕ, ◌<◌, List, [], ◌++◌, length, Option, Some, Result, Err, refl, inl, inr, ◌⊎◌, sym, ◌∙◌, ap, arith, length-append}
+use Rattle.std.proofs.Common.{◌≡◌, ℕ, ◌<◌, ◌≤◌, ◌+◌, List, [], ◌++◌, length, Option, Some, Result, Ok, Err, ◌≢◌, refl, inl, inr, ◌⊎◌, sym, ◌∙◌, ap, arith, length-append}
 use Rattle.std.proofs.lemmas.List.{append-nil}
 use Rattle.std.proofs.lemmas.Bool.{cond-true, lt-ltb}
 use Rattle.schema_json.specs.Columns.{Column}
@@ -10,6 +10,10 @@ use Rattle.table_load.specs.Reading.{file_fault}
 use Rattle.table_load.specs.Tables.{table_of, public_of}
 use Rattle.table_load.specs.declared.faults.TableFault.{TableFault}
 use Rattle.table_load.specs.declared.faults.TableFault.TheVariants as table_fault
+use Rattle.auditor_top.specs.declared.files.FileFault.{FileFault}
+use Rattle.auditor_top.specs.declared.files.FileFault.TheVariants as file
+use Rattle.auditor_top.specs.declared.reading.ReadFault.{ReadFault}
+use Rattle.auditor_top.specs.declared.reading.ReadFault.TheVariants as read
 use Rattle.auditor_top.specs.Reading.{ReadsAll}
 
 -- what judges all files above the limit alike judges what was read as it judges the whole file
@@ -66,3 +70,27 @@ own_table_fault (table_fault.OutOfRange line column) meant other is = is
 own_table_fault table_fault.TooManyRows meant other is = is
 own_table_fault table_fault.NoRows meant other is = is
 own_table_fault table_fault.NoMemory meant other is = absurd (other refl)
+
+-- ---- the faults of a read and of a file are told apart
+
+pub was_read : {X : Type 0} (x : X) → ◌≢◌ {A = Result X ReadFault} (Ok x) (Err read.Failed)
+was_read x is = cc
+
+pub read_failed : {X : Type 0} (fault : ReadFault) → fault ≡ read.Failed → ◌≡◌ {A = Result X ReadFault} (Err fault) (Err read.Failed)
+read_failed fault is = cc
+
+pub read_wanted : {X : Type 0} (fault : ReadFault) → fault ≡ read.NoMemory → ◌≢◌ {A = Result X ReadFault} (Err fault) (Err read.Failed)
+read_wanted fault is failed = cc
+
+pub failed_not_bad : {X F : Type 0} (f : F) → ◌≢◌ {A = Result X (FileFault F)} (Err file.Failed) (Err (file.Bad f))
+failed_not_bad f is = cc
+
+pub wants_not_bad : {X F : Type 0} (f : F) → ◌≢◌ {A = Result X (FileFault F)} (Err file.NoMemory) (Err (file.Bad f))
+wants_not_bad f is = cc
+
+pub wants_not_failed : {X F : Type 0} → ◌≢◌ {A = Result X (FileFault F)} (Err file.NoMemory) (Err file.Failed)
+wants_not_failed is = cc
+
+-- what was read before a read that failed is no more than may be
+pub read_within : (most : ℕ) (before bytes now after : List ℕ) → before ≡ bytes ++ now → after ≡ now → length bytes ≤ most → length before ≤ most + length after
+read_within most before bytes now after is same few = omega (arith, few, ap (λ (l : List ℕ). length l) is, ap (λ (l : List ℕ). length l) same, length-append bytes now)

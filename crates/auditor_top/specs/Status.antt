@@ -61,6 +61,19 @@ place_text fault.TooManyRows = codes ""
 place_text fault.NoRows = codes ""
 place_text fault.NoMemory = codes ""
 
+-- the words of a status that tells no number
+abbrev pub words_of : Status → List ℕ
+words_of BadWords = codes "usage: auditor init, serve [--batch N], audit, simulate, drill N"
+words_of (SourceFault Schema) = codes "cannot read schema"
+words_of (SourceFault Table) = codes "cannot read table"
+words_of (SourceFault Input) = codes "cannot read input"
+words_of BenchFault = codes "journal or output failed"
+words_of NotMade = codes "no journal"
+words_of AlreadyThere = codes "journal is already there"
+words_of InputLimit = codes "input is too long"
+words_of NoMemory = codes "out of memory"
+words_of other = codes ""
+
 -- what the program tells of it
 abbrev pub status_text : Status → List ℕ
 status_text Done = codes ""

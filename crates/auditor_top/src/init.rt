@@ -15,7 +15,7 @@ ghost use Rattle.auditor_top.specs.Causes.{FaultCause, WordCause, SchemaCause, T
 ghost use Rattle.auditor_top.specs.Stages.{Before, reading_table, opening_journal};
 ghost use Rattle.auditor_top.specs.Status.{making_status};
 
-use crate::opening::{open_table, secret_shape};
+use crate::opening::open_table;
 use crate::status::{Status, Which};
 use answer_journal::{Journal, MakeFault};
 use bench_core::{Bench, Source};
@@ -86,7 +86,7 @@ pub fn init<P: Source, B: Bench>(
     ensures no_memory { result ≡ Status.NoMemory → bench.new ≡ bench.old }
 {
     let shape = match open_table(alloc, schema, table) {
-        Ok(opened) => secret_shape(opened),
+        Ok(opened) => opened.table.secret.shape(),
         Err(fault) => return Status::from(fault),
     };
     ended(Journal::make(bench, &shape))

@@ -4,7 +4,7 @@ ghost use Rattle.schema_json.specs.Columns.{Column};
 ghost use Rattle.schema_json.specs.Reading.{schema_of, most_schema};
 ghost use Rattle.table_load.specs.Reading.{most_table};
 ghost use Rattle.schema_json.specs.SecretShape.{shape_of};
-ghost use Rattle.table_load.specs.Cells.{FitsSchema, IsSecret};
+ghost use Rattle.table_load.specs.Cells.{FitsSchema};
 ghost use Rattle.table_load.specs.Loaded.{table_view};
 ghost use Rattle.table_load.specs.Tables.{table_of, public_of};
 ghost use Rattle.auditor_top.specs.Causes.{FaultCause, SchemaCause, TableCause, counts};
@@ -12,7 +12,6 @@ ghost use Rattle.auditor_top.specs.Stages.{Before, reading_table};
 ghost use Rattle.auditor_top.specs.Status.{open_status};
 
 use crate::files::{FileFault, index_from, schema_from, table_from};
-use audit_types::Shape;
 use bench_core::Source;
 use schema_json::{Schema, SchemaFault};
 use set_index::Index;
@@ -38,14 +37,6 @@ pub fn secret_of(table: Table) -> Secret
     ensures { result ≡ table.secret }
 {
     table.secret
-}
-
-/// The shape of an opened table's secrets, which are dropped.
-pub fn secret_shape(opened: Opened) -> Shape
-    ensures shape { result ≡ opened.table.secret.shape }
-    ensures is { IsSecret opened.table.secret }
-{
-    opened.table.secret.shape()
 }
 
 /// Why the files of a table weren't opened: the first of them that gives nothing, with what is wrong with it.

@@ -1,8 +1,9 @@
 //! The command that answers the lines of an input.
-ghost use Rattle.std.specs.Prelude.{◌≡◌, ◌≢◌, ◌≤◌, ◌+◌, List, ℕ, Some, Ok, length, true};
+ghost use Rattle.std.specs.Prelude.{◌≡◌, ◌≢◌, ◌≤◌, ◌+◌, List, ℕ, Some, Ok, IfOk, IfErr, OnOk, IsErrOf, length, true};
 ghost use Rattle.audit_types.specs.declared.records.Answered.{Answered};
 ghost use Rattle.audit_types.specs.History.{IsLegal, IsUndisclosed};
 ghost use Rattle.bench_core.specs.Calls.{IsQuiet, LeavesOnly};
+ghost use Rattle.bench_core.specs.Causes.{Rose};
 ghost use Rattle.schema_json.specs.Columns.{Column};
 ghost use Rattle.schema_json.specs.Reading.{schema_of, most_schema};
 ghost use Rattle.table_load.specs.Reading.{most_table};
@@ -10,6 +11,8 @@ ghost use Rattle.table_load.specs.Database.{Database, secret_table};
 ghost use Rattle.table_load.specs.Tables.{table_of};
 ghost use Rattle.journal_form.specs.Journal.{StandsFor};
 ghost use Rattle.answer_journal.specs.Moments.{IsUntouched};
+ghost use Rattle.audit_store.specs.Starting.{StartCause, GivesUp};
+ghost use Rattle.audit_store.specs.Stores.{IsStore, IsAsLeft};
 ghost use Rattle.line_wire.specs.Lines.{counted_lines, most_input};
 ghost use Rattle.audit_session.specs.Ends.{TakesCalls};
 ghost use Rattle.audit_session.specs.Stops.{IsBatch, StopsOver};
@@ -24,7 +27,7 @@ use crate::laws::stops_are_legal;
 use crate::opening::{Opened, open_table};
 use crate::status::{Status, Which};
 use audit_session::EndFault;
-use audit_store::Store;
+use audit_store::{StartFault, Store};
 use bench_core::{Bench, Source};
 use schema_json::SchemaFault;
 use set_index::Index;
@@ -38,6 +41,33 @@ fn ended(session: Result<(), EndFault>) -> Status
     match session {
         Ok(()) => Status::Done,
         Err(fault) => Status::from(fault),
+    }
+}
+
+// Makes the public part of a table ready to be asked, and then starts the store of its secrets.
+fn start<B: Bench>(alloc: Global, table: Table, bench: &mut B) -> Result<(Index, Store), StartFault>
+    ensures index { IfOk result (λ started. started.0 ≡ table.public) }
+    ensures store { IfOk result (λ started. (started.1.secret ≡ table.secret) × (started.1.usable ≡ true) × IsStore started.1) }
+    ensures stands { B.told → IfOk result (λ started. IsAsLeft (B.file bench.old) started.1) }
+    ensures cause { B.told → IfErr result (λ fault. StartCause fault (B.file bench.old) table.secret) }
+    ensures opens { (history : List Answered) → B.told → StandsFor (B.file bench.old) table.secret.shape history → IsLegal (secret_table table.secret) history → IfErr result GivesUp }
+    ensures file { B.file bench.new ≡ B.file bench.old }
+    ensures sent { B.sent bench.new ≡ B.sent bench.old }
+    ensures crash { (image : List ℕ) → B.leaves bench.new image → B.leaves bench.old image }
+    ensures untouched { B.told → IsQuiet B.Bench bench.old → LeavesOnly B.Bench bench.old bench.new (IsUntouched (B.file bench.old) (B.sent bench.old)) }
+    ensures ticks { B.told → OnOk result (B.moment bench.new ≡ B.moment bench.old + 2) }
+    ensures failed { IsErrOf result StartFault.Failed → Rose (B.faults bench.old) (B.faults bench.new) }
+    ensures last_call { IsErrOf result StartFault.Failed → B.last_failed bench.new ≡ true }
+    ensures steady { (IsErrOf result StartFault.Failed → ⊥) → B.faults bench.new ≡ B.faults bench.old }
+    ensures later { B.faults bench.old ≤ B.faults bench.new }
+{
+    let Table { public, secret } = table;
+    let Ok(index) = Index::new(alloc, public) else {
+        return Err(StartFault::NoMemory);
+    };
+    match Store::start(alloc, secret, bench) {
+        Ok(store) => Ok((index, store)),
+        Err(fault) => Err(fault),
     }
 }
 
@@ -116,13 +146,8 @@ pub fn serve<P: Source, I: Source, B: Bench>(
         Ok(opened) => opened,
         Err(fault) => return Status::from(fault),
     };
-    let Table { public, secret } = table;
-    let index = match Index::new(alloc, public) {
-        Ok(index) => index,
-        Err(_) => return Status::NoMemory,
-    };
-    let mut store = match Store::start(alloc, secret, bench) {
-        Ok(store) => store,
+    let (index, mut store) = match start(alloc, table, bench) {
+        Ok(started) => started,
         Err(fault) => return Status::from(fault),
     };
     ended(audit_session::serve(alloc, &schema, &index, &mut store, input, bench, batch))

@@ -184,6 +184,24 @@ impl fmt::Display for Place {
     }
 }
 
+// The words of a status that tells no number.
+fn words_of(status: &Status) -> &'static str
+    ensures { result.now ≡ spec.words_of status.now }
+{
+    match status {
+        Status::BadWords => "usage: auditor init, serve [--batch N], audit, simulate, drill N",
+        Status::SourceFault(Which::Schema) => "cannot read schema",
+        Status::SourceFault(Which::Table) => "cannot read table",
+        Status::SourceFault(Which::Input) => "cannot read input",
+        Status::BenchFault => "journal or output failed",
+        Status::NotMade => "no journal",
+        Status::AlreadyThere => "journal is already there",
+        Status::InputLimit => "input is too long",
+        Status::NoMemory => "out of memory",
+        _ => "",
+    }
+}
+
 impl fmt::Display for Status {
     ghost use Rattle.std.specs.Prelude.{Some};
     ghost use Rattle.auditor_top.specs.Status.{status_text};
@@ -192,20 +210,10 @@ impl fmt::Display for Status {
 
     fn fmt<W: fmt::Write>(&self, f: &mut fmt::Formatter<W>) -> fmt::Result {
         match self {
-            Status::Done => f.write_str(""),
-            Status::BadWords => {
-                f.write_str("usage: auditor init, serve [--batch N], audit, simulate, drill N")
-            }
             Status::BadSchema(fault) => write!(f, "schema: fault {}", fault.number()),
             Status::BadTable(fault) => {
                 write!(f, "table: fault {}{}", fault.number(), Place(*fault))
             }
-            Status::SourceFault(Which::Schema) => f.write_str("cannot read schema"),
-            Status::SourceFault(Which::Table) => f.write_str("cannot read table"),
-            Status::SourceFault(Which::Input) => f.write_str("cannot read input"),
-            Status::BenchFault => f.write_str("journal or output failed"),
-            Status::NotMade => f.write_str("no journal"),
-            Status::AlreadyThere => f.write_str("journal is already there"),
             Status::Damaged { at } => write!(f, "journal damaged at byte {at}"),
             Status::OtherShape { kept, now } => write!(
                 f,
@@ -218,9 +226,8 @@ impl fmt::Display for Status {
             Status::Illegal { place } => {
                 write!(f, "record {place} should not have been released")
             }
-            Status::InputLimit => f.write_str("input is too long"),
             Status::Disagrees { line, due } => write!(f, "line {line} disagrees, due {due}"),
-            Status::NoMemory => f.write_str("out of memory"),
+            plain => f.write_str(words_of(plain)),
         }
     }
 }

@@ -99,16 +99,12 @@ fn drill_with(number: &str) -> Option<Command>
 fn command_named(word: &str) -> Option<Command>
     ensures { result ≡ command_named word.now }
 {
-    if word == "init" {
-        Some(Command::Init)
-    } else if word == "serve" {
-        Some(Command::Serve { batch: 1 })
-    } else if word == "audit" {
-        Some(Command::Audit)
-    } else if word == "simulate" {
-        Some(Command::Simulate)
-    } else {
-        None
+    match word {
+        "init" => Some(Command::Init),
+        "serve" => Some(Command::Serve { batch: 1 }),
+        "audit" => Some(Command::Audit),
+        "simulate" => Some(Command::Simulate),
+        _ => None,
     }
 }
 
@@ -118,21 +114,9 @@ fn command_with(word: &str, number: Option<&str>, batch: Option<&str>) -> Option
 {
     match (number, batch) {
         (None, None) => command_named(word),
-        (None, Some(batch)) => {
-            if word == "serve" {
-                serve_with(batch)
-            } else {
-                None
-            }
-        }
-        (Some(number), None) => {
-            if word == "drill" {
-                drill_with(number)
-            } else {
-                None
-            }
-        }
-        (Some(_), Some(_)) => None,
+        (None, Some(batch)) if word == "serve" => serve_with(batch),
+        (Some(number), None) if word == "drill" => drill_with(number),
+        _ => None,
     }
 }
 

@@ -1,21 +1,45 @@
-use Rattle.std.proofs.Common.{rules, ◌∙◌, ap, subst}
+use Rattle.std.proofs.Common.{◌∙◌, ap, subst, refl}
 use Rattle.schema_json.specs.Reading.{schema_of}
 use Rattle.auditor_top.specs.Files.{GivesSchema}
-use Rattle.auditor_top.proofs.WholeFiles.{same_schema}
+use Rattle.auditor_top.proofs.WholeFiles.{same_schema, was_read, read_failed, read_wanted, failed_not_bad, wants_not_bad, wants_not_failed}
 use Rattle.auditor_top.proofs.files.schema_from.Goals as goal
 
-pub returns-in-Err-Failed-clause-within : goal.returns-in-Err-Failed-clause-within
-returns-in-Err-Failed-clause-within g c = λ told is. c.read_all.ensures.within told (search rules)
+-- the bytes were read
 
-pub returns-in-Ok-clause-means : goal.returns-in-Ok-clause-means
-returns-in-Ok-clause-means g c = λ told.
-    subst (GivesSchema c.schema_in.result) (ap schema_of c.deref.ensures.value ∙ same_schema _ _ c.in-Ok.bytes.items (c.in-Ok.ensures.bytes told)) c.schema_in.ensures.means
+pub returns-in-Ok : goal.returns-in-Ok
+returns-in-Ok g c = record {
+  means = λ told.
+      subst (GivesSchema c.schema_in.result) (ap schema_of c.deref.ensures.value ∙ same_schema _ _ c.in-Ok.bytes.items (c.in-Ok.ensures.bytes told)) c.schema_in.ensures.means;
+  own = c.schema_in.ensures.own;
+  within = λ told is. absurd (c.schema_in.ensures.all_read is);
+  later = c.in-Ok.ensures.later;
+  failed = λ is. absurd (c.schema_in.ensures.all_read is);
+  last_call = λ is. absurd (c.schema_in.ensures.all_read is);
+  steady = λ other. c.in-Ok.ensures.steady (was_read _);
+}
 
-pub returns-in-Ok-clause-within : goal.returns-in-Ok-clause-within
-returns-in-Ok-clause-within g c = λ told is. absurd (c.schema_in.ensures.all_read is)
+-- a read failed
 
-pub returns-in-Ok-clause-failed : goal.returns-in-Ok-clause-failed
-returns-in-Ok-clause-failed g c = λ is. absurd (c.schema_in.ensures.all_read is)
+pub returns-in-Err-Failed : goal.returns-in-Err-Failed
+returns-in-Err-Failed g c = record {
+  means = λ told. tt;
+  own = failed_not_bad _;
+  within = λ told is. c.in-Err-Failed.ensures.within told (read_failed _ c.in-Err-Failed.field-0-is);
+  later = c.in-Err-Failed.ensures.later;
+  failed = λ is. c.in-Err-Failed.ensures.failed (read_failed _ c.in-Err-Failed.field-0-is);
+  last_call = λ is. c.in-Err-Failed.ensures.last_call (read_failed _ c.in-Err-Failed.field-0-is);
+  steady = λ other. absurd (other refl);
+}
 
-pub returns-in-Ok-clause-last_call : goal.returns-in-Ok-clause-last_call
-returns-in-Ok-clause-last_call g c = λ is. absurd (c.schema_in.ensures.all_read is)
+-- there was no memory for the bytes
+
+pub returns-in-Err-NoMemory : goal.returns-in-Err-NoMemory
+returns-in-Err-NoMemory g c = record {
+  means = λ told. tt;
+  own = wants_not_bad _;
+  within = λ told is. absurd (wants_not_failed is);
+  later = c.in-Err-NoMemory.ensures.later;
+  failed = λ is. absurd (wants_not_failed is);
+  last_call = λ is. absurd (wants_not_failed is);
+  steady = λ other. c.in-Err-NoMemory.ensures.steady (read_wanted _ c.in-Err-NoMemory.field-0-is);
+}

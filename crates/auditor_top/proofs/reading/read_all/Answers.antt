@@ -1,18 +1,54 @@
-use Rattle.std.proofs.Common.{rules, refl}
+use Rattle.std.proofs.Common.{rules, ◌∙◌, ◌≤◌, ℕ, refl, subst}
+use Rattle.bench_core.specs.Causes.{Rose}
+use Rattle.auditor_top.proofs.WholeFiles.{was_read, read_wanted, read_within}
 use Rattle.auditor_top.proofs.reading.read_all.Goals as goal
 
 -- a failed read gives no bytes for the whole, and its fault is told
 
-pub returns-in-Err-clause-bytes : goal.returns-in-Err-clause-bytes
-returns-in-Err-clause-bytes g c = λ told. tt
-
-pub returns-in-Err-clause-steady : goal.returns-in-Err-clause-steady
-returns-in-Err-clause-steady g c = λ none. absurd (none refl)
+pub returns-in-Err : goal.returns-in-Err
+returns-in-Err g c = record {
+  bytes = λ told. tt;
+  within = λ told is.
+      read_within c.args.most (g.P.Source.left c.args.source.now) c.loop-piece.bytes.items (g.P.Source.left c.loop-piece.source) (g.P.Source.left c.read.new.self)
+      (c.loop-piece.invariant.bytes told) (c.in-Err.ensures.bytes told) (search rules);
+  later = subst (λ (n : ℕ). n ≤ g.P.Source.faults c.read.new.self) c.loop-piece.invariant.steady c.in-Err.ensures.cause.later;
+  failed = λ is. subst (λ (n : ℕ). Rose n (g.P.Source.faults c.read.new.self)) c.loop-piece.invariant.steady c.in-Err.ensures.cause.failed;
+  last_call = λ is. c.in-Err.ensures.last_call;
+  steady = λ other. absurd (other refl);
+}
 
 -- at the end nothing more is read
 
-pub returns-in-Ok-eq0-clause-bytes : goal.returns-in-Ok-eq0-clause-bytes
-returns-in-Ok-eq0-clause-bytes g c = λ told. search rules
+pub returns-in-Ok-eq0 : goal.returns-in-Ok-eq0
+returns-in-Ok-eq0 g c = record {
+  bytes = λ told. search rules;
+  within = λ told is. absurd (was_read _ is);
+  later = subst (λ (n : ℕ). n ≤ g.P.Source.faults c.read.new.self) c.loop-piece.invariant.steady c.read.ensures.cause.later;
+  failed = λ is. absurd (was_read _ is);
+  last_call = λ is. absurd (was_read _ is);
+  steady = λ fine. search rules;
+}
 
-pub returns-in-Ok-eq0-clause-steady : goal.returns-in-Ok-eq0-clause-steady
-returns-in-Ok-eq0-clause-steady g c = λ fine. search rules
+-- there was no memory for what was read
+
+pub returns-in-Err-extend_from_slice : goal.returns-in-Err-extend_from_slice
+returns-in-Err-extend_from_slice g c = record {
+  bytes = λ told. tt;
+  within = λ told is. absurd (read_wanted _ refl is);
+  later = subst (λ (n : ℕ). n ≤ g.P.Source.faults c.read.new.self) c.loop-piece.invariant.steady c.read.ensures.cause.later;
+  failed = λ is. absurd (read_wanted _ refl is);
+  last_call = λ is. absurd (read_wanted _ refl is);
+  steady = λ fine. c.in-Ok.ensures.cause.steady ∙ c.loop-piece.invariant.steady;
+}
+
+-- more was read than may be
+
+pub returns : goal.returns
+returns g c = record {
+  bytes = search rules;
+  within = λ told is. absurd (was_read _ is);
+  later = c.loop-piece.invariant.later;
+  failed = λ is. absurd (was_read _ is);
+  last_call = λ is. absurd (was_read _ is);
+  steady = λ fine. c.loop-piece.invariant.steady;
+}

@@ -1,8 +1,9 @@
-use Rattle.std.proofs.Common.{◌++◌, sym, subst, codes, decimal}
+use Rattle.std.proofs.Common.{◌++◌, ◌∙◌, ℕ, List, sym, subst, codes, decimal}
 use Rattle.std.specs.Fmt.{HasWritten, signed_decimal}
 use Rattle.transcript_sim.specs.Verdicts.{word_of}
 use Rattle.auditor_top.specs.declared.status.Status.{Status}
 use Rattle.auditor_top.specs.Status.{status_text}
+use Rattle.auditor_top.proofs.StatusWords.{tells_no_number}
 use Rattle.auditor_top.proofs.status.StatusDisplay.fmt.Goals as goal
 
 pub returns-in-Untrue-clause-writes : goal.returns-in-Untrue-clause-writes
@@ -19,3 +20,9 @@ pub returns-in-Disagrees-clause-writes : goal.returns-in-Disagrees-clause-writes
 returns-in-Disagrees-clause-writes g c = λ plain ok.
     let wrote : HasWritten g.W.Write.write_str_gives c.args.f.now (codes "line " ++ (decimal c.in-Disagrees.line ++ (codes " disagrees, due " ++ word_of c.in-Disagrees.due))) c.write-in-Disagrees.new.self = c.write-in-Disagrees.ensures.writes plain ok in
     subst (λ (s : Status). HasWritten g.W.Write.write_str_gives c.args.f.now (status_text s) c.write-in-Disagrees.new.self) (sym c.in-Disagrees.is) wrote
+
+pub returns-in_default-clause-writes : goal.returns-in_default-clause-writes
+returns-in_default-clause-writes g c = λ plain ok.
+    let status = c.args.self.now in
+    let words = tells_no_number status c.in_default.not-BadSchema c.in_default.not-BadTable c.in_default.not-Damaged c.in_default.not-OtherShape c.in_default.not-Untrue c.in_default.not-Illegal c.in_default.not-Disagrees in
+    subst (λ (text : List ℕ). HasWritten g.W.Write.write_str_gives c.args.f.now text c.write_str.new.self) (c.words_of.ensures ∙ words) (c.write_str.ensures.writes plain ok)
