@@ -9,7 +9,7 @@ ghost use Rattle.line_wire.specs.Requests.{IsWithin};
 ghost use Rattle.question_plan.specs.Plans.{CanBeServed, condition_of};
 ghost use Rattle.question_plan.specs.Replies.{IsPlan, plan_of, question_over, refusal};
 
-use audit_types::{Asked, NoMemory};
+use audit_types::{Asked, NoMemory, RowSet};
 use json::Scratch;
 use line_wire::{LineFault, Reply, Request, Take, read_line_request};
 use schema_json::Schema;
@@ -26,35 +26,29 @@ pub enum Plan {
 }
 
 // What a question of a secret column comes to.
-fn plan_question(take: Take, asked: Asked) -> Plan
-    ensures { result ≡ question_over take asked.column asked.rows.n asked.rows.list }
+fn plan_question(take: Take, column: u8, rows: RowSet) -> Plan
+    ensures { result ≡ question_over take column rows.n rows.list }
 {
-    if asked.rows.is_empty() {
+    if rows.is_empty() {
         Plan::Ready(Reply::Empty)
     } else {
-        Plan::Ask { take, asked }
+        Plan::Ask {
+            take,
+            asked: Asked { column, rows },
+        }
     }
 }
 
 // What a request comes to.
-fn plan_request(index: &Index, request: Request) -> Plan
-    requires { fits_public index.now (condition_of request) ≡ true }
-    ensures { result ≡ plan_of index.now request }
+fn plan_request(index: &Index, request: &Request) -> Plan
+    requires { fits_public index.now (condition_of request.now) ≡ true }
+    ensures { result ≡ plan_of index.now request.now }
 {
     match request {
-        Request::Count { pred } => Plan::Ready(Reply::Count(index.rows_of(&pred).len())),
-        Request::Sum { column, pred } => {
-            let rows = index.rows_of(&pred);
-            plan_question(Take::Sum, Asked { column, rows })
-        }
-        Request::Avg { column, pred } => {
-            let rows = index.rows_of(&pred);
-            plan_question(Take::Avg, Asked { column, rows })
-        }
-        Request::Max { column, pred } => {
-            let rows = index.rows_of(&pred);
-            plan_question(Take::Max, Asked { column, rows })
-        }
+        Request::Count { pred } => Plan::Ready(Reply::Count(index.rows_of(pred).len())),
+        Request::Sum { column, pred } => plan_question(Take::Sum, *column, index.rows_of(pred)),
+        Request::Avg { column, pred } => plan_question(Take::Avg, *column, index.rows_of(pred)),
+        Request::Max { column, pred } => plan_question(Take::Max, *column, index.rows_of(pred)),
     }
 }
 
@@ -90,7 +84,7 @@ pub fn plan_line(
     // A public part says of itself that it has 1 to 1,024 rows.
     let _ = index.public().rows();
     match read_line_request(alloc, schema, line, scratch) {
-        Ok(request) => Ok(plan_request(index, request)),
+        Ok(request) => Ok(plan_request(index, &request)),
         Err(fault) => Ok(Plan::Ready(refused(fault)?)),
     }
 }
