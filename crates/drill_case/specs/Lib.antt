@@ -1,3 +1,4 @@
+pub mod Drawings
 pub mod Draws
 pub mod Lines
 pub mod Tables

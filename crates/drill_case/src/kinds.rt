@@ -1,5 +1,6 @@
 //! What the lines tell that were sent.
-ghost use Rattle.drill_case.specs.Tallies.{HasKind};
+ghost use Rattle.std.specs.Prelude.{◌≡◌};
+ghost use Rattle.drill_case.specs.Tallies.{HasKind, kind_of};
 
 use line_wire::{Reply, read_reply};
 
@@ -16,14 +17,24 @@ pub(crate) enum ReplyKind {
     Other,
 }
 
+// The kind of a reply.
+fn kind_of_reply(reply: &Reply) -> ReplyKind
+    ensures { result ≡ kind_of reply.now }
+{
+    match reply {
+        Reply::Sum(_) | Reply::Avg { .. } | Reply::Max(_) => ReplyKind::Released,
+        Reply::Unsafe => ReplyKind::DeniedUnsafe,
+        Reply::Wide => ReplyKind::DeniedWide,
+        _ => ReplyKind::Other,
+    }
+}
+
 /// The kind of a line, without its line feed.
 pub(crate) fn kind_of(line: &[u8]) -> ReplyKind
     ensures { HasKind line.now result }
 {
     match read_reply(line) {
-        Some(Reply::Sum(_)) | Some(Reply::Avg { .. }) | Some(Reply::Max(_)) => ReplyKind::Released,
-        Some(Reply::Unsafe) => ReplyKind::DeniedUnsafe,
-        Some(Reply::Wide) => ReplyKind::DeniedWide,
-        _ => ReplyKind::Other,
+        Some(reply) => kind_of_reply(&reply),
+        None => ReplyKind::Other,
     }
 }

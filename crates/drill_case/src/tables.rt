@@ -1,8 +1,9 @@
 //! The table of a drill.
-ghost use Rattle.std.specs.Prelude.{◌≡◌, ◌<◌, ◌≤◌, ◌+◌, ◌%◌, IfOk};
+ghost use Rattle.std.specs.Prelude.{◌≡◌, ◌<◌, ◌≤◌, [], ◌∷◌, map, IfOk};
 ghost use Rattle.audit_types.specs.Limits.{most_rows};
 ghost use Rattle.table_load.specs.Cells.{FitsSchema};
-ghost use Rattle.drill_case.specs.Tables.{drill_rows, drill_columns, drill_public, drill_secret, drawn};
+ghost use Rattle.drill_case.specs.Drawings.{IsDrawing, numbers_of};
+ghost use Rattle.drill_case.specs.Tables.{drill_rows, drill_columns, drill_public, drill_secret};
 
 use crate::draws::Draws;
 use audit_types::NoMemory;
@@ -36,44 +37,80 @@ pub fn drill_schema(alloc: Global) -> Result<Schema, NoMemory>
     }
 }
 
-// The numbers of a column. Of each row's four draws the one at `place` counts: its remainder by `span`, from `least` on.
-fn draw_column(
-    alloc: Global,
-    number: u32,
+// How a column is drawn: of each row's four draws the one at `place` counts, its remainder by `span`, from `least` on.
+#[derive(Clone, Copy)]
+struct Drawing {
     place: usize,
     least: u32,
     span: u32,
-) -> Result<Vec<i64>, AllocError>
-    requires place { place < 4 }
-    requires some { 0 < span }
-    requires room { least + span ≤ 100000 }
-    ensures { IfOk result (λ list. list.items ≡ drawn number place (λ d. least + d % span) drill_rows) }
+}
+
+const BAND: Drawing = Drawing {
+    place: 0,
+    least: 0,
+    span: 8,
+};
+
+const AGE: Drawing = Drawing {
+    place: 1,
+    least: 20,
+    span: 50,
+};
+
+const PAY: Drawing = Drawing {
+    place: 2,
+    least: 0,
+    span: 100_000,
+};
+
+const BEST: Drawing = Drawing {
+    place: 3,
+    least: 0,
+    span: 1000,
+};
+
+// The numbers of a column.
+fn draw_column(alloc: Global, number: u32, drawing: Drawing) -> Result<Vec<i64>, AllocError>
+    requires { IsDrawing drawing }
+    ensures { IfOk result (λ list. list.items ≡ numbers_of number drawing) }
 {
     let mut draws = Draws::new(number);
     let mut list = Vec::new(alloc);
     for _row in 0..row_count() {
         let four = draws.four();
-        list.push(i64::from(least + four[place] % span))?;
+        list.push(i64::from(drawing.least + four[drawing.place] % drawing.span))?;
     }
     Ok(list)
+}
+
+// The numbers of two columns.
+fn draw_columns(
+    alloc: Global,
+    number: u32,
+    first: Drawing,
+    second: Drawing,
+) -> Result<Vec<Vec<i64>>, AllocError>
+    requires first { IsDrawing first }
+    requires second { IsDrawing second }
+    ensures { IfOk result (λ lists. map (λ v. v.items) lists.items ≡ numbers_of number first ∷ numbers_of number second ∷ []) }
+{
+    let one = draw_column(alloc, number, first)?;
+    let other = draw_column(alloc, number, second)?;
+    Ok(vec![in alloc; one, other]?)
 }
 
 fn draw_public(alloc: Global, schema: &Schema, number: u32) -> Result<Public, NoMemory>
     requires { schema.now.columns ≡ drill_columns }
     ensures { IfOk result (λ public. (public ≡ drill_public number) × FitsSchema drill_columns public) }
 {
-    let bands = draw_column(alloc, number, 0, 0, 8)?;
-    let ages = draw_column(alloc, number, 1, 20, 50)?;
-    Public::of_numbers(alloc, schema, vec![in alloc; bands, ages]?)
+    Public::of_numbers(alloc, schema, draw_columns(alloc, number, BAND, AGE)?)
 }
 
 fn draw_secret(alloc: Global, schema: &Schema, number: u32) -> Result<Secret, AllocError>
     requires { schema.now.columns ≡ drill_columns }
     ensures { IfOk result (λ secret. secret ≡ drill_secret number) }
 {
-    let pays = draw_column(alloc, number, 2, 0, 100_000)?;
-    let bests = draw_column(alloc, number, 3, 0, 1000)?;
-    let lists = vec![in alloc; pays, bests]?;
+    let lists = draw_columns(alloc, number, PAY, BEST)?;
     Ok(Secret::new(schema.shape(row_count()), lists))
 }
 

@@ -11,10 +11,10 @@ loop-row-preserved c =
     let row = c.loop-row._row in
     let had = c.loop-row.invariant in
     let next = c.four-four.ensures number (4 * row) had.state in
-    let put : c.push.new.self.items ≡ c.loop-row.list.items ++ pos (c.args.least + get_or c.four-four.result c.args.place 0 % c.args.span) ∷ [] =
+    let put : c.push.new.self.items ≡ c.loop-row.list.items ++ pos (c.args.drawing.least + get_or c.four-four.result c.args.drawing.place 0 % c.args.drawing.span) ∷ [] =
     grind (arith, common_steps) in
-    let drawn = one_of_four number (4 * row) c.args.place c.four-four.result c.requires.place next.1 in
+    let drawn = one_of_four number (4 * row) c.args.drawing.place c.four-four.result c.requires.place next.1 in
     record {
       state = next.0 ∙ ap (state_after number) (omega arith);
-      items = grows number c.args.place row _ (λ d. c.args.least + d % c.args.span) _ _ had.items put drawn;
+      items = grows number c.args.drawing.place row _ (λ d. c.args.drawing.least + d % c.args.drawing.span) _ _ had.items put drawn;
     }
