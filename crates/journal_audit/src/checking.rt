@@ -22,10 +22,13 @@ use witness_check::{check_direction, check_pair};
 pub fn column_sets(alloc: Global, column: u8, list: &[Answered]) -> Result<Vec<RowSet>, AllocError>
     ensures { IfOk result (λ sets. sets.items ≡ map (λ r. r.rows) (filter (λ r. r.column == column) list.now)) }
 {
-    list.iter()
-        .filter(|record| record.column == column)
-        .map(|record| record.rows)
-        .collect(alloc)
+    let mut sets = Vec::new(alloc);
+    for record in list {
+        if record.column == column {
+            sets.push(record.rows)?;
+        }
+    }
+    Ok(sets)
 }
 
 /// Writes the line on a row of a column of sums: the canonical direction of the row, which was checked.
@@ -54,24 +57,24 @@ pub fn write_row(
     Ok(())
 }
 
-// Checks for each row the pair of lists that shows it to be free.
-fn check_rows(
+// Checks the pair of lists that shows a row to be free.
+fn check_row(
     alloc: Global,
     column: u8,
     list: &[Answered],
     maxima: &MaxColumn,
+    row: u16,
 ) -> Result<(), NoMemory>
+    requires row { row < maxima.now.n }
     requires consistent { IsConsistent maxima.now.answers }
     requires free { IsLeastLone maxima.now.answers None }
     requires answers { maxima.now.answers ≡ answers_of column list.now }
     requires same_n { AllByRecursion (λ r. r.rows.n ≡ maxima.now.n) list.now }
 {
     let n = maxima.bounds().n();
-    for row in 0..n {
-        let pair = max_witness(alloc, maxima, row)?;
-        if !check_pair(n, column, list, &pair.lo, &pair.hi, row) {
-            unreachable!();
-        }
+    let pair = max_witness(alloc, maxima, row)?;
+    if !check_pair(n, column, list, &pair.lo, &pair.hi, row) {
+        unreachable!();
     }
     Ok(())
 }
@@ -93,7 +96,9 @@ pub fn write_column(
     requires same_n { AllByRecursion (λ r. r.rows.n ≡ maxima.now.n) list.now }
     ensures { OnOk result (line.new.items ≡ high_line name.now (highest maxima.now.n maxima.now.answers)) }
 {
-    check_rows(alloc, column, list, maxima)?;
+    for row in 0..maxima.bounds().n() {
+        check_row(alloc, column, list, maxima, row)?;
+    }
     let pair = max_witness(alloc, maxima, 0)?;
     write_high(line, name, &pair.hi)?;
     Ok(())
