@@ -1,13 +1,16 @@
 -- What a refusal says: an answer that is none has no fault, and one that is has one alone.
-use Rattle.std.proofs.Common.{◌≡◌, ℕ, ◌≤◌, Bool, true, false, Result, Ok, Err, refl, subst}
+use Rattle.std.proofs.Common.{◌≡◌, ℕ, ◌≤◌, Bool, true, false, Result, Ok, Err, refl, ap, subst}
+use Rattle.std.specs.Prelude.{IsErrOf}
 use Rattle.std.specs.Result.{IsErr, IsErrAnd}
 use Rattle.std.proofs.lemmas.Bool.{false≢true}
 use Rattle.line_wire.specs.declared.lines.Next.{Next}
 use Rattle.line_wire.specs.declared.lines.LineStop.{LineStop}
 use Rattle.line_wire.specs.declared.lines.LineStop.TheVariants as stop
+use Rattle.audit_store.specs.declared.outcome.StoreFault.{StoreFault}
+use Rattle.audit_store.specs.declared.outcome.StoreFault.TheVariants as store
 use Rattle.audit_session.specs.declared.serving.EndFault.{EndFault}
 use Rattle.audit_session.specs.declared.serving.EndFault.TheVariants as end
-use Rattle.audit_session.specs.Ends.{line_end}
+use Rattle.audit_session.specs.Ends.{line_end, store_end}
 
 -- whether an input goes on has one answer
 pub no_more : {E P : Type 0} → (let given : Result Bool E = Ok false in given) ≡ Ok true → P
@@ -15,6 +18,11 @@ no_more is = let none : ⊥ = cc in absurd none
 
 pub no_end : {E P : Type 0} → (let given : Result Bool E = Ok true in given) ≡ Ok false → P
 no_end is = let none : ⊥ = cc in absurd none
+
+-- a refusal is no answer
+pub no_answer : {X E P : Type 0} (answer : Result X E) (x : X) → IsErr answer → answer ≡ Ok x → P
+no_answer (Ok y) x is same = absurd (false≢true is)
+no_answer (Err e) x is same = let none : ⊥ = cc in absurd none
 
 -- a refusal whose fault is this one
 pub refusal : {X E : Type 0} (answer : Result X E) (fault : E) → IsErr answer × IsErrAnd answer (λ e. e ≡ fault) → answer ≡ Err fault
@@ -48,6 +56,31 @@ pub no_input : {X : Type 0} (given : LineStop) (answer : Result X EndFault) → 
     → (let of_lines : Result Next LineStop = Err given in of_lines) ≡ Err stop.Input → ⊥
 no_input stop.Input answer same other is = other same
 no_input stop.Limit answer same other is = cc
+
+-- the store's fault, by the end that it makes
+pub by_memory : {X Y : Type 0} (given : StoreFault) (answer : Result X EndFault) → answer ≡ Err (store_end given) → answer ≡ Err end.NoMemory → IsErrOf {T = Y} (Err given) store.NoMemory
+by_memory store.Failed answer same is = let none : ⊥ = cc in absurd none
+by_memory store.NoMemory answer same is = refl
+
+pub by_bench : {X Y : Type 0} (given : StoreFault) (answer : Result X EndFault) → answer ≡ Err (store_end given) → answer ≡ Err end.Bench → IsErrOf {T = Y} (Err given) store.Failed
+by_bench store.Failed answer same is = refl
+by_bench store.NoMemory answer same is = let none : ⊥ = cc in absurd none
+
+pub no_call : {X Y : Type 0} (given : StoreFault) (answer : Result X EndFault) → answer ≡ Err (store_end given) → (answer ≡ Err end.Bench → ⊥)
+    → IsErrOf {T = Y} (Err given) store.Failed → ⊥
+no_call store.Failed answer same other is = other same
+no_call store.NoMemory answer same other is = cc
+
+-- a call that failed is no want of memory
+pub bench_no_memory : {X P : Type 0} (answer : Result X EndFault) → answer ≡ Err end.Bench → answer ≡ Err end.NoMemory → P
+bench_no_memory answer same is = let none : ⊥ = cc in absurd none
+
+-- the store's fault, in another answer
+pub same_store : {X Y : Type 0} (given fault : StoreFault) → IsErrOf {T = X} (Err given) fault → IsErrOf {T = Y} (Err given) fault
+same_store {X} {Y} given fault is = let same : given ≡ fault = cc in ap (λ (f : StoreFault). err f) same
+  where
+    err : StoreFault → Result Y StoreFault
+    err f = Err f
 
 -- a count that stood still before it rose
 pub still_later : (before mid now : ℕ) → mid ≡ before → mid ≤ now → before ≤ now

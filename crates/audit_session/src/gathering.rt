@@ -1,6 +1,6 @@
 //! Gathering the lines of a group.
 ghost use Rattle.std.specs.Prelude.{◌≡◌, ◌≢◌, ◌<◌, ◌≤◌, ◌+◌, ◌++◌, ◌||◌, [], ◌∷◌, not, true, false, length, All, IfOk, OnOk, Ok, Err};
-ghost use Rattle.std.specs.Vec.{vec_capacity};
+ghost use Rattle.std.specs.Vec.{vec_capacity, vec_len};
 ghost use Rattle.schema_json.specs.SecretShape.{shape_of};
 ghost use Rattle.table_load.specs.Cells.{FitsSchema};
 ghost use Rattle.bench_core.specs.Causes.{Rose};
@@ -63,6 +63,14 @@ impl Group {
         self.plans.clear();
         self.asked.clear();
         self.replies.clear();
+    }
+
+    // Whether there are fewer lines than a whole group has.
+    fn has_room(&self, batch: u8) -> bool
+        ensures room { result ≡ true → vec_len self.now.plans < batch }
+        ensures whole { result ≡ false → batch ≤ vec_len self.now.plans }
+    {
+        self.plans.len() < batch as usize
     }
 
     fn add(&mut self, plan: Plan) -> Result<(), NoMemory>
@@ -153,7 +161,7 @@ pub(crate) fn gather<P: Source>(
     ensures others { result ≢ Err EndFault.Bench }
 {
     group.clear();
-    while group.plans.len() < batch as usize {
+    while group.has_room(batch) {
         match next_plan(alloc, lines, schema, index, source, &mut group.scratch)? {
             Some(plan) => group.add(plan)?,
             None => return Ok(false),

@@ -25,7 +25,7 @@ use set_index::Index;
 use std::alloc::Global;
 
 /// Why serving ended before the input did.
-#[derive(Clone, Copy, Debug, PartialEq, Eq)]
+#[derive(Clone, Copy)]
 pub enum EndFault {
     /// The input failed.
     Input,

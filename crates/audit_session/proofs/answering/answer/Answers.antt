@@ -1,5 +1,6 @@
-use Rattle.std.proofs.Common.{◌≡◌, ℕ, ◌∙◌, ◌+◌, ◌++◌, List, length, sym, subst}
+use Rattle.std.proofs.Common.{◌≡◌, ℕ, ◌∙◌, ◌+◌, ◌++◌, List, length, Result, Err, sym, subst}
 use Rattle.std.proofs.lemmas.Bool.{false≢true}
+use Rattle.std.proofs.lemmas.Result.{IfOk-from_err}
 use Rattle.std.specs.List.{flat_map}
 use Rattle.bench_core.specs.Calls.{LeavesOnly}
 use Rattle.audit_store.specs.Stores.{IsAsLeft}
@@ -8,8 +9,18 @@ use Rattle.line_wire.specs.declared.reply.Reply.{Reply}
 use Rattle.audit_session.proofs.Sending.{SendsPart}
 use Rattle.audit_session.proofs.DecidedGroup.{group_answered, left_stands, then_sent}
 use Rattle.audit_store.specs.Refusals.{no_refusal}
-use Rattle.audit_session.proofs.Refusals.{still_later}
+use Rattle.bench_core.specs.Causes.{Rose}
+use Rattle.audit_session.specs.Ends.{store_end}
+use Rattle.audit_session.specs.declared.serving.EndFault.{EndFault}
+use Rattle.audit_session.specs.declared.serving.EndFault.TheVariants as end
+use Rattle.audit_session.proofs.Refusals.{still_later, refusal, by_memory, by_bench, no_call, bench_no_memory}
 use Rattle.audit_session.proofs.answering.answer.Goals as goal
+
+abbrev ended_by : EndFault → Result (Unit {0}) EndFault
+ended_by fault = Err fault
+
+pub decide-requires-clause-stands : goal.decide-requires-clause-stands
+decide-requires-clause-stands g c = c.requires.stands
 
 pub returns-clause-answers : goal.returns-clause-answers
 returns-clause-answers g c =
@@ -109,3 +120,56 @@ returns-clause-stands g c = record {
   as_left = λ t. subst (λ (file : List ℕ). IsAsLeft file c.decide.new.store) (sym c.send_all.ensures.file) (c.in_ok-decide.ensures.stands.as_left t);
   quiet = λ t quiet image leaves. c.in_ok-decide.ensures.stands.quiet t quiet image (c.send_all.ensures.crash image leaves) ∙ sym c.send_all.ensures.file;
 }
+
+pub returns-in_err-decide-clause-no_memory : goal.returns-in_err-decide-clause-no_memory
+returns-in_err-decide-clause-no_memory g c = λ is.
+    let given = c.in_err-decide.field-0.0 in
+    let same : c.from_residual.result ≡ ended_by (store_end given) = refusal c.from_residual.result _ c.from_residual.ensures in
+    (c.in_err-decide.ensures.no_memory (by_memory given c.from_residual.result same is), c.in_err-decide.ensures.err.0)
+
+pub returns-in_err-decide-clause-failed : goal.returns-in_err-decide-clause-failed
+returns-in_err-decide-clause-failed g c = λ is.
+    let given = c.in_err-decide.field-0.0 in
+    let same : c.from_residual.result ≡ ended_by (store_end given) = refusal c.from_residual.result _ c.from_residual.ensures in
+    c.in_err-decide.ensures.failed (by_bench given c.from_residual.result same is)
+
+pub returns-in_err-decide-clause-last_call : goal.returns-in_err-decide-clause-last_call
+returns-in_err-decide-clause-last_call g c = λ is.
+    let given = c.in_err-decide.field-0.0 in
+    let same : c.from_residual.result ≡ ended_by (store_end given) = refusal c.from_residual.result _ c.from_residual.ensures in
+    c.in_err-decide.ensures.last_call (by_bench given c.from_residual.result same is)
+
+pub returns-in_err-decide-clause-steady : goal.returns-in_err-decide-clause-steady
+returns-in_err-decide-clause-steady g c = λ other.
+    let given = c.in_err-decide.field-0.0 in
+    let same : c.from_residual.result ≡ ended_by (store_end given) = refusal c.from_residual.result _ c.from_residual.ensures in
+    c.in_err-decide.ensures.steady (no_call given c.from_residual.result same other)
+
+pub returns-in_err-send_all-clause-no_memory : goal.returns-in_err-send_all-clause-no_memory
+returns-in_err-send_all-clause-no_memory g c = λ is.
+    let same : c.from_residual-in_err-send_all.result ≡ ended_by end.Bench = refusal c.from_residual-in_err-send_all.result _ c.from_residual-in_err-send_all.ensures in
+    bench_no_memory c.from_residual-in_err-send_all.result same is
+
+pub returns-in_err-send_all-clause-failed : goal.returns-in_err-send_all-clause-failed
+returns-in_err-send_all-clause-failed g c = λ is.
+    subst (λ (n : ℕ). Rose n (g.B.Bench.faults c.send_all.new.bench)) (c.in_ok-decide.ensures.steady (λ is. no_refusal _ _ is)) c.in_err-send_all.ensures.cause.failed
+
+pub returns-in_err-send_all-clause-steady : goal.returns-in_err-send_all-clause-steady
+returns-in_err-send_all-clause-steady g c = λ other.
+    let same : c.from_residual-in_err-send_all.result ≡ ended_by end.Bench = refusal c.from_residual-in_err-send_all.result _ c.from_residual-in_err-send_all.ensures in
+    absurd (other same)
+
+pub returns-in_err-decide-clause-answers : goal.returns-in_err-decide-clause-answers
+returns-in_err-decide-clause-answers g c = IfOk-from_err _ _ c.from_residual.ensures.0
+
+pub returns-in_err-decide-clause-stands : goal.returns-in_err-decide-clause-stands
+returns-in_err-decide-clause-stands g c = IfOk-from_err _ _ c.from_residual.ensures.0
+
+pub returns-in_err-send_all-clause-answers : goal.returns-in_err-send_all-clause-answers
+returns-in_err-send_all-clause-answers g c = IfOk-from_err _ _ c.from_residual-in_err-send_all.ensures.0
+
+pub returns-in_err-send_all-clause-stands : goal.returns-in_err-send_all-clause-stands
+returns-in_err-send_all-clause-stands g c = IfOk-from_err _ _ c.from_residual-in_err-send_all.ensures.0
+
+pub returns-in_err-send_all-clause-last_call : goal.returns-in_err-send_all-clause-last_call
+returns-in_err-send_all-clause-last_call g c = λ is. c.in_err-send_all.ensures.last_call

@@ -1,4 +1,4 @@
-use Rattle.std.proofs.Common.{◌≡◌, ◌+◌, ◌++◌, List, length, sym, ◌∙◌, ap, subst, arith, rules}
+use Rattle.std.proofs.Common.{◌≡◌, ◌+◌, ◌++◌, List, length, Result, Err, sym, ◌∙◌, ap, subst, arith, rules}
 use Rattle.std.specs.Prelude.{All}
 use Rattle.audit_types.specs.declared.records.Asked.{Asked}
 use Rattle.audit_types.specs.History.{FitsShape}
@@ -11,7 +11,16 @@ use Rattle.audit_session.specs.Groups.{AreTold, CanAllBeTold, questions_of}
 use Rattle.audit_session.proofs.ToldPlans.{can_all, few_questions, questions_fit}
 use Rattle.audit_session.proofs.DecidedGroup.{by_fault, told_group, while_kept, nothing_called}
 use Rattle.audit_store.specs.Refusals.{no_refusal}
+use Rattle.audit_store.specs.declared.outcome.StoreFault.{StoreFault}
+use Rattle.audit_store.specs.declared.outcome.StoreFault.TheVariants as fault
+use Rattle.audit_session.proofs.Refusals.{same_store}
 use Rattle.audit_session.proofs.answering.decide.Goals as goal
+
+abbrev refused : StoreFault → Result (Unit {0}) StoreFault
+refused given = Err given
+
+pub ask_all-requires-clause-stands : goal.ask_all-requires-clause-stands
+ask_all-requires-clause-stands g c = c.requires.stands
 
 pub ask_all-requires-clause-few : goal.ask_all-requires-clause-few
 ask_all-requires-clause-few g c =
@@ -111,3 +120,27 @@ returns-in_err-outcomes-clause-is g c = c.ask_all.ensures.is
 
 pub returns-in_err-outcomes-clause-later : goal.returns-in_err-outcomes-clause-later
 returns-in_err-outcomes-clause-later g c = c.ask_all.ensures.later
+
+pub returns-in_err-outcomes-clause-no_memory : goal.returns-in_err-outcomes-clause-no_memory
+returns-in_err-outcomes-clause-no_memory g c = λ is.
+    let given = c.in_err-outcomes.field-0.0 in
+    let same : c.from_residual.result ≡ refused given = search rules in
+    c.in_err-outcomes.ensures.no_memory (same_store given fault.NoMemory (sym same ∙ is))
+
+pub returns-in_err-outcomes-clause-failed : goal.returns-in_err-outcomes-clause-failed
+returns-in_err-outcomes-clause-failed g c = λ is.
+    let given = c.in_err-outcomes.field-0.0 in
+    let same : c.from_residual.result ≡ refused given = search rules in
+    c.in_err-outcomes.ensures.failed (same_store given fault.Failed (sym same ∙ is))
+
+pub returns-in_err-outcomes-clause-last_call : goal.returns-in_err-outcomes-clause-last_call
+returns-in_err-outcomes-clause-last_call g c = λ is.
+    let given = c.in_err-outcomes.field-0.0 in
+    let same : c.from_residual.result ≡ refused given = search rules in
+    c.in_err-outcomes.ensures.last_call (same_store given fault.Failed (sym same ∙ is))
+
+pub returns-in_err-outcomes-clause-steady : goal.returns-in_err-outcomes-clause-steady
+returns-in_err-outcomes-clause-steady g c = λ other.
+    let given = c.in_err-outcomes.field-0.0 in
+    let same : c.from_residual.result ≡ refused given = search rules in
+    c.in_err-outcomes.ensures.steady (λ is. other (same ∙ same_store given fault.Failed is))

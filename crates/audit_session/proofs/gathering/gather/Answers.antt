@@ -1,4 +1,6 @@
-use Rattle.std.proofs.Common.{◌≡◌, ℕ, ◌+◌, ◌<◌, ◌++◌, Bool, List, Option, Result, Err, length, sym, ◌∙◌, subst, arith, rules}
+use Rattle.std.proofs.Common.{◌≡◌, ℕ, ◌+◌, ◌<◌, [], ◌∷◌, ◌++◌, Bool, true, false, List, Option, Result, Err, length, sym, ap, ◌∙◌, subst, arith, rules, length-append}
+use Rattle.std.proofs.lemmas.Result.{IfOk-from_err}
+use Rattle.std.specs.Vec.{vec_len}
 use Rattle.bench_core.specs.Causes.{Rose}
 use Rattle.audit_types.specs.declared.records.Asked.{Asked}
 use Rattle.question_plan.specs.declared.planning.Plan.{Plan}
@@ -8,7 +10,7 @@ use Rattle.audit_session.specs.Groups.{GivesNext, TakesByte, question_in}
 use Rattle.audit_session.proofs.EndsByFault.{same_fault}
 use Rattle.audit_session.proofs.GatheredLines.{Gathering, cut_short, gathers_last, not_over, one_gathered}
 use Rattle.audit_store.specs.Refusals.{no_refusal}
-use Rattle.audit_session.proofs.Refusals.{memory_no_bench, memory_no_input, memory_no_limit, no_end, no_more, refusal, still_later}
+use Rattle.audit_session.proofs.Refusals.{memory_no_bench, memory_no_input, memory_no_limit, no_answer, no_end, no_more, refusal, still_later}
 use Rattle.audit_session.proofs.gathering.gather.Goals as goal
 
 abbrev refused : EndFault → Result Bool EndFault
@@ -20,7 +22,7 @@ returns-in_err-plan-clause-input g c = λ t is.
     let group = c.loop-alloc.group in
     let same : c.from_residual.result ≡ refused c.in_err-plan.field-0.0 = search rules in
     let here = same_fault {X = Bool} {Y = Option Plan} c.in_err-plan.field-0.0 end.Input (sym same ∙ is) in
-    let room : length group.plans.items < c.args.batch = omega (arith, c.loop-alloc-test.true, c.len.ensures, c.loop-alloc.invariant.many) in
+    let room : length group.plans.items < c.args.batch = omega (arith, c.has_room.ensures.room c.loop-alloc-test.true, c.loop-alloc.invariant.many) in
     cut_short g.P.Source c.args.schema.now.columns c.args.index.now c.args.batch c.args.lines.now c.loop-alloc.lines c.args.source.now c.loop-alloc.source group.plans.items group.asked.items c.loop-alloc.invariant.gathering
     (g.P.Source.left c.next_plan.new.source) t (λ ended none. (e.once ended).2 here) room (e.input t here)
 
@@ -30,7 +32,7 @@ returns-in_err-plan-clause-limit g c = λ t is.
     let group = c.loop-alloc.group in
     let same : c.from_residual.result ≡ refused c.in_err-plan.field-0.0 = search rules in
     let here = same_fault {X = Bool} {Y = Option Plan} c.in_err-plan.field-0.0 end.Limit (sym same ∙ is) in
-    let room : length group.plans.items < c.args.batch = omega (arith, c.loop-alloc-test.true, c.len.ensures, c.loop-alloc.invariant.many) in
+    let room : length group.plans.items < c.args.batch = omega (arith, c.has_room.ensures.room c.loop-alloc-test.true, c.loop-alloc.invariant.many) in
     let now = c.next_plan.new.lines in
     let left = g.P.Source.left c.next_plan.new.source in
     cut_short g.P.Source c.args.schema.now.columns c.args.index.now c.args.batch c.args.lines.now c.loop-alloc.lines c.args.source.now c.loop-alloc.source group.plans.items group.asked.items c.loop-alloc.invariant.gathering
@@ -46,7 +48,7 @@ loop-alloc-preserved g c =
     let from = c.next_plan.new.source in
     let plan = c.in-Some.plan in
     let added = c.in_ok-add-in-Some.ensures in
-    let room : length group.plans.items < c.args.batch = omega (arith, c.loop-alloc-test.true, c.len.ensures, c.loop-alloc.invariant.many) in
+    let room : length group.plans.items < c.args.batch = omega (arith, c.has_room.ensures.room c.loop-alloc-test.true, c.loop-alloc.invariant.many) in
     let next = subst (λ (o : Option Plan). GivesNext g.P.Source.told c.args.schema.now.columns c.args.index.now (c.loop-alloc.lines.pending ++ g.P.Source.left c.loop-alloc.source) (now.pending ++ g.P.Source.left from) now.ended o) c.in-Some.is e.next in
     let takes = subst (λ (o : Option Plan). TakesByte (c.loop-alloc.lines.taken + length now.pending) (now.taken + length c.loop-alloc.lines.pending) o) c.in-Some.is e.takes in
     let one = one_gathered g.P.Source c.args.schema.now.columns c.args.index.now c.args.batch c.args.lines.now c.loop-alloc.lines c.args.source.now c.loop-alloc.source group.plans.items group.asked.items c.loop-alloc.invariant.gathering
@@ -153,13 +155,13 @@ pub returns-clause-most : goal.returns-clause-most
 returns-clause-most g c = c.loop-alloc.invariant.gathering.most
 
 pub returns-clause-whole : goal.returns-clause-whole
-returns-clause-whole g c = λ is. omega (arith, c.loop-alloc-test.false, c.len.ensures, c.loop-alloc.invariant.many, c.loop-alloc.invariant.gathering.most)
+returns-clause-whole g c = λ is. omega (arith, c.has_room.ensures.whole c.loop-alloc-test.false, c.loop-alloc.invariant.many, c.loop-alloc.invariant.gathering.most)
 
 pub returns-clause-last : goal.returns-clause-last
 returns-clause-last g c = λ t is. no_end is
 
 pub returns-clause-takes : goal.returns-clause-takes
-returns-clause-takes g c = λ is. omega (arith, c.loop-alloc-test.false, c.len.ensures, c.loop-alloc.invariant.many, c.loop-alloc.invariant.gathering.takes, c.requires.some)
+returns-clause-takes g c = λ is. omega (arith, c.has_room.ensures.whole c.loop-alloc-test.false, c.loop-alloc.invariant.many, c.loop-alloc.invariant.gathering.takes, c.requires.some)
 
 pub returns-clause-room : goal.returns-clause-room
 returns-clause-room g c = c.loop-alloc.invariant.room
@@ -265,3 +267,61 @@ returns-in_err-add-in-Some-clause-last_call g c = λ is. let same : c.from_resid
 
 pub returns-in_err-add-in-Some-clause-others : goal.returns-in_err-add-in-Some-clause-others
 returns-in_err-add-in-Some-clause-others g c = λ is. let same : c.from_residual-in_err-add-in-Some.result ≡ refused end.NoMemory = refusal c.from_residual-in_err-add-in-Some.result _ c.from_residual-in_err-add-in-Some.ensures in memory_no_bench c.from_residual-in_err-add-in-Some.result same is
+
+pub returns-in_err-plan-clause-gathers : goal.returns-in_err-plan-clause-gathers
+returns-in_err-plan-clause-gathers g c = IfOk-from_err _ _ c.from_residual.ensures.0
+
+pub returns-in_err-plan-clause-questions : goal.returns-in_err-plan-clause-questions
+returns-in_err-plan-clause-questions g c = IfOk-from_err _ _ c.from_residual.ensures.0
+
+pub returns-in_err-plan-clause-served : goal.returns-in_err-plan-clause-served
+returns-in_err-plan-clause-served g c = IfOk-from_err _ _ c.from_residual.ensures.0
+
+pub returns-in_err-plan-clause-most : goal.returns-in_err-plan-clause-most
+returns-in_err-plan-clause-most g c = IfOk-from_err _ _ c.from_residual.ensures.0
+
+pub returns-in_err-plan-clause-whole : goal.returns-in_err-plan-clause-whole
+returns-in_err-plan-clause-whole g c = λ is. no_answer c.from_residual.result true c.from_residual.ensures.0 is
+
+pub returns-in_err-plan-clause-takes : goal.returns-in_err-plan-clause-takes
+returns-in_err-plan-clause-takes g c = λ is. no_answer c.from_residual.result true c.from_residual.ensures.0 is
+
+pub returns-in_err-plan-clause-last : goal.returns-in_err-plan-clause-last
+returns-in_err-plan-clause-last g c = λ t is. no_answer c.from_residual.result false c.from_residual.ensures.0 is
+
+pub returns-in_err-add-in-Some-clause-gathers : goal.returns-in_err-add-in-Some-clause-gathers
+returns-in_err-add-in-Some-clause-gathers g c = IfOk-from_err _ _ c.from_residual-in_err-add-in-Some.ensures.0
+
+pub returns-in_err-add-in-Some-clause-questions : goal.returns-in_err-add-in-Some-clause-questions
+returns-in_err-add-in-Some-clause-questions g c = IfOk-from_err _ _ c.from_residual-in_err-add-in-Some.ensures.0
+
+pub returns-in_err-add-in-Some-clause-served : goal.returns-in_err-add-in-Some-clause-served
+returns-in_err-add-in-Some-clause-served g c = IfOk-from_err _ _ c.from_residual-in_err-add-in-Some.ensures.0
+
+pub returns-in_err-add-in-Some-clause-most : goal.returns-in_err-add-in-Some-clause-most
+returns-in_err-add-in-Some-clause-most g c = IfOk-from_err _ _ c.from_residual-in_err-add-in-Some.ensures.0
+
+pub returns-in_err-add-in-Some-clause-whole : goal.returns-in_err-add-in-Some-clause-whole
+returns-in_err-add-in-Some-clause-whole g c = λ is. no_answer c.from_residual-in_err-add-in-Some.result true c.from_residual-in_err-add-in-Some.ensures.0 is
+
+pub returns-in_err-add-in-Some-clause-takes : goal.returns-in_err-add-in-Some-clause-takes
+returns-in_err-add-in-Some-clause-takes g c = λ is. no_answer c.from_residual-in_err-add-in-Some.result true c.from_residual-in_err-add-in-Some.ensures.0 is
+
+pub returns-in_err-add-in-Some-clause-last : goal.returns-in_err-add-in-Some-clause-last
+returns-in_err-add-in-Some-clause-last g c = λ t is. no_answer c.from_residual-in_err-add-in-Some.result false c.from_residual-in_err-add-in-Some.ensures.0 is
+
+pub returns-in-None-clause-last : goal.returns-in-None-clause-last
+returns-in-None-clause-last g c = λ t is.
+    let rest = c.loop-alloc.lines.pending ++ g.P.Source.left c.loop-alloc.source in
+    let now = c.next_plan.new.lines in
+    let left = now.pending ++ g.P.Source.left c.next_plan.new.source in
+    (subst (λ (o : Option Plan). GivesNext g.P.Source.told c.args.schema.now.columns c.args.index.now rest left now.ended o) c.in-None.is c.in_ok-plan.ensures.next t).0
+
+pub loop-alloc-smaller : goal.loop-alloc-smaller
+loop-alloc-smaller g c =
+    let room = c.has_room.ensures.room c.loop-alloc-test.true in
+    let many : vec_len c.add.new.self.plans ≡ length c.add.new.self.plans.items = search rules in
+    omega (arith, room, many, c.loop-alloc.invariant.many, ap (λ (l : List Plan). length l) c.in_ok-add-in-Some.ensures.plans, length-append c.loop-alloc.group.plans.items (c.in-Some.plan ∷ []))
+
+pub next_plan-requires-clause-same : goal.next_plan-requires-clause-same
+next_plan-requires-clause-same g c = c.loop-alloc.invariant.gathering.same

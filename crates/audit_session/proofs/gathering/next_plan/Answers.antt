@@ -1,4 +1,5 @@
 use Rattle.std.proofs.Common.{◌≡◌, ℕ, List, [], ◌∷◌, ◌++◌, Option, Result, Err, refl, subst}
+use Rattle.std.proofs.lemmas.Result.{IfOk-from_err}
 use Rattle.line_wire.specs.Lines.{text, long, counted_lines}
 use Rattle.line_wire.specs.Steps.{Advances}
 use Rattle.line_wire.specs.declared.lines.Next.{Next}
@@ -8,7 +9,7 @@ use Rattle.line_wire.specs.LinesInTurn.{reads_one}
 use Rattle.audit_session.specs.declared.serving.EndFault.{EndFault}
 use Rattle.audit_session.specs.declared.serving.EndFault.TheVariants as end
 use Rattle.audit_session.specs.Ends.{line_end}
-use Rattle.audit_session.proofs.NextLines.{takes_text, takes_long, counts_text, counts_long, stops_input, stops_limit, limit_within, read_within, input_is}
+use Rattle.audit_session.proofs.NextLines.{takes_text, takes_long, takes_none, counts_text, counts_long, stops_input, stops_limit, limit_within, read_within, input_is}
 use Rattle.audit_store.specs.Refusals.{no_refusal}
 use Rattle.audit_session.proofs.Refusals.{refusal, memory_no_input, memory_no_limit, memory_no_bench, by_input, by_limit, no_bench, no_input}
 use Rattle.audit_session.proofs.gathering.next_plan.Goals as goal
@@ -288,3 +289,19 @@ returns-in_err-plan_line-in-Line-clause-steady g c = λ other. c.in_ok-next.ensu
 
 pub returns-in_err-plan_line-in-Line-clause-once : goal.returns-in_err-plan_line-in-Line-clause-once
 returns-in_err-plan_line-in-Line-clause-once g c = λ ended. let same : c.from_residual-in_err-plan_line-in-Line.result ≡ refused end.NoMemory = refusal c.from_residual-in_err-plan_line-in-Line.result _ c.from_residual-in_err-plan_line-in-Line.ensures in let once = c.next.ensures.once ended in (once.0, once.1, λ is. memory_no_input c.from_residual-in_err-plan_line-in-Line.result same is)
+
+pub returns-in-End-clause-next : goal.returns-in-End-clause-next
+returns-in-End-clause-next g c = λ t.
+    takes_none c.in_ok-next.field-0 (c.args.lines.now.pending ++ g.P.Source.left c.args.source.now) c.next.new.self (g.P.Source.left c.next.new.source) (c.in_ok-next.ensures.answer t) c.in-End.is
+
+pub returns-in_err-next-clause-next : goal.returns-in_err-next-clause-next
+returns-in_err-next-clause-next g c = IfOk-from_err _ _ c.from_residual.ensures.0
+
+pub returns-in_err-next-clause-takes : goal.returns-in_err-next-clause-takes
+returns-in_err-next-clause-takes g c = IfOk-from_err _ _ c.from_residual.ensures.0
+
+pub returns-in_err-plan_line-in-Line-clause-next : goal.returns-in_err-plan_line-in-Line-clause-next
+returns-in_err-plan_line-in-Line-clause-next g c = IfOk-from_err _ _ c.from_residual-in_err-plan_line-in-Line.ensures.0
+
+pub returns-in_err-plan_line-in-Line-clause-takes : goal.returns-in_err-plan_line-in-Line-clause-takes
+returns-in_err-plan_line-in-Line-clause-takes g c = IfOk-from_err _ _ c.from_residual-in_err-plan_line-in-Line.ensures.0

@@ -1,5 +1,9 @@
 use Rattle.std.proofs.Common.{◌≡◌, ℕ, ◌++◌, ◌||◌, Bool, true, false, not, List, Result, Ok, Err, refl, sym, ◌∙◌, ap, subst, arith, rules}
+use Rattle.std.specs.Prelude.{All}
+use Rattle.audit_types.specs.declared.shapes.Shape.{Shape}
 use Rattle.bench_core.specs.Causes.{Rose}
+use Rattle.question_plan.specs.Plans.{CanBeServed}
+use Rattle.table_load.specs.Cells.{SecretView}
 use Rattle.audit_types.specs.declared.records.Answered.{Answered}
 use Rattle.table_load.specs.Database.{base_of}
 use Rattle.line_wire.specs.Lines.{counted_lines}
@@ -246,3 +250,29 @@ returns-in_err-answer-clause-rests g c = λ no.
 
 pub loop-more-smaller : goal.loop-more-smaller
 loop-more-smaller g c = omega (arith, c.in_ok-more.ensures.takes (ap given c.if-not-more.false), c.in_ok-more.ensures.within, c.loop-more.invariant.served.within)
+
+pub gather-requires-clause-same : goal.gather-requires-clause-same
+gather-requires-clause-same g c = c.loop-more.invariant.served.same
+
+pub gather-requires-clause-within : goal.gather-requires-clause-within
+gather-requires-clause-within g c = c.loop-more.invariant.served.within
+
+pub answer-requires-clause-usable : goal.answer-requires-clause-usable
+answer-requires-clause-usable g c = c.loop-more.invariant.served.usable
+
+pub answer-requires-clause-is : goal.answer-requires-clause-is
+answer-requires-clause-is g c = c.loop-more.invariant.served.is
+
+pub answer-requires-clause-few : goal.answer-requires-clause-few
+answer-requires-clause-few g c = omega (arith, c.in_ok-more.ensures.most, c.requires.batch.1)
+
+pub answer-requires-clause-served : goal.answer-requires-clause-served
+answer-requires-clause-served g c =
+    let shape = ap (λ (s : SecretView). s.shape) c.loop-more.invariant.served.secret ∙ c.requires.shape in
+    subst (λ (s : Shape). All (CanBeServed s) c.gather.new.group.plans.items) (sym shape) c.in_ok-more.ensures.served
+
+pub answer-requires-clause-room : goal.answer-requires-clause-room
+answer-requires-clause-room g c = omega (arith, c.in_ok-more.ensures.most, c.gather.ensures.room, c.loop-more.invariant.room)
+
+pub answer-requires-clause-stands : goal.answer-requires-clause-stands
+answer-requires-clause-stands g c = c.loop-more.invariant.served.as_left
