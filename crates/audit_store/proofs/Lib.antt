@@ -1,4 +1,5 @@
 pub mod LegalHistories
+pub mod StoreFaults
 pub mod Stores
 pub mod Outcomes
 pub mod Causes

@@ -1,5 +1,6 @@
 -- What is true of every store.
-use Rattle.std.proofs.Common.{◌≡◌, ℕ, ◌+◌, ◌<◌, ◌≤◌, Bool, true, false, List, [], ◌∷◌, refl, ◌-◌, ◌++◌, length, length-append, length-take, length-drop, take, drop, sym, ap, subst, ◌∙◌, arith}
+use Rattle.std.proofs.Common.{◌≡◌, ℕ, ◌+◌, ◌<◌, ◌≤◌, Bool, true, false, List, [], ◌∷◌, refl, ◌-◌, ◌++◌, length, length-append, length-take, length-drop, take, drop, sym, ap, subst, ◌∙◌, arith, Result, Ok, Err}
+use Rattle.std.specs.Prelude.{OnErr}
 use Rattle.std.proofs.Math.Seq.{take-length, drop-append_seam}
 use Rattle.std.proofs.lemmas.List.{take-append-drop, take_all}
 use Rattle.audit_types.specs.declared.records.Answered.{Answered}
@@ -95,6 +96,13 @@ refused_store secret old new released before after usable is_usable store audite
       },
       record { same_setting = setting ∙ audited.same_setting; within = omega (arith, all, within); all = λ is. let none : ⊥ = cc in absurd none },
     )
+
+-- and its refusal says so
+pub refused_history : {X E : Type 0} (answer : Result X E) (old new shown : List Answered) (released : ℕ) → released ≡ length old → take (length old) new ≡ old
+    → take released old ≡ shown → OnErr answer ((take released new ≡ shown) × (false ≡ false))
+refused_history (Ok x) old new shown released all begins view = tt
+refused_history (Err e) old new shown released all begins view =
+    (ap (λ n. take n new) all ∙ begins ∙ sym (take-length old) ∙ ap (λ n. take n old) (sym all) ∙ view, refl)
 
 -- a group that was kept belongs to the history
 pub kept_store : (secret : SecretView) (old new : Audited) (released now : ℕ) (before after : JournalContents) (usable : Bool) (group made : List Answered) →

@@ -3,16 +3,19 @@ use Rattle.std.proofs.Math.Seq.{take-length}
 use Rattle.std.proofs.lemmas.List.Elements.{All-take, All-drop}
 use Rattle.std.proofs.lemmas.Result.{IfOk-from_err}
 use Rattle.audit_types.specs.declared.records.Answered.{Answered}
+use Rattle.audit_types.specs.declared.records.Asked.{Asked}
 use Rattle.audit_types.specs.declared.shapes.Shape.{Shape}
-use Rattle.audit_types.specs.History.{FitsShape, Setting}
+use Rattle.audit_types.specs.History.{FitsShape, IsLegal, Setting}
 use Rattle.journal_form.specs.Journal.{StandsAt}
 use Rattle.answer_journal.specs.Moments.{IsBeforeOrAfter}
 use Rattle.bench_core.specs.Calls.{LeavesOnly}
 use Rattle.audit_core.specs.Outcomes.{AreOutcomes, records_made}
 use Rattle.table_load.specs.Database.{secret_table}
 use Rattle.audit_store.specs.Stores.{StoreContents, HasGroup, calls_for}
-use Rattle.audit_store.proofs.Stores.{core_is_history, released_and_more, more_released, taken_since, refused_store, kept_store}
+use Rattle.audit_store.proofs.Stores.{core_is_history, released_and_more, more_released, taken_since, refused_history, refused_store, kept_store}
+use Rattle.audit_store.specs.declared.outcome.StoreFault.TheVariants.{Failed, NoMemory}
 use Rattle.audit_store.specs.Refusals.{no_refusal}
+use Rattle.audit_store.proofs.StoreFaults.{is_memory, memory_no_call, given_is, answer_is}
 use Rattle.audit_store.proofs.store.Store.ask_all.Goals as goal
 
 pub returns-clause-stands : goal.returns-clause-stands
@@ -288,3 +291,95 @@ returns-in_err-keep-clause-ticks g c = λ told. IfOk-from_err _ _ c.from_residua
 
 pub returns-in_err-keep-clause-unasked : goal.returns-in_err-keep-clause-unasked
 returns-in_err-keep-clause-unasked g c = IfOk-from_err _ _ c.from_residual-in_err-keep.ensures.0
+
+-- ---- the faults, and what stays
+
+pub returns-in_err-outcomes-clause-no_memory : goal.returns-in_err-outcomes-clause-no_memory
+returns-in_err-outcomes-clause-no_memory g c = λ is. refl
+
+pub returns-in_err-outcomes-clause-failed : goal.returns-in_err-outcomes-clause-failed
+returns-in_err-outcomes-clause-failed g c = λ is. memory_no_call c.from_residual.result c.from_residual.ensures is
+
+pub returns-in_err-outcomes-clause-last_call : goal.returns-in_err-outcomes-clause-last_call
+returns-in_err-outcomes-clause-last_call g c = λ is. memory_no_call c.from_residual.result c.from_residual.ensures is
+
+pub returns-in_err-outcomes-clause-steady : goal.returns-in_err-outcomes-clause-steady
+returns-in_err-outcomes-clause-steady g c = λ other. refl
+
+pub returns-in_err-outcomes-clause-later : goal.returns-in_err-outcomes-clause-later
+returns-in_err-outcomes-clause-later g c = omega arith
+
+pub returns-in_err-outcomes-clause-secret : goal.returns-in_err-outcomes-clause-secret
+returns-in_err-outcomes-clause-secret g c = ap (λ (s : StoreContents). s.secret) c.self.view_is
+
+pub returns-in_err-outcomes-clause-any_moment : goal.returns-in_err-outcomes-clause-any_moment
+returns-in_err-outcomes-clause-any_moment g c = λ told quiet other. absurd (other (is_memory c.from_residual.result c.from_residual.ensures))
+
+pub returns-in_err-outcomes-clause-sent : goal.returns-in_err-outcomes-clause-sent
+returns-in_err-outcomes-clause-sent g c = refl
+
+pub returns-in_err-keep-clause-no_memory : goal.returns-in_err-keep-clause-no_memory
+returns-in_err-keep-clause-no_memory g c = λ is. c.in_err-keep.ensures.no_memory (given_is c.in_err-keep.field-0.0 NoMemory c.from_residual-in_err-keep.result c.from_residual-in_err-keep.ensures is)
+
+pub returns-in_err-keep-clause-failed : goal.returns-in_err-keep-clause-failed
+returns-in_err-keep-clause-failed g c = λ is. c.in_err-keep.ensures.failed (given_is c.in_err-keep.field-0.0 Failed c.from_residual-in_err-keep.result c.from_residual-in_err-keep.ensures is)
+
+pub returns-in_err-keep-clause-last_call : goal.returns-in_err-keep-clause-last_call
+returns-in_err-keep-clause-last_call g c = λ is. c.in_err-keep.ensures.last_call (given_is c.in_err-keep.field-0.0 Failed c.from_residual-in_err-keep.result c.from_residual-in_err-keep.ensures is)
+
+pub returns-in_err-keep-clause-steady : goal.returns-in_err-keep-clause-steady
+returns-in_err-keep-clause-steady g c = λ other. c.in_err-keep.ensures.steady (λ is. other (answer_is c.in_err-keep.field-0.0 Failed c.from_residual-in_err-keep.result c.from_residual-in_err-keep.ensures is))
+
+pub returns-in_err-keep-clause-secret : goal.returns-in_err-keep-clause-secret
+returns-in_err-keep-clause-secret g c = ap (λ (s : StoreContents). s.secret) c.self.view_is
+
+pub returns-clause-usable : goal.returns-clause-usable
+returns-clause-usable g c = refl
+
+pub returns-clause-secret : goal.returns-clause-secret
+returns-clause-secret g c = ap (λ (s : StoreContents). s.secret) c.self.view_is
+
+pub returns-clause-unasked : goal.returns-clause-unasked
+returns-clause-unasked g c = λ none.
+    let i = c.self.inside in
+    let usable : i.usable ≡ true = ap (λ (s : StoreContents). s.usable) c.self.view_is ∙ c.requires.usable in
+    let made = records_made c.args.asked.now c.in_ok-outcomes.outcomes.items in
+    let group = taken_since i.core.history c.decide_all.new.core.history c.history.result.now made i.released c.history.ensures.is (c.self.invariant.1.all usable) c.in_ok-outcomes.ensures.history in
+    c.in_ok-keep.ensures.unasked (group ∙ none)
+
+pub returns-in_err-outcomes-clause-kept : goal.returns-in_err-outcomes-clause-kept
+returns-in_err-outcomes-clause-kept g c =
+    let i = c.self.inside in
+    let usable : i.usable ≡ true = ap (λ (s : StoreContents). s.usable) c.self.view_is ∙ c.requires.usable in
+    refused_history c.from_residual.result i.core.history c.decide_all.new.core.history c.args.self.now.history i.released (c.self.invariant.1.all usable) c.decide_all.ensures.begins
+    (ap (λ (s : StoreContents). s.history) c.self.view_is)
+
+pub returns-in_err-keep-clause-kept : goal.returns-in_err-keep-clause-kept
+returns-in_err-keep-clause-kept g c =
+    let i = c.self.inside in
+    let usable : i.usable ≡ true = ap (λ (s : StoreContents). s.usable) c.self.view_is ∙ c.requires.usable in
+    refused_history c.from_residual-in_err-keep.result i.core.history c.decide_all.new.core.history c.args.self.now.history i.released (c.self.invariant.1.all usable) c.decide_all.ensures.begins
+    (ap (λ (s : StoreContents). s.history) c.self.view_is)
+
+pub returns-clause-kept : goal.returns-clause-kept
+returns-clause-kept g c = tt
+
+pub decide_all-requires-clause-same_setting : goal.decide_all-requires-clause-same_setting
+decide_all-requires-clause-same_setting g c = c.self.invariant.1.same_setting
+
+pub decide_all-requires-clause-legal : goal.decide_all-requires-clause-legal
+decide_all-requires-clause-legal g c =
+    let i = c.self.inside in
+    let usable : i.usable ≡ true = ap (λ (s : StoreContents). s.usable) c.self.view_is ∙ c.requires.usable in
+    let all = core_is_history i.secret i.core i.released i.usable (take i.released i.core.history) c.self.invariant.1 usable refl in
+    subst (λ (h : List Answered). IsLegal (secret_table i.secret) h) (sym all) c.self.invariant.0.legal
+
+pub decide_all-requires-clause-fit : goal.decide_all-requires-clause-fit
+decide_all-requires-clause-fit g c =
+    subst (λ (s : StoreContents). All (λ (a : Asked). FitsShape s.secret.shape a.column a.rows) c.args.asked.now) (sym c.self.view_is) c.requires.fit
+
+pub keep-requires-clause-usable : goal.keep-requires-clause-usable
+keep-requires-clause-usable g c =
+    let i = c.self.inside in
+    let usable : i.usable ≡ true = ap (λ (s : StoreContents). s.usable) c.self.view_is ∙ c.requires.usable in
+    c.self.invariant.0.journal_usable usable

@@ -1,0 +1,35 @@
+-- What a refusal of the store says, by its fault.
+use Rattle.std.proofs.Common.{◌≡◌, Result, Ok, Err, ap}
+use Rattle.std.specs.Prelude.{IsErrOf}
+use Rattle.std.specs.Result.{IsErr, IsErrAnd}
+use Rattle.std.proofs.lemmas.Bool.{false≢true}
+use Rattle.audit_store.specs.declared.outcome.StoreFault.{StoreFault}
+use Rattle.audit_store.specs.declared.outcome.StoreFault.TheVariants.{Failed, NoMemory}
+
+-- the answer is a refusal with this fault
+abbrev pub Refuses : {X : Type 0} → Result X StoreFault → StoreFault → Type 0
+Refuses answer given = IsErr answer × IsErrAnd answer (λ e. e ≡ given)
+
+pub is_memory : {X : Type 0} (answer : Result X StoreFault) → Refuses answer NoMemory → IsErrOf answer NoMemory
+is_memory (Ok x) refuses = absurd (false≢true refuses.0)
+is_memory (Err e) refuses = cc
+
+-- want of memory is no failed call
+pub memory_no_call : {X P : Type 0} (answer : Result X StoreFault) → Refuses answer NoMemory → IsErrOf answer Failed → P
+memory_no_call (Ok x) refuses is = absurd (false≢true refuses.0)
+memory_no_call (Err e) refuses is = let none : ⊥ = cc in absurd none
+
+-- the fault that was given is the answer's
+pub given_is : {X Y : Type 0} (given fault : StoreFault) (answer : Result X StoreFault) → Refuses answer given → IsErrOf answer fault → IsErrOf {T = Y} (Err given) fault
+given_is given fault (Ok x) refuses is = absurd (false≢true refuses.0)
+given_is {X} {Y} given fault (Err e) refuses is = let same : given ≡ fault = cc in ap (λ (f : StoreFault). err f) same
+  where
+    err : StoreFault → Result Y StoreFault
+    err f = Err f
+
+pub answer_is : {X Y : Type 0} (given fault : StoreFault) (answer : Result X StoreFault) → Refuses answer given → IsErrOf {T = Y} (Err given) fault → IsErrOf answer fault
+answer_is given fault (Ok x) refuses is = absurd (false≢true refuses.0)
+answer_is {X} {Y} given fault (Err e) refuses is = let same : e ≡ fault = cc in ap (λ (f : StoreFault). err f) same
+  where
+    err : StoreFault → Result X StoreFault
+    err f = Err f
