@@ -1,5 +1,5 @@
 -- What is true of every store.
-use Rattle.std.proofs.Common.{◌≡◌, ℕ, ◌+◌, ◌<◌, ◌≤◌, Bool, true, false, List, [], ◌∷◌, refl, ◌-◌, ◌++◌, length, length-append, length-take, length-drop, take, drop, sym, ap, subst, ◌∙◌, arith, Result, Ok, Err}
+use Rattle.std.proofs.Common.{◌≡◌, ℕ, ◌+◌, ◌<◌, ◌≤◌, Bool, true, false, List, [], ◌∷◌, refl, ◌-◌, ◌++◌, length, length-append, length-take, length-drop, take, drop, sym, ap, subst, ◌∙◌, arith, inl, Result, Ok, Err}
 use Rattle.std.specs.Prelude.{OnErr}
 use Rattle.std.proofs.Math.Seq.{take-length, drop-append_seam}
 use Rattle.std.proofs.lemmas.List.{take-append-drop, take_all}
@@ -8,7 +8,12 @@ use Rattle.audit_types.specs.declared.shapes.Shape.{Shape}
 use Rattle.audit_types.specs.History.{IsLegal, setting_of}
 use Rattle.audit_core.specs.Audited.{Audited}
 use Rattle.table_load.specs.Cells.{SecretView, IsSecret}
+use Rattle.bench_core.specs.declared.bench.Bench.{Ghosts}
+use Rattle.bench_core.specs.Calls.{IsQuiet, LeavesOnly}
+use Rattle.bench_core.specs.Moments.{started}
+use Rattle.journal_form.specs.Journal.{StandsAt, StandsFor}
 use Rattle.answer_journal.specs.Append.{AppendsGroup}
+use Rattle.answer_journal.specs.Moments.{IsBeforeOrAfter}
 use Rattle.answer_journal.specs.Contents.{JournalContents}
 use Rattle.audit_store.specs.Stores.{StoreContents, IsStore, IsAuditedBy, HasGroup, calls_for}
 use Rattle.table_load.specs.Database.{secret_table}
@@ -67,6 +72,15 @@ pub more_released : (old new shown made : List Answered) (released now : ℕ) �
     → take now new ≡ shown ++ made
 more_released old new shown made released now all is now_is view =
     ap (λ n. take n new) now_is ∙ take-length new ∙ is ∙ ap (λ h. h ++ made) (sym (take-length old) ∙ ap (λ n. take n old) (sym all) ∙ view)
+
+-- where nothing is called the file stands for the history before
+pub nothing_appended : {D : Type 0} (bench : Ghosts D) (at : D) (shape : Shape) (history group : List Answered) (gate : ℕ)
+    → ((image sent : List ℕ) → bench.since at (bench.moment at) image sent → bench.leaves at image × (sent ≡ bench.sent at)) → IsQuiet bench at
+    → StandsAt (bench.file at) shape history gate → LeavesOnly bench at at (IsBeforeOrAfter shape history group (bench.sent at))
+nothing_appended bench at shape history group gate only_now quiet stands =
+    started bench at (IsBeforeOrAfter shape history group (bench.sent at)) (λ image sent was.
+    let now = only_now image sent was in
+    (now.1, inl (subst (λ (file : List ℕ). StandsFor file shape history) (sym (quiet image now.0)) (gate, stands))))
 
 -- a group with a record stands behind the gate, and took four calls
 pub has_group : (shape : Shape) (group : List Answered) (gate : ℕ) (old new : List ℕ) → 0 < length group → AppendsGroup shape group gate old new →

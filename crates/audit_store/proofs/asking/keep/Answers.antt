@@ -6,7 +6,8 @@ use Rattle.bench_core.specs.Calls.{LeavesOnly}
 use Rattle.journal_form.specs.Journal.{StandsAt}
 use Rattle.answer_journal.specs.Append.{AppendsGroup}
 use Rattle.answer_journal.specs.Moments.{IsBeforeOrAfter}
-use Rattle.audit_store.proofs.Stores.{has_group, four_calls}
+use Rattle.audit_store.proofs.StoreFaults.{memory_no_call, is_failed, failed_no_memory}
+use Rattle.audit_store.proofs.Stores.{nothing_appended, has_group, four_calls}
 use Rattle.audit_store.specs.Refusals.{no_refusal}
 use Rattle.audit_store.proofs.asking.keep.Goals as goal
 
@@ -126,3 +127,87 @@ returns-in_err-append_ready-clause-usable g c = IfOk-from_err _ _ c.from_residua
 
 pub returns-in_err-append_ready-clause-counted : goal.returns-in_err-append_ready-clause-counted
 returns-in_err-append_ready-clause-counted g c = IfOk-from_err _ _ c.from_residual-in_err-append_ready.ensures.0
+
+-- ---- the calls, and what stays
+
+pub returns-in_err-ready-clause-any_moment : goal.returns-in_err-ready-clause-any_moment
+returns-in_err-ready-clause-any_moment g c = λ history told stands many quiet.
+    let journal = c.args.journal.now in
+    nothing_appended g.B.Bench c.args.bench.now journal.shape history c.args.group.now journal.gate (λ image sent was. g.met.B.Bench.only_now c.args.bench.now image sent was) quiet stands
+
+pub returns-in_err-ready-clause-sent : goal.returns-in_err-ready-clause-sent
+returns-in_err-ready-clause-sent g c = refl
+
+pub returns-in_err-ready-clause-no_memory : goal.returns-in_err-ready-clause-no_memory
+returns-in_err-ready-clause-no_memory g c = λ is. refl
+
+pub returns-in_err-ready-clause-failed : goal.returns-in_err-ready-clause-failed
+returns-in_err-ready-clause-failed g c = λ is. memory_no_call c.from_residual.result c.from_residual.ensures is
+
+pub returns-in_err-ready-clause-last_call : goal.returns-in_err-ready-clause-last_call
+returns-in_err-ready-clause-last_call g c = λ is. memory_no_call c.from_residual.result c.from_residual.ensures is
+
+pub returns-in_err-ready-clause-steady : goal.returns-in_err-ready-clause-steady
+returns-in_err-ready-clause-steady g c = λ other. refl
+
+pub returns-in_err-ready-clause-later : goal.returns-in_err-ready-clause-later
+returns-in_err-ready-clause-later g c = omega arith
+
+pub returns-in_err-ready-clause-shape : goal.returns-in_err-ready-clause-shape
+returns-in_err-ready-clause-shape g c = refl
+
+pub returns-in_err-append_ready-clause-no_memory : goal.returns-in_err-append_ready-clause-no_memory
+returns-in_err-append_ready-clause-no_memory g c = λ is. failed_no_memory c.from_residual-in_err-append_ready.result c.from_residual-in_err-append_ready.ensures is
+
+pub returns-in_err-append_ready-clause-failed : goal.returns-in_err-append_ready-clause-failed
+returns-in_err-append_ready-clause-failed g c = λ is. c.in_err-append_ready.ensures.cause.failed
+
+pub returns-in_err-append_ready-clause-last_call : goal.returns-in_err-append_ready-clause-last_call
+returns-in_err-append_ready-clause-last_call g c = λ is. c.in_err-append_ready.ensures.last_call
+
+pub returns-in_err-append_ready-clause-steady : goal.returns-in_err-append_ready-clause-steady
+returns-in_err-append_ready-clause-steady g c = λ other. absurd (other (is_failed c.from_residual-in_err-append_ready.result c.from_residual-in_err-append_ready.ensures))
+
+pub returns-then-is_empty-clause-any_moment : goal.returns-then-is_empty-clause-any_moment
+returns-then-is_empty-clause-any_moment g c = λ history told stands many quiet.
+    let journal = c.args.journal.now in
+    nothing_appended g.B.Bench c.args.bench.now journal.shape history c.args.group.now journal.gate (λ image sent was. g.met.B.Bench.only_now c.args.bench.now image sent was) quiet stands
+
+pub returns-then-is_empty-clause-sent : goal.returns-then-is_empty-clause-sent
+returns-then-is_empty-clause-sent g c = refl
+
+pub returns-then-is_empty-clause-quiet : goal.returns-then-is_empty-clause-quiet
+returns-then-is_empty-clause-quiet g c = λ told quiet. quiet
+
+pub returns-then-is_empty-clause-no_memory : goal.returns-then-is_empty-clause-no_memory
+returns-then-is_empty-clause-no_memory g c = λ is. no_refusal _ _ is
+
+pub returns-then-is_empty-clause-failed : goal.returns-then-is_empty-clause-failed
+returns-then-is_empty-clause-failed g c = λ is. no_refusal _ _ is
+
+pub returns-then-is_empty-clause-last_call : goal.returns-then-is_empty-clause-last_call
+returns-then-is_empty-clause-last_call g c = λ is. no_refusal _ _ is
+
+pub returns-then-is_empty-clause-steady : goal.returns-then-is_empty-clause-steady
+returns-then-is_empty-clause-steady g c = λ other. refl
+
+pub returns-then-is_empty-clause-later : goal.returns-then-is_empty-clause-later
+returns-then-is_empty-clause-later g c = omega arith
+
+pub returns-then-is_empty-clause-shape : goal.returns-then-is_empty-clause-shape
+returns-then-is_empty-clause-shape g c = refl
+
+pub returns-then-is_empty-clause-usable : goal.returns-then-is_empty-clause-usable
+returns-then-is_empty-clause-usable g c = c.requires.usable
+
+pub append_ready-requires-clause-usable : goal.append_ready-requires-clause-usable
+append_ready-requires-clause-usable g c = c.requires.usable
+
+pub append_ready-requires-clause-shape : goal.append_ready-requires-clause-shape
+append_ready-requires-clause-shape g c = c.in_ok-ready.ensures.0
+
+pub append_ready-requires-clause-stands : goal.append_ready-requires-clause-stands
+append_ready-requires-clause-stands g c = c.requires.stands
+
+pub append_ready-requires-clause-few : goal.append_ready-requires-clause-few
+append_ready-requires-clause-few g c = omega (arith, c.requires.few, ap (λ (l : List Answered). length l) c.in_ok-ready.ensures.1)
