@@ -5,7 +5,7 @@ ghost use Rattle.transcript_sim.specs.Verdicts.{verdict_bytes, word_of};
 use std::fmt;
 
 /// The verdict on a question: whether it is answered, and if not, why.
-#[derive(Clone, Copy, Debug, PartialEq, Eq, Drop)]
+#[derive(Clone, Copy, PartialEq, Eq, Drop)]
 pub enum Due {
     /// A count, which the public columns answer.
     Counted,

@@ -1,4 +1,4 @@
-use Rattle.std.proofs.Common.{List, ℕ, subst}
+use Rattle.std.proofs.Common.{List, ℕ, refl, subst}
 use Rattle.std.proofs.lemmas.Result.{IfOk-from_err}
 use Rattle.audit_types.specs.History.{Setting}
 use Rattle.line_wire.specs.Lines.{text}
@@ -28,3 +28,56 @@ returns-in_ok-expected_of-in-Line-clause-asks g c =
 
 pub returns-in_err-next_line-clause-asks : goal.returns-in_err-next_line-clause-asks
 returns-in_err-next_line-clause-asks g c = IfOk-from_err _ _ c.from_residual.ensures.0
+
+-- ---- the lines and the answers
+
+pub returns-in_err-next_line-clause-cuts : goal.returns-in_err-next_line-clause-cuts
+returns-in_err-next_line-clause-cuts g c = c.next_line.ensures.cuts
+
+pub returns-in_err-next_line-clause-same : goal.returns-in_err-next_line-clause-same
+returns-in_err-next_line-clause-same g c = refl
+
+pub returns-in_ok-expected_of-in-Line-clause-cuts : goal.returns-in_ok-expected_of-in-Line-clause-cuts
+returns-in_ok-expected_of-in-Line-clause-cuts g c = c.next_line.ensures.cuts
+
+pub returns-in_ok-expected_of-in-Line-clause-same : goal.returns-in_ok-expected_of-in-Line-clause-same
+returns-in_ok-expected_of-in-Line-clause-same g c = c.expected_of.ensures.same
+
+pub returns-in_err-plan-in-Line-clause-cuts : goal.returns-in_err-plan-in-Line-clause-cuts
+returns-in_err-plan-in-Line-clause-cuts g c = c.next_line.ensures.cuts
+
+pub returns-in_err-plan-in-Line-clause-same : goal.returns-in_err-plan-in-Line-clause-same
+returns-in_err-plan-in-Line-clause-same g c = refl
+
+pub returns-in_err-expected_of-in-Line-clause-cuts : goal.returns-in_err-expected_of-in-Line-clause-cuts
+returns-in_err-expected_of-in-Line-clause-cuts g c = c.next_line.ensures.cuts
+
+pub returns-in_err-expected_of-in-Line-clause-same : goal.returns-in_err-expected_of-in-Line-clause-same
+returns-in_err-expected_of-in-Line-clause-same g c = c.expected_of.ensures.same
+
+pub returns-in-Long-clause-cuts : goal.returns-in-Long-clause-cuts
+returns-in-Long-clause-cuts g c = c.next_line.ensures.cuts
+
+pub returns-in-Long-clause-same : goal.returns-in-Long-clause-same
+returns-in-Long-clause-same g c = refl
+
+pub returns-in-End-clause-cuts : goal.returns-in-End-clause-cuts
+returns-in-End-clause-cuts g c = c.next_line.ensures.cuts
+
+pub returns-in-End-clause-same : goal.returns-in-End-clause-same
+returns-in-End-clause-same g c = refl
+
+pub returns-in_ok-expected_of-in-Line-clause-short : goal.returns-in_ok-expected_of-in-Line-clause-short
+returns-in_ok-expected_of-in-Line-clause-short g c = tt
+
+pub returns-in-Long-clause-short : goal.returns-in-Long-clause-short
+returns-in-Long-clause-short g c = tt
+
+pub returns-in-End-clause-short : goal.returns-in-End-clause-short
+returns-in-End-clause-short g c = tt
+
+pub returns-in_err-plan-in-Line-clause-asks : goal.returns-in_err-plan-in-Line-clause-asks
+returns-in_err-plan-in-Line-clause-asks g c = IfOk-from_err _ _ c.from_residual-in_err-plan-in-Line.ensures.0
+
+pub returns-in_err-expected_of-in-Line-clause-asks : goal.returns-in_err-expected_of-in-Line-clause-asks
+returns-in_err-expected_of-in-Line-clause-asks g c = IfOk-from_err _ _ c.from_residual-in_err-expected_of-in-Line.ensures.0
