@@ -1,7 +1,10 @@
 -- What a crash leaves while a journal is made.
-use Rattle.std.proofs.Common.{◌≡◌, ◌≢◌, ℕ, ◌+◌, ◌<◌, ◌≤◌, inl, inr, List, [], ◌∷◌, ◌++◌, length, get_or, take, drop, refl, sym, ap, ◌∙◌, arith, append_assoc, append-nil, length-append, length-take, length-drop}
+use Rattle.std.proofs.Common.{◌≡◌, ◌≢◌, ℕ, ◌+◌, ◌<◌, ◌≤◌, inl, inr, nat_lt, Result, Ok, Err, List, [], ◌∷◌, ◌++◌, length, get_or, take, drop, refl, sym, ap, ◌∙◌, arith, append_assoc, append-nil, length-append, length-take, length-drop}
+use Rattle.std.specs.Prelude.{if◌then◌else◌, IsErrOf}
+use Rattle.std.specs.Result.{IsErr, IsErrAnd}
 use Rattle.std.proofs.Math.Seq.{drop-cons}
-use Rattle.std.proofs.lemmas.Bool.{cases_eq, cases_lt}
+use Rattle.std.proofs.lemmas.Bool.{cases_eq, cases_lt, false≢true}
+use Rattle.std.proofs.lemmas.Grind.{common_steps}
 use Rattle.std.proofs.lemmas.List.{take-append-drop, get_or-take, take_all, drop_all}
 use Rattle.audit_types.specs.declared.shapes.Shape.{Shape}
 use Rattle.journal_form.specs.Header.{header, named, IsWholeShape}
@@ -11,9 +14,11 @@ use Rattle.bench_core.specs.Bench.{Torn, Follows}
 use Rattle.bench_core.specs.Calls.{LeavesOnly}
 use Rattle.bench_core.specs.Moments.{weakens}
 use Rattle.answer_journal.specs.Append.{Appending, appended}
-use Rattle.answer_journal.specs.Make.{empty_journal}
+use Rattle.answer_journal.specs.Make.{empty_journal, calls_to_make}
 use Rattle.answer_journal.specs.Moments.{IsShort, IsAlready, IsFound, IsUntouched, IsUnmadeOrEmpty}
 use Rattle.answer_journal.specs.declared.make.Found.TheVariants.{Closed, Short}
+use Rattle.answer_journal.specs.declared.make.MakeFault.{MakeFault}
+use Rattle.answer_journal.specs.declared.make.MakeFault.TheVariants as fault
 use Rattle.answer_journal.proofs.Histories.{stands_by}
 
 -- a header and a closed gate stand for the empty history
@@ -79,6 +84,32 @@ closed_not_already file found (inr made) = found.1 made.1
 pub short_not_already : (file : List ℕ) → IsFound Short file → IsAlready file → ⊥
 short_not_already file found (inl long) = absurd (omega (arith, found, long))
 short_not_already file found (inr made) = absurd (omega (arith, found, made.0))
+
+-- how many calls it takes where the header gate is closed, and where the file is short
+pub closed_calls : (file : List ℕ) (before mid now : ℕ) → IsFound Closed file → mid ≡ before + 2 → now ≡ mid + 4 → now ≡ before + calls_to_make file
+closed_calls file before mid now found look opening =
+    let calls : calls_to_make file ≡ 6 = ap (λ (n : ℕ). if nat_lt n 21 then 7 else 6) found.0 in
+    omega (arith, look, opening, calls)
+
+pub short_calls : (file : List ℕ) (before mid now : ℕ) → IsFound Short file → mid ≡ before + 1 → now ≡ mid + 6 → now ≡ before + calls_to_make file
+short_calls file before mid now found look make =
+    let calls : calls_to_make file ≡ 7 = grind (arith, common_steps, found) in
+    omega (arith, look, make, calls)
+
+-- a refusal has one fault
+pub failed_no_already : {X P : Type 0} (answer : Result X MakeFault) → IsErr answer × IsErrAnd answer (λ e. e ≡ fault.Failed) → IsErrOf answer fault.AlreadyThere → P
+failed_no_already (Ok x) fails is = absurd (false≢true fails.0)
+failed_no_already (Err e) fails is = let none : ⊥ = cc in absurd none
+
+pub has_failed : {X : Type 0} (answer : Result X MakeFault) → IsErr answer × IsErrAnd answer (λ e. e ≡ fault.Failed) → IsErrOf answer fault.Failed
+has_failed (Ok x) fails = absurd (false≢true fails.0)
+has_failed (Err e) fails = cc
+
+pub already_no_failed : {X P : Type 0} → IsErrOf {T = X} (Err fault.AlreadyThere) fault.Failed → P
+already_no_failed is = let none : ⊥ = cc in absurd none
+
+pub made_no_fault : {X P : Type 0} (x : X) (e : MakeFault) → IsErrOf (Ok x) e → P
+made_no_fault x e is = let none : ⊥ = cc in absurd none
 
 -- a quiet bench with a short file leaves a short one
 pub quiet_short : (file : List ℕ) (old : List ℕ → Type 0) → IsShort file → ((image : List ℕ) → old image → image ≡ file)

@@ -1,4 +1,4 @@
-use Rattle.std.proofs.Common.{arith}
+use Rattle.std.proofs.Common.{◌∙◌, arith}
 use Rattle.std.proofs.lemmas.Grind.{common_steps}
 use Rattle.std.proofs.lemmas.Result.{IfOk-from_err}
 use Rattle.answer_journal.proofs.FileCalls.{untouched_by_one, untouched_by_two}
@@ -53,3 +53,59 @@ returns-in_err-length-clause-found g c = λ told. IfOk-from_err _ _ c.from_resid
 
 pub returns-in_err-read_at-clause-found : goal.returns-in_err-read_at-clause-found
 returns-in_err-read_at-clause-found g c = λ told. IfOk-from_err _ _ c.from_residual-in_err-read_at.ensures.0
+
+-- ---- the file and what was sent
+
+pub returns-in_err-length-clause-file : goal.returns-in_err-length-clause-file
+returns-in_err-length-clause-file g c = c.length.ensures.file
+
+pub returns-in_err-length-clause-sent : goal.returns-in_err-length-clause-sent
+returns-in_err-length-clause-sent g c = c.length.ensures.sent
+
+pub returns-in_err-length-clause-crash : goal.returns-in_err-length-clause-crash
+returns-in_err-length-clause-crash g c = c.length.ensures.crash
+
+pub returns-then-length-clause-file : goal.returns-then-length-clause-file
+returns-then-length-clause-file g c = c.length.ensures.file
+
+pub returns-then-length-clause-sent : goal.returns-then-length-clause-sent
+returns-then-length-clause-sent g c = c.length.ensures.sent
+
+pub returns-then-length-clause-crash : goal.returns-then-length-clause-crash
+returns-then-length-clause-crash g c = c.length.ensures.crash
+
+pub returns-then-length-2-clause-file : goal.returns-then-length-2-clause-file
+returns-then-length-2-clause-file g c = c.length.ensures.file
+
+pub returns-then-length-2-clause-sent : goal.returns-then-length-2-clause-sent
+returns-then-length-2-clause-sent g c = c.length.ensures.sent
+
+pub returns-then-length-2-clause-crash : goal.returns-then-length-2-clause-crash
+returns-then-length-2-clause-crash g c = c.length.ensures.crash
+
+pub returns-in_err-read_at-clause-file : goal.returns-in_err-read_at-clause-file
+returns-in_err-read_at-clause-file g c = c.read_at.ensures.file ∙ c.length.ensures.file
+
+pub returns-in_err-read_at-clause-sent : goal.returns-in_err-read_at-clause-sent
+returns-in_err-read_at-clause-sent g c = c.read_at.ensures.sent ∙ c.length.ensures.sent
+
+pub returns-in_err-read_at-clause-crash : goal.returns-in_err-read_at-clause-crash
+returns-in_err-read_at-clause-crash g c = λ image left. c.length.ensures.crash image (c.read_at.ensures.crash image left)
+
+pub returns-then-gate-eq1-clause-file : goal.returns-then-gate-eq1-clause-file
+returns-then-gate-eq1-clause-file g c = c.read_at.ensures.file ∙ c.length.ensures.file
+
+pub returns-then-gate-eq1-clause-sent : goal.returns-then-gate-eq1-clause-sent
+returns-then-gate-eq1-clause-sent g c = c.read_at.ensures.sent ∙ c.length.ensures.sent
+
+pub returns-then-gate-eq1-clause-crash : goal.returns-then-gate-eq1-clause-crash
+returns-then-gate-eq1-clause-crash g c = λ image left. c.length.ensures.crash image (c.read_at.ensures.crash image left)
+
+pub returns-else-gate-eq1-clause-file : goal.returns-else-gate-eq1-clause-file
+returns-else-gate-eq1-clause-file g c = c.read_at.ensures.file ∙ c.length.ensures.file
+
+pub returns-else-gate-eq1-clause-sent : goal.returns-else-gate-eq1-clause-sent
+returns-else-gate-eq1-clause-sent g c = c.read_at.ensures.sent ∙ c.length.ensures.sent
+
+pub returns-else-gate-eq1-clause-crash : goal.returns-else-gate-eq1-clause-crash
+returns-else-gate-eq1-clause-crash g c = λ image left. c.length.ensures.crash image (c.read_at.ensures.crash image left)
