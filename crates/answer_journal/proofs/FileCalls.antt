@@ -1,5 +1,9 @@
 -- Calls on the file, one after the other: at every moment nothing was sent, and each image has some property.
-use Rattle.std.proofs.Common.{◌≡◌, ℕ, List, sym, subst, ◌∙◌}
+use Rattle.std.proofs.Common.{◌≡◌, ℕ, ◌≤◌, List, Result, Ok, Err, sym, subst, ◌∙◌}
+use Rattle.std.specs.Prelude.{OnErr}
+use Rattle.std.specs.Result.{IsErr}
+use Rattle.std.proofs.lemmas.Bool.{false≢true}
+use Rattle.bench_core.specs.Causes.{HasCause, Rose}
 use Rattle.bench_core.specs.declared.bench.Bench.{Ghosts}
 use Rattle.bench_core.specs.Bench.{Unsent, Elapses}
 use Rattle.bench_core.specs.Calls.{IsQuiet, LeavesOnly}
@@ -60,3 +64,12 @@ after_untouched bench old mid new P first untouched same rest =
     joins bench old mid new (P (bench.sent old))
     (weakens bench old mid (IsUntouched (bench.file old) (bench.sent old)) (P (bench.sent old)) first untouched)
     (subst (λ (sent : List ℕ). LeavesOnly bench mid new (P sent)) same rest)
+
+-- a refusal whose call failed has its cause, and the last call failed
+pub has_cause : {X E : Type 0} (before now : ℕ) (answer : Result X E) → IsErr answer → before ≤ now → Rose before now → HasCause before now answer
+has_cause before now (Ok x) is later rose = absurd (false≢true is)
+has_cause before now (Err e) is later rose = record { later = later; failed = rose; steady = tt }
+
+pub on_err_always : {X E P : Type 0} (answer : Result X E) → P → OnErr answer P
+on_err_always (Ok x) holds = tt
+on_err_always (Err e) holds = holds

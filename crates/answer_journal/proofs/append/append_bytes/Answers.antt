@@ -1,6 +1,8 @@
-use Rattle.std.proofs.Common.{[], ◌∷◌, ◌∙◌, subst}
+use Rattle.std.proofs.Common.{ℕ, ◌≤◌, [], ◌∷◌, ◌∙◌, subst}
 use Rattle.std.proofs.lemmas.Result.{IfOk-from_err}
 use Rattle.bench_core.specs.Bench.{Holds}
+use Rattle.bench_core.specs.Causes.{Rose}
+use Rattle.answer_journal.proofs.FileCalls.{has_cause, on_err_always}
 use Rattle.answer_journal.proofs.Writes.{opened}
 use Rattle.answer_journal.proofs.Appends.{after_write, after_sync, after_opening, after_all}
 use Rattle.answer_journal.proofs.append.append_bytes.Goals as goal
@@ -93,3 +95,50 @@ returns-in_err-sync-2-clause-quiet g c = λ told. IfOk-from_err _ _ c.from_resid
 
 pub returns-in_err-sync-2-clause-ticks : goal.returns-in_err-sync-2-clause-ticks
 returns-in_err-sync-2-clause-ticks g c = λ told. IfOk-from_err _ _ c.from_residual-in_err-sync-2.ensures.0
+
+-- ---- the faults, and what was sent
+
+pub returns-in_err-write_at-clause-sent : goal.returns-in_err-write_at-clause-sent
+returns-in_err-write_at-clause-sent g c = c.write_at.ensures.sent
+
+pub returns-in_err-write_at-clause-cause : goal.returns-in_err-write_at-clause-cause
+returns-in_err-write_at-clause-cause g c = has_cause (g.B.Bench.faults c.args.bench.now) (g.B.Bench.faults c.write_at.new.self) c.from_residual.result c.from_residual.ensures.0 (c.write_at.ensures.cause.later) (c.in_err-write_at.ensures.cause.failed)
+
+pub returns-in_err-write_at-clause-last_call : goal.returns-in_err-write_at-clause-last_call
+returns-in_err-write_at-clause-last_call g c = on_err_always c.from_residual.result c.in_err-write_at.ensures.last_call
+
+pub returns-in_err-sync-clause-sent : goal.returns-in_err-sync-clause-sent
+returns-in_err-sync-clause-sent g c = c.sync.ensures.sent ∙ c.write_at.ensures.sent
+
+pub returns-in_err-sync-clause-cause : goal.returns-in_err-sync-clause-cause
+returns-in_err-sync-clause-cause g c = has_cause (g.B.Bench.faults c.args.bench.now) (g.B.Bench.faults c.sync.new.self) c.from_residual-in_err-sync.result c.from_residual-in_err-sync.ensures.0 (subst (λ (n : ℕ). n ≤ g.B.Bench.faults c.sync.new.self) (c.in_ok-write_at.ensures.cause.steady) c.sync.ensures.cause.later) (subst (λ (n : ℕ). Rose n (g.B.Bench.faults c.sync.new.self)) (c.in_ok-write_at.ensures.cause.steady) c.in_err-sync.ensures.cause.failed)
+
+pub returns-in_err-sync-clause-last_call : goal.returns-in_err-sync-clause-last_call
+returns-in_err-sync-clause-last_call g c = on_err_always c.from_residual-in_err-sync.result c.in_err-sync.ensures.last_call
+
+pub returns-in_err-write_at-2-clause-sent : goal.returns-in_err-write_at-2-clause-sent
+returns-in_err-write_at-2-clause-sent g c = c.write_at-2.ensures.sent ∙ c.sync.ensures.sent ∙ c.write_at.ensures.sent
+
+pub returns-in_err-write_at-2-clause-cause : goal.returns-in_err-write_at-2-clause-cause
+returns-in_err-write_at-2-clause-cause g c = has_cause (g.B.Bench.faults c.args.bench.now) (g.B.Bench.faults c.write_at-2.new.self) c.from_residual-in_err-write_at-2.result c.from_residual-in_err-write_at-2.ensures.0 (subst (λ (n : ℕ). n ≤ g.B.Bench.faults c.write_at-2.new.self) (c.in_ok-sync.ensures.cause.steady ∙ c.in_ok-write_at.ensures.cause.steady) c.write_at-2.ensures.cause.later) (subst (λ (n : ℕ). Rose n (g.B.Bench.faults c.write_at-2.new.self)) (c.in_ok-sync.ensures.cause.steady ∙ c.in_ok-write_at.ensures.cause.steady) c.in_err-write_at-2.ensures.cause.failed)
+
+pub returns-in_err-write_at-2-clause-last_call : goal.returns-in_err-write_at-2-clause-last_call
+returns-in_err-write_at-2-clause-last_call g c = on_err_always c.from_residual-in_err-write_at-2.result c.in_err-write_at-2.ensures.last_call
+
+pub returns-in_err-sync-2-clause-sent : goal.returns-in_err-sync-2-clause-sent
+returns-in_err-sync-2-clause-sent g c = c.sync-2.ensures.sent ∙ c.write_at-2.ensures.sent ∙ c.sync.ensures.sent ∙ c.write_at.ensures.sent
+
+pub returns-in_err-sync-2-clause-cause : goal.returns-in_err-sync-2-clause-cause
+returns-in_err-sync-2-clause-cause g c = has_cause (g.B.Bench.faults c.args.bench.now) (g.B.Bench.faults c.sync-2.new.self) c.from_residual-in_err-sync-2.result c.from_residual-in_err-sync-2.ensures.0 (subst (λ (n : ℕ). n ≤ g.B.Bench.faults c.sync-2.new.self) (c.in_ok-write_at-2.ensures.cause.steady ∙ c.in_ok-sync.ensures.cause.steady ∙ c.in_ok-write_at.ensures.cause.steady) c.sync-2.ensures.cause.later) (subst (λ (n : ℕ). Rose n (g.B.Bench.faults c.sync-2.new.self)) (c.in_ok-write_at-2.ensures.cause.steady ∙ c.in_ok-sync.ensures.cause.steady ∙ c.in_ok-write_at.ensures.cause.steady) c.in_err-sync-2.ensures.cause.failed)
+
+pub returns-in_err-sync-2-clause-last_call : goal.returns-in_err-sync-2-clause-last_call
+returns-in_err-sync-2-clause-last_call g c = on_err_always c.from_residual-in_err-sync-2.result c.in_err-sync-2.ensures.last_call
+
+pub returns-clause-sent : goal.returns-clause-sent
+returns-clause-sent g c = c.sync-2.ensures.sent ∙ c.write_at-2.ensures.sent ∙ c.sync.ensures.sent ∙ c.write_at.ensures.sent
+
+pub returns-clause-cause : goal.returns-clause-cause
+returns-clause-cause g c = record { later = subst (λ (n : ℕ). n ≤ g.B.Bench.faults c.sync-2.new.self) (c.in_ok-write_at-2.ensures.cause.steady ∙ c.in_ok-sync.ensures.cause.steady ∙ c.in_ok-write_at.ensures.cause.steady) c.sync-2.ensures.cause.later; failed = tt; steady = c.in_ok-sync-2.ensures.cause.steady ∙ c.in_ok-write_at-2.ensures.cause.steady ∙ c.in_ok-sync.ensures.cause.steady ∙ c.in_ok-write_at.ensures.cause.steady }
+
+pub returns-clause-last_call : goal.returns-clause-last_call
+returns-clause-last_call g c = tt

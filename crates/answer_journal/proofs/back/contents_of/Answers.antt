@@ -44,3 +44,29 @@ returns-in_err-bytes-clause-ticks g c = λ told. IfOk-from_err _ _ c.from_residu
 
 pub returns-clause-ticks : goal.returns-clause-ticks
 returns-clause-ticks g c = λ told. on_ok_always c.read_all.result (c.in_ok-bytes.ensures.ticks told)
+
+-- ---- the file, and what was sent
+
+pub returns-in_err-bytes-clause-file : goal.returns-in_err-bytes-clause-file
+returns-in_err-bytes-clause-file g c = c.front_of.ensures.file
+
+pub returns-in_err-bytes-clause-sent : goal.returns-in_err-bytes-clause-sent
+returns-in_err-bytes-clause-sent g c = c.front_of.ensures.sent
+
+pub returns-in_err-bytes-clause-crash : goal.returns-in_err-bytes-clause-crash
+returns-in_err-bytes-clause-crash g c = c.front_of.ensures.crash
+
+pub returns-in_err-bytes-clause-later : goal.returns-in_err-bytes-clause-later
+returns-in_err-bytes-clause-later g c = c.front_of.ensures.later
+
+pub returns-clause-file : goal.returns-clause-file
+returns-clause-file g c = c.front_of.ensures.file
+
+pub returns-clause-sent : goal.returns-clause-sent
+returns-clause-sent g c = c.front_of.ensures.sent
+
+pub returns-clause-crash : goal.returns-clause-crash
+returns-clause-crash g c = c.front_of.ensures.crash
+
+pub returns-clause-later : goal.returns-clause-later
+returns-clause-later g c = c.front_of.ensures.later

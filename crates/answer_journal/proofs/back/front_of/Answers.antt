@@ -1,4 +1,5 @@
-use Rattle.std.proofs.Common.{◌≡◌, length, drop, min, ap, ◌∙◌}
+use Rattle.std.proofs.Common.{◌≡◌, ℕ, ◌≤◌, length, drop, min, ap, ◌∙◌, subst}
+use Rattle.bench_core.specs.Causes.{Rose}
 use Rattle.std.proofs.lemmas.Result.{IfOk-from_err}
 use Rattle.journal_form.specs.Journal.{most_bytes}
 use Rattle.answer_journal.proofs.DueIsAnswered.{front_read}
@@ -60,3 +61,71 @@ returns-in_err-count-clause-bytes g c = λ told. IfOk-from_err _ _ c.from_residu
 
 pub returns-in_err-count-clause-ticks : goal.returns-in_err-count-clause-ticks
 returns-in_err-count-clause-ticks g c = λ told. IfOk-from_err _ _ c.from_residual-in_err-count.ensures.0
+
+-- ---- the faults, the file and what was sent
+
+pub returns-in_err-length-clause-file : goal.returns-in_err-length-clause-file
+returns-in_err-length-clause-file g c = c.length.ensures.file
+
+pub returns-in_err-length-clause-sent : goal.returns-in_err-length-clause-sent
+returns-in_err-length-clause-sent g c = c.length.ensures.sent
+
+pub returns-in_err-length-clause-crash : goal.returns-in_err-length-clause-crash
+returns-in_err-length-clause-crash g c = c.length.ensures.crash
+
+pub returns-in_err-length-clause-later : goal.returns-in_err-length-clause-later
+returns-in_err-length-clause-later g c = c.length.ensures.cause.later
+
+pub returns-in_err-length-clause-failed : goal.returns-in_err-length-clause-failed
+returns-in_err-length-clause-failed g c = λ is. c.in_err-length.ensures.cause.failed
+
+pub returns-in_err-length-clause-last_call : goal.returns-in_err-length-clause-last_call
+returns-in_err-length-clause-last_call g c = λ is. c.in_err-length.ensures.last_call
+
+pub returns-in_err-bytes-clause-file : goal.returns-in_err-bytes-clause-file
+returns-in_err-bytes-clause-file g c = c.length.ensures.file
+
+pub returns-in_err-bytes-clause-sent : goal.returns-in_err-bytes-clause-sent
+returns-in_err-bytes-clause-sent g c = c.length.ensures.sent
+
+pub returns-in_err-bytes-clause-crash : goal.returns-in_err-bytes-clause-crash
+returns-in_err-bytes-clause-crash g c = c.length.ensures.crash
+
+pub returns-in_err-bytes-clause-later : goal.returns-in_err-bytes-clause-later
+returns-in_err-bytes-clause-later g c = c.length.ensures.cause.later
+
+pub returns-in_err-bytes-clause-steady : goal.returns-in_err-bytes-clause-steady
+returns-in_err-bytes-clause-steady g c = λ other. c.in_ok-length.ensures.cause.steady
+
+pub returns-in_err-count-clause-file : goal.returns-in_err-count-clause-file
+returns-in_err-count-clause-file g c = c.read_at.ensures.file ∙ c.length.ensures.file
+
+pub returns-in_err-count-clause-sent : goal.returns-in_err-count-clause-sent
+returns-in_err-count-clause-sent g c = c.read_at.ensures.sent ∙ c.length.ensures.sent
+
+pub returns-in_err-count-clause-crash : goal.returns-in_err-count-clause-crash
+returns-in_err-count-clause-crash g c = λ image left. c.length.ensures.crash image (c.read_at.ensures.crash image left)
+
+pub returns-in_err-count-clause-later : goal.returns-in_err-count-clause-later
+returns-in_err-count-clause-later g c = subst (λ (n : ℕ). n ≤ g.B.Bench.faults c.read_at.new.self) (c.in_ok-length.ensures.cause.steady) c.read_at.ensures.cause.later
+
+pub returns-in_err-count-clause-failed : goal.returns-in_err-count-clause-failed
+returns-in_err-count-clause-failed g c = λ is. subst (λ (n : ℕ). Rose n (g.B.Bench.faults c.read_at.new.self)) (c.in_ok-length.ensures.cause.steady) c.in_err-count.ensures.cause.failed
+
+pub returns-in_err-count-clause-last_call : goal.returns-in_err-count-clause-last_call
+returns-in_err-count-clause-last_call g c = λ is. c.in_err-count.ensures.last_call
+
+pub returns-clause-file : goal.returns-clause-file
+returns-clause-file g c = c.read_at.ensures.file ∙ c.length.ensures.file
+
+pub returns-clause-sent : goal.returns-clause-sent
+returns-clause-sent g c = c.read_at.ensures.sent ∙ c.length.ensures.sent
+
+pub returns-clause-crash : goal.returns-clause-crash
+returns-clause-crash g c = λ image left. c.length.ensures.crash image (c.read_at.ensures.crash image left)
+
+pub returns-clause-later : goal.returns-clause-later
+returns-clause-later g c = subst (λ (n : ℕ). n ≤ g.B.Bench.faults c.read_at.new.self) (c.in_ok-length.ensures.cause.steady) c.read_at.ensures.cause.later
+
+pub returns-clause-steady : goal.returns-clause-steady
+returns-clause-steady g c = λ other. c.in_ok-count.ensures.cause.steady ∙ c.in_ok-length.ensures.cause.steady

@@ -1,7 +1,8 @@
-use Rattle.std.proofs.Common.{◌∙◌, arith}
+use Rattle.std.proofs.Common.{ℕ, ◌≤◌, ◌∙◌, arith, subst}
 use Rattle.std.proofs.lemmas.Grind.{common_steps}
 use Rattle.std.proofs.lemmas.Result.{IfOk-from_err}
-use Rattle.answer_journal.proofs.FileCalls.{untouched_by_one, untouched_by_two}
+use Rattle.bench_core.specs.Causes.{Rose}
+use Rattle.answer_journal.proofs.FileCalls.{has_cause, on_err_always, untouched_by_one, untouched_by_two}
 use Rattle.answer_journal.proofs.make.look.Goals as goal
 
 pub returns-in_err-length-clause-untouched : goal.returns-in_err-length-clause-untouched
@@ -109,3 +110,41 @@ returns-else-gate-eq1-clause-sent g c = c.read_at.ensures.sent ∙ c.length.ensu
 
 pub returns-else-gate-eq1-clause-crash : goal.returns-else-gate-eq1-clause-crash
 returns-else-gate-eq1-clause-crash g c = λ image left. c.length.ensures.crash image (c.read_at.ensures.crash image left)
+
+-- ---- the faults
+
+pub returns-in_err-length-clause-cause : goal.returns-in_err-length-clause-cause
+returns-in_err-length-clause-cause g c = has_cause (g.B.Bench.faults c.args.bench.now) (g.B.Bench.faults c.length.new.self) c.from_residual.result c.from_residual.ensures.0 (c.length.ensures.cause.later) (c.in_err-length.ensures.cause.failed)
+
+pub returns-in_err-length-clause-last_call : goal.returns-in_err-length-clause-last_call
+returns-in_err-length-clause-last_call g c = on_err_always c.from_residual.result c.in_err-length.ensures.last_call
+
+pub returns-then-length-clause-cause : goal.returns-then-length-clause-cause
+returns-then-length-clause-cause g c = record { later = c.length.ensures.cause.later; failed = tt; steady = c.in_ok-length.ensures.cause.steady }
+
+pub returns-then-length-clause-last_call : goal.returns-then-length-clause-last_call
+returns-then-length-clause-last_call g c = tt
+
+pub returns-then-length-2-clause-cause : goal.returns-then-length-2-clause-cause
+returns-then-length-2-clause-cause g c = record { later = c.length.ensures.cause.later; failed = tt; steady = c.in_ok-length.ensures.cause.steady }
+
+pub returns-then-length-2-clause-last_call : goal.returns-then-length-2-clause-last_call
+returns-then-length-2-clause-last_call g c = tt
+
+pub returns-in_err-read_at-clause-cause : goal.returns-in_err-read_at-clause-cause
+returns-in_err-read_at-clause-cause g c = has_cause (g.B.Bench.faults c.args.bench.now) (g.B.Bench.faults c.read_at.new.self) c.from_residual-in_err-read_at.result c.from_residual-in_err-read_at.ensures.0 (subst (λ (n : ℕ). n ≤ g.B.Bench.faults c.read_at.new.self) (c.in_ok-length.ensures.cause.steady) c.read_at.ensures.cause.later) (subst (λ (n : ℕ). Rose n (g.B.Bench.faults c.read_at.new.self)) (c.in_ok-length.ensures.cause.steady) c.in_err-read_at.ensures.cause.failed)
+
+pub returns-in_err-read_at-clause-last_call : goal.returns-in_err-read_at-clause-last_call
+returns-in_err-read_at-clause-last_call g c = on_err_always c.from_residual-in_err-read_at.result c.in_err-read_at.ensures.last_call
+
+pub returns-then-gate-eq1-clause-cause : goal.returns-then-gate-eq1-clause-cause
+returns-then-gate-eq1-clause-cause g c = record { later = subst (λ (n : ℕ). n ≤ g.B.Bench.faults c.read_at.new.self) (c.in_ok-length.ensures.cause.steady) c.read_at.ensures.cause.later; failed = tt; steady = c.in_ok-read_at.ensures.cause.steady ∙ c.in_ok-length.ensures.cause.steady }
+
+pub returns-then-gate-eq1-clause-last_call : goal.returns-then-gate-eq1-clause-last_call
+returns-then-gate-eq1-clause-last_call g c = tt
+
+pub returns-else-gate-eq1-clause-cause : goal.returns-else-gate-eq1-clause-cause
+returns-else-gate-eq1-clause-cause g c = record { later = subst (λ (n : ℕ). n ≤ g.B.Bench.faults c.read_at.new.self) (c.in_ok-length.ensures.cause.steady) c.read_at.ensures.cause.later; failed = tt; steady = c.in_ok-read_at.ensures.cause.steady ∙ c.in_ok-length.ensures.cause.steady }
+
+pub returns-else-gate-eq1-clause-last_call : goal.returns-else-gate-eq1-clause-last_call
+returns-else-gate-eq1-clause-last_call g c = tt
