@@ -1,7 +1,7 @@
 -- Calls on the file, one after the other: at every moment nothing was sent, and each image has some property.
 use Rattle.std.proofs.Common.{◌≡◌, ℕ, ◌≤◌, List, Result, Ok, Err, sym, subst, ◌∙◌}
-use Rattle.std.specs.Prelude.{OnErr}
-use Rattle.std.specs.Result.{IsErr}
+use Rattle.std.specs.Prelude.{IsErrOf, OnErr}
+use Rattle.std.specs.Result.{IsErr, IsErrAnd}
 use Rattle.std.proofs.lemmas.Bool.{false≢true}
 use Rattle.bench_core.specs.Causes.{HasCause, Rose}
 use Rattle.bench_core.specs.declared.bench.Bench.{Ghosts}
@@ -73,3 +73,15 @@ has_cause before now (Err e) is later rose = record { later = later; failed = ro
 pub on_err_always : {X E P : Type 0} (answer : Result X E) → P → OnErr answer P
 on_err_always (Ok x) holds = tt
 on_err_always (Err e) holds = holds
+
+-- a refusal has one fault, and an answer has none
+pub fault_is : {X E : Type 0} (answer : Result X E) (given : E) → IsErr answer × IsErrAnd answer (λ e. e ≡ given) → IsErrOf answer given
+fault_is (Ok x) given refuses = absurd (false≢true refuses.0)
+fault_is (Err e) given refuses = cc
+
+pub other_fault : {X E P : Type 0} (answer : Result X E) (given fault : E) → IsErr answer × IsErrAnd answer (λ e. e ≡ given) → (given ≡ fault → ⊥) → IsErrOf answer fault → P
+other_fault (Ok x) given fault refuses other is = absurd (false≢true refuses.0)
+other_fault (Err e) given fault refuses other is = let same : given ≡ fault = cc in absurd (other same)
+
+pub no_fault : {X E P : Type 0} (x : X) (e : E) → IsErrOf (Ok x) e → P
+no_fault x e is = let none : ⊥ = cc in absurd none

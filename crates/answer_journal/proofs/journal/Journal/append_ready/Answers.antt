@@ -1,8 +1,9 @@
-use Rattle.std.proofs.Common.{◌≡◌, ◌≤◌, ◌+◌, ℕ, length, arith, ap, sym, subst, ◌∙◌, length-append, ◌∷◌, []}
+use Rattle.std.proofs.Common.{◌≡◌, ◌≤◌, ◌+◌, ℕ, length, arith, refl, ap, sym, subst, ◌∙◌, length-append, ◌∷◌, []}
 use Rattle.std.proofs.lemmas.Grind.{common_steps}
 use Rattle.std.proofs.lemmas.Result.{IfOk-from_err}
 use Rattle.journal_form.specs.Journal.{StandsAt}
 use Rattle.answer_journal.specs.Contents.{JournalContents}
+use Rattle.answer_journal.proofs.FileCalls.{has_cause, on_err_always}
 use Rattle.answer_journal.proofs.Histories.{at_every_moment, at_end}
 use Rattle.answer_journal.proofs.journal.Journal.append_ready.Goals as goal
 
@@ -76,3 +77,41 @@ returns-in_err-append_bytes-clause-counted g c = IfOk-from_err _ _ c.from_residu
 
 pub returns-in_err-append_bytes-clause-usable : goal.returns-in_err-append_bytes-clause-usable
 returns-in_err-append_bytes-clause-usable g c = IfOk-from_err _ _ c.from_residual.ensures.0
+
+-- ---- the faults, and what was sent
+
+pub returns-in_err-append_bytes-clause-sent : goal.returns-in_err-append_bytes-clause-sent
+returns-in_err-append_bytes-clause-sent g c = c.append_bytes.ensures.sent
+
+pub returns-in_err-append_bytes-clause-cause : goal.returns-in_err-append_bytes-clause-cause
+returns-in_err-append_bytes-clause-cause g c = has_cause (g.B.Bench.faults c.args.bench.now) (g.B.Bench.faults c.append_bytes.new.bench) c.from_residual.result c.from_residual.ensures.0 c.append_bytes.ensures.cause.later c.in_err-append_bytes.ensures.cause.failed
+
+pub returns-in_err-append_bytes-clause-last_call : goal.returns-in_err-append_bytes-clause-last_call
+returns-in_err-append_bytes-clause-last_call g c = on_err_always c.from_residual.result c.in_err-append_bytes.ensures.last_call
+
+pub returns-in_err-append_bytes-clause-shape : goal.returns-in_err-append_bytes-clause-shape
+returns-in_err-append_bytes-clause-shape g c = ap (λ (j : JournalContents). j.shape) c.self.view_is
+
+pub returns-clause-sent : goal.returns-clause-sent
+returns-clause-sent g c = c.append_bytes.ensures.sent
+
+pub returns-clause-quiet : goal.returns-clause-quiet
+returns-clause-quiet g c = λ told. c.in_ok-append_bytes.ensures.quiet told
+
+pub returns-clause-ticks : goal.returns-clause-ticks
+returns-clause-ticks g c = λ told. c.in_ok-append_bytes.ensures.ticks told
+
+pub returns-clause-cause : goal.returns-clause-cause
+returns-clause-cause g c = record { later = c.append_bytes.ensures.cause.later; failed = tt; steady = c.in_ok-append_bytes.ensures.cause.steady }
+
+pub returns-clause-last_call : goal.returns-clause-last_call
+returns-clause-last_call g c = tt
+
+pub returns-clause-unusable : goal.returns-clause-unusable
+returns-clause-unusable g c = tt
+
+pub returns-clause-usable : goal.returns-clause-usable
+returns-clause-usable g c = refl
+
+pub returns-clause-shape : goal.returns-clause-shape
+returns-clause-shape g c = ap (λ (j : JournalContents). j.shape) c.self.view_is
