@@ -1,8 +1,13 @@
 -- What a refusal of the store says, by its fault.
-use Rattle.std.proofs.Common.{◌≡◌, Result, Ok, Err, ap}
-use Rattle.std.specs.Prelude.{IsErrOf}
+use Rattle.std.proofs.Common.{◌≡◌, refl, Result, Ok, Err, ap}
+use Rattle.std.specs.Prelude.{IsErrOf, OnOk}
 use Rattle.std.specs.Result.{IsErr, IsErrAnd}
 use Rattle.std.proofs.lemmas.Bool.{false≢true}
+use Rattle.answer_journal.specs.declared.journal.BackFault.{BackFault}
+use Rattle.answer_journal.specs.declared.journal.BackFault.TheVariants as back
+use Rattle.audit_store.specs.declared.starting.StartFault.{StartFault}
+use Rattle.audit_store.specs.declared.starting.StartFault.TheVariants as start
+use Rattle.audit_store.specs.Starting.{start_fault}
 use Rattle.audit_store.specs.declared.outcome.StoreFault.{StoreFault}
 use Rattle.audit_store.specs.declared.outcome.StoreFault.TheVariants.{Failed, NoMemory}
 
@@ -41,3 +46,22 @@ answer_is {X} {Y} given fault (Err e) refuses is = let same : e ≡ fault = cc i
   where
     err : StoreFault → Result X StoreFault
     err f = Err f
+
+-- ---- a store that was not started
+
+pub on_ok_always : {X E P : Type 0} (answer : Result X E) → P → OnOk answer P
+on_ok_always (Ok x) holds = holds
+on_ok_always (Err e) holds = tt
+
+-- a call failed where the journal was read, and nowhere else
+pub read_failed : {X Y : Type 0} (read : BackFault) (fault : StartFault) → fault ≡ start_fault read → IsErrOf {T = X} (Err fault) start.Failed → IsErrOf {T = Y} (Err read) back.Failed
+read_failed back.NotMade fault same is = let none : ⊥ = cc in absurd none
+read_failed (back.Damaged at) fault same is = let none : ⊥ = cc in absurd none
+read_failed back.Failed fault same is = refl
+read_failed back.NoMemory fault same is = let none : ⊥ = cc in absurd none
+
+pub start_failed : {X Y : Type 0} (read : BackFault) (fault : StartFault) → fault ≡ start_fault read → IsErrOf {T = Y} (Err read) back.Failed → IsErrOf {T = X} (Err fault) start.Failed
+start_failed back.NotMade fault same is = let none : ⊥ = cc in absurd none
+start_failed (back.Damaged at) fault same is = let none : ⊥ = cc in absurd none
+start_failed back.Failed fault same is = cc
+start_failed back.NoMemory fault same is = let none : ⊥ = cc in absurd none

@@ -27,3 +27,29 @@ returns-in-Full-clause-outcome c =
 
 pub returns-in-Full-clause-history : goal.returns-in-Full-clause-history
 returns-in-Full-clause-history c = ap (λ (a : Audited). a.history) c.in_ok-answer.ensures.same ∙ sym (append-nil c.args.core.now.history)
+
+-- ---- no record is made
+
+pub returns-in-Denied-clause-outcome : goal.returns-in-Denied-clause-outcome
+returns-in-Denied-clause-outcome c = subst (λ (o : Outcome). IsOutcome (secret_table c.args.secret.now) c.args.core.now.history c.args.asked.now o) c.in-Denied.is c.in_ok-answer.ensures.outcome
+
+pub returns-in-Denied-clause-history : goal.returns-in-Denied-clause-history
+returns-in-Denied-clause-history c = ap (λ (a : Audited). a.history) c.in_ok-answer.ensures.same ∙ sym (append-nil c.args.core.now.history)
+
+pub returns-in-Denied-clause-legal : goal.returns-in-Denied-clause-legal
+returns-in-Denied-clause-legal c = subst (λ (h : List Answered). IsLegal (secret_table c.args.secret.now) h) (sym (ap (λ (a : Audited). a.history) c.in_ok-answer.ensures.same)) c.requires.legal
+
+pub returns-in-Denied-clause-kept : goal.returns-in-Denied-clause-kept
+returns-in-Denied-clause-kept c = tt
+
+pub returns-in-Denied-clause-setting : goal.returns-in-Denied-clause-setting
+returns-in-Denied-clause-setting c = ap (λ (a : Audited). a.setting) c.in_ok-answer.ensures.same
+
+pub returns-in-Full-clause-legal : goal.returns-in-Full-clause-legal
+returns-in-Full-clause-legal c = subst (λ (h : List Answered). IsLegal (secret_table c.args.secret.now) h) (sym (ap (λ (a : Audited). a.history) c.in_ok-answer.ensures.same)) c.requires.legal
+
+pub returns-in-Full-clause-kept : goal.returns-in-Full-clause-kept
+returns-in-Full-clause-kept c = tt
+
+pub returns-in-Full-clause-setting : goal.returns-in-Full-clause-setting
+returns-in-Full-clause-setting c = ap (λ (a : Audited). a.setting) c.in_ok-answer.ensures.same

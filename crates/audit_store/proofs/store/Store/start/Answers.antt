@@ -6,6 +6,8 @@ use Rattle.audit_store.specs.declared.starting.StartFault.{StartFault}
 use Rattle.audit_store.specs.Starting.{HistoryCause, GivesUp}
 use Rattle.table_load.specs.Database.{secret_table}
 use Rattle.audit_store.proofs.Causes.{gave_up, cause_in_file, due_of_reading, due_of_history}
+use Rattle.audit_store.specs.Refusals.{no_refusal}
+use Rattle.audit_store.proofs.StoreFaults.{on_ok_always, read_failed, start_failed}
 use Rattle.audit_store.proofs.store.Store.start.Goals as goal
 
 pub returns-in-Ok-clause-cause : goal.returns-in-Ok-clause-cause
@@ -73,3 +75,35 @@ returns-in-Err-clause-untouched g c = c.read_back.ensures.untouched
 
 pub returns-in-Err-clause-later : goal.returns-in-Err-clause-later
 returns-in-Err-clause-later g c = c.read_back.ensures.later
+
+-- ---- the faults
+
+pub returns-in-Ok-clause-ticks : goal.returns-in-Ok-clause-ticks
+returns-in-Ok-clause-ticks g c = λ told. on_ok_always c.opened.result (c.in-Ok.ensures.ticks told)
+
+pub returns-in-Ok-clause-failed : goal.returns-in-Ok-clause-failed
+returns-in-Ok-clause-failed g c = λ is. absurd (IfErr-at_err (λ (f : StartFault). HistoryCause f c.in-Ok.journal.shape c.deref.result.now c.args.secret) is c.opened.ensures.err)
+
+pub returns-in-Ok-clause-last_call : goal.returns-in-Ok-clause-last_call
+returns-in-Ok-clause-last_call g c = λ is. absurd (IfErr-at_err (λ (f : StartFault). HistoryCause f c.in-Ok.journal.shape c.deref.result.now c.args.secret) is c.opened.ensures.err)
+
+pub returns-in-Ok-clause-steady : goal.returns-in-Ok-clause-steady
+returns-in-Ok-clause-steady g c = λ other. c.in-Ok.ensures.steady (λ is. no_refusal _ _ is)
+
+pub returns-in-Err-clause-store : goal.returns-in-Err-clause-store
+returns-in-Err-clause-store g c = tt
+
+pub returns-in-Err-clause-stands : goal.returns-in-Err-clause-stands
+returns-in-Err-clause-stands g c = λ told. tt
+
+pub returns-in-Err-clause-ticks : goal.returns-in-Err-clause-ticks
+returns-in-Err-clause-ticks g c = λ told. tt
+
+pub returns-in-Err-clause-failed : goal.returns-in-Err-clause-failed
+returns-in-Err-clause-failed g c = λ is. c.in-Err.ensures.failed (read_failed c.in-Err.fault c.from.result c.from.ensures is)
+
+pub returns-in-Err-clause-last_call : goal.returns-in-Err-clause-last_call
+returns-in-Err-clause-last_call g c = λ is. c.in-Err.ensures.last_call (read_failed c.in-Err.fault c.from.result c.from.ensures is)
+
+pub returns-in-Err-clause-steady : goal.returns-in-Err-clause-steady
+returns-in-Err-clause-steady g c = λ other. c.in-Err.ensures.steady (λ is. other (start_failed c.in-Err.fault c.from.result c.from.ensures is))
