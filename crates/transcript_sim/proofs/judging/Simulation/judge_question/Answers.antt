@@ -51,3 +51,20 @@ returns-in_err-send_verdict-clause-unjudged g c =
 
 pub returns-clause-cuts : goal.returns-clause-cuts
 returns-clause-cuts g c = c.next_question.ensures.cuts
+
+-- ---- what stays
+
+pub returns-in_err-expected-clause-same : goal.returns-in_err-expected-clause-same
+returns-in_err-expected-clause-same g c = c.next_question.ensures.same
+
+pub returns-in_err-expected-clause-cuts : goal.returns-in_err-expected-clause-cuts
+returns-in_err-expected-clause-cuts g c = c.next_question.ensures.cuts
+
+pub returns-in_err-send_verdict-clause-same : goal.returns-in_err-send_verdict-clause-same
+returns-in_err-send_verdict-clause-same g c = c.next_question.ensures.same
+
+pub returns-clause-same : goal.returns-clause-same
+returns-clause-same g c = c.next_question.ensures.same
+
+pub returns-clause-unjudged : goal.returns-clause-unjudged
+returns-clause-unjudged g c = tt
