@@ -9,7 +9,7 @@ use Rattle.journal_audit.specs.Reports.{audit_of, row_of, SendsLinesOn}
 use Rattle.journal_audit.proofs.FreeColumns.{lists_of_records, same_n, sets_same_n}
 use Rattle.journal_audit.proofs.LinesOn.{refusal_is, no_lines, no_memory, line_on, and_then, refused_among}
 use Rattle.journal_audit.proofs.RowLines.{is_row_line, not_pinned_here, row_among}
-use Rattle.journal_audit.proofs.SecretNames.{name_is}
+use Rattle.journal_audit.proofs.SecretNames.{name_is, place_below}
 use Rattle.journal_audit.proofs.Subjects.{rows_before, rows_before-more}
 use Rattle.journal_audit.proofs.reporting.send_rows.Goals as goal
 
@@ -92,3 +92,6 @@ returns g c =
     let audit = audit_of c.args.schema.now.columns c.args.store.now in
     let all : c.loop-row.row ≡ audit.shape.rows = omega (arith, c.loop-row-test.false, c.loop-row.auto.row-end, c.n-row-end.ensures.n, c.requires.part.n) in
     subst (λ n. SendsLinesOn g.B.Bench audit (rows_before c.args.column n) c.args.bench.now c.loop-row.bench (Ok tt)) all c.loop-row.invariant
+
+pub name-name-requires : goal.name-name-requires
+name-name-requires g c = place_below c.args.schema.now.columns c.args.place c.args.column c.requires.named

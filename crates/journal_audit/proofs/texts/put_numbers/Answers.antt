@@ -1,5 +1,7 @@
-use Rattle.std.proofs.Common.{◌≡◌, ◌++◌, ◌∙◌, sym, ap, arith, ℤ, pos, get_or, take, map, to_z, of_z}
+use Rattle.std.proofs.Common.{◌≡◌, ◌++◌, ◌∙◌, refl, sym, ap, arith, List, append-nil, ℤ, pos, get_or, take, map, to_z, of_z}
 use Rattle.std.proofs.lemmas.Int.{to_z-of_z}
+use Rattle.std.proofs.lemmas.List.{take_all}
+use Rattle.std.proofs.lemmas.Result.{IfOk-from_err}
 use Rattle.std.specs.Fmt.{signed_decimal}
 use mir.Syntax.{w128}
 use Rattle.journal_audit.specs.Texts.{with_commas}
@@ -24,3 +26,14 @@ loop-number-preserved c =
           ∙ ap (λ t. before ++ with_commas t) (sym more);
       none_before = sym (ap is_none more ∙ is_none-snoc texts (signed_decimal x));
     }
+
+pub loop-number-init : goal.loop-number-init
+loop-number-init c = record { so_far = sym (append-nil c.args.line.now.items); none_before = refl }
+
+pub returns-in_err-put_number : goal.returns-in_err-put_number
+returns-in_err-put_number c = IfOk-from_err _ _ c.from_residual.ensures.0
+
+pub returns : goal.returns
+returns c =
+    let all = take_all c.loop-number.number-index c.args.numbers.now (omega (arith, c.loop-number-test.false)) in
+    c.loop-number.invariant.so_far ∙ ap (λ (l : List ℤ). c.args.line.now.items ++ with_commas (map signed_decimal l)) all
