@@ -61,7 +61,7 @@ place_text fault.TooManyRows = codes ""
 place_text fault.NoRows = codes ""
 place_text fault.NoMemory = codes ""
 
--- the words of a status that tells no number
+-- the words of a status that tells no number, none where it is done
 abbrev pub words_of : Status → List ℕ
 words_of BadWords = codes "usage: auditor init, serve [--batch N], audit, simulate, drill N"
 words_of (SourceFault Schema) = codes "cannot read schema"
@@ -76,23 +76,14 @@ words_of other = codes ""
 
 -- what the program tells of it
 abbrev pub status_text : Status → List ℕ
-status_text Done = codes ""
-status_text BadWords = codes "usage: auditor init, serve [--batch N], audit, simulate, drill N"
 status_text (BadSchema fault) = codes "schema: fault " ++ decimal (schema.fault_number fault)
 status_text (BadTable fault) = codes "table: fault " ++ decimal (table.fault_number fault) ++ place_text fault
-status_text (SourceFault Schema) = codes "cannot read schema"
-status_text (SourceFault Table) = codes "cannot read table"
-status_text (SourceFault Input) = codes "cannot read input"
-status_text BenchFault = codes "journal or output failed"
-status_text NotMade = codes "no journal"
-status_text AlreadyThere = codes "journal is already there"
 status_text (Damaged at) = codes "journal damaged at byte " ++ decimal at
 status_text (OtherShape kept now) = codes "journal is of another table: rows " ++ decimal kept.rows ++ codes ", now " ++ decimal now.rows
 status_text (Untrue place kept now) = codes "record " ++ (decimal place ++ (codes " holds " ++ (signed_decimal kept ++ (codes ", table gives " ++ signed_decimal now))))
 status_text (Illegal place) = codes "record " ++ decimal place ++ codes " should not have been released"
-status_text InputLimit = codes "input is too long"
 status_text (Disagrees line due) = codes "line " ++ (decimal line ++ (codes " disagrees, due " ++ word_of due))
-status_text NoMemory = codes "out of memory"
+status_text other = words_of other
 
 -- ---- the status that a fault of a step comes to
 
