@@ -1,4 +1,4 @@
-use Rattle.std.proofs.Common.{rules, ◌∙◌, ◌≤◌, ℕ, refl, subst}
+use Rattle.std.proofs.Common.{rules, ◌≡◌, ◌∙◌, ◌++◌, ◌≤◌, ℕ, List, take, inl, ap, refl, subst, sym}
 use Rattle.bench_core.specs.Causes.{Rose}
 use Rattle.auditor_top.proofs.WholeFiles.{was_read, read_wanted, read_within}
 use Rattle.auditor_top.proofs.reading.read_all.Goals as goal
@@ -21,12 +21,19 @@ returns-in-Err g c = record {
 
 pub returns-in-Ok-eq0 : goal.returns-in-Ok-eq0
 returns-in-Ok-eq0 g c = record {
-  bytes = λ told. search rules;
+  bytes = λ told.
+      let read = c.in-Ok-eq0.ensures.bytes told in
+      let none : g.P.Source.left c.loop-piece.source ≡ g.P.Source.left c.read.new.self =
+      subst (λ (n : ℕ). g.P.Source.left c.loop-piece.source ≡ take n c.read.new.buf ++ g.P.Source.left c.read.new.self) c.in-Ok-eq0.field-0-test read.0 in
+      record {
+        split = c.loop-piece.invariant.bytes told ∙ ap (λ (left : List ℕ). c.loop-piece.bytes.items ++ left) none;
+        end = inl (sym none ∙ read.1.0 c.in-Ok-eq0.field-0-test);
+      };
   within = λ told is. absurd (was_read _ is);
   later = subst (λ (n : ℕ). n ≤ g.P.Source.faults c.read.new.self) c.loop-piece.invariant.steady c.read.ensures.cause.later;
   failed = λ is. absurd (was_read _ is);
   last_call = λ is. absurd (was_read _ is);
-  steady = λ fine. search rules;
+  steady = λ fine. c.in-Ok-eq0.ensures.cause.steady ∙ c.loop-piece.invariant.steady;
 }
 
 -- there was no memory for what was read
