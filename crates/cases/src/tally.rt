@@ -2,7 +2,7 @@
 use std::fmt;
 
 /// How many cases passed, how many differ that are there to differ, and how many failed.
-#[derive(Clone, Copy, Debug, Default)]
+#[derive(Clone, Copy, Default)]
 pub struct Tally {
     pub passed: u32,
     pub differing: u32,
