@@ -3,7 +3,7 @@
 use audit_types::Verdict;
 
 /// What becomes of a question after a history.
-#[derive(Clone, Copy, Debug, PartialEq, Eq)]
+#[derive(Clone, Copy)]
 pub enum Outcome {
     /// The true answer.
     Answer(i64),

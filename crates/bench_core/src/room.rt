@@ -2,7 +2,7 @@
 
 /// The most bytes of the file and of what is sent, the most calls, and the most bytes of pieces written to the file.
 /// A call that would pass one of them fails.
-#[derive(Clone, Copy, Debug, PartialEq, Eq)]
+#[derive(Clone, Copy)]
 pub struct Room {
     pub file: u64,
     pub sent: u64,

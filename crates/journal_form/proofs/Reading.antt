@@ -119,6 +119,11 @@ same_groups shape before (g ∷ gs) (h ∷ hs) x y p q some few ends stops e =
       behind = rest.behind;
     }
 
+-- shapes of as many rows and the same kinds are one
+same_shape : (shape other : Shape) → shape.rows ≡ other.rows → shape.kinds ≡ other.kinds → shape ≡ other
+same_shape shape other rows kinds =
+    ap (λ n. record { rows = n; kinds = shape.kinds }) rows ∙ ap (λ k. record { rows = other.rows; kinds = k }) kinds
+
 -- the header tells the shape
 record SameHeader (shape other : Shape) (x y : List ℕ) : Type 0 where
   shape_same : shape ≡ other
@@ -133,7 +138,7 @@ same_header shape other x y p q e =
     let behind : shape.kinds ++ x ≡ other.kinds ++ y = cc in
     let kinds = same_front shape.kinds other.kinds x y (p.eight ∙ sym q.eight) behind in
     record {
-      shape_same = ap (λ n. record { rows = n; kinds = shape.kinds }) rows ∙ ap (λ k. record { rows = other.rows; kinds = k }) kinds.0;
+      shape_same = same_shape shape other rows kinds.0;
       behind = kinds.1;
     }
 

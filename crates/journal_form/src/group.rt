@@ -16,14 +16,14 @@ const MOST_OF_RECORD: usize = 137;
 pub const MOST_FOR_RECORD: usize = 2 + MOST_OF_RECORD;
 
 /// The records of a group, in order, and the number of its bytes from its count byte on.
-#[derive(Debug, Drop)]
+#[derive(Drop)]
 pub struct Group {
     pub list: Vec<Answered>,
     pub size: u32,
 }
 
 /// Why a group could not be read.
-#[derive(Clone, Copy, Debug, PartialEq, Eq)]
+#[derive(Clone, Copy)]
 pub enum GroupFault {
     /// No group has this byte there, after those before it; or the bytes end at this place, within the group.
     Breaks { at: u32 },

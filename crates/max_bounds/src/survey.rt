@@ -11,7 +11,7 @@ use audit_types::RowSet;
 
 /// What `Bounds` would answer with one answer more: whether each answer has an extreme row, and the least row that is
 /// the only one of some answer.
-#[derive(Clone, Copy, Debug, PartialEq, Eq)]
+#[derive(Clone, Copy)]
 pub struct Trial {
     pub consistent: bool,
     pub lone: Option<u16>,

@@ -3,7 +3,7 @@ ghost use Rattle.std.specs.Prelude.{◌≡◌};
 ghost use Rattle.schema_json.specs.Faults.{fault_number};
 
 /// Why bytes are no schema, in the order in which the faults are looked for. docs/FORMATS.md tells each in words.
-#[derive(Clone, Copy, Debug, PartialEq, Eq, Drop)]
+#[derive(Clone, Copy, PartialEq, Eq, Drop)]
 pub enum SchemaFault {
     /// More than 65,536 bytes.
     TooLong,

@@ -2,7 +2,7 @@
 use audit_types::RowSet;
 
 /// The rows of a question that was answered, and the answer.
-#[derive(Clone, Copy, Debug)]
+#[derive(Clone, Copy)]
 pub struct AnsweredSum {
     pub rows: RowSet,
     pub answer: i64,
