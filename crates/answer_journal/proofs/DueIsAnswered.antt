@@ -41,12 +41,6 @@ fault_of_file file Failed tells is = tt
 fault_of_file file NoMemory tells is = tt
 
 module _ (file : List ℕ) where
-  pub gave_up_is_fault : (fault : BackFault) → GaveUp fault → IsFaultOf file fault
-  gave_up_is_fault NotMade gave = absurd gave
-  gave_up_is_fault (Damaged at) gave = absurd gave
-  gave_up_is_fault Failed gave = tt
-  gave_up_is_fault NoMemory gave = tt
-
   -- where no journal is made
   pub not_made_is_due : (fault : BackFault) → IsFaultOf file fault → (IsMade file → ⊥) → IsDueOrGaveUp NotMade fault
   not_made_is_due NotMade is unmade = inl refl

@@ -2,7 +2,7 @@
 use Rattle.std.proofs.Common.{◌≡◌, ℕ, ◌+◌, ◌<◌, ◌≤◌, Bool, true, false, not, ◌||◌, List, [], ◌∷◌, ◌++◌, length, Some, Result, Ok, refl, sym, ◌∙◌, ap, subst, arith, inl, inr, ◌⊎◌, ⊎_elim, append_assoc, length-append}
 use Rattle.std.specs.Prelude.{All}
 use Rattle.std.proofs.lemmas.List.{append-nil}
-use Rattle.std.proofs.lemmas.List.Elements.{All-nil, All-push}
+use Rattle.std.proofs.lemmas.List.Elements.{All-push}
 use Rattle.std.proofs.lemmas.List.Concat.{flat_map-append}
 use Rattle.audit_types.specs.declared.records.Asked.{Asked}
 use Rattle.bench_core.specs.declared.source.Source.{Ghosts}
@@ -12,7 +12,7 @@ use Rattle.table_load.specs.Cells.{PublicView}
 use Rattle.line_wire.specs.Lines.{CountedLine, counted_lines, whole_lines, most_input}
 use Rattle.line_wire.specs.Cutter.{Cutter, StopsAt}
 use Rattle.line_wire.specs.ReadLines.{IsRead, ReadsLines}
-use Rattle.line_wire.specs.LinesInTurn.{reads_none, reads_more}
+use Rattle.line_wire.specs.LinesInTurn.{reads_more}
 use Rattle.question_plan.specs.declared.planning.Plan.{Plan}
 use Rattle.question_plan.specs.Plans.{CanBeServed}
 use Rattle.audit_session.specs.Groups.{CutsShort, Gathers, GivesNext, question_in, questions_of}
@@ -32,23 +32,6 @@ pub record Gathering {P : Type 0} (source : Ghosts P) (columns : List Column) (p
   pub within : lines.taken ≤ most_input + length lines.pending
   pub once : old.ended ≡ true → lines.ended ≡ true
   pub steady : source.faults now ≡ source.faults first
-
--- before the first line
-pub nothing_gathered : {P : Type 0} (source : Ghosts P) (columns : List Column) (public : PublicView) (batch : ℕ) (lines : Cutter) (at : P)
-    → (source.told → lines.ended ≡ true → source.left at ≡ []) → lines.taken ≤ most_input + length lines.pending
-    → Gathering source columns public batch lines lines at at [] []
-nothing_gathered source columns public batch lines at same within = record {
-  gathers = record { lines = []; planned = tt; reads = λ told. reads_none (lines.pending ++ source.left at) lines.ended };
-  questions = refl;
-  served = All-nil (CanBeServed (shape_of columns public.rows));
-  most = omega arith;
-  takes = omega arith;
-  same = same;
-  taken = λ told. refl;
-  within = within;
-  once = λ ended. ended;
-  steady = refl;
-}
 
 module _ {P : Type 0} (source : Ghosts P) (columns : List Column) (public : PublicView) (batch : ℕ) (old lines : Cutter) (first now : P)
     (plans : List Plan) (asked : List Asked) (so_far : Gathering source columns public batch old lines first now plans asked) where

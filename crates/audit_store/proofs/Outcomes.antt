@@ -1,9 +1,8 @@
 -- Outcomes of questions that are decided one after the other.
-use Rattle.std.proofs.Common.{◌≡◌, ℕ, ◌≤◌, List, [], ◌∷◌, ◌++◌, length, take, drop, sym, ap, subst, ◌∙◌, arith, append_assoc, append-nil, length-append}
+use Rattle.std.proofs.Common.{◌≡◌, ◌≤◌, List, [], ◌∷◌, ◌++◌, length, take, sym, ap, subst, ◌∙◌, arith, append_assoc, append-nil, length-append}
 use Rattle.std.proofs.Math.Seq.{take-append_seam}
 use Rattle.std.specs.Option.{option_to_list}
 use Rattle.std.specs.Prelude.{Option, Some, None}
-use Rattle.std.proofs.lemmas.List.{drop_at}
 use Rattle.audit_types.specs.declared.records.Asked.{Asked}
 use Rattle.audit_types.specs.declared.records.Answered.{Answered}
 use Rattle.audit_types.specs.History.{Table}
@@ -43,11 +42,6 @@ few_made [] outcomes = omega arith
 few_made (a ∷ questions) [] = omega arith
 few_made (a ∷ questions) (o ∷ outcomes) =
     omega (arith, few_made questions outcomes, at_most_one (record_of a o), length-append (option_to_list (record_of a o)) (records_made questions outcomes))
-
--- what stands after the history
-pub behind_history : (history records grown : List Answered) (released : ℕ) → released ≡ length history → grown ≡ history ++ records →
-    drop released grown ≡ records
-behind_history history records grown released long is = ap (λ h. drop released h) is ∙ drop_at history records released (sym long)
 
 -- a history with more records begins with the old one
 pub grown_begins : (old more new : List Answered) → new ≡ old ++ more → take (length old) new ≡ old

@@ -1,5 +1,5 @@
 -- A walk takes the lowest bit that is left of the first word that has one: the first row that is left.
-use Rattle.std.proofs.Common.{◌≡◌, ◌≢◌, ℕ, ◌+◌, ◌*◌, ◌/◌, ◌%◌, ◌^◌, ◌<◌, ◌≤◌, Bool, true, false, cond, ◌&&◌, List, [], ◌∷◌, ◌==◌, refl, sym, ap, ◌∙◌, arith, length, get_or, inl, inr, bit_and, w64}
+use Rattle.std.proofs.Common.{◌≡◌, ◌≢◌, ℕ, ◌+◌, ◌*◌, ◌/◌, ◌%◌, ◌^◌, ◌<◌, ◌≤◌, true, false, cond, ◌&&◌, List, [], ◌∷◌, ◌==◌, refl, sym, ap, ◌∙◌, arith, length, get_or, inl, inr, bit_and, w64}
 use Rattle.std.specs.Prelude.{Some, nat_lt}
 use Rattle.std.specs.Iterator.{MakesProgress, item_count}
 use Rattle.std.specs.Int.{bit_at, bit_not, trailing_zeros}
@@ -13,11 +13,6 @@ use Rattle.audit_types.specs.declared.row_iter.Spot.{Spot}
 -- no bit in a word that is 0
 pub no_bit_in : (words : List ℕ) (r : ℕ) → get_or words (r / 64) 0 ≡ 0 → has_bit words r ≡ false
 no_bit_in words r e = ap (λ x. bit_at x (r % 64) == 1) e ∙ ap (λ x. x == 1) (bit_at-zero (r % 64))
-
--- a test and none
-and_none : (b : Bool) → (b && false) ≡ false
-and_none true = refl
-and_none false = refl
 
 -- a row of the word at the spot
 at_spot : (words : List ℕ) (spot : Spot) (r : ℕ) → r / 64 ≡ spot.place → is_left words spot r ≡ (bit_at spot.word (r % 64) == 1)

@@ -1,7 +1,7 @@
 -- What was sent of a report's lines, and what more of them makes of it.
 use Rattle.std.proofs.Common.{◌≡◌, ℕ, ◌+◌, List, [], ◌∷◌, ◌++◌, length, take, refl, sym, ap, ◌∙◌, subst, append_assoc}
 use Rattle.std.proofs.lemmas.List.{append-nil}
-use Rattle.std.proofs.Math.Seq.{take-length, take-append-add}
+use Rattle.std.proofs.Math.Seq.{take-append-add}
 use Rattle.std.specs.List.{concat}
 use Rattle.bench_core.specs.Bench.{AppendsFront}
 use Rattle.journal_audit.specs.Reports.{Audit, Subject, IsLineOn, AreLinesOn, Sends, SendsFront}
@@ -44,17 +44,6 @@ sent_then audit xs ys a b c first second = record {
   sent_is =
       second.sent_is ∙ ap (λ l. l ++ concat second.lines) first.sent_is ∙ append_assoc a (concat first.lines) (concat second.lines)
       ∙ ap (λ l. a ++ l) (sym (concat-append first.lines second.lines));
-}
-
--- whole lines are a front of them
-pub whole_front : (audit : Audit) (xs : List Subject) (a b : List ℕ) → Sends audit xs a b → SendsFront audit xs a b
-whole_front audit xs a b sends = record {
-  first = xs;
-  others = [];
-  all = sym (append-nil xs);
-  lines = sends.lines;
-  are = sends.are;
-  sent = (length (concat sends.lines), sends.sent_is ∙ ap (λ l. a ++ l) (sym (take-length (concat sends.lines))));
 }
 
 -- a front of the first lines is one of all

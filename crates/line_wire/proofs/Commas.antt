@@ -18,10 +18,6 @@ is_comma b = b == 44
 abbrev pub IsCommaless : List ℕ → Type 0
 IsCommaless = AllByRecursion (λ b. is_comma b ≡ false)
 
-commaless-append : (xs ys : List ℕ) → IsCommaless xs → IsCommaless ys → IsCommaless (xs ++ ys)
-commaless-append [] ys first second = second
-commaless-append (x ∷ xs) ys first second = (first.0, commaless-append xs ys first.1 second)
-
 by_place : (xs : List ℕ) → ((i : ℕ) → i < length xs → get_or xs i 0 ≢ 44) → IsCommaless xs
 by_place [] none = tt
 by_place (x ∷ xs) none = (ne_eqb x 44 (none 0 (omega arith)), by_place xs (λ i within. none (suc i) (omega arith)))

@@ -241,10 +241,6 @@ is_string : (o : Option (List ℕ)) → may_be_text (option_map string o) ≡ tr
 is_string None = refl
 is_string (Some s) = refl
 
-own_text : (o : Option (List ℕ)) → option_and_then as_str (option_map string o) ≡ o
-own_text None = refl
-own_text (Some s) = refl
-
 -- the question of a value by what is found in it
 written : (d : Data) (text word : List ℕ) (ask : Ask) (user column : Option (List ℕ)) → has_known_keys (as_object d) ≡ true
     → get (codes "user") d ≡ option_map string user → get (codes "where") d ≡ Some (string text)

@@ -4,7 +4,7 @@ use Rattle.std.specs.Prelude.{◌<ℤ◌, ◌≤ℤ◌}
 use Rattle.std.proofs.lemmas.Int.{ints, by_lt_z}
 use Rattle.std.specs.List.{AllByRecursion}
 use Rattle.audit_types.specs.Column.{Answer, IsOneOf}
-use Rattle.max_bounds.specs.Outside.{IsStranded, HasStranded, IsWithin, HasWithin}
+use Rattle.max_bounds.specs.Outside.{IsStranded, IsWithin, HasWithin}
 use Rattle.max_bounds.specs.Kept.{Matters, left_of, IsMost, IsLost}
 use Rattle.max_bounds.specs.AnswerLaws.{one_of_front, one_of_last, front_or_last}
 use Rattle.max_bounds.specs.declared.stranding.Lost.{Lost}
@@ -102,27 +102,7 @@ lost_after seen (x ∷ rest) rows top lost h not low =
     subst (λ l. IsLost l rows lost) (append_assoc seen (x ∷ []) rest)
     (lost_after (seen ++ x ∷ []) rest rows top lost (lost_passed seen rows x lost h (λ matters. not (matters_above lost x.value top low.0 matters))) not low.1)
 
--- at the end: where the greatest answer has a set with one row left, and none held whole, that is stranded
-pub stranded_from : (sets : List Answer) (rows : List ℕ) (v : ℤ) → IsLost sets rows (AllButOne v) → HasStranded (λ b. b.rows) sets rows
-stranded_from sets rows v h = (h.0.0, h.0.1)
-
--- and nowhere else
-pub none_from_neither : (sets : List Answer) (rows : List ℕ) → IsLost sets rows Neither → HasStranded (λ b. b.rows) sets rows → ⊥
-none_from_neither sets rows h (a, stranded) = let more = h a stranded.one in let one = stranded.one_left in absurd (omega arith)
-
-pub none_from_whole : (sets : List Answer) (rows : List ℕ) (v : ℤ) → IsLost sets rows (Whole v) → HasStranded (λ b. b.rows) sets rows → ⊥
-none_from_whole sets rows v h (a, stranded) =
-    let lower = stranded.lower h.0.0 h.0.1 h.0.2 in
-    let one = stranded.one_left in
-    let low = h.1 a stranded.one (omega arith) in
-    let is = h.0.3 in
-    absurd (omega (arith, ints))
-
--- no set of none lies within
-pub within-none : (rows : List ℕ) (value : ℤ) → HasWithin [] rows value → ⊥
-within-none rows value (a, one, is) = one
-
--- nor of more, where neither the sets before nor the last does
+-- no set lies within, where neither one before nor the last does
 pub within-push : (seen : List Answer) (x : Answer) (rows : List ℕ) (value : ℤ) → (HasWithin seen rows value → ⊥) → (IsWithin rows value x → ⊥) →
     HasWithin (seen ++ x ∷ []) rows value → ⊥
 within-push seen x rows value before last (a, one, is) = elim (front_or_last seen x a one) [

@@ -1,5 +1,5 @@
 -- What a request comes to can be served.
-use Rattle.std.proofs.Common.{◌≡◌, ℕ, ◌≤◌, true, List, [], ◌∷◌, refl, arith}
+use Rattle.std.proofs.Common.{◌≡◌, ℕ, ◌≤◌, List, [], ◌∷◌, refl, arith}
 use Rattle.audit_types.specs.Limits.{most_rows}
 use Rattle.audit_types.specs.Rows.{AreRows}
 use Rattle.audit_types.specs.RowLaws.{AreRows-rows_that, length-rows}
@@ -14,7 +14,7 @@ use Rattle.line_wire.specs.declared.question.Take.TheVariants.{Sum, Avg, Max}
 use Rattle.line_wire.specs.declared.request.Request.{Request}
 use Rattle.line_wire.specs.declared.request.Request.TheVariants as request
 use Rattle.question_plan.specs.Replies.{plan_of, question_over}
-use Rattle.question_plan.specs.Plans.{CanBeServed, condition_of}
+use Rattle.question_plan.specs.Plans.{CanBeServed}
 
 module _ (schema : List Column) (public : PublicView) where
   question_served : (take : Take) (column : ℕ) (rows : List ℕ) → HasSecret schema column (kind_for take) → AreRows public.rows rows →
@@ -30,10 +30,3 @@ module _ (schema : List Column) (public : PublicView) where
   request_served (request.Sum c p) can few = question_served Sum c (meaning public (tree_of p)) can.0 (AreRows-rows_that _ public.rows)
   request_served (request.Avg c p) can few = question_served Avg c (meaning public (tree_of p)) can.0 (AreRows-rows_that _ public.rows)
   request_served (request.Max c p) can few = question_served Max c (meaning public (tree_of p)) can.0 (AreRows-rows_that _ public.rows)
-
--- its condition fits the schema
-pub condition_fits : (schema : List Column) (r : Request) → CanBeAsked schema r → fits schema (condition_of r) ≡ true
-condition_fits schema (request.Count p) can = can
-condition_fits schema (request.Sum c p) can = can.1
-condition_fits schema (request.Avg c p) can = can.1
-condition_fits schema (request.Max c p) can = can.1

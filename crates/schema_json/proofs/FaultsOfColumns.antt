@@ -81,13 +81,6 @@ pub checked_many : (es : Entries) → list_any (λ c. not (is_secret c.1)) es �
 checked_many es some good once many =
     past_once es some good once ∙ ap (λ b. if b then Err TooMany else Ok (map column_of_entry es)) (sym (many_of_entries es) ∙ many)
 
--- columns that pass every test are meant
-pub checked_fine : (es : Entries) → list_any (λ c. not (is_secret c.1)) es ≡ true → list_all (λ c. is_good_name (string_bytes c.0)) es ≡ true
-    → repeats (map column_of_entry es) ≡ false
-    → (nat_lt 32 (length es) || nat_lt 8 (count_by (λ c. is_secret c.1) es)) ≡ false → checked (with_public (map column_of_entry es)) ≡ Ok (map column_of_entry es)
-checked_fine es some good once few =
-    past_once es some good once ∙ ap (λ b. if b then Err TooMany else Ok (map column_of_entry es)) (sym (many_of_entries es) ∙ few)
-
 -- columns that pass every test are those of a schema
 pub are_columns : (es : Entries) → list_any (λ c. not (is_secret c.1)) es ≡ true → list_all (λ c. is_good_name (string_bytes c.0)) es ≡ true
     → repeats (map column_of_entry es) ≡ false

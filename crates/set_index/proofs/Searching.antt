@@ -1,7 +1,7 @@
 -- Rows that are sorted by value and then by row: by a stable sort, and as they are searched for a value.
 use Rattle.std.proofs.Common.{◌≡◌, ℕ, zero, suc, ◌+◌, ◌≤◌, Bool, true, false, List, [], ◌∷◌, get_or, refl, ap, ◌∙◌, sym, subst, arith}
 use Rattle.std.proofs.lemmas.Bool.{false≢true}
-use Rattle.std.proofs.lemmas.Cmp.{then_total, on_total, nat_cmp_total}
+use Rattle.std.proofs.lemmas.Cmp.{nat_cmp_total}
 use Rattle.std.specs.Cmp.{nat_cmp_is}
 use Rattle.std.proofs.lemmas.List.Sorted.{ranks_by, searchable_from_sorted, ties_stay_sorted}
 use Rattle.std.specs.Cmp.{IsTotalOrder, IsStrictWeakOrder}
@@ -52,9 +52,6 @@ module _ {K : Type 0} {R : K → K → Ordering} (o : IsTotalOrder R) (key : ℕ
   -- whether a row comes before another, by value and then by row
   abbrev comes_before : ℕ → ℕ → Bool
   comes_before r s = is_lt (ordering_then (R (key r) (key s)) (nat_cmp r s))
-
-  pub is_an_order : IsStrictWeakOrder comes_before
-  is_an_order = ranks_by (then_total (on_total key o) nat_cmp_total) (λ r. r)
 
   -- whether a row comes before another by value alone
   abbrev is_less : ℕ → ℕ → Bool

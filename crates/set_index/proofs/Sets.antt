@@ -1,8 +1,5 @@
 -- Sets of rows that pass tests: combined, they pass the combined test.
-use Rattle.std.proofs.Common.{◌≡◌, ℕ, ◌+◌, ◌<◌, Bool, true, false, cond, ◌&&◌, ◌||◌, not, List, [], ◌∷◌, ◌++◌, nat_lt, length, take, get_or, refl, sym, ap, ◌∙◌, arith, inl, inr}
-use Rattle.std.proofs.lemmas.Bool.{lt-ltb, cases_eq}
-use Rattle.std.proofs.lemmas.Bool.Decides.{nat_tests}
-use Rattle.std.specs.Prelude.{◌==◌}
+use Rattle.std.proofs.Common.{◌≡◌, ℕ, ◌+◌, ◌<◌, Bool, true, false, ◌&&◌, ◌||◌, not, List, [], ◌∷◌, ◌++◌, length, take, get_or, refl, sym, ap, ◌∙◌}
 use Rattle.std.specs.List.{list_any}
 use Rattle.std.proofs.lemmas.List.{take_more}
 use Rattle.table_load.specs.Cells.{PublicView}
@@ -11,16 +8,12 @@ use Rattle.predicate_lang.specs.Trees.{Tree, negation, both, either}
 use Rattle.predicate_lang.specs.declared.trees.Op.TheVariants.{Eq}
 use Rattle.predicate_lang.specs.declared.trees.Literal.{Literal}
 use Rattle.set_index.specs.Asked.{row_at, meaning, meets, meets_any}
-use Rattle.audit_types.specs.Rows.{has_row, rows_that, intersection, union, complement, with_row}
+use Rattle.audit_types.specs.Rows.{has_row, rows_that, intersection, union, complement}
 use Rattle.audit_types.specs.RowLaws.{rows_that_agree, has-rows_that, rows_that_none}
 
 -- the rows that don't pass
 pub complement_of : (n : ℕ) (f : ℕ → Bool) → complement n (rows_that f n) ≡ rows_that (λ r. not (f r)) n
 complement_of n f = rows_that_agree (λ r. not (has_row (rows_that f n) r)) (λ r. not (f r)) n (λ r low. ap not (has-rows_that f n r low))
-
--- no row is not there
-pub complement_none : (n : ℕ) → complement n [] ≡ rows_that (λ r. true) n
-complement_none n = refl
 
 -- the rows that pass both
 pub both_of : (n : ℕ) (f g : ℕ → Bool) → intersection n (rows_that f n) (rows_that g n) ≡ rows_that (λ r. f r && g r) n
@@ -33,58 +26,6 @@ pub either_of : (n : ℕ) (f g : ℕ → Bool) → union n (rows_that f n) (rows
 either_of n f g =
     rows_that_agree (λ r. has_row (rows_that f n) r || has_row (rows_that g n) r) (λ r. f r || g r) n
     (λ r low. ap (λ b. b || has_row (rows_that g n) r) (has-rows_that f n r low) ∙ ap (λ b. f r || b) (has-rows_that g n r low))
-
--- ---- the rows below a place that pass
-
-abbrev pub passing_below : ℕ → (ℕ → Bool) → ℕ → List ℕ
-passing_below k f n = rows_that (λ r. nat_lt r k && f r) n
-
-pub passing_below_none : (n : ℕ) (f : ℕ → Bool) → passing_below 0 f n ≡ []
-passing_below_none n f = rows_that_none (λ r. nat_lt r 0 && f r) n (λ r low. ap (λ b. b && f r) (not_below r))
-  where
-    not_below : (r : ℕ) → nat_lt r 0 ≡ false
-    not_below r = grind (arith, nat_tests)
-
-pub passing_below_all : (n : ℕ) (f : ℕ → Bool) → passing_below n f n ≡ rows_that f n
-passing_below_all n f = rows_that_agree (λ r. nat_lt r n && f r) f n (λ r low. ap (λ b. b && f r) (lt-ltb r n low))
-
-at_more : (k r : ℕ) (b c : Bool) → b ≡ true → (r ≡ k → c ≡ b) → ((nat_lt r k && c) || (r == k)) ≡ (nat_lt r (k + 1) && c)
-at_more k r b c passes same = elim (cases_eq r k) [
-  | inl e ↦ (let here : c ≡ true = same e ∙ passes in grind (arith, nat_tests))
-  | inr e ↦ grind (arith, nat_tests)
-]
-
-pub passing_below_added : (n k : ℕ) (f : ℕ → Bool) → f k ≡ true → with_row n (passing_below k f n) k ≡ passing_below (k + 1) f n
-passing_below_added n k f passes =
-    rows_that_agree (λ r. has_row (passing_below k f n) r || (r == k)) (λ r. nat_lt r (k + 1) && f r) n
-    (λ r low. ap (λ b. b || (r == k)) (has-rows_that (λ q. nat_lt q k && f q) n r low) ∙ at_more k r (f k) (f r) passes (λ e. ap f e))
-
-at_same : (k r : ℕ) (b c : Bool) → b ≡ false → (r ≡ k → c ≡ b) → (nat_lt r k && c) ≡ (nat_lt r (k + 1) && c)
-at_same k r b c fails same = elim (cases_eq r k) [
-  | inl e ↦ (let here : c ≡ false = same e ∙ fails in grind (arith, nat_tests))
-  | inr e ↦ grind (arith, nat_tests)
-]
-
-pub passing_below_passed : (n k : ℕ) (f : ℕ → Bool) → f k ≡ false → passing_below k f n ≡ passing_below (k + 1) f n
-passing_below_passed n k f fails =
-    rows_that_agree (λ r. nat_lt r k && f r) (λ r. nat_lt r (k + 1) && f r) n (λ r low. at_same k r (f k) (f r) fails (λ e. ap f e))
-
--- one row more is looked at, and is there where it passes
-pub passing_below_more : (n k : ℕ) (f : ℕ → Bool) (b : Bool) → f k ≡ b →
-    cond b (with_row n (passing_below k f n) k) (passing_below k f n) ≡ passing_below (k + 1) f n
-passing_below_more n k f true e = passing_below_added n k f e
-passing_below_more n k f false e = passing_below_passed n k f e
-
--- a step of a walk over the rows
-pub walked_more : (n m k : ℕ) (f : ℕ → Bool) (b : Bool) (old new : List ℕ) → old ≡ passing_below k f n → m ≡ n → f k ≡ b → new ≡ cond b (with_row m old k) old →
-    new ≡ passing_below (k + 1) f n
-walked_more n m k f b old new passed same is added =
-    added ∙ ap (λ rows. cond b (with_row m rows k) rows) passed ∙ ap (λ i. cond b (with_row i (passing_below k f n) k) (passing_below k f n)) same
-    ∙ passing_below_more n k f b is
-
--- its end
-pub walked_all : (n k : ℕ) (f : ℕ → Bool) (rows : List ℕ) → rows ≡ passing_below k f n → k ≡ n → rows ≡ rows_that f n
-walked_all n k f rows passed end = passed ∙ ap (λ i. passing_below i f n) end ∙ passing_below_all n f
 
 -- ---- the rows whose cell is one of the literals so far
 

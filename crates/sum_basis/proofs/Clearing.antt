@@ -1,16 +1,14 @@
 -- Rows cleared at the pivot of a new row.
-use Rattle.std.proofs.Common.{◌≡◌, ◌≢◌, ℕ, ◌<◌, ℤ, pos, List, [], ◌∷◌, length, refl, sym, ap, ◌∙◌, subst, arith, inl, inr}
+use Rattle.std.proofs.Common.{◌≡◌, ◌≢◌, ℕ, ◌<◌, ℤ, pos, List, [], ◌∷◌, refl, sym, ap, ◌∙◌, subst, arith, inl, inr}
 use Rattle.std.specs.Int.{◌∣◌}
-use Rattle.std.specs.Prelude.{◌+ℤ◌, ◌*ℤ◌, neg_ℤ, ◌<ℤ◌, unsigned_abs}
+use Rattle.std.specs.Prelude.{◌+ℤ◌, ◌*ℤ◌, neg_ℤ, unsigned_abs}
 use Rattle.std.specs.List.{AllByRecursion}
 use Rattle.std.proofs.lemmas.Int.{ints, unsigned_abs-mul}
 use Rattle.std.proofs.Math.Nat.{dvd-mul_left}
-use Rattle.std.proofs.lemmas.List.{length-map}
-use Rattle.std.proofs.lemmas.Bool.{MatchBool-at_false, cases_order}
-use Rattle.std.proofs.Math.IntN.{+ℤ_idr, *ℤ_comm, zero-*ℤ, *ℤ-zero}
+use Rattle.std.proofs.lemmas.Bool.{cases_order}
+use Rattle.std.proofs.Math.IntN.{+ℤ_idr, *ℤ_comm, *ℤ-zero}
 use Rattle.audit_types.specs.Truth.{number_at}
-use Rattle.audit_types.specs.Form.{InSpan, IsContent, IsPrimitive, IsEchelon, StandsBefore, pivot, pivot_entry}
-use Rattle.int_rows.specs.Primitive.{IsMadePrimitive}
+use Rattle.audit_types.specs.Form.{InSpan, IsPrimitive, IsEchelon, StandsBefore, pivot, pivot_entry}
 use Rattle.sum_basis.specs.Elimination.{IsCleared, AreCleared}
 use Rattle.audit_types.specs.PrimitiveLines.{number_at-times, times}
 use Rattle.audit_types.specs.Products.{neg-times, product_not_zero}
@@ -116,18 +114,6 @@ cleared_from n new row made by p q e first n_zero line primitive = record {
         let minus = neg-times y x in
         let at_new = number_at-combine x row y new (pivot new) in
         omega (arith, ints)
-
--- a row combined with the new one, as it is made primitive
-pub cleared_by : (n : ℕ) (new row made : List ℤ) → IsPrimitive n new → IsPrimitive n row → number_at new (pivot row) ≡ pos 0 → pivot row < pivot new
-    → IsMadePrimitive (combine (pivot_entry new) row (number_at row (pivot new)) new) made → IsCleared n new row made
-cleared_by n new row made p q e first is =
-    let c = combine (pivot_entry new) row (number_at row (pivot new)) new in
-    let lead = leads_combination n new row p q e in
-    let parts = MatchBool-at_false (made ≡ c) (IsContent made 1 × (pos 0 <ℤ pivot_entry made)) (some_entry c (pivot row) lead) is.primitive in
-    let all : length made ≡ n = sym (ap length is.is_multiple ∙ length-map made (λ z. is.factor *ℤ z)) ∙ length-combine n (pivot_entry new) row (number_at row (pivot new)) new q.one_each p.one_each in
-    cleared_from n new row made is.factor p q e first
-    (λ none. lead (ap (λ r. number_at r (pivot row)) is.is_multiple ∙ number_at-times is.factor made (pivot row) ∙ ap (λ z. z *ℤ number_at made (pivot row)) none ∙ zero-*ℤ (number_at made (pivot row))))
-    is.is_multiple (record { one_each = all; content = parts.0; leading = parts.1 })
 
 -- a row that is 0 there is cleared as it is
 pub cleared_already : (n : ℕ) (new row : List ℤ) → IsPrimitive n row → number_at row (pivot new) ≡ pos 0 → IsCleared n new row row

@@ -1,7 +1,7 @@
 -- The first rows of a form cleared, one after the other.
-use Rattle.std.proofs.Common.{◌≡◌, ℕ, zero, suc, ◌+◌, ◌<◌, ◌≤◌, ℤ, List, [], ◌∷◌, ◌++◌, length, take, drop, get_or, refl, sym, ap, ◌∙◌, arith, subst}
+use Rattle.std.proofs.Common.{◌≡◌, ℕ, zero, suc, ◌+◌, ◌<◌, ℤ, List, [], ◌∷◌, ◌++◌, length, take, drop, get_or, refl, sym, ap, arith, subst}
 use Rattle.std.specs.List.{AllByRecursion}
-use Rattle.std.proofs.lemmas.List.{length-take-le, take_more}
+use Rattle.std.proofs.lemmas.List.{take_more}
 use Rattle.audit_types.specs.Form.{IsPrimitive}
 use Rattle.audit_types.specs.ListLaws.{all-push}
 use Rattle.sum_basis.specs.Elimination.{IsSmall, IsZeroAtPivots, IsCleared, AreCleared}
@@ -16,17 +16,6 @@ module _ (n : ℕ) (new : List ℤ) where
   cleared-append [] others (m ∷ made) more h k = absurd h
   cleared-append (row ∷ rows) others [] more h k = absurd h
   cleared-append (row ∷ rows) others (m ∷ made) more h k = (h.0, cleared-append rows others made more h.1 k)
-
-  -- as many rows are cleared as there were
-  pub length-cleared : (rows made : List (List ℤ)) → AreCleared n new rows made → length made ≡ length rows
-  length-cleared [] [] h = refl
-  length-cleared [] (m ∷ made) h = absurd h
-  length-cleared (row ∷ rows) [] h = absurd h
-  length-cleared (row ∷ rows) (m ∷ made) h = ap suc (length-cleared rows made h.1)
-
-  -- k rows are cleared when the first k are
-  pub some_cleared : (form made : List (List ℤ)) (k : ℕ) → k ≤ length form → ClearsFirst n form new k made → length made ≡ k
-  some_cleared form made k h first = length-cleared (take k form) made first.cleared ∙ length-take-le k form h
 
   -- at the start none is
   pub no_rows : (form : List (List ℤ)) → ClearsFirst n form new 0 []

@@ -51,10 +51,6 @@ record Led (rows : List (List ℤ)) (f : ℕ → ℤ) : Type 0 where
   before : (j : ℕ) → j < pivot row → f j ≡ pos 0
   here : f (pivot row) ≢ pos 0
 
--- what leads a function leads an equal one
-led_same : (rows : List (List ℤ)) (f g : ℕ → ℤ) → ((j : ℕ) → f j ≡ g j) → Led rows f → Led rows g
-led_same rows f g e h = record { row = h.row; among = h.among; before = λ j l. sym (e j) ∙ h.before j l; here = λ z. h.here (e (pivot h.row) ∙ z) }
-
 -- a combination is 0, or its first place that is not 0 is a pivot
 led : (cs : List ℤ) (rows : List (List ℤ)) → IsEchelon rows → Leads rows → ((j : ℕ) → combined cs rows j ≡ pos 0) ⊎ Led rows (combined cs rows)
 led [] rows echelon leads = inl (λ j. refl)

@@ -68,11 +68,3 @@ after_place at_pivot [] zero e h = tt
 after_place at_pivot [] (suc k) e h = tt
 after_place at_pivot (row ∷ form) zero e h = let here = h (omega arith) in (here, later_rows at_pivot row form here e.0)
 after_place at_pivot (row ∷ form) (suc k) e h = after_place at_pivot form k e.1 (λ l. h (omega arith))
-
--- cleared rows have the pivots that they had
-pub same_before : (n : ℕ) (new : List ℤ) (rows cleared : List (List ℤ)) → AreCleared n new rows cleared → AllByRecursion (λ row. pivot row < pivot new) rows →
-    AllByRecursion (λ row. pivot row < pivot new) cleared
-same_before n new [] [] all h = tt
-same_before n new [] (c ∷ cleared) all h = absurd all
-same_before n new (row ∷ rows) [] all h = absurd all
-same_before n new (row ∷ rows) (c ∷ cleared) all h = let same = all.0.same_pivot in let here = h.0 in (omega arith, same_before n new rows cleared all.1 h.1)

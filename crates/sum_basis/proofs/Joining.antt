@@ -3,7 +3,6 @@ use Rattle.std.proofs.Common.{◌≡◌, ℕ, ◌<◌, ◌≤◌, ◌^◌, ℤ, 
 use Rattle.std.specs.Prelude.{◌<ℤ◌, unsigned_abs}
 use Rattle.std.proofs.lemmas.Int.{ints}
 use Rattle.std.specs.List.{AllByRecursion}
-use Rattle.audit_types.specs.Truth.{number_at}
 use Rattle.audit_types.specs.Form.{InSpan, IsPrimitive, IsReducedForm, IsNarrow, IsLeastCommonMultiple, pivot, pivot_entry, pivot_entries}
 use Rattle.sum_basis.specs.declared.sparse.FreeEntry.{FreeEntry}
 use Rattle.sum_basis.specs.declared.sparse.SparseRow.{SparseRow}
@@ -12,15 +11,14 @@ use Rattle.sum_basis.specs.declared.Prospect.TheVariants.{Wide, Fixing, Open}
 use Rattle.sum_basis.specs.Basis.{Echelon, IsForm}
 use Rattle.sum_basis.specs.Elimination.{IsSmall, IsSmallForm, IsZeroAtPivots}
 use Rattle.sum_basis.specs.Growth.{Foresees, GrowsTo, GrowsWide, IsNewRow, IsAsItIs}
-use Rattle.sum_basis.specs.Sparse.{entry_at, row_of, rows_of, IsListed, IsKept, IsNew}
+use Rattle.sum_basis.specs.Sparse.{row_of, rows_of, IsListed, IsKept, IsNew}
 use Rattle.sum_basis.proofs.FormsAreUnique.{own, forms_are_unique}
 use Rattle.sum_basis.proofs.NarrowOrWide.{narrow_or_not}
 use Rattle.sum_basis.proofs.SpanKeepsForm.{span_keeps_form}
 use Rattle.sum_basis.proofs.Exactness.{other_row}
 use Rattle.sum_basis.proofs.Extending.{grows_to, grows_wide}
 use Rattle.sum_basis.proofs.LeastMultiples.{heads, least_unique}
-use Rattle.audit_types.specs.PrimitiveLines.{same_rows}
-use Rattle.sum_basis.proofs.SparseRows.{number_at-row_of, length-row_of, pivot_entry-row_of}
+use Rattle.sum_basis.proofs.SparseRows.{number_at-row_of, pivot_entry-row_of}
 use Rattle.sum_basis.proofs.ClearedLists.{head_small}
 
 -- what is told of the primitive row holds of the row
@@ -104,11 +102,6 @@ joined_form n rows m common some most kept j least e positive small = record {
     positive_of : (k : ℕ) (z : ℤ) → z ≡ pos k → 0 < k → pos 0 <ℤ z
     positive_of k z f h = omega (arith, ints)
 
--- a list with the numbers of a row is the row
-pub listed_row : (n : ℕ) (row : List ℤ) (list : List FreeEntry) → length row ≡ n → IsListed 0 n list → ((j : ℕ) → entry_at list j ≡ number_at row j) →
-    row_of n list ≡ row
-listed_row n row list l h is = same_rows (row_of n list) row (length-row_of n list ∙ sym l) (λ j. number_at-row_of 0 n list h j ∙ is j)
-
 -- the list of a row that is not all zeros is not empty
 pub some_entry : (n : ℕ) (list : List FreeEntry) → IsPrimitive n (row_of n list) → IsListed 0 n list → 0 < length list
 some_entry n [] p h = absurd (none (pivot_entry (row_of n [])) p.leading (number_at-row_of 0 n [] h (pivot (row_of n []))))
@@ -116,14 +109,6 @@ some_entry n [] p h = absurd (none (pivot_entry (row_of n [])) p.leading (number
     none : (z : ℤ) → pos 0 <ℤ z → z ≡ pos 0 → ⊥
     none z q e = omega (arith, ints)
 some_entry n (e ∷ list) p h = omega arith
-
--- so it is the list of a new row
-pub is_new_list : (n : ℕ) (row : List ℤ) (list : List FreeEntry) → length row ≡ n → IsListed 0 n list → ((j : ℕ) → entry_at list j ≡ number_at row j) →
-    IsPrimitive n row → IsSmall row → IsNew n list
-is_new_list n row list l h is p small =
-    let same = listed_row n row list l h is in
-    let primitive = subst (IsPrimitive n) (sym same) p in
-    record { some = some_entry n list primitive h; listed = h; primitive = primitive; small = subst IsSmall (sym same) small }
 
 -- what is told of the list holds of the row, for the form as it is seen
 pub told : (seen : Echelon) (n : ℕ) (rows items : List SparseRow) (new list : List FreeEntry) (v : List ℤ) (p : Prospect) (room : ℕ)

@@ -82,13 +82,6 @@ pub pivot_entries-push : (rows : List (List ℤ)) (row : List ℤ) → pivot_ent
 pivot_entries-push [] row = refl
 pivot_entries-push (r ∷ rows) row = ap (λ l. unsigned_abs (pivot_entry r) ∷ l) (pivot_entries-push rows row)
 
--- the least common multiple of the first k + 1 pivot entries
-pub one_more_entry : (rows : List (List ℤ)) (k m n : ℕ) → k < length rows → IsLeastCommonMultiple (pivot_entries (take k rows)) m →
-    IsLeastCommonMultiple (m ∷ unsigned_abs (pivot_entry (get_or rows k [])) ∷ []) n → IsLeastCommonMultiple (pivot_entries (take (k + 1) rows)) n
-one_more_entry rows k m n h first both =
-    rw (take_more rows k [] h, pivot_entries-push (take k rows) (get_or rows k []))
-    (least-push (pivot_entries (take k rows)) (unsigned_abs (pivot_entry (get_or rows k []))) m n first both)
-
 -- the multiple of all is no smaller than that of the first ones
 pub passes : (rows : List (List ℤ)) (k m limit : ℕ) → AllByRecursion (λ r. pos 0 <ℤ pivot_entry r) rows →
     IsLeastCommonMultiple (pivot_entries (take k rows)) m → limit < m → (all : ℕ) × IsLeastCommonMultiple (pivot_entries rows) all × (limit < all)

@@ -116,20 +116,6 @@ still_within es i place h = elim (cases_lt i (length es)) [
     gone (x ∷ xs) zero l = absurd (omega arith)
     gone (x ∷ xs) (suc k) l = gone xs k (omega arith)
 
--- at the start nothing is combined
-pub nothing_merged : (n : ℕ) (by : ℤ) (first : List FreeEntry) (times : ℤ) (second : List FreeEntry) → IsListed 0 n first → IsListed 0 n second →
-    IsMerging n by first times second [] 0 0
-nothing_merged n by first times second p q = record {
-  next = 0;
-  next_within = omega arith;
-  out_listed = tt;
-  first_left = p;
-  second_left = q;
-  first_within = omega arith;
-  second_within = omega arith;
-  is = λ k. omega (arith, ints);
-}
-
 module _ (n : ℕ) (by : ℤ) (first : List FreeEntry) (times : ℤ) (second out : List FreeEntry) (i j : ℕ) (m : IsMerging n by first times second out i j) where
   -- there is room for an entry more
   pub out_length : length out ≤ m.next

@@ -1,15 +1,12 @@
 -- A row less a multiple of another, which makes it 0 at the other's pivot.
-use Rattle.std.proofs.Common.{◌≡◌, ℕ, ◌<◌, ◌≤◌, ◌*◌, ◌^◌, ℤ, pos, negsuc, List, sym, ap, ◌∙◌, arith}
+use Rattle.std.proofs.Common.{◌≡◌, ◌<◌, ◌≤◌, ◌*◌, ◌^◌, ℤ, pos, negsuc, List, sym, ap, ◌∙◌, arith}
 use Rattle.std.specs.Prelude.{◌+ℤ◌, ◌*ℤ◌, ◌<ℤ◌, unsigned_abs}
 use Rattle.std.proofs.lemmas.Int.{ints, unsigned_abs-mul}
 use Rattle.std.proofs.Math.Nat.{le-mul_of_pos_right}
 use Rattle.std.proofs.Math.IntN.{*ℤ_comm, zero-*ℤ, +ℤ_idr}
 use Rattle.audit_types.specs.Truth.{number_at}
-use Rattle.audit_types.specs.Form.{pivot, pivot_entry}
-use Rattle.sum_basis.specs.Combination.{combine}
+use Rattle.audit_types.specs.Form.{pivot}
 use Rattle.sum_basis.specs.Elimination.{IsLessMultiple}
-use Rattle.sum_basis.specs.CombinedRows.{number_at-combine}
-use Rattle.audit_types.specs.Products.{neg-times, one-times}
 
 -- a factor of a small number is small
 pub factor_small : (x d times : ℤ) → x ≡ d *ℤ times → pos 0 <ℤ d → unsigned_abs x ≤ 2 ^ 56 → unsigned_abs times ≤ 2 ^ 56
@@ -18,24 +15,6 @@ factor_small x (pos n) times e p h =
     let more = le-mul_of_pos_right (unsigned_abs times) (let above : 0 < n = omega (arith, ints) in above) in
     omega (arith, size, more)
 factor_small x (negsuc n) times e p h = absurd (omega (arith, ints))
-
--- the exact quotient is the multiple to take
-pub less_multiple : (other old new : List ℤ) (times : ℤ) → number_at old (pivot other) ≡ pivot_entry other *ℤ times → pos 0 <ℤ pivot_entry other
-    → unsigned_abs (number_at old (pivot other)) ≤ 2 ^ 56
-    → new ≡ combine (pos 1) old times other → IsLessMultiple other old new
-less_multiple other old new times e p h is = record {
-  times = times;
-  small = factor_small (number_at old (pivot other)) (pivot_entry other) times e p h;
-  is = λ j. at j;
-  zero_there = let here = at (pivot other) in let turned = *ℤ_comm (pivot_entry other) times in omega (arith, ints);
-}
-  where
-    at : (j : ℕ) → number_at old j ≡ number_at new j +ℤ times *ℤ number_at other j
-    at j =
-        let new_at = ap (λ r. number_at r j) is ∙ number_at-combine (pos 1) old times other j in
-        let once = one-times (number_at old j) in
-        let minus = neg-times times (number_at other j) in
-        omega (arith, ints)
 
 -- nothing has to be taken from a row that is 0 there
 pub no_multiple : (other old : List ℤ) → number_at old (pivot other) ≡ pos 0 → IsLessMultiple other old old

@@ -1,15 +1,12 @@
 -- A new row in its place by pivots.
-use Rattle.std.proofs.Common.{◌≡◌, ◌≢◌, ℕ, ◌<◌, ◌≤◌, Bool, true, false, cond, ℤ, pos, List, [], ◌∷◌, length, refl, ap, ◌∙◌, arith}
+use Rattle.std.proofs.Common.{◌≡◌, ◌≢◌, ◌<◌, Bool, true, false, cond, ℤ, pos, List, [], ◌∷◌, refl, ap, ◌∙◌, arith}
 use Rattle.std.specs.Prelude.{◌<ℤ◌, nat_lt}
 use Rattle.std.specs.List.{AllByRecursion}
 use Rattle.std.proofs.lemmas.Bool.{ltb-true, ltb-false}
 use Rattle.audit_types.specs.Truth.{number_at}
 use Rattle.audit_types.specs.Form.{IsEchelon, StandsBefore, pivot, pivot_entry}
-use Rattle.audit_types.specs.ListLaws.{all-push}
 use Rattle.audit_types.specs.Numbers.{positive_not_zero}
 use Rattle.sum_basis.specs.Spans.{ZeroAtPivots}
-use Rattle.std.proofs.Common.{◌+◌, take, get_or}
-use Rattle.std.proofs.lemmas.List.{take_more}
 
 -- the new row in its place by pivots
 abbrev pub placed : List ℤ → List (List ℤ) → List (List ℤ)
@@ -55,17 +52,3 @@ placed_echelon new (r ∷ rows) h l z k = go (nat_lt (pivot new) (pivot r)) refl
         let le = ltb-false (pivot new) (pivot r) e in
         let apart : pivot r ≢ pivot new = λ same. positive_not_zero (pivot_entry r) l.0 (ap (number_at r) same ∙ k.0) in
         (all_placed (StandsBefore r) new rows (omega arith, k.0, z.0) h.0, later)
-
--- the first k rows of the form have pivots that are not later
-pub record StandBefore (form : List (List ℤ)) (at_pivot k : ℕ) : Type 0 where
-  pub before : AllByRecursion (λ row. pivot row ≤ at_pivot) (take k form)
-
--- at the start no row was looked at
-pub nothing_before : (form : List (List ℤ)) (at_pivot : ℕ) → StandBefore form at_pivot 0
-nothing_before form at_pivot = record { before = tt }
-
--- one row more has a pivot that is not later
-pub one_more_before : (form : List (List ℤ)) (at_pivot k : ℕ) → k < length form → StandBefore form at_pivot k → pivot (get_or form k []) ≤ at_pivot →
-    StandBefore form at_pivot (k + 1)
-one_more_before form at_pivot k h so_far here =
-    record { before = rw (take_more form k [] h) (all-push (λ row. pivot row ≤ at_pivot) (take k form) (get_or form k []) so_far.before here) }

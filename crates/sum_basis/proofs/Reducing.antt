@@ -20,16 +20,6 @@ pub record IsPartRemainder (form : List (List ℤ)) (old new : List ℤ) (k : �
   pub zeros : IsZeroAtPivots (take k form) new
   pub small : (j : ℕ) → unsigned_abs (number_at new j) ≤ 2 ^ 56 + k * 2 ^ 112
 
--- at the start nothing is taken
-pub nothing_taken : (form : List (List ℤ)) (row : List ℤ) → IsSmall row → IsPartRemainder form row row 0
-nothing_taken form row h = record {
-  coefficients = [];
-  count = refl;
-  is = λ j. sym (+ℤ_idr (number_at row j));
-  zeros = tt;
-  small = λ j. let at = small_at row j h in omega arith;
-}
-
 -- a combination of rows that are 0 at a column
 combined_front : (cs : List ℤ) (rows : List (List ℤ)) (j : ℕ) → AllByRecursion (λ r. number_at r j ≡ pos 0) (take (length cs) rows) → combined cs rows j ≡ pos 0
 combined_front [] rows j h = refl

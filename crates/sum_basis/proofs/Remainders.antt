@@ -1,10 +1,9 @@
 -- What a form leaves of a row, and what that says of the span.
-use Rattle.std.proofs.Common.{◌≡◌, ◌≢◌, ℕ, ◌<◌, true, ℤ, pos, List, [], ◌∷◌, length, refl, sym, ap, ◌∙◌, arith}
+use Rattle.std.proofs.Common.{◌≡◌, ◌≢◌, ℕ, ◌<◌, ℤ, pos, List, [], ◌∷◌, length, refl, sym, ap, ◌∙◌, arith}
 use Rattle.std.specs.Prelude.{◌+ℤ◌, ◌*ℤ◌, neg_ℤ, ◌<ℤ◌}
-use Rattle.std.specs.List.{AllByRecursion, list_all}
+use Rattle.std.specs.List.{AllByRecursion}
 use Rattle.std.proofs.lemmas.Int.{ints}
-use Rattle.std.proofs.lemmas.Bool.{and_from}
-use Rattle.audit_types.specs.Truth.{number_at, is_zero}
+use Rattle.audit_types.specs.Truth.{number_at}
 use Rattle.audit_types.specs.Form.{combined, InSpan, IsPrimitive, IsEchelon, pivot, pivot_entry}
 use Rattle.audit_types.specs.PrimitiveLines.{number_at-times, times}
 use Rattle.sum_basis.specs.Elimination.{IsRemainder}
@@ -49,11 +48,6 @@ module _ (form : List (List ℤ)) (v left : List ℤ) (m : ℕ) (above : 0 < m) 
   -- of a row in the span nothing is left
   pub nothing_left : IsEchelon form → AllByRecursion (λ row. pos 0 <ℤ pivot_entry row) form → InSpan form v → (j : ℕ) → number_at left j ≡ pos 0
   nothing_left echelon leading p j = span_zero form (number_at left) echelon leading (spans_from form left (span_to_left form (own form) p)) r.zeros j
-
--- a row of zeros passes the test for zeros
-all_zero_list : (row : List ℤ) → AllByRecursion (λ x. x ≡ pos 0) row → list_all is_zero row ≡ true
-all_zero_list [] h = refl
-all_zero_list (x ∷ row) h = and_from (is_zero x) (list_all is_zero row) (ap is_zero h.0) (all_zero_list row h.1)
 
 -- a row of zeros has its pivot past the end
 pub pivot_of_zeros : (row : List ℤ) → AllByRecursion (λ x. x ≡ pos 0) row → pivot row ≡ length row

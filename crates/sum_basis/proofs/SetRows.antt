@@ -20,16 +20,6 @@ use Rattle.audit_types.specs.RowNumbers.{number_at-set_row, length-set_row, all_
 pub record IsPartlyWritten (n : ℕ) (rows : List ℕ) (row : List ℤ) (j : ℕ) : Type 0 where
   pub done : (k : ℕ) → k < j → number_at row k ≡ cond (has_row rows k) (pos 1) (pos 0)
 
--- one entry more is written
-pub one_more_written : (n : ℕ) (rows : List ℕ) (row : List ℤ) (j : ℕ) (v : ℤ) → j < length row → IsPartlyWritten n rows row j →
-    v ≡ cond (has_row rows j) (pos 1) (pos 0) → IsPartlyWritten n rows (set row j v) (j + 1)
-one_more_written n rows row j v inside so_far is = record {
-  done = λ k h. elim (cases_eq k j) [
-    | inl e ↦ rw e (get_or-set_same row j v (pos 0) inside ∙ is)
-    | inr other ↦ get_or-set_other row j k v (pos 0) other ∙ so_far.done k (omega arith)
-  ];
-}
-
 -- when all are, the row is that of the set
 pub all_written : (n : ℕ) (rows : List ℕ) (row : List ℤ) (j : ℕ) → length row ≡ n → n ≤ j → IsPartlyWritten n rows row j → row ≡ set_row n rows
 all_written n rows row j l past so_far = same_rows row (set_row n rows) (l ∙ sym (length-set_row n rows)) entry

@@ -1,13 +1,10 @@
 -- How large the entries of rows become.
-use Rattle.std.proofs.Common.{ℕ, zero, suc, ◌≤◌, ◌+◌, ◌^◌, ℤ, List, [], ◌∷◌, arith}
+use Rattle.std.proofs.Common.{ℕ, zero, suc, ◌≤◌, ◌^◌, ℤ, List, [], ◌∷◌, arith}
 use Rattle.std.specs.Prelude.{◌*ℤ◌, unsigned_abs}
-use Rattle.std.proofs.lemmas.Int.{ints, unsigned_abs-mul}
+use Rattle.std.proofs.lemmas.Int.{unsigned_abs-mul}
 use Rattle.std.proofs.Math.Nat.{mul-le-mul}
 use Rattle.audit_types.specs.Truth.{number_at}
-use Rattle.sum_basis.specs.Combination.{combine}
 use Rattle.sum_basis.specs.Elimination.{IsSmall}
-use Rattle.sum_basis.specs.CombinedRows.{number_at-combine}
-use Rattle.audit_types.specs.Products.{neg-times}
 
 -- each number of a row of small entries, and 0 past its end
 pub small_at : (row : List ℤ) (j : ℕ) → IsSmall row → unsigned_abs (number_at row j) ≤ 2 ^ 56
@@ -18,12 +15,3 @@ small_at (x ∷ row) (suc j) h = small_at row j h.1
 -- products of small numbers
 pub product_small : (x y : ℤ) → unsigned_abs x ≤ 2 ^ 56 → unsigned_abs y ≤ 2 ^ 56 → unsigned_abs (x *ℤ y) ≤ 2 ^ 112
 product_small x y p q = rw (unsigned_abs-mul x y) (mul-le-mul {n₂ = 2 ^ 56} {m₂ = 2 ^ 56} p q)
-
--- the numbers of a combination
-pub combined_at : (x : ℤ) (f : List ℤ) (y : ℤ) (g : List ℤ) (j bound : ℕ) → unsigned_abs (x *ℤ number_at f j) ≤ bound → unsigned_abs y ≤ 2 ^ 56 → IsSmall g →
-    unsigned_abs (number_at (combine x f y g) j) ≤ bound + 2 ^ 112
-combined_at x f y g j bound p q s =
-    let is = number_at-combine x f y g j in
-    let turned = neg-times y (number_at g j) in
-    let other = product_small y (number_at g j) q (small_at g j s) in
-    omega (arith, ints)

@@ -146,10 +146,6 @@ take_entry es k d j h =
 pub record IsPartlyTaken (old row : List ℤ) (times : ℤ) (es : List FreeEntry) (k : ℕ) : Type 0 where
   pub taken : (j : ℕ) → number_at row j ≡ number_at old j -ℤ times *ℤ entry_at (take k es) j
 
--- none at the start
-pub none_taken : (old : List ℤ) (times : ℤ) (es : List FreeEntry) → IsPartlyTaken old old times es 0
-none_taken old times es = record { taken = λ j. let none = *ℤ-zero times in omega (arith, ints) }
-
 -- up to entry k the row is as it was at that entry's place
 pub not_yet_taken : (old row : List ℤ) (times : ℤ) (n : ℕ) (es : List FreeEntry) (k : ℕ) (d : FreeEntry) → IsListed 0 n es → k < length es →
     IsPartlyTaken old row times es k → number_at row (get_or es k d).place ≡ number_at old (get_or es k d).place

@@ -1,5 +1,5 @@
 -- Digits that are read one by one, with all sizes above the limit as one.
-use Rattle.std.proofs.Common.{◌≡◌, ◌≢◌, ℕ, zero, suc, ◌+◌, ◌-◌, ◌*◌, ◌^◌, ◌<◌, ◌≤◌, Bool, true, false, cond, List, [], ◌∷◌, length, drop, get_or, Option, Some, None, refl, sym, ap, ◌∙◌, arith, drop-cons, add-one}
+use Rattle.std.proofs.Common.{◌≡◌, ◌≢◌, ℕ, zero, suc, ◌+◌, ◌-◌, ◌*◌, ◌^◌, ◌<◌, Bool, true, false, cond, List, [], ◌∷◌, length, drop, get_or, Option, Some, None, refl, sym, ap, ◌∙◌, arith, drop-cons, add-one}
 use Rattle.std.specs.Prelude.{ℤ, pos, neg_ℤ, not, option_map, unwrap_or, ◌==◌}
 use Rattle.std.proofs.lemmas.Bool.{ne_eqb, lt-ltb}
 use Rattle.std.specs.List.{list_all}
@@ -45,30 +45,10 @@ one_digit bytes place size next within digit same =
     (λ d. option_map capped (cond d (tail_number (10 * size + (get_or bytes place 0 - 48)) (drop (place + 1) bytes)) (cond (list_all is_space (get_or bytes place 0 ∷ drop (place + 1) bytes)) (Some size) None))) digit
     ∙ same_number _ next (drop (place + 1) bytes) (sym same)
 
--- no digit: all that is left has to be spaces
-pub no_digit : (bytes : List ℕ) (place size : ℕ) → place < length bytes → is_ascii_digit (get_or bytes place 0) ≡ false → size ≤ 10 ^ 12 + 1
-    → number_at size bytes place ≡ cond (list_all is_space (drop place bytes)) (Some size) None
-no_digit bytes place size within other small =
-    from_here bytes place size within
-    ∙ ap
-    (λ d. option_map capped (cond d (tail_number (10 * size + (get_or bytes place 0 - 48)) (drop (place + 1) bytes)) (cond (list_all is_space (get_or bytes place 0 ∷ drop (place + 1) bytes)) (Some size) None))) other
-    ∙ by (list_all is_space (get_or bytes place 0 ∷ drop (place + 1) bytes))
-    ∙ ap (λ xs. cond (list_all is_space xs) (Some size) None)
-    (sym (drop-cons bytes place 0 within ∙ ap (λ k. get_or bytes place 0 ∷ drop k bytes) (sym (add-one place))))
-  where
-    by : (s : Bool) → option_map capped (cond s (Some size) None) ≡ cond s (Some size) None
-    by true = ap Some (omega arith)
-    by false = refl
-
 -- a first digit begins a number
 pub begins : (bytes : List ℕ) → 0 < length bytes → is_ascii_digit (get_or bytes 0 0) ≡ true → option_map capped (digits_number bytes) ≡ number_at 0 bytes 0
 begins [] some digit = absurd (omega (arith, some))
 begins (b ∷ bytes) some digit = ap (λ d. option_map capped (cond d (tail_number 0 (b ∷ bytes)) None)) digit
-
--- no first digit, no number
-pub begins_not : (bytes : List ℕ) → is_ascii_digit (get_or bytes 0 0) ≡ false → digits_number bytes ≡ None
-begins_not [] other = refl
-begins_not (b ∷ bytes) other = ap (λ d. cond d (tail_number 0 (b ∷ bytes)) None) other
 
 -- a minus and a size after it
 pub behind_minus : (bytes : List ℕ) → 0 < length bytes → get_or bytes 0 0 ≡ 45 → signed_number bytes ≡ option_sign true (digits_number (drop 1 bytes))

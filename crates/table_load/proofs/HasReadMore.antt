@@ -12,11 +12,9 @@ use Rattle.csv.specs.declared.iter.ByteRecordsIntoIter.{ByteRecordsIntoIter}
 use Rattle.csv.specs.declared.parser.State.TheVariants as state
 use Rattle.csv.proofs.ReadFacts.{rows-end, rows-more}
 use Rattle.schema_json.specs.Columns.{Column}
-use Rattle.table_load.specs.Faults.{UnlessMemory}
 use Rattle.table_load.specs.Reading.{Fields, records_of, records_fault, roles_of, data_fault, file_fault}
 use Rattle.table_load.specs.Steps.{HasRead, HasOpened, IsOfMemory, ReadsData, SomeRows}
 use Rattle.table_load.specs.declared.faults.TableFault.{TableFault}
-use Rattle.table_load.specs.declared.faults.TableFault.TheVariants.{TooLong, Header, Length, NotText, NotNumber, OutOfRange, TooManyRows, NoRows, NoMemory}
 use Rattle.table_load.proofs.FirstFaults.{short_file, good_header, good_rows, no_rows}
 use Rattle.table_load.proofs.RecordsOfBytes.{all_of_records, front_of_records}
 
@@ -93,18 +91,6 @@ pub judged_all : (columns : List Column) (bytes : List ℕ) (rows : List Fields)
 judged_all columns bytes rows a b opened step =
     short_file columns bytes (opened.header ∷ rows) opened.short (all_read columns bytes rows a b opened step)
     ∙ good_header columns opened.header rows opened.named
-
--- a fault of the file is answered, whichever it is
-pub fault_answered : (fault : TableFault) (P : Type 0) → P → UnlessMemory fault P
-fault_answered TooLong P h = h
-fault_answered Header P h = h
-fault_answered (Length line) P h = h
-fault_answered (NotText line) P h = h
-fault_answered (NotNumber line column) P h = h
-fault_answered (OutOfRange line column) P h = h
-fault_answered TooManyRows P h = h
-fault_answered NoRows P h = h
-fault_answered NoMemory P h = tt
 
 -- the rows of an opened file of which no record is left are its data, unless there are none
 pub rows_read : (columns : List Column) (bytes : List ℕ) (rows : Vec Row Global) (a b : Reads) (result : Result (Vec Row Global) TableFault)

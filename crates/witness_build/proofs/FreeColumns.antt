@@ -2,7 +2,7 @@
 use Rattle.std.proofs.Common.{◌≡◌, ◌≢◌, ℕ, zero, suc, ◌+◌, ◌<◌, ◌≤◌, Bool, true, false, cond, ◌||◌, ◌==◌, ℤ, pos, List, [], ◌∷◌, length, get_or, drop, refl, sym, ap, ◌∙◌, arith, inl, inr, ◌⊎◌, add-one, drop-cons}
 use Rattle.std.specs.Prelude.{◌*ℤ◌, ◌<ℤ◌}
 use Rattle.std.specs.List.{AllByRecursion}
-use Rattle.std.proofs.lemmas.Bool.{or_cases, or_left, eqb-true, eq-eqb, ne_eqb, cases_lt, or_right, or_from, or_parts, false_from_ne_true}
+use Rattle.std.proofs.lemmas.Bool.{or_cases, eqb-true, ne_eqb, cases_lt, or_from, or_parts, false_from_ne_true}
 use Rattle.std.proofs.lemmas.Int.{ints}
 use Rattle.std.proofs.lemmas.List.Elements.{All-from_recursion}
 use Rattle.std.proofs.Math.IntN.{*ℤ_comm, zero-*ℤ}
@@ -17,7 +17,6 @@ use Rattle.audit_types.specs.Totals.{total-single}
 use Rattle.sum_audit.specs.Dot.{dot}
 use Rattle.sum_audit.specs.Laws.{DirectionsByForm}
 use Rattle.witness_build.specs.Directions.{IsForm}
-use Rattle.witness_build.proofs.FormRows.{is_pivot_at}
 
 -- the search from column j on
 abbrev pub free_from : List (List ℤ) → List ℤ → ℕ → ℕ
@@ -31,18 +30,6 @@ stops : (form : List (List ℤ)) (x : ℤ) (row : List ℤ) (j : ℕ) → (is_pi
 stops form x row j e = ap (λ b. cond b (first_free form row (j + 1)) j) e
 
 module _ (form : List (List ℤ)) (k : ℕ) (below : k < length form) where
-  -- a column that is the row's pivot or 0 is passed over
-  pub one_passed : (j : ℕ) → j < length (get_or form k []) → (j ≡ pivot (get_or form k [])) ⊎ (number_at (get_or form k []) j ≡ pos 0) →
-      free_from form (get_or form k []) j ≡ free_from form (get_or form k []) (j + 1)
-  one_passed j inside why =
-      let row = get_or form k [] in
-      let test : (is_pivot form j || is_zero (number_at row j)) ≡ true = elim why [
-        | inl e ↦ or_left (is_pivot form j) (is_zero (number_at row j)) (ap (is_pivot form) e ∙ is_pivot_at form k below)
-        | inr e ↦ or_right (is_pivot form j) (is_zero (number_at row j)) (ap is_zero e)
-      ] in
-      ap (λ l. first_free form l j) (drop-cons row j (pos 0) inside) ∙ passes form (number_at row j) (drop (suc j) row) j test
-      ∙ ap (λ i. first_free form (drop i row) (j + 1)) (sym (add-one j))
-
   -- and any other one is the one
   pub one_stops : (n : ℕ) → IsForm n form → (j : ℕ) → j < length (get_or form k []) → j ≢ pivot (get_or form k []) → number_at (get_or form k []) j ≢ pos 0 →
       free_from form (get_or form k []) j ≡ j
@@ -74,12 +61,6 @@ other_row form k i below other =
     ap (λ l. free_column_of form l i) (drop-cons form k [] below)
     ∙ ap (λ b. cond b (first_free form (get_or form k []) 0) (free_column_of form (drop (suc k) form) i)) (ne_eqb (pivot (get_or form k [])) i other)
     ∙ ap (λ m. free_column_of form (drop m form) i) (sym (add-one k))
-
-pub own_row : (form : List (List ℤ)) (k i : ℕ) → k < length form → pivot (get_or form k []) ≡ i →
-    free_column_of form (drop k form) i ≡ first_free form (get_or form k []) 0
-own_row form k i below e =
-    ap (λ l. free_column_of form l i) (drop-cons form k [] below)
-    ∙ ap (λ b. cond b (first_free form (get_or form k []) 0) (free_column_of form (drop (suc k) form) i)) (eq-eqb (pivot (get_or form k [])) i e)
 
 pub no_row : (form : List (List ℤ)) (k i : ℕ) → length form ≤ k → free_column_of form (drop k form) i ≡ i
 no_row form k i l = past form form k i l

@@ -1,12 +1,8 @@
 -- The highest list, row by row, and with one row lowered.
-use Rattle.std.proofs.Common.{◌≡◌, ◌≢◌, ℕ, ◌+◌, ◌<◌, ℤ, pos, List, [], ◌∷◌, ◌++◌, length, refl, sym, ap, arith, subst, inl, inr}
-use Rattle.std.specs.Prelude.{◌-ℤ◌}
+use Rattle.std.proofs.Common.{◌≡◌, ℕ, ◌+◌, ◌<◌, ℤ, List, [], ◌∷◌, ◌++◌, refl, sym, ap, arith, subst, inl, inr}
 use Rattle.std.specs.List.{All}
-use Rattle.std.proofs.lemmas.Int.{ints}
-use Rattle.std.proofs.lemmas.List.{get_or-set_same}
 use Rattle.std.proofs.lemmas.List.Elements.{All-push}
 use Rattle.std.proofs.lemmas.List.FromFn.{map-range_with_len_more}
-use Rattle.audit_types.specs.Truth.{number_at}
 use Rattle.audit_types.specs.declared.shapes.Kind.TheVariants.{Max}
 use Rattle.audit_types.specs.Column.{Answer, Known, Agrees, IsWellFormed, known_max}
 use Rattle.audit_types.specs.Extremes.{upper_bound, IsConsistent, IsLone}
@@ -34,12 +30,6 @@ highest_step answers k list after number h pushed is near = record {
   same = rw (pushed, h.same, is, highest-more) refl;
   near = rw pushed (All-push IsNearRange list number h.near near);
 }
-
--- lowering a row changes its number
-pub lowered_differs : (w : List ℤ) (row : ℕ) → row < length w → number_at (lowered_at w row) row ≢ number_at w row
-lowered_differs w row below e =
-    let lowered : number_at (lowered_at w row) row ≡ number_at w row -ℤ pos 1 = get_or-set_same w row (number_at w row -ℤ pos 1) (pos 0) below in
-    absurd (omega (arith, ints))
 
 -- what is known of a column of maxima
 is_max : (known : Known) → known.kind ≡ Max → known_max known.n known.answers ≡ known
