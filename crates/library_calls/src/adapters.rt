@@ -48,15 +48,17 @@ fn answers(rt: &HostRuntime, calls: &Calls, path: &'static str) -> [(bool, bool)
     five_calls(&mut FileBench::new(&files, path), calls)
 }
 
+// Whether the one call fails, and at once, where this call of the system is refused.
+fn fails_alone(rt: &HostRuntime, refused: usize, fails: usize) -> bool {
+    let calls = Calls::new(rt.alloc(), refused);
+    let wanted = [0, 1, 2, 3, 4].map(|number| (number != fails, number == fails));
+    answers(rt, &calls, "refused.journal") == wanted
+}
+
 #[test]
 fn a_refused_call_fails_at_once_and_no_other_does(rt: HostRuntime) {
-    for (refused, (_, fails)) in CALLS.into_iter().enumerate() {
-        let calls = Calls::new(rt.alloc(), refused);
-        let wanted = [0, 1, 2, 3, 4].map(|number| (number != fails, number == fails));
-        assert!(rt;
-            answers(&rt, &calls, "refused.journal") == wanted,
-            "{refused} refused"
-        );
+    for (refused, (_, fails)) in CALLS.iter().enumerate() {
+        assert!(rt; fails_alone(&rt, refused, *fails), "{refused} refused");
     }
 }
 
@@ -77,7 +79,7 @@ fn writes(bench: &mut FileBench<'_, HostRuntime>) -> [bool; 3] {
 }
 
 // Whether each call on the journal's file was done.
-fn tries<B: Bench>(bench: &mut B) -> [bool; 4] {
+fn tries(bench: &mut FileBench<'_, HostRuntime>) -> [bool; 4] {
     [
         bench.length().is_ok(),
         bench.read_at(0, &mut [0; 8]).is_ok(),
@@ -87,9 +89,28 @@ fn tries<B: Bench>(bench: &mut B) -> [bool; 4] {
 }
 
 // The length of the journal's file, and what stands in it behind its first byte.
-fn found<B: Bench>(bench: &mut B) -> (Result<u64, Failed>, Result<usize, Failed>, [u8; 8]) {
+type Found = (Result<u64, Failed>, Result<usize, Failed>, [u8; 8]);
+
+fn found(bench: &mut FileBench<'_, HostRuntime>) -> Found {
     let mut bytes = [0; 8];
     (bench.length(), bench.read_at(1, &mut bytes), bytes)
+}
+
+// What is done by a bench on this file, and by a second one while that has the file.
+fn beside(
+    rt: &HostRuntime,
+    path: &'static str,
+    second: &mut FileBench<'_, HostRuntime>,
+) -> ([bool; 3], [bool; 4]) {
+    let mut first = FileBench::new(rt, path);
+    (writes(&mut first), tries(second))
+}
+
+// The same, and what the second one then finds alone.
+fn one_after_another(rt: &HostRuntime, path: &'static str) -> ([bool; 3], [bool; 4], Found) {
+    let mut second = FileBench::new(rt, path);
+    let (written, tried) = beside(rt, path, &mut second);
+    (written, tried, found(&mut second))
 }
 
 // Whether the owner alone may read a file, and write it.
@@ -100,12 +121,10 @@ fn is_private(rt: &HostRuntime, path: &str) -> bool {
 #[test]
 fn one_open_at_a_time_and_what_was_synced_is_there_again(rt: HostRuntime) {
     let _ = fs::remove_file(&rt, "real.journal");
-    let mut first = FileBench::new(&rt, "real.journal");
-    assert!(rt; writes(&mut first) == [true; 3]);
-    let mut second = FileBench::new(&rt, "real.journal");
-    assert!(rt; tries(&mut second) == [false; 4]);
-    drop(first);
-    assert!(rt; found(&mut second) == (Ok(5), Ok(4), *b"bxyz\0\0\0\0"));
+    let (written, tried, found) = one_after_another(&rt, "real.journal");
+    assert!(rt; written == [true; 3]);
+    assert!(rt; tried == [false; 4]);
+    assert!(rt; found == (Ok(5), Ok(4), *b"bxyz\0\0\0\0"));
     assert!(rt; is_private(&rt, "real.journal"));
 }
 
@@ -137,9 +156,13 @@ fn an_interrupted_read_goes_on(rt: HostRuntime) {
     assert!(rt; two_reads(input) == [Ok(2), Err(Failed)]);
 }
 
+fn two_reads_of(rt: &HostRuntime, path: &'static str) -> [Result<usize, Failed>; 2] {
+    two_reads(FileSource::new(rt, path))
+}
+
 #[test]
 fn a_file_is_read_to_its_end_and_a_missing_one_fails(rt: HostRuntime) {
     assert!(rt; fs::write(&rt, "short.csv", b"abc".as_slice()).is_ok());
-    assert!(rt; two_reads(FileSource::new(&rt, "short.csv")) == [Ok(3), Ok(0)]);
-    assert!(rt; two_reads(FileSource::new(&rt, "missing.csv")) == [Err(Failed); 2]);
+    assert!(rt; two_reads_of(&rt, "short.csv") == [Ok(3), Ok(0)]);
+    assert!(rt; two_reads_of(&rt, "missing.csv") == [Err(Failed); 2]);
 }
