@@ -121,6 +121,13 @@ records_shown (Some (Agrees added)) = option_to_list added
 records_shown (Some Disagrees) = []
 records_shown None = []
 
+-- the record that such a line makes may follow the history
+abbrev pub CanFollow : Setting → List Answered → Option Shown → Type 0
+CanFollow setting history (Some (Agrees (Some answered))) = FitsShape setting.shape answered.column answered.rows × IsWithinWidth (known_of setting history answered.column) answered.rows.list
+CanFollow setting history (Some (Agrees None)) = Unit {0}
+CanFollow setting history (Some Disagrees) = Unit {0}
+CanFollow setting history None = Unit {0}
+
 -- whether a transcript goes on behind it: a line that disagrees is its end, and so is none
 abbrev pub goes_on : Option Shown → ℕ → Due → Result Bool SimulationFault
 goes_on (Some (Agrees added)) line due = Ok true

@@ -3,7 +3,7 @@ ghost use Rattle.std.specs.Prelude.{◌≡◌, ◌≤◌, ◌↔◌, IfOk, lengt
 ghost use Rattle.audit_types.specs.Limits.{most_records};
 ghost use Rattle.question_plan.specs.Plans.{CanBeServed};
 ghost use Rattle.transcript_sim.specs.Steps.{CanBeTaken};
-ghost use Rattle.transcript_sim.specs.Verdicts.{CallsFor, due_of, due_of_reply};
+ghost use Rattle.transcript_sim.specs.Verdicts.{CallsFor, called_by, due_of, due_of_reply};
 
 use crate::due::Due;
 use audit_core::Core;
@@ -51,6 +51,17 @@ fn is_full(core: &Core) -> bool
     core.history().len() >= MOST_RECORDS
 }
 
+// What the verdict on a question calls for: an answer, or the reply that refuses one.
+fn called_by(take: Take, asked: Asked, verdict: Verdict) -> Expected
+    ensures { result ≡ called_by take asked verdict }
+{
+    match verdict {
+        Verdict::Released => Expected::Answer { take, asked },
+        Verdict::DeniedUnsafe => Expected::Only(Reply::Unsafe),
+        Verdict::DeniedWide => Expected::Only(Reply::Wide),
+    }
+}
+
 /// What the question of a plan calls for after the records of the core. The core keeps what it found for the answer to come; no
 /// secret is read.
 pub(crate) fn expected_of(core: &mut Core, plan: Plan) -> Result<Expected, NoMemory>
@@ -59,16 +70,9 @@ pub(crate) fn expected_of(core: &mut Core, plan: Plan) -> Result<Expected, NoMem
     ensures can { IfOk result (CanBeTaken core.old.setting core.old.history) }
     ensures same { core.new ≡ core.old }
 {
-    let (take, asked) = match plan {
-        Plan::Ready(reply) => return Ok(Expected::Only(reply)),
-        Plan::Ask { take, asked } => (take, asked),
-    };
-    if is_full(core) {
-        return Ok(Expected::Only(Reply::Full));
-    }
-    match core.weigh(&asked)? {
-        Verdict::Released => Ok(Expected::Answer { take, asked }),
-        Verdict::DeniedUnsafe => Ok(Expected::Only(Reply::Unsafe)),
-        Verdict::DeniedWide => Ok(Expected::Only(Reply::Wide)),
+    match plan {
+        Plan::Ready(reply) => Ok(Expected::Only(reply)),
+        Plan::Ask { .. } if is_full(core) => Ok(Expected::Only(Reply::Full)),
+        Plan::Ask { take, asked } => Ok(called_by(take, asked, core.weigh(&asked)?)),
     }
 }

@@ -4,7 +4,7 @@ ghost use Rattle.audit_types.specs.History.{setting_of};
 ghost use Rattle.audit_types.specs.Shapes.{IsShape};
 ghost use Rattle.schema_json.specs.SecretShape.{shape_of};
 ghost use Rattle.table_load.specs.Cells.{FitsSchema};
-ghost use Rattle.transcript_sim.specs.Steps.{AsksNext, CanBeTaken, Cuts, FailsSending, IsCutShort, IsUnjudged, SendsFor, SendsVerdict, ShowsNext, goes_on, records_shown};
+ghost use Rattle.transcript_sim.specs.Steps.{AsksNext, CanBeTaken, CanFollow, Cuts, FailsSending, IsCutShort, IsUnjudged, SendsFor, SendsVerdict, ShowsNext, goes_on, records_shown};
 
 use crate::due::{Due, verdict_line};
 use crate::expecting::Expected;
@@ -26,6 +26,18 @@ fn send_verdict<B: Bench>(bench: &mut B, due: Due) -> Result<(), Failed>
     ensures fails { OnErr result (FailsSending B.Bench bench.old bench.new due) }
 {
     bench.send(verdict_line(due))
+}
+
+// Takes the answer of a line that agrees, if it tells one.
+fn take_answer(core: &mut Core, shown: &Option<Shown>) -> Result<(), NoMemory>
+    requires { CanFollow core.old.setting core.old.history shown.now }
+    ensures takes { OnOk result (core.new.history ≡ core.old.history ++ records_shown shown.now) }
+    ensures setting { core.new.setting ≡ core.old.setting }
+{
+    match shown {
+        Some(Shown::Agrees(Some(answered))) => core.take(answered),
+        _ => Ok(()),
+    }
 }
 
 /// What is kept from line to line: the lines that are to come, the answers that were shown, and the memory that JSON is read with.
@@ -92,9 +104,7 @@ impl Simulation {
         ensures cuts { Cuts P.Source self.old.lines self.new.lines source.old source.new }
     {
         let shown = next_shown(&mut self.lines, source, expected)?;
-        if let Some(Shown::Agrees(Some(answered))) = &shown {
-            self.core.take(answered)?;
-        }
+        take_answer(&mut self.core, &shown)?;
         Ok(shown)
     }
 }

@@ -1,15 +1,20 @@
 //! Reading the lines of a transcript: a question, and the line that was shown to it.
-ghost use Rattle.std.specs.Prelude.{◌≡◌, [], true, IfOk, IfErr};
+ghost use Rattle.std.specs.Prelude.{◌≡◌, ◌≤◌, [], true, length, IfOk, IfErr};
 ghost use Rattle.audit_types.specs.History.{setting_of};
 ghost use Rattle.schema_json.specs.SecretShape.{shape_of};
 ghost use Rattle.table_load.specs.Cells.{FitsSchema};
-ghost use Rattle.transcript_sim.specs.Steps.{AsksNext, Cuts, GivesNext, IsCutShort, ShowsNext};
+ghost use Rattle.line_wire.specs.Lines.{text};
+ghost use Rattle.transcript_sim.specs.Verdicts.{Expects};
+ghost use Rattle.transcript_sim.specs.Steps.{AsksNext, CanBeTaken, Cuts, GivesNext, IsCutShort, ShowsNext};
 
 use crate::expecting::{Expected, expected_of};
 use crate::judging::Simulation;
 use crate::shown::Shown;
 use crate::simulating::SimulationFault;
+use audit_core::Core;
+use audit_types::NoMemory;
 use bench_core::Source;
+use json::Scratch;
 use line_wire::laws::lines_in_turn;
 use line_wire::{Lines, Next, Reply};
 use question_plan::plan_line;
@@ -26,6 +31,26 @@ fn next_line<P: Source>(lines: &mut Lines, source: &mut P) -> Result<Next, Simul
 {
     lines_in_turn();
     Ok(lines.next(source)?)
+}
+
+// What the text of a question calls for after the records of the core.
+fn expected_of_line(
+    alloc: Global,
+    schema: &Schema,
+    index: &Index,
+    line: &[u8],
+    scratch: &mut Scratch,
+    core: &mut Core,
+) -> Result<Expected, NoMemory>
+    requires short { length line.now ≤ 8192 }
+    requires fits { FitsSchema schema.now.columns index.now }
+    requires setting { core.old.setting ≡ setting_of (shape_of schema.now.columns index.now.rows) }
+    ensures expects { IfOk result (Expects schema.now.columns index.now core.old.history (text line.now)) }
+    ensures can { IfOk result (CanBeTaken (setting_of (shape_of schema.now.columns index.now.rows)) core.old.history) }
+    ensures same { core.new ≡ core.old }
+{
+    let plan = plan_line(alloc, schema, index, line, scratch)?;
+    expected_of(core, plan)
 }
 
 impl Simulation {
@@ -47,8 +72,16 @@ impl Simulation {
     {
         match next_line(&mut self.lines, source)? {
             Next::Line => {
-                let plan = plan_line(alloc, schema, index, self.lines.text(), &mut self.scratch)?;
-                Ok(Some(expected_of(&mut self.core, plan)?))
+                let line = self.lines.text();
+                let expected = expected_of_line(
+                    alloc,
+                    schema,
+                    index,
+                    line,
+                    &mut self.scratch,
+                    &mut self.core,
+                )?;
+                Ok(Some(expected))
             }
             Next::Long => Ok(Some(Expected::Only(Reply::Long))),
             Next::End => Ok(None),

@@ -1,8 +1,63 @@
+use Rattle.std.proofs.Common.{rules, tests, ◌<◌, ◌≤◌, List, length, refl, sym, subst, inl, inr}
 use Rattle.std.proofs.lemmas.Result.{IfOk-from_err}
+use Rattle.audit_types.specs.History.{Setting, FitsShape, IsJudgementAfter}
+use Rattle.audit_types.specs.declared.records.Asked.{Asked}
+use Rattle.audit_types.specs.declared.records.Answered.{Answered}
+use Rattle.audit_types.specs.declared.records.Verdict.{Verdict}
+use Rattle.audit_types.specs.declared.records.Verdict.TheVariants.{Released, DeniedUnsafe, DeniedWide}
+use Rattle.audit_types.specs.Limits.{most_records}
+use Rattle.line_wire.specs.declared.question.Take.{Take}
+use Rattle.line_wire.specs.declared.reply.Reply.TheVariants as reply
+use Rattle.question_plan.specs.declared.planning.Plan.{Plan}
+use Rattle.question_plan.specs.Plans.{CanBeServed}
+use Rattle.transcript_sim.specs.declared.expecting.Expected.{Expected}
+use Rattle.transcript_sim.specs.declared.expecting.Expected.TheVariants.{Only}
+use Rattle.transcript_sim.specs.Steps.{CanBeTaken}
+use Rattle.transcript_sim.specs.Verdicts.{CallsFor, called_by}
 use Rattle.transcript_sim.proofs.expecting.expected_of.Goals as goal
 
-pub returns-in_err-weigh-clause-calls : goal.returns-in_err-weigh-clause-calls
-returns-in_err-weigh-clause-calls c = IfOk-from_err _ _ c.from_residual.ensures.0
+-- an answer that the judgement releases may be taken
+taken_if_released : (setting : Setting) (history : List Answered) (take : Take) (asked : Asked) (verdict : Verdict)
+    → FitsShape setting.shape asked.column asked.rows → IsJudgementAfter setting history asked.column asked.rows.list verdict
+    → CanBeTaken setting history (called_by take asked verdict)
+taken_if_released setting history take asked Released fits judged = (fits, judged.0)
+taken_if_released setting history take asked DeniedUnsafe fits judged = tt
+taken_if_released setting history take asked DeniedWide fits judged = tt
 
-pub returns-in_err-weigh-clause-can : goal.returns-in_err-weigh-clause-can
-returns-in_err-weigh-clause-can c = IfOk-from_err _ _ c.from_residual.ensures.0
+pub returns-in-Ready : goal.returns-in-Ready
+returns-in-Ready c = record {
+  calls = subst (λ (plan : Plan). CallsFor c.args.core.now.setting c.args.core.now.history plan (Only c.in-Ready.reply)) (sym c.in-Ready.is) refl;
+  can = tt;
+  same = refl;
+}
+
+pub returns-in-Ask : goal.returns-in-Ask
+returns-in-Ask c = record {
+  calls =
+      let full : most_records ≤ length c.args.core.now.history = search (rules, tests) in
+      subst (λ (plan : Plan). CallsFor c.args.core.now.setting c.args.core.now.history plan (Only reply.Full)) (sym c.in-Ask.is) (inl (full, refl));
+  can = tt;
+  same = refl;
+}
+
+pub returns-in_err-weigh-in-Ask-2 : goal.returns-in_err-weigh-in-Ask-2
+returns-in_err-weigh-in-Ask-2 c = record {
+  calls = IfOk-from_err _ _ c.from_residual.ensures.0;
+  can = IfOk-from_err _ _ c.from_residual.ensures.0;
+  same = c.weigh.ensures.same;
+}
+
+pub returns-in_ok-weigh-in-Ask-2 : goal.returns-in_ok-weigh-in-Ask-2
+returns-in_ok-weigh-in-Ask-2 c = record {
+  calls =
+      let room : length c.args.core.now.history < most_records = search (rules, tests) in
+      let judged = c.in_ok-weigh-in-Ask-2.ensures.judged in
+      subst (λ (plan : Plan). CallsFor c.args.core.now.setting c.args.core.now.history plan c.called_by.result) (sym c.in-Ask.is)
+      (inr (record { room = room; verdict = c.in_ok-weigh-in-Ask-2.field-0; judged = judged; expected_is = c.called_by.ensures }));
+  can =
+      let fits = subst (λ (plan : Plan). CanBeServed c.args.core.now.setting.shape plan) c.in-Ask.is c.requires in
+      subst (λ (expected : Expected). CanBeTaken c.args.core.now.setting c.args.core.now.history expected) (sym c.called_by.ensures)
+      (taken_if_released c.args.core.now.setting c.args.core.now.history c.in-Ask.take c.in-Ask.asked c.in_ok-weigh-in-Ask-2.field-0 fits.fits
+      c.in_ok-weigh-in-Ask-2.ensures.judged);
+  same = c.weigh.ensures.same;
+}
