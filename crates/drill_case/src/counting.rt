@@ -11,9 +11,10 @@ pub fn tally(sent: &[u8]) -> Tally
     ensures { IsTallyOf (lines_in sent.now) result }
 {
     let mut tally = NOTHING;
-    let parts = sent.split(|byte| *byte == b'\n');
-    for line in parts.filter(|part| !part.is_empty()) {
-        tally.count(kind_of(line));
+    for line in sent.split(|byte| *byte == b'\n') {
+        if !line.is_empty() {
+            tally.count(kind_of(line));
+        }
     }
     tally
 }
