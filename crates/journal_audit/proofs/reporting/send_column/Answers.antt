@@ -1,11 +1,10 @@
 use Rattle.std.proofs.Common.{◌≡◌, ◌<◌, sym, subst}
 use Rattle.audit_types.specs.Shapes.{columns}
 use Rattle.audit_types.specs.History.{Setting}
-use Rattle.audit_types.specs.declared.shapes.Kind.{Kind}
 use Rattle.audit_types.specs.declared.shapes.Kind.TheVariants.{Sum, Max}
 use Rattle.audit_core.specs.Audited.{Audited}
 use Rattle.audit_core.specs.Columns.{HasItsPart}
-use Rattle.journal_audit.specs.Reports.{audit_of, contents_of, subjects_of, SendsLinesOn}
+use Rattle.journal_audit.specs.Reports.{contents_of}
 use Rattle.journal_audit.proofs.reporting.send_column.Goals as goal
 
 pub column-requires : goal.column-requires

@@ -1,10 +1,26 @@
-use Rattle.std.proofs.Common.{◌≡◌, ◌++◌, ◌∙◌, sym, ap, arith, ℤ, pos, get_or, take, to_z, of_z}
+use Rattle.std.proofs.Common.{◌≡◌, ◌++◌, ◌∙◌, refl, sym, ap, arith, append-nil, List, ℤ, pos, get_or, take, to_z, of_z}
+use Rattle.std.proofs.lemmas.List.{take_all}
+use Rattle.std.proofs.lemmas.Result.{IfOk-from_err}
 use Rattle.std.proofs.lemmas.Int.{to_z-of_z}
 use mir.Syntax.{w128}
 use Rattle.journal_audit.specs.Texts.{with_commas, comma_unless, moved_rows, at_row}
 use Rattle.journal_audit.proofs.Commas.{is_none, is_none-snoc, text_more, moved_by, not_moved_by}
 use Rattle.journal_audit.proofs.texts.put_moved_rows.Goals as goal
 use Rattle.journal_audit.proofs.texts.put_moved_rows.Goals.{then-number-ne0+in_ok-put_at_row, else-number-ne0}
+
+pub loop-row-init : goal.loop-row-init
+loop-row-init c = record { so_far = sym (append-nil c.args.line.now.items); none_before = refl }
+
+pub bounds-direction-row : goal.bounds-direction-row
+bounds-direction-row c = c.loop-row-test.true
+
+pub returns-in_err-put_at_row : goal.returns-in_err-put_at_row
+returns-in_err-put_at_row c = IfOk-from_err _ _ c.from_residual.ensures.0
+
+pub returns : goal.returns
+returns c =
+    let all = take_all c.loop-row.row c.args.direction.now c.loop-row-test.false in
+    c.loop-row.invariant.so_far ∙ ap (λ (d : List ℤ). c.args.line.now.items ++ with_commas (moved_rows 0 d)) all
 
 pub loop-row-preserved : goal.loop-row-preserved
 loop-row-preserved c =
