@@ -1,28 +1,58 @@
+use Rattle.std.proofs.Common.{rules, ◌≡◌, List, ℕ, Option, Result, Err, IfErr, sym, subst}
 use Rattle.std.proofs.lemmas.Result.{IfOk-from_err}
+use Rattle.line_wire.specs.Lines.{text, long}
+use Rattle.line_wire.specs.declared.lines.Next.{Next}
+use Rattle.transcript_sim.specs.declared.shown.Shown.{Shown}
+use Rattle.transcript_sim.specs.declared.simulating.SimulationFault.{SimulationFault}
+use Rattle.transcript_sim.specs.Steps.{ComesTo, GivesNext, IsCutShort}
 use Rattle.transcript_sim.proofs.questions.next_shown.Goals as goal
 
-pub returns-in_err-next_line-clause-shows : goal.returns-in_err-next_line-clause-shows
-returns-in_err-next_line-clause-shows g c = IfOk-from_err _ _ c.from_residual.ensures.0
+abbrev ended_by : SimulationFault → Result (Option Shown) SimulationFault
+ended_by fault = Err fault
 
--- ---- the lines
+pub returns-in_err-next_line : goal.returns-in_err-next_line
+returns-in_err-next_line g c = record {
+  shows = IfOk-from_err _ _ c.from_residual.ensures.0;
+  short =
+      let same : c.from_residual.result ≡ ended_by c.in_err-next_line.field-0.0 = search rules in
+      subst
+      (λ (r : Result (Option Shown) SimulationFault). IfErr r (IsCutShort g.P.Source c.args.lines.now c.next_line.new.lines c.args.source.now
+      c.next_line.new.source))
+      (sym same) c.in_err-next_line.ensures.short;
+  cuts = c.next_line.ensures.cuts;
+}
 
-pub returns-in_err-next_line-clause-cuts : goal.returns-in_err-next_line-clause-cuts
-returns-in_err-next_line-clause-cuts g c = c.next_line.ensures.cuts
+pub returns-in-Line : goal.returns-in-Line
+returns-in-Line g c = record {
+  shows =
+      let gives =
+      subst (λ (n : Next). GivesNext g.P.Source c.args.lines.now c.next_line.new.lines c.args.source.now c.next_line.new.source n) c.in-Line.is
+      c.in_ok-next_line.ensures.gives in
+      record {
+        line = text c.next_line.new.lines.text;
+        gives = gives.0;
+        comes_to = subst (λ (line : List ℕ). ComesTo (text line) c.args.expected.now c.shown.result) c.text.ensures c.shown.ensures;
+      };
+  short = tt;
+  cuts = c.next_line.ensures.cuts;
+}
 
-pub returns-in-Line-clause-cuts : goal.returns-in-Line-clause-cuts
-returns-in-Line-clause-cuts g c = c.next_line.ensures.cuts
+pub returns-in-Long : goal.returns-in-Long
+returns-in-Long g c = record {
+  shows =
+      let gives =
+      subst (λ (n : Next). GivesNext g.P.Source c.args.lines.now c.next_line.new.lines c.args.source.now c.next_line.new.source n) c.in-Long.is
+      c.in_ok-next_line.ensures.gives in
+      record { line = long; gives = gives; comes_to = λ added agrees. agrees };
+  short = tt;
+  cuts = c.next_line.ensures.cuts;
+}
 
-pub returns-in-Long-clause-cuts : goal.returns-in-Long-clause-cuts
-returns-in-Long-clause-cuts g c = c.next_line.ensures.cuts
-
-pub returns-in-End-clause-cuts : goal.returns-in-End-clause-cuts
-returns-in-End-clause-cuts g c = c.next_line.ensures.cuts
-
-pub returns-in-Line-clause-short : goal.returns-in-Line-clause-short
-returns-in-Line-clause-short g c = tt
-
-pub returns-in-Long-clause-short : goal.returns-in-Long-clause-short
-returns-in-Long-clause-short g c = tt
-
-pub returns-in-End-clause-short : goal.returns-in-End-clause-short
-returns-in-End-clause-short g c = tt
+pub returns-in-End : goal.returns-in-End
+returns-in-End g c = record {
+  shows =
+      subst (λ (n : Next). GivesNext g.P.Source c.args.lines.now c.next_line.new.lines c.args.source.now c.next_line.new.source n) c.in-End.is
+      c.in_ok-next_line.ensures.gives;
+  short = tt;
+  cuts = c.next_line.ensures.cuts;
+}
