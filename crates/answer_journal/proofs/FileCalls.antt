@@ -1,13 +1,14 @@
 -- Calls on the file, one after the other: at every moment nothing was sent, and each image has some property.
-use Rattle.std.proofs.Common.{◌≡◌, ℕ, ◌≤◌, List, Result, Ok, Err, sym, subst, ◌∙◌}
-use Rattle.std.specs.Prelude.{IsErrOf, OnErr}
+use Rattle.std.proofs.Common.{◌≡◌, ℕ, ◌≤◌, Bool, true, List, Result, Ok, Err, refl, sym, subst, ◌∙◌, arith}
+use Rattle.std.specs.Prelude.{IsErrOf, OnErr, is_err}
 use Rattle.std.specs.Result.{IsErr, IsErrAnd}
 use Rattle.std.proofs.lemmas.Bool.{false≢true}
 use Rattle.bench_core.specs.Causes.{HasCause, Rose}
 use Rattle.bench_core.specs.declared.bench.Bench.{Ghosts}
-use Rattle.bench_core.specs.Bench.{Unsent, Elapses}
+use Rattle.bench_core.specs.Bench.{Unsent, Elapses, Torn, Follows}
 use Rattle.bench_core.specs.Calls.{IsQuiet, LeavesOnly}
 use Rattle.bench_core.specs.Moments.{started, goes_on, joins, weakens}
+use Rattle.answer_journal.specs.Append.{Writing}
 use Rattle.answer_journal.specs.Moments.{IsUntouched}
 
 -- what is found now is an image, with what was sent
@@ -55,6 +56,29 @@ module _ {D : Type 0} (bench : Ghosts D) (old : D) (only_now : OnlyNow bench old
   pub still_quiet : (new : D) → LeavesNoMore bench old new → bench.file new ≡ bench.file old → IsQuiet bench new
   still_quiet new left same image is = quiet image (left image is) ∙ sym same
 
+-- a file is torn to itself
+torn_same : (at count : ℕ) (file : List ℕ) → Torn at count file file
+torn_same at count file = record { before = refl; after = refl; no_shorter = omega arith; no_longer = omega arith }
+
+module _ {D : Type 0} (bench : Ghosts D) (old : D) (only_now : OnlyNow bench old) (quiet : IsQuiet bench old) (at count : ℕ)
+    (wrote : D) (write_time : Passes bench old wrote) (write_crash : Follows (Torn at count) (bench.leaves old) (bench.leaves wrote)) where
+  torn : (image : List ℕ) → bench.leaves wrote image → Torn at count (bench.file old) image
+  torn image left =
+      let from = write_crash image left in
+      subst (λ (file : List ℕ). Torn at count file image) (quiet from.0 from.1) from.2
+
+  -- bytes were written
+  pub writing : LeavesOnly bench old wrote (Writing at count (bench.file old) (bench.sent old))
+  writing =
+      first_call bench old (Torn at count (bench.file old)) wrote only_now write_time
+      (λ image left. subst (Torn at count (bench.file old)) (sym (quiet image left)) (torn_same at count (bench.file old))) torn
+
+  -- and made stable
+  pub made_stable : bench.sent wrote ≡ bench.sent old → (new : D) → Passes bench wrote new → LeavesNoMore bench wrote new
+      → LeavesOnly bench old new (Writing at count (bench.file old) (bench.sent old))
+  made_stable same new time left =
+      next_call bench old (Torn at count (bench.file old)) wrote new writing time (λ image is. torn image (left image is)) same
+
 -- calls after some that leave the file alone
 pub after_untouched : {D : Type 0} (bench : Ghosts D) (old mid new : D) (P : List ℕ → List ℕ → List ℕ → Type 0) →
     ((image sent : List ℕ) → IsUntouched (bench.file old) (bench.sent old) image sent → P (bench.sent old) image sent) →
@@ -73,6 +97,11 @@ has_cause before now (Err e) is later rose = record { later = later; failed = ro
 pub on_err_always : {X E P : Type 0} (answer : Result X E) → P → OnErr answer P
 on_err_always (Ok x) holds = tt
 on_err_always (Err e) holds = holds
+
+-- where the last call's answer is given, it tells whether that failed
+pub tells_last : {X E : Type 0} {last : Bool} (answer : Result X E) → last ≡ is_err answer → OnErr answer (last ≡ true)
+tells_last (Ok x) is = tt
+tells_last (Err e) is = is
 
 -- a refusal has one fault, and an answer has none
 pub fault_is : {X E : Type 0} (answer : Result X E) (given : E) → IsErr answer × IsErrAnd answer (λ e. e ≡ given) → IsErrOf answer given

@@ -1,5 +1,5 @@
 -- What a crash leaves while a journal is made.
-use Rattle.std.proofs.Common.{◌≡◌, ◌≢◌, ℕ, ◌+◌, ◌<◌, ◌≤◌, inl, inr, nat_lt, Result, Ok, Err, List, [], ◌∷◌, ◌++◌, length, get_or, take, drop, refl, sym, ap, ◌∙◌, arith, append_assoc, append-nil, length-append, length-take, length-drop}
+use Rattle.std.proofs.Common.{◌≡◌, ◌≢◌, ℕ, ◌+◌, ◌<◌, ◌≤◌, inl, inr, nat_lt, Result, Ok, Err, List, [], ◌∷◌, ◌++◌, length, slice_index, get_or, take, drop, refl, sym, ap, ◌∙◌, arith, append_assoc, append-nil, length-append, length-take, length-drop}
 use Rattle.std.specs.Prelude.{if◌then◌else◌, IsErrOf}
 use Rattle.std.specs.Result.{IsErr, IsErrAnd}
 use Rattle.std.proofs.Math.Seq.{drop-cons}
@@ -10,10 +10,10 @@ use Rattle.audit_types.specs.declared.shapes.Shape.{Shape}
 use Rattle.journal_form.specs.Header.{header, named, IsWholeShape}
 use Rattle.journal_form.specs.Journal.{StandsAt}
 use Rattle.bench_core.specs.declared.bench.Bench.{Ghosts}
-use Rattle.bench_core.specs.Bench.{Torn, Follows}
+use Rattle.bench_core.specs.Bench.{Holds}
 use Rattle.bench_core.specs.Calls.{LeavesOnly}
 use Rattle.bench_core.specs.Moments.{weakens}
-use Rattle.answer_journal.specs.Append.{Appending, appended}
+use Rattle.answer_journal.specs.Append.{Appending, Writing, appended}
 use Rattle.answer_journal.specs.Make.{empty_journal, calls_to_make}
 use Rattle.answer_journal.specs.Moments.{IsShort, IsAlready, IsFound, IsUntouched, IsUnmadeOrEmpty}
 use Rattle.answer_journal.specs.declared.make.Found.TheVariants.{Closed, Short}
@@ -111,15 +111,12 @@ already_no_failed is = let none : ⊥ = cc in absurd none
 pub made_no_fault : {X P : Type 0} (x : X) (e : MakeFault) → IsErrOf (Ok x) e → P
 made_no_fault x e is = let none : ⊥ = cc in absurd none
 
--- a quiet bench with a short file leaves a short one
-pub quiet_short : (file : List ℕ) (old : List ℕ → Type 0) → IsShort file → ((image : List ℕ) → old image → image ≡ file)
-    → (image : List ℕ) → old image → IsShort image
-quiet_short file old short quiet image left = omega (arith, ap length (quiet image left), short)
-
 -- a write of the first byte leaves a short file short
-pub torn_short : (file : List ℕ) (old new : List ℕ → Type 0) → IsShort file → ((image : List ℕ) → old image → image ≡ file)
-    → Follows (Torn 0 1) old new
-    → (image : List ℕ) → new image → IsShort image
-torn_short file old new short quiet follows image left =
-    let from = follows image left in
-    omega (arith, from.2.no_longer, ap length (quiet from.0 from.1), short)
+pub torn_short : (file before : List ℕ) → IsShort file → (image sent : List ℕ) → Writing 0 1 file before image sent → (sent ≡ before) × IsShort image
+torn_short file before short image sent (same, torn) = (same, omega (arith, torn.no_longer, short))
+
+-- and one with its header gate closed
+pub shut_short : (file new : List ℕ) → IsShort file → Holds file 0 (0 ∷ []) new → IsShort new × (0 < length new) × (slice_index new 0 ≡ 0)
+shut_short file new short is =
+    let long : length new ≡ length (0 ∷ drop 1 file) = ap (λ (l : List ℕ). length l) is in
+    (omega (arith, long, length-drop 1 file, short), omega (arith, long), ap (λ (l : List ℕ). slice_index l 0) is)

@@ -1,8 +1,13 @@
--- What the four calls of an append write.
+-- What the four calls of an append write, and each of its two steps.
 use Rattle.std.specs.Prelude.{◌≡◌, ◌⊎◌, ℕ, ◌+◌, List, [], ◌∷◌, ◌++◌, length, take, drop}
 use Rattle.audit_types.specs.declared.shapes.Shape.{Shape}
 use Rattle.audit_types.specs.declared.records.Answered.{Answered}
+use Rattle.bench_core.specs.Bench.{Torn}
 use Rattle.journal_form.specs.Group.{IsGroup}
+
+-- nothing was sent meanwhile, and the image is the file with any bytes in the place of so many
+abbrev pub Writing : ℕ → ℕ → List ℕ → List ℕ → List ℕ → List ℕ → Type 0
+Writing at count file before image sent = (sent ≡ before) × Torn at count file image
 
 -- Nothing was sent meanwhile. Either the gate and all before it are as they were, or the whole group stands behind it.
 abbrev pub Appending : ℕ → List ℕ → List ℕ → List ℕ → List ℕ → List ℕ → Type 0
