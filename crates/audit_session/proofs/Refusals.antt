@@ -30,14 +30,14 @@ refusal (Ok x) fault is = absurd (false≢true is.0)
 refusal (Err e) fault is = cc
 
 -- want of memory is no other fault
-pub memory_no_input : {X P : Type 0} (answer : Result X EndFault) → answer ≡ Err end.NoMemory → answer ≡ Err end.Input → P
-memory_no_input answer same is = let none : ⊥ = cc in absurd none
+pub memory_no_input : {X : Type 0} (answer : Result X EndFault) → answer ≡ Err end.NoMemory → answer ≡ Err end.Input → ⊥
+memory_no_input answer same is = cc
 
-pub memory_no_limit : {X P : Type 0} (answer : Result X EndFault) → answer ≡ Err end.NoMemory → answer ≡ Err end.Limit → P
-memory_no_limit answer same is = let none : ⊥ = cc in absurd none
+pub memory_no_limit : {X : Type 0} (answer : Result X EndFault) → answer ≡ Err end.NoMemory → answer ≡ Err end.Limit → ⊥
+memory_no_limit answer same is = cc
 
-pub memory_no_bench : {X P : Type 0} (answer : Result X EndFault) → answer ≡ Err end.NoMemory → answer ≡ Err end.Bench → P
-memory_no_bench answer same is = let none : ⊥ = cc in absurd none
+pub memory_no_bench : {X : Type 0} (answer : Result X EndFault) → answer ≡ Err end.NoMemory → answer ≡ Err end.Bench → ⊥
+memory_no_bench answer same is = cc
 
 -- the cutter's stop, by the fault that it makes
 pub by_input : {X : Type 0} (given : LineStop) (answer : Result X EndFault) → answer ≡ Err (line_end given) → answer ≡ Err end.Input → given ≡ stop.Input

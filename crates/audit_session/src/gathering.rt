@@ -111,10 +111,11 @@ fn next_plan<P: Source>(
     ensures last_call { result ≡ Err EndFault.Input → P.last_failed source.new ≡ true }
     ensures others { result ≢ Err EndFault.Bench }
 {
-    match lines.next(source)? {
-        Next::Line => Ok(Some(plan_line(alloc, schema, index, lines.text(), scratch)?)),
-        Next::Long => Ok(Some(Plan::Ready(Reply::Long))),
-        Next::End => Ok(None),
+    match lines.next(source) {
+        Ok(Next::Line) => Ok(Some(plan_line(alloc, schema, index, lines.text(), scratch)?)),
+        Ok(Next::Long) => Ok(Some(Plan::Ready(Reply::Long))),
+        Ok(Next::End) => Ok(None),
+        Err(stop) => Err(EndFault::from(stop)),
     }
 }
 

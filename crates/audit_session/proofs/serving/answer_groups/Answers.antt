@@ -1,5 +1,6 @@
 use Rattle.std.proofs.Common.{◌≡◌, ℕ, ◌++◌, ◌||◌, Bool, true, false, not, List, Result, Ok, Err, refl, sym, ◌∙◌, ap, subst, arith, rules}
 use Rattle.std.specs.Prelude.{All}
+use Rattle.std.proofs.lemmas.Result.{IfOk-from_err}
 use Rattle.audit_types.specs.declared.shapes.Shape.{Shape}
 use Rattle.bench_core.specs.Causes.{Rose}
 use Rattle.question_plan.specs.Plans.{CanBeServed}
@@ -31,111 +32,6 @@ loop-more-init g c = record {
   room = c.requires.room;
 }
 
-pub returns-in_err-more-clause-ends : goal.returns-in_err-more-clause-ends
-returns-in_err-more-clause-ends g c = λ t u.
-    let e = c.in_err-more.ensures in
-    let fault = c.in_err-more.field-0.0 in
-    let same : c.from_residual.result ≡ ended_by fault = search rules in
-    let base = base_of c.args.schema.now.columns c.args.index.now c.args.store.now.secret in
-    let input = g.P.Source.left c.args.source.now in
-    let left = g.P.Source.left c.gather.new.source in
-    let before = g.B.Bench.sent c.args.bench.now in
-    let after = g.B.Bench.sent c.loop-more.bench in
-    let s = c.loop-more.invariant.served in
-    let rest = c.loop-more.lines.pending ++ g.P.Source.left c.loop-more.source in
-    let now = c.gather.new.lines in
-    subst (λ (r : Result (Unit {0}) EndFault). Ends c.args.batch r base c.args.store.now.history input left c.loop-more.store.history before after) (sym same)
-    (ends_by {X = Bool} c.args.batch base c.args.store.now.history input left c.loop-more.store.history before after fault
-    (λ is. served_whole g.P.Source g.B.Bench c.args.schema.now.columns c.args.index.now c.args.batch c.loop-more.lines c.args.store.now c.loop-more.store c.args.source.now c.loop-more.source c.args.bench.now c.loop-more.bench s t u left
-    (λ ended none. (e.once ended).1 is) (e.input t is))
-    (λ is. served_limited g.P.Source g.B.Bench c.args.schema.now.columns c.args.index.now c.args.batch c.loop-more.lines c.args.store.now c.loop-more.store c.args.source.now c.loop-more.source c.args.bench.now c.loop-more.bench s t u (now.pending ++ left)
-    (λ ended none. cut_not_over c.args.batch rest now.pending left (e.limit t is) (e.over is).1 none) (e.limit t is) now.pending left now.taken refl
-    (e.over is).0 (e.taken t ∙ s.taken t))
-    (λ is. some_served g.P.Source g.B.Bench c.args.schema.now.columns c.args.index.now c.args.batch c.loop-more.lines c.args.store.now c.loop-more.store c.args.source.now c.loop-more.source c.args.bench.now c.loop-more.bench s t u))
-
-pub returns-in_err-more-clause-reads : goal.returns-in_err-more-clause-reads
-returns-in_err-more-clause-reads g c = λ t.
-    let e = c.in_err-more.ensures in
-    let fault = c.in_err-more.field-0.0 in
-    let same : c.from_residual.result ≡ ended_by fault = search rules in
-    let input = g.P.Source.left c.args.source.now in
-    let left = g.P.Source.left c.gather.new.source in
-    subst (λ (r : Result (Unit {0}) EndFault). Reads r input left) (sym same)
-    (reads_by {X = Bool} input left fault (λ is. omega (arith, e.taken t, c.loop-more.invariant.served.taken t, e.read is)) (λ is. omega (arith, e.taken t, c.loop-more.invariant.served.taken t, (e.over is).0, (e.over is).1)))
-
-pub returns-in_err-answer-clause-ends : goal.returns-in_err-answer-clause-ends
-returns-in_err-answer-clause-ends g c = λ t u.
-    let e = c.in_err-answer.ensures in
-    let fault = c.in_err-answer.field-0.0 in
-    let same : c.from_residual-in_err-answer.result ≡ ended_by fault = search rules in
-    let base = base_of c.args.schema.now.columns c.args.index.now c.args.store.now.secret in
-    let input = g.P.Source.left c.args.source.now in
-    let left = g.P.Source.left c.gather.new.source in
-    let before = g.B.Bench.sent c.args.bench.now in
-    let some = some_served g.P.Source g.B.Bench c.args.schema.now.columns c.args.index.now c.args.batch c.loop-more.lines c.args.store.now c.loop-more.store c.args.source.now c.loop-more.source c.args.bench.now c.loop-more.bench c.loop-more.invariant.served t u in
-    subst
-    (λ (r : Result (Unit {0}) EndFault). Ends c.args.batch r base c.args.store.now.history input left c.answer.new.store.history before (g.B.Bench.sent c.answer.new.bench))
-    (sym same)
-    (ends_by {X = Unit {0}} c.args.batch base c.args.store.now.history input left c.answer.new.store.history before (g.B.Bench.sent c.answer.new.bench) fault
-    (λ is. absurd (e.others.0 is)) (λ is. absurd (e.others.1 is))
-    (λ is.
-    let still = e.no_memory is in
-    subst (λ (h : List Answered). ServesSome base c.args.store.now.history c.args.batch (counted_lines input) h before (g.B.Bench.sent c.answer.new.bench))
-    (sym still.1)
-    (subst (λ b. ServesSome base c.args.store.now.history c.args.batch (counted_lines input) c.loop-more.store.history before (g.B.Bench.sent b)) (sym still.0) some)))
-
-pub returns-in_err-answer-clause-moments : goal.returns-in_err-answer-clause-moments
-returns-in_err-answer-clause-moments g c = λ u quiet.
-    let e = c.in_ok-more.ensures in
-    let now = c.gather.new.lines in
-    let plans = c.gather.new.group.plans.items in
-    let rest = now.pending ++ g.P.Source.left c.gather.new.source in
-    turn_moments g.P.Source g.B.Bench c.args.schema.now.columns c.args.index.now c.args.batch c.loop-more.lines c.args.store.now c.loop-more.store c.args.source.now c.loop-more.source c.args.bench.now c.loop-more.bench c.loop-more.invariant.served
-    now (not c.in_ok-more.more || now.ended) c.gather.new.source plans e.gathers e.most c.requires.batch.0
-    (λ ended. still_ended c.in_ok-more.more now.ended (e.once ended).0) c.answer.new.bench
-    (whole_or_last {E = EndFault} g.P.Source.told c.args.batch c.in_ok-more.more plans rest e.whole e.last) u quiet
-    (c.in_err-answer.ensures.moments u (c.loop-more.invariant.served.quiet u quiet))
-
-pub returns-then-not-more-clause-ends : goal.returns-then-not-more-clause-ends
-returns-then-not-more-clause-ends g c = λ t u.
-    let e = c.in_ok-more.ensures in
-    let now = c.gather.new.lines in
-    let plans = c.gather.new.group.plans.items in
-    let more_is : c.in_ok-more.more ≡ false = search rules in
-    all_served g.P.Source g.B.Bench c.args.schema.now.columns c.args.index.now c.args.batch c.loop-more.lines c.args.store.now c.loop-more.store c.args.source.now c.loop-more.source c.args.bench.now c.loop-more.bench c.loop-more.invariant.served
-    now (not c.in_ok-more.more || now.ended) c.gather.new.source plans e.gathers e.most c.requires.batch.0
-    (λ ended. still_ended c.in_ok-more.more now.ended (e.once ended).0) c.answer.new.store.history c.answer.new.bench c.in_ok-answer.ensures.answers
-    t u (ap counted_lines (e.last t (ap given more_is))) c.answer.new.store.history refl
-
-pub returns-then-not-more-clause-rests : goal.returns-then-not-more-clause-rests
-returns-then-not-more-clause-rests g c = λ no. record {
-  stands = λ u. (c.answer.new.store.journal.gate, c.in_ok-answer.ensures.stands.as_left u);
-  quiet = λ u quiet. c.in_ok-answer.ensures.stands.quiet u (c.loop-more.invariant.served.quiet u quiet);
-}
-
-pub returns-then-not-more-clause-calls : goal.returns-then-not-more-clause-calls
-returns-then-not-more-clause-calls g c = λ t u.
-    let e = c.in_ok-more.ensures in
-    let now = c.gather.new.lines in
-    let plans = c.gather.new.group.plans.items in
-    let more_is : c.in_ok-more.more ≡ false = search rules in
-    all_calls g.P.Source g.B.Bench c.args.schema.now.columns c.args.index.now c.args.batch c.loop-more.lines c.args.store.now c.loop-more.store c.args.source.now c.loop-more.source c.args.bench.now c.loop-more.bench c.loop-more.invariant.served
-    now (not c.in_ok-more.more || now.ended) c.gather.new.source plans e.gathers e.most c.requires.batch.0
-    (λ ended. still_ended c.in_ok-more.more now.ended (e.once ended).0) c.answer.new.store.history c.answer.new.bench c.in_ok-answer.ensures.answers
-    t u (ap counted_lines (e.last t (ap given more_is)))
-
-pub returns-then-not-more-clause-moments : goal.returns-then-not-more-clause-moments
-returns-then-not-more-clause-moments g c = λ u quiet.
-    let e = c.in_ok-more.ensures in
-    let now = c.gather.new.lines in
-    let plans = c.gather.new.group.plans.items in
-    let rest = now.pending ++ g.P.Source.left c.gather.new.source in
-    turn_moments g.P.Source g.B.Bench c.args.schema.now.columns c.args.index.now c.args.batch c.loop-more.lines c.args.store.now c.loop-more.store c.args.source.now c.loop-more.source c.args.bench.now c.loop-more.bench c.loop-more.invariant.served
-    now (not c.in_ok-more.more || now.ended) c.gather.new.source plans e.gathers e.most c.requires.batch.0
-    (λ ended. still_ended c.in_ok-more.more now.ended (e.once ended).0) c.answer.new.bench
-    (whole_or_last {E = EndFault} g.P.Source.told c.args.batch c.in_ok-more.more plans rest e.whole e.last) u quiet
-    (c.in_ok-answer.ensures.moments u (c.loop-more.invariant.served.quiet u quiet))
-
 pub loop-more-preserved : goal.loop-more-preserved
 loop-more-preserved g c =
     let e = c.in_ok-more.ensures in
@@ -153,100 +49,6 @@ loop-more-preserved g c =
           c.answer.new.store refl (ap (λ (b : Bool). not b || now.ended) more_is) (e.whole (ap given more_is)) e.same e.taken e.within steady a.stands a.secret a.is bench_steady a.moments;
       room = a.room ∙ e.room ∙ c.loop-more.invariant.room;
     }
-
-pub returns-in_err-more-clause-rests : goal.returns-in_err-more-clause-rests
-returns-in_err-more-clause-rests g c = λ no. record { stands = λ u. (c.loop-more.store.journal.gate, c.loop-more.invariant.served.as_left u); quiet = c.loop-more.invariant.served.quiet }
-
-pub returns-in_err-more-clause-usable : goal.returns-in_err-more-clause-usable
-returns-in_err-more-clause-usable g c = λ bench memory. c.loop-more.invariant.served.usable
-
-pub returns-in_err-more-clause-left : goal.returns-in_err-more-clause-left
-returns-in_err-more-clause-left g c = λ u usable. c.loop-more.invariant.served.as_left u
-
-pub returns-in_err-more-clause-moments : goal.returns-in_err-more-clause-moments
-returns-in_err-more-clause-moments g c = c.loop-more.invariant.served.moments
-
-pub returns-in_err-more-clause-kept : goal.returns-in_err-more-clause-kept
-returns-in_err-more-clause-kept g c = (c.loop-more.invariant.served.secret, c.loop-more.invariant.served.is)
-
-pub returns-in_err-more-clause-later : goal.returns-in_err-more-clause-later
-returns-in_err-more-clause-later g c = (still_later _ _ _ c.loop-more.invariant.served.source_steady c.gather.ensures.later, omega (arith, c.loop-more.invariant.served.bench_steady))
-
-pub returns-in_err-answer-clause-left : goal.returns-in_err-answer-clause-left
-returns-in_err-answer-clause-left g c = c.answer.ensures.left
-
-pub returns-in_err-answer-clause-kept : goal.returns-in_err-answer-clause-kept
-returns-in_err-answer-clause-kept g c = (c.answer.ensures.secret ∙ c.loop-more.invariant.served.secret, c.answer.ensures.is)
-
-pub returns-in_err-answer-clause-later : goal.returns-in_err-answer-clause-later
-returns-in_err-answer-clause-later g c = (still_later _ _ _ c.loop-more.invariant.served.source_steady c.gather.ensures.later, still_later _ _ _ c.loop-more.invariant.served.bench_steady c.answer.ensures.later)
-
-pub returns-then-not-more-clause-again : goal.returns-then-not-more-clause-again
-returns-then-not-more-clause-again g c = (c.in_ok-answer.ensures.stands.usable, c.in_ok-answer.ensures.stands.as_left)
-
-pub returns-then-not-more-clause-usable : goal.returns-then-not-more-clause-usable
-returns-then-not-more-clause-usable g c = λ bench memory. c.in_ok-answer.ensures.stands.usable
-
-pub returns-then-not-more-clause-left : goal.returns-then-not-more-clause-left
-returns-then-not-more-clause-left g c = λ u usable. c.in_ok-answer.ensures.stands.as_left u
-
-pub returns-then-not-more-clause-kept : goal.returns-then-not-more-clause-kept
-returns-then-not-more-clause-kept g c = (c.in_ok-answer.ensures.secret ∙ c.loop-more.invariant.served.secret, c.in_ok-answer.ensures.is)
-
-pub returns-then-not-more-clause-later : goal.returns-then-not-more-clause-later
-returns-then-not-more-clause-later g c = (still_later _ _ _ c.loop-more.invariant.served.source_steady c.gather.ensures.later, still_later _ _ _ c.loop-more.invariant.served.bench_steady c.answer.ensures.later)
-
-pub returns-then-not-more-clause-input : goal.returns-then-not-more-clause-input
-returns-then-not-more-clause-input g c = λ is. no_refusal _ _ is
-
-pub returns-then-not-more-clause-bench : goal.returns-then-not-more-clause-bench
-returns-then-not-more-clause-bench g c = λ is. no_refusal _ _ is
-
-pub returns-then-not-more-clause-last_call : goal.returns-then-not-more-clause-last_call
-returns-then-not-more-clause-last_call g c = (λ is. no_refusal _ _ is, λ is. no_refusal _ _ is)
-
-pub returns-then-not-more-clause-steady : goal.returns-then-not-more-clause-steady
-returns-then-not-more-clause-steady g c = (λ no. c.in_ok-more.ensures.steady (λ is. no_refusal _ _ is) ∙ c.loop-more.invariant.served.source_steady, λ no. c.in_ok-answer.ensures.steady (λ is. no_refusal _ _ is) ∙ c.loop-more.invariant.served.bench_steady)
-
-pub returns-in_err-more-clause-input : goal.returns-in_err-more-clause-input
-returns-in_err-more-clause-input g c = λ is. let same : c.from_residual.result ≡ ended_by c.in_err-more.field-0.0 = search rules in subst (λ (n : ℕ). Rose n (g.P.Source.faults c.gather.new.source)) c.loop-more.invariant.served.source_steady (c.in_err-more.ensures.failed (same_fault {X = Unit {0}} {Y = Bool} c.in_err-more.field-0.0 end.Input (sym same ∙ is)))
-
-pub returns-in_err-more-clause-bench : goal.returns-in_err-more-clause-bench
-returns-in_err-more-clause-bench g c = λ is. let same : c.from_residual.result ≡ ended_by c.in_err-more.field-0.0 = search rules in absurd (c.in_err-more.ensures.others (same_fault {X = Unit {0}} {Y = Bool} c.in_err-more.field-0.0 end.Bench (sym same ∙ is)))
-
-pub returns-in_err-more-clause-last_call : goal.returns-in_err-more-clause-last_call
-returns-in_err-more-clause-last_call g c = let same : c.from_residual.result ≡ ended_by c.in_err-more.field-0.0 = search rules in (λ is. c.in_err-more.ensures.last_call (same_fault {X = Unit {0}} {Y = Bool} c.in_err-more.field-0.0 end.Input (sym same ∙ is)), λ is. absurd (c.in_err-more.ensures.others (same_fault {X = Unit {0}} {Y = Bool} c.in_err-more.field-0.0 end.Bench (sym same ∙ is))))
-
-pub returns-in_err-more-clause-steady : goal.returns-in_err-more-clause-steady
-returns-in_err-more-clause-steady g c = let same : c.from_residual.result ≡ ended_by c.in_err-more.field-0.0 = search rules in (λ other. c.in_err-more.ensures.steady (λ is. other (same ∙ same_fault {X = Bool} {Y = Unit {0}} c.in_err-more.field-0.0 end.Input is)) ∙ c.loop-more.invariant.served.source_steady, λ other. c.loop-more.invariant.served.bench_steady)
-
-pub returns-in_err-answer-clause-input : goal.returns-in_err-answer-clause-input
-returns-in_err-answer-clause-input g c = λ is. let same : c.from_residual-in_err-answer.result ≡ ended_by c.in_err-answer.field-0.0 = search rules in absurd (c.in_err-answer.ensures.others.0 (sym same ∙ is))
-
-pub returns-in_err-answer-clause-bench : goal.returns-in_err-answer-clause-bench
-returns-in_err-answer-clause-bench g c = λ is. let same : c.from_residual-in_err-answer.result ≡ ended_by c.in_err-answer.field-0.0 = search rules in subst (λ (n : ℕ). Rose n (g.B.Bench.faults c.answer.new.bench)) c.loop-more.invariant.served.bench_steady (c.in_err-answer.ensures.failed (sym same ∙ is))
-
-pub returns-in_err-answer-clause-last_call : goal.returns-in_err-answer-clause-last_call
-returns-in_err-answer-clause-last_call g c = let same : c.from_residual-in_err-answer.result ≡ ended_by c.in_err-answer.field-0.0 = search rules in (λ is. absurd (c.in_err-answer.ensures.others.0 (sym same ∙ is)), λ is. c.in_err-answer.ensures.last_call (sym same ∙ is))
-
-pub returns-in_err-answer-clause-steady : goal.returns-in_err-answer-clause-steady
-returns-in_err-answer-clause-steady g c = let same : c.from_residual-in_err-answer.result ≡ ended_by c.in_err-answer.field-0.0 = search rules in (λ other. c.in_ok-more.ensures.steady (λ is. no_refusal _ _ is) ∙ c.loop-more.invariant.served.source_steady, λ other. c.in_err-answer.ensures.steady (λ is. other (same ∙ is)) ∙ c.loop-more.invariant.served.bench_steady)
-
-pub returns-then-not-more-clause-reads : goal.returns-then-not-more-clause-reads
-returns-then-not-more-clause-reads g c = λ t.
-    let e = c.in_ok-more.ensures in
-    let more_is : c.in_ok-more.more ≡ false = search rules in
-    all_read (g.P.Source.left c.args.source.now) c.gather.new.lines.pending (g.P.Source.left c.gather.new.source) c.gather.new.lines.taken (e.last t (ap given more_is))
-    (e.taken t ∙ c.loop-more.invariant.served.taken t) e.within
-
-pub returns-in_err-answer-clause-rests : goal.returns-in_err-answer-clause-rests
-returns-in_err-answer-clause-rests g c = λ no.
-    let e = c.in_err-answer.ensures in
-    let fault = c.in_err-answer.field-0.0 in
-    let same : c.from_residual-in_err-answer.result ≡ ended_by fault = search rules in
-    let served = c.loop-more.invariant.served in
-    rests_by {X = Unit {0}} fault e.others.0 e.others.1 (λ is. no (same ∙ is)) g.B.Bench c.args.bench.now c.loop-more.bench c.answer.new.bench c.loop-more.store c.answer.new.store
-    e.no_memory e.secret (record { stands = λ u. (c.loop-more.store.journal.gate, served.as_left u); quiet = served.quiet })
 
 pub loop-more-smaller : goal.loop-more-smaller
 loop-more-smaller g c = omega (arith, c.in_ok-more.ensures.takes (ap given c.if-not-more.false), c.in_ok-more.ensures.within, c.loop-more.invariant.served.within)
@@ -276,3 +78,135 @@ answer-requires-clause-room g c = omega (arith, c.in_ok-more.ensures.most, c.gat
 
 pub answer-requires-clause-stands : goal.answer-requires-clause-stands
 answer-requires-clause-stands g c = c.loop-more.invariant.served.as_left
+
+pub returns-in_err-more : goal.returns-in_err-more
+returns-in_err-more g c =
+    let e = c.in_err-more.ensures in
+    let fault = c.in_err-more.field-0.0 in
+    let same : c.from_residual.result ≡ ended_by fault = search rules in
+    let input = g.P.Source.left c.args.source.now in
+    let left = g.P.Source.left c.gather.new.source in
+    record {
+      ends = λ t u.
+          let base = base_of c.args.schema.now.columns c.args.index.now c.args.store.now.secret in
+          let before = g.B.Bench.sent c.args.bench.now in
+          let after = g.B.Bench.sent c.loop-more.bench in
+          let s = c.loop-more.invariant.served in
+          let rest = c.loop-more.lines.pending ++ g.P.Source.left c.loop-more.source in
+          let now = c.gather.new.lines in
+          subst (λ (r : Result (Unit {0}) EndFault). Ends c.args.batch r base c.args.store.now.history input left c.loop-more.store.history before after) (sym same)
+          (ends_by {X = Bool} c.args.batch base c.args.store.now.history input left c.loop-more.store.history before after fault
+          (λ is. served_whole g.P.Source g.B.Bench c.args.schema.now.columns c.args.index.now c.args.batch c.loop-more.lines c.args.store.now c.loop-more.store c.args.source.now c.loop-more.source c.args.bench.now c.loop-more.bench s t u left
+          (λ ended none. (e.once ended).1 is) (e.input t is))
+          (λ is. served_limited g.P.Source g.B.Bench c.args.schema.now.columns c.args.index.now c.args.batch c.loop-more.lines c.args.store.now c.loop-more.store c.args.source.now c.loop-more.source c.args.bench.now c.loop-more.bench s t u (now.pending ++ left)
+          (λ ended none. cut_not_over c.args.batch rest now.pending left (e.limit t is) (e.over is).1 none) (e.limit t is) now.pending left now.taken refl
+          (e.over is).0 (e.taken t ∙ s.taken t))
+          (λ is. some_served g.P.Source g.B.Bench c.args.schema.now.columns c.args.index.now c.args.batch c.loop-more.lines c.args.store.now c.loop-more.store c.args.source.now c.loop-more.source c.args.bench.now c.loop-more.bench s t u));
+      reads = λ t.
+          subst (λ (r : Result (Unit {0}) EndFault). Reads r input left) (sym same)
+          (reads_by {X = Bool} input left fault (λ is. omega (arith, e.taken t, c.loop-more.invariant.served.taken t, e.read is)) (λ is. omega (arith, e.taken t, c.loop-more.invariant.served.taken t, (e.over is).0, (e.over is).1)));
+      rests = λ no.
+          record { stands = λ u. (c.loop-more.store.journal.gate, c.loop-more.invariant.served.as_left u); quiet = c.loop-more.invariant.served.quiet };
+      again = IfOk-from_err _ _ c.from_residual.ensures.0;
+      usable = λ bench memory. c.loop-more.invariant.served.usable;
+      left = λ u usable. c.loop-more.invariant.served.as_left u;
+      calls = λ t u. IfOk-from_err _ _ c.from_residual.ensures.0;
+      moments = c.loop-more.invariant.served.moments;
+      kept = (c.loop-more.invariant.served.secret, c.loop-more.invariant.served.is);
+      later = (still_later _ _ _ c.loop-more.invariant.served.source_steady c.gather.ensures.later, omega (arith, c.loop-more.invariant.served.bench_steady));
+      input = λ is. subst (λ (n : ℕ). Rose n (g.P.Source.faults c.gather.new.source)) c.loop-more.invariant.served.source_steady (e.failed (same_fault {X = Unit {0}} {Y = Bool} fault end.Input (sym same ∙ is)));
+      bench = λ is. absurd (e.others (same_fault {X = Unit {0}} {Y = Bool} fault end.Bench (sym same ∙ is)));
+      last_call = (λ is. e.last_call (same_fault {X = Unit {0}} {Y = Bool} fault end.Input (sym same ∙ is)), λ is. absurd (e.others (same_fault {X = Unit {0}} {Y = Bool} fault end.Bench (sym same ∙ is))));
+      steady = (λ other. e.steady (λ is. other (same ∙ same_fault {X = Bool} {Y = Unit {0}} fault end.Input is)) ∙ c.loop-more.invariant.served.source_steady, λ other. c.loop-more.invariant.served.bench_steady);
+    }
+
+pub returns-in_err-answer : goal.returns-in_err-answer
+returns-in_err-answer g c =
+    let e = c.in_err-answer.ensures in
+    let fault = c.in_err-answer.field-0.0 in
+    let same : c.from_residual-in_err-answer.result ≡ ended_by fault = search rules in
+    record {
+      ends = λ t u.
+          let base = base_of c.args.schema.now.columns c.args.index.now c.args.store.now.secret in
+          let input = g.P.Source.left c.args.source.now in
+          let left = g.P.Source.left c.gather.new.source in
+          let before = g.B.Bench.sent c.args.bench.now in
+          let some = some_served g.P.Source g.B.Bench c.args.schema.now.columns c.args.index.now c.args.batch c.loop-more.lines c.args.store.now c.loop-more.store c.args.source.now c.loop-more.source c.args.bench.now c.loop-more.bench c.loop-more.invariant.served t u in
+          subst
+          (λ (r : Result (Unit {0}) EndFault). Ends c.args.batch r base c.args.store.now.history input left c.answer.new.store.history before (g.B.Bench.sent c.answer.new.bench))
+          (sym same)
+          (ends_by {X = Unit {0}} c.args.batch base c.args.store.now.history input left c.answer.new.store.history before (g.B.Bench.sent c.answer.new.bench) fault
+          (λ is. absurd (e.others.0 is)) (λ is. absurd (e.others.1 is))
+          (λ is.
+          let still = e.no_memory is in
+          subst (λ (h : List Answered). ServesSome base c.args.store.now.history c.args.batch (counted_lines input) h before (g.B.Bench.sent c.answer.new.bench))
+          (sym still.1)
+          (subst (λ b. ServesSome base c.args.store.now.history c.args.batch (counted_lines input) c.loop-more.store.history before (g.B.Bench.sent b)) (sym still.0) some)));
+      reads = search rules;
+      rests = λ no.
+          let served = c.loop-more.invariant.served in
+          rests_by {X = Unit {0}} fault e.others.0 e.others.1 (λ is. no (same ∙ is)) g.B.Bench c.args.bench.now c.loop-more.bench c.answer.new.bench c.loop-more.store c.answer.new.store
+          e.no_memory e.secret (record { stands = λ u. (c.loop-more.store.journal.gate, served.as_left u); quiet = served.quiet });
+      again = IfOk-from_err _ _ c.from_residual-in_err-answer.ensures.0;
+      usable = search rules;
+      left = c.answer.ensures.left;
+      calls = λ t u. IfOk-from_err _ _ c.from_residual-in_err-answer.ensures.0;
+      moments = λ u quiet.
+          let e = c.in_ok-more.ensures in
+          let now = c.gather.new.lines in
+          let plans = c.gather.new.group.plans.items in
+          let rest = now.pending ++ g.P.Source.left c.gather.new.source in
+          turn_moments g.P.Source g.B.Bench c.args.schema.now.columns c.args.index.now c.args.batch c.loop-more.lines c.args.store.now c.loop-more.store c.args.source.now c.loop-more.source c.args.bench.now c.loop-more.bench c.loop-more.invariant.served
+          now (not c.in_ok-more.more || now.ended) c.gather.new.source plans e.gathers e.most c.requires.batch.0
+          (λ ended. still_ended c.in_ok-more.more now.ended (e.once ended).0) c.answer.new.bench
+          (whole_or_last {E = EndFault} g.P.Source.told c.args.batch c.in_ok-more.more plans rest e.whole e.last) u quiet
+          (c.in_err-answer.ensures.moments u (c.loop-more.invariant.served.quiet u quiet));
+      kept = (c.answer.ensures.secret ∙ c.loop-more.invariant.served.secret, c.answer.ensures.is);
+      later = (still_later _ _ _ c.loop-more.invariant.served.source_steady c.gather.ensures.later, still_later _ _ _ c.loop-more.invariant.served.bench_steady c.answer.ensures.later);
+      input = λ is. absurd (e.others.0 (sym same ∙ is));
+      bench = λ is. subst (λ (n : ℕ). Rose n (g.B.Bench.faults c.answer.new.bench)) c.loop-more.invariant.served.bench_steady (e.failed (sym same ∙ is));
+      last_call = (λ is. absurd (e.others.0 (sym same ∙ is)), λ is. e.last_call (sym same ∙ is));
+      steady = (λ other. c.in_ok-more.ensures.steady (λ is. no_refusal _ _ is) ∙ c.loop-more.invariant.served.source_steady, λ other. e.steady (λ is. other (same ∙ is)) ∙ c.loop-more.invariant.served.bench_steady);
+    }
+
+pub returns-then-not-more : goal.returns-then-not-more
+returns-then-not-more g c =
+    let e = c.in_ok-more.ensures in
+    let now = c.gather.new.lines in
+    let plans = c.gather.new.group.plans.items in
+    let more_is : c.in_ok-more.more ≡ false = search rules in
+    record {
+      ends = λ t u.
+          all_served g.P.Source g.B.Bench c.args.schema.now.columns c.args.index.now c.args.batch c.loop-more.lines c.args.store.now c.loop-more.store c.args.source.now c.loop-more.source c.args.bench.now c.loop-more.bench c.loop-more.invariant.served
+          now (not c.in_ok-more.more || now.ended) c.gather.new.source plans e.gathers e.most c.requires.batch.0
+          (λ ended. still_ended c.in_ok-more.more now.ended (e.once ended).0) c.answer.new.store.history c.answer.new.bench c.in_ok-answer.ensures.answers
+          t u (ap counted_lines (e.last t (ap given more_is))) c.answer.new.store.history refl;
+      reads = λ t.
+          all_read (g.P.Source.left c.args.source.now) c.gather.new.lines.pending (g.P.Source.left c.gather.new.source) c.gather.new.lines.taken (e.last t (ap given more_is))
+          (e.taken t ∙ c.loop-more.invariant.served.taken t) e.within;
+      rests = λ no. record {
+        stands = λ u. (c.answer.new.store.journal.gate, c.in_ok-answer.ensures.stands.as_left u);
+        quiet = λ u quiet. c.in_ok-answer.ensures.stands.quiet u (c.loop-more.invariant.served.quiet u quiet);
+      };
+      again = (c.in_ok-answer.ensures.stands.usable, c.in_ok-answer.ensures.stands.as_left);
+      usable = λ bench memory. c.in_ok-answer.ensures.stands.usable;
+      left = λ u usable. c.in_ok-answer.ensures.stands.as_left u;
+      calls = λ t u.
+          all_calls g.P.Source g.B.Bench c.args.schema.now.columns c.args.index.now c.args.batch c.loop-more.lines c.args.store.now c.loop-more.store c.args.source.now c.loop-more.source c.args.bench.now c.loop-more.bench c.loop-more.invariant.served
+          now (not c.in_ok-more.more || now.ended) c.gather.new.source plans e.gathers e.most c.requires.batch.0
+          (λ ended. still_ended c.in_ok-more.more now.ended (e.once ended).0) c.answer.new.store.history c.answer.new.bench c.in_ok-answer.ensures.answers
+          t u (ap counted_lines (e.last t (ap given more_is)));
+      moments = λ u quiet.
+          let rest = now.pending ++ g.P.Source.left c.gather.new.source in
+          turn_moments g.P.Source g.B.Bench c.args.schema.now.columns c.args.index.now c.args.batch c.loop-more.lines c.args.store.now c.loop-more.store c.args.source.now c.loop-more.source c.args.bench.now c.loop-more.bench c.loop-more.invariant.served
+          now (not c.in_ok-more.more || now.ended) c.gather.new.source plans e.gathers e.most c.requires.batch.0
+          (λ ended. still_ended c.in_ok-more.more now.ended (e.once ended).0) c.answer.new.bench
+          (whole_or_last {E = EndFault} g.P.Source.told c.args.batch c.in_ok-more.more plans rest e.whole e.last) u quiet
+          (c.in_ok-answer.ensures.moments u (c.loop-more.invariant.served.quiet u quiet));
+      kept = (c.in_ok-answer.ensures.secret ∙ c.loop-more.invariant.served.secret, c.in_ok-answer.ensures.is);
+      later = (still_later _ _ _ c.loop-more.invariant.served.source_steady c.gather.ensures.later, still_later _ _ _ c.loop-more.invariant.served.bench_steady c.answer.ensures.later);
+      input = λ is. no_refusal _ _ is;
+      bench = λ is. no_refusal _ _ is;
+      last_call = (λ is. no_refusal _ _ is, λ is. no_refusal _ _ is);
+      steady = (λ no. c.in_ok-more.ensures.steady (λ is. no_refusal _ _ is) ∙ c.loop-more.invariant.served.source_steady, λ no. c.in_ok-answer.ensures.steady (λ is. no_refusal _ _ is) ∙ c.loop-more.invariant.served.bench_steady);
+    }
