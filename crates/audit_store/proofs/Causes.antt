@@ -1,5 +1,5 @@
 -- Why a store isn't started: a cause in what was read is one of the file, and a legal history of the secrets' shape has none.
-use Rattle.std.proofs.Common.{◌≡◌, ℕ, inl, inr, List, sym, ap, subst, ◌∙◌, Err}
+use Rattle.std.proofs.Common.{◌≡◌, ℕ, inl, inr, List, refl, sym, ap, subst, ◌∙◌, Result, Err}
 use Rattle.audit_types.specs.declared.shapes.Shape.{Shape}
 use Rattle.audit_types.specs.declared.records.Answered.{Answered}
 use Rattle.audit_types.specs.History.{IsLegal}
@@ -11,7 +11,6 @@ use Rattle.answer_journal.specs.Faults.{GaveUp, IsDueOrGaveUp}
 use Rattle.answer_journal.specs.Moments.{IsMade}
 use Rattle.audit_store.specs.declared.starting.StartFault.{StartFault}
 use Rattle.audit_store.specs.declared.starting.StartFault.TheVariants.{NotMade, Damaged, OtherShape, Untrue, Illegal, Failed, NoMemory}
-use Rattle.audit_core.specs.Outcomes.{true_answer}
 use Rattle.audit_store.specs.Starting.{IsFirstUntrue, IsFirstIllegal, StartCause, HistoryCause, GivesUp, RefusedUnlessFailed, start_fault}
 use Rattle.table_load.specs.Database.{secret_table}
 
@@ -26,6 +25,16 @@ gave_up back.NoMemory gave = tt
 pub due_fault : (due fault : BackFault) → IsDueOrGaveUp due fault → RefusedUnlessFailed (start_fault due) (Err (start_fault fault))
 due_fault due fault (inl same) = inl (ap start_fault same)
 due_fault due fault (inr gave) = inr (gave_up fault gave)
+
+-- what a reading found is a cause in the file
+pub cause_of_reading : {X : Type 0} (file : List ℕ) (secret : SecretView) (fault : BackFault)
+    → ((let given : Result X BackFault = Err fault in given) ≡ Err back.NotMade → IsMade file → ⊥)
+    → ((at : ℕ) → (let given : Result X BackFault = Err fault in given) ≡ Err (back.Damaged at) → IsMade file × BreaksAt file at)
+    → StartCause (start_fault fault) file secret
+cause_of_reading file secret back.NotMade unmade damaged = unmade refl
+cause_of_reading file secret (back.Damaged at) unmade damaged = damaged at refl
+cause_of_reading file secret back.Failed unmade damaged = tt
+cause_of_reading file secret back.NoMemory unmade damaged = tt
 
 -- the cause in a history is a cause in each file that stands for it
 pub cause_in_file : (file : List ℕ) (shape : Shape) (history : List Answered) (gate : ℕ) (secret : SecretView) (fault : StartFault) →

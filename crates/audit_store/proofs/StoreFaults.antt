@@ -1,5 +1,5 @@
 -- What a refusal of the store says, by its fault.
-use Rattle.std.proofs.Common.{◌≡◌, refl, Result, Ok, Err, ap}
+use Rattle.std.proofs.Common.{◌≡◌, refl, Result, Ok, Err, sym, subst}
 use Rattle.std.specs.Prelude.{IsErrOf, OnOk}
 use Rattle.std.specs.Result.{IsErr, IsErrAnd}
 use Rattle.std.proofs.lemmas.Bool.{false≢true}
@@ -7,6 +7,7 @@ use Rattle.answer_journal.specs.declared.journal.BackFault.{BackFault}
 use Rattle.answer_journal.specs.declared.journal.BackFault.TheVariants as back
 use Rattle.audit_store.specs.declared.starting.StartFault.{StartFault}
 use Rattle.audit_store.specs.declared.starting.StartFault.TheVariants as start
+use Rattle.audit_store.specs.Refusals.{same_fault}
 use Rattle.audit_store.specs.Starting.{start_fault}
 use Rattle.audit_store.specs.declared.outcome.StoreFault.{StoreFault}
 use Rattle.audit_store.specs.declared.outcome.StoreFault.TheVariants.{Failed, NoMemory}
@@ -15,6 +16,7 @@ use Rattle.audit_store.specs.declared.outcome.StoreFault.TheVariants.{Failed, No
 abbrev pub Refuses : {X : Type 0} → Result X StoreFault → StoreFault → Type 0
 Refuses answer given = IsErr answer × IsErrAnd answer (λ e. e ≡ given)
 
+-- what refuses for want of memory has that fault
 pub is_memory : {X : Type 0} (answer : Result X StoreFault) → Refuses answer NoMemory → IsErrOf answer NoMemory
 is_memory (Ok x) refuses = absurd (false≢true refuses.0)
 is_memory (Err e) refuses = cc
@@ -24,10 +26,12 @@ pub memory_no_call : {X P : Type 0} (answer : Result X StoreFault) → Refuses a
 memory_no_call (Ok x) refuses is = absurd (false≢true refuses.0)
 memory_no_call (Err e) refuses is = let none : ⊥ = cc in absurd none
 
+-- what refuses after a failed call has that fault
 pub is_failed : {X : Type 0} (answer : Result X StoreFault) → Refuses answer Failed → IsErrOf answer Failed
 is_failed (Ok x) refuses = absurd (false≢true refuses.0)
 is_failed (Err e) refuses = cc
 
+-- a failed call is no want of memory
 pub failed_no_memory : {X P : Type 0} (answer : Result X StoreFault) → Refuses answer Failed → IsErrOf answer NoMemory → P
 failed_no_memory (Ok x) refuses is = absurd (false≢true refuses.0)
 failed_no_memory (Err e) refuses is = let none : ⊥ = cc in absurd none
@@ -35,20 +39,16 @@ failed_no_memory (Err e) refuses is = let none : ⊥ = cc in absurd none
 -- the fault that was given is the answer's
 pub given_is : {X Y : Type 0} (given fault : StoreFault) (answer : Result X StoreFault) → Refuses answer given → IsErrOf answer fault → IsErrOf {T = Y} (Err given) fault
 given_is given fault (Ok x) refuses is = absurd (false≢true refuses.0)
-given_is {X} {Y} given fault (Err e) refuses is = let same : given ≡ fault = cc in ap (λ (f : StoreFault). err f) same
-  where
-    err : StoreFault → Result Y StoreFault
-    err f = Err f
+given_is {X} {Y} given fault (Err e) refuses is = subst (λ (f : StoreFault). IsErrOf {T = Y} (Err f) fault) refuses.1 (same_fault e fault is)
 
+-- and the answer's is the one that was given
 pub answer_is : {X Y : Type 0} (given fault : StoreFault) (answer : Result X StoreFault) → Refuses answer given → IsErrOf {T = Y} (Err given) fault → IsErrOf answer fault
 answer_is given fault (Ok x) refuses is = absurd (false≢true refuses.0)
-answer_is {X} {Y} given fault (Err e) refuses is = let same : e ≡ fault = cc in ap (λ (f : StoreFault). err f) same
-  where
-    err : StoreFault → Result X StoreFault
-    err f = Err f
+answer_is {X} {Y} given fault (Err e) refuses is = subst (λ (f : StoreFault). IsErrOf {T = X} (Err f) fault) (sym refuses.1) (same_fault given fault is)
 
 -- ---- a store that was not started
 
+-- what holds anyway holds of an answer
 pub on_ok_always : {X E P : Type 0} (answer : Result X E) → P → OnOk answer P
 on_ok_always (Ok x) holds = holds
 on_ok_always (Err e) holds = tt
@@ -60,6 +60,7 @@ read_failed (back.Damaged at) fault same is = let none : ⊥ = cc in absurd none
 read_failed back.Failed fault same is = refl
 read_failed back.NoMemory fault same is = let none : ⊥ = cc in absurd none
 
+-- and where that call failed, the start did
 pub start_failed : {X Y : Type 0} (read : BackFault) (fault : StartFault) → fault ≡ start_fault read → IsErrOf {T = Y} (Err read) back.Failed → IsErrOf {T = X} (Err fault) start.Failed
 start_failed back.NotMade fault same is = let none : ⊥ = cc in absurd none
 start_failed (back.Damaged at) fault same is = let none : ⊥ = cc in absurd none

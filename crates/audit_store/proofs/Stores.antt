@@ -1,6 +1,7 @@
 -- What is true of every store.
 use Rattle.std.proofs.Common.{◌≡◌, ℕ, ◌+◌, ◌<◌, ◌≤◌, Bool, true, false, List, [], ◌∷◌, refl, ◌-◌, ◌++◌, length, length-append, length-take, length-drop, take, drop, sym, ap, subst, ◌∙◌, arith, inl, Result, Ok, Err}
-use Rattle.std.specs.Prelude.{OnErr}
+use Rattle.std.specs.Prelude.{◌==◌, OnErr, IfOk}
+use Rattle.std.proofs.lemmas.Grind.{common_steps}
 use Rattle.std.proofs.Math.Seq.{take-length, drop-append_seam}
 use Rattle.std.proofs.lemmas.List.{take-append-drop, take_all}
 use Rattle.audit_types.specs.declared.records.Answered.{Answered}
@@ -15,7 +16,7 @@ use Rattle.journal_form.specs.Journal.{StandsAt, StandsFor}
 use Rattle.answer_journal.specs.Append.{AppendsGroup}
 use Rattle.answer_journal.specs.Moments.{IsBeforeOrAfter}
 use Rattle.answer_journal.specs.Contents.{JournalContents}
-use Rattle.audit_store.specs.Stores.{StoreContents, IsStore, IsAuditedBy, HasGroup, calls_for}
+use Rattle.audit_store.specs.Stores.{StoreContents, IsStore, IsAsLeft, IsAuditedBy, HasGroup, calls_for}
 use Rattle.table_load.specs.Database.{secret_table}
 
 -- a store of these secrets and records over this journal, which may be asked
@@ -32,6 +33,23 @@ is_store secret history journal numbers legal usable shape counted = record {
   same_shape = λ _. shape;
   counted = λ _. sym counted;
 }
+
+-- a store that was opened is one of these secrets, which may be asked
+pub started_store : {E : Type 0} (answer : Result StoreContents E) (secret : SecretView) (history : List Answered) (journal : JournalContents)
+    → IfOk answer (λ s. s ≡ store_of secret history journal) → IfOk answer IsStore
+    → IfOk answer (λ s. (s.secret ≡ secret) × (s.usable ≡ true) × IsStore s)
+started_store (Ok s) secret history journal is store = (ap (λ (t : StoreContents). t.secret) is, ap (λ (t : StoreContents). t.usable) is, store)
+started_store (Err e) secret history journal is store = tt
+
+-- and the file is as it left it
+pub left_store : {E : Type 0} (answer : Result StoreContents E) (secret : SecretView) (history : List Answered) (journal : JournalContents) (file : List ℕ)
+    → IfOk answer (λ s. s ≡ store_of secret history journal) → IfOk answer IsStore → StandsAt file journal.shape history journal.gate
+    → IfOk answer (λ s. IsAsLeft file s)
+left_store (Ok s) secret history journal file is store stands =
+    let shape : journal.shape ≡ s.secret.shape = sym (ap (λ (t : StoreContents). t.journal.shape) is) ∙ store.same_shape (ap (λ (t : StoreContents). t.usable) is) in
+    subst (λ (x : Shape). StandsAt file x s.history s.journal.gate) shape
+    (subst (λ (t : StoreContents). StandsAt file journal.shape t.history t.journal.gate) (sym is) stands)
+left_store (Err e) secret history journal file is store stands = tt
 
 -- all records of the core were released
 pub all_released : (secret : SecretView) (core : Audited) (history : List Answered) (released : ℕ) →
@@ -81,6 +99,14 @@ nothing_appended bench at shape history group gate only_now quiet stands =
     started bench at (IsBeforeOrAfter shape history group (bench.sent at)) (λ image sent was.
     let now = only_now image sent was in
     (now.1, inl (subst (λ (file : List ℕ). StandsFor file shape history) (sym (quiet image now.0)) (gate, stands))))
+
+-- a group of no length has no record, and any other has some
+pub no_record : (group : List Answered) → (length group == 0) ≡ true → group ≡ []
+no_record [] is = refl
+no_record (r ∷ group) is = let none : length (r ∷ group) ≡ 0 = grind (arith, common_steps, is) in absurd (omega (arith, none))
+
+pub some_record : (group : List Answered) → (length group == 0) ≡ false → 0 < length group
+some_record group is = grind (arith, common_steps, is)
 
 -- a group with a record stands behind the gate, and took four calls
 pub has_group : (shape : Shape) (group : List Answered) (gate : ℕ) (old new : List ℕ) → 0 < length group → AppendsGroup shape group gate old new →

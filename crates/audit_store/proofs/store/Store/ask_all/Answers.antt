@@ -18,57 +18,6 @@ use Rattle.audit_store.specs.Refusals.{no_refusal}
 use Rattle.audit_store.proofs.StoreFaults.{is_memory, memory_no_call, given_is, answer_is}
 use Rattle.audit_store.proofs.store.Store.ask_all.Goals as goal
 
-pub returns-clause-stands : goal.returns-clause-stands
-returns-clause-stands g c = λ told.
-    let i = c.self.inside in
-    let file = g.B.Bench.file c.args.bench.now in
-    let usable : i.usable ≡ true = ap (λ (s : StoreContents). s.usable) c.self.view_is ∙ c.requires.usable in
-    let shape : i.journal.shape ≡ i.secret.shape = c.self.invariant.0.same_shape usable in
-    let history = take i.released i.core.history in
-    let whole = c.decide_all.new.core.history in
-    let before : StandsAt file i.secret.shape history i.journal.gate = subst (λ (s : StoreContents). StandsAt file s.secret.shape s.history s.journal.gate) (sym c.self.view_is) (c.requires.stands told) in
-    let here : StandsAt file i.journal.shape history i.journal.gate = subst (λ (s : Shape). StandsAt file s history i.journal.gate) (sym shape) before in
-    let all : history ++ take (length whole - i.released) (drop i.released whole) ≡ whole = released_and_more i.core.history whole i.released (c.self.invariant.1.all usable) c.in_ok-outcomes.ensures.begins in
-    let same : whole ≡ take (length c.history-2.result.now) whole = sym (ap (λ (l : List Answered). take (length l) whole) c.history-2.ensures.is ∙ take-length whole) in
-    let done = c.in_ok-keep.ensures.done history told here (sym (c.self.invariant.0.counted usable)) in
-    let ended = subst (λ (h : List Answered). StandsAt (g.B.Bench.file c.keep.new.bench) c.keep.new.journal.shape h c.keep.new.journal.gate) (ap (λ (l : List Answered). history ++ take (length l - i.released) (drop i.released l)) c.history.ensures.is ∙ all ∙ same) done in
-    subst (λ (s : Shape). StandsAt (g.B.Bench.file c.keep.new.bench) s (take (length c.history-2.result.now) whole) c.keep.new.journal.gate)
-    (c.in_ok-keep.ensures.shape ∙ shape) ended
-
-pub returns-clause-history : goal.returns-clause-history
-returns-clause-history g c =
-    let i = c.self.inside in
-    let usable : i.usable ≡ true = ap (λ (s : StoreContents). s.usable) c.self.view_is ∙ c.requires.usable in
-    more_released i.core.history c.decide_all.new.core.history c.args.self.now.history (records_made c.args.asked.now c.in_ok-outcomes.outcomes.items) i.released (length c.history-2.result.now)
-    (c.self.invariant.1.all usable) c.in_ok-outcomes.ensures.history (ap (λ (l : List Answered). length l) c.history-2.ensures.is) (ap (λ (s : StoreContents). s.history) c.self.view_is)
-
-pub returns-in_err-keep-clause-sent : goal.returns-in_err-keep-clause-sent
-returns-in_err-keep-clause-sent g c = c.keep.ensures.sent
-
-pub returns-in_err-keep-clause-later : goal.returns-in_err-keep-clause-later
-returns-in_err-keep-clause-later g c = c.keep.ensures.later
-
-pub returns-clause-sent : goal.returns-clause-sent
-returns-clause-sent g c = c.keep.ensures.sent
-
-pub returns-clause-later : goal.returns-clause-later
-returns-clause-later g c = c.keep.ensures.later
-
-pub returns-clause-quiet : goal.returns-clause-quiet
-returns-clause-quiet g c = λ told quiet. c.in_ok-keep.ensures.quiet told quiet
-
-pub returns-clause-steady : goal.returns-clause-steady
-returns-clause-steady g c = λ other. c.in_ok-keep.ensures.steady (λ is. no_refusal _ _ is)
-
-pub returns-clause-no_memory : goal.returns-clause-no_memory
-returns-clause-no_memory g c = λ is. no_refusal _ _ is
-
-pub returns-clause-failed : goal.returns-clause-failed
-returns-clause-failed g c = λ is. no_refusal _ _ is
-
-pub returns-clause-last_call : goal.returns-clause-last_call
-returns-clause-last_call g c = λ is. no_refusal _ _ is
-
 pub keep-requires-clause-stands : goal.keep-requires-clause-stands
 keep-requires-clause-stands g c = λ told.
     let i = c.self.inside in
@@ -88,9 +37,6 @@ invariant_of-self g c =
     refused_store i.secret i.core c.decide_all.new.core i.released i.journal i.journal i.usable usable c.self.invariant.0 c.self.invariant.1
     took.begins took.within took.setting
 
-pub returns-in_err-outcomes-clause-is : goal.returns-in_err-outcomes-clause-is
-returns-in_err-outcomes-clause-is g c = (invariant_of-self g c).0
-
 pub invariant_of-self-in_err-keep : goal.invariant_of-self-in_err-keep
 invariant_of-self-in_err-keep g c =
     let i = c.self.inside in
@@ -98,9 +44,6 @@ invariant_of-self-in_err-keep g c =
     let took = c.decide_all.ensures in
     refused_store i.secret i.core c.decide_all.new.core i.released i.journal c.keep.new.journal i.usable usable c.self.invariant.0 c.self.invariant.1
     took.begins took.within took.setting
-
-pub returns-in_err-keep-clause-is : goal.returns-in_err-keep-clause-is
-returns-in_err-keep-clause-is g c = (invariant_of-self-in_err-keep g c).0
 
 pub invariant_of-self-2 : goal.invariant_of-self-2
 invariant_of-self-2 g c =
@@ -115,9 +58,6 @@ invariant_of-self-2 g c =
     kept_store i.secret i.core c.decide_all.new.core i.released (length c.history-2.result.now) i.journal c.keep.new.journal i.usable
     (take (length shown - i.released) (drop i.released shown)) made usable c.self.invariant.0 c.self.invariant.1 took.history c.decide_all.ensures.setting
     took.legal (ap length c.history-2.ensures.is) group kept.usable c.keep.ensures.shape kept.counted
-
-pub returns-clause-is : goal.returns-clause-is
-returns-clause-is g c = (invariant_of-self-2 g c).0
 
 pub keep-requires-clause-group : goal.keep-requires-clause-group
 keep-requires-clause-group g c =
@@ -143,227 +83,6 @@ keep-requires-clause-fit g c =
     subst (λ (s : Shape). All (λ (r : Answered). FitsShape s r.column r.rows) group) shape
     (All-take (fits core) (length shown - i.released) (drop i.released shown) (All-drop (fits core) i.released shown c.history.ensures.fit))
 
-pub returns-clause-outcomes : goal.returns-clause-outcomes
-returns-clause-outcomes g c =
-    let i = c.self.inside in
-    let usable : i.usable ≡ true = ap (λ (s : StoreContents). s.usable) c.self.view_is ∙ c.requires.usable in
-    let all = core_is_history i.secret i.core i.released i.usable (take i.released i.core.history) c.self.invariant.1 usable refl in
-    subst (λ (s : StoreContents). AreOutcomes (secret_table s.secret) s.history c.args.asked.now c.in_ok-outcomes.outcomes.items) c.self.view_is
-    (subst (λ (h : List Answered). AreOutcomes (secret_table i.secret) h c.args.asked.now c.in_ok-outcomes.outcomes.items) all c.in_ok-outcomes.ensures.outcomes)
-
-pub returns-clause-ticks : goal.returns-clause-ticks
-returns-clause-ticks g c = λ told.
-    let i = c.self.inside in
-    let usable : i.usable ≡ true = ap (λ (s : StoreContents). s.usable) c.self.view_is ∙ c.requires.usable in
-    let made = records_made c.args.asked.now c.in_ok-outcomes.outcomes.items in
-    let group = taken_since i.core.history c.decide_all.new.core.history c.history.result.now made i.released c.history.ensures.is (c.self.invariant.1.all usable) c.in_ok-outcomes.ensures.history in
-    c.in_ok-keep.ensures.ticks told ∙ ap (λ (l : List Answered). g.B.Bench.moment c.args.bench.now + calls_for l) group
-
-pub returns-clause-written : goal.returns-clause-written
-returns-clause-written g c = λ told.
-    let i = c.self.inside in
-    let usable : i.usable ≡ true = ap (λ (s : StoreContents). s.usable) c.self.view_is ∙ c.requires.usable in
-    let made = records_made c.args.asked.now c.in_ok-outcomes.outcomes.items in
-    let group = taken_since i.core.history c.decide_all.new.core.history c.history.result.now made i.released c.history.ensures.is (c.self.invariant.1.all usable) c.in_ok-outcomes.ensures.history in
-    let old = g.B.Bench.file c.args.bench.now in
-    let new = g.B.Bench.file c.keep.new.bench in
-    subst (λ (s : StoreContents). HasGroup s.secret.shape made s.journal.gate old new) c.self.view_is
-    (subst (λ (s : Shape). HasGroup s made i.journal.gate old new) (c.self.invariant.0.same_shape usable)
-    (subst (λ (l : List Answered). HasGroup i.journal.shape l i.journal.gate old new) group (c.in_ok-keep.ensures.written told)))
-
-pub returns-clause-moments : goal.returns-clause-moments
-returns-clause-moments g c = λ told quiet.
-    let i = c.self.inside in
-    let usable : i.usable ≡ true = ap (λ (s : StoreContents). s.usable) c.self.view_is ∙ c.requires.usable in
-    let made = records_made c.args.asked.now c.in_ok-outcomes.outcomes.items in
-    let group = taken_since i.core.history c.decide_all.new.core.history c.history.result.now made i.released c.history.ensures.is (c.self.invariant.1.all usable) c.in_ok-outcomes.ensures.history in
-    let file = g.B.Bench.file c.args.bench.now in
-    let sent = g.B.Bench.sent c.args.bench.now in
-    let shape : i.journal.shape ≡ i.secret.shape = c.self.invariant.0.same_shape usable in
-    let history = take i.released i.core.history in
-    let before : StandsAt file i.secret.shape history i.journal.gate = subst (λ (s : StoreContents). StandsAt file s.secret.shape s.history s.journal.gate) (sym c.self.view_is) (c.requires.stands told) in
-    let here : StandsAt file i.journal.shape history i.journal.gate = subst (λ (s : Shape). StandsAt file s history i.journal.gate) (sym shape) before in
-    let found = c.keep.ensures.any_moment history told here (sym (c.self.invariant.0.counted usable)) quiet in
-    let moments =
-    subst (λ (s : StoreContents). LeavesOnly g.B.Bench c.args.bench.now c.keep.new.bench (IsBeforeOrAfter s.secret.shape s.history made sent)) c.self.view_is
-    (subst (λ (s : Shape). LeavesOnly g.B.Bench c.args.bench.now c.keep.new.bench (IsBeforeOrAfter s history made sent)) shape
-    (subst (λ (l : List Answered). LeavesOnly g.B.Bench c.args.bench.now c.keep.new.bench (IsBeforeOrAfter i.journal.shape history l sent)) group found)) in
-    moments
-
-pub returns-clause-any_moment : goal.returns-clause-any_moment
-returns-clause-any_moment g c = λ told quiet other.
-    let i = c.self.inside in
-    let usable : i.usable ≡ true = ap (λ (s : StoreContents). s.usable) c.self.view_is ∙ c.requires.usable in
-    let made = records_made c.args.asked.now c.in_ok-outcomes.outcomes.items in
-    let group = taken_since i.core.history c.decide_all.new.core.history c.history.result.now made i.released c.history.ensures.is (c.self.invariant.1.all usable) c.in_ok-outcomes.ensures.history in
-    let file = g.B.Bench.file c.args.bench.now in
-    let sent = g.B.Bench.sent c.args.bench.now in
-    let shape : i.journal.shape ≡ i.secret.shape = c.self.invariant.0.same_shape usable in
-    let history = take i.released i.core.history in
-    let before : StandsAt file i.secret.shape history i.journal.gate = subst (λ (s : StoreContents). StandsAt file s.secret.shape s.history s.journal.gate) (sym c.self.view_is) (c.requires.stands told) in
-    let here : StandsAt file i.journal.shape history i.journal.gate = subst (λ (s : Shape). StandsAt file s history i.journal.gate) (sym shape) before in
-    let found = c.keep.ensures.any_moment history told here (sym (c.self.invariant.0.counted usable)) quiet in
-    let moments =
-    subst (λ (s : StoreContents). LeavesOnly g.B.Bench c.args.bench.now c.keep.new.bench (IsBeforeOrAfter s.secret.shape s.history made sent)) c.self.view_is
-    (subst (λ (s : Shape). LeavesOnly g.B.Bench c.args.bench.now c.keep.new.bench (IsBeforeOrAfter s history made sent)) shape
-    (subst (λ (l : List Answered). LeavesOnly g.B.Bench c.args.bench.now c.keep.new.bench (IsBeforeOrAfter i.journal.shape history l sent)) group found)) in
-    let all = core_is_history i.secret i.core i.released i.usable history c.self.invariant.1 usable refl in
-    let due =
-    subst (λ (s : StoreContents). AreOutcomes (secret_table s.secret) s.history c.args.asked.now c.in_ok-outcomes.outcomes.items) c.self.view_is
-    (subst (λ (h : List Answered). AreOutcomes (secret_table i.secret) h c.args.asked.now c.in_ok-outcomes.outcomes.items) all c.in_ok-outcomes.ensures.outcomes) in
-    record { outcomes = c.in_ok-outcomes.outcomes.items; due = due; moments = moments }
-
-pub returns-in_err-keep-clause-any_moment : goal.returns-in_err-keep-clause-any_moment
-returns-in_err-keep-clause-any_moment g c = λ told quiet other.
-    let i = c.self.inside in
-    let usable : i.usable ≡ true = ap (λ (s : StoreContents). s.usable) c.self.view_is ∙ c.requires.usable in
-    let made = records_made c.args.asked.now c.in_ok-outcomes.outcomes.items in
-    let group = taken_since i.core.history c.decide_all.new.core.history c.history.result.now made i.released c.history.ensures.is (c.self.invariant.1.all usable) c.in_ok-outcomes.ensures.history in
-    let file = g.B.Bench.file c.args.bench.now in
-    let sent = g.B.Bench.sent c.args.bench.now in
-    let shape : i.journal.shape ≡ i.secret.shape = c.self.invariant.0.same_shape usable in
-    let history = take i.released i.core.history in
-    let before : StandsAt file i.secret.shape history i.journal.gate = subst (λ (s : StoreContents). StandsAt file s.secret.shape s.history s.journal.gate) (sym c.self.view_is) (c.requires.stands told) in
-    let here : StandsAt file i.journal.shape history i.journal.gate = subst (λ (s : Shape). StandsAt file s history i.journal.gate) (sym shape) before in
-    let found = c.keep.ensures.any_moment history told here (sym (c.self.invariant.0.counted usable)) quiet in
-    let moments =
-    subst (λ (s : StoreContents). LeavesOnly g.B.Bench c.args.bench.now c.keep.new.bench (IsBeforeOrAfter s.secret.shape s.history made sent)) c.self.view_is
-    (subst (λ (s : Shape). LeavesOnly g.B.Bench c.args.bench.now c.keep.new.bench (IsBeforeOrAfter s history made sent)) shape
-    (subst (λ (l : List Answered). LeavesOnly g.B.Bench c.args.bench.now c.keep.new.bench (IsBeforeOrAfter i.journal.shape history l sent)) group found)) in
-    let all = core_is_history i.secret i.core i.released i.usable history c.self.invariant.1 usable refl in
-    let due =
-    subst (λ (s : StoreContents). AreOutcomes (secret_table s.secret) s.history c.args.asked.now c.in_ok-outcomes.outcomes.items) c.self.view_is
-    (subst (λ (h : List Answered). AreOutcomes (secret_table i.secret) h c.args.asked.now c.in_ok-outcomes.outcomes.items) all c.in_ok-outcomes.ensures.outcomes) in
-    record { outcomes = c.in_ok-outcomes.outcomes.items; due = due; moments = moments }
-
--- ---- no outcome
-
-pub returns-in_err-outcomes-clause-outcomes : goal.returns-in_err-outcomes-clause-outcomes
-returns-in_err-outcomes-clause-outcomes g c = IfOk-from_err _ _ c.from_residual.ensures.0
-
-pub returns-in_err-outcomes-clause-history : goal.returns-in_err-outcomes-clause-history
-returns-in_err-outcomes-clause-history g c = IfOk-from_err _ _ c.from_residual.ensures.0
-
-pub returns-in_err-outcomes-clause-stands : goal.returns-in_err-outcomes-clause-stands
-returns-in_err-outcomes-clause-stands g c = λ told. IfOk-from_err _ _ c.from_residual.ensures.0
-
-pub returns-in_err-outcomes-clause-usable : goal.returns-in_err-outcomes-clause-usable
-returns-in_err-outcomes-clause-usable g c = IfOk-from_err _ _ c.from_residual.ensures.0
-
-pub returns-in_err-outcomes-clause-moments : goal.returns-in_err-outcomes-clause-moments
-returns-in_err-outcomes-clause-moments g c = λ told quiet. IfOk-from_err _ _ c.from_residual.ensures.0
-
-pub returns-in_err-outcomes-clause-written : goal.returns-in_err-outcomes-clause-written
-returns-in_err-outcomes-clause-written g c = λ told. IfOk-from_err _ _ c.from_residual.ensures.0
-
-pub returns-in_err-outcomes-clause-quiet : goal.returns-in_err-outcomes-clause-quiet
-returns-in_err-outcomes-clause-quiet g c = λ told quiet. IfOk-from_err _ _ c.from_residual.ensures.0
-
-pub returns-in_err-outcomes-clause-ticks : goal.returns-in_err-outcomes-clause-ticks
-returns-in_err-outcomes-clause-ticks g c = λ told. IfOk-from_err _ _ c.from_residual.ensures.0
-
-pub returns-in_err-outcomes-clause-unasked : goal.returns-in_err-outcomes-clause-unasked
-returns-in_err-outcomes-clause-unasked g c = IfOk-from_err _ _ c.from_residual.ensures.0
-
-pub returns-in_err-keep-clause-outcomes : goal.returns-in_err-keep-clause-outcomes
-returns-in_err-keep-clause-outcomes g c = IfOk-from_err _ _ c.from_residual-in_err-keep.ensures.0
-
-pub returns-in_err-keep-clause-history : goal.returns-in_err-keep-clause-history
-returns-in_err-keep-clause-history g c = IfOk-from_err _ _ c.from_residual-in_err-keep.ensures.0
-
-pub returns-in_err-keep-clause-stands : goal.returns-in_err-keep-clause-stands
-returns-in_err-keep-clause-stands g c = λ told. IfOk-from_err _ _ c.from_residual-in_err-keep.ensures.0
-
-pub returns-in_err-keep-clause-usable : goal.returns-in_err-keep-clause-usable
-returns-in_err-keep-clause-usable g c = IfOk-from_err _ _ c.from_residual-in_err-keep.ensures.0
-
-pub returns-in_err-keep-clause-moments : goal.returns-in_err-keep-clause-moments
-returns-in_err-keep-clause-moments g c = λ told quiet. IfOk-from_err _ _ c.from_residual-in_err-keep.ensures.0
-
-pub returns-in_err-keep-clause-written : goal.returns-in_err-keep-clause-written
-returns-in_err-keep-clause-written g c = λ told. IfOk-from_err _ _ c.from_residual-in_err-keep.ensures.0
-
-pub returns-in_err-keep-clause-quiet : goal.returns-in_err-keep-clause-quiet
-returns-in_err-keep-clause-quiet g c = λ told quiet. IfOk-from_err _ _ c.from_residual-in_err-keep.ensures.0
-
-pub returns-in_err-keep-clause-ticks : goal.returns-in_err-keep-clause-ticks
-returns-in_err-keep-clause-ticks g c = λ told. IfOk-from_err _ _ c.from_residual-in_err-keep.ensures.0
-
-pub returns-in_err-keep-clause-unasked : goal.returns-in_err-keep-clause-unasked
-returns-in_err-keep-clause-unasked g c = IfOk-from_err _ _ c.from_residual-in_err-keep.ensures.0
-
--- ---- the faults, and what stays
-
-pub returns-in_err-outcomes-clause-no_memory : goal.returns-in_err-outcomes-clause-no_memory
-returns-in_err-outcomes-clause-no_memory g c = λ is. refl
-
-pub returns-in_err-outcomes-clause-failed : goal.returns-in_err-outcomes-clause-failed
-returns-in_err-outcomes-clause-failed g c = λ is. memory_no_call c.from_residual.result c.from_residual.ensures is
-
-pub returns-in_err-outcomes-clause-last_call : goal.returns-in_err-outcomes-clause-last_call
-returns-in_err-outcomes-clause-last_call g c = λ is. memory_no_call c.from_residual.result c.from_residual.ensures is
-
-pub returns-in_err-outcomes-clause-steady : goal.returns-in_err-outcomes-clause-steady
-returns-in_err-outcomes-clause-steady g c = λ other. refl
-
-pub returns-in_err-outcomes-clause-later : goal.returns-in_err-outcomes-clause-later
-returns-in_err-outcomes-clause-later g c = omega arith
-
-pub returns-in_err-outcomes-clause-secret : goal.returns-in_err-outcomes-clause-secret
-returns-in_err-outcomes-clause-secret g c = ap (λ (s : StoreContents). s.secret) c.self.view_is
-
-pub returns-in_err-outcomes-clause-any_moment : goal.returns-in_err-outcomes-clause-any_moment
-returns-in_err-outcomes-clause-any_moment g c = λ told quiet other. absurd (other (is_memory c.from_residual.result c.from_residual.ensures))
-
-pub returns-in_err-outcomes-clause-sent : goal.returns-in_err-outcomes-clause-sent
-returns-in_err-outcomes-clause-sent g c = refl
-
-pub returns-in_err-keep-clause-no_memory : goal.returns-in_err-keep-clause-no_memory
-returns-in_err-keep-clause-no_memory g c = λ is. c.in_err-keep.ensures.no_memory (given_is c.in_err-keep.field-0.0 NoMemory c.from_residual-in_err-keep.result c.from_residual-in_err-keep.ensures is)
-
-pub returns-in_err-keep-clause-failed : goal.returns-in_err-keep-clause-failed
-returns-in_err-keep-clause-failed g c = λ is. c.in_err-keep.ensures.failed (given_is c.in_err-keep.field-0.0 Failed c.from_residual-in_err-keep.result c.from_residual-in_err-keep.ensures is)
-
-pub returns-in_err-keep-clause-last_call : goal.returns-in_err-keep-clause-last_call
-returns-in_err-keep-clause-last_call g c = λ is. c.in_err-keep.ensures.last_call (given_is c.in_err-keep.field-0.0 Failed c.from_residual-in_err-keep.result c.from_residual-in_err-keep.ensures is)
-
-pub returns-in_err-keep-clause-steady : goal.returns-in_err-keep-clause-steady
-returns-in_err-keep-clause-steady g c = λ other. c.in_err-keep.ensures.steady (λ is. other (answer_is c.in_err-keep.field-0.0 Failed c.from_residual-in_err-keep.result c.from_residual-in_err-keep.ensures is))
-
-pub returns-in_err-keep-clause-secret : goal.returns-in_err-keep-clause-secret
-returns-in_err-keep-clause-secret g c = ap (λ (s : StoreContents). s.secret) c.self.view_is
-
-pub returns-clause-usable : goal.returns-clause-usable
-returns-clause-usable g c = refl
-
-pub returns-clause-secret : goal.returns-clause-secret
-returns-clause-secret g c = ap (λ (s : StoreContents). s.secret) c.self.view_is
-
-pub returns-clause-unasked : goal.returns-clause-unasked
-returns-clause-unasked g c = λ none.
-    let i = c.self.inside in
-    let usable : i.usable ≡ true = ap (λ (s : StoreContents). s.usable) c.self.view_is ∙ c.requires.usable in
-    let made = records_made c.args.asked.now c.in_ok-outcomes.outcomes.items in
-    let group = taken_since i.core.history c.decide_all.new.core.history c.history.result.now made i.released c.history.ensures.is (c.self.invariant.1.all usable) c.in_ok-outcomes.ensures.history in
-    c.in_ok-keep.ensures.unasked (group ∙ none)
-
-pub returns-in_err-outcomes-clause-kept : goal.returns-in_err-outcomes-clause-kept
-returns-in_err-outcomes-clause-kept g c =
-    let i = c.self.inside in
-    let usable : i.usable ≡ true = ap (λ (s : StoreContents). s.usable) c.self.view_is ∙ c.requires.usable in
-    refused_history c.from_residual.result i.core.history c.decide_all.new.core.history c.args.self.now.history i.released (c.self.invariant.1.all usable) c.decide_all.ensures.begins
-    (ap (λ (s : StoreContents). s.history) c.self.view_is)
-
-pub returns-in_err-keep-clause-kept : goal.returns-in_err-keep-clause-kept
-returns-in_err-keep-clause-kept g c =
-    let i = c.self.inside in
-    let usable : i.usable ≡ true = ap (λ (s : StoreContents). s.usable) c.self.view_is ∙ c.requires.usable in
-    refused_history c.from_residual-in_err-keep.result i.core.history c.decide_all.new.core.history c.args.self.now.history i.released (c.self.invariant.1.all usable) c.decide_all.ensures.begins
-    (ap (λ (s : StoreContents). s.history) c.self.view_is)
-
-pub returns-clause-kept : goal.returns-clause-kept
-returns-clause-kept g c = tt
-
 pub decide_all-requires-clause-same_setting : goal.decide_all-requires-clause-same_setting
 decide_all-requires-clause-same_setting g c = c.self.invariant.1.same_setting
 
@@ -383,3 +102,144 @@ keep-requires-clause-usable g c =
     let i = c.self.inside in
     let usable : i.usable ≡ true = ap (λ (s : StoreContents). s.usable) c.self.view_is ∙ c.requires.usable in
     c.self.invariant.0.journal_usable usable
+
+-- ---- the records were not kept
+
+pub returns-in_err-keep : goal.returns-in_err-keep
+returns-in_err-keep g c =
+    let i = c.self.inside in
+    let usable : i.usable ≡ true = ap (λ (s : StoreContents). s.usable) c.self.view_is ∙ c.requires.usable in
+    record {
+      outcomes = IfOk-from_err _ _ c.from_residual-in_err-keep.ensures.0;
+      history = IfOk-from_err _ _ c.from_residual-in_err-keep.ensures.0;
+      stands = λ told. IfOk-from_err _ _ c.from_residual-in_err-keep.ensures.0;
+      usable = IfOk-from_err _ _ c.from_residual-in_err-keep.ensures.0;
+      kept =
+          refused_history c.from_residual-in_err-keep.result i.core.history c.decide_all.new.core.history c.args.self.now.history i.released (c.self.invariant.1.all usable) c.decide_all.ensures.begins
+          (ap (λ (s : StoreContents). s.history) c.self.view_is);
+      no_memory = λ is.
+          c.in_err-keep.ensures.no_memory (given_is c.in_err-keep.field-0.0 NoMemory c.from_residual-in_err-keep.result c.from_residual-in_err-keep.ensures is);
+      failed = λ is.
+          c.in_err-keep.ensures.failed (given_is c.in_err-keep.field-0.0 Failed c.from_residual-in_err-keep.result c.from_residual-in_err-keep.ensures is);
+      last_call = λ is.
+          c.in_err-keep.ensures.last_call (given_is c.in_err-keep.field-0.0 Failed c.from_residual-in_err-keep.result c.from_residual-in_err-keep.ensures is);
+      steady = λ other.
+          c.in_err-keep.ensures.steady (λ is. other (answer_is c.in_err-keep.field-0.0 Failed c.from_residual-in_err-keep.result c.from_residual-in_err-keep.ensures is));
+      later = c.keep.ensures.later;
+      secret = ap (λ (s : StoreContents). s.secret) c.self.view_is;
+      is = (invariant_of-self-in_err-keep g c).0;
+      any_moment = λ told quiet other.
+          let made = records_made c.args.asked.now c.in_ok-outcomes.outcomes.items in
+          let group = taken_since i.core.history c.decide_all.new.core.history c.history.result.now made i.released c.history.ensures.is (c.self.invariant.1.all usable) c.in_ok-outcomes.ensures.history in
+          let file = g.B.Bench.file c.args.bench.now in
+          let sent = g.B.Bench.sent c.args.bench.now in
+          let shape : i.journal.shape ≡ i.secret.shape = c.self.invariant.0.same_shape usable in
+          let history = take i.released i.core.history in
+          let before : StandsAt file i.secret.shape history i.journal.gate = subst (λ (s : StoreContents). StandsAt file s.secret.shape s.history s.journal.gate) (sym c.self.view_is) (c.requires.stands told) in
+          let here : StandsAt file i.journal.shape history i.journal.gate = subst (λ (s : Shape). StandsAt file s history i.journal.gate) (sym shape) before in
+          let found = c.keep.ensures.any_moment history told here (sym (c.self.invariant.0.counted usable)) quiet in
+          let moments = subst (λ (s : StoreContents). LeavesOnly g.B.Bench c.args.bench.now c.keep.new.bench (IsBeforeOrAfter s.secret.shape s.history made sent)) c.self.view_is (subst (λ (s : Shape). LeavesOnly g.B.Bench c.args.bench.now c.keep.new.bench (IsBeforeOrAfter s history made sent)) shape (subst (λ (l : List Answered). LeavesOnly g.B.Bench c.args.bench.now c.keep.new.bench (IsBeforeOrAfter i.journal.shape history l sent)) group found)) in
+          let all = core_is_history i.secret i.core i.released i.usable history c.self.invariant.1 usable refl in
+          let due = subst (λ (s : StoreContents). AreOutcomes (secret_table s.secret) s.history c.args.asked.now c.in_ok-outcomes.outcomes.items) c.self.view_is (subst (λ (h : List Answered). AreOutcomes (secret_table i.secret) h c.args.asked.now c.in_ok-outcomes.outcomes.items) all c.in_ok-outcomes.ensures.outcomes) in
+          record { outcomes = c.in_ok-outcomes.outcomes.items; due = due; moments = moments };
+      moments = λ told quiet. IfOk-from_err _ _ c.from_residual-in_err-keep.ensures.0;
+      written = λ told. IfOk-from_err _ _ c.from_residual-in_err-keep.ensures.0;
+      quiet = λ told quiet. IfOk-from_err _ _ c.from_residual-in_err-keep.ensures.0;
+      sent = c.keep.ensures.sent;
+      ticks = λ told. IfOk-from_err _ _ c.from_residual-in_err-keep.ensures.0;
+      unasked = IfOk-from_err _ _ c.from_residual-in_err-keep.ensures.0;
+    }
+
+-- ---- no memory to decide
+
+pub returns-in_err-outcomes : goal.returns-in_err-outcomes
+returns-in_err-outcomes g c = record {
+  outcomes = IfOk-from_err _ _ c.from_residual.ensures.0;
+  history = IfOk-from_err _ _ c.from_residual.ensures.0;
+  stands = λ told. IfOk-from_err _ _ c.from_residual.ensures.0;
+  usable = IfOk-from_err _ _ c.from_residual.ensures.0;
+  kept =
+      let i = c.self.inside in
+      let usable : i.usable ≡ true = ap (λ (s : StoreContents). s.usable) c.self.view_is ∙ c.requires.usable in
+      refused_history c.from_residual.result i.core.history c.decide_all.new.core.history c.args.self.now.history i.released (c.self.invariant.1.all usable) c.decide_all.ensures.begins
+      (ap (λ (s : StoreContents). s.history) c.self.view_is);
+  no_memory = λ is. refl;
+  failed = λ is. memory_no_call c.from_residual.result c.from_residual.ensures is;
+  last_call = λ is. memory_no_call c.from_residual.result c.from_residual.ensures is;
+  steady = λ other. refl;
+  later = omega arith;
+  secret = ap (λ (s : StoreContents). s.secret) c.self.view_is;
+  is = (invariant_of-self g c).0;
+  any_moment = λ told quiet other. absurd (other (is_memory c.from_residual.result c.from_residual.ensures));
+  moments = λ told quiet. IfOk-from_err _ _ c.from_residual.ensures.0;
+  written = λ told. IfOk-from_err _ _ c.from_residual.ensures.0;
+  quiet = λ told quiet. IfOk-from_err _ _ c.from_residual.ensures.0;
+  sent = refl;
+  ticks = λ told. IfOk-from_err _ _ c.from_residual.ensures.0;
+  unasked = IfOk-from_err _ _ c.from_residual.ensures.0;
+}
+
+-- ---- they were
+
+pub returns : goal.returns
+returns g c =
+    let i = c.self.inside in
+    let usable : i.usable ≡ true = ap (λ (s : StoreContents). s.usable) c.self.view_is ∙ c.requires.usable in
+    let file = g.B.Bench.file c.args.bench.now in
+    let shape : i.journal.shape ≡ i.secret.shape = c.self.invariant.0.same_shape usable in
+    let history = take i.released i.core.history in
+    let made = records_made c.args.asked.now c.in_ok-outcomes.outcomes.items in
+    let group = taken_since i.core.history c.decide_all.new.core.history c.history.result.now made i.released c.history.ensures.is (c.self.invariant.1.all usable) c.in_ok-outcomes.ensures.history in
+    let sent = g.B.Bench.sent c.args.bench.now in
+    record {
+      outcomes =
+          let all = core_is_history i.secret i.core i.released i.usable (take i.released i.core.history) c.self.invariant.1 usable refl in
+          subst (λ (s : StoreContents). AreOutcomes (secret_table s.secret) s.history c.args.asked.now c.in_ok-outcomes.outcomes.items) c.self.view_is
+          (subst (λ (h : List Answered). AreOutcomes (secret_table i.secret) h c.args.asked.now c.in_ok-outcomes.outcomes.items) all c.in_ok-outcomes.ensures.outcomes);
+      history =
+          more_released i.core.history c.decide_all.new.core.history c.args.self.now.history (records_made c.args.asked.now c.in_ok-outcomes.outcomes.items) i.released (length c.history-2.result.now)
+          (c.self.invariant.1.all usable) c.in_ok-outcomes.ensures.history (ap (λ (l : List Answered). length l) c.history-2.ensures.is) (ap (λ (s : StoreContents). s.history) c.self.view_is);
+      stands = λ told.
+          let whole = c.decide_all.new.core.history in
+          let before : StandsAt file i.secret.shape history i.journal.gate = subst (λ (s : StoreContents). StandsAt file s.secret.shape s.history s.journal.gate) (sym c.self.view_is) (c.requires.stands told) in
+          let here : StandsAt file i.journal.shape history i.journal.gate = subst (λ (s : Shape). StandsAt file s history i.journal.gate) (sym shape) before in
+          let all : history ++ take (length whole - i.released) (drop i.released whole) ≡ whole = released_and_more i.core.history whole i.released (c.self.invariant.1.all usable) c.in_ok-outcomes.ensures.begins in
+          let same : whole ≡ take (length c.history-2.result.now) whole = sym (ap (λ (l : List Answered). take (length l) whole) c.history-2.ensures.is ∙ take-length whole) in
+          let done = c.in_ok-keep.ensures.done history told here (sym (c.self.invariant.0.counted usable)) in
+          let ended = subst (λ (h : List Answered). StandsAt (g.B.Bench.file c.keep.new.bench) c.keep.new.journal.shape h c.keep.new.journal.gate) (ap (λ (l : List Answered). history ++ take (length l - i.released) (drop i.released l)) c.history.ensures.is ∙ all ∙ same) done in
+          subst (λ (s : Shape). StandsAt (g.B.Bench.file c.keep.new.bench) s (take (length c.history-2.result.now) whole) c.keep.new.journal.gate)
+          (c.in_ok-keep.ensures.shape ∙ shape) ended;
+      usable = refl;
+      kept = tt;
+      no_memory = λ is. no_refusal _ _ is;
+      failed = λ is. no_refusal _ _ is;
+      last_call = λ is. no_refusal _ _ is;
+      steady = λ other. c.in_ok-keep.ensures.steady (λ is. no_refusal _ _ is);
+      later = c.keep.ensures.later;
+      secret = ap (λ (s : StoreContents). s.secret) c.self.view_is;
+      is = (invariant_of-self-2 g c).0;
+      any_moment = λ told quiet other.
+          let before : StandsAt file i.secret.shape history i.journal.gate = subst (λ (s : StoreContents). StandsAt file s.secret.shape s.history s.journal.gate) (sym c.self.view_is) (c.requires.stands told) in
+          let here : StandsAt file i.journal.shape history i.journal.gate = subst (λ (s : Shape). StandsAt file s history i.journal.gate) (sym shape) before in
+          let found = c.keep.ensures.any_moment history told here (sym (c.self.invariant.0.counted usable)) quiet in
+          let moments = subst (λ (s : StoreContents). LeavesOnly g.B.Bench c.args.bench.now c.keep.new.bench (IsBeforeOrAfter s.secret.shape s.history made sent)) c.self.view_is (subst (λ (s : Shape). LeavesOnly g.B.Bench c.args.bench.now c.keep.new.bench (IsBeforeOrAfter s history made sent)) shape (subst (λ (l : List Answered). LeavesOnly g.B.Bench c.args.bench.now c.keep.new.bench (IsBeforeOrAfter i.journal.shape history l sent)) group found)) in
+          let all = core_is_history i.secret i.core i.released i.usable history c.self.invariant.1 usable refl in
+          let due = subst (λ (s : StoreContents). AreOutcomes (secret_table s.secret) s.history c.args.asked.now c.in_ok-outcomes.outcomes.items) c.self.view_is (subst (λ (h : List Answered). AreOutcomes (secret_table i.secret) h c.args.asked.now c.in_ok-outcomes.outcomes.items) all c.in_ok-outcomes.ensures.outcomes) in
+          record { outcomes = c.in_ok-outcomes.outcomes.items; due = due; moments = moments };
+      moments = λ told quiet.
+          let before : StandsAt file i.secret.shape history i.journal.gate = subst (λ (s : StoreContents). StandsAt file s.secret.shape s.history s.journal.gate) (sym c.self.view_is) (c.requires.stands told) in
+          let here : StandsAt file i.journal.shape history i.journal.gate = subst (λ (s : Shape). StandsAt file s history i.journal.gate) (sym shape) before in
+          let found = c.keep.ensures.any_moment history told here (sym (c.self.invariant.0.counted usable)) quiet in
+          let moments = subst (λ (s : StoreContents). LeavesOnly g.B.Bench c.args.bench.now c.keep.new.bench (IsBeforeOrAfter s.secret.shape s.history made sent)) c.self.view_is (subst (λ (s : Shape). LeavesOnly g.B.Bench c.args.bench.now c.keep.new.bench (IsBeforeOrAfter s history made sent)) shape (subst (λ (l : List Answered). LeavesOnly g.B.Bench c.args.bench.now c.keep.new.bench (IsBeforeOrAfter i.journal.shape history l sent)) group found)) in
+          moments;
+      written = λ told.
+          let old = g.B.Bench.file c.args.bench.now in
+          let new = g.B.Bench.file c.keep.new.bench in
+          subst (λ (s : StoreContents). HasGroup s.secret.shape made s.journal.gate old new) c.self.view_is
+          (subst (λ (s : Shape). HasGroup s made i.journal.gate old new) (c.self.invariant.0.same_shape usable)
+          (subst (λ (l : List Answered). HasGroup i.journal.shape l i.journal.gate old new) group (c.in_ok-keep.ensures.written told)));
+      quiet = λ told quiet. c.in_ok-keep.ensures.quiet told quiet;
+      sent = c.keep.ensures.sent;
+      ticks = λ told. c.in_ok-keep.ensures.ticks told ∙ ap (λ (l : List Answered). g.B.Bench.moment c.args.bench.now + calls_for l) group;
+      unasked = λ none. c.in_ok-keep.ensures.unasked (group ∙ none);
+    }
