@@ -61,18 +61,25 @@ place_text fault.TooManyRows = codes ""
 place_text fault.NoRows = codes ""
 place_text fault.NoMemory = codes ""
 
--- the words of a status that tells no number, none where it is done
+-- the words of a status that tells no number, none where it is done or tells one
 abbrev pub words_of : Status → List ℕ
+words_of Done = codes ""
 words_of BadWords = codes "usage: auditor init, serve [--batch N], audit, simulate, drill N"
+words_of (BadSchema fault) = codes ""
+words_of (BadTable fault) = codes ""
 words_of (SourceFault Schema) = codes "cannot read schema"
 words_of (SourceFault Table) = codes "cannot read table"
 words_of (SourceFault Input) = codes "cannot read input"
 words_of BenchFault = codes "journal or output failed"
 words_of NotMade = codes "no journal"
 words_of AlreadyThere = codes "journal is already there"
+words_of (Damaged at) = codes ""
+words_of (OtherShape kept now) = codes ""
+words_of (Untrue place kept now) = codes ""
+words_of (Illegal place) = codes ""
 words_of InputLimit = codes "input is too long"
+words_of (Disagrees line due) = codes ""
 words_of NoMemory = codes "out of memory"
-words_of other = codes ""
 
 -- what the program tells of it
 abbrev pub status_text : Status → List ℕ

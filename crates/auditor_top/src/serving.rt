@@ -65,10 +65,8 @@ fn start<B: Bench>(alloc: Global, table: Table, bench: &mut B) -> Result<(Index,
     let Ok(index) = Index::new(alloc, public) else {
         return Err(StartFault::NoMemory);
     };
-    match Store::start(alloc, secret, bench) {
-        Ok(store) => Ok((index, store)),
-        Err(fault) => Err(fault),
-    }
+    let store = Store::start(alloc, secret, bench)?;
+    Ok((index, store))
 }
 
 /// Opens the journal of a table, and answers the lines of the input over it, so many together.

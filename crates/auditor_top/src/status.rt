@@ -184,7 +184,7 @@ impl fmt::Display for Place {
     }
 }
 
-// The words of a status that tells no number.
+// The words of a status that tells no number, none where it is done or tells one.
 fn words_of(status: &Status) -> &'static str
     ensures { result.now ≡ spec.words_of status.now }
 {
@@ -198,7 +198,14 @@ fn words_of(status: &Status) -> &'static str
         Status::AlreadyThere => "journal is already there",
         Status::InputLimit => "input is too long",
         Status::NoMemory => "out of memory",
-        _ => "",
+        Status::Done
+        | Status::BadSchema(_)
+        | Status::BadTable(_)
+        | Status::Damaged { .. }
+        | Status::OtherShape { .. }
+        | Status::Untrue { .. }
+        | Status::Illegal { .. }
+        | Status::Disagrees { .. } => "",
     }
 }
 

@@ -1,4 +1,4 @@
-use Rattle.std.proofs.Common.{rules, ◌≡◌, ◌∙◌, ◌++◌, ◌≤◌, ℕ, List, take, inl, ap, refl, subst, sym}
+use Rattle.std.proofs.Common.{rules, ◌≡◌, ◌∙◌, ◌++◌, ◌≤◌, ℕ, List, take, inl, ap, refl, subst, sym, append_assoc}
 use Rattle.bench_core.specs.Causes.{Rose}
 use Rattle.auditor_top.proofs.WholeFiles.{was_read, read_wanted, read_within}
 use Rattle.auditor_top.proofs.reading.read_all.Goals as goal
@@ -58,4 +58,19 @@ returns g c = record {
   failed = λ is. absurd (was_read _ is);
   last_call = λ is. absurd (was_read _ is);
   steady = λ fine. c.loop-piece.invariant.steady;
+}
+
+-- ---- what was read is put behind the bytes before it
+
+pub loop-piece-preserved : goal.loop-piece-preserved
+loop-piece-preserved g c = record {
+  bytes = λ told.
+      let items = c.loop-piece.bytes.items in
+      let piece = take c.in-Ok.count c.read.new.buf in
+      let left = g.P.Source.left c.read.new.self in
+      let extended : c.extend_from_slice.new.self.items ≡ items ++ piece = search rules in
+      c.loop-piece.invariant.bytes told ∙ ap (λ (l : List ℕ). items ++ l) (c.in-Ok.ensures.bytes told).0
+      ∙ sym (append_assoc items piece left) ∙ ap (λ (l : List ℕ). l ++ left) (sym extended);
+  later = subst (λ (n : ℕ). n ≤ g.P.Source.faults c.read.new.self) c.loop-piece.invariant.steady c.read.ensures.cause.later;
+  steady = c.in-Ok.ensures.cause.steady ∙ c.loop-piece.invariant.steady;
 }

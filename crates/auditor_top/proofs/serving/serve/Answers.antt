@@ -4,7 +4,9 @@ use Rattle.audit_types.specs.History.{IsLegal}
 use Rattle.bench_core.specs.Causes.{Rose}
 use Rattle.bench_core.specs.Calls.{IsQuiet, LeavesOnly}
 use Rattle.bench_core.specs.Moments.{started, joins, weakens}
-use Rattle.table_load.specs.Cells.{SecretView}
+use Rattle.table_load.specs.Cells.{FitsSchema, PublicView, SecretView}
+use Rattle.schema_json.specs.SecretShape.{shape_of}
+use Rattle.audit_store.specs.Stores.{IsAsLeft}
 use Rattle.table_load.specs.Database.{Database, base_of, secret_table}
 use Rattle.table_load.specs.Loaded.{table_view}
 use Rattle.journal_form.specs.Journal.{StandsFor}
@@ -356,4 +358,17 @@ returns g c = record {
       past.before_bench (c.serve.new.bench ≡ c.args.bench.now);
   before_lines = subst (λ (status : Status). Before reading_lines status ((c.serve.new.source ≡ c.args.input.now) × (g.B.Bench.file c.serve.new.bench ≡ g.B.Bench.file c.args.bench.now) × (g.B.Bench.sent c.serve.new.bench ≡ g.B.Bench.sent c.args.bench.now))) (sym c.ended.ensures)
       (session_at_lines ((c.serve.new.source ≡ c.args.input.now) × (g.B.Bench.file c.serve.new.bench ≡ g.B.Bench.file c.args.bench.now) × (g.B.Bench.sent c.serve.new.bench ≡ g.B.Bench.sent c.args.bench.now)) c.serve.result);
+}
+
+-- ---- what the session wants
+
+pub serve-requires : goal.serve-requires
+serve-requires g c = record {
+  usable = c.in-Ok-start.ensures.store.1;
+  fits = subst (λ (p : PublicView). FitsSchema c.in-Ok.opened.schema.columns p) (sym c.in-Ok-start.ensures.index) c.in-Ok.ensures.fits;
+  shape =
+      ap (λ (s : SecretView). s.shape) c.in-Ok-start.ensures.store.0 ∙ c.in-Ok.ensures.shape
+      ∙ ap (λ (p : PublicView). shape_of c.in-Ok.opened.schema.columns p.rows) (sym c.in-Ok-start.ensures.index);
+  stands = λ told. subst (λ (file : List ℕ). IsAsLeft file c.in-Ok-start.started.1) (sym c.start.ensures.file) (c.in-Ok-start.ensures.stands told);
+  batch = c.requires;
 }

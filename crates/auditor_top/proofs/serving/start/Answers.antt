@@ -1,8 +1,18 @@
-use Rattle.std.proofs.Common.{refl}
+use Rattle.std.proofs.Common.{rules, ◌≡◌, Result, Err, refl, sym, subst, ◌∙◌}
+use Rattle.std.specs.Prelude.{IfErr}
+use Rattle.std.proofs.lemmas.Result.{IfOk-from_err}
 use Rattle.bench_core.specs.Moments.{started}
+use Rattle.table_load.specs.Cells.{PublicView}
+use Rattle.audit_store.specs.Stores.{StoreContents}
+use Rattle.audit_store.specs.Starting.{StartCause, GivesUp}
+use Rattle.audit_store.specs.declared.starting.StartFault.{StartFault}
+use Rattle.audit_store.specs.declared.starting.StartFault.TheVariants.{Failed}
 use Rattle.auditor_top.proofs.Openings.{stays}
 use Rattle.auditor_top.proofs.StepFaults.{not_both, wants_not_failed, same_start}
 use Rattle.auditor_top.proofs.serving.start.Goals as goal
+
+abbrev unstarted : StartFault → Result (PublicView × StoreContents) StartFault
+unstarted fault = Err fault
 
 -- ---- no memory for the index
 
@@ -28,42 +38,49 @@ returns-in_default g c = record {
   later = stays _;
 }
 
+-- ---- the store wasn't started
+
+pub returns-in_err-store : goal.returns-in_err-store
+returns-in_err-store g c =
+    let refuses = c.from_residual.ensures.0 in
+    let fault = c.in_err-store.field-0.0 in
+    let same : c.from_residual.result ≡ unstarted fault = search rules in
+    record {
+      index = IfOk-from_err _ _ refuses;
+      store = IfOk-from_err _ _ refuses;
+      stands = λ told. IfOk-from_err _ _ refuses;
+      cause = λ told.
+          subst (λ (r : Result (PublicView × StoreContents) StartFault). IfErr r (λ f. StartCause f (g.B.Bench.file c.args.bench.now) c.args.table.secret)) (sym same)
+          (c.start.ensures.cause fault told (search rules));
+      opens = λ history told stands legal.
+          subst (λ (r : Result (PublicView × StoreContents) StartFault). IfErr r GivesUp) (sym same) (c.in_err-store.ensures.opens history told stands legal);
+      file = c.start.ensures.file;
+      sent = c.start.ensures.sent;
+      crash = c.start.ensures.crash;
+      untouched = c.start.ensures.untouched;
+      ticks = λ told. IfOk-from_err _ _ refuses;
+      failed = λ is. c.in_err-store.ensures.failed (same_start fault Failed (sym same ∙ is));
+      last_call = λ is. c.in_err-store.ensures.last_call (same_start fault Failed (sym same ∙ is));
+      steady = λ other. c.in_err-store.ensures.steady (λ is. other (same ∙ same_start fault Failed is));
+      later = c.start.ensures.later;
+    }
+
 -- ---- the store was started
 
-pub returns-in-Ok-start : goal.returns-in-Ok-start
-returns-in-Ok-start g c = record {
+pub returns : goal.returns
+returns g c = record {
   index = c.in-Ok.ensures;
-  store = c.in-Ok-start.ensures.store;
-  stands = c.in-Ok-start.ensures.stands;
+  store = c.in_ok-store.ensures.store;
+  stands = c.in_ok-store.ensures.stands;
   cause = λ told. tt;
   opens = λ history told stands legal. tt;
   file = c.start.ensures.file;
   sent = c.start.ensures.sent;
   crash = c.start.ensures.crash;
   untouched = c.start.ensures.untouched;
-  ticks = c.in-Ok-start.ensures.ticks;
+  ticks = c.in_ok-store.ensures.ticks;
   failed = λ is. absurd (not_both _ _ is);
   last_call = λ is. absurd (not_both _ _ is);
-  steady = λ other. c.in-Ok-start.ensures.steady (not_both _ _);
-  later = c.start.ensures.later;
-}
-
--- ---- it wasn't
-
-pub returns-in-Err : goal.returns-in-Err
-returns-in-Err g c = record {
-  index = tt;
-  store = tt;
-  stands = λ told. tt;
-  cause = λ told. c.start.ensures.cause c.in-Err.fault told c.in-Err.is;
-  opens = c.in-Err.ensures.opens;
-  file = c.start.ensures.file;
-  sent = c.start.ensures.sent;
-  crash = c.start.ensures.crash;
-  untouched = c.start.ensures.untouched;
-  ticks = λ told. tt;
-  failed = λ is. c.in-Err.ensures.failed (same_start _ _ is);
-  last_call = λ is. c.in-Err.ensures.last_call (same_start _ _ is);
-  steady = λ other. c.in-Err.ensures.steady (λ is. other (same_start _ _ is));
+  steady = λ other. c.in_ok-store.ensures.steady (not_both _ _);
   later = c.start.ensures.later;
 }
