@@ -65,13 +65,6 @@ rests_by end.NoMemory no_input no_limit no_bench bench old mid new was now still
   quiet = λ t quiet. subst (λ b. IsQuiet bench b) (sym (still refl).0) (rests.quiet t quiet);
 }
 
--- a refusal in another result
-pub same_fault : {X Y : Type 0} (fault other : EndFault) → IsErrOf {T = X} (Err fault) other → IsErrOf {T = Y} (Err fault) other
-same_fault {X} {Y} fault other is = let same : fault ≡ other = cc in ap (λ (f : EndFault). err f) same
-  where
-    err : EndFault → Result Y EndFault
-    err f = Err f
-
 -- the bytes below the limit
 front_is : (most : ℕ) (input read rest : List ℕ) → input ≡ read ++ rest → length read ≡ most → take most input ≡ read
 front_is most input read rest split as_long =

@@ -1,5 +1,5 @@
 -- What a refusal says: an answer that is none has no fault, and one that is has one alone.
-use Rattle.std.proofs.Common.{◌≡◌, ℕ, ◌≤◌, Bool, true, false, Result, Ok, Err, refl, ap, subst}
+use Rattle.std.proofs.Common.{◌≡◌, ℕ, ◌≤◌, Bool, true, false, Result, Ok, Err, refl, subst}
 use Rattle.std.specs.Prelude.{IsErrOf}
 use Rattle.std.specs.Result.{IsErr, IsErrAnd}
 use Rattle.std.proofs.lemmas.Bool.{false≢true}
@@ -74,13 +74,6 @@ no_call store.NoMemory answer same other is = cc
 -- a call that failed is no want of memory
 pub bench_no_memory : {X P : Type 0} (answer : Result X EndFault) → answer ≡ Err end.Bench → answer ≡ Err end.NoMemory → P
 bench_no_memory answer same is = let none : ⊥ = cc in absurd none
-
--- the store's fault, in another answer
-pub same_store : {X Y : Type 0} (given fault : StoreFault) → IsErrOf {T = X} (Err given) fault → IsErrOf {T = Y} (Err given) fault
-same_store {X} {Y} given fault is = let same : given ≡ fault = cc in ap (λ (f : StoreFault). err f) same
-  where
-    err : StoreFault → Result Y StoreFault
-    err f = Err f
 
 -- a count that stood still before it rose
 pub still_later : (before mid now : ℕ) → mid ≡ before → mid ≤ now → before ≤ now

@@ -11,10 +11,9 @@ use Rattle.question_plan.specs.declared.planning.Plan.{Plan}
 use Rattle.audit_session.specs.Groups.{AreTold, CanAllBeTold, questions_of}
 use Rattle.audit_session.proofs.ToldPlans.{can_all, few_questions, questions_fit}
 use Rattle.audit_session.proofs.DecidedGroup.{by_fault, told_group, while_kept, nothing_called}
-use Rattle.audit_store.specs.Refusals.{no_refusal}
+use Rattle.audit_store.specs.Refusals.{no_refusal, same_fault}
 use Rattle.audit_store.specs.declared.outcome.StoreFault.{StoreFault}
 use Rattle.audit_store.specs.declared.outcome.StoreFault.TheVariants as fault
-use Rattle.audit_session.proofs.Refusals.{same_store}
 use Rattle.audit_session.proofs.answering.decide.Goals as goal
 
 abbrev refused : StoreFault → Result (Unit {0}) StoreFault
@@ -53,7 +52,7 @@ returns-in_err-outcomes g c =
       in_range = IfOk-from_err _ _ c.from_residual.ensures.0;
       stands = IfOk-from_err _ _ c.from_residual.ensures.0;
       err = search rules;
-      no_memory = λ is. c.in_err-outcomes.ensures.no_memory (same_store given fault.NoMemory (sym same ∙ is));
+      no_memory = λ is. c.in_err-outcomes.ensures.no_memory (same_fault given fault.NoMemory (sym same ∙ is));
       moments = λ told quiet.
           let store = c.args.store.now in
           let plans = c.args.group.now.plans.items in
@@ -68,9 +67,9 @@ returns-in_err-outcomes g c =
       plans = search rules;
       secret = c.ask_all.ensures.secret;
       is = c.ask_all.ensures.is;
-      failed = λ is. c.in_err-outcomes.ensures.failed (same_store given fault.Failed (sym same ∙ is));
-      last_call = λ is. c.in_err-outcomes.ensures.last_call (same_store given fault.Failed (sym same ∙ is));
-      steady = λ other. c.in_err-outcomes.ensures.steady (λ is. other (same ∙ same_store given fault.Failed is));
+      failed = λ is. c.in_err-outcomes.ensures.failed (same_fault given fault.Failed (sym same ∙ is));
+      last_call = λ is. c.in_err-outcomes.ensures.last_call (same_fault given fault.Failed (sym same ∙ is));
+      steady = λ other. c.in_err-outcomes.ensures.steady (λ is. other (same ∙ same_fault given fault.Failed is));
       later = c.ask_all.ensures.later;
     }
 

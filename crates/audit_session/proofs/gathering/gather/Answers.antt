@@ -7,9 +7,8 @@ use Rattle.question_plan.specs.declared.planning.Plan.{Plan}
 use Rattle.audit_session.specs.declared.serving.EndFault.{EndFault}
 use Rattle.audit_session.specs.declared.serving.EndFault.TheVariants as end
 use Rattle.audit_session.specs.Groups.{GivesNext, TakesByte, question_in}
-use Rattle.audit_session.proofs.EndsByFault.{same_fault}
 use Rattle.audit_session.proofs.GatheredLines.{Gathering, cut_short, gathers_last, not_over, one_gathered}
-use Rattle.audit_store.specs.Refusals.{no_refusal}
+use Rattle.audit_store.specs.Refusals.{no_refusal, same_fault}
 use Rattle.audit_session.proofs.Refusals.{memory_no_bench, memory_no_input, memory_no_limit, no_answer, no_end, no_more, refusal, still_later}
 use Rattle.audit_session.proofs.gathering.gather.Goals as goal
 

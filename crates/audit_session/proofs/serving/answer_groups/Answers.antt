@@ -11,10 +11,10 @@ use Rattle.line_wire.specs.Lines.{counted_lines}
 use Rattle.audit_session.specs.declared.serving.EndFault.{EndFault}
 use Rattle.audit_session.specs.declared.serving.EndFault.TheVariants as end
 use Rattle.audit_session.specs.Ends.{Ends, Reads, ServesSome}
-use Rattle.audit_session.proofs.EndsByFault.{all_read, ends_by, reads_by, rests_by, same_fault}
+use Rattle.audit_session.proofs.EndsByFault.{all_read, ends_by, reads_by, rests_by}
 use Rattle.audit_session.proofs.GatheredLines.{still_ended, whole_or_last}
 use Rattle.audit_session.proofs.Served.{nothing_served, some_served, served_whole, served_limited, cut_not_over, turn_moments, next_turn, all_served, all_calls}
-use Rattle.audit_store.specs.Refusals.{no_refusal}
+use Rattle.audit_store.specs.Refusals.{no_refusal, same_fault}
 use Rattle.audit_session.proofs.Refusals.{still_later}
 use Rattle.audit_session.proofs.serving.answer_groups.Goals as goal
 
