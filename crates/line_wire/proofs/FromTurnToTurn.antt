@@ -1,11 +1,13 @@
 -- What a call of the cutter keeps from turn to turn.
-use Rattle.std.proofs.Common.{◌≢◌, ◌≡◌, ℕ, suc, ◌+◌, ◌-◌, ◌<◌, ◌≤◌, ◌⊎◌, inl, inr, Bool, true, false, cond, List, [], ◌∷◌, ◌++◌, length, refl, sym, ap, ◌∙◌, arith, append-nil, length-append, Ok}
+use Rattle.std.proofs.Common.{◌≢◌, ◌≡◌, ℕ, suc, ◌+◌, ◌-◌, ◌<◌, ◌≤◌, ◌⊎◌, inl, inr, Bool, true, false, cond, List, [], ◌∷◌, ◌++◌, length, refl, sym, ap, ◌∙◌, arith, append-nil, length-append, Result, Ok, Err}
 use Rattle.std.proofs.lemmas.Grind.{common_steps}
 use Rattle.line_wire.specs.Lines.{CountedLine, text, long, line_of, whole_lines, most_input}
 use Rattle.line_wire.specs.Cutter.{Cutter, IsWithin, PassesFeed, PassesNone, Reached}
 use Rattle.line_wire.specs.Steps.{Gives, GivesLast, ShowsText, Advances}
 use Rattle.line_wire.specs.declared.lines.Next.{Next}
 use Rattle.line_wire.specs.declared.lines.Next.TheVariants as next
+use Rattle.line_wire.specs.declared.lines.LineStop.{LineStop}
+use Rattle.line_wire.specs.declared.lines.LineStop.TheVariants as stop
 use Rattle.line_wire.specs.LineLaws.{kept-le}
 use Rattle.line_wire.proofs.NextCountedLine.{to_feed, to_more, to_next, no_whole}
 
@@ -71,6 +73,14 @@ pub shows_last : (answer : Next) (shown piece : List ℕ) → GivesLast answer s
 shows_last next.Line shown piece gives = is_short shown piece gives
 shows_last next.Long shown piece gives = gives.1
 shows_last next.End shown piece gives = gives.1
+
+-- an answer is no refusal
+pub answer_is_no_refusal : {answer : Next} → Ok answer ≡ Err stop.Input → ⊥
+answer_is_no_refusal is = cc
+
+-- a refusal at the limit is none of a failed read
+pub limit_is_no_input : (result : Result Next LineStop) → result ≡ Err stop.Limit → result ≡ Err stop.Input → ⊥
+limit_is_no_input result limit input = cc
 
 -- where a whole line is at hand, nothing was read
 pub nothing_read : {S : Type 0} (old now : Cutter) (first source : S) → ((source ≡ first) × Reached (old.pending ++ []) now []) ⊎ (whole_lines (old.pending ++ []) ≡ []) →

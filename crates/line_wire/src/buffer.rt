@@ -132,8 +132,12 @@ impl Buffer {
         self.stop = len;
         self.from = len;
         self.end = len;
-        let count = read_to(source, &mut self.bytes, len)?;
-        self.end = len + count;
-        Ok(count)
+        match read_to(source, &mut self.bytes, len) {
+            Ok(count) => {
+                self.end = len + count;
+                Ok(count)
+            }
+            Err(failed) => Err(failed),
+        }
     }
 }
