@@ -4,6 +4,7 @@ use Rattle.std.specs.Prelude.{⊤, is_some, unwrap_or, if◌then◌else◌}
 use Rattle.std.specs.Str.{bytes_eq}
 use Rattle.std.specs.Ordering.{match_ordering}
 use Rattle.std.proofs.lemmas.Bool.{and_parts, and_from, false≢true}
+use Rattle.std.proofs.lemmas.Option.{none-some}
 use Rattle.std.proofs.lemmas.Slice.Eq.{bytes_eq-Decides}
 use Rattle.json.specs.Token.{Token}
 use Rattle.json.specs.Lex.{tokens}
@@ -275,11 +276,18 @@ renamed : (o : Option (Bor (List ℕ))) → option_map string (option_map (λ s.
 renamed None = refl
 renamed (Some s) = refl
 
+-- the word that asks
+asked : (word : Option (List ℕ)) (ask : Ask) → option_and_then ask_of word ≡ Some ask → (w : List ℕ) × (word ≡ Some w) × (ask_of w ≡ Some ask)
+asked None ask asks = absurd (none-some ask asks)
+asked (Some word) ask asks = (word, refl, asks)
+
 -- what is made of these texts is its question
-pub plain_question_is : (j : json.Json) (text word : List ℕ) (ask : Ask) (name : Option (Bor (List ℕ))) (r : Option Question) → is_plain j ≡ true
-    → text_at (codes "where") j ≡ Some text → text_at (codes "ask") j ≡ Some word → Some ask ≡ ask_of word
-    → text_at (codes "column") j ≡ option_map (λ s. s.now) name → option_map written_of r ≡ with_column ask (option_map (λ s. string s.now) name) text → IfSome r (λ question. question_in_json j ≡ Some (written_of question))
-plain_question_is j text word ask name None plain is_where is_ask asks is_name made = tt
-plain_question_is j text word ask name (Some question) plain is_where is_ask asks is_name made =
-    plain_writes j text word ask plain is_where is_ask (sym asks) ∙ ap (λ o. with_column ask (option_map string o) text) is_name
+pub plain_question_is : (j : json.Json) (text : List ℕ) (ask : Ask) (name : Option (Bor (List ℕ))) (r : Option Question) → is_plain j ≡ true
+    → text_at (codes "where") j ≡ Some text → option_and_then ask_of (text_at (codes "ask") j) ≡ Some ask
+    → text_at (codes "column") j ≡ option_map (λ s. s.now) name → option_map written_of r ≡ with_column ask (option_map (λ s. string s.now) name) text
+    → IfSome r (λ question. question_in_json j ≡ Some (written_of question))
+plain_question_is j text ask name None plain is_where asks is_name made = tt
+plain_question_is j text ask name (Some question) plain is_where asks is_name made =
+    let word = asked (text_at (codes "ask") j) ask asks in
+    plain_writes j text word.0 ask plain is_where word.1 word.2 ∙ ap (λ o. with_column ask (option_map string o) text) is_name
     ∙ ap (λ o. with_column ask o text) (renamed name) ∙ sym made

@@ -1,12 +1,12 @@
 //! The question of an object of texts, which needs no copy of any.
-ghost use Rattle.std.specs.Prelude.{◌≡◌, true, Some, OnSome, IfSome, ◌≤◌, length, option_map};
+ghost use Rattle.std.specs.Prelude.{◌≡◌, true, Some, OnSome, IfSome, ◌≤◌, length, option_map, option_and_then, codes};
 ghost use Rattle.std.specs.List.{list_all};
 ghost use Rattle.json.specs.Value.{value_view, members_view};
 ghost use Rattle.line_wire.specs.Plain.{is_text_at, are_texts, is_plain, text_at, question_in_json};
 ghost use Rattle.line_wire.specs.Kept.{written_of};
-ghost use Rattle.line_wire.specs.Questions.{question_of, text_of};
+ghost use Rattle.line_wire.specs.Questions.{ask_of, question_of, text_of};
 
-use crate::question::{Question, ask_of, is_key, with_name};
+use crate::question::{Ask, Question, ask_of, is_key, with_name};
 use json::{Scratch, Value};
 use std::alloc::Global;
 
@@ -38,6 +38,16 @@ fn text_at<'a>(value: &Value<'a>, key: &str) -> Option<&'a str>
     value.get(key).and_then(Value::as_str)
 }
 
+// What the word at `ask` asks for.
+fn ask_at(value: &Value) -> Option<Ask>
+    ensures { result ≡ option_and_then ask_of (text_at (codes "ask") (value_view value.now)) }
+{
+    match text_at(value, "ask") {
+        Some(word) => ask_of(word),
+        None => None,
+    }
+}
+
 // The question that a value writes, where it is an object of known keys with texts.
 fn plain_question<'a>(value: &Value<'a>) -> Option<Question<'a>>
     ensures plain { OnSome result (is_plain (value_view value.now) ≡ true) }
@@ -46,10 +56,10 @@ fn plain_question<'a>(value: &Value<'a>) -> Option<Question<'a>>
     if !is_plain(value) {
         return None;
     }
-    let text = text_at(value, "where")?;
-    let word = text_at(value, "ask")?;
-    let ask = ask_of(word)?;
-    with_name(ask, text_at(value, "column"), text)
+    match (text_at(value, "where"), ask_at(value)) {
+        (Some(text), Some(ask)) => with_name(ask, text_at(value, "column"), text),
+        _ => None,
+    }
 }
 
 /// The question of a line that is an object of known keys with texts. None of its texts is longer than the line.

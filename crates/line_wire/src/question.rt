@@ -1,5 +1,5 @@
 //! The question that a value writes.
-ghost use Rattle.std.specs.Prelude.{◌≡◌, List, option_and_then, option_map, string_bytes};
+ghost use Rattle.std.specs.Prelude.{◌≡◌, List, option_and_then, option_map, string_bytes, codes};
 ghost use Rattle.std.specs.List.{list_all};
 ghost use Rattle.std.specs.BTreeMap.{keys};
 ghost use Rattle.serde_json.specs.Data.{string};
@@ -127,6 +127,16 @@ fn text_at<'a>(value: &'a Value, key: &str) -> Option<&'a str>
     value.get(key).and_then(Value::as_str)
 }
 
+// What the word at `ask` asks for.
+fn ask_at(value: &Value) -> Option<Ask>
+    ensures { result ≡ option_and_then ask_of (option_and_then as_str (get (codes "ask") (view value.now))) }
+{
+    match text_at(value, "ask") {
+        Some(word) => ask_of(word),
+        None => None,
+    }
+}
+
 /// The question that a value writes, if it writes one.
 #[tactic(auto, unfolding(crate::specs::Questions::question_in))]
 pub(crate) fn question_in(value: &Value) -> Option<Question<'_>>
@@ -135,8 +145,8 @@ pub(crate) fn question_in(value: &Value) -> Option<Question<'_>>
     if !has_known_keys(value) || !may_be_text(value.get("user")) {
         return None;
     }
-    let text = text_at(value, "where")?;
-    let word = text_at(value, "ask")?;
-    let ask = ask_of(word)?;
-    with_column(ask, value.get("column"), text)
+    match (text_at(value, "where"), ask_at(value)) {
+        (Some(text), Some(ask)) => with_column(ask, value.get("column"), text),
+        _ => None,
+    }
 }
