@@ -1,7 +1,7 @@
 -- Rows that are sorted by value and then by row: by a stable sort, and as they are searched for a value.
-use Rattle.std.proofs.Common.{◌≡◌, ℕ, zero, suc, ◌+◌, ◌≤◌, Bool, true, false, List, [], ◌∷◌, get_or, refl, ap, ◌∙◌, sym, subst, arith}
+use Rattle.std.proofs.Common.{◌≡◌, ℕ, zero, suc, ◌+◌, ◌≤◌, Bool, true, false, List, [], ◌∷◌, get_or, slice_index_or, pos, refl, ap, ◌∙◌, sym, subst, arith}
 use Rattle.std.proofs.lemmas.Bool.{false≢true}
-use Rattle.std.proofs.lemmas.Cmp.{nat_cmp_total}
+use Rattle.std.proofs.lemmas.Cmp.{on_total, nat_cmp_total, int_cmp_total, nat_list_cmp_total}
 use Rattle.std.specs.Cmp.{nat_cmp_is}
 use Rattle.std.proofs.lemmas.List.Sorted.{ranks_by, searchable_from_sorted, ties_stay_sorted}
 use Rattle.std.specs.Cmp.{IsTotalOrder, IsStrictWeakOrder}
@@ -10,6 +10,11 @@ use Rattle.std.specs.Ordering.{is_lt, is_le, nat_cmp, ordering_index, ordering_r
 use Rattle.std.specs.declared.cmp.Ordering.{Ordering}
 use Rattle.std.specs.declared.cmp.Ordering.TheVariants.{Less, Equal, Greater}
 use Rattle.audit_types.specs.Rows.{AscendsFrom}
+use Rattle.table_load.specs.Cells.{Cells, hidden, numbers, texts}
+use Rattle.set_index.specs.Ends.{is_passed}
+use Rattle.set_index.specs.Ordered.{compare_cells}
+use Rattle.set_index.specs.declared.values.End.{End}
+use Rattle.set_index.specs.declared.values.End.TheVariants.{Before, Behind}
 
 lesser : (p q : Ordering) → is_lt (ordering_then p q) ≡ false → is_lt p ≡ false
 lesser Less q h = h
@@ -75,9 +80,20 @@ module _ {K : Type 0} {R : K → K → Ordering} (o : IsTotalOrder R) (key : ℕ
   rises x xs sorted = searchable_from_sorted o key xs x (λ k d low high. lesser _ _ (sorted k d low high))
 
   -- the rows below a value come first
-  pub smaller_first : (x : K) (xs : List ℕ) → IsSortedBy comes_before xs → IsPartitionedBy (λ r. is_lt (R (key r) x)) xs
+  smaller_first : (x : K) (xs : List ℕ) → IsSortedBy comes_before xs → IsPartitionedBy (λ r. is_lt (R (key r) x)) xs
   smaller_first x xs sorted i j d le high = less_falls _ _ (rises x xs sorted i j d le high)
 
   -- and so do those up to it
-  pub up_to_first : (x : K) (xs : List ℕ) → IsSortedBy comes_before xs → IsPartitionedBy (λ r. is_le (R (key r) x)) xs
+  up_to_first : (x : K) (xs : List ℕ) → IsSortedBy comes_before xs → IsPartitionedBy (λ r. is_le (R (key r) x)) xs
   up_to_first x xs sorted i j d le high = up_to_falls _ _ (rises x xs sorted i j d le high)
+
+  -- and so do those before an end of the rows with it
+  pub passed_first : (end : End) (x : K) (xs : List ℕ) → IsSortedBy comes_before xs → IsPartitionedBy (λ r. is_passed end (R (key r) x)) xs
+  passed_first Before x xs sorted = smaller_first x xs sorted
+  passed_first Behind x xs sorted = up_to_first x xs sorted
+
+-- the values of a column have an order
+pub column_total : (cells : Cells) → IsTotalOrder (compare_cells cells)
+column_total hidden = on_total (λ (r : ℕ). 0) nat_cmp_total
+column_total (numbers xs) = on_total (λ (r : ℕ). slice_index_or xs r (pos 0)) int_cmp_total
+column_total (texts ts) = on_total (λ (r : ℕ). slice_index_or ts r []) nat_list_cmp_total

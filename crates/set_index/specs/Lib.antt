@@ -1,5 +1,6 @@
 pub mod Asked
 pub mod Ordered
+pub mod Ends
 pub mod Ranges
 pub mod Marks
 pub mod KeptSorted

@@ -7,7 +7,7 @@ ghost use Rattle.set_index.specs.Asked.{meaning, meets, meets_any, fits_public, 
 ghost use Rattle.predicate_lang.specs.declared.trees.Op.TheVariants.{Eq};
 
 use crate::index::Index;
-use crate::values::{below_number, below_text, within_number, within_text};
+use crate::values::{End, count_to_number, count_to_text};
 use audit_types::RowSet;
 use predicate_lang::{Literal, Op, Pred};
 use table_load::{Column, Public};
@@ -90,8 +90,8 @@ fn numbers_equal(index: &Index, column: u8, number: i64) -> RowSet
     let list = numbers_of(index.public(), column);
     let sorted = index.sorted(column);
     let order = sorted.order();
-    let below = below_number(order, list, number);
-    let within = within_number(order, list, number);
+    let below = count_to_number(order, list, number, End::Before);
+    let within = count_to_number(order, list, number, End::Behind);
     sorted.range(below, within)
 }
 
@@ -111,10 +111,16 @@ fn numbers_where(index: &Index, column: u8, op: Op, number: i64) -> RowSet
             rows.flip();
             rows
         }
-        Op::Lt => sorted.range(0, below_number(order, list, number)),
-        Op::Le => sorted.range(0, within_number(order, list, number)),
-        Op::Gt => sorted.range(within_number(order, list, number), order.len()),
-        Op::Ge => sorted.range(below_number(order, list, number), order.len()),
+        Op::Lt => sorted.range(0, count_to_number(order, list, number, End::Before)),
+        Op::Le => sorted.range(0, count_to_number(order, list, number, End::Behind)),
+        Op::Gt => sorted.range(
+            count_to_number(order, list, number, End::Behind),
+            order.len(),
+        ),
+        Op::Ge => sorted.range(
+            count_to_number(order, list, number, End::Before),
+            order.len(),
+        ),
     }
 }
 
@@ -127,8 +133,8 @@ fn texts_equal(index: &Index, column: u8, text: &[u8]) -> RowSet
     let list = texts_of(index.public(), column);
     let sorted = index.sorted(column);
     let order = sorted.order();
-    let below = below_text(order, list, text);
-    let within = within_text(order, list, text);
+    let below = count_to_text(order, list, text, End::Before);
+    let within = count_to_text(order, list, text, End::Behind);
     sorted.range(below, within)
 }
 

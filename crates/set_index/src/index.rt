@@ -1,9 +1,9 @@
 //! The public part of a table, asked for the rows that satisfy a condition.
-ghost use Rattle.std.specs.Prelude.{◌≡◌, ◌<◌, ◌≤◌, ℕ, true, map, None, IfOk};
+ghost use Rattle.std.specs.Prelude.{◌≡◌, ◌<◌, ◌≤◌, ℕ, true, None, IfOk};
 ghost use Rattle.std.specs.List.Sorted.{IsSorted};
 ghost use Rattle.std.specs.Ordering.{nat_cmp};
 ghost use Rattle.predicate_lang.specs.Trees.{tree_of};
-ghost use Rattle.table_load.specs.Cells.{cells_at, numbers, texts};
+ghost use Rattle.table_load.specs.Cells.{cells_at};
 ghost use Rattle.audit_types.specs.Limits.{most_rows};
 ghost use Rattle.audit_types.specs.Rows.{rows_that};
 ghost use Rattle.table_load.specs.Kept.{cells_kept};
@@ -13,7 +13,7 @@ ghost use Rattle.set_index.specs.Ordered.{IsOrder, IsShown, compare_rows};
 
 use crate::asking::rows_of;
 use crate::sorted::Sorted;
-use crate::values::{sort_by_number, sort_by_text};
+use crate::values::sort_by_value;
 use audit_types::{NoMemory, RowSet};
 use predicate_lang::Pred;
 use std::alloc::Global;
@@ -50,27 +50,15 @@ fn all_rows(alloc: Global, rows: u16) -> Result<Vec<u16>, NoMemory>
     Ok(list)
 }
 
-// The rows in ascending order of number.
-fn by_number(alloc: Global, rows: u16, list: &[i64]) -> Result<Sorted, NoMemory>
+// The rows in ascending order of a column's values.
+fn by_value(alloc: Global, rows: u16, column: &Column) -> Result<Sorted, NoMemory>
     requires some { 0 < rows }
     requires at_most { rows ≤ most_rows }
     ensures rows { IfOk result (λ s. s.rows ≡ rows) }
-    ensures ascending { IfOk result (λ s. IsSorted (compare_rows (numbers list.now)) s.order) }
+    ensures ascending { IfOk result (λ s. IsSorted (compare_rows (cells_kept column.now)) s.order) }
 {
     let mut order = all_rows(alloc, rows)?;
-    sort_by_number(alloc, order.as_mut_slice(), list)?;
-    Sorted::new(alloc, rows, order)
-}
-
-// The rows in ascending order of text.
-fn by_text(alloc: Global, rows: u16, list: &[Vec<u8>]) -> Result<Sorted, NoMemory>
-    requires some { 0 < rows }
-    requires at_most { rows ≤ most_rows }
-    ensures rows { IfOk result (λ s. s.rows ≡ rows) }
-    ensures ascending { IfOk result (λ s. IsSorted (compare_rows (texts (map (λ t. t.items) list.now))) s.order) }
-{
-    let mut order = all_rows(alloc, rows)?;
-    sort_by_text(alloc, order.as_mut_slice(), list)?;
+    sort_by_value(alloc, order.as_mut_slice(), column)?;
     Sorted::new(alloc, rows, order)
 }
 
@@ -82,8 +70,7 @@ fn sorted(alloc: Global, rows: u16, column: &Column) -> Result<Option<Sorted>, N
 {
     match column {
         Column::Hidden => Ok(None),
-        Column::Numbers(list) => Ok(Some(by_number(alloc, rows, list.as_slice())?)),
-        Column::Texts(list) => Ok(Some(by_text(alloc, rows, list.as_slice())?)),
+        Column::Numbers(_) | Column::Texts(_) => Ok(Some(by_value(alloc, rows, column)?)),
     }
 }
 

@@ -2,13 +2,16 @@
 ghost use Rattle.std.specs.Prelude.{◌≡◌, ◌≤◌, pos, true, false, [], length, map, slice_index_or, OnOk};
 ghost use Rattle.std.specs.Cmp.Lexicographic.{slice_cmp};
 ghost use Rattle.std.specs.List.Sorted.{IsPermutation, IsPartitionPoint, IsSorted};
-ghost use Rattle.std.specs.Ordering.{int_cmp, is_le, is_lt, nat_cmp};
+ghost use Rattle.std.specs.Ordering.{int_cmp, nat_cmp};
 ghost use Rattle.table_load.specs.Cells.{numbers, texts};
+ghost use Rattle.table_load.specs.Kept.{cells_kept};
+ghost use Rattle.set_index.specs.Ends.{is_passed};
 ghost use Rattle.set_index.specs.Ordered.{compare_cells, compare_rows};
 
 use audit_types::NoMemory;
 use std::alloc::Global;
 use std::cmp::Ordering;
+use table_load::Column;
 
 // The number of a row, 0 where there is none.
 fn number_at(list: &[i64], row: u16) -> i64
@@ -27,78 +30,65 @@ fn text_at(list: &[Vec<u8>], row: u16) -> &[u8]
     }
 }
 
-fn compare_by_number(list: &[i64], row: u16, other: u16) -> Ordering
-    ensures { result ≡ compare_cells (numbers list.now) row other }
+// How the values of two rows of a column compare. All rows of a hidden one are equal.
+fn compare(column: &Column, row: u16, other: u16) -> Ordering
+    ensures { result ≡ compare_cells (cells_kept column.now) row other }
 {
-    number_at(list, row).cmp(&number_at(list, other))
+    match column {
+        Column::Hidden => Ordering::Equal,
+        Column::Numbers(list) => number_at(list, row).cmp(&number_at(list, other)),
+        Column::Texts(list) => text_at(list, row).cmp(text_at(list, other)),
+    }
 }
 
-fn compare_by_text(list: &[Vec<u8>], row: u16, other: u16) -> Ordering
-    ensures { result ≡ compare_cells (texts (map (λ t. t.items) list.now)) row other }
-{
-    text_at(list, row).cmp(text_at(list, other))
-}
-
-/// Sorts ascending rows by number. Rows of equal numbers stay in their order, so a column of few numbers is sorted in few steps.
-pub(crate) fn sort_by_number(alloc: Global, rows: &mut [u16], list: &[i64]) -> Result<(), NoMemory>
-    requires by_row { IsSorted nat_cmp rows.old }
-    ensures permutation { IsPermutation rows.old rows.new }
-    ensures ascending { OnOk result (IsSorted (compare_rows (numbers list.now)) rows.new) }
-{
-    rows.sort_by(alloc, |row, other| compare_by_number(list, *row, *other))?;
-    Ok(())
-}
-
-/// Sorts ascending rows by the bytes of their texts. Rows of equal texts stay in their order.
-pub(crate) fn sort_by_text(
+/// Sorts ascending rows by the values of a column. Rows of equal values stay in their order, so a column of few values is
+/// sorted in few steps.
+pub(crate) fn sort_by_value(
     alloc: Global,
     rows: &mut [u16],
-    list: &[Vec<u8>],
+    column: &Column,
 ) -> Result<(), NoMemory>
     requires by_row { IsSorted nat_cmp rows.old }
     ensures permutation { IsPermutation rows.old rows.new }
-    ensures ascending { OnOk result (IsSorted (compare_rows (texts (map (λ t. t.items) list.now))) rows.new) }
+    ensures ascending { OnOk result (IsSorted (compare_rows (cells_kept column.now)) rows.new) }
 {
-    rows.sort_by(alloc, |row, other| compare_by_text(list, *row, *other))?;
+    rows.sort_by(alloc, |row, other| compare(column, *row, *other))?;
     Ok(())
 }
 
-/// How many rows have smaller numbers.
-pub(crate) fn below_number(rows: &[u16], list: &[i64], number: i64) -> usize
+/// An end of the rows with some value: before the first of them, or behind the last.
+#[derive(Clone, Copy)]
+pub(crate) enum End {
+    Before,
+    Behind,
+}
+
+// Whether a row that compares so with a value stands before this end of the rows with that value.
+fn is_passed(end: End, order: Ordering) -> bool
+    ensures { result ≡ is_passed end order }
+{
+    match end {
+        End::Before => order.is_lt(),
+        End::Behind => order.is_le(),
+    }
+}
+
+/// How many rows stand before this end of those with a number.
+pub(crate) fn count_to_number(rows: &[u16], list: &[i64], number: i64, end: End) -> usize
     requires { IsSorted (compare_rows (numbers list.now)) rows.now }
     ensures bound { result ≤ length rows.now }
-    ensures point { IsPartitionPoint (λ r. is_lt (int_cmp (slice_index_or list.now r (pos 0)) number) ≡ true)
-        (λ r. is_lt (int_cmp (slice_index_or list.now r (pos 0)) number) ≡ false) rows.now result }
+    ensures point { IsPartitionPoint (λ r. is_passed end (int_cmp (slice_index_or list.now r (pos 0)) number) ≡ true)
+        (λ r. is_passed end (int_cmp (slice_index_or list.now r (pos 0)) number) ≡ false) rows.now result }
 {
-    rows.partition_point(|row| number_at(list, *row).cmp(&number).is_lt())
+    rows.partition_point(|row| is_passed(end, number_at(list, *row).cmp(&number)))
 }
 
-/// How many rows have numbers up to this one.
-pub(crate) fn within_number(rows: &[u16], list: &[i64], number: i64) -> usize
-    requires { IsSorted (compare_rows (numbers list.now)) rows.now }
-    ensures bound { result ≤ length rows.now }
-    ensures point { IsPartitionPoint (λ r. is_le (int_cmp (slice_index_or list.now r (pos 0)) number) ≡ true)
-        (λ r. is_le (int_cmp (slice_index_or list.now r (pos 0)) number) ≡ false) rows.now result }
-{
-    rows.partition_point(|row| number_at(list, *row).cmp(&number).is_le())
-}
-
-/// How many rows have texts before this one.
-pub(crate) fn below_text(rows: &[u16], list: &[Vec<u8>], text: &[u8]) -> usize
+/// How many rows stand before this end of those with a text.
+pub(crate) fn count_to_text(rows: &[u16], list: &[Vec<u8>], text: &[u8], end: End) -> usize
     requires { IsSorted (compare_rows (texts (map (λ t. t.items) list.now))) rows.now }
     ensures bound { result ≤ length rows.now }
-    ensures point { IsPartitionPoint (λ r. is_lt (slice_cmp nat_cmp (slice_index_or (map (λ t. t.items) list.now) r []) text.now) ≡ true)
-        (λ r. is_lt (slice_cmp nat_cmp (slice_index_or (map (λ t. t.items) list.now) r []) text.now) ≡ false) rows.now result }
+    ensures point { IsPartitionPoint (λ r. is_passed end (slice_cmp nat_cmp (slice_index_or (map (λ t. t.items) list.now) r []) text.now) ≡ true)
+        (λ r. is_passed end (slice_cmp nat_cmp (slice_index_or (map (λ t. t.items) list.now) r []) text.now) ≡ false) rows.now result }
 {
-    rows.partition_point(|row| text_at(list, *row).cmp(text).is_lt())
-}
-
-/// How many rows have this text or one before it.
-pub(crate) fn within_text(rows: &[u16], list: &[Vec<u8>], text: &[u8]) -> usize
-    requires { IsSorted (compare_rows (texts (map (λ t. t.items) list.now))) rows.now }
-    ensures bound { result ≤ length rows.now }
-    ensures point { IsPartitionPoint (λ r. is_le (slice_cmp nat_cmp (slice_index_or (map (λ t. t.items) list.now) r []) text.now) ≡ true)
-        (λ r. is_le (slice_cmp nat_cmp (slice_index_or (map (λ t. t.items) list.now) r []) text.now) ≡ false) rows.now result }
-{
-    rows.partition_point(|row| text_at(list, *row).cmp(text).is_le())
+    rows.partition_point(|row| is_passed(end, text_at(list, *row).cmp(text)))
 }
