@@ -1,5 +1,6 @@
 -- What a call of the cutter keeps from turn to turn.
-use Rattle.std.proofs.Common.{◌≢◌, ◌≡◌, ℕ, suc, ◌+◌, ◌-◌, ◌<◌, ◌≤◌, ◌⊎◌, inl, inr, Bool, true, false, cond, List, [], ◌∷◌, ◌++◌, length, refl, sym, ap, ◌∙◌, arith, append-nil, length-append, Result, Ok, Err}
+use Rattle.std.proofs.Common.{◌≢◌, ◌≡◌, ◌==◌, ℕ, zero, suc, ◌+◌, ◌-◌, ◌<◌, ◌≤◌, ◌⊎◌, inl, inr, Bool, true, false, cond, List, [], ◌∷◌, ◌++◌, length, refl, sym, ap, ◌∙◌, arith, append-nil, length-append, Result, Ok, Err}
+use Rattle.std.proofs.lemmas.Bool.{true≢false}
 use Rattle.std.proofs.lemmas.Grind.{common_steps}
 use Rattle.line_wire.specs.Lines.{CountedLine, text, long, line_of, whole_lines, most_input}
 use Rattle.line_wire.specs.Cutter.{Cutter, IsWithin, PassesFeed, PassesNone, Reached}
@@ -142,6 +143,11 @@ more_read_by : (most taken pending t p : ℕ) (ended : Bool) → taken ≤ most 
     (most + 65536 - t) + (most + p - t) + cond ended 0 1 < (most + 65536 - taken) + (most + pending - taken) + 1
 more_read_by most taken pending t p true within is grows = omega arith
 more_read_by most taken pending t p false within is grows = omega (arith, grows refl)
+
+-- a count that isn't 0 is of some bytes
+pub some_read : (count : ℕ) → (count == 0) ≡ false → 0 < count
+some_read zero is = absurd (true≢false is)
+some_read (suc count) is = omega arith
 
 -- more was taken, or the input has ended
 pub more_read : (was mid now : Cutter) → was.ended ≡ false → mid.taken ≡ was.taken → mid.taken ≤ most_input → now.taken ≡ mid.taken + length now.pending →

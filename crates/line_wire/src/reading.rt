@@ -52,7 +52,6 @@ fn condition(alloc: Global, schema: &Schema, text: &str) -> Result<Pred, LineFau
 }
 
 // The request that a question is. Its column is looked at before its condition.
-#[tactic(auto, using(crate::proofs::AnsweredLines::taken_is))]
 fn request_of(alloc: Global, schema: &Schema, question: Question) -> Result<Request, LineFault>
     requires { length (text_of (written_of question)) ≤ 8192 }
     ensures exact { Answers schema.now.columns (written_of question.entry) result }

@@ -5,6 +5,32 @@ use Rattle.line_wire.specs.Buffer.{Held}
 use Rattle.line_wire.proofs.BufferRanges.{written_back, range-later, range-long, rest-same, kept-full, kept-grown}
 use Rattle.line_wire.proofs.buffer.Buffer.add.Goals as goal
 
+pub overflow_add-self : goal.overflow_add-self
+overflow_add-self c =
+    let pending = ap (λ (held : Held). held.pending) c.self.view_is in
+    let fits = range-long c.self.inside.bytes.items c.self.inside.from c.self.inside.end c.args.count (omega arith) (rw (← pending) at c.requires) in
+    omega (arith, fits)
+
+pub overflow_add-self-3 : goal.overflow_add-self-3
+overflow_add-self-3 c =
+    let pending = ap (λ (held : Held). held.pending) c.self.view_is in
+    let fits = range-long c.self.inside.bytes.items c.self.inside.from c.self.inside.end c.args.count (omega arith) (rw (← pending) at c.requires) in
+    omega (arith, fits)
+
+pub invariant_of-self : goal.invariant_of-self
+invariant_of-self c =
+    let pending = ap (λ (held : Held). held.pending) c.self.view_is in
+    let fits = range-long c.self.inside.bytes.items c.self.inside.from c.self.inside.end c.args.count (omega arith) (rw (← pending) at c.requires) in
+    (omega arith, omega arith, omega (arith, fits), fits, omega arith, omega arith)
+
+pub invariant_of-self-2 : goal.invariant_of-self-2
+invariant_of-self-2 c =
+    let pending = ap (λ (held : Held). held.pending) c.self.view_is in
+    let fits = range-long c.self.inside.bytes.items c.self.inside.from c.self.inside.end c.args.count (omega arith) (rw (← pending) at c.requires) in
+    let same : length c.move_bytes.new.bytes ≡ length c.self.inside.bytes.items = c.move_bytes.ensures.len ∙ ap (λ (l : List ℕ). length l) c.deref_mut.ensures.value in
+    let whole = ap (λ (l : List ℕ). length l) (written_back c.self.inside.bytes.len c.move_bytes.new.bytes c.self.inside.bytes.items same (omega arith)) ∙ same in
+    (omega arith, omega (arith, c.min.ensures), omega (arith, c.min.ensures), fits, omega arith, omega (arith, whole))
+
 pub returns-then-len-eq-KEPT-clause-pending : goal.returns-then-len-eq-KEPT-clause-pending
 returns-then-len-eq-KEPT-clause-pending c =
     let pending = ap (λ (held : Held). held.pending) c.self.view_is in

@@ -139,8 +139,8 @@ returns-in-Dry g c =
     let ended = ap (λ (v : Cutter). v.ended) (sym c.self.view_is) ∙ c.if-self.true in
     let grown = grown_none c.args.self.now c.loop-self.self c.absorb.new.self turn.grown absorbed.passes.0 absorbed.same.0 in
     let answer = λ (told : g.P.Source.told).
-        let so_far = to_more _ _ _ _ (turn.reached told) absorbed.passes.0 in
-        answers_last c.last.result _ _ _ _ so_far absorbed.passes.1 (turn.same told (sym absorbed.same.1 ∙ ended)) last.same.2 (last.same.1 ∙ ended) last.gives
+    let so_far = to_more _ _ _ _ (turn.reached told) absorbed.passes.0 in
+    answers_last c.last.result _ _ _ _ so_far absorbed.passes.1 (turn.same told (sym absorbed.same.1 ∙ ended)) last.same.2 (last.same.1 ∙ ended) last.gives
     in
     record {
       answer = answer;
