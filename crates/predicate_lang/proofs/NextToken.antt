@@ -1,13 +1,16 @@
 -- The token at an offset is the next one, and the bytes there tell its kind.
-use Rattle.std.proofs.Common.{◌≡◌, ℕ, ◌+◌, ◌<◌, ◌≤◌, Bool, true, false, ◌||◌, cond, List, length, drop, get_or, Option, Some, None, refl, sym, ap, ◌∙◌, subst, arith, ◌⊎◌, inl, inr}
+use Rattle.std.proofs.Common.{◌≡◌, ℕ, ℤ, ◌+◌, ◌<◌, ◌≤◌, Bool, true, false, ◌||◌, cond, List, length, drop, get_or, Option, Some, None, refl, sym, ap, ◌∙◌, subst, arith, ◌⊎◌, inl, inr}
 use Rattle.std.specs.Prelude.{◌==◌, option_map}
+use Rattle.std.specs.List.{take_while}
 use Rattle.std.specs.Char.{is_ascii_alphabetic, is_ascii_digit}
 use Rattle.std.proofs.lemmas.Bool.{eq-eqb}
 use Rattle.schema_json.specs.Columns.{Column}
-use Rattle.predicate_lang.specs.Tokens.{Front, is_blank, front_token, word_front, number_front, text_front, quoted, mark_front, lexed_from, no_tokens}
+use Rattle.predicate_lang.specs.Tokens.{Front, is_blank, front_token, word_front, number_at, number_front, number_token, taking, text_front, quoted, mark_front, lexed_from, no_tokens}
 use Rattle.predicate_lang.specs.Lexing.{seen, seen_front, lexeme, IsNext}
 use Rattle.predicate_lang.specs.declared.tokens.Lexeme.{Lexeme}
 use Rattle.predicate_lang.specs.declared.tokens.Token.{Token}
+use Rattle.predicate_lang.specs.declared.tokens.Token.TheVariants.{Value}
+use Rattle.predicate_lang.specs.declared.trees.Literal.TheVariants.{Number, Text}
 use Rattle.predicate_lang.proofs.Lexed.{lexed_from_token, lexed_from_no_token}
 
 -- ---- the kinds
@@ -48,6 +51,29 @@ front_of_mark b bytes h i j =
 pub begins_number : (b : ℕ) (r : Bool) → r ≡ is_ascii_digit b → (r ≡ true) ⊎ ((r ≡ false) × (b ≡ 45)) → (is_ascii_digit b || (b == 45)) ≡ true
 begins_number b r told (inl digit) = ap (λ t. t || (b == 45)) (sym told ∙ digit)
 begins_number b r told (inr p) = ap (λ t. t || (b == 45)) (sym told ∙ p.0) ∙ eq-eqb b 45 p.1
+
+-- the number that begins at an offset
+pub number_is : (columns : List Column) (at b end : ℕ) (tail : List ℕ) (n : ℤ) → Some n ≡ number_at b tail → end ≡ at + 1 + length (take_while is_ascii_digit tail)
+    → lexeme columns at (number_front b tail) ≡ Some (record { token = Value (Number n); at = at; end = end })
+number_is columns at b end tail n found ends =
+    ap (λ o. lexeme columns at (taking (length (take_while is_ascii_digit tail)) (number_token o))) (sym found)
+    ∙ ap (λ (e : ℕ). Some (made e)) (sym ends)
+  where
+    made : ℕ → Lexeme
+    made e = record { token = Value (Number n); at = at; end = e }
+
+-- no number begins there
+pub no_number_is : (columns : List Column) (at b : ℕ) (tail : List ℕ) → None ≡ number_at b tail → lexeme columns at (number_front b tail) ≡ None
+no_number_is columns at b tail none = ap (λ o. lexeme columns at (taking (length (take_while is_ascii_digit tail)) (number_token o))) (sym none)
+
+-- the quoted text that begins at an offset
+pub text_is : (columns : List Column) (at : ℕ) (tail word : List ℕ) (bytes : ℕ) → quoted false tail ≡ Some (record { text = word; bytes = bytes })
+    → lexeme columns at (text_front (quoted false tail)) ≡ Some (record { token = Value (Text word); at = at; end = at + 1 + bytes })
+text_is columns at tail word bytes closed = ap (λ o. lexeme columns at (text_front o)) closed
+
+-- the quote that begins there isn't closed
+pub no_text_is : (columns : List Column) (at : ℕ) (tail : List ℕ) → quoted false tail ≡ None → lexeme columns at (text_front (quoted false tail)) ≡ None
+no_text_is columns at tail open_end = ap (λ o. lexeme columns at (text_front o)) open_end
 
 -- ---- the next token
 

@@ -1,6 +1,6 @@
 -- What a string holds after pushes.
 use Rattle.std.proofs.Common.{◌≡◌, ℕ, cond, List, ◌++◌, ◌∙◌, ap, append_assoc}
-use Rattle.std.specs.Prelude.{Result, Ok, Err, OnOk}
+use Rattle.std.specs.Prelude.{Result, Ok, Err, IsErr, OnOk}
 use Rattle.std.specs.Result.{is_ok}
 
 -- after a last push
@@ -17,3 +17,8 @@ behind_push old new bytes rest h = ap (λ xs. xs ++ rest) h ∙ append_assoc old
 pub then_ok : {A E : Type 0} (r : Result A E) (P Q : Type 0) → OnOk r P → (P → Q) → OnOk r Q
 then_ok (Ok u) P Q h f = f h
 then_ok (Err e) P Q h f = tt
+
+-- nothing is claimed where a push failed
+pub where_refused : {A E : Type 0} (r : Result A E) (P : Type 0) → IsErr r → OnOk r P
+where_refused (Ok u) P failed = absurd cc
+where_refused (Err e) P failed = tt

@@ -4,7 +4,7 @@ use Rattle.predicate_lang.specs.Trees.{Tree, tree_step, tree_of, negation, both,
 use Rattle.predicate_lang.specs.declared.trees.Pred.TheVariants.{rolls-Not, rolls-And, rolls-Or, rolls-Compare, rolls-Within}
 use Rattle.predicate_lang.specs.declared.trees.Pred.TheFolds.{fold-roll-Pred}
 use Rattle.predicate_lang.specs.Printing.{is_or, is_or_and, printed}
-use Rattle.predicate_lang.proofs.Pushes.{then_ok}
+use Rattle.predicate_lang.proofs.Pushes.{then_ok, where_refused}
 use Rattle.predicate_lang.proofs.Written.{compared_inside, among_inside, fits_some, negation_written, both_written, either_written}
 use Rattle.predicate_lang.proofs.printing.+write_pred.Goals as goal
 
@@ -72,3 +72,32 @@ returns-in-Within t c =
     let items : c.as_slice.result.now ≡ c.in-Within.literals = c.as_slice.ensures.value ∙ c.literals.view_is in
     then_ok c.write_within.result _ _ c.write_within.ensures
     (λ last. last ∙ ap (λ ls. string_bytes c.args.out.now ++ printed c.args.schema.now.columns (among c.in-Within.column ls)) items ∙ ap (λ x. string_bytes c.args.out.now ++ printed c.args.schema.now.columns x) (sym is))
+
+-- ---- a call failed
+
+pub returns-in_err-lead-in-Not : goal.returns-in_err-lead-in-Not
+returns-in_err-lead-in-Not t c = where_refused c.from_residual.result _ c.from_residual.ensures.0
+
+pub returns-in_err-write_pred-in-Not : goal.returns-in_err-write_pred-in-Not
+returns-in_err-write_pred-in-Not t c = where_refused c.from_residual-in_err-write_pred-in-Not.result _ c.from_residual-in_err-write_pred-in-Not.ensures.0
+
+pub returns-in_err-open-in-And : goal.returns-in_err-open-in-And
+returns-in_err-open-in-And t c = where_refused c.from_residual-in_err-open-in-And.result _ c.from_residual-in_err-open-in-And.ensures.0
+
+pub returns-in_err-write_pred-in-And : goal.returns-in_err-write_pred-in-And
+returns-in_err-write_pred-in-And t c = where_refused c.from_residual-in_err-write_pred-in-And.result _ c.from_residual-in_err-write_pred-in-And.ensures.0
+
+pub returns-in_err-write_between-in-And : goal.returns-in_err-write_between-in-And
+returns-in_err-write_between-in-And t c = where_refused c.from_residual-in_err-write_between-in-And.result _ c.from_residual-in_err-write_between-in-And.ensures.0
+
+pub returns-in_err-write_pred-in-And-2 : goal.returns-in_err-write_pred-in-And-2
+returns-in_err-write_pred-in-And-2 t c = where_refused c.from_residual-in_err-write_pred-in-And-2.result _ c.from_residual-in_err-write_pred-in-And-2.ensures.0
+
+pub returns-in_err-write_pred-in-Or : goal.returns-in_err-write_pred-in-Or
+returns-in_err-write_pred-in-Or t c = where_refused c.from_residual-in_err-write_pred-in-Or.result _ c.from_residual-in_err-write_pred-in-Or.ensures.0
+
+pub returns-in_err-lead-in-Or : goal.returns-in_err-lead-in-Or
+returns-in_err-lead-in-Or t c = where_refused c.from_residual-in_err-lead-in-Or.result _ c.from_residual-in_err-lead-in-Or.ensures.0
+
+pub returns-in_err-write_pred-in-Or-2 : goal.returns-in_err-write_pred-in-Or-2
+returns-in_err-write_pred-in-Or-2 t c = where_refused c.from_residual-in_err-write_pred-in-Or-2.result _ c.from_residual-in_err-write_pred-in-Or-2.ensures.0

@@ -2,7 +2,7 @@ use Rattle.std.proofs.Common.{◌++◌, refl, ◌∙◌}
 use Rattle.std.specs.Prelude.{string_bytes}
 use Rattle.predicate_lang.specs.Printing.{doubled}
 use Rattle.predicate_lang.proofs.QuotedTexts.{next_quote, last_quote, split_nowhere}
-use Rattle.predicate_lang.proofs.Pushes.{then_ok}
+use Rattle.predicate_lang.proofs.Pushes.{then_ok, where_refused}
 use lib.Utf8.{encode}
 use Rattle.predicate_lang.proofs.printing.write_text.Goals as goal
 
@@ -20,3 +20,9 @@ returns c =
     ∙ last_quote (string_bytes c.args.out.now) (string_bytes c.push.new.self) (string_bytes c.quotes.out) (string_bytes c.quotes.out ++ c.quotes.rest.now) c.args.text.now
     c.quotes.rest.now
     c.in_ok-push.ensures.bytes c.quotes.invariant.1 refl (split_nowhere c.quotes.rest.now c.in_default.ensures.cases))
+
+pub returns-in_err-push : goal.returns-in_err-push
+returns-in_err-push c = where_refused c.from_residual.result _ c.from_residual.ensures.0
+
+pub returns-in_err-write_doubled : goal.returns-in_err-write_doubled
+returns-in_err-write_doubled c = where_refused c.from_residual-in_err-write_doubled.result _ c.from_residual-in_err-write_doubled.ensures.0
