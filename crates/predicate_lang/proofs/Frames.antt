@@ -1,11 +1,19 @@
 -- What is open, kept with the innermost last.
-use Rattle.std.proofs.Common.{◌≡◌, ℕ, List, [], ◌∷◌, ◌++◌, length, map, take, get_or, ◌<◌, ◌-◌, ◌+◌, true, false, nat_lt, arith, refl, sym, ap, ◌∙◌}
+use Rattle.std.proofs.Common.{◌≡◌, ℕ, List, [], ◌∷◌, ◌++◌, length, map, take, get_or, ◌<◌, ◌-◌, ◌+◌, true, false, nat_lt, Option, None, Result, Box, Global, arith, refl, sym, ap, ◌∙◌, subst}
 use Rattle.std.specs.Prelude.{reverse}
+use Rattle.schema_json.specs.Columns.{Column}
 use Rattle.predicate_lang.specs.Trees.{Tree}
 use Rattle.std.proofs.lemmas.List.{map-append, reverse-append, length-map, length-reverse, take_all, take_more}
-use Rattle.predicate_lang.specs.Machine.{Frame, a_not, a_bracket, has_room, is_under_not, without_nots, negated}
-use Rattle.predicate_lang.specs.Building.{frame_of, frames_of}
+use Rattle.predicate_lang.specs.Machine.{Build, Stand, tree_at, Frame, a_not, a_bracket, has_room, is_under_not, without_nots, negated}
+use Rattle.predicate_lang.specs.Building.{Puts, build_at, build_of, frame_of, frames_of, stand_of}
 use Rattle.predicate_lang.specs.declared.building.Opened.{Opened}
+use Rattle.predicate_lang.specs.declared.building.Spot.{Spot}
+use Rattle.predicate_lang.specs.declared.building.Spot.TheVariants as spot
+use Rattle.predicate_lang.specs.declared.building.State.{State}
+use Rattle.predicate_lang.specs.declared.tokens.Token.{Token}
+use Rattle.predicate_lang.specs.declared.trees.Literal.{Literal}
+use Rattle.predicate_lang.specs.declared.trees.Pred.{Pred}
+use Rattle.predicate_lang.specs.declared.trees.WhereFault.{WhereFault}
 use Rattle.predicate_lang.specs.declared.building.Opened.TheVariants as opened
 
 -- what was opened last comes first
@@ -54,3 +62,19 @@ pub negated_bracket : (fs : List Frame) (p : Tree) → is_under_not fs ≡ false
 negated_bracket [] p h = refl
 negated_bracket (a_not ∷ fs) p h = cc
 negated_bracket (a_bracket o a ∷ fs) p h = refl
+
+-- a token is put where the state says that it stands
+pub put_there : {X : Type 0} (columns : List Column) (s : State) (stand : Stand) (t : Token) (at : ℕ) (r : Result X WhereFault) (left : X → Build)
+    → stand_of s.spot s.literals.items ≡ stand → Puts columns (build_at s stand) t at r left → Puts columns (build_of s) t at r left
+put_there columns s stand t at r left is puts = subst (λ (x : Stand). Puts columns (build_at s x) t at r left) (sym is) puts
+
+-- without a whole part there is no tree
+pub no_tree : (fs : List Frame) (ors : Option Tree) (at : Spot) (ls : List Literal) → ((p : Box Pred Global) → at ≡ spot.Whole p → ⊥) → tree_at fs ors (stand_of at ls) ≡ None
+no_tree [] ors spot.Operand ls open_end = refl
+no_tree [] ors (spot.Name c) ls open_end = refl
+no_tree [] ors (spot.Operator c o) ls open_end = refl
+no_tree [] ors (spot.In c) ls open_end = refl
+no_tree [] ors (spot.Comma c) ls open_end = refl
+no_tree [] ors (spot.Literal c) ls open_end = refl
+no_tree [] ors (spot.Whole p) ls open_end = absurd (open_end p refl)
+no_tree (f ∷ fs) ors at ls open_end = refl
