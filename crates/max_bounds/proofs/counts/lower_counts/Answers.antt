@@ -1,9 +1,11 @@
 use Rattle.std.proofs.Common.{refl, ◌≡◌, ◌<◌, ◌≤◌, ◌-◌, ℕ, arith, ap, sym, ◌∙◌, length, take_all, map, get_or}
 use Rattle.audit_types.specs.Column.{Answer}
+use Rattle.audit_types.specs.ListLaws.{all-get_or}
 use Rattle.max_bounds.specs.Maxima.{answer_of, answers_of}
 use Rattle.max_bounds.specs.Reaching.{bound_at, reaching}
 use Rattle.max_bounds.specs.Kept.{falls_of}
 use Rattle.max_bounds.specs.AnswerLaws.{all_at, one_here}
+use Rattle.max_bounds.specs.declared.answered.AnsweredMax.{AnsweredMax}
 use Rattle.max_bounds.proofs.FallingCounts.{set_after, same_here, value_here, value_more, lengths_same}
 use Rattle.max_bounds.proofs.counts.lower_counts.Goals as goal
 
@@ -50,3 +52,23 @@ returns c =
 
 pub loop-k-init : goal.loop-k-init
 loop-k-init c = record { done = refl; left = refl }
+
+pub bounds-counts-k : goal.bounds-counts-k
+bounds-counts-k c =
+    let count : Answer → ℕ = λ a. length (reaching (bound_at c.args.upper.now) a.rows a.value) in
+    let long : length c.args.counts.now ≡ length c.args.pairs.now = ap length c.requires.counted ∙ lengths_same count c.args.pairs.now in
+    omega (arith, c.loop-k.auto.counts, c.loop-k-test.true)
+
+pub bounds-counts-k-in-loop-k : goal.bounds-counts-k-in-loop-k
+bounds-counts-k-in-loop-k c =
+    let count : Answer → ℕ = λ a. length (reaching (bound_at c.args.upper.now) a.rows a.value) in
+    let long : length c.args.counts.now ≡ length c.args.pairs.now = ap length c.requires.counted ∙ lengths_same count c.args.pairs.now in
+    omega (arith, c.loop-k.auto.counts, c.loop-k-test.true)
+
+pub falls-requires : goal.falls-requires
+falls-requires c = record {
+  holds = c.range_of-range.ensures;
+  same_n = ap (λ (p : AnsweredMax). p.rows.n) c.index-pairs-k.is
+      ∙ all-get_or (λ (p : AnsweredMax). p.rows.n ≡ c.args.falling.now.n) c.args.pairs.now c.loop-k.k c.index-pairs-k.result c.requires.same_n c.loop-k-test.true;
+  within = c.requires.within;
+}

@@ -1,5 +1,5 @@
-use Rattle.std.specs.List.{insert}
-use Rattle.std.proofs.Common.{take, drop, cond, ◌≡◌, ◌++◌, ◌∷◌, rules, SFits, sym, ap, ◌∙◌, subst, to_z, of_z}
+use Rattle.std.specs.List.{AllByRecursion, insert}
+use Rattle.std.proofs.Common.{take, drop, cond, ◌≡◌, ◌++◌, ◌∷◌, arith, rules, SFits, sym, ap, ◌∙◌, subst, to_z, of_z}
 use Rattle.std.specs.Int.{w64}
 use Rattle.std.proofs.lemmas.Int.{to_z-of_z}
 use Rattle.audit_types.specs.Extremes.{extremes}
@@ -49,3 +49,19 @@ returns-else-not-has_within-clause-tells c =
     (subst (HasWithin (answers_of c.args.least.now.items) rows) same
     (subst (λ l. HasWithin (answers_of l) rows (to_z w64 (of_z w64 x))) c.deref.ensures.value (c.has_within.ensures.0 c.if-not-has_within.false)))
     c.requires.told
+
+pub has_within-requires : goal.has_within-requires
+has_within-requires c =
+    record { same_n = subst (AllByRecursion (λ (p : AnsweredMax). p.rows.n ≡ c.args.latest.now.rows.n)) (sym c.deref.ensures.value) c.requires.same_n_least }
+
+pub place_of-place-requires : goal.place_of-place-requires
+place_of-place-requires c = record { descend = subst (λ l. Descend (answers_of l)) (sym c.deref-then-not-has_within.ensures.value) c.requires.descend }
+
+pub insert-requires : goal.insert-requires
+insert-requires c = omega (arith, c.place_of-place.ensures.at_most, c.deref-then-not-has_within.ensures.len)
+
+pub returns-else-not-has_within-clause-same_n_least : goal.returns-else-not-has_within-clause-same_n_least
+returns-else-not-has_within-clause-same_n_least c = c.requires.same_n_least
+
+pub returns-else-not-has_within-clause-descend : goal.returns-else-not-has_within-clause-descend
+returns-else-not-has_within-clause-descend c = c.requires.descend

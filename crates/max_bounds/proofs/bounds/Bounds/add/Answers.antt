@@ -217,3 +217,48 @@ returns-in_err-make_room c = record {
   err = at_err c.from_residual.result _
       (ap (λ (l : List AnsweredMax). record { n = c.self.inside.n; answers = answers_of l }) c.in_err-make_room.ensures.pairs ∙ c.self.view_is);
 }
+
+-- ---- sizes and room
+
+pub reach_high-affected-requires-clause-within : goal.reach_high-affected-requires-clause-within
+reach_high-affected-requires-clause-within c =
+    let same_n : c.args.rows.now.n ≡ c.self.inside.n = c.requires.same_n ∙ sym (ap (λ (m : Maxima). m.n) c.self.view_is) in
+    omega (arith, same_n, c.self.invariant.one_each, ap length c.deref-2.ensures.value)
+
+pub fall-fewest-requires-clause-same_n_falling : goal.fall-fewest-requires-clause-same_n_falling
+fall-fewest-requires-clause-same_n_falling c = c.reach_high-affected.ensures.falling_n
+
+pub fall-fewest-requires-clause-within : goal.fall-fewest-requires-clause-within
+fall-fewest-requires-clause-within c =
+    let same_n : c.args.rows.now.n ≡ c.self.inside.n = c.requires.same_n ∙ sym (ap (λ (m : Maxima). m.n) c.self.view_is) in
+    omega (arith, same_n, c.reach_high-affected.ensures.falling_n, c.self.invariant.one_each, ap length c.deref-4.ensures.value)
+
+pub settle-requires-clause-within : goal.settle-requires-clause-within
+settle-requires-clause-within c =
+    let same_n : c.args.rows.now.n ≡ c.self.inside.n = c.requires.same_n ∙ sym (ap (λ (m : Maxima). m.n) c.self.view_is) in
+    omega (arith, same_n, c.reach_high-affected.ensures.extremes_n, c.self.invariant.one_each, ap length c.deref_mut-3.ensures.value)
+
+pub settle-requires-clause-settled : goal.settle-requires-clause-settled
+settle-requires-clause-settled c = λ settled r there.
+    ap (λ l. bound_at l r) (c.deref_mut-3.ensures.value ∙ sym c.deref-2.ensures.value) ∙ c.reach_high-affected.ensures.settled settled r there
+
+pub push_reserved-requires : goal.push_reserved-requires
+push_reserved-requires c = c.in_ok-make_room.ensures.counts_room
+
+pub insert-requires-clause-room : goal.insert-requires-clause-room
+insert-requires-clause-room c = c.in_ok-make_room.ensures.least_room
+
+pub insert-requires-clause-same_n : goal.insert-requires-clause-same_n
+insert-requires-clause-same_n c = c.reach_high-affected.ensures.extremes_n
+
+pub push_reserved-requires-2 : goal.push_reserved-requires-2
+push_reserved-requires-2 c = c.in_ok-make_room.ensures.pairs_room
+
+pub renew_high-requires-clause-within : goal.renew_high-requires-clause-within
+renew_high-requires-clause-within c =
+    let same_n : c.args.rows.now.n ≡ c.self.inside.n = c.requires.same_n ∙ sym (ap (λ (m : Maxima). m.n) c.self.view_is) in
+    let upper_is : (with_items c.self.inside.upper c.settle.new.upper).items ≡ c.settle.new.upper = with_items_is c.self.inside.upper c.settle.new.upper (c.settle.auto.upper ∙ c.deref_mut-3.ensures.len) in
+    omega (arith, same_n, c.self.invariant.one_each, ap length (c.deref-6.ensures.value ∙ upper_is), c.settle.auto.upper, ap length c.deref_mut-3.ensures.value)
+
+pub returns-clause-err : goal.returns-clause-err
+returns-clause-err c = tt
