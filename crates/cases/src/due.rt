@@ -14,20 +14,31 @@ pub fn is_as_due(
     replies: &[u8],
     end: &End,
 ) -> Result<bool> {
-    let mut met = ends(rt, name, stage.case, &end.status)?;
-    met &= name.agrees(rt, "sent", &Bytes(replies), &Bytes(end.bench.sent()))?;
-    met &= leaves_files(rt, name, stage, &end.bench)?;
-    if let Some(calls) = stage.case.calls() {
-        met &= name.agrees(rt, "calls", &calls, &end.bench.calls())?;
-    }
-    Ok(met)
+    let has_ended = ends(rt, name, stage.case, &end.status)?;
+    let has_sent = name.agrees(rt, "sent", &Bytes(replies), &Bytes(end.bench.sent()))?;
+    let has_left = leaves_files(rt, name, stage, &end.bench)?;
+    let has_called = calls(rt, name, stage.case, end.bench.calls())?;
+    Ok(has_ended && has_sent && has_left && has_called)
 }
 
 // Whether a run ends with the status that is due.
 fn ends(rt: &HostRuntime, name: &Case, run: Run, status: &Status) -> Result<bool> {
     let (code, text) = run.ends()?;
-    let mut met = name.agrees(rt, "status", &code, &status_code(status))?;
+    let has_code = name.agrees(rt, "status", &code, &status_code(status))?;
+    let has_text = tells(rt, name, text, status)?;
+    Ok(has_code && has_text)
+}
+
+// Whether a status has the text that is due.
+fn tells(rt: &HostRuntime, name: &Case, text: &str, status: &Status) -> Result<bool> {
     let told = status_text(rt.alloc(), status).map_err(no_memory)?;
-    met &= name.agrees(rt, "text", &text, &told.as_str())?;
-    Ok(met)
+    name.agrees(rt, "text", &text, &told.as_str())
+}
+
+// Whether so many calls of the bench were due.
+fn calls(rt: &HostRuntime, name: &Case, run: Run, came: u64) -> Result<bool> {
+    match run.calls() {
+        Some(due) => name.agrees(rt, "calls", &due, &came),
+        None => Ok(true),
+    }
 }

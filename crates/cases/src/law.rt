@@ -1,8 +1,8 @@
 //! What is due of a run at each of whose calls a fault befalls in turn.
+use crate::exchange::Exchange;
 use crate::history::History;
 use crate::script::{Each, Fault, Run};
-use crate::terminal::Terminal;
-use anyhow::{Result, bail};
+use anyhow::{Context, Result};
 use std::alloc::{AllocError, Global};
 use std::fmt;
 
@@ -12,7 +12,7 @@ use std::fmt;
 pub struct Law<'a> {
     pub fault: Fault,
     /// The run that no fault befalls.
-    pub whole: Terminal,
+    pub whole: Exchange,
     screen: &'a str,
     // The most bytes that a source gives at a read.
     most: usize,
@@ -44,19 +44,23 @@ impl fmt::Display for Breach {
 
 impl<'a> Law<'a> {
     pub fn of(rt: &HostRuntime, run: Run<'a>, each: Each<'a>) -> Result<Law<'a>> {
-        let Some(screen) = run.terminal() else {
-            bail!("no terminal");
-        };
-        let fault = each.fault()?;
-        let whole = Terminal::read(rt.alloc(), screen)?;
-        Ok(Law {
-            fault,
-            whole,
+        let screen = run.terminal().context("no terminal")?;
+        let mut law = Law {
+            fault: each.fault()?,
+            whole: Exchange::new(rt.alloc()),
             screen,
             most: run.most(),
-            histories: each.histories(rt)?,
+            histories: Vec::new(rt.alloc()),
             then: each.then(),
-        })
+        };
+        law.read(rt, each)?;
+        Ok(law)
+    }
+
+    fn read(&mut self, rt: &HostRuntime, each: Each) -> Result<()> {
+        self.whole
+            .read_terminal(rt.alloc(), self.screen, usize::MAX)?;
+        each.add_histories(rt, &mut self.histories)
     }
 
     /// Whether a run that failed at a call may have sent this: a front of the replies where the bench failed, and where the
@@ -72,7 +76,7 @@ impl<'a> Law<'a> {
     // Whether this is sent of the lines that so many reads have brought.
     fn sends_by_then(&self, alloc: Global, reads: u64, sent: &[u8]) -> Result<bool, AllocError> {
         let reads = usize::try_from(reads).unwrap_or(usize::MAX);
-        let due = Terminal::read_up_to(alloc, self.screen, reads.saturating_mul(self.most))?;
+        let due = Exchange::of_terminal(alloc, self.screen, reads.saturating_mul(self.most))?;
         Ok(due.shown.as_slice() == sent)
     }
 

@@ -1,6 +1,6 @@
 //! Whether a run leaves the journal's file that is due.
 use crate::over::Over;
-use crate::script::Content;
+use crate::script::{Content, Crash};
 use crate::stage::Stage;
 use crate::telling::{Bytes, Case};
 use anyhow::Result;
@@ -14,12 +14,18 @@ pub fn leaves_files(
     bench: &MemoryBench,
 ) -> Result<bool> {
     let is_file_due = leaves_file(rt, name, stage, bench)?;
-    let Some(crash) = stage.case.crash()? else {
-        return Ok(is_file_due);
+    let is_crash_due = match stage.case.crash()? {
+        Some(crash) => leaves_crash(rt, name, bench, crash)?,
+        None => true,
     };
+    Ok(is_file_due && is_crash_due)
+}
+
+// Whether a crash leaves the two files with these contents.
+fn leaves_crash(rt: &HostRuntime, name: &Case, bench: &MemoryBench, crash: Crash) -> Result<bool> {
     let is_synced_due = leaves(rt, name, bench, Over::Synced, crash.synced)?;
     let is_torn_due = leaves(rt, name, bench, Over::Torn, crash.torn)?;
-    Ok(is_file_due && is_synced_due && is_torn_due)
+    Ok(is_synced_due && is_torn_due)
 }
 
 // Whether the file is as due, as it reads, where that is looked at.
@@ -57,6 +63,6 @@ fn is_left(
     over: Over,
     due: &[u8],
 ) -> Result<bool> {
-    let left = over.file(rt.alloc(), bench)?;
-    name.agrees(rt, over.name(), &Bytes(due), &Bytes(&left))
+    let left = over.left_by(bench)?;
+    name.agrees(rt, over.name(), &Bytes(due), &Bytes(left.file()))
 }

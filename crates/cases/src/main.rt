@@ -13,18 +13,17 @@ mod over;
 mod pieces;
 mod playing;
 mod script;
-mod sources;
 mod stage;
 mod stopping;
 mod tally;
 mod telling;
 mod terminal;
 
-use crate::script::Script;
 use crate::tally::Tally;
-use anyhow::{Context, Result};
+use anyhow::{Context, Error, Result};
 use std::fs;
 use std::process::ExitCode;
+use toml::Table;
 
 fn main(rt: HostRuntime) -> ExitCode {
     match run_listed(&rt) {
@@ -49,7 +48,11 @@ fn run_listed(rt: &HostRuntime) -> Result<Tally> {
 }
 
 fn run_script(rt: &HostRuntime, path: &str, tally: &mut Tally) -> Result<()> {
+    let table = read_table(rt, path)?;
+    playing::play(rt, path, &table, tally)
+}
+
+fn read_table(rt: &HostRuntime, path: &str) -> Result<Table> {
     let text = fs::read_to_string(rt, path)?;
-    let table = toml::table_from_str(rt.alloc(), text.as_str())?;
-    playing::play(rt, path, Script::of(&table)?, tally)
+    toml::table_from_str(rt.alloc(), text.as_str()).map_err(Error::from)
 }

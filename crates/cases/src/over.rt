@@ -1,7 +1,7 @@
 //! The files that a run may leave, one of which the next may be over.
 use crate::script::Run;
 use crate::telling::no_memory;
-use anyhow::{Result, bail};
+use anyhow::{Error, Result, bail};
 use bench_core::MemoryBench;
 use std::alloc::Global;
 
@@ -18,6 +18,15 @@ pub enum Over {
 
 impl Over {
     pub const ALL: [Over; 3] = [Over::Left, Over::Synced, Over::Torn];
+
+    pub fn of(word: &str) -> Option<Over> {
+        match word {
+            "left" => Some(Over::Left),
+            "synced" => Some(Over::Synced),
+            "torn" => Some(Over::Torn),
+            _ => None,
+        }
+    }
 
     // The number that a bench in memory has for it.
     fn pick(self) -> u8 {
@@ -36,18 +45,29 @@ impl Over {
         }
     }
 
-    /// This file, as a bench leaves it.
-    pub fn file(self, alloc: Global, bench: &MemoryBench) -> Result<Vec<u8>> {
-        let left = bench.crashed(self.pick()).map_err(no_memory)?;
-        Ok(left.file().to_vec(alloc)?)
+    /// A bench with this file, as a bench leaves it.
+    pub fn left_by(self, bench: &MemoryBench) -> Result<MemoryBench> {
+        bench.crashed(self.pick()).map_err(no_memory)
+    }
+
+    fn file(self, alloc: Global, bench: &MemoryBench) -> Result<Vec<u8>> {
+        let left = self.left_by(bench)?;
+        left.file().to_vec(alloc).map_err(Error::from)
     }
 }
 
-/// The journal's file at the start of a run, where a run before left this bench.
-pub fn start_of(rt: &HostRuntime, run: Run, before: &Option<MemoryBench>) -> Result<Vec<u8>> {
-    match (run.over()?, before) {
-        (None, _) => run.journal(rt),
-        (Some(over), Some(bench)) => over.file(rt.alloc(), bench),
-        (Some(_), None) => bail!("no run before {:?}", run.shows()?),
+/// The journal's file at the start of a run that shows this, where a run before left this bench.
+pub fn start_of(
+    rt: &HostRuntime,
+    shows: &str,
+    run: Run,
+    before: &Option<MemoryBench>,
+) -> Result<Vec<u8>> {
+    let Some(over) = run.over()? else {
+        return run.journal(rt);
+    };
+    match before {
+        Some(bench) => over.file(rt.alloc(), bench),
+        None => bail!("no run before {shows:?}"),
     }
 }

@@ -13,6 +13,15 @@ pub struct Piece {
 }
 
 impl Piece {
+    pub fn once(bytes: Vec<u8>) -> Piece {
+        Piece { bytes, times: 1 }
+    }
+
+    /// Whether it gives no byte.
+    pub fn is_empty(&self) -> bool {
+        self.times == 0 || self.bytes.is_empty()
+    }
+
     fn append_to(&self, bytes: &mut Vec<u8>) -> Result<(), AllocError> {
         for _ in 0..self.times {
             bytes.extend_from_slice(&self.bytes)?;
@@ -30,10 +39,11 @@ pub fn whole(alloc: Global, pieces: &[Piece]) -> Result<Vec<u8>, AllocError> {
     Ok(bytes)
 }
 
-/// Gives its pieces in order, at most so many bytes at a read. The call of one number, from 0, fails.
+/// Gives its pieces in order, at most so many bytes at a read, up to the first that is empty. The call of one number, from
+/// 0, fails.
 #[derive(Drop)]
-pub struct Pieces {
-    pieces: Vec<Piece>,
+pub struct Pieces<'a> {
+    pieces: &'a [Piece],
     // The place of the piece that is given, how often it was given, and how many of its bytes since then.
     place: usize,
     given: u64,
@@ -45,9 +55,8 @@ pub struct Pieces {
     last_failed: bool,
 }
 
-impl Pieces {
-    pub fn new(mut pieces: Vec<Piece>, most: usize, failing: Option<u64>) -> Self {
-        pieces.retain(|piece| piece.times > 0 && !piece.bytes.is_empty());
+impl<'a> Pieces<'a> {
+    pub fn new(pieces: &'a [Piece], most: usize, failing: Option<u64>) -> Self {
         Pieces {
             pieces,
             place: 0,
@@ -103,7 +112,7 @@ impl Pieces {
     }
 }
 
-impl Source for Pieces {
+impl Source for Pieces<'_> {
     ghost told = { ⊥ };
 
     ghost left = { λ _. [] };

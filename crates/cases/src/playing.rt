@@ -1,6 +1,7 @@
 //! The runs of a script, one after another.
 use crate::due::is_as_due;
 use crate::exchange::Exchange;
+use crate::failures::Failures;
 use crate::over::start_of;
 use crate::script::{Run, Script};
 use crate::stage::Stage;
@@ -9,9 +10,11 @@ use crate::tally::Tally;
 use crate::telling::Case;
 use anyhow::Result;
 use bench_core::MemoryBench;
+use toml::Table;
 
 /// Runs each case of a script, and counts it.
-pub fn play(rt: &HostRuntime, path: &str, script: Script, tally: &mut Tally) -> Result<()> {
+pub fn play(rt: &HostRuntime, path: &str, table: &Table, tally: &mut Tally) -> Result<()> {
+    let script = Script::of(table)?;
     let mut before = None;
     play_after(rt, path, script, tally, &mut before)
 }
@@ -44,14 +47,10 @@ fn play_case(
         shows: case.shows()?,
     };
     let each = case.each()?;
-    let start = start_of(rt, case, before)?;
-    let stage = Stage {
-        case,
-        start: &start,
-    };
+    let start = start_of(rt, name.shows, case, before)?;
     match each {
-        Some(each) => play_each(rt, name, stage, each),
-        None => play_once(rt, &name, &stage, before),
+        Some(each) => play_each(rt, name, case, &start, each),
+        None => play_once(rt, &name, case, &start, before),
     }
 }
 
@@ -59,13 +58,27 @@ fn play_case(
 fn play_once(
     rt: &HostRuntime,
     name: &Case,
-    stage: &Stage,
+    case: Run,
+    start: &[u8],
     before: &mut Option<MemoryBench>,
 ) -> Result<bool> {
-    let fails = stage.case.fails()?;
-    let Exchange { typed, shown } = Exchange::of(rt, stage.case)?;
-    let end = stage.run(rt, stage.start, typed, fails)?;
-    let met = is_as_due(rt, name, stage, &shown, &end)?;
+    let fails = case.fails()?;
+    let exchange = Exchange::of(rt, case)?;
+    let stage = Stage::of(rt, case, start)?;
+    play_exchange(rt, name, &stage, &exchange, fails, before)
+}
+
+// Whether what is due in reply came, and all else that is due of a run. Its bench then stands for the one before.
+fn play_exchange(
+    rt: &HostRuntime,
+    name: &Case,
+    stage: &Stage,
+    exchange: &Exchange,
+    fails: Failures,
+    before: &mut Option<MemoryBench>,
+) -> Result<bool> {
+    let end = stage.run(rt.alloc(), stage.start, &exchange.typed, fails)?;
+    let met = is_as_due(rt, name, stage, &exchange.shown, &end);
     *before = Some(end.bench);
-    Ok(met)
+    met
 }

@@ -8,13 +8,13 @@ mod keys;
 mod kind;
 mod run;
 
-use anyhow::{Result, bail};
-pub use content::{Content, bytes_of, pieces_of};
+use anyhow::{Context, Result};
+pub use content::{Content, add_pieces, bytes_of};
 pub use each::Each;
 pub use fault::Fault;
 pub use keys::Keys;
 pub use kind::Kind;
-pub use run::Run;
+pub use run::{Crash, Run};
 use toml::{Table, Value};
 
 const KEYS: [(&str, Kind); 5] = [
@@ -40,10 +40,7 @@ impl<'a> Script<'a> {
 
     /// The runs, in order.
     pub fn runs(self) -> Result<&'a [Value]> {
-        match self.keys.list("run") {
-            Some(runs) => Ok(runs),
-            None => bail!("no run"),
-        }
+        self.keys.list("run").context("no run")
     }
 
     pub fn run(self, value: &'a Value) -> Result<Run<'a>> {

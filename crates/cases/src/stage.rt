@@ -1,18 +1,20 @@
 //! What a run of the program is over, in memory, and how it ends.
 use crate::failures::{Failures, bench_over};
-use crate::pieces::Piece;
+use crate::pieces::{Piece, Pieces};
 use crate::script::Run;
-use crate::sources::Sources;
 use anyhow::Result;
 use auditor_top::{Status, run};
 use bench_core::MemoryBench;
 use std::alloc::Global;
 
-/// A case of a script, and the journal's file at its start.
-#[derive(Clone, Copy)]
+/// A case of a script, the journal's file at its start, and what each run of it reads beside what is typed.
+#[derive(Drop)]
 pub struct Stage<'a> {
     pub case: Run<'a>,
     pub start: &'a [u8],
+    schema: Vec<Piece>,
+    table: Vec<Piece>,
+    words: Vec<String>,
 }
 
 /// How a run ended, and the bench that it leaves.
@@ -22,35 +24,57 @@ pub struct End {
     pub bench: MemoryBench,
 }
 
-impl Stage<'_> {
+impl<'a> Stage<'a> {
+    pub fn of(rt: &HostRuntime, case: Run<'a>, start: &'a [u8]) -> Result<Stage<'a>> {
+        let mut stage = Stage {
+            case,
+            start,
+            schema: Vec::new(rt.alloc()),
+            table: Vec::new(rt.alloc()),
+            words: Vec::new(rt.alloc()),
+        };
+        stage.read(rt)?;
+        Ok(stage)
+    }
+
+    // Reads the files and the words that the case names.
+    fn read(&mut self, rt: &HostRuntime) -> Result<()> {
+        self.case.add_file(rt, "schema", &mut self.schema)?;
+        self.case.add_file(rt, "table", &mut self.table)?;
+        self.case.add_words(rt.alloc(), &mut self.words)
+    }
+
     /// Runs the program over this file, with what is typed and the calls that fail.
     pub fn run(
         &self,
-        rt: &HostRuntime,
+        alloc: Global,
         file: &[u8],
-        typed: Vec<Piece>,
+        typed: &[Piece],
         failures: Failures,
     ) -> Result<End> {
-        let mut sources = Sources::of(rt, self.case, typed, failures)?;
-        let mut bench = bench_over(rt.alloc(), file, failures)?;
-        let status = self.run_over(rt.alloc(), &mut sources, &mut bench)?;
+        let mut bench = bench_over(alloc, file, failures)?;
+        let status = self.run_over(alloc, typed, failures, &mut bench)?;
         Ok(End { status, bench })
     }
 
     fn run_over(
         &self,
         alloc: Global,
-        sources: &mut Sources,
+        typed: &[Piece],
+        failures: Failures,
         bench: &mut MemoryBench,
     ) -> Result<Status> {
-        let words = self.case.words(alloc)?;
+        let most = self.case.most();
+        let mut schema = Pieces::new(&self.schema, most, failures.schema);
+        let mut table = Pieces::new(&self.table, most, failures.table);
+        let mut input = Pieces::new(typed, most, failures.input);
         let mut spare = bench_over(alloc, b"", Failures::default())?;
         Ok(run(
             alloc,
-            &words,
-            &mut sources.schema,
-            &mut sources.table,
-            &mut sources.input,
+            &self.words,
+            &mut schema,
+            &mut table,
+            &mut input,
             bench,
             &mut spare,
         ))

@@ -3,11 +3,12 @@ use crate::exchange::Exchange;
 use crate::failures::{Failures, ROOM};
 use crate::law::{Breach, Law};
 use crate::over::Over;
-use crate::script::Each;
+use crate::script::{Each, Run};
 use crate::stage::{End, Stage};
 use crate::telling::{Bytes, Case};
 use anyhow::{Result, bail};
 use auditor_top::Status;
+use std::alloc::Global;
 use std::fmt;
 
 // A run that is tried with a fault at each call, and what is due of it.
@@ -18,22 +19,31 @@ struct Trial<'a> {
     law: Law<'a>,
 }
 
-// A call that failed, and the file that is left after it.
+// What is wrong with a run of which this call failed, and with the file that is left after it.
 #[derive(Clone, Copy)]
-struct Moment {
+struct Broken {
     call: u64,
     over: Over,
+    breach: Breach,
 }
 
-impl fmt::Display for Moment {
+impl fmt::Display for Broken {
     fn fmt<W: fmt::Write>(&self, f: &mut fmt::Formatter<W>) -> fmt::Result {
-        write!(f, "at call {}, {}", self.call, self.over.name())
+        let Broken { call, over, breach } = self;
+        write!(f, "at call {call}, {}: {breach}", over.name())
     }
 }
 
 /// Whether all is as due at each call, up to the first run that is done; what isn't is printed.
-pub fn play_each(rt: &HostRuntime, name: Case, stage: Stage, each: Each) -> Result<bool> {
-    let law = Law::of(rt, stage.case, each)?;
+pub fn play_each(
+    rt: &HostRuntime,
+    name: Case,
+    case: Run,
+    start: &[u8],
+    each: Each,
+) -> Result<bool> {
+    let law = Law::of(rt, case, each)?;
+    let stage = Stage::of(rt, case, start)?;
     let trial = Trial { name, stage, law };
     trial.play(rt)
 }
@@ -53,11 +63,15 @@ impl Trial<'_> {
 
     // How the run ends with a fault at this call, and whether all is then as due.
     fn play_call(&self, rt: &HostRuntime, call: u64) -> Result<(Status, bool)> {
-        let typed = self.law.whole.pieces(rt.alloc())?;
-        let end = self
-            .stage
-            .run(rt, self.stage.start, typed, self.law.fault.at(call))?;
-        Ok((end.status, self.is_kept(rt, call, &end)?))
+        let failures = self.law.fault.at(call);
+        let end = self.stage.run(
+            rt.alloc(),
+            self.stage.start,
+            &self.law.whole.typed,
+            failures,
+        )?;
+        let kept = self.is_kept(rt, call, &end)?;
+        Ok((end.status, kept))
     }
 
     // Whether the replies due were sent by a run that is done, and nothing is wrong with one that failed.
@@ -69,7 +83,7 @@ impl Trial<'_> {
         let mut kept = true;
         for over in Over::ALL {
             if let Some(breach) = self.breach(rt, call, end, over)? {
-                self.name.tell(rt, Moment { call, over }, breach)?;
+                self.name.tell(rt, Broken { call, over, breach })?;
                 kept = false;
             }
         }
@@ -85,25 +99,27 @@ impl Trial<'_> {
         if !self.law.may_have_sent(rt.alloc(), call, sent)? {
             return Ok(Some(Breach::OtherReplies));
         }
-        let file = over.file(rt.alloc(), &end.bench)?;
-        match self.law.breach_of_file(sent, &file) {
-            Some(breach) => Ok(Some(breach)),
-            None => self.breach_then(rt, &file),
-        }
+        let left = over.left_by(&end.bench)?;
+        self.breach_of_file(rt.alloc(), sent, left.file())
     }
 
-    // What is wrong with the answers to the lines that are asked over a file after a crash.
-    fn breach_then(&self, rt: &HostRuntime, file: &[u8]) -> Result<Option<Breach>> {
+    // What is wrong with a file that is left after this was sent, or with the answers to the lines that are asked over it.
+    fn breach_of_file(&self, alloc: Global, sent: &[u8], file: &[u8]) -> Result<Option<Breach>> {
+        let breach = self.law.breach_of_file(sent, file);
         match self.law.asked_over(file) {
-            Some(screen) if !self.is_answered(rt, screen, file)? => Ok(Some(Breach::OtherAnswers)),
-            _ => Ok(None),
+            Some(screen) if breach.is_none() && !self.is_answered(alloc, screen, file)? => {
+                Ok(Some(Breach::OtherAnswers))
+            }
+            _ => Ok(breach),
         }
     }
 
     // Whether the lines of a terminal are answered as due over a file.
-    fn is_answered(&self, rt: &HostRuntime, screen: &str, file: &[u8]) -> Result<bool> {
-        let Exchange { typed, shown } = Exchange::of_terminal(rt.alloc(), screen)?;
-        let end = self.stage.run(rt, file, typed, Failures::default())?;
-        Ok(end.status == Status::Done && end.bench.sent() == shown.as_slice())
+    fn is_answered(&self, alloc: Global, screen: &str, file: &[u8]) -> Result<bool> {
+        let due = Exchange::of_terminal(alloc, screen, usize::MAX)?;
+        let end = self
+            .stage
+            .run(alloc, file, &due.typed, Failures::default())?;
+        Ok(end.status == Status::Done && end.bench.sent() == due.shown.as_slice())
     }
 }

@@ -16,15 +16,10 @@ pub struct Case<'a> {
 }
 
 impl Case<'_> {
-    /// Prints what is wrong, and where.
-    pub fn tell<P: fmt::Display + Drop, W: fmt::Display + Drop>(
-        &self,
-        rt: &HostRuntime,
-        place: P,
-        what: W,
-    ) -> io::Result<()> {
+    /// Prints what is wrong.
+    pub fn tell<W: fmt::Display + Drop>(&self, rt: &HostRuntime, what: W) -> io::Result<()> {
         let Case { script, shows } = self;
-        println!(rt; "{script}: {shows}\n  {place}: {what}")
+        println!(rt; "{script}: {shows}\n  {what}")
     }
 
     /// Whether what came is what was due; a difference is printed.
@@ -38,9 +33,23 @@ impl Case<'_> {
         if due == came {
             return Ok(true);
         }
-        let Case { script, shows } = self;
-        println!(rt; "{script}: {shows}\n  {what} due:  {due}\n  {what} came: {came}")?;
+        self.tell(rt, Difference { what, due, came })?;
         Ok(false)
+    }
+}
+
+// What was due, and what came in its place.
+#[derive(Clone, Copy)]
+struct Difference<'a, T> {
+    what: &'a str,
+    due: &'a T,
+    came: &'a T,
+}
+
+impl<T: fmt::Display> fmt::Display for Difference<'_, T> {
+    fn fmt<W: fmt::Write>(&self, f: &mut fmt::Formatter<W>) -> fmt::Result {
+        let Difference { what, due, came } = self;
+        write!(f, "{what} due:  {due}\n  {what} came: {came}")
     }
 }
 

@@ -1,49 +1,23 @@
 //! What a terminal shows: the lines that are typed, each after `> `, and the replies between them.
-use crate::pieces::Piece;
-use std::alloc::{AllocError, Global};
+use std::alloc::AllocError;
 
-/// What is typed, and what is shown in reply.
-#[derive(Drop)]
-pub struct Terminal {
-    pub typed: Vec<u8>,
-    pub shown: Vec<u8>,
-}
-
-impl Terminal {
-    pub fn read(alloc: Global, screen: &str) -> Result<Self, AllocError> {
-        Terminal::read_up_to(alloc, screen, usize::MAX)
-    }
-
-    /// The lines up to the first that ends past so many typed bytes: what is shown where no more than these were read.
-    pub fn read_up_to(alloc: Global, screen: &str, most: usize) -> Result<Self, AllocError> {
-        let mut terminal = Terminal {
-            typed: Vec::new(alloc),
-            shown: Vec::new(alloc),
-        };
-        for line in screen.lines() {
-            if terminal.typed.len() > most {
-                break;
-            }
-            terminal.add(line)?;
+/// Adds what is typed and what is shown in reply, up to the first line that ends past so many typed bytes.
+pub fn read_screen(
+    screen: &str,
+    most: usize,
+    typed: &mut Vec<u8>,
+    shown: &mut Vec<u8>,
+) -> Result<(), AllocError> {
+    for line in screen.lines() {
+        if typed.len() > most {
+            break;
         }
-        Ok(terminal)
-    }
-
-    fn add(&mut self, line: &str) -> Result<(), AllocError> {
         match typed_line(line) {
-            Some(typed) => add_line(&mut self.typed, typed),
-            None => add_line(&mut self.shown, line),
+            Some(line) => add_line(typed, line)?,
+            None => add_line(shown, line)?,
         }
     }
-
-    /// What is typed, as one piece.
-    pub fn pieces(&self, alloc: Global) -> Result<Vec<Piece>, AllocError> {
-        let typed = Piece {
-            bytes: self.typed.clone()?,
-            times: 1,
-        };
-        Ok(vec![in alloc; typed]?)
-    }
+    Ok(())
 }
 
 // A lone `>` is an empty line.

@@ -1,8 +1,8 @@
 //! Bytes as a script says them: a file of `sources/`, a text, or hex, as it is or changed.
 use crate::pieces::{Piece, whole};
 use crate::script::keys::Keys;
-use crate::script::kind::{Kind, byte_of, count_of};
-use anyhow::{Result, bail};
+use crate::script::kind::{Kind, byte_of, place_of};
+use anyhow::{Context, Error, Result};
 use std::alloc::Global;
 use std::{fs, io, slice};
 use toml::Value;
@@ -46,16 +46,20 @@ fn read_file(rt: &HostRuntime, name: &str) -> Result<Vec<u8>> {
 fn decode_hex(alloc: Global, text: &[u8]) -> Result<Vec<u8>> {
     let mut digits = text.to_vec(alloc)?;
     digits.retain(|byte| !byte.is_ascii_whitespace());
-    Ok(hex::decode(alloc, digits.as_slice())?)
+    hex::decode(alloc, digits.as_slice()).map_err(Error::from)
+}
+
+fn place_and_byte(values: &[Value]) -> Option<(usize, u8)> {
+    match values {
+        [place, byte] => place_of(place).zip(byte_of(byte)),
+        _ => None,
+    }
 }
 
 // Sets the byte at a place.
-fn set_byte(bytes: &mut [u8], place_and_byte: &[Value]) -> Option<()> {
-    let [place, byte] = place_and_byte else {
-        return None;
-    };
-    let place = usize::try_from(count_of(place)?).ok()?;
-    *bytes.get_mut(place)? = byte_of(byte)?;
+fn set_byte(bytes: &mut [u8], values: &[Value]) -> Option<()> {
+    let (place, byte) = place_and_byte(values)?;
+    *bytes.get_mut(place)? = byte;
     Some(())
 }
 
@@ -77,30 +81,31 @@ impl<'a> Part<'a> {
 
     // The one that is given.
     fn given(self) -> Result<Given<'a>> {
-        let (file, text) = (self.keys.text("file"), self.keys.text("text"));
-        match (file, text, self.keys.text("hex")) {
-            (Some(name), None, None) => Ok(Given::File(name)),
-            (None, Some(text), None) => Ok(Given::Text(text)),
-            (None, None, Some(digits)) => Ok(Given::Hex(digits)),
-            _ => bail!("a part has one of file, text and hex"),
-        }
+        let file = self.keys.text("file").map(Given::File);
+        let text = self.keys.text("text").map(Given::Text);
+        let hex = self.keys.text("hex").map(Given::Hex);
+        let only = match file.and(text) {
+            Some(_) => None,
+            None => file.or(text).xor(hex),
+        };
+        only.context("a part has one of file, text and hex")
     }
 
-    // Changes the byte that is to be set.
-    fn change(self, bytes: &mut [u8]) -> Result<()> {
+    // Cuts the bytes, and changes the one that is to be set.
+    fn change(self, bytes: &mut Vec<u8>) -> Result<()> {
+        let length = self.keys.count("cut").unwrap_or(u64::MAX);
+        bytes.truncate(usize::try_from(length).unwrap_or(usize::MAX));
         match self.keys.list("set") {
-            Some(values) if set_byte(bytes, values).is_none() => {
-                bail!("set is the place of a byte, and a byte")
+            Some(values) => {
+                set_byte(bytes, values).context("set is the place of a byte, and a byte")
             }
-            _ => Ok(()),
+            None => Ok(()),
         }
     }
 
     fn piece(self, rt: &HostRuntime) -> Result<Piece> {
         let times = self.keys.count("times").unwrap_or(1);
-        let length = self.keys.count("cut").unwrap_or(u64::MAX);
         let mut bytes = bytes_given(rt, self.given()?)?;
-        bytes.truncate(usize::try_from(length).unwrap_or(usize::MAX));
         self.change(&mut bytes)?;
         Ok(Piece { bytes, times })
     }
@@ -109,7 +114,7 @@ impl<'a> Part<'a> {
 fn bytes_given(rt: &HostRuntime, given: Given) -> Result<Vec<u8>> {
     match given {
         Given::File(name) => read_file(rt, name),
-        Given::Text(text) => Ok(text.as_bytes().to_vec(rt.alloc())?),
+        Given::Text(text) => text.as_bytes().to_vec(rt.alloc()).map_err(Error::from),
         Given::Hex(digits) => decode_hex(rt.alloc(), digits.as_bytes()),
     }
 }
@@ -117,10 +122,7 @@ fn bytes_given(rt: &HostRuntime, given: Given) -> Result<Vec<u8>> {
 // A name is that of a file.
 fn piece_of(rt: &HostRuntime, value: &Value) -> Result<Piece> {
     match value {
-        Value::String(name) => Ok(Piece {
-            bytes: read_file(rt, name.as_str())?,
-            times: 1,
-        }),
+        Value::String(name) => read_file(rt, name.as_str()).map(Piece::once),
         part => Part::of(part)?.piece(rt),
     }
 }
@@ -130,31 +132,41 @@ impl<'a> Content<'a> {
         Content { value }
     }
 
-    /// The pieces, in order.
-    pub fn pieces(self, rt: &HostRuntime) -> Result<Vec<Piece>> {
-        let values = match self.value {
+    fn parts(self) -> &'a [Value] {
+        match self.value {
             Value::Array(parts) => parts.as_slice(),
             value => slice::from_ref(value),
-        };
-        let mut pieces = Vec::new(rt.alloc());
-        for value in values {
-            pieces.push(piece_of(rt, value)?)?;
         }
-        Ok(pieces)
+    }
+
+    // Adds the pieces that have bytes, in order.
+    fn add_to(self, rt: &HostRuntime, pieces: &mut Vec<Piece>) -> Result<()> {
+        for part in self.parts() {
+            let piece = piece_of(rt, part)?;
+            if !piece.is_empty() {
+                pieces.push(piece)?;
+            }
+        }
+        Ok(())
     }
 
     /// All the bytes.
     pub fn whole(self, rt: &HostRuntime) -> Result<Vec<u8>> {
-        let pieces = self.pieces(rt)?;
-        Ok(whole(rt.alloc(), &pieces)?)
+        let mut pieces = Vec::new(rt.alloc());
+        self.add_to(rt, &mut pieces)?;
+        whole(rt.alloc(), &pieces).map_err(Error::from)
     }
 }
 
-/// The pieces of contents, where there are any.
-pub fn pieces_of(rt: &HostRuntime, content: Option<Content>) -> Result<Vec<Piece>> {
+/// Adds the pieces of contents, where there are any.
+pub fn add_pieces(
+    rt: &HostRuntime,
+    content: Option<Content>,
+    pieces: &mut Vec<Piece>,
+) -> Result<()> {
     match content {
-        Some(content) => content.pieces(rt),
-        None => Ok(Vec::new(rt.alloc())),
+        Some(content) => content.add_to(rt, pieces),
+        None => Ok(()),
     }
 }
 

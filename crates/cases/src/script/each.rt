@@ -3,7 +3,7 @@ use crate::history::History;
 use crate::script::fault::Fault;
 use crate::script::keys::Keys;
 use crate::script::kind::Kind;
-use anyhow::{Result, bail};
+use anyhow::{Context, Result};
 use toml::Value;
 
 /// What is tried at each call of an object, and what is due then.
@@ -24,26 +24,17 @@ impl<'a> Each<'a> {
     }
 
     pub fn fault(self) -> Result<Fault> {
-        match self.keys.text("fault") {
-            Some("stop") => Ok(Fault::Stop),
-            Some("fail") => Ok(Fault::Fail),
-            Some("schema") => Ok(Fault::Schema),
-            Some("table") => Ok(Fault::Table),
-            Some("input") => Ok(Fault::Input),
-            _ => bail!("a fault is stop, fail, or the source of which a read fails"),
-        }
+        self.keys.text("fault").and_then(Fault::of).context(
+            "a fault is stop, fail, or the source of which a read fails",
+        )
     }
 
-    /// What the journal may stand as then, in order.
-    pub fn histories(self, rt: &HostRuntime) -> Result<Vec<History>> {
-        let Some(values) = self.keys.list("histories") else {
-            bail!("no histories");
-        };
-        let mut histories = Vec::new(rt.alloc());
-        for value in values {
+    /// Adds what the journal may stand as then, in order.
+    pub fn add_histories(self, rt: &HostRuntime, histories: &mut Vec<History>) -> Result<()> {
+        for value in self.keys.list("histories").context("no histories")? {
             histories.push(history_of(rt, value)?)?;
         }
-        Ok(histories)
+        Ok(())
     }
 
     /// The terminal over a file with the last history.
@@ -54,9 +45,7 @@ impl<'a> Each<'a> {
 
 fn history_of(rt: &HostRuntime, value: &Value) -> Result<History> {
     let keys = Keys::of_value(value, &[("records", Kind::Count), ("file", Kind::Contents)])?;
-    let Some(content) = keys.content("file") else {
-        bail!("a history has a file");
-    };
+    let content = keys.content("file").context("a history has a file")?;
     Ok(History {
         records: keys.count("records"),
         file: content.whole(rt)?,

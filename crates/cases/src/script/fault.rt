@@ -18,6 +18,17 @@ pub enum Fault {
 }
 
 impl Fault {
+    pub fn of(word: &str) -> Option<Fault> {
+        match word {
+            "stop" => Some(Fault::Stop),
+            "fail" => Some(Fault::Fail),
+            "schema" => Some(Fault::Schema),
+            "table" => Some(Fault::Table),
+            "input" => Some(Fault::Input),
+            _ => None,
+        }
+    }
+
     /// What fails where it befalls the call of this number.
     pub fn at(self, call: u64) -> Failures {
         let mut failures = Failures::default();

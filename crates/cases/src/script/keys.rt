@@ -32,33 +32,33 @@ impl<'a> Keys<'a> {
     }
 
     pub fn content(self, key: &str) -> Option<Content<'a>> {
-        Some(Content::of(self.table.get(key)?))
+        self.value(key).map(Content::of)
     }
 
     pub fn table(self, key: &str, known: &[(&str, Kind)]) -> Result<Option<Keys<'a>>> {
-        match self.table.get(key) {
-            Some(value) => Ok(Some(Keys::of_value(value, known)?)),
+        match self.value(key) {
+            Some(value) => Keys::of_value(value, known).map(Some),
             None => Ok(None),
         }
     }
 
     pub fn text(self, key: &str) -> Option<&'a str> {
-        self.table.get(key)?.as_str()
+        self.value(key).and_then(Value::as_str)
     }
 
     pub fn list(self, key: &str) -> Option<&'a [Value]> {
-        match self.table.get(key) {
+        match self.value(key) {
             Some(Value::Array(list)) => Some(list.as_slice()),
             _ => None,
         }
     }
 
     pub fn count(self, key: &str) -> Option<u64> {
-        count_of(self.table.get(key)?)
+        self.value(key).and_then(count_of)
     }
 
     pub fn flag(self, key: &str) -> bool {
-        matches!(self.table.get(key), Some(Value::Boolean(true)))
+        matches!(self.value(key), Some(Value::Boolean(true)))
     }
 }
 

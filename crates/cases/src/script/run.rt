@@ -2,11 +2,11 @@
 use crate::failures::Failures;
 use crate::over::Over;
 use crate::pieces::Piece;
-use crate::script::content::{Content, bytes_of, pieces_of};
+use crate::script::content::{Content, add_pieces, bytes_of};
 use crate::script::each::Each;
 use crate::script::keys::Keys;
 use crate::script::kind::{Kind, byte_of};
-use anyhow::{Result, bail};
+use anyhow::{Context, Result, bail};
 use std::alloc::Global;
 use toml::Value;
 
@@ -54,10 +54,9 @@ impl<'a> Run<'a> {
     }
 
     pub fn shows(self) -> Result<&'a str> {
-        match self.own.text("shows") {
-            Some(shows) => Ok(shows),
-            None => bail!("a run doesn't say what it shows"),
-        }
+        self.own
+            .text("shows")
+            .context("a run doesn't say what it shows")
     }
 
     /// Whether the run is there to differ.
@@ -65,11 +64,11 @@ impl<'a> Run<'a> {
         self.own.flag("differs")
     }
 
-    /// The words after the program's name, else `serve`.
-    pub fn words(self, alloc: Global) -> Result<Vec<String>> {
+    /// Adds the words after the program's name, else `serve`.
+    pub fn add_words(self, alloc: Global, words: &mut Vec<String>) -> Result<()> {
         match self.given_words() {
-            Some(given) => texts_of(alloc, given),
-            None => Ok(vec![in alloc; String::from_str(alloc, "serve")?]?),
+            Some(given) => add_texts(words, given),
+            None => Ok(words.push(String::from_str(alloc, "serve")?)?),
         }
     }
 
@@ -87,9 +86,9 @@ impl<'a> Run<'a> {
         bytes_of(rt, self.file_at_start("journal"))
     }
 
-    /// The bytes of a file that is read.
-    pub fn pieces(self, rt: &HostRuntime, name: &str) -> Result<Vec<Piece>> {
-        pieces_of(rt, self.file_at_start(name))
+    /// Adds the bytes of a file that is read.
+    pub fn add_file(self, rt: &HostRuntime, name: &str, pieces: &mut Vec<Piece>) -> Result<()> {
+        add_pieces(rt, self.file_at_start(name), pieces)
     }
 
     /// The most bytes that a source gives at a read.
@@ -106,10 +105,9 @@ impl<'a> Run<'a> {
     pub fn over(self) -> Result<Option<Over>> {
         match self.own.text("over") {
             None => Ok(None),
-            Some("left") => Ok(Some(Over::Left)),
-            Some("synced") => Ok(Some(Over::Synced)),
-            Some("torn") => Ok(Some(Over::Torn)),
-            Some(other) => bail!("over {other}"),
+            Some(word) => Over::of(word)
+                .context(format_args!("over {word}"))
+                .map(Some),
         }
     }
 
@@ -123,42 +121,30 @@ impl<'a> Run<'a> {
 
     /// The calls that fail.
     pub fn fails(self) -> Result<Failures> {
-        match self.own.table("fails", &Failures::KEYS)? {
-            Some(keys) => Ok(Failures::of(keys)),
-            None => Ok(Failures::default()),
-        }
+        let keys = self.own.table("fails", &Failures::KEYS)?;
+        Ok(keys.map(Failures::of).unwrap_or_default())
     }
 
     /// The exit status and its text.
     pub fn ends(self) -> Result<(u8, &'a str)> {
-        let Some(values) = self.own.list("ends") else {
-            return Ok((0, ""));
-        };
-        match status_and_text(values) {
-            Some(ends) => Ok(ends),
-            None => bail!("ends is a status and a text"),
+        match self.own.list("ends") {
+            Some(values) => status_and_text(values).context("ends is a status and a text"),
+            None => Ok((0, "")),
         }
     }
 
     /// The journal's files that a crash at the end leaves.
     pub fn crash(self) -> Result<Option<Crash<'a>>> {
-        let Some(keys) = self.own.table("crash", &CRASH_KEYS)? else {
-            return Ok(None);
-        };
-        match (keys.content("synced"), keys.content("torn")) {
-            (Some(synced), Some(torn)) => Ok(Some(Crash { synced, torn })),
-            _ => bail!("a crash leaves a synced file and a torn one"),
-        }
+        let keys = self.own.table("crash", &CRASH_KEYS)?;
+        keys.map(Crash::of).transpose()
     }
 
     /// With it the run is tried with a fault at each call of an object in turn.
     pub fn each(self) -> Result<Option<Each<'a>>> {
-        let Some(keys) = self.own.table("each", &Each::KEYS)? else {
-            return Ok(None);
-        };
+        let each = self.own.table("each", &Each::KEYS)?.map(Each::of);
         match self.first_of(&BESIDE_NO_EACH) {
-            Some(key) => bail!("{key} beside each"),
-            None => Ok(Some(Each::of(keys))),
+            Some(key) if each.is_some() => bail!("{key} beside each"),
+            _ => Ok(each),
         }
     }
 
@@ -180,20 +166,29 @@ pub struct Crash<'a> {
     pub torn: Content<'a>,
 }
 
-fn status_and_text(values: &[Value]) -> Option<(u8, &str)> {
-    let [status, text] = values else {
-        return None;
-    };
-    Some((byte_of(status)?, text.as_str()?))
+impl<'a> Crash<'a> {
+    fn of(keys: Keys<'a>) -> Result<Crash<'a>> {
+        let (synced, torn) = keys
+            .content("synced")
+            .zip(keys.content("torn"))
+            .context("a crash leaves a synced file and a torn one")?;
+        Ok(Crash { synced, torn })
+    }
 }
 
-fn texts_of(alloc: Global, values: &[Value]) -> Result<Vec<String>> {
-    let mut texts = Vec::new(alloc);
+fn status_and_text(values: &[Value]) -> Option<(u8, &str)> {
+    match values {
+        [status, text] => byte_of(status).zip(text.as_str()),
+        _ => None,
+    }
+}
+
+fn add_texts(texts: &mut Vec<String>, values: &[Value]) -> Result<()> {
     for value in values {
         match value {
             Value::String(text) => texts.push(text.clone()?)?,
             _ => bail!("a word is a text"),
         }
     }
-    Ok(texts)
+    Ok(())
 }
