@@ -132,12 +132,8 @@ impl Buffer {
         self.stop = len;
         self.from = len;
         self.end = len;
-        match read_to(source, &mut self.bytes, len) {
-            Ok(count) => {
-                self.end = len + count;
-                Ok(count)
-            }
-            Err(failed) => Err(failed),
-        }
+        let count = read_to(source, &mut self.bytes, len)?;
+        self.end = len + count;
+        Ok(count)
     }
 }
