@@ -1,8 +1,11 @@
--- Why a store isn't started: a cause in what was read is one of the file, and a legal history of the secrets' shape has none.
-use Rattle.std.proofs.Common.{◌≡◌, ℕ, inl, inr, List, refl, sym, ap, subst, ◌∙◌, Result, Err}
+-- Why a store isn't started: one cause at most holds, and none of a legal history.
+use Rattle.std.proofs.Common.{◌≡◌, ℕ, ◌<◌, inl, inr, ◌⊎◌, List, refl, sym, ap, subst, ◌∙◌, arith, Result, Err}
+use Rattle.std.specs.Prelude.{ℤ, slice_get}
+use Rattle.std.proofs.lemmas.Bool.{cases_lt}
+use Rattle.std.proofs.lemmas.Option.{same_Some}
 use Rattle.audit_types.specs.declared.shapes.Shape.{Shape}
 use Rattle.audit_types.specs.declared.records.Answered.{Answered}
-use Rattle.audit_types.specs.History.{IsLegal}
+use Rattle.audit_types.specs.History.{Table, IsLegal}
 use Rattle.table_load.specs.Cells.{SecretView}
 use Rattle.journal_form.specs.Journal.{StandsAt, BreaksAt}
 use Rattle.answer_journal.specs.declared.journal.BackFault.{BackFault}
@@ -11,6 +14,7 @@ use Rattle.answer_journal.specs.Faults.{GaveUp, IsDueOrGaveUp}
 use Rattle.answer_journal.specs.Moments.{IsMade}
 use Rattle.audit_store.specs.declared.starting.StartFault.{StartFault}
 use Rattle.audit_store.specs.declared.starting.StartFault.TheVariants.{NotMade, Damaged, OtherShape, Untrue, Illegal, Failed, NoMemory}
+use Rattle.audit_core.specs.Outcomes.{true_answer}
 use Rattle.audit_store.specs.Starting.{IsFirstUntrue, IsFirstIllegal, StartCause, HistoryCause, GivesUp, RefusedUnlessFailed, start_fault}
 use Rattle.table_load.specs.Database.{secret_table}
 
@@ -49,9 +53,61 @@ cause_in_file file shape history gate secret (Illegal place) stands cause = (his
 cause_in_file file shape history gate secret Failed stands cause = absurd cause
 cause_in_file file shape history gate secret NoMemory stands cause = tt
 
+module _ (table : Table) (history : List Answered) where
+  -- of two first untrue records neither stands before the other
+  untrue_not_before : (a b : ℕ) (kept now other due : ℤ) → IsFirstUntrue table history a kept now → IsFirstUntrue table history b other due → a < b → ⊥
+  untrue_not_before a b kept now other due p q lt = p.differ (p.kept_is ∙ q.before a p.at lt p.stands ∙ sym p.now_is)
+
+  untrue_once : (a b : ℕ) (kept now other due : ℤ) → IsFirstUntrue table history a kept now → IsFirstUntrue table history b other due →
+      Untrue b other due ≡ Untrue a kept now
+  untrue_once a b kept now other due p q =
+      let place : b ≡ a = elim (cases_lt a b) [
+        | inl lt ↦ absurd (untrue_not_before a b kept now other due p q lt)
+        | inr le ↦ elim (cases_lt b a) [ inl lt ↦ absurd (untrue_not_before b a other due kept now q p lt) | inr from ↦ omega arith ]
+      ] in
+      let same : q.at ≡ p.at = same_Some q.at p.at (sym q.stands ∙ ap (slice_get history) place ∙ p.stands) in
+      let kept_same : other ≡ kept = q.kept_is ∙ ap (λ (r : Answered). r.answer) same ∙ sym p.kept_is in
+      let now_same : due ≡ now = q.now_is ∙ ap (λ (r : Answered). true_answer table r.column r.rows) same ∙ sym p.now_is in
+      ap (λ k. Untrue k other due) place ∙ ap (λ k. Untrue a k due) kept_same ∙ ap (λ k. Untrue a kept k) now_same
+
+  illegal_not_before : (a b : ℕ) → IsFirstIllegal table history a → IsFirstIllegal table history b → a < b → ⊥
+  illegal_not_before a b p q lt = p.denied (q.before a p.at lt p.stands)
+
+  illegal_once : (a b : ℕ) → IsFirstIllegal table history a → IsFirstIllegal table history b → Illegal b ≡ Illegal a
+  illegal_once a b p q =
+      elim (cases_lt a b) [
+        | inl lt ↦ absurd (illegal_not_before a b p q lt)
+        | inr le ↦ elim (cases_lt b a) [ inl lt ↦ absurd (illegal_not_before b a q p lt) | inr from ↦ let place : b ≡ a = omega arith in ap (λ k. Illegal k) place ]
+      ]
+
+  untrue_or_illegal : (a b : ℕ) (kept now : ℤ) → IsFirstUntrue table history a kept now → IsFirstIllegal table history b → ⊥
+  untrue_or_illegal a b kept now p q = p.differ (p.kept_is ∙ q.all_true a p.at p.stands ∙ sym p.now_is)
+
 module _ (shape : Shape) (history : List Answered) (secret : SecretView) where
   other_shape : (kept now : Shape) → HistoryCause (OtherShape kept now) shape history secret → shape ≡ secret.shape → ⊥
   other_shape kept now cause same = cause.2 (cause.0 ∙ same ∙ sym cause.1)
+
+  -- one cause at most holds of a history
+  pub one_cause : (due fault : StartFault) → (GivesUp due → ⊥) → HistoryCause due shape history secret → HistoryCause fault shape history secret →
+      (fault ≡ due) ⊎ GivesUp fault
+  one_cause NotMade fault some cause other = absurd cause
+  one_cause (Damaged at) fault some cause other = absurd cause
+  one_cause Failed fault some cause other = absurd cause
+  one_cause NoMemory fault some cause other = absurd (some tt)
+  one_cause due NotMade some cause other = absurd other
+  one_cause due (Damaged at) some cause other = absurd other
+  one_cause due Failed some cause other = absurd other
+  one_cause due NoMemory some cause other = inr tt
+  one_cause (OtherShape kept now) (OtherShape k n) some cause other =
+      inl (ap (λ s. OtherShape s n) (other.0 ∙ sym cause.0) ∙ ap (λ s. OtherShape kept s) (other.1 ∙ sym cause.1))
+  one_cause (OtherShape kept now) (Untrue b k n) some cause other = absurd (other_shape kept now cause other.0)
+  one_cause (OtherShape kept now) (Illegal b) some cause other = absurd (other_shape kept now cause other.0)
+  one_cause (Untrue a kept now) (OtherShape k n) some cause other = absurd (other_shape k n other cause.0)
+  one_cause (Untrue a kept now) (Untrue b k n) some cause other = inl (untrue_once (secret_table secret) history a b kept now k n cause.1 other.1)
+  one_cause (Untrue a kept now) (Illegal b) some cause other = absurd (untrue_or_illegal (secret_table secret) history a b kept now cause.1 other.1)
+  one_cause (Illegal a) (OtherShape k n) some cause other = absurd (other_shape k n other cause.0)
+  one_cause (Illegal a) (Untrue b k n) some cause other = absurd (untrue_or_illegal (secret_table secret) history b a k n other.1 cause.1)
+  one_cause (Illegal a) (Illegal b) some cause other = inl (illegal_once (secret_table secret) history a b cause.1 other.1)
 
   -- a legal history of the secrets' shape has none
   pub legal_has_no_cause : (fault : StartFault) → shape ≡ secret.shape → IsLegal (secret_table secret) history → HistoryCause fault shape history secret →
