@@ -72,9 +72,12 @@ module _ (n : ℕ) (r : SparseRow) (new : List FreeEntry) (kept : IsKept n r) (p
       let x = pivot_entry (row_of n new) in
       let row = row_of n (entries_of r) in
       let y = number_at row (pivot (row_of n new)) in
-      let zero_there : number_at (row_of n new) (pivot row) ≡ pos 0 = ap (number_at (row_of n new)) row_pivot ∙ number_at-row_of 0 n new is_new.listed r.pivot ∙ nothing in
+      let zero_there : number_at (row_of n new) (pivot row) ≡ pos 0 = ap (number_at (row_of n new)) row_pivot ∙ number_at-row_of 0 n new is_new.listed r.pivot
+      ∙ nothing in
       let leads = leads_combination n (row_of n new) row is_new.primitive primitive zero_there in
-      let made = primitive_exists n (combined_rows n r new kept is_new before by times by_is times_is) (length-combine n x row y (row_of n new) (length-row_of n (entries_of r)) (length-row_of n new)) (some_entry (combined_rows n r new kept is_new before by times by_is times_is) (pivot row) leads) in
+      let made = primitive_exists n (combined_rows n r new kept is_new before by times by_is times_is)
+      (length-combine n x row y (row_of n new) (length-row_of n (entries_of r)) (length-row_of n new))
+      (some_entry (combined_rows n r new kept is_new before by times by_is times_is) (pivot row) leads) in
       let at_new = led.at_pivot in
       let at_row = row_pivot in (
         made.0,
@@ -82,7 +85,8 @@ module _ (n : ℕ) (r : SparseRow) (new : List FreeEntry) (kept : IsKept n r) (p
           over = made.1;
           not_zero = made.2;
           line =
-              λ j. sym (number_at-times made.1 made.0 j) ∙ sym (ap (λ l. number_at l j) made.3) ∙ combined_rows_at n r new kept is_new before by times by_is times_is j;
+              λ j. sym (number_at-times made.1 made.0 j) ∙ sym (ap (λ l. number_at l j) made.3)
+              ∙ combined_rows_at n r new kept is_new before by times by_is times_is j;
           cleared = cleared_from n (row_of n new) row made.0 made.1 is_new.primitive primitive zero_there (omega arith) made.2 made.3 made.4;
         },
       )
@@ -161,7 +165,10 @@ module _ (n : ℕ) (r : SparseRow) (new : List FreeEntry) (kept : IsKept n r) (p
       let lone = lone_by_parallel n r new kept primitive is_new nothing before by times by_is is line.0 line.1 by_some some in (
         line.0,
         line.1.cleared,
-        (within_bounds n r new kept primitive is_new nothing before by times by_is is line.0 line.1 most (2 ^ 56) all enough, (λ yes. lone.0 (told.0 yes), λ is_lone. told.1 (lone.1 is_lone))),
+        (
+          within_bounds n r new kept primitive is_new nothing before by times by_is is line.0 line.1 most (2 ^ 56) all enough,
+          (λ yes. lone.0 (told.0 yes), λ is_lone. told.1 (lone.1 is_lone)),
+        ),
       )
 
   -- where its list has another length than the new one it is lone exactly where it was
@@ -173,8 +180,11 @@ module _ (n : ℕ) (r : SparseRow) (new : List FreeEntry) (kept : IsKept n r) (p
       let times = entry_at r.free.items place in
       elim (zero_or_not times) [
         | inl z ↦
-            let lone = lone_list n (record { place = r.pivot; value = r.head }) r.free.items kept.listed in
-            (row_of n (entries_of r), cleared_as_it_is n r new kept is_new nothing primitive z, (small, (λ yes. lone.0 (empty.0 yes), λ is_lone. empty.1 (lone.1 is_lone))))
+            let lone = lone_list n (record { place = r.pivot; value = r.head }) r.free.items kept.listed in (
+              row_of n (entries_of r),
+              cleared_as_it_is n r new kept is_new nothing primitive z,
+              (small, (λ yes. lone.0 (empty.0 yes), λ is_lone. empty.1 (lone.1 is_lone))),
+            )
         | inr some ↦
             let bound = bounded_at (r.pivot + 1) n r.most r.free.items kept.listed.3 kept.bounded.1 place in
             let part = mul-le-mul_right most bound in

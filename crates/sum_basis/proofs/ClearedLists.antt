@@ -65,7 +65,8 @@ pub content_of_row : (n : ℕ) (es : List FreeEntry) → IsListed 0 n es → IsC
 content_of_row n es h content = record {
   divides = all-ones (row_of n es);
   greatest =
-      λ d all. content.greatest d (values_from (λ x. d ∣ unsigned_abs x) 0 n es h (λ j. subst (λ x. d ∣ unsigned_abs x) (number_at-row_of 0 n es h j) (at d (row_of n es) j all)) (dvd-zero d));
+      λ d all. content.greatest d (values_from (λ x. d ∣ unsigned_abs x) 0 n es h
+      (λ j. subst (λ x. d ∣ unsigned_abs x) (number_at-row_of 0 n es h j) (at d (row_of n es) j all)) (dvd-zero d));
 }
   where
     at : (d : ℕ) (xs : List ℤ) (j : ℕ) → AllByRecursion (λ x. d ∣ unsigned_abs x) xs → d ∣ unsigned_abs (number_at xs j)
@@ -101,7 +102,8 @@ head_small n r kept small = (small_values n (entries_of r) kept.listed small).0
 -- the values of a combination of small rows
 pub combined_small : (n : ℕ) (r : SparseRow) (new out : List FreeEntry) (by times : ℤ) → IsKept n r → IsSmall (row_of n (entries_of r)) → IsNew n new
     → unsigned_abs by ≤ 2 ^ 56 → unsigned_abs times ≤ 2 ^ 56 → IsListed 0 n out
-    → ((j : ℕ) → entry_at out j ≡ by *ℤ entry_at r.free.items j -ℤ times *ℤ entry_at new j) → AllByRecursion (λ (e : FreeEntry). unsigned_abs e.value ≤ 2 ^ 126) out
+    → ((j : ℕ) → entry_at out j ≡ by *ℤ entry_at r.free.items j -ℤ times *ℤ entry_at new j) →
+    AllByRecursion (λ (e : FreeEntry). unsigned_abs e.value ≤ 2 ^ 126) out
 combined_small n r new out by times kept small is_new p q h combined =
     all-unmap (λ (e : FreeEntry). e.value) (λ x. unsigned_abs x ≤ 2 ^ 126) out (values_from (λ x. unsigned_abs x ≤ 2 ^ 126) 0 n out h at (omega arith))
   where
@@ -109,7 +111,8 @@ combined_small n r new out by times kept small is_new p q h combined =
     at j =
         let is = combined j in
         let one = product_small by (entry_at r.free.items j) p (entry_small n r j kept small) in
-        let two = product_small times (entry_at new j) q (subst (λ z. unsigned_abs z ≤ 2 ^ 56) (number_at-row_of 0 n new is_new.listed j) (small_at (row_of n new) j is_new.small)) in
+        let two = product_small times (entry_at new j) q (subst (λ z. unsigned_abs z ≤ 2 ^ 56) (number_at-row_of 0 n new is_new.listed j)
+        (small_at (row_of n new) j is_new.small)) in
         omega (arith, ints)
 
 -- a positive product of a positive factor has a positive other factor
@@ -216,12 +219,14 @@ module _ (n : ℕ) (r : SparseRow) (new : List FreeEntry) (kept : IsKept n r) (p
       head_at true = over.head_is
       head_at false = *ℤ-zero by ∙ sym (*ℤ-zero over.by)
 
-  combination : combine (pivot_entry (row_of n new)) (row_of n (entries_of r)) (number_at (row_of n (entries_of r)) (pivot (row_of n new))) (row_of n new) ≡ times_of over.by (row_of n whole)
+  combination : combine (pivot_entry (row_of n new)) (row_of n (entries_of r)) (number_at (row_of n (entries_of r)) (pivot (row_of n new)))
+      (row_of n new) ≡ times_of over.by (row_of n whole)
   combination =
       let x = pivot_entry (row_of n new) in
       let y = number_at (row_of n (entries_of r)) (pivot (row_of n new)) in
       same_rows (combine x (row_of n (entries_of r)) y (row_of n new)) (times_of over.by (row_of n whole))
-      (length-combine n x (row_of n (entries_of r)) y (row_of n new) (length-row_of n (entries_of r)) (length-row_of n new) ∙ sym (length-map (row_of n whole) (λ z. over.by *ℤ z) ∙ length-row_of n whole))
+      (length-combine n x (row_of n (entries_of r)) y (row_of n new) (length-row_of n (entries_of r)) (length-row_of n new)
+      ∙ sym (length-map (row_of n whole) (λ z. over.by *ℤ z) ∙ length-row_of n whole))
       (λ j. combined_rows_at n r new kept is_new before by times by_is times_is j
       ∙ column j
       ∙ sym (number_at-times over.by (row_of n whole) j ∙ ap (λ z. over.by *ℤ z) (number_at-row_of 0 n whole cleared_listed j)))
@@ -243,7 +248,8 @@ pub record IsResult (n : ℕ) (r : SparseRow) (new : List FreeEntry) (head : ℤ
 
 pub result_is : (n : ℕ) (r : SparseRow) (new out : List FreeEntry) (times p head : ℤ) (made : List FreeEntry) → IsKept n r
     → IsPrimitive n (row_of n (entries_of r)) → IsNew n new → r.pivot < (get_or new 0 none).place → times ≡ entry_at r.free.items (get_or new 0 none).place
-    → IsListed 0 n out → ((j : ℕ) → entry_at out j ≡ (get_or new 0 none).value *ℤ entry_at r.free.items j -ℤ times *ℤ entry_at new j) → p ≡ (get_or new 0 none).value *ℤ r.head → IsOverContent p out head made → IsResult n r new head made
+    → IsListed 0 n out → ((j : ℕ) → entry_at out j ≡ (get_or new 0 none).value *ℤ entry_at r.free.items j -ℤ times *ℤ entry_at new j) →
+    p ≡ (get_or new 0 none).value *ℤ r.head → IsOverContent p out head made → IsResult n r new head made
 result_is n r new out times p head made kept primitive is_new before times_is h combined e over =
     let whole = subst (λ z. IsOverContent z out head made) e over in
     let by = (get_or new 0 none).value in
@@ -256,7 +262,8 @@ result_is n r new out times p head made kept primitive is_new before times_is h 
 -- the same of numbers that are kept as bits
 pub result_of_bits : (n : ℕ) (r : SparseRow) (new out list made : List FreeEntry) (given p head : ℤ) → FitsSigned w128 given → FitsSigned w128 p → IsKept n r
     → IsPrimitive n (row_of n (entries_of r)) → IsNew n new → r.pivot < (get_or new 0 none).place → given ≡ entry_at r.free.items (get_or new 0 none).place
-    → IsListed 0 n out → ((j : ℕ) → entry_at out j ≡ (get_or new 0 none).value *ℤ entry_at r.free.items j -ℤ to_z w128 (of_z w128 given) *ℤ entry_at new j) → p ≡ (get_or new 0 none).value *ℤ r.head → list ≡ out → IsOverContent (to_z w128 (of_z w128 p)) list head made → IsResult n r new head made
+    → IsListed 0 n out → ((j : ℕ) → entry_at out j ≡ (get_or new 0 none).value *ℤ entry_at r.free.items j -ℤ to_z w128 (of_z w128 given) *ℤ entry_at new j) →
+    p ≡ (get_or new 0 none).value *ℤ r.head → list ≡ out → IsOverContent (to_z w128 (of_z w128 p)) list head made → IsResult n r new head made
 result_of_bits n r new out list made given p head f g kept primitive is_new before times_is listed combined e same over =
     result_is n r new out given p head made kept primitive is_new before times_is listed
     (λ j. combined j ∙ ap (λ z. (get_or new 0 none).value *ℤ entry_at r.free.items j -ℤ z *ℤ entry_at new j) (to_z-of_z w128 given f)) e

@@ -41,7 +41,8 @@ still_zero_at (row ∷ form) old made by n is z = (line_zero old by made (pivot 
 pub span_times : (rows : List (List ℤ)) (by : ℤ) (new : List ℤ) → InSpan rows new → InSpan rows (times by new)
 span_times rows by new p =
     in_span_from rows (times by new)
-    (spans_same rows (λ j. by *ℤ number_at new j) (number_at (times by new)) (λ j. sym (number_at-times by new j)) (spans_times rows by (number_at new) (spans_from rows new p)))
+    (spans_same rows (λ j. by *ℤ number_at new j) (number_at (times by new)) (λ j. sym (number_at-times by new j))
+    (spans_times rows by (number_at new) (spans_from rows new p)))
 
 -- a combination of zeros is 0
 at_both_zero : (x y f g : ℤ) → f ≡ pos 0 → g ≡ pos 0 → x *ℤ f +ℤ y *ℤ g ≡ pos 0
@@ -80,7 +81,8 @@ cleared_from n new row made by p q e first n_zero line primitive = record {
   primitive = primitive;
   zero_there = line_zero c by made (pivot new) n_zero line gone;
   head =
-      subst (λ m. unsigned_abs (pivot_entry made) ∣ m) (sym (unsigned_abs-mul by (pivot_entry made)) ∙ ap unsigned_abs heads ∙ unsigned_abs-mul x (pivot_entry row)) (dvd-mul_left (unsigned_abs (pivot_entry made)) (unsigned_abs by));
+      subst (λ m. unsigned_abs (pivot_entry made) ∣ m) (sym (unsigned_abs-mul by (pivot_entry made)) ∙ ap unsigned_abs heads
+      ∙ unsigned_abs-mul x (pivot_entry row)) (dvd-mul_left (unsigned_abs (pivot_entry made)) (unsigned_abs by));
   keeps = λ j h k. line_zero c by made j n_zero line (number_at-combine x row y new j ∙ at_both_zero x (neg_ℤ y) (number_at row j) (number_at new j) h k);
   back = λ span h k. span_uncombine span x row y new p.leading (subst (InSpan span) (sym line) (span_times span by made h)) k;
   there = λ span h k. span_line span by made n_zero (subst (InSpan span) line (span_combine span x row y new h k));
@@ -118,7 +120,15 @@ cleared_from n new row made by p q e first n_zero line primitive = record {
 -- a row that is 0 there is cleared as it is
 pub cleared_already : (n : ℕ) (new row : List ℤ) → IsPrimitive n row → number_at row (pivot new) ≡ pos 0 → IsCleared n new row row
 cleared_already n new row q z =
-    record { same_pivot = refl; primitive = q; zero_there = z; head = dvd-mul_left (unsigned_abs (pivot_entry row)) (unsigned_abs (pivot_entry new)); keeps = λ j h k. h; back = λ span h k. h; there = λ span h k. h }
+    record {
+      same_pivot = refl;
+      primitive = q;
+      zero_there = z;
+      head = dvd-mul_left (unsigned_abs (pivot_entry row)) (unsigned_abs (pivot_entry new));
+      keeps = λ j h k. h;
+      back = λ span h k. h;
+      there = λ span h k. h;
+    }
 
 -- each row can be cleared
 pub cleared : (n : ℕ) (new row : List ℤ) → IsPrimitive n new → IsPrimitive n row → number_at new (pivot row) ≡ pos 0 →
@@ -129,7 +139,8 @@ cleared n new row p q e =
       | inr some ↦
           let x = pivot_entry new in
           let y = number_at row (pivot new) in
-          let made = primitive_exists n (combine x row y new) (length-combine n x row y new q.one_each p.one_each) (some_entry (combine x row y new) (pivot row) (leads_combination n new row p q e)) in
+          let made = primitive_exists n (combine x row y new) (length-combine n x row y new q.one_each p.one_each)
+          (some_entry (combine x row y new) (pivot row) (leads_combination n new row p q e)) in
           (made.0, cleared_from n new row made.0 made.1 p q e (comes_first n new row p e some) made.2 made.3 made.4)
     ]
 
@@ -149,8 +160,10 @@ still_before n new r r' [] [] c e all z h = tt
 still_before n new r r' [] (s ∷ ss) c e all z h = absurd all
 still_before n new r r' (q ∷ rows) [] c e all z h = absurd all
 still_before n new r r' (q ∷ rows) (s ∷ ss) c e all z h =
-    let one = c.same_pivot in let two = all.0.same_pivot in let order = h.0.0 in
-    ((omega arith, ap (number_at r') two ∙ c.keeps (pivot q) h.0.1 z.0, ap (number_at s) one ∙ all.0.keeps (pivot r) h.0.2 e), still_before n new r r' rows ss c e all.1 z.1 h.1)
+    let one = c.same_pivot in let two = all.0.same_pivot in let order = h.0.0 in (
+      (omega arith, ap (number_at r') two ∙ c.keeps (pivot q) h.0.1 z.0, ap (number_at s) one ∙ all.0.keeps (pivot r) h.0.2 e),
+      still_before n new r r' rows ss c e all.1 z.1 h.1,
+    )
 
 -- cleared rows are in echelon form again
 pub still_echelon : (n : ℕ) (new : List ℤ) (rows rows' : List (List ℤ)) → AreCleared n new rows rows' → ZeroAtPivots (number_at new) rows → IsEchelon rows →

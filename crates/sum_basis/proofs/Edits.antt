@@ -35,8 +35,13 @@ listed_insert from n [] zero e h low inside some before after = (low, inside, so
 listed_insert from n [] (suc k) e h low inside some before after = (low, inside, some, tt)
 listed_insert from n (x ∷ es) zero e h low inside some before after = let next = after x (omega arith) in (low, inside, some, (omega arith, h.1, h.2, h.3))
 listed_insert from n (x ∷ es) (suc k) e h low inside some before after =
-    let first = before 0 x (omega arith) (omega arith) in
-    (h.0, h.1, h.2, listed_insert (x.place + 1) n es k e h.3 (omega arith) inside some (λ i d p q. before (suc i) d (omega arith) (omega arith)) (λ d p. after d (omega arith)))
+    let first = before 0 x (omega arith) (omega arith) in (
+      h.0,
+      h.1,
+      h.2,
+      listed_insert (x.place + 1) n es k e h.3 (omega arith) inside some (λ i d p q. before (suc i) d (omega arith) (omega arith))
+          (λ d p. after d (omega arith)),
+    )
 
 -- one entry taken out
 entry_at-remove : (es : List FreeEntry) (k : ℕ) (j : ℕ) → k < length es →
@@ -129,9 +134,11 @@ module _ (n : ℕ) (es : List FreeEntry) (k place : ℕ) (number : ℤ) (h : IsL
     pub replaced_at : (j : ℕ) → entry_at replaced j ≡ entry_at es j +ℤ cond (nat_eq place j) number (pos 0)
     replaced_at j = elim (zero_or_not v) [
       | inl z ↦ rw (ap is_zero z)
-          (let less = entry_at-remove es k j f.within in let old = was j in let sum = both (nat_eq place j) in let gone = ap (λ x. cond (nat_eq place j) x (pos 0)) z ∙ nothing (nat_eq place j) in omega (arith, ints))
+          (let less = entry_at-remove es k j f.within in let old = was j in let sum = both (nat_eq place j) in
+          let gone = ap (λ x. cond (nat_eq place j) x (pos 0)) z ∙ nothing (nat_eq place j) in omega (arith, ints))
       | inr other ↦ rw (test_of_not_zero v other)
-          (let changed = ap (λ l. entry_at l j) set_is in let new = entry_at-set es k v j f.within in let old = was j in let now = ap (λ p. cond (nat_eq p j) v (pos 0)) f.at_place in let sum = both (nat_eq place j) in omega (arith, ints))
+          (let changed = ap (λ l. entry_at l j) set_is in let new = entry_at-set es k v j f.within in let old = was j in
+          let now = ap (λ p. cond (nat_eq p j) v (pos 0)) f.at_place in let sum = both (nat_eq place j) in omega (arith, ints))
     ]
       where
         nothing : (b : Bool) → cond b (pos 0) (pos 0) ≡ pos 0

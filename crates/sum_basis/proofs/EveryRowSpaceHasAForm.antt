@@ -39,7 +39,8 @@ grow n form v p h e = go (list_all is_zero u) refl
       echelon = h;
       within = one_more_all v form form (own form);
       has_row =
-          span_unreduced form form v (own form) leads (in_span_from form u (spans_same form (λ j. pos 0) (number_at u) (λ j. sym (all_zeros_at u j zero_row)) (spans_zero form)));
+          span_unreduced form form v (own form) leads (in_span_from form u (spans_same form (λ j. pos 0) (number_at u) (λ j. sym (all_zeros_at u j zero_row))
+          (spans_zero form)));
       has_form = own form;
     }
     go false some =
@@ -48,7 +49,8 @@ grow n form v p h e = go (list_all is_zero u) refl
         let zeros = still_zero_at form u new made.1 made.2 made.3 (reduced_zeros form v h) in
         let rest = cleared_all n new form made.4 p zeros in
         let rows = rest.0 in
-        let new_within : InSpan (v ∷ form) new = span_line (v ∷ form) made.1 new made.2 (subst (InSpan (v ∷ form)) made.3 (span_reduced (v ∷ form) form v (one_more_all v form form (own form)) (first_own v form))) in
+        let new_within : InSpan (v ∷ form) new = span_line (v ∷ form) made.1 new made.2
+        (subst (InSpan (v ∷ form)) made.3 (span_reduced (v ∷ form) form v (one_more_all v form form (own form)) (first_own v form))) in
         let result = placed new rows in
         let inside = parts_placed (InSpan result) new rows (own result) in
         let has_form = spans_back result n new form rows rest.1 inside.0 inside.1 in
@@ -56,9 +58,11 @@ grow n form v p h e = go (list_all is_zero u) refl
           grown = result;
           primitive = all_placed (IsPrimitive n) new rows made.4 (primitives n new form rows rest.1);
           echelon =
-              placed_echelon new rows (still_echelon n new form rows rest.1 zeros h) (leads_from n rows (primitives n new form rows rest.1)) (still_zero n new form rows rest.1 zeros) (zeros_there n new form rows rest.1);
+              placed_echelon new rows (still_echelon n new form rows rest.1 zeros h) (leads_from n rows (primitives n new form rows rest.1))
+              (still_zero n new form rows rest.1 zeros) (zeros_there n new form rows rest.1);
           within =
-              all_placed (InSpan (v ∷ form)) new rows new_within (spans_there (v ∷ form) n new form rows rest.1 new_within (one_more_all v form form (own form)));
+              all_placed (InSpan (v ∷ form)) new rows new_within
+              (spans_there (v ∷ form) n new form rows rest.1 new_within (one_more_all v form form (own form)));
           has_row = span_unreduced result form v has_form leads (subst (InSpan result) (sym made.3) (span_times result made.1 new inside.0));
           has_form = has_form;
         }

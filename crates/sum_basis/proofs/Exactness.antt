@@ -53,7 +53,8 @@ pub stands_for : (old new : Echelon) (rows : List ℕ) (grown : Grown) → Grows
     Reduced old.n sets old.rows → GrowsFor sets rows old grown new
 stands_for old new rows Same g sets r =
     subst (λ (e : Echelon). Reduced e.n (sets ++ rows ∷ []) e.rows) (sym g.1)
-    (more_sets old.n sets rows old.rows (span_keeps_form old.n (map (set_row old.n) sets) old.rows (set_row old.n rows) r (span_trans (map (set_row old.n) sets) old.rows (set_row old.n rows) r.within g.0)))
+    (more_sets old.n sets rows old.rows (span_keeps_form old.n (map (set_row old.n) sets) old.rows (set_row old.n rows) r
+    (span_trans (map (set_row old.n) sets) old.rows (set_row old.n rows) r.within g.0)))
 stands_for old new rows Added g sets r =
     subst (λ n. Reduced n (sets ++ rows ∷ []) new.rows) (sym g.1.n)
     (more_sets old.n sets rows new.rows (of_rows old.n (map (set_row old.n) sets) old.rows new.rows (set_row old.n rows) r g.1.reduced))

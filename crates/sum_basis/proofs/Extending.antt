@@ -32,7 +32,8 @@ module _ (old : Echelon) (v left : List ℤ) (f : IsSmallForm old.n old.rows) (r
         there = span_line (old.rows ++ v ∷ []) line.by made line.not_zero (subst (InSpan (old.rows ++ v ∷ [])) line.line
             (span_to_left old.rows v left rest.0 rest.1 rest.2 (old.rows ++ v ∷ []) with_v.0 with_v.1));
         back =
-            span_from_left old.rows v left rest.0 rest.1 rest.2 (old.rows ++ made ∷ []) with_made.0 (subst (InSpan (old.rows ++ made ∷ [])) (sym line.line) (span_times (old.rows ++ made ∷ []) line.by made with_made.1));
+            span_from_left old.rows v left rest.0 rest.1 rest.2 (old.rows ++ made ∷ []) with_made.0
+            (subst (InSpan (old.rows ++ made ∷ [])) (sym line.line) (span_times (old.rows ++ made ∷ []) line.by made with_made.1));
       }
 
 -- the form with the new row is the form with the row of the set

@@ -59,10 +59,16 @@ led (c ∷ cs) (row ∷ rows) echelon leads =
     elim (zero_or_not c) [
       | inl none ↦
           let same : (j : ℕ) → combined cs rows j ≡ combined (c ∷ cs) (row ∷ rows) j = λ j.
-          sym (ap (λ z. z *ℤ number_at row j +ℤ combined cs rows j) none ∙ ap (λ z. z +ℤ combined cs rows j) (zero-*ℤ (number_at row j)) ∙ +ℤ_idl (combined cs rows j)) in
+          sym (ap (λ z. z *ℤ number_at row j +ℤ combined cs rows j) none ∙ ap (λ z. z +ℤ combined cs rows j) (zero-*ℤ (number_at row j))
+          ∙ +ℤ_idl (combined cs rows j)) in
           elim (led cs rows echelon.1 leads.1) [
             | inl z ↦ inl (λ j. sym (same j) ∙ z j)
-            | inr l ↦ inr (record { row = l.row; among = inr l.among; before = λ j h. sym (same j) ∙ l.before j h; here = λ z. l.here (same (pivot l.row) ∙ z) })
+            | inr l ↦ inr (record {
+              row = l.row;
+              among = inr l.among;
+              before = λ j h. sym (same j) ∙ l.before j h;
+              here = λ z. l.here (same (pivot l.row) ∙ z);
+            })
           ]
       | inr some ↦ inr (record {
         row = row;
@@ -71,7 +77,8 @@ led (c ∷ cs) (row ∷ rows) echelon leads =
             λ j h. ap (λ z. c *ℤ z +ℤ combined cs rows j) (zero_before row j h) ∙ ap (λ z. z +ℤ combined cs rows j) (*ℤ-zero c) ∙ +ℤ_idl (combined cs rows j)
             ∙ combined_zero cs rows j (all_zero_before row rows j h echelon.0);
         here = λ z. some (zero_factor c (pivot_entry row)
-            (sym (ap (λ y. c *ℤ pivot_entry row +ℤ y) (combined_zero cs rows (pivot row) (later_zero row rows echelon.0)) ∙ +ℤ_idr (c *ℤ pivot_entry row)) ∙ z) leads.0);
+            (sym (ap (λ y. c *ℤ pivot_entry row +ℤ y) (combined_zero cs rows (pivot row) (later_zero row rows echelon.0)) ∙ +ℤ_idr (c *ℤ pivot_entry row))
+            ∙ z) leads.0);
       })
     ]
 
@@ -187,8 +194,10 @@ on_one_line rows others alike f g p q same j =
               ap (λ z. pivot_entry g *ℤ z +ℤ neg_ℤ (pivot_entry f) *ℤ number_at g (pivot h)) first
               ∙ ap (λ z. pivot_entry g *ℤ pivot_entry f +ℤ neg_ℤ (pivot_entry f) *ℤ z) second ∙ omega (arith, ints)
           | inr n ↦
-              let hit = pivot_among rows h alike.echelon alike.leads (in_span_at rows others h alike.others_within r) (leads_above others h alike.others_leads r) in
-              let first : number_at f (pivot h) ≡ pos 0 = ap (number_at f) hit.2 ∙ zero_at_others rows f hit.0 alike.echelon p hit.1 (λ e. n (hit.2 ∙ sym e ∙ same)) in
+              let hit = pivot_among rows h alike.echelon alike.leads (in_span_at rows others h alike.others_within r)
+              (leads_above others h alike.others_leads r) in
+              let first : number_at f (pivot h) ≡ pos 0 = ap (number_at f) hit.2
+              ∙ zero_at_others rows f hit.0 alike.echelon p hit.1 (λ e. n (hit.2 ∙ sym e ∙ same)) in
               let second : number_at g (pivot h) ≡ pos 0 = zero_at_others others g h alike.others_echelon q r (λ e. n (sym e)) in
               ap (λ z. pivot_entry g *ℤ z +ℤ neg_ℤ (pivot_entry f) *ℤ number_at g (pivot h)) first
               ∙ ap (λ z. pivot_entry g *ℤ pos 0 +ℤ neg_ℤ (pivot_entry f) *ℤ z) second
@@ -213,7 +222,8 @@ row_of_other n rows others alike p q f among =
     let own_f = primitive_at n rows f p among in
     let hit = pivot_among others f alike.others_echelon alike.others_leads (in_span_at others rows f alike.within among) own_f.leading in
     let own_g = primitive_at n others hit.0 q hit.1 in
-    let same = one_primitive (pivot_entry hit.0) (pivot_entry f) f hit.0 own_g.leading own_f.leading (own_f.one_each ∙ sym own_g.one_each) own_f.content own_g.content
+    let same = one_primitive (pivot_entry hit.0) (pivot_entry f) f hit.0 own_g.leading own_f.leading
+    (own_f.one_each ∙ sym own_g.one_each) own_f.content own_g.content
     (on_one_line rows others alike f hit.0 among hit.1 hit.2) in
     subst (λ x. IsRowOf x others) (sym same) hit.1
 
@@ -249,7 +259,14 @@ same_list (f ∷ rows) (g ∷ others) e h into back =
 -- two forms that are alike, the other way round
 turned_round : (rows others : List (List ℤ)) → AreAlike rows others → AreAlike others rows
 turned_round rows others a =
-    record { echelon = a.others_echelon; leads = a.others_leads; others_echelon = a.echelon; others_leads = a.leads; within = a.others_within; others_within = a.within }
+    record {
+      echelon = a.others_echelon;
+      leads = a.others_leads;
+      others_echelon = a.echelon;
+      others_leads = a.leads;
+      within = a.others_within;
+      others_within = a.within;
+    }
 
 -- a row space has at most one reduced form
 pub forms_are_unique : FormsAreUnique

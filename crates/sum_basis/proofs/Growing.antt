@@ -22,7 +22,8 @@ placed_is_reduced n form cleared new p h q z all =
     record {
       primitive = all_placed (IsPrimitive n) new cleared q (primitives n new form cleared all);
       echelon =
-          placed_echelon new cleared (still_echelon n new form cleared all z h) (leads_from n cleared (primitives n new form cleared all)) (still_zero n new form cleared all z) (zeros_there n new form cleared all);
+          placed_echelon new cleared (still_echelon n new form cleared all z h) (leads_from n cleared (primitives n new form cleared all))
+          (still_zero n new form cleared all z) (zeros_there n new form cleared all);
       within = all_placed (InSpan rows) new cleared parts.1 (spans_there rows n new form cleared all parts.1 parts.0);
       spans = all-push (InSpan (placed new cleared)) form new (spans_back (placed new cleared) n new form cleared all inside.0 inside.1) inside.0;
     }

@@ -50,7 +50,8 @@ kept_new n entries r is_new e bounded room =
     record {
       listed = listed;
       leading =
-          subst (λ z. pos 0 <ℤ z) (ap (λ l. pivot_entry (row_of n l)) e ∙ pivot_entry-row_of 0 n (record { place = r.pivot; value = r.head }) r.free.items listed) is_new.primitive.leading;
+          subst (λ z. pos 0 <ℤ z) (ap (λ l. pivot_entry (row_of n l)) e
+          ∙ pivot_entry-row_of 0 n (record { place = r.pivot; value = r.head }) r.free.items listed) is_new.primitive.leading;
       bounded = bounded;
       room = room;
     }
@@ -72,7 +73,8 @@ later n (r ∷ rows) (suc k) at kept h l = later n rows k at kept.1 (λ d m. h d
 -- the cleared rows with the new one are the reduced form
 pub inserted_is_reduced : (n : ℕ) (old made : List SparseRow) (entries : List FreeEntry) (r : SparseRow) (k : ℕ) → IsSmallForm n (rows_of n old)
     → IsNew n entries → IsZeroAtPivots (rows_of n old) (row_of n entries) → AllByRecursion (IsKept n) made
-    → AreCleared n (row_of n entries) (rows_of n old) (rows_of n made) → entries ≡ entries_of r → IsKept n r → AllByRecursion (λ x. x.pivot ≤ r.pivot) (take k made) → ((d : SparseRow) → k < length made → r.pivot < (get_or made k d).pivot)
+    → AreCleared n (row_of n entries) (rows_of n old) (rows_of n made) → entries ≡ entries_of r → IsKept n r →
+    AllByRecursion (λ x. x.pivot ≤ r.pivot) (take k made) → ((d : SparseRow) → k < length made → r.pivot < (get_or made k d).pivot)
     → IsReducedForm n (rows_of n old ++ row_of n entries ∷ []) (rows_of n (insert made k r))
 inserted_is_reduced n old made entries r k f is_new z kept cleared e kept_r before after =
     subst (IsReducedForm n (rows_of n old ++ row_of n entries ∷ [])) whole

@@ -113,7 +113,8 @@ some_entry n (e ∷ list) p h = omega arith
 -- what is told of the list holds of the row, for the form as it is seen
 pub told : (seen : Echelon) (n : ℕ) (rows items : List SparseRow) (new list : List FreeEntry) (v : List ℤ) (p : Prospect) (room : ℕ)
     → record { n = n; rows = rows_of n items } ≡ seen → rows ≡ items → new ≡ list
-    → Foresees (record { n = n; rows = rows_of n rows }) (row_of n new) p → IsNew seen.n list × IsNewRow seen v (row_of seen.n list) × (seen.n ≤ room) → Foresees seen v p
+    → Foresees (record { n = n; rows = rows_of n rows }) (row_of n new) p → IsNew seen.n list × IsNewRow seen v (row_of seen.n list) × (seen.n ≤ room) →
+    Foresees seen v p
 told seen n rows items new list v p room view e f h left =
     let here = subst (λ (r : List SparseRow). Foresees (record { n = n; rows = rows_of n r }) (row_of n new) p) e h in
     let there = subst (λ (l : List FreeEntry). Foresees (record { n = n; rows = rows_of n items }) (row_of n l) p) f here in
@@ -147,7 +148,8 @@ told_of_list seen n rows items new list p view e f h =
 -- the rows once the row has joined
 pub after_growth : (seen : Echelon) (n : ℕ) (items before grown : List SparseRow) (list : List FreeEntry) → record { n = n; rows = rows_of n items } ≡ seen
     → before ≡ items
-    → ¬ (GrowsWide seen (row_of seen.n list)) → IsReducedForm n (rows_of n before ++ row_of n list ∷ []) (rows_of n grown) → AllByRecursion (IsKept n) grown → IsJoined n grown
+    → ¬ (GrowsWide seen (row_of seen.n list)) → IsReducedForm n (rows_of n before ++ row_of n list ∷ []) (rows_of n grown) → AllByRecursion (IsKept n) grown →
+    IsJoined n grown
 after_growth seen n items before grown list view g other reduced kept =
     joined n (rows_of n items) (row_of n list) grown (subst (λ (s : Echelon). ¬ (GrowsWide s (row_of s.n list))) (sym view) other)
     (subst (λ (r : List SparseRow). IsReducedForm n (rows_of n r ++ row_of n list ∷ []) (rows_of n grown)) g reduced) kept

@@ -83,12 +83,14 @@ module _ (n : ℕ) (rows : List SparseRow) (seen : Echelon) (view_is : record { 
   pub free_list : IsEchelon seen.rows → IsFreeList seen.n seen.rows (get_or seen.rows k []) r.free.items
   free_list echelon = record {
     listed =
-        subst (λ (m : ℕ). IsListed 0 m r.free.items) (ap (λ (e : Echelon). e.n) view_is) (listed_from (r.pivot + 1) 0 n r.free.items (omega arith) kept_row.listed.3);
+        subst (λ (m : ℕ). IsListed 0 m r.free.items) (ap (λ (e : Echelon). e.n) view_is)
+        (listed_from (r.pivot + 1) 0 n r.free.items (omega arith) kept_row.listed.3);
     free =
         each_entry (λ (e : FreeEntry). AllByRecursion (λ other. pivot other ≢ e.place) seen.rows) (r.pivot + 1) n r.free.items
         (number_at (get_or seen.rows k [])) kept_row.listed.3 (λ j l. free_seen j (λ same. omega arith))
         (λ e l some same. each_row (λ other. pivot other ≢ e.place) seen.rows seen.rows (λ g m. m) (λ other among at.
-        some (sym same ∙ ap (number_at (get_or seen.rows k [])) (sym at) ∙ zero_at_others seen.rows (get_or seen.rows k []) other echelon (row_among seen.rows k h) among (λ both. let mine = pivot_seen in omega arith))));
+        some (sym same ∙ ap (number_at (get_or seen.rows k [])) (sym at)
+        ∙ zero_at_others seen.rows (get_or seen.rows k []) other echelon (row_among seen.rows k h) among (λ both. let mine = pivot_seen in omega arith))));
     is = λ j apart. free_seen j (λ same. All-from_recursion (λ other. pivot other ≢ j) seen.rows apart k [] h (sym (same ∙ pivot_seen)));
   }
 

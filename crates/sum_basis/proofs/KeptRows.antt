@@ -54,7 +54,8 @@ lone_list n e (f ∷ es) h = (
       let first = elsewhere e f.place (λ same. omega arith) in
       let at = first_value (e.place + 1) n f es h.3 in
       let sum : entry_at (e ∷ f ∷ es) f.place ≡ f.value = omega (arith, ints) in
-      absurd (h.3.2 (sym sum ∙ sym (number_at-row_of 0 n (e ∷ f ∷ es) h f.place) ∙ lone f.place (λ same. let p = pivot-row_of 0 n e (f ∷ es) h in omega arith))),
+      absurd (h.3.2 (sym sum ∙ sym (number_at-row_of 0 n (e ∷ f ∷ es) h f.place)
+      ∙ lone f.place (λ same. let p = pivot-row_of 0 n e (f ∷ es) h in omega arith))),
 )
 
 -- the same, by the length that is kept with the list

@@ -87,7 +87,8 @@ pub passes : (rows : List (List ℤ)) (k m limit : ℕ) → AllByRecursion (λ r
     IsLeastCommonMultiple (pivot_entries (take k rows)) m → limit < m → (all : ℕ) × IsLeastCommonMultiple (pivot_entries rows) all × (limit < all)
 passes rows k m limit leading first more =
     let all = least_exists (pivot_entries rows) (entries_positive rows leading) in
-    let divides : m ∣ all.0 = first.least all.0 (subst (AllByRecursion (λ x. x ∣ all.0)) (sym (pivot_entries-take rows k)) (all-take (λ x. x ∣ all.0) k (pivot_entries rows) all.2.multiple)) in
+    let divides : m ∣ all.0 = first.least all.0 (subst (AllByRecursion (λ x. x ∣ all.0)) (sym (pivot_entries-take rows k))
+    (all-take (λ x. x ∣ all.0) k (pivot_entries rows) all.2.multiple)) in
     let most = le_of_dvd all.1 divides in
     (all.0, all.2, omega arith)
 
@@ -100,7 +101,8 @@ pub one_more_head : (rows : List SparseRow) (k : ℕ) (r : SparseRow) (m n : ℕ
     IsLeastCommonMultiple (heads (take k rows)) m → IsLeastCommonMultiple (m ∷ unsigned_abs r.head ∷ []) n → IsLeastCommonMultiple (heads (take (k + 1) rows)) n
 one_more_head rows k r m n h is first both =
     rw (take_more rows k r h, map-append (λ (x : SparseRow). unsigned_abs x.head) (take k rows) (get_or rows k r ∷ []))
-    (least-push (heads (take k rows)) (unsigned_abs (get_or rows k r).head) m n first (subst (λ (x : SparseRow). IsLeastCommonMultiple (m ∷ unsigned_abs x.head ∷ []) n) is both))
+    (least-push (heads (take k rows)) (unsigned_abs (get_or rows k r).head) m n first
+    (subst (λ (x : SparseRow). IsLeastCommonMultiple (m ∷ unsigned_abs x.head ∷ []) n) is both))
 
 -- they are above 0
 pub heads_positive : (rows : List SparseRow) → AllByRecursion (λ r. (pos 0 <ℤ r.head) × (unsigned_abs r.head ≤ 2 ^ 56)) rows →

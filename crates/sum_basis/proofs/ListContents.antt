@@ -127,5 +127,6 @@ over_content by old_head head old es p content e f = record {
   head_is = e;
   entries_are = f;
   content =
-      content_one by (head ∷ values es) (positive_not_zero by p) (subst (λ l. IsContent l (unsigned_abs by)) (ap (λ x. x ∷ values old) e ∙ ap (λ l. (by *ℤ head) ∷ l) (ap values f ∙ values-scaled by es)) content);
+      content_one by (head ∷ values es) (positive_not_zero by p)
+      (subst (λ l. IsContent l (unsigned_abs by)) (ap (λ x. x ∷ values old) e ∙ ap (λ l. (by *ℤ head) ∷ l) (ap values f ∙ values-scaled by es)) content);
 }

@@ -48,8 +48,10 @@ module _ (n : ℕ) (new : List FreeEntry) (is_new : IsNew n new) (one : length n
 
       at : (j : ℕ) → unsigned_abs v ∣ unsigned_abs (number_at (row_of n new) j)
       at j = elim (cases_eq j (get_or new 0 none).place) [
-        | inl same ↦ subst (λ z. unsigned_abs v ∣ unsigned_abs z) (sym (ap (number_at (row_of n new)) (same ∙ sym led.at_pivot) ∙ led.pivot_entry_is)) (dvd_refl (unsigned_abs v))
-        | inr other ↦ subst (λ z. unsigned_abs v ∣ unsigned_abs z) (sym (number_at-row_of 0 n new is_new.listed j ∙ elsewhere_nothing new j one other)) (dvd-zero (unsigned_abs v))
+        | inl same ↦ subst (λ z. unsigned_abs v ∣ unsigned_abs z) (sym (ap (number_at (row_of n new)) (same ∙ sym led.at_pivot) ∙ led.pivot_entry_is))
+            (dvd_refl (unsigned_abs v))
+        | inr other ↦ subst (λ z. unsigned_abs v ∣ unsigned_abs z) (sym (number_at-row_of 0 n new is_new.listed j ∙ elsewhere_nothing new j one other))
+            (dvd-zero (unsigned_abs v))
       ]
 
   -- a row that it clears is small

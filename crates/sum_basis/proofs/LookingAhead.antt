@@ -62,19 +62,23 @@ some_push (r ∷ rows) row (inl (inr some)) = inr (some_push rows row (inl some)
 some_push (r ∷ rows) row (inr is) = inr (some_push rows row (inr is))
 
 -- one row more was looked at
-pub one_more_looked : (n : ℕ) (form : List (List ℤ)) (new : List ℤ) (k : ℕ) (common : ℤ) (fixing : Bool) (row : List ℤ) (m : ℕ) (multiple : ℤ) (lone also : Bool)
+pub one_more_looked : (n : ℕ) (form : List (List ℤ)) (new : List ℤ) (k : ℕ) (common : ℤ) (fixing : Bool) (row : List ℤ) (m : ℕ) (multiple : ℤ)
+    (lone also : Bool)
     → k < length form → IsLooked n form new k common fixing
-    → IsPrimitive n row → IsCleared n new (get_or form k []) row → IsSmall row → IsLeastCommonMultiple (unsigned_abs common ∷ unsigned_abs (pivot_entry row) ∷ []) m → multiple ≡ pos m → m ≤ 2 ^ 56 → IsTrue lone ↔ IsLone row
+    → IsPrimitive n row → IsCleared n new (get_or form k []) row → IsSmall row →
+    IsLeastCommonMultiple (unsigned_abs common ∷ unsigned_abs (pivot_entry row) ∷ []) m → multiple ≡ pos m → m ≤ 2 ^ 56 → IsTrue lone ↔ IsLone row
     → IsTrue also ↔ (IsTrue fixing ⊎ IsTrue lone) → IsLooked n form new (k + 1) multiple also
 one_more_looked n form new k common fixing row m multiple lone also h l p is small least e within one both = record {
   made = l.made ++ row ∷ [];
   clears = one_more_cleared n new form l.made k row h l.clears is small;
   positive =
-      let above = least_positive (unsigned_abs common) (unsigned_abs (pivot_entry row)) m (size_positive common l.positive) (size_positive (pivot_entry row) p.leading) least in
+      let above = least_positive (unsigned_abs common) (unsigned_abs (pivot_entry row)) m (size_positive common l.positive)
+      (size_positive (pivot_entry row) p.leading) least in
       omega (arith, ints);
   within = rw e within;
   multiple =
-      rw (e, pivot_entries-push (new ∷ l.made) row) (least-push (pivot_entries (new ∷ l.made)) (unsigned_abs (pivot_entry row)) (unsigned_abs common) m l.multiple least);
+      rw (e, pivot_entries-push (new ∷ l.made) row) (least-push (pivot_entries (new ∷ l.made)) (unsigned_abs (pivot_entry row))
+      (unsigned_abs common) m l.multiple least);
   lone =
       λ yes. elim (both.0 yes) [ inl before ↦ some_push (new ∷ l.made) row (inl (l.lone before)) | inr here ↦ some_push (new ∷ l.made) row (inr (one.0 here)) ];
   none = λ no. all-push (λ r. ¬ (IsLone r)) (new ∷ l.made) row (l.none (λ before. no (both.1 (inl before)))) (λ here. no (both.1 (inr (one.1 here))));
@@ -112,7 +116,8 @@ one_more_glanced n form new k fixing row lone also h g is small one both = recor
   made = g.made ++ row ∷ [];
   clears = one_more_cleared n new form g.made k row h g.clears is small;
   divides = λ m all. all-push (λ r. unsigned_abs (pivot_entry r) ∣ (unsigned_abs (pivot_entry new) * m)) (new ∷ g.made) row (g.divides m all)
-      (dvd_trans (unsigned_abs (pivot_entry row)) is.head (mul-dvd-mul_left (unsigned_abs (pivot_entry (get_or form k []))) (unsigned_abs (pivot_entry new)) (All-from_recursion (λ r. unsigned_abs (pivot_entry r) ∣ m) form (all-unmap (λ r. unsigned_abs (pivot_entry r)) (λ x. x ∣ m) form all) k [] h)));
+      (dvd_trans (unsigned_abs (pivot_entry row)) is.head (mul-dvd-mul_left (unsigned_abs (pivot_entry (get_or form k []))) (unsigned_abs (pivot_entry new))
+      (All-from_recursion (λ r. unsigned_abs (pivot_entry r) ∣ m) form (all-unmap (λ r. unsigned_abs (pivot_entry r)) (λ x. x ∣ m) form all) k [] h)));
   lone =
       λ yes. elim (both.0 yes) [ inl before ↦ some_push (new ∷ g.made) row (inl (g.lone before)) | inr here ↦ some_push (new ∷ g.made) row (inr (one.0 here)) ];
   none = λ no. all-push (λ r. ¬ (IsLone r)) (new ∷ g.made) row (g.none (λ before. no (both.1 (inl before)))) (λ here. no (both.1 (inr (one.1 here))));
@@ -136,7 +141,10 @@ glanced_at_once n form new made cleared small lone = record {
   made = made;
   clears = record { cleared = rw (take-length form) cleared; small = small };
   divides =
-      λ m all. (dvd-mul_right (unsigned_abs (pivot_entry new)) m, heads_divide n new form made m cleared (all-unmap (λ r. unsigned_abs (pivot_entry r)) (λ x. x ∣ m) form all));
+      λ m all. (
+        dvd-mul_right (unsigned_abs (pivot_entry new)) m,
+        heads_divide n new form made m cleared (all-unmap (λ r. unsigned_abs (pivot_entry r)) (λ x. x ∣ m) form all),
+      );
   lone = λ yes. inl lone;
   none = λ no. absurd (no refl);
 }
@@ -148,7 +156,8 @@ pub glanced_is_looked : (n : ℕ) (form : List (List ℤ)) (new : List ℤ) (k m
 glanced_is_looked n form new k m fixing p some all within g =
     let rows = primitives n new (take k form) g.made g.clears.cleared in
     let least = least_exists (pivot_entries (new ∷ g.made)) (entries_positive (new ∷ g.made) (leads_from n (new ∷ g.made) (p, rows))) in
-    let divides = least.2.least (unsigned_abs (pivot_entry new) * m) (all-map (λ r. unsigned_abs (pivot_entry r)) (λ x. x ∣ (unsigned_abs) (pivot_entry new) * m) (new ∷ g.made) (g.divides m all)) in
+    let divides = least.2.least (unsigned_abs (pivot_entry new) * m)
+    (all-map (λ r. unsigned_abs (pivot_entry r)) (λ x. x ∣ (unsigned_abs) (pivot_entry new) * m) (new ∷ g.made) (g.divides m all)) in
     let above : 0 < unsigned_abs (pivot_entry new) * m = mul-pos (size_positive (pivot_entry new) p.leading) some in
     let most = le_of_dvd above divides in
     let positive = least.1 in (
@@ -184,7 +193,8 @@ module _ (form : Echelon) (new : List ℤ) (f : IsSmallForm form.n form.rows) (p
         λ narrow.
             let least_of = least_exists (pivot_entries grown) (entries_positive grown (leads_from form.n grown reduced.primitive)) in
             let same = least_unique (pivot_entries grown) narrow.common least_of.0 narrow.common_is least_of.2 in
-            let each = parts_placed (λ r. unsigned_abs (pivot_entry r) ∣ least_of.0) new all (all-unmap (λ r. unsigned_abs (pivot_entry r)) (λ x. x ∣ least_of.0) grown least_of.2.multiple) in
+            let each = parts_placed (λ r. unsigned_abs (pivot_entry r) ∣ least_of.0) new all
+            (all-unmap (λ r. unsigned_abs (pivot_entry r)) (λ x. x ∣ least_of.0) grown least_of.2.multiple) in
             let parts = all_before (λ r. unsigned_abs (pivot_entry r) ∣ least_of.0) l.made rest.0 row each.1 in
             let first = l.multiple.least least_of.0 (each.0, all-map (λ r. unsigned_abs (pivot_entry r)) (λ x. x ∣ least_of.0) l.made parts.0) in
             let most = le_of_dvd least_of.1 (least.least least_of.0 (first, (parts.1, tt))) in
@@ -209,9 +219,13 @@ module _ (form : Echelon) (new : List ℤ) (f : IsSmallForm form.n form.rows) (p
     least : IsLeastCommonMultiple (pivot_entries grown) (unsigned_abs common)
     least = record {
       multiple =
-          all-map (λ r. unsigned_abs (pivot_entry r)) (λ x. x ∣ (unsigned_abs) common) grown (all_placed (λ r. unsigned_abs (pivot_entry r) ∣ unsigned_abs common) new l.made l.multiple.multiple.0 (all-unmap (λ r. unsigned_abs (pivot_entry r)) (λ x. x ∣ (unsigned_abs) common) l.made l.multiple.multiple.1));
+          all-map (λ r. unsigned_abs (pivot_entry r)) (λ x. x ∣ (unsigned_abs) common) grown
+          (all_placed (λ r. unsigned_abs (pivot_entry r) ∣ unsigned_abs common) new l.made l.multiple.multiple.0
+          (all-unmap (λ r. unsigned_abs (pivot_entry r)) (λ x. x ∣ (unsigned_abs) common) l.made l.multiple.multiple.1));
       least =
-          λ m all. let parts = parts_placed (λ r. unsigned_abs (pivot_entry r) ∣ m) new l.made (all-unmap (λ r. unsigned_abs (pivot_entry r)) (λ x. x ∣ m) grown all) in l.multiple.least m (parts.0, all-map (λ r. unsigned_abs (pivot_entry r)) (λ x. x ∣ m) l.made parts.1);
+          λ m all. let parts = parts_placed (λ r. unsigned_abs (pivot_entry r) ∣ m) new l.made
+          (all-unmap (λ r. unsigned_abs (pivot_entry r)) (λ x. x ∣ m) grown all) in
+          l.multiple.least m (parts.0, all-map (λ r. unsigned_abs (pivot_entry r)) (λ x. x ∣ m) l.made parts.1);
     }
 
     abbrev pub foreseen : Echelon
@@ -238,4 +252,5 @@ module _ (form : Echelon) (new : List ℤ) (f : IsSmallForm form.n form.rows) (p
     looked_open denied unit =
         let none = l.none denied in
         let all = all_placed (λ r. ¬ (IsLone r)) new l.made none.0 none.1 in
-        no_unit foreseen (length grown) small_form (omega arith) (record { none = all-take (λ r. ¬ (IsLone r)) (length grown) grown all }) unit.0 unit.1.0 unit.1.1
+        no_unit foreseen (length grown) small_form (omega arith)
+        (record { none = all-take (λ r. ¬ (IsLone r)) (length grown) grown all }) unit.0 unit.1.0 unit.1.1

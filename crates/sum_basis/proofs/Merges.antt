@@ -27,7 +27,8 @@ rest es place = cond (is_zero (first_value es place)) es (drop 1 es)
 rest_listed : (next n : ℕ) (es : List FreeEntry) (place : ℕ) → IsListed next n es → place ≤ first_place n es → IsListed (place + 1) n (rest es place)
 rest_listed next n [] place h le = tt
 rest_listed next n (e ∷ es) place h le = elim (cases_eq e.place place) [
-  | inl same ↦ subst (λ b. IsListed (place + 1) n (cond b (e ∷ es) es)) (sym (ap is_zero (here e place same) ∙ test_of_not_zero e.value h.2)) (subst (λ m. IsListed (m + 1) n es) same h.3)
+  | inl same ↦ subst (λ b. IsListed (place + 1) n (cond b (e ∷ es) es)) (sym (ap is_zero (here e place same) ∙ test_of_not_zero e.value h.2))
+      (subst (λ m. IsListed (m + 1) n es) same h.3)
   | inr other ↦ subst (λ b. IsListed (place + 1) n (cond b (e ∷ es) es)) (sym (ap is_zero (elsewhere e place other))) (omega arith, h.1, h.2, h.3)
 ]
 
@@ -142,7 +143,8 @@ module _ (n : ℕ) (by : ℤ) (first : List FreeEntry) (times : ℤ) (second out
     whole_listed = elim done [
       | inl one ↦
           subst (λ (l : List FreeEntry). IsListed 0 n ((out ++ map (scaled by) l) ++ map (scaled (neg_ℤ times)) (drop j second))) (sym (none_left first i one))
-          (rw (append-nil out) (listed_append 0 m.next n out (map (scaled (neg_ℤ times)) (drop j second)) m.next_within m.out_listed (scaled_listed (neg_ℤ times) m.next n (drop j second) (neg_not_zero times q) m.second_left) (omega arith)))
+          (rw (append-nil out) (listed_append 0 m.next n out (map (scaled (neg_ℤ times)) (drop j second)) m.next_within m.out_listed
+          (scaled_listed (neg_ℤ times) m.next n (drop j second) (neg_not_zero times q) m.second_left) (omega arith)))
       | inr other ↦
           subst (λ (l : List FreeEntry). IsListed 0 n ((out ++ map (scaled by) (drop i first)) ++ map (scaled (neg_ℤ times)) l))
           (sym (none_left second j other)) (rw (append-nil (out ++ map (scaled by) (drop i first))) part_listed)
@@ -178,7 +180,8 @@ module _ (n : ℕ) (by : ℤ) (first : List FreeEntry) (times : ℤ) (second out
     pub place_inside : place < n
     place_inside = elim (cases_lt i (length first)) [
       | inl some ↦ let here = first_inside m.next n (drop i first) (let all = length-drop i first in omega arith) m.first_left in omega arith
-      | inr none ↦ let here = first_inside m.next n (drop j second) (let all = length-drop j second in let p = m.first_within in omega arith) m.second_left in omega arith
+      | inr none ↦ let here = first_inside m.next n (drop j second) (let all = length-drop j second in let p = m.first_within in omega arith) m.second_left in
+          omega arith
     ]
 
     -- after those that are done
@@ -240,8 +243,10 @@ module _ (n : ℕ) (by : ℤ) (first : List FreeEntry) (times : ℤ) (second out
             let before = m.is k in
             let out_at = grown k in
             let value_at = here_value (nat_eq place k) in
-            let first_at = ap (λ z. by *ℤ z) (rest_entry m.next n (drop i first) place m.first_left l1 k) ∙ times-add by (cond (nat_eq place k) x (pos 0)) (entry_at (cond (is_zero x) (drop i first) (drop 1 (drop i first))) k) in
-            let second_at = ap (λ z. times *ℤ z) (rest_entry m.next n (drop j second) place m.second_left l2 k) ∙ times-add times (cond (nat_eq place k) y (pos 0)) (entry_at (cond (is_zero y) (drop j second) (drop 1 (drop j second))) k) in
+            let first_at = ap (λ z. by *ℤ z) (rest_entry m.next n (drop i first) place m.first_left l1 k)
+            ∙ times-add by (cond (nat_eq place k) x (pos 0)) (entry_at (cond (is_zero x) (drop i first) (drop 1 (drop i first))) k) in
+            let second_at = ap (λ z. times *ℤ z) (rest_entry m.next n (drop j second) place m.second_left l2 k)
+            ∙ times-add times (cond (nat_eq place k) y (pos 0)) (entry_at (cond (is_zero y) (drop j second) (drop 1 (drop j second))) k) in
             let first_rest = ap (λ l. by *ℤ entry_at l k) (rest_drop first i (is_zero x)) in
             let second_rest = ap (λ l. times *ℤ entry_at l k) (rest_drop second j (is_zero y)) in
             omega (arith, ints)
@@ -289,10 +294,12 @@ module _ (n : ℕ) (by : ℤ) (first : List FreeEntry) (times : ℤ) (second out
       let y = no_value second j q place (λ same. omega arith) in
       let at = place_is first i p n in
       let later = place_is second j q n in
-      let value : v ≡ by *ℤ first_value (drop i first) place -ℤ times *ℤ first_value (drop j second) place = is ∙ (let a = ap (λ z. by *ℤ z) x in let b = ap (λ z. times *ℤ z) y ∙ *ℤ-zero times in omega (arith, ints)) in
+      let value : v ≡ by *ℤ first_value (drop i first) place -ℤ times *ℤ first_value (drop j second) place = is
+      ∙ (let a = ap (λ z. by *ℤ z) x in let b = ap (λ z. times *ℤ z) y ∙ *ℤ-zero times in omega (arith, ints)) in
       let step = one_place_merged n by first times second out i j m place (omega arith) (omega arith) (omega arith) (inl (sym at)) v value in
       subst (λ (k : ℕ). IsMerging n by first times second (with_entry place v) k j) (on _ _ i x first_listed.2)
-      (subst (λ (k : ℕ). IsMerging n by first times second (with_entry place v) (cond (is_zero (first_value (drop i first) place)) i (i + 1)) k) (stays _ j y) step)
+      (subst (λ (k : ℕ). IsMerging n by first times second (with_entry place v) (cond (is_zero (first_value (drop i first) place)) i (i + 1)) k)
+      (stays _ j y) step)
 
   -- the first entry of the second list comes sooner
   pub second_merged : (v : ℤ) → (get_or second j none).place < (get_or first i none).place → v ≡ neg_ℤ times *ℤ (get_or second j none).value →
@@ -305,10 +312,12 @@ module _ (n : ℕ) (by : ℤ) (first : List FreeEntry) (times : ℤ) (second out
       let later = place_is first i p n in
       let value : v ≡ by *ℤ first_value (drop i first) place -ℤ times *ℤ first_value (drop j second) place =
       is
-      ∙ (let a = ap (λ z. by *ℤ z) x ∙ *ℤ-zero by in let b = ap (λ z. times *ℤ z) y in let minus = neg-times times (get_or second j none).value in omega (arith, ints)) in
+      ∙ (let a = ap (λ z. by *ℤ z) x ∙ *ℤ-zero by in let b = ap (λ z. times *ℤ z) y in let minus = neg-times times (get_or second j none).value in
+      omega (arith, ints)) in
       let step = one_place_merged n by first times second out i j m place (omega arith) (omega arith) (omega arith) (inr (sym at)) v value in
       subst (λ (k : ℕ). IsMerging n by first times second (with_entry place v) i k) (on _ _ j y second_listed.2)
-      (subst (λ (k : ℕ). IsMerging n by first times second (with_entry place v) k (cond (is_zero (first_value (drop j second) place)) j (j + 1))) (stays _ i x) step)
+      (subst (λ (k : ℕ). IsMerging n by first times second (with_entry place v) k (cond (is_zero (first_value (drop j second) place)) j (j + 1)))
+      (stays _ i x) step)
 
   -- both stand at one place
   pub both_merged : (v : ℤ) → (get_or first i none).place ≡ (get_or second j none).place →
@@ -320,10 +329,12 @@ module _ (n : ℕ) (by : ℤ) (first : List FreeEntry) (times : ℤ) (second out
       let y = value_is second j q place (sym same) in
       let at = place_is first i p n in
       let also = place_is second j q n in
-      let value : v ≡ by *ℤ first_value (drop i first) place -ℤ times *ℤ first_value (drop j second) place = is ∙ (let a = ap (λ z. by *ℤ z) x in let b = ap (λ z. times *ℤ z) y in omega (arith, ints)) in
+      let value : v ≡ by *ℤ first_value (drop i first) place -ℤ times *ℤ first_value (drop j second) place = is
+      ∙ (let a = ap (λ z. by *ℤ z) x in let b = ap (λ z. times *ℤ z) y in omega (arith, ints)) in
       let step = one_place_merged n by first times second out i j m place (omega arith) (omega arith) (omega arith) (inl (sym at)) v value in
       subst (λ (k : ℕ). IsMerging n by first times second (with_entry place v) k (j + 1)) (on _ _ i x first_listed.2)
-      (subst (λ (k : ℕ). IsMerging n by first times second (with_entry place v) (cond (is_zero (first_value (drop i first) place)) i (i + 1)) k) (on _ _ j y second_listed.2) step)
+      (subst (λ (k : ℕ). IsMerging n by first times second (with_entry place v) (cond (is_zero (first_value (drop i first) place)) i (i + 1)) k)
+      (on _ _ j y second_listed.2) step)
 
 -- the end of a list, as the code takes it
 pub end_is : (xs : List FreeEntry) (k : ℕ) → take (length xs - k) (drop k xs) ≡ drop k xs

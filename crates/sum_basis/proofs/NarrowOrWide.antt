@@ -32,7 +32,8 @@ narrow_or_not n rows form r =
       | inl small ↦
           let least = least_exists (pivot_entries form) (entries_positive form (leads_from n form r.primitive)) in
           elim (cases_lt (2 ^ 56) least.0) [
-            | inl more ↦ inr (λ narrow. let same = least_unique (pivot_entries form) narrow.common least.0 narrow.common_is least.2 in let within = narrow.common_small in omega arith)
+            | inl more ↦ inr (λ narrow. let same = least_unique (pivot_entries form) narrow.common least.0 narrow.common_is least.2 in
+                let within = narrow.common_small in omega arith)
             | inr within ↦ inl (record { entries = small; common = least.0; common_is = least.2; common_small = within })
           ]
     ]

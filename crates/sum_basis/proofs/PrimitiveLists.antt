@@ -93,12 +93,17 @@ module _ (old mid : List FreeEntry) (size head : ℤ) (over : IsOverContent size
 
     new_leads : pos 0 <ℤ (get_or new 0 none).value
     new_leads = positive_factor over.by (get_or new 0 none).value over.positive
-        (let first = first_is ∙ ap (λ z. over.by *ℤ z) mid_first ∙ *ℤ_comm over.by (neg_ℤ (get_or new 0 none).value) ∙ neg-times (get_or new 0 none).value over.by ∙ ap neg_ℤ (*ℤ_comm (get_or new 0 none).value over.by) in
+        (let first = first_is ∙ ap (λ z. over.by *ℤ z) mid_first ∙ *ℤ_comm over.by (neg_ℤ (get_or new 0 none).value)
+        ∙ neg-times (get_or new 0 none).value over.by ∙ ap neg_ℤ (*ℤ_comm (get_or new 0 none).value over.by) in
         let low = negative in omega (arith, ints))
 
     new_content : IsContent (values new) 1
     new_content =
-        record { divides = all-ones (values new); greatest = λ d all. values_content.greatest d (subst (λ l. AllByRecursion (λ x. d ∣ unsigned_abs x) (values l)) (sym is) (back d new all)) }
+        record {
+          divides = all-ones (values new);
+          greatest =
+              λ d all. values_content.greatest d (subst (λ l. AllByRecursion (λ x. d ∣ unsigned_abs x) (values l)) (sym is) (back d new all));
+        }
       where
         back : (d : ℕ) (es : List FreeEntry) → AllByRecursion (λ x. d ∣ unsigned_abs x) (values es) →
             AllByRecursion (λ x. d ∣ unsigned_abs x) (values (map (scaled (neg_ℤ (pos 1))) es))
@@ -128,7 +133,8 @@ module _ (n : ℕ) (row : List ℤ) (list made : List FreeEntry) (long : length 
     by = m.by;
     not_zero = m.not_zero;
     line = same_rows row (times m.by (row_of n made)) (long ∙ sym (length-map (row_of n made) (λ z. m.by *ℤ z) ∙ length-row_of n made))
-        (λ j. sym (is j) ∙ ap (λ xs. entry_at xs j) m.is_multiple ∙ entry_at-scaled m.by made j ∙ ap (λ z. m.by *ℤ z) (sym (number_at-row_of 0 n made made_listed j)) ∙ sym (number_at-times m.by (row_of n made) j));
+        (λ j. sym (is j) ∙ ap (λ xs. entry_at xs j) m.is_multiple ∙ entry_at-scaled m.by made j
+        ∙ ap (λ z. m.by *ℤ z) (sym (number_at-row_of 0 n made made_listed j)) ∙ sym (number_at-times m.by (row_of n made) j));
     primitive = record { one_each = length-row_of n made; content = content_of_row n made made_listed m.content; leading = leads made made_listed m.leading };
   }
     where

@@ -5,7 +5,7 @@ use Rattle.std.specs.List.{AllByRecursion}
 use Rattle.std.proofs.lemmas.Int.{ints}
 use Rattle.std.proofs.lemmas.List.{take_more}
 use Rattle.std.proofs.lemmas.List.Elements.{All-from_recursion}
-use Rattle.std.proofs.Math.IntN.{+ℤ_idr, *ℤ-zero}
+use Rattle.std.proofs.Math.IntN.{*ℤ-zero}
 use Rattle.audit_types.specs.Truth.{number_at}
 use Rattle.audit_types.specs.Form.{combined, IsEchelon, StandsBefore, pivot}
 use Rattle.audit_types.specs.ListLaws.{all-push}
@@ -51,7 +51,9 @@ pub as_it_was : (n : ℕ) (form : List (List ℤ)) (old new : List ℤ) (k : ℕ
     number_at new (pivot (get_or form k [])) ≡ number_at old (pivot (get_or form k []))
 as_it_was n form old new k h e part =
     let row = get_or form k [] in
-    let none = combined_front part.coefficients form (pivot row) (subst (λ m. AllByRecursion (λ r. number_at r (pivot row) ≡ pos 0) (take m form)) (sym part.count) (zero_at_later (take k form) row (stand_before form k h e))) in
+    let none = combined_front part.coefficients form (pivot row)
+    (subst (λ m. AllByRecursion (λ r. number_at r (pivot row) ≡ pos 0) (take m form)) (sym part.count)
+    (zero_at_later (take k form) row (stand_before form k h e))) in
     let is = part.is (pivot row) in
     omega (arith, ints)
 

@@ -25,7 +25,8 @@ use Rattle.std.proofs.Math.Nat.{mul-pos}
 pub span_combine : (rows : List (List ℤ)) (x : ℤ) (f : List ℤ) (y : ℤ) (g : List ℤ) → InSpan rows f → InSpan rows g → InSpan rows (combine x f y g)
 span_combine rows x f y g p q = in_span_from rows (combine x f y g)
     (spans_same rows (λ j. x *ℤ number_at f j +ℤ neg_ℤ y *ℤ number_at g j) (number_at (combine x f y g)) (λ j. sym (number_at-combine x f y g j))
-    (spans_add rows (λ j. x *ℤ number_at f j) (λ j. neg_ℤ y *ℤ number_at g j) (spans_times rows x (number_at f) (spans_from rows f p)) (spans_times rows (neg_ℤ y) (number_at g) (spans_from rows g q))))
+    (spans_add rows (λ j. x *ℤ number_at f j) (λ j. neg_ℤ y *ℤ number_at g j) (spans_times rows x (number_at f) (spans_from rows f p))
+    (spans_times rows (neg_ℤ y) (number_at g) (spans_from rows g q))))
 
 -- back from the combination to its first row
 pub span_uncombine : (rows : List (List ℤ)) (x : ℤ) (f : List ℤ) (y : ℤ) (g : List ℤ) → pos 0 <ℤ x → InSpan rows (combine x f y g) → InSpan rows g →
@@ -36,7 +37,8 @@ span_uncombine rows x f y g h p q =
     (spans_same rows (λ j. number_at (combine x f y g) j +ℤ y *ℤ number_at g j) (λ j. pos m.0 *ℤ number_at f j)
     (λ j. let c = number_at-combine x f y g j in let minus = neg-times y (number_at g j) in
     let left : number_at (combine x f y g) j +ℤ y *ℤ number_at g j ≡ x *ℤ number_at f j = omega (arith, ints) in left ∙ ap (λ z. z *ℤ number_at f j) m.1)
-    (spans_add rows (number_at (combine x f y g)) (λ j. y *ℤ number_at g j) (spans_from rows (combine x f y g) p) (spans_times rows y (number_at g) (spans_from rows g q)))))
+    (spans_add rows (number_at (combine x f y g)) (λ j. y *ℤ number_at g j) (spans_from rows (combine x f y g) p)
+    (spans_times rows y (number_at g) (spans_from rows g q)))))
 
 -- a square is the square of the size
 square : (b : ℤ) → b *ℤ b ≡ pos (unsigned_abs b * unsigned_abs b)

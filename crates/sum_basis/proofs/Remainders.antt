@@ -27,7 +27,9 @@ module _ (form : List (List ℤ)) (v left : List ℤ) (m : ℕ) (above : 0 < m) 
   pub span_to_left : (span : List (List ℤ)) → AllByRecursion (InSpan span) form → InSpan span v → InSpan span left
   span_to_left span h p =
       in_span_from span left (spans_same span (λ j. pos m *ℤ number_at v j +ℤ neg_ℤ (pos 1) *ℤ combined r.coefficients form j) (number_at left) difference
-      (spans_add span (λ j. pos m *ℤ number_at v j) (λ j. neg_ℤ (pos 1) *ℤ combined r.coefficients form j) (spans_times span (pos m) (number_at v) (spans_from span v p)) (spans_times span (neg_ℤ (pos 1)) (combined r.coefficients form) (spans_combined span r.coefficients form h))))
+      (spans_add span (λ j. pos m *ℤ number_at v j) (λ j. neg_ℤ (pos 1) *ℤ combined r.coefficients form j)
+      (spans_times span (pos m) (number_at v) (spans_from span v p))
+      (spans_times span (neg_ℤ (pos 1)) (combined r.coefficients form) (spans_combined span r.coefficients form h))))
     where
       difference : (j : ℕ) → pos m *ℤ number_at v j +ℤ neg_ℤ (pos 1) *ℤ combined r.coefficients form j ≡ number_at left j
       difference j =

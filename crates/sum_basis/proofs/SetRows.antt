@@ -68,7 +68,8 @@ product_at_most m (suc (suc b)) limit p q = absurd (omega arith)
 pub multiple_small : (row : List ℤ) (multiple : ℤ) → ((j : ℕ) → unsigned_abs (number_at row j) ≤ 1) → unsigned_abs multiple ≤ 2 ^ 56 →
     IsSmall (times multiple row)
 multiple_small row multiple bits h = all_by_number (λ x. unsigned_abs x ≤ 2 ^ 56) (times multiple row)
-    (λ j. rw (number_at-times multiple row j, unsigned_abs-mul multiple (number_at row j)) (product_at_most (unsigned_abs multiple) (unsigned_abs (number_at row j)) (2 ^ 56) h (bits j)))
+    (λ j. rw (number_at-times multiple row j, unsigned_abs-mul multiple (number_at row j))
+    (product_at_most (unsigned_abs multiple) (unsigned_abs (number_at row j)) (2 ^ 56) h (bits j)))
 
 -- its entries are at most 1
 pub bit_small : (n : ℕ) (rows : List ℕ) (j : ℕ) → unsigned_abs (number_at (set_row n rows) j) ≤ 1
@@ -86,7 +87,8 @@ pub entries_divide : (form : List (List ℤ)) (v : List ℤ) (multiple : ℤ) �
     AllByRecursion (λ r. unsigned_abs (pivot_entry r) ∣ unsigned_abs (number_at (times multiple v) (pivot r))) form
 entries_divide [] v multiple h = tt
 entries_divide (row ∷ form) v multiple h = (
-  rw (number_at-times multiple v (pivot row), unsigned_abs-mul multiple (number_at v (pivot row))) (dvd-mul_right_of_dvd (unsigned_abs (pivot_entry row)) h.0 (unsigned_abs (number_at v (pivot row)))),
+  rw (number_at-times multiple v (pivot row), unsigned_abs-mul multiple (number_at v (pivot row)))
+      (dvd-mul_right_of_dvd (unsigned_abs (pivot_entry row)) h.0 (unsigned_abs (number_at v (pivot row)))),
   entries_divide form v multiple h.1,
 )
 
@@ -105,7 +107,8 @@ pub one_more_bit : (bits : List ℕ) (row : List ℤ) (j : ℕ) (v : ℤ) → j 
 one_more_bit bits row j v inside part is = record {
   same_length = length-set row j v ∙ part.same_length;
   done = λ k h. elim (cases_eq k j) [
-    | inl e ↦ rw e (get_or-set_same row j v (pos 0) inside ∙ is ∙ sym (get_or-map (λ (b : ℕ). pos b) bits j 0 (pos 0) (let same = part.same_length in omega arith)))
+    | inl e ↦ rw e (get_or-set_same row j v (pos 0) inside ∙ is
+        ∙ sym (get_or-map (λ (b : ℕ). pos b) bits j 0 (pos 0) (let same = part.same_length in omega arith)))
     | inr other ↦ get_or-set_other row j k v (pos 0) other ∙ part.done k (omega arith)
   ];
 }

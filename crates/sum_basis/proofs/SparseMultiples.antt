@@ -54,7 +54,8 @@ less_by_entries n r old new times k l e small is = record {
 
     at : (j : ℕ) → number_at old j ≡ number_at new j +ℤ times *ℤ number_at (row_of n (entries_of r)) j
     at j =
-        let whole = ap (λ z. times *ℤ z) (number_at-row_of 0 n (entries_of r) k.listed j) ∙ times-add times (cond (nat_eq r.pivot j) r.head (pos 0)) (entry_at r.free.items j) in
+        let whole = ap (λ z. times *ℤ z) (number_at-row_of 0 n (entries_of r) k.listed j)
+        ∙ times-add times (cond (nat_eq r.pivot j) r.head (pos 0)) (entry_at r.free.items j) in
         elim (cases_eq r.pivot j) [
           | inl same ↦
               let new_here = ap (number_at new) (sym same) ∙ gone in

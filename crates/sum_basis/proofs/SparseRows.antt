@@ -168,7 +168,8 @@ one_entry_taken old row times es k d v h inside part is = record { taken = λ j.
         let more = ap (λ z. times *ℤ z) (take_entry es k d j h) ∙ times-add times (entry_at (take k es) j) (cond (nat_eq e.place j) e.value (pos 0)) in
         elim (cases_eq e.place j) [
           | inl same ↦
-              let new = ap (number_at (set row e.place v)) (sym same) ∙ get_or-set_same row e.place v (pos 0) inside ∙ is ∙ ap (λ m. number_at row m -ℤ times *ℤ e.value) same in
+              let new = ap (number_at (set row e.place v)) (sym same) ∙ get_or-set_same row e.place v (pos 0) inside ∙ is
+              ∙ ap (λ m. number_at row m -ℤ times *ℤ e.value) same in
               let one = ap (λ z. times *ℤ z) (here e j same) in
               let before = part.taken j in
               omega (arith, ints)

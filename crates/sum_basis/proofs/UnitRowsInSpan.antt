@@ -83,7 +83,8 @@ lone_row n form i f h p = record { row = hit.0; among = hit.1; at = at; lone = l
 
     lone : IsLone hit.0
     lone j other =
-        let spans = spans_add form (λ k. pivot_entry hit.0 *ℤ number_at unit k) (λ k. neg_ℤ (pos 1) *ℤ number_at hit.0 k) (spans_times form (pivot_entry hit.0) (number_at unit) (spans_from form unit p))
+        let spans = spans_add form (λ k. pivot_entry hit.0 *ℤ number_at unit k) (λ k. neg_ℤ (pos 1) *ℤ number_at hit.0 k)
+        (spans_times form (pivot_entry hit.0) (number_at unit) (spans_from form unit p))
         (spans_times form (neg_ℤ (pos 1)) (number_at hit.0) (spans_from form hit.0 (in_span_at form form hit.0 (own form) hit.1))) in
         let none = span_zero form difference f.echelon leads spans (zeros_walk difference form form (λ g r. r) at_pivot) j in
         let zero_there = ap (λ z. pivot_entry hit.0 *ℤ z) (unit_elsewhere n i j (λ e. other (e ∙ sym at))) ∙ *ℤ-zero (pivot_entry hit.0) in
@@ -125,7 +126,8 @@ not_among (r ∷ form) (suc k) row h none (inr among) lone = not_among form k ro
 pub unit_in_span : (n : ℕ) (form : List (List ℤ)) (row : List ℤ) → IsPrimitive n row → InSpan form row → IsLone row → InSpan form (unit_row n (pivot row))
 unit_in_span n form row p h lone =
     in_span_from form (unit_row n (pivot row))
-    (spans_down form m.0 (number_at (unit_row n (pivot row))) m.2 (spans_same form (number_at row) (λ j. pos m.0 *ℤ number_at (unit_row n (pivot row)) j) same (spans_from form row h)))
+    (spans_down form m.0 (number_at (unit_row n (pivot row))) m.2
+    (spans_same form (number_at row) (λ j. pos m.0 *ℤ number_at (unit_row n (pivot row)) j) same (spans_from form row h)))
   where
     m : (m : ℕ) × (pivot_entry row ≡ pos m) × (0 < m)
     m = positive_is (pivot_entry row) p.leading

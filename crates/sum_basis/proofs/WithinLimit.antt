@@ -89,8 +89,11 @@ pub small_enough : (head over_head : ℤ) (es : List FreeEntry) (g most least : 
     → unsigned_abs head ≤ most → AllByRecursion (λ (e : FreeEntry). unsigned_abs e.value ≤ most) es → most ≤ least * 2 ^ 56 → least ≤ g
     → (unsigned_abs over_head ≤ 2 ^ 56) × AllByRecursion (λ (e : FreeEntry). unsigned_abs e.value ≤ 2 ^ 56) (over g es)
 small_enough head over_head es g most least p content e at_head at_values enough h =
-    let within : most ≤ g * 2 ^ 56 = omega arith in
-    (comes_within g most head over_head p e at_head within, come_within g most es (over g es) p (over_is g es (all-unmap (λ (e : FreeEntry). e.value) (λ x. g ∣ unsigned_abs x) es content.divides.1)) at_values within)
+    let within : most ≤ g * 2 ^ 56 = omega arith in (
+      comes_within g most head over_head p e at_head within,
+      come_within g most es (over g es) p
+          (over_is g es (all-unmap (λ (e : FreeEntry). e.value) (λ x. g ∣ unsigned_abs x) es content.divides.1)) at_values within,
+    )
 
 -- and where it is less than that needs, not all are
 pub too_large : (head over_head : ℤ) (es : List FreeEntry) (g most least : ℕ) → IsContent (head ∷ values es) g → head ≡ pos g *ℤ over_head
@@ -98,5 +101,6 @@ pub too_large : (head over_head : ℤ) (es : List FreeEntry) (g most least : ℕ
     → g < least
     → ¬ ((unsigned_abs over_head ≤ 2 ^ 56) × AllByRecursion (λ (e : FreeEntry). unsigned_abs e.value ≤ 2 ^ 56) (over g es))
 too_large head over_head es g most least content e greatest needed h small =
-    let most_at = greatest (g * 2 ^ 56) (was_within g head over_head e small.0) (were_within g es (over g es) (over_is g es (all-unmap (λ (e : FreeEntry). e.value) (λ x. g ∣ unsigned_abs x) es content.divides.1)) small.1) in
+    let most_at = greatest (g * 2 ^ 56) (was_within g head over_head e small.0)
+    (were_within g es (over g es) (over_is g es (all-unmap (λ (e : FreeEntry). e.value) (λ x. g ∣ unsigned_abs x) es content.divides.1)) small.1) in
     absurd (omega arith)

@@ -6,4 +6,5 @@ use Rattle.sum_basis.proofs.cleared_list.bound_of.Goals as goal
 
 pub returns-clause-least : goal.returns-clause-least
 returns-clause-least c =
-    λ m head all. c.greater.ensures.least m (c.greatest.ensures.least m all) (subst (λ size. size ≤ m) (sym (c.unsigned_abs.ensures.value ∙ ap unsigned_abs (to_z-of_z w128 c.args.head c.ranges.head))) head)
+    λ m head all. c.greater.ensures.least m (c.greatest.ensures.least m all)
+    (subst (λ size. size ≤ m) (sym (c.unsigned_abs.ensures.value ∙ ap unsigned_abs (to_z-of_z w128 c.args.head c.ranges.head))) head)

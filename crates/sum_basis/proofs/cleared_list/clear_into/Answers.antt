@@ -22,7 +22,9 @@ returns-clause-listed c =
     let over : FitsSigned w128 c.over_content.result = search rules in
     let combined = c.combine_at_pivot-head.ensures in
     rw (to_z-of_z w128 c.over_content.result over)
-    (result_of_bits c.args.columns c.args.row.now c.args.new.now c.combine_at_pivot-head.new.out.items _ c.over_content.new.entries.items c.args.times c.combine_at_pivot-head.result c.over_content.result c.ranges.times head c.requires.kept c.requires.primitive c.requires.new c.requires.before c.requires.times combined.listed combined.combined combined.head refl c.over_content.ensures.over).listed
+    (result_of_bits c.args.columns c.args.row.now c.args.new.now c.combine_at_pivot-head.new.out.items _ c.over_content.new.entries.items c.args.times
+    c.combine_at_pivot-head.result c.over_content.result c.ranges.times head c.requires.kept c.requires.primitive c.requires.new c.requires.before
+    c.requires.times combined.listed combined.combined combined.head refl c.over_content.ensures.over).listed
 
 pub returns-clause-leading : goal.returns-clause-leading
 returns-clause-leading c =
@@ -30,7 +32,9 @@ returns-clause-leading c =
     let over : FitsSigned w128 c.over_content.result = search rules in
     let combined = c.combine_at_pivot-head.ensures in
     rw (to_z-of_z w128 c.over_content.result over)
-    (result_of_bits c.args.columns c.args.row.now c.args.new.now c.combine_at_pivot-head.new.out.items _ c.over_content.new.entries.items c.args.times c.combine_at_pivot-head.result c.over_content.result c.ranges.times head c.requires.kept c.requires.primitive c.requires.new c.requires.before c.requires.times combined.listed combined.combined combined.head refl c.over_content.ensures.over).leading
+    (result_of_bits c.args.columns c.args.row.now c.args.new.now c.combine_at_pivot-head.new.out.items _ c.over_content.new.entries.items c.args.times
+    c.combine_at_pivot-head.result c.over_content.result c.ranges.times head c.requires.kept c.requires.primitive c.requires.new c.requires.before
+    c.requires.times combined.listed combined.combined combined.head refl c.over_content.ensures.over).leading
 
 pub returns-clause-cleared : goal.returns-clause-cleared
 returns-clause-cleared c =
@@ -38,4 +42,6 @@ returns-clause-cleared c =
     let over : FitsSigned w128 c.over_content.result = search rules in
     let combined = c.combine_at_pivot-head.ensures in
     rw (to_z-of_z w128 c.over_content.result over)
-    (result_of_bits c.args.columns c.args.row.now c.args.new.now c.combine_at_pivot-head.new.out.items _ c.over_content.new.entries.items c.args.times c.combine_at_pivot-head.result c.over_content.result c.ranges.times head c.requires.kept c.requires.primitive c.requires.new c.requires.before c.requires.times combined.listed combined.combined combined.head refl c.over_content.ensures.over).cleared
+    (result_of_bits c.args.columns c.args.row.now c.args.new.now c.combine_at_pivot-head.new.out.items _ c.over_content.new.entries.items c.args.times
+    c.combine_at_pivot-head.result c.over_content.result c.ranges.times head c.requires.kept c.requires.primitive c.requires.new c.requires.before
+    c.requires.times combined.listed combined.combined combined.head refl c.over_content.ensures.over).cleared

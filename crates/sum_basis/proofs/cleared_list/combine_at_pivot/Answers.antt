@@ -73,7 +73,8 @@ returns-clause-sizes c =
     (get_or c.args.new.now 0 none).value c.args.times c.requires.kept c.requires.small c.requires.new
     (first_small c.args.columns c.args.new.now _ c.requires.new refl)
     (rw c.requires.times (entry_small c.args.columns c.args.row.now _ c.requires.kept c.requires.small)) c.combine_into.ensures.listed
-    (combined_is c.args.row.now.free.items c.args.new.now c.combine_into.new.out.items c.deref.result.now (get_or c.args.new.now 0 none).value c.args.times x c.ranges.times c.deref.ensures.value c.combine_into.ensures.combined)
+    (combined_is c.args.row.now.free.items c.args.new.now c.combine_into.new.out.items c.deref.result.now
+    (get_or c.args.new.now 0 none).value c.args.times x c.ranges.times c.deref.ensures.value c.combine_into.ensures.combined)
 
 pub returns-clause-head : goal.returns-clause-head
 returns-clause-head c =
@@ -88,5 +89,9 @@ returns-clause-leading c =
     let y : FitsSigned w128 c.args.row.now.head = search rules in
     let p : FitsSigned w128 c.product.result = search rules in
     rw (product_of c.product.result (get_or c.args.new.now 0 none).value c.args.row.now.head p x y c.product.ensures.exact)
-    (let size = product_small (get_or c.args.new.now 0 none).value c.args.row.now.head (first_small c.args.columns c.args.new.now _ c.requires.new refl) (head_small c.args.columns c.args.row.now c.requires.kept c.requires.small) in
-    (positive_times (get_or c.args.new.now 0 none).value c.args.row.now.head (by_positive c.args.columns c.args.new.now c.requires.new) c.requires.kept.leading, omega arith))
+    (let size = product_small (get_or c.args.new.now 0 none).value c.args.row.now.head (first_small c.args.columns c.args.new.now _ c.requires.new refl)
+    (head_small c.args.columns c.args.row.now c.requires.kept c.requires.small) in (
+      positive_times (get_or c.args.new.now 0 none).value c.args.row.now.head
+          (by_positive c.args.columns c.args.new.now c.requires.new) c.requires.kept.leading,
+      omega arith,
+    ))

@@ -18,17 +18,23 @@ loop-e-init c =
 pub returns-then-is_one-clause-content : goal.returns-then-is_one-clause-content
 returns-then-is_one-clause-content c =
     let one = c.is_one.ensures.0 c.if-is_one.true in
-    let so_far = subst (λ (h : ℤ). IsContent (h ∷ map (λ e. e.value) (take c.loop-e.e-index c.args.entries.now)) c.loop-e.divisor) (to_z-of_z w128 c.args.head c.ranges.head) c.loop-e.invariant.content in
+    let so_far = subst (λ (h : ℤ). IsContent (h ∷ map (λ e. e.value) (take c.loop-e.e-index c.args.entries.now)) c.loop-e.divisor)
+    (to_z-of_z w128 c.args.head c.ranges.head) c.loop-e.invariant.content in
     rw one
-    (stays_one c.args.head c.args.entries.now c.loop-e.e-index (subst (IsContent (c.args.head ∷ map (λ e. e.value) (take c.loop-e.e-index c.args.entries.now))) one so_far))
+    (stays_one c.args.head c.args.entries.now c.loop-e.e-index
+    (subst (IsContent (c.args.head ∷ map (λ e. e.value) (take c.loop-e.e-index c.args.entries.now))) one so_far))
 
 pub loop-e-preserved : goal.loop-e-preserved
 loop-e-preserved c =
     let value : FitsSigned w128 (get_or c.args.entries.now c.loop-e.e-index (record { place = 0; value = pos 0 })).value = search rules in
-    let common : IsGcd c.loop-e.divisor (unsigned_abs (get_or c.args.entries.now c.loop-e.e-index (record { place = 0; value = pos 0 })).value) c.with-divisor.result =
-    subst (λ (m : ℤ). IsGcd c.loop-e.divisor (unsigned_abs m) c.with-divisor.result) (to_z-of_z w128 (get_or c.args.entries.now c.loop-e.e-index (record { place = 0; value = pos 0 })).value value) c.with-divisor.ensures in
+    let common : IsGcd c.loop-e.divisor (unsigned_abs (get_or c.args.entries.now c.loop-e.e-index
+    (record { place = 0; value = pos 0 })).value) c.with-divisor.result =
+    subst (λ (m : ℤ). IsGcd c.loop-e.divisor (unsigned_abs m) c.with-divisor.result)
+    (to_z-of_z w128 (get_or c.args.entries.now c.loop-e.e-index (record { place = 0; value = pos 0 })).value value) c.with-divisor.ensures in
     record {
       content =
-          one_more_value (to_z w128 (of_z w128 c.args.head)) c.args.entries.now c.loop-e.e-index c.loop-e.divisor c.with-divisor.result c.loop-e-test.true c.loop-e.invariant.content common;
+          one_more_value (to_z w128
+          (of_z w128 c.args.head)) c.args.entries.now c.loop-e.e-index c.loop-e.divisor c.with-divisor.result c.loop-e-test.true c.loop-e.invariant.content
+          common;
       positive = pos_of_dvd_of_pos common.0 c.loop-e.invariant.positive;
     }

@@ -15,7 +15,8 @@ quotient-value-requires-clause-divides c =
     let here = entry_is c.loop-k.entries.items c.loop-k.k c.index-e.result.now (omega arith) c.index-e.ensures in
     let same = sym (c.loop-k.invariant.scaled.left c.loop-k.k (omega arith)) ∙ here in
     let value : FitsSigned w128 c.index-e.result.now.value = search rules in
-    let all = All-from_recursion (λ (e : FreeEntry). c.args.by.now ∣ unsigned_abs e.value) c.args.entries.now.items c.requires.divides c.loop-k.k none (omega arith) in
+    let all = All-from_recursion (λ (e : FreeEntry). c.args.by.now ∣ unsigned_abs e.value) c.args.entries.now.items c.requires.divides c.loop-k.k none
+    (omega arith) in
     rw (to_z-of_z w128 c.index-e.result.now.value value) (subst (λ (e : FreeEntry). c.args.by.now ∣ unsigned_abs e.value) same all)
 
 pub quotient-value-requires-clause-size : goal.quotient-value-requires-clause-size
@@ -34,10 +35,12 @@ loop-k-preserved c =
     let here = entry_is c.loop-k.entries.items c.loop-k.k c.index-e.result.now (omega arith) c.index-e.ensures in
     let value : FitsSigned w128 c.index-e.result.now.value = search rules in
     let q : FitsSigned w128 c.quotient-value.result = search rules in
-    let is = sym (to_z-of_z w128 c.index-e.result.now.value value) ∙ c.quotient-value.ensures ∙ ap (λ z. pos c.args.by.now *ℤ z) (sym (to_z-of_z w128 c.quotient-value.result q)) in
+    let is = sym (to_z-of_z w128 c.index-e.result.now.value value) ∙ c.quotient-value.ensures
+    ∙ ap (λ z. pos c.args.by.now *ℤ z) (sym (to_z-of_z w128 c.quotient-value.result q)) in
     record {
       scaled =
-          one_more_scaled c.args.entries.now.items c.loop-k.entries.items _ c.loop-k.k _ (omega arith) c.loop-k.invariant.scaled (here ∙ multiple c.index-e.result.now (pos c.args.by.now) (to_z w128 (of_z w128 c.quotient-value.result)) is);
+          one_more_scaled c.args.entries.now.items c.loop-k.entries.items _ c.loop-k.k _ (omega arith) c.loop-k.invariant.scaled
+          (here ∙ multiple c.index-e.result.now (pos c.args.by.now) (to_z w128 (of_z w128 c.quotient-value.result)) is);
       length = length-set c.loop-k.entries.items c.loop-k.k _ ∙ c.loop-k.invariant.length;
       capacity = c.loop-k.invariant.capacity;
     }

@@ -22,9 +22,11 @@ loop-e-preserved c =
     record {
       values = rw more
           (all-push (λ (x : FreeEntry). unsigned_abs x.value ≤ c.greater-most.result) before e
-          (all-weaker (λ (x : FreeEntry). unsigned_abs x.value ≤ c.loop-e.most) (λ (x : FreeEntry). unsigned_abs x.value ≤ c.greater-most.result) (λ x h. omega arith) before c.loop-e.invariant.values) (omega arith));
+          (all-weaker (λ (x : FreeEntry). unsigned_abs x.value ≤ c.loop-e.most) (λ (x : FreeEntry). unsigned_abs x.value ≤ c.greater-most.result)
+          (λ x h. omega arith) before c.loop-e.invariant.values) (omega arith));
       least = λ m all.
-          let parts = all-front (λ (x : FreeEntry). unsigned_abs x.value ≤ m) before e (subst (AllByRecursion (λ (x : FreeEntry). unsigned_abs x.value ≤ m)) more all) in
+          let parts = all-front (λ (x : FreeEntry). unsigned_abs x.value ≤ m) before e
+          (subst (AllByRecursion (λ (x : FreeEntry). unsigned_abs x.value ≤ m)) more all) in
           let here = parts.1 in
           c.greater-most.ensures.least m (c.loop-e.invariant.least m parts.0) (omega arith);
     }
@@ -34,4 +36,5 @@ returns-clause-least c =
     let entries = c.args.entries.now in
     let end : length entries ≡ c.loop-e.e-index = omega arith in
     λ m all. c.loop-e.invariant.least m
-    (subst (λ k. AllByRecursion (λ (x : FreeEntry). unsigned_abs x.value ≤ m) (take k entries)) end (subst (AllByRecursion (λ (x : FreeEntry). unsigned_abs x.value ≤ m)) (sym (take-length entries)) all))
+    (subst (λ k. AllByRecursion (λ (x : FreeEntry). unsigned_abs x.value ≤ m) (take k entries)) end
+    (subst (AllByRecursion (λ (x : FreeEntry). unsigned_abs x.value ≤ m)) (sym (take-length entries)) all))

@@ -17,25 +17,31 @@ content_of head d list items fits e content =
 
 pub returns-then-is_one-clause-over : goal.returns-then-is_one-clause-over
 returns-then-is_one-clause-over c =
-    let content = content_of c.args.head c.content-divisor.result c.deref.result.now c.args.entries.now.items c.ranges.head c.deref.ensures.value c.content-divisor.ensures.content in
+    let content = content_of c.args.head c.content-divisor.result c.deref.result.now c.args.entries.now.items c.ranges.head c.deref.ensures.value
+    c.content-divisor.ensures.content in
     rw (to_z-of_z w128 c.args.head c.ranges.head)
-    (over_one c.args.head c.args.entries.now.items (subst (IsContent (c.args.head ∷ values c.args.entries.now.items)) (c.is_one.ensures.0 c.if-is_one.true) content))
+    (over_one c.args.head c.args.entries.now.items (subst (IsContent (c.args.head ∷ values c.args.entries.now.items))
+    (c.is_one.ensures.0 c.if-is_one.true) content))
 
 pub divide-requires-clause-divides : goal.divide-requires-clause-divides
 divide-requires-clause-divides c =
-    let content = content_of c.args.head c.content-divisor.result c.deref.result.now c.args.entries.now.items c.ranges.head c.deref.ensures.value c.content-divisor.ensures.content in
+    let content = content_of c.args.head c.content-divisor.result c.deref.result.now c.args.entries.now.items c.ranges.head c.deref.ensures.value
+    c.content-divisor.ensures.content in
     all-unmap (λ (e : FreeEntry). e.value) (λ x. c.content-divisor.result ∣ unsigned_abs x) c.args.entries.now.items content.divides.1
 
 pub quotient-requires-clause-divides : goal.quotient-requires-clause-divides
 quotient-requires-clause-divides c =
-    let content = content_of c.args.head c.content-divisor.result c.deref.result.now c.args.entries.now.items c.ranges.head c.deref.ensures.value c.content-divisor.ensures.content in
+    let content = content_of c.args.head c.content-divisor.result c.deref.result.now c.args.entries.now.items c.ranges.head c.deref.ensures.value
+    c.content-divisor.ensures.content in
     rw (to_z-of_z w128 c.args.head c.ranges.head) content.divides.0
 
 pub returns-clause-over : goal.returns-clause-over
 returns-clause-over c =
     let q : FitsSigned w128 c.quotient.result = search rules in
-    let content = content_of c.args.head c.content-divisor.result c.deref.result.now c.args.entries.now.items c.ranges.head c.deref.ensures.value c.content-divisor.ensures.content in
+    let content = content_of c.args.head c.content-divisor.result c.deref.result.now c.args.entries.now.items c.ranges.head c.deref.ensures.value
+    c.content-divisor.ensures.content in
     over_content (pos c.content-divisor.result) c.args.head _ c.args.entries.now.items c.divide.new.entries.items
     (let some = c.content-divisor.ensures.positive in omega (arith, ints)) content
-    (sym (to_z-of_z w128 c.args.head c.ranges.head) ∙ c.quotient.ensures ∙ ap (λ z. pos c.content-divisor.result *ℤ z) (sym (to_z-of_z w128 c.quotient.result q)))
+    (sym (to_z-of_z w128 c.args.head c.ranges.head) ∙ c.quotient.ensures
+    ∙ ap (λ z. pos c.content-divisor.result *ℤ z) (sym (to_z-of_z w128 c.quotient.result q)))
     c.divide.ensures.scaled

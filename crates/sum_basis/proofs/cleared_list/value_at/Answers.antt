@@ -17,7 +17,8 @@ before_first n (e ∷ es) j h before = zero_below e.place n (e ∷ es) j (omega 
 
 pub returns-then-is_empty : goal.returns-then-is_empty
 returns-then-is_empty c = elim c.then-is_empty.branch [
-  | then-is_empty-via-then-is_empty w ↦ sym (no_entry c.args.entries.now c.args.column (eqb-true (length c.args.entries.now) 0 (subst IsTrue c.is_empty.ensures w.if-is_empty.true)))
+  | then-is_empty-via-then-is_empty w ↦ sym (no_entry c.args.entries.now c.args.column
+      (eqb-true (length c.args.entries.now) 0 (subst IsTrue c.is_empty.ensures w.if-is_empty.true)))
   | then-is_empty-via-else-is_empty+then-column-entries w ↦ sym (before_first 65536 c.args.entries.now c.args.column c.requires w.if-column-entries.true)
 ]
 

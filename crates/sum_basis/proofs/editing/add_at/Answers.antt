@@ -25,11 +25,13 @@ unwrap-requires c =
     let es = c.args.entries.now.items in
     let before : FitsSigned w128 c.value_from-before.result = search rules in
     let parted = parted_of c.deref.result.now es c.places_before-k.result c.args.place c.deref.ensures.value c.places_before-k.ensures.parted in
-    let gone = sym (value_in c.deref-2.result.now es c.places_before-k.result c.args.place c.value_from-before.result c.deref-2.ensures.value c.value_from-before.ensures) ∙ zero_from_bits c.value_from-before.result before c.if-before-eq0.true in
+    let gone = sym (value_in c.deref-2.result.now es c.places_before-k.result c.args.place c.value_from-before.result c.deref-2.ensures.value
+    c.value_from-before.ensures) ∙ zero_from_bits c.value_from-before.result before c.if-before-eq0.true in
     let within = c.places_before-k.ensures.within in
     let same = ap length c.deref.ensures.value in
     let room = room_to_insert c.args.columns es c.places_before-k.result (record { place = c.args.place; value = c.args.number }) (omega arith)
-    (inserted_listed c.args.columns es c.places_before-k.result c.args.place c.args.number c.requires.listed c.requires.inside c.requires.some parted.0 parted.1 gone) in
+    (inserted_listed c.args.columns es c.places_before-k.result c.args.place c.args.number c.requires.listed c.requires.inside c.requires.some parted.0 parted.1
+    gone) in
     let len = c.args.entries.now.ok.0 in
     let cap = c.requires.room in
     c.insert.ensures.succeeds (omega arith)
@@ -39,11 +41,14 @@ returns-then-before-eq0-clause-listed c =
     let es = c.args.entries.now.items in
     let before : FitsSigned w128 c.value_from-before.result = search rules in
     let parted = parted_of c.deref.result.now es c.places_before-k.result c.args.place c.deref.ensures.value c.places_before-k.ensures.parted in
-    let gone = sym (value_in c.deref-2.result.now es c.places_before-k.result c.args.place c.value_from-before.result c.deref-2.ensures.value c.value_from-before.ensures) ∙ zero_from_bits c.value_from-before.result before c.if-before-eq0.true in
+    let gone = sym (value_in c.deref-2.result.now es c.places_before-k.result c.args.place c.value_from-before.result c.deref-2.ensures.value
+    c.value_from-before.ensures) ∙ zero_from_bits c.value_from-before.result before c.if-before-eq0.true in
     let items = rw c.unwrap.ensures at c.insert.ensures.items in
     subst (IsListed 0 c.args.columns) (sym items)
-    (subst (λ (z : ℤ). IsListed 0 c.args.columns (insert es c.places_before-k.result (record { place = c.args.place; value = z }))) (sym (to_z-of_z w128 c.args.number c.ranges.number))
-    (inserted_listed c.args.columns es c.places_before-k.result c.args.place c.args.number c.requires.listed c.requires.inside c.requires.some parted.0 parted.1 gone))
+    (subst (λ (z : ℤ). IsListed 0 c.args.columns (insert es c.places_before-k.result (record { place = c.args.place; value = z })))
+    (sym (to_z-of_z w128 c.args.number c.ranges.number))
+    (inserted_listed c.args.columns es c.places_before-k.result c.args.place c.args.number c.requires.listed c.requires.inside c.requires.some parted.0 parted.1
+    gone))
 
 pub returns-then-before-eq0-clause-added : goal.returns-then-before-eq0-clause-added
 returns-then-before-eq0-clause-added c = λ j.
@@ -66,7 +71,8 @@ returns-then-before-eq0-clause-is c =
     let es = c.args.entries.now.items in
     let before : FitsSigned w128 c.value_from-before.result = search rules in
     let parted = parted_of c.deref.result.now es c.places_before-k.result c.args.place c.deref.ensures.value c.places_before-k.ensures.parted in
-    let there = found_is c.args.columns c.deref-2.result.now es c.places_before-k.result c.args.place c.value_from-before.result c.requires.listed c.deref-2.ensures.value c.value_from-before.ensures parted.0 parted.1 in
+    let there = found_is c.args.columns c.deref-2.result.now es c.places_before-k.result c.args.place c.value_from-before.result c.requires.listed
+    c.deref-2.ensures.value c.value_from-before.ensures parted.0 parted.1 in
     let gone = zero_from_bits c.value_from-before.result before c.if-before-eq0.true in
     let number = to_z-of_z w128 c.args.number c.ranges.number in
     omega (arith, ints)
@@ -76,7 +82,8 @@ sum-after-requires-clause-x c =
     let es = c.args.entries.now.items in
     let before : FitsSigned w128 c.value_from-before.result = search rules in
     let parted = parted_of c.deref.result.now es c.places_before-k.result c.args.place c.deref.ensures.value c.places_before-k.ensures.parted in
-    let there = found_is c.args.columns c.deref-2.result.now es c.places_before-k.result c.args.place c.value_from-before.result c.requires.listed c.deref-2.ensures.value c.value_from-before.ensures parted.0 parted.1 in
+    let there = found_is c.args.columns c.deref-2.result.now es c.places_before-k.result c.args.place c.value_from-before.result c.requires.listed
+    c.deref-2.ensures.value c.value_from-before.ensures parted.0 parted.1 in
     rw (to_z-of_z w128 c.value_from-before.result before, there) c.requires.small
 
 -- the sum, of the numbers as they are
@@ -91,9 +98,11 @@ returns-clause-listed c =
     let before : FitsSigned w128 c.value_from-before.result = search rules in
     let after : FitsSigned w128 c.sum-after.result = search rules in
     let parted = parted_of c.deref.result.now es c.places_before-k.result c.args.place c.deref.ensures.value c.places_before-k.ensures.parted in
-    let here = value_in c.deref-2.result.now es c.places_before-k.result c.args.place c.value_from-before.result c.deref-2.ensures.value c.value_from-before.ensures in
+    let here = value_in c.deref-2.result.now es c.places_before-k.result c.args.place c.value_from-before.result c.deref-2.ensures.value
+    c.value_from-before.ensures in
     subst (IsListed 0 c.args.columns) (sym c.replace.ensures.items)
-    (replaced_listed c.args.columns es c.places_before-k.result c.args.place c.args.number c.requires.listed c.requires.inside c.requires.some parted.0 parted.1 _
+    (replaced_listed c.args.columns es c.places_before-k.result c.args.place c.args.number c.requires.listed c.requires.inside c.requires.some parted.0 parted.1
+    _
     (λ z. c.if-before-eq0.false (ap (of_z w128) (here ∙ z)))
     (sum_is _ _ _ after before c.ranges.number c.sum-after.ensures ∙ ap (λ z. z +ℤ c.args.number) here))
 
@@ -103,7 +112,8 @@ returns-clause-added c = λ j.
     let before : FitsSigned w128 c.value_from-before.result = search rules in
     let after : FitsSigned w128 c.sum-after.result = search rules in
     let parted = parted_of c.deref.result.now es c.places_before-k.result c.args.place c.deref.ensures.value c.places_before-k.ensures.parted in
-    let here = value_in c.deref-2.result.now es c.places_before-k.result c.args.place c.value_from-before.result c.deref-2.ensures.value c.value_from-before.ensures in
+    let here = value_in c.deref-2.result.now es c.places_before-k.result c.args.place c.value_from-before.result c.deref-2.ensures.value
+    c.value_from-before.ensures in
     ap (λ l. entry_at l j) c.replace.ensures.items
     ∙ replaced_at c.args.columns es c.places_before-k.result c.args.place c.args.number c.requires.listed c.requires.inside c.requires.some parted.0 parted.1 _
     (λ z. c.if-before-eq0.false (ap (of_z w128) (here ∙ z)))
@@ -115,5 +125,6 @@ returns-clause-is c =
     let before : FitsSigned w128 c.value_from-before.result = search rules in
     let after : FitsSigned w128 c.sum-after.result = search rules in
     let parted = parted_of c.deref.result.now es c.places_before-k.result c.args.place c.deref.ensures.value c.places_before-k.ensures.parted in
-    let there = found_is c.args.columns c.deref-2.result.now es c.places_before-k.result c.args.place c.value_from-before.result c.requires.listed c.deref-2.ensures.value c.value_from-before.ensures parted.0 parted.1 in
+    let there = found_is c.args.columns c.deref-2.result.now es c.places_before-k.result c.args.place c.value_from-before.result c.requires.listed
+    c.deref-2.ensures.value c.value_from-before.ensures parted.0 parted.1 in
     sum_is _ _ _ after before c.ranges.number c.sum-after.ensures ∙ ap (λ z. z +ℤ c.args.number) there

@@ -26,8 +26,10 @@ pub negative-number-requires : goal.negative-number-requires
 negative-number-requires c =
     let p : FitsSigned w128 c.product.result = search rules in
     let value : FitsSigned w128 (get_or c.args.taken.now c.loop-e.e-index (record { place = 0; value = pos 0 })).value = search rules in
-    let size = product_small c.args.times (get_or c.args.taken.now c.loop-e.e-index none).value c.requires.times (value_small c.args.taken.now c.loop-e.e-index c.loop-e-test.true c.requires.taken_small) in
-    rw (product_of c.product.result c.args.times (get_or c.args.taken.now c.loop-e.e-index none).value p c.ranges.times value c.product.ensures.exact) (omega arith)
+    let size = product_small c.args.times (get_or c.args.taken.now c.loop-e.e-index none).value c.requires.times
+    (value_small c.args.taken.now c.loop-e.e-index c.loop-e-test.true c.requires.taken_small) in
+    rw (product_of c.product.result c.args.times (get_or c.args.taken.now c.loop-e.e-index none).value p c.ranges.times value c.product.ensures.exact)
+    (omega arith)
 
 -- the number that is added
 number_of : (n : ℕ) (es : List FreeEntry) (k : ℕ) (times product number x : ℤ) → k < length es → IsListed 0 n es
@@ -42,8 +44,10 @@ add_at-after-requires-clause-inside c = (stands_within 0 c.args.columns c.args.t
 
 pub add_at-after-requires-clause-small : goal.add_at-after-requires-clause-small
 add_at-after-requires-clause-small c =
-    let same = as_before c.args.entries.now.items c.loop-e.entries.items _ c.args.columns c.args.taken.now c.loop-e.e-index none c.requires.taken c.loop-e-test.true c.loop-e.invariant.taken in
-    let small = bounded_at 0 c.args.columns (2 ^ 56) c.args.entries.now.items c.requires.listed c.requires.small (get_or c.args.taken.now c.loop-e.e-index none).place in
+    let same = as_before c.args.entries.now.items c.loop-e.entries.items _ c.args.columns c.args.taken.now c.loop-e.e-index none c.requires.taken
+    c.loop-e-test.true c.loop-e.invariant.taken in
+    let small = bounded_at 0 c.args.columns (2 ^ 56) c.args.entries.now.items c.requires.listed c.requires.small
+    (get_or c.args.taken.now c.loop-e.e-index none).place in
     rw same (omega arith)
 
 pub add_at-after-requires-clause-number : goal.add_at-after-requires-clause-number
@@ -51,7 +55,8 @@ add_at-after-requires-clause-number c =
     let p : FitsSigned w128 c.product.result = search rules in
     let q : FitsSigned w128 c.negative-number.result = search rules in
     let value : FitsSigned w128 (get_or c.args.taken.now c.loop-e.e-index (record { place = 0; value = pos 0 })).value = search rules in
-    let is = number_of c.args.columns c.args.taken.now c.loop-e.e-index c.args.times _ c.negative-number.result _ c.loop-e-test.true c.requires.taken c.requires.taken_small c.requires.times c.requires.some (to_z-of_z w128 c.negative-number.result q) c.negative-number.ensures
+    let is = number_of c.args.columns c.args.taken.now c.loop-e.e-index c.args.times _ c.negative-number.result _ c.loop-e-test.true c.requires.taken
+    c.requires.taken_small c.requires.times c.requires.some (to_z-of_z w128 c.negative-number.result q) c.negative-number.ensures
     (product_of c.product.result c.args.times (get_or c.args.taken.now c.loop-e.e-index none).value p c.ranges.times value c.product.ensures.exact) in
     let small = is.small in
     omega arith
@@ -61,7 +66,8 @@ add_at-after-requires-clause-some c =
     let p : FitsSigned w128 c.product.result = search rules in
     let q : FitsSigned w128 c.negative-number.result = search rules in
     let value : FitsSigned w128 (get_or c.args.taken.now c.loop-e.e-index (record { place = 0; value = pos 0 })).value = search rules in
-    (number_of c.args.columns c.args.taken.now c.loop-e.e-index c.args.times _ c.negative-number.result _ c.loop-e-test.true c.requires.taken c.requires.taken_small c.requires.times c.requires.some (to_z-of_z w128 c.negative-number.result q) c.negative-number.ensures
+    (number_of c.args.columns c.args.taken.now c.loop-e.e-index c.args.times _ c.negative-number.result _ c.loop-e-test.true c.requires.taken
+    c.requires.taken_small c.requires.times c.requires.some (to_z-of_z w128 c.negative-number.result q) c.negative-number.ensures
     (product_of c.product.result c.args.times (get_or c.args.taken.now c.loop-e.e-index none).value p c.ranges.times value c.product.ensures.exact)).some
 
 pub loop-e-preserved : goal.loop-e-preserved
@@ -70,7 +76,8 @@ loop-e-preserved c =
     let q : FitsSigned w128 c.negative-number.result = search rules in
     let after : FitsSigned w128 c.add_at-after.result = search rules in
     let value : FitsSigned w128 (get_or c.args.taken.now c.loop-e.e-index (record { place = 0; value = pos 0 })).value = search rules in
-    let is = number_of c.args.columns c.args.taken.now c.loop-e.e-index c.args.times _ c.negative-number.result _ c.loop-e-test.true c.requires.taken c.requires.taken_small c.requires.times c.requires.some (to_z-of_z w128 c.negative-number.result q) c.negative-number.ensures
+    let is = number_of c.args.columns c.args.taken.now c.loop-e.e-index c.args.times _ c.negative-number.result _ c.loop-e-test.true c.requires.taken
+    c.requires.taken_small c.requires.times c.requires.some (to_z-of_z w128 c.negative-number.result q) c.negative-number.ensures
     (product_of c.product.result c.args.times (get_or c.args.taken.now c.loop-e.e-index none).value p c.ranges.times value c.product.ensures.exact) in
     let times = to_z-of_z w128 c.args.times c.ranges.times in
     let size = c.unsigned_abs.ensures.value ∙ ap unsigned_abs (to_z-of_z w128 c.add_at-after.result after) in
@@ -80,9 +87,12 @@ loop-e-preserved c =
     record {
       listed = c.add_at-after.ensures.listed;
       taken =
-          one_more_entry_taken c.args.entries.now.items c.loop-e.entries.items c.add_at-after.new.entries.items _ c.args.taken.now c.loop-e.e-index none _ c.loop-e-test.true c.loop-e.invariant.taken (is.is ∙ ap (λ z. neg_ℤ (z *ℤ (get_or c.args.taken.now c.loop-e.e-index none).value)) (sym times)) c.add_at-after.ensures.added;
+          one_more_entry_taken c.args.entries.now.items c.loop-e.entries.items c.add_at-after.new.entries.items _ c.args.taken.now c.loop-e.e-index none _
+          c.loop-e-test.true c.loop-e.invariant.taken (is.is
+          ∙ ap (λ z. neg_ℤ (z *ℤ (get_or c.args.taken.now c.loop-e.e-index none).value)) (sym times)) c.add_at-after.ensures.added;
       bounded =
-          bounded_with c.loop-e.entries.items c.add_at-after.new.entries.items _ _ c.add_at-after.result c.loop-e.bound c.greater-bound.result c.loop-e.invariant.bounded c.add_at-after.ensures.added c.add_at-after.ensures.is one (omega arith);
+          bounded_with c.loop-e.entries.items c.add_at-after.new.entries.items _ _ c.add_at-after.result c.loop-e.bound c.greater-bound.result
+          c.loop-e.invariant.bounded c.add_at-after.ensures.added c.add_at-after.ensures.is one (omega arith);
       most = omega arith;
       room = c.add_at-after.ensures.room;
     }

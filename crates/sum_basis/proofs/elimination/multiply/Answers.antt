@@ -17,12 +17,15 @@ loop-j-preserved c =
     let fits : FitsSigned w128 (get_or c.loop-j.row c.loop-j.j (pos 0)) = search rules in
     let result : FitsSigned w128 c.product.result = search rules in
     record {
-      multiplied = one_more_multiplied c.args.row.now c.loop-j.row (to_z w128 (of_z w128 c.args.multiple)) c.loop-j.j _ (omega arith) c.loop-j.invariant.multiplied
-          (to_z-of_z w128 c.product.result result ∙ c.product.ensures.exact ∙ ap (λ z. to_z w128 (of_z w128 c.args.multiple) *ℤ z) (to_z-of_z w128 (get_or c.loop-j.row c.loop-j.j (pos 0)) fits));
+      multiplied = one_more_multiplied c.args.row.now c.loop-j.row (to_z w128 (of_z w128 c.args.multiple)) c.loop-j.j _
+          (omega arith) c.loop-j.invariant.multiplied
+          (to_z-of_z w128 c.product.result result ∙ c.product.ensures.exact
+          ∙ ap (λ z. to_z w128 (of_z w128 c.args.multiple) *ℤ z) (to_z-of_z w128 (get_or c.loop-j.row c.loop-j.j (pos 0)) fits));
       length = length-set c.loop-j.row c.loop-j.j _ ∙ c.loop-j.invariant.length;
     }
 
 pub returns : goal.returns
 returns c =
     all_multiplied c.args.row.now c.loop-j.row c.args.multiple c.loop-j.j c.loop-j.invariant.length (omega arith)
-    (subst (λ (m : ℤ). IsPartlyMultiplied c.args.row.now c.loop-j.row m c.loop-j.j) (to_z-of_z w128 c.args.multiple c.ranges.multiple) c.loop-j.invariant.multiplied)
+    (subst (λ (m : ℤ). IsPartlyMultiplied c.args.row.now c.loop-j.row m c.loop-j.j)
+    (to_z-of_z w128 c.args.multiple c.ranges.multiple) c.loop-j.invariant.multiplied)

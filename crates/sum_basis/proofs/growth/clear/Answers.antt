@@ -13,7 +13,8 @@ pub value_at-times-requires : goal.value_at-times-requires
 value_at-times-requires c =
     let fits = c.ranges.columns.fits in
     rw c.deref.ensures.value
-    (listed_to 0 c.args.columns 65536 c.args.row.now.free.items (omega arith) (listed_from (c.args.row.now.pivot + 1) 0 c.args.columns c.args.row.now.free.items (omega arith) c.requires.kept.listed.3))
+    (listed_to 0 c.args.columns 65536 c.args.row.now.free.items (omega arith)
+    (listed_from (c.args.row.now.pivot + 1) 0 c.args.columns c.args.row.now.free.items (omega arith) c.requires.kept.listed.3))
 
 pub returns-then-times-eq0-clause-cleared : goal.returns-then-times-eq0-clause-cleared
 returns-then-times-eq0-clause-cleared c =
@@ -25,9 +26,11 @@ returns-then-times-eq0-clause-cleared c =
 pub clear_in_place-requires-clause-before : goal.clear_in_place-requires-clause-before
 clear_in_place-requires-clause-before c =
     stands_earlier c.args.columns c.args.row.now c.args.new.now c.requires.kept c.requires.new
-    (λ z. c.if-times-eq0.false (ap (of_z w128) (c.value_at-times.ensures ∙ ap (λ l. entry_at l (get_or c.args.new.now 0 none).place) c.deref.ensures.value ∙ z)))
+    (λ z. c.if-times-eq0.false (ap (of_z w128) (c.value_at-times.ensures ∙ ap (λ l. entry_at l (get_or c.args.new.now 0 none).place) c.deref.ensures.value
+    ∙ z)))
 
 pub clear_anew-requires-clause-before : goal.clear_anew-requires-clause-before
 clear_anew-requires-clause-before c =
     stands_earlier c.args.columns c.args.row.now c.args.new.now c.requires.kept c.requires.new
-    (λ z. c.if-times-eq0.false (ap (of_z w128) (c.value_at-times.ensures ∙ ap (λ l. entry_at l (get_or c.args.new.now 0 none).place) c.deref.ensures.value ∙ z)))
+    (λ z. c.if-times-eq0.false (ap (of_z w128) (c.value_at-times.ensures ∙ ap (λ l. entry_at l (get_or c.args.new.now 0 none).place) c.deref.ensures.value
+    ∙ z)))

@@ -37,23 +37,27 @@ clear-requires-clause-zero c =
     let h = inside _ _ _ _ _ c.loop-k.invariant.cleared (omega arith) in
     nothing_at c.args.columns c.index_mut.result.now c.args.new.now
     (of_row (IsKept c.args.columns) c.args.rows.now.items c.loop-k.k c.index_mut.result.now h is c.requires.kept) c.requires.new
-    (of_whole_row (λ other. number_at (row_of c.args.columns c.args.new.now) (pivot other) ≡ pos 0) c.args.columns c.args.rows.now.items c.loop-k.k c.index_mut.result.now h is c.requires.zero)
+    (of_whole_row (λ other. number_at (row_of c.args.columns c.args.new.now)
+    (pivot other) ≡ pos 0) c.args.columns c.args.rows.now.items c.loop-k.k c.index_mut.result.now h is c.requires.zero)
 
 pub loop-k-preserved : goal.loop-k-preserved
 loop-k-preserved c = record {
   cleared =
-      one_more_done c.args.columns c.args.new.now c.args.rows.now.items c.loop-k.rows.items c.loop-k.k c.index_mut.result.now c.clear.new.row (omega arith) c.index_mut.ensures.value c.loop-k.invariant.cleared (record { kept = c.clear.ensures.kept; cleared = c.clear.ensures.cleared });
+      one_more_done c.args.columns c.args.new.now c.args.rows.now.items c.loop-k.rows.items c.loop-k.k c.index_mut.result.now c.clear.new.row
+      (omega arith) c.index_mut.ensures.value c.loop-k.invariant.cleared (record { kept = c.clear.ensures.kept; cleared = c.clear.ensures.cleared });
   capacity = c.loop-k.invariant.capacity;
   room = c.clear.ensures.room;
 }
 
 pub returns-clause-kept : goal.returns-clause-kept
 returns-clause-kept c =
-    (in_the_end c.args.columns c.args.new.now c.args.rows.now.items c.loop-k.rows.items c.loop-k.k (let same = c.loop-k.invariant.cleared.same_length in let len = c.loop-k.rows.ok.0 in omega arith) c.loop-k.invariant.cleared).0
+    (in_the_end c.args.columns c.args.new.now c.args.rows.now.items c.loop-k.rows.items c.loop-k.k
+    (let same = c.loop-k.invariant.cleared.same_length in let len = c.loop-k.rows.ok.0 in omega arith) c.loop-k.invariant.cleared).0
 
 pub returns-clause-cleared : goal.returns-clause-cleared
 returns-clause-cleared c =
-    (in_the_end c.args.columns c.args.new.now c.args.rows.now.items c.loop-k.rows.items c.loop-k.k (let same = c.loop-k.invariant.cleared.same_length in let len = c.loop-k.rows.ok.0 in omega arith) c.loop-k.invariant.cleared).1
+    (in_the_end c.args.columns c.args.new.now c.args.rows.now.items c.loop-k.rows.items c.loop-k.k
+    (let same = c.loop-k.invariant.cleared.same_length in let len = c.loop-k.rows.ok.0 in omega arith) c.loop-k.invariant.cleared).1
 
 pub index_mut-requires : goal.index_mut-requires
 index_mut-requires c = let same = c.loop-k.invariant.cleared.same_length in let len = c.loop-k.rows.ok.0 in omega arith

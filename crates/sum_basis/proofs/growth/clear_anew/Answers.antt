@@ -12,10 +12,12 @@ returns-clause-kept c =
     let head : FitsSigned w128 c.clear_into-row.result = search rules in
     let same = to_z-of_z w128 c.clear_into-row.result head in
     let made = ap (λ v. v.items) c.swap.ensures.x_after in
-    kept_row c.args.columns _ c.clear_into-row.result c.clear_into-row.new.out.items c.deref.result.now c.clear_into-row.ensures.listed c.clear_into-row.ensures.leading
+    kept_row c.args.columns _ c.clear_into-row.result c.clear_into-row.new.out.items c.deref.result.now c.clear_into-row.ensures.listed
+    c.clear_into-row.ensures.leading
     (subst (λ (z : ℤ). unsigned_abs z ≤ c.bound_of-row.result) (ap (λ z. to_z w128 (of_z w128 z)) same ∙ same) c.bound_of-row.ensures.head)
     (c.deref.ensures.value ∙ made) c.bound_of-row.ensures.values same made
-    (let cap = ap vec_capacity c.swap.ensures.x_after in let kept = c.clear_into-row.ensures.capacity in let cleared = c.clear.ensures.capacity in let room = c.requires.room in omega arith)
+    (let cap = ap vec_capacity c.swap.ensures.x_after in let kept = c.clear_into-row.ensures.capacity in let cleared = c.clear.ensures.capacity in
+    let room = c.requires.room in omega arith)
 
 pub clear_into-row-requires-clause-room : goal.clear_into-row-requires-clause-room
 clear_into-row-requires-clause-room c = let same = c.clear.ensures.capacity in let room = c.requires.room in omega arith

@@ -34,7 +34,8 @@ pub returns-clause-kept : goal.returns-clause-kept
 returns-clause-kept c =
     let r = c.args.row.now in
     let out = c.take_entries-row.new.entries in
-    let listed = edited_listed c.args.columns r c.args.new.now c.requires.kept c.requires.primitive c.requires.new c.requires.before c.args.times c.requires.times c.requires.ones.0 c.requires.ones.1 out.items c.take_entries-row.ensures.listed
+    let listed = edited_listed c.args.columns r c.args.new.now c.requires.kept c.requires.primitive c.requires.new c.requires.before c.args.times
+    c.requires.times c.requires.ones.0 c.requires.ones.1 out.items c.take_entries-row.ensures.listed
     (taken_is r.free.items out.items c.args.new.now c.args.times c.ranges.times c.take_entries-row.ensures.taken) in
     let head = c.requires.kept.bounded.0 in
     let most = c.take_entries-row.ensures.most in
@@ -45,5 +46,6 @@ pub returns-clause-cleared : goal.returns-clause-cleared
 returns-clause-cleared c =
     let r = c.args.row.now in
     let out = c.take_entries-row.new.entries in
-    edited_cleared c.args.columns r c.args.new.now c.requires.kept c.requires.primitive c.requires.new c.requires.before c.args.times c.requires.times c.requires.ones.0 c.requires.ones.1 out.items c.take_entries-row.ensures.listed
+    edited_cleared c.args.columns r c.args.new.now c.requires.kept c.requires.primitive c.requires.new c.requires.before c.args.times c.requires.times
+    c.requires.ones.0 c.requires.ones.1 out.items c.take_entries-row.ensures.listed
     (taken_is r.free.items out.items c.args.new.now c.args.times c.ranges.times c.take_entries-row.ensures.taken)

@@ -24,8 +24,10 @@ returns-in_err-common c =
     let head : FitsSigned w128 c.row-item.result.head = search rules in
     let both = c.in_err-common.ensures in
     let first = one_more_head c.args.rows.now c.loop-row.row-index c.row-item.result _ both.0 c.loop-row-test.true c.row-item.is c.loop-row.invariant.multiple
-    (subst (λ (z : ℤ). IsLeastCommonMultiple (unsigned_abs (to_z w128 c.loop-row.common-bits) ∷ unsigned_abs z ∷ []) both.0) (to_z-of_z w128 c.row-item.result.head head) both.1) in
-    let all = passes_list c.args.rows.now (c.loop-row.row-index + 1) both.0 (2 ^ 56) (heads_positive c.args.rows.now c.requires) first (above (2 ^ 56) both.0 both.2) in
+    (subst (λ (z : ℤ). IsLeastCommonMultiple (unsigned_abs (to_z w128 c.loop-row.common-bits) ∷ unsigned_abs z ∷ []) both.0)
+    (to_z-of_z w128 c.row-item.result.head head) both.1) in
+    let all = passes_list c.args.rows.now (c.loop-row.row-index + 1) both.0 (2 ^ 56) (heads_positive c.args.rows.now c.requires) first
+    (above (2 ^ 56) both.0 both.2) in
     (all.0, all.1, rw c.from_residual.ensures all.2)
 
 record IsAfter (m : ℕ) (x : ℤ) : Type 0 where
@@ -42,9 +44,12 @@ loop-row-preserved c =
     let head : FitsSigned w128 c.row-item.result.head = search rules in
     let kept : FitsSigned w128 c.in_ok-common.common = search rules in
     let both = c.in_ok-common.ensures in
-    let least = subst (λ (z : ℤ). IsLeastCommonMultiple (unsigned_abs (to_z w128 c.loop-row.common-bits) ∷ unsigned_abs z ∷ []) both.0) (to_z-of_z w128 c.row-item.result.head head) both.1 in
-    let first = one_more_head c.args.rows.now c.loop-row.row-index c.row-item.result _ both.0 c.loop-row-test.true c.row-item.is c.loop-row.invariant.multiple least in
-    let leading = of_row (λ r. (pos 0 <ℤ r.head) × (unsigned_abs r.head ≤ 2 ^ 56)) c.args.rows.now c.loop-row.row-index c.row-item.result c.loop-row-test.true c.row-item.is c.requires in
+    let least = subst (λ (z : ℤ). IsLeastCommonMultiple (unsigned_abs (to_z w128 c.loop-row.common-bits) ∷ unsigned_abs z ∷ []) both.0)
+    (to_z-of_z w128 c.row-item.result.head head) both.1 in
+    let first = one_more_head c.args.rows.now c.loop-row.row-index c.row-item.result _ both.0 c.loop-row-test.true c.row-item.is c.loop-row.invariant.multiple
+    least in
+    let leading = of_row (λ r. (pos 0 <ℤ r.head) ×
+    (unsigned_abs r.head ≤ 2 ^ 56)) c.args.rows.now c.loop-row.row-index c.row-item.result c.loop-row-test.true c.row-item.is c.requires in
     let positive = least_positive _ _ both.0 (size_positive _ c.loop-row.invariant.positive) (size_positive c.row-item.result.head leading.0) least in
     let is = after c.in_ok-common.common _ both.0 (to_z-of_z w128 c.in_ok-common.common kept) both.2.0 both.2.1 positive in
     record { multiple = rw is.is first; positive = is.positive; within = is.small }

@@ -47,26 +47,47 @@ bounded first rest list most fits head same all = (head, subst (AllByRecursion (
 pub returns-clause-kept : goal.returns-clause-kept
 returns-clause-kept c =
     let fits : FitsSigned w128 c.remove-first.result.value = search rules in
-    let r : SparseRow = record { pivot = c.remove-first.result.place; head = to_z w128 (of_z w128 c.remove-first.result.value); most = c.bound_of-most.result; free = c.remove-first.new.self } in
+    let r : SparseRow = record {
+      pivot = c.remove-first.result.place;
+      head = to_z w128 (of_z w128 c.remove-first.result.value);
+      most = c.bound_of-most.result;
+      free = c.remove-first.new.self;
+    } in
     let items = rw c.unwrap.ensures at c.insert.ensures.items in
-    let split = without_first c.args.new.items c.remove-first.result c.remove-first.new.self.items c.requires.new.some c.remove-first.ensures.value c.remove-first.ensures.items in
+    let split = without_first c.args.new.items c.remove-first.result c.remove-first.new.self.items c.requires.new.some c.remove-first.ensures.value
+    c.remove-first.ensures.items in
     let is = entries_are c.args.new.items c.remove-first.new.self.items c.remove-first.result _ (to_z-of_z w128 c.remove-first.result.value fits) split.is in
     let room : c.args.columns ≤ c.remove-first.new.self.cap = let cap = c.remove-first.ensures.capacity in let most = c.requires.new_room in omega arith in
     subst (AllByRecursion (IsKept c.args.columns)) (sym items)
-    (all_inserted (IsKept c.args.columns) c.clear_all.new.rows.items c.place_of-place.result r c.clear_all.ensures.kept (kept_new c.args.columns c.args.new.items r c.requires.new is (bounded c.remove-first.result c.remove-first.new.self.items c.deref-3.result.now c.bound_of-most.result fits c.bound_of-most.ensures.head c.deref-3.ensures.value c.bound_of-most.ensures.values) room))
+    (all_inserted (IsKept c.args.columns) c.clear_all.new.rows.items c.place_of-place.result r c.clear_all.ensures.kept
+    (kept_new c.args.columns c.args.new.items r c.requires.new is
+    (bounded c.remove-first.result c.remove-first.new.self.items c.deref-3.result.now c.bound_of-most.result fits c.bound_of-most.ensures.head
+    c.deref-3.ensures.value c.bound_of-most.ensures.values) room))
 
 pub returns-clause-reduced : goal.returns-clause-reduced
 returns-clause-reduced c =
     let fits : FitsSigned w128 c.remove-first.result.value = search rules in
-    let r : SparseRow = record { pivot = c.remove-first.result.place; head = to_z w128 (of_z w128 c.remove-first.result.value); most = c.bound_of-most.result; free = c.remove-first.new.self } in
+    let r : SparseRow = record {
+      pivot = c.remove-first.result.place;
+      head = to_z w128 (of_z w128 c.remove-first.result.value);
+      most = c.bound_of-most.result;
+      free = c.remove-first.new.self;
+    } in
     let items = rw c.unwrap.ensures at c.insert.ensures.items in
-    let split = without_first c.args.new.items c.remove-first.result c.remove-first.new.self.items c.requires.new.some c.remove-first.ensures.value c.remove-first.ensures.items in
+    let split = without_first c.args.new.items c.remove-first.result c.remove-first.new.self.items c.requires.new.some c.remove-first.ensures.value
+    c.remove-first.ensures.items in
     let is = entries_are c.args.new.items c.remove-first.new.self.items c.remove-first.result _ (to_z-of_z w128 c.remove-first.result.value fits) split.is in
     let room : c.args.columns ≤ c.remove-first.new.self.cap = let cap = c.remove-first.ensures.capacity in let most = c.requires.new_room in omega arith in
-    let kept = kept_new c.args.columns c.args.new.items r c.requires.new is (bounded c.remove-first.result c.remove-first.new.self.items c.deref-3.result.now c.bound_of-most.result fits c.bound_of-most.ensures.head c.deref-3.ensures.value c.bound_of-most.ensures.values) room in
+    let kept = kept_new c.args.columns c.args.new.items r c.requires.new is
+    (bounded c.remove-first.result c.remove-first.new.self.items c.deref-3.result.now c.bound_of-most.result fits c.bound_of-most.ensures.head
+    c.deref-3.ensures.value c.bound_of-most.ensures.values) room in
     rw items
-    (inserted_is_reduced c.args.columns c.args.rows.now.items c.clear_all.new.rows.items c.args.new.items r c.place_of-place.result c.requires.form c.requires.new c.requires.zero c.clear_all.ensures.kept
-    (subst (λ (l : List FreeEntry). AreCleared c.args.columns (row_of c.args.columns l) (rows_of c.args.columns c.args.rows.now.items) (rows_of c.args.columns c.clear_all.new.rows.items)) c.deref.ensures.value c.clear_all.ensures.cleared)
+    (inserted_is_reduced c.args.columns c.args.rows.now.items c.clear_all.new.rows.items c.args.new.items r c.place_of-place.result c.requires.form
+    c.requires.new c.requires.zero c.clear_all.ensures.kept
+    (subst (λ (l : List FreeEntry). AreCleared c.args.columns (row_of c.args.columns l) (rows_of c.args.columns c.args.rows.now.items)
+    (rows_of c.args.columns c.clear_all.new.rows.items)) c.deref.ensures.value c.clear_all.ensures.cleared)
     is kept
-    (subst (λ (l : List SparseRow). AllByRecursion (λ x. x.pivot ≤ c.remove-first.result.place) (take c.place_of-place.result l)) c.deref-2.ensures.value c.place_of-place.ensures.before)
-    (subst (λ (l : List SparseRow). (d : SparseRow) → c.place_of-place.result < length l → c.remove-first.result.place < (get_or l c.place_of-place.result d).pivot) c.deref-2.ensures.value c.place_of-place.ensures.after))
+    (subst (λ (l : List SparseRow). AllByRecursion (λ x. x.pivot ≤ c.remove-first.result.place)
+    (take c.place_of-place.result l)) c.deref-2.ensures.value c.place_of-place.ensures.before)
+    (subst (λ (l : List SparseRow). (d : SparseRow) → c.place_of-place.result < length l →
+    c.remove-first.result.place < (get_or l c.place_of-place.result d).pivot) c.deref-2.ensures.value c.place_of-place.ensures.after))

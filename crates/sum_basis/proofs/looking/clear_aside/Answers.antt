@@ -17,7 +17,8 @@ pub value_at-times-requires : goal.value_at-times-requires
 value_at-times-requires c =
     let fits = c.ranges.columns.fits in
     rw c.deref.ensures.value
-    (listed_to 0 c.args.columns 65536 c.args.row.now.free.items (omega arith) (listed_from (c.args.row.now.pivot + 1) 0 c.args.columns c.args.row.now.free.items (omega arith) c.requires.kept.listed.3))
+    (listed_to 0 c.args.columns 65536 c.args.row.now.free.items (omega arith)
+    (listed_from (c.args.row.now.pivot + 1) 0 c.args.columns c.args.row.now.free.items (omega arith) c.requires.kept.listed.3))
 
 pub returns-then-times-eq0-clause-cleared : goal.returns-then-times-eq0-clause-cleared
 returns-then-times-eq0-clause-cleared c =
@@ -27,11 +28,13 @@ returns-then-times-eq0-clause-cleared c =
     let times : FitsSigned w128 c.value_at-times.result = search rules in
     let nothing = sym c.value_at-times.ensures ∙ zero_from_bits c.value_at-times.result times c.if-times-eq0.true in (
       row_of n (entries_of r),
-      cleared_as_it_is n r c.args.new.now c.requires.kept c.requires.new c.requires.zero c.requires.primitive (ap (λ l. entry_at l (get_or c.args.new.now 0 none).place) (sym c.deref.ensures.value) ∙ nothing),
+      cleared_as_it_is n r c.args.new.now c.requires.kept c.requires.new c.requires.zero c.requires.primitive
+          (ap (λ l. entry_at l (get_or c.args.new.now 0 none).place) (sym c.deref.ensures.value) ∙ nothing),
       (
         c.requires.small,
         to_z-of_z w128 r.head head ∙ sym (pivot_entry-row_of 0 n (record { place = r.pivot; value = r.head }) r.free.items c.requires.kept.listed),
-        lone_by_length n r.free.len (record { place = r.pivot; value = r.head }) r.free.items c.is_empty.result c.requires.kept.listed r.free.ok.0 c.is_empty.ensures,
+        lone_by_length n r.free.len
+            (record { place = r.pivot; value = r.head }) r.free.items c.is_empty.result c.requires.kept.listed r.free.ok.0 c.is_empty.ensures,
       ),
     )
 
@@ -49,8 +52,10 @@ returns-in_err-head-clause-cleared c =
     let is = c.value_at-times.ensures ∙ ap (λ l. entry_at l (get_or c.args.new.now 0 none).place) c.deref.ensures.value in
     let before = stands_earlier n r c.args.new.now c.requires.kept c.requires.new (λ z. c.if-times-eq0.false (ap (of_z w128) (is ∙ z))) in
     let all = c.in_err-head.ensures.within in
-    let made = result_of_bits n r c.args.new.now c.combine_at_pivot-combined.new.out.items c.deref-2.result.now all.1 c.value_at-times.result c.combine_at_pivot-combined.result all.0 found combined c.requires.kept c.requires.primitive c.requires.new before is
-    c.combine_at_pivot-combined.ensures.listed c.combine_at_pivot-combined.ensures.combined c.combine_at_pivot-combined.ensures.head c.deref-2.ensures.value all.2 in
+    let made = result_of_bits n r c.args.new.now c.combine_at_pivot-combined.new.out.items c.deref-2.result.now all.1 c.value_at-times.result
+    c.combine_at_pivot-combined.result all.0 found combined c.requires.kept c.requires.primitive c.requires.new before is
+    c.combine_at_pivot-combined.ensures.listed c.combine_at_pivot-combined.ensures.combined c.combine_at_pivot-combined.ensures.head c.deref-2.ensures.value
+    all.2 in
     let e : FreeEntry = record { place = r.pivot; value = all.0 } in (
       row_of n (e ∷ all.1),
       made.cleared,
@@ -68,8 +73,10 @@ returns-clause-cleared c =
     let before = stands_earlier n r c.args.new.now c.requires.kept c.requires.new (λ z. c.if-times-eq0.false (ap (of_z w128) (is ∙ z))) in
     let all = c.in_ok-head.ensures.within in
     let out = c.combine_at_pivot-combined.new.out in
-    let made = result_of_bits n r c.args.new.now out.items c.deref-2.result.now all.1 c.value_at-times.result c.combine_at_pivot-combined.result all.0 found combined c.requires.kept c.requires.primitive c.requires.new before is
-    c.combine_at_pivot-combined.ensures.listed c.combine_at_pivot-combined.ensures.combined c.combine_at_pivot-combined.ensures.head c.deref-2.ensures.value all.2 in
+    let made = result_of_bits n r c.args.new.now out.items c.deref-2.result.now all.1 c.value_at-times.result c.combine_at_pivot-combined.result all.0 found
+    combined c.requires.kept c.requires.primitive c.requires.new before is
+    c.combine_at_pivot-combined.ensures.listed c.combine_at_pivot-combined.ensures.combined c.combine_at_pivot-combined.ensures.head c.deref-2.ensures.value
+    all.2 in
     let e : FreeEntry = record { place = r.pivot; value = all.0 } in
     let length_is = out.ok.0 ∙ ap length (sym c.deref-2.ensures.value ∙ all.2.entries_are) ∙ length-map all.1 (scaled all.2.by) in (
       row_of n (e ∷ all.1),

@@ -39,5 +39,7 @@ look_by_bounds-requires-clause-multiple c =
       unsigned_abs c.args.common,
       c.requires.multiple.multiple,
       size_positive c.args.common c.requires.positive,
-      within_limit c.args.columns c.args.new.now _ c.args.common _ _ c.product.result c.requires.new refl (to_z-of_z w128 (get_or c.args.new.now 0 none).value fits) (to_z-of_z w128 c.args.common c.ranges.common) c.requires.positive c.product.ensures.exact most,
+      within_limit c.args.columns c.args.new.now _ c.args.common _ _ c.product.result c.requires.new refl
+          (to_z-of_z w128 (get_or c.args.new.now 0 none).value fits)
+          (to_z-of_z w128 c.args.common c.ranges.common) c.requires.positive c.product.ensures.exact most,
     )

@@ -19,5 +19,7 @@ returns-then-is_surely_small-clause-cleared c =
     let empty = c.is_empty.ensures in
     by_length c.args.columns c.args.row.now c.args.new.now c.requires.kept c.requires.primitive c.requires.new c.requires.zero c.args.most c.requires.most _
     (to_z-of_z w128 (get_or c.args.new.now 0 none).value fits) c.is_empty.result
-    c.requires.small (λ same. c.if-other_length.true (c.len.ensures ∙ r.free.ok.0 ∙ same)) (c.is_surely_small.ensures c.if-is_surely_small.true)
-    (λ yes. sym r.free.ok.0 ∙ eqb-true r.free.len 0 (subst IsTrue empty yes), λ none_left. subst IsTrue (sym empty) (eq-eqb r.free.len 0 (r.free.ok.0 ∙ none_left)))
+    c.requires.small (λ same. c.if-other_length.true (c.len.ensures ∙ r.free.ok.0 ∙ same)) (c.is_surely_small.ensures c.if-is_surely_small.true) (
+      λ yes. sym r.free.ok.0 ∙ eqb-true r.free.len 0 (subst IsTrue empty yes),
+      λ none_left. subst IsTrue (sym empty) (eq-eqb r.free.len 0 (r.free.ok.0 ∙ none_left)),
+    )

@@ -33,12 +33,17 @@ start n rows new common is_new e =
 pub loop-row-init : goal.loop-row-init
 loop-row-init c =
     let fits : FitsSigned w128 (get_or c.args.new.now 0 (record { place = 0; value = pos 0 })).value = search rules in
-    record { looked = start c.args.columns c.args.rows.now c.args.new.now _ c.requires.new (to_z-of_z w128 (get_or c.args.new.now 0 none).value fits); room = c.requires.room }
+    record {
+      looked = start c.args.columns c.args.rows.now c.args.new.now _ c.requires.new (to_z-of_z w128 (get_or c.args.new.now 0 none).value fits);
+      room =
+          c.requires.room;
+    }
 
 pub clear_aside-requires-clause-primitive : goal.clear_aside-requires-clause-primitive
 clear_aside-requires-clause-primitive c =
     of_whole_row
-    (IsPrimitive c.args.columns) c.args.columns c.args.rows.now c.loop-row.row-index c.row-item.result c.loop-row-test.true c.row-item.is c.requires.form.primitive
+    (IsPrimitive c.args.columns) c.args.columns c.args.rows.now c.loop-row.row-index c.row-item.result c.loop-row-test.true c.row-item.is
+    c.requires.form.primitive
 
 pub clear_aside-requires-clause-small : goal.clear_aside-requires-clause-small
 clear_aside-requires-clause-small c =
@@ -48,7 +53,8 @@ pub clear_aside-requires-clause-zero : goal.clear_aside-requires-clause-zero
 clear_aside-requires-clause-zero c =
     let kept = of_row (IsKept c.args.columns) c.args.rows.now c.loop-row.row-index c.row-item.result c.loop-row-test.true c.row-item.is c.requires.kept in
     nothing_at c.args.columns c.row-item.result c.args.new.now kept c.requires.new
-    (of_whole_row (λ other. number_at (row_of c.args.columns c.args.new.now) (pivot other) ≡ pos 0) c.args.columns c.args.rows.now c.loop-row.row-index c.row-item.result c.loop-row-test.true c.row-item.is c.requires.zero)
+    (of_whole_row (λ other. number_at (row_of c.args.columns c.args.new.now)
+    (pivot other) ≡ pos 0) c.args.columns c.args.rows.now c.loop-row.row-index c.row-item.result c.loop-row-test.true c.row-item.is c.requires.zero)
 
 pub returns-in_default-clause-foresees : goal.returns-in_default-clause-foresees
 returns-in_default-clause-foresees c =
@@ -123,9 +129,12 @@ returns-then-fixing-clause-foresees c =
     let past : length form.rows ≤ c.loop-row.row-index = let l = length-map rows (λ (x : SparseRow). row_of n (entries_of x)) in omega arith in
     let l = c.loop-row.invariant.looked in
     let new = row_of n c.args.new.now in (
-      foreseen form new c.requires.form c.requires.new.primitive c.requires.zero c.loop-row.row-index (to_z w128 c.loop-row.common-bits) c.loop-row.fixing past l c.requires.new.small,
-      looked_grows form new c.requires.form c.requires.new.primitive c.requires.zero c.loop-row.row-index (to_z w128 c.loop-row.common-bits) c.loop-row.fixing past l c.requires.new.small,
-      looked_fixing form new c.requires.form c.requires.new.primitive c.requires.zero c.loop-row.row-index (to_z w128 c.loop-row.common-bits) c.loop-row.fixing past l c.requires.new.small c.if-fixing.true,
+      foreseen form new c.requires.form c.requires.new.primitive c.requires.zero c.loop-row.row-index
+          (to_z w128 c.loop-row.common-bits) c.loop-row.fixing past l c.requires.new.small,
+      looked_grows form new c.requires.form c.requires.new.primitive c.requires.zero c.loop-row.row-index
+          (to_z w128 c.loop-row.common-bits) c.loop-row.fixing past l c.requires.new.small,
+      looked_fixing form new c.requires.form c.requires.new.primitive c.requires.zero c.loop-row.row-index
+          (to_z w128 c.loop-row.common-bits) c.loop-row.fixing past l c.requires.new.small c.if-fixing.true,
     )
 
 pub returns-else-fixing-clause-foresees : goal.returns-else-fixing-clause-foresees
@@ -136,9 +145,12 @@ returns-else-fixing-clause-foresees c =
     let past : length form.rows ≤ c.loop-row.row-index = let l = length-map rows (λ (x : SparseRow). row_of n (entries_of x)) in omega arith in
     let l = c.loop-row.invariant.looked in
     let new = row_of n c.args.new.now in (
-      foreseen form new c.requires.form c.requires.new.primitive c.requires.zero c.loop-row.row-index (to_z w128 c.loop-row.common-bits) c.loop-row.fixing past l c.requires.new.small,
-      looked_grows form new c.requires.form c.requires.new.primitive c.requires.zero c.loop-row.row-index (to_z w128 c.loop-row.common-bits) c.loop-row.fixing past l c.requires.new.small,
-      looked_open form new c.requires.form c.requires.new.primitive c.requires.zero c.loop-row.row-index (to_z w128 c.loop-row.common-bits) c.loop-row.fixing past l c.requires.new.small (λ t. true≢false (sym t ∙ c.if-fixing.false)),
+      foreseen form new c.requires.form c.requires.new.primitive c.requires.zero c.loop-row.row-index
+          (to_z w128 c.loop-row.common-bits) c.loop-row.fixing past l c.requires.new.small,
+      looked_grows form new c.requires.form c.requires.new.primitive c.requires.zero c.loop-row.row-index
+          (to_z w128 c.loop-row.common-bits) c.loop-row.fixing past l c.requires.new.small,
+      looked_open form new c.requires.form c.requires.new.primitive c.requires.zero c.loop-row.row-index
+          (to_z w128 c.loop-row.common-bits) c.loop-row.fixing past l c.requires.new.small (λ t. true≢false (sym t ∙ c.if-fixing.false)),
     )
 
 pub clear_aside-requires-clause-kept : goal.clear_aside-requires-clause-kept

@@ -26,7 +26,11 @@ start n rows new is_new =
 
 pub loop-row-init : goal.loop-row-init
 loop-row-init c =
-    record { glanced = subst (λ b. IsGlanced c.args.columns (rows_of c.args.columns c.args.rows.now) (row_of c.args.columns c.args.new.now) 0 b) (ne_eqb (length c.args.new.now) 1 c.if-new-eq1.false) (start c.args.columns c.args.rows.now c.args.new.now c.requires.new); room = c.requires.room }
+    record {
+      glanced = subst (λ b. IsGlanced c.args.columns (rows_of c.args.columns c.args.rows.now) (row_of c.args.columns c.args.new.now) 0 b)
+          (ne_eqb (length c.args.new.now) 1 c.if-new-eq1.false) (start c.args.columns c.args.rows.now c.args.new.now c.requires.new);
+      room = c.requires.room;
+    }
 
 pub look_at-requires-clause-most : goal.look_at-requires-clause-most
 look_at-requires-clause-most c = c.bound_of-most.ensures.values
@@ -34,7 +38,8 @@ look_at-requires-clause-most c = c.bound_of-most.ensures.values
 pub look_at-requires-clause-primitive : goal.look_at-requires-clause-primitive
 look_at-requires-clause-primitive c =
     of_whole_row
-    (IsPrimitive c.args.columns) c.args.columns c.args.rows.now c.loop-row.row-index c.row-item.result c.loop-row-test.true c.row-item.is c.requires.form.primitive
+    (IsPrimitive c.args.columns) c.args.columns c.args.rows.now c.loop-row.row-index c.row-item.result c.loop-row-test.true c.row-item.is
+    c.requires.form.primitive
 
 pub look_at-requires-clause-small : goal.look_at-requires-clause-small
 look_at-requires-clause-small c =
@@ -44,7 +49,8 @@ pub look_at-requires-clause-zero : goal.look_at-requires-clause-zero
 look_at-requires-clause-zero c =
     let kept = of_row (IsKept c.args.columns) c.args.rows.now c.loop-row.row-index c.row-item.result c.loop-row-test.true c.row-item.is c.requires.kept in
     nothing_at c.args.columns c.row-item.result c.args.new.now kept c.requires.new
-    (of_whole_row (λ other. number_at (row_of c.args.columns c.args.new.now) (pivot other) ≡ pos 0) c.args.columns c.args.rows.now c.loop-row.row-index c.row-item.result c.loop-row-test.true c.row-item.is c.requires.zero)
+    (of_whole_row (λ other. number_at (row_of c.args.columns c.args.new.now)
+    (pivot other) ≡ pos 0) c.args.columns c.args.rows.now c.loop-row.row-index c.row-item.result c.loop-row-test.true c.row-item.is c.requires.zero)
 
 pub loop-row-preserved : goal.loop-row-preserved
 loop-row-preserved c =
@@ -55,7 +61,8 @@ loop-row-preserved c =
       glanced =
           one_more_glanced n (rows_of n rows) (row_of n c.args.new.now) c.loop-row.row-index c.loop-row.fixing all.0 c.in-Some.lone c.either-fixing.result
           (row_within n rows c.loop-row.row-index c.loop-row-test.true) c.loop-row.invariant.glanced
-          (cleared_at n (row_of n c.args.new.now) rows c.loop-row.row-index c.row-item.result all.0 c.loop-row-test.true c.row-item.is all.1) all.2.0 all.2.1 c.either-fixing.ensures;
+          (cleared_at n (row_of n c.args.new.now) rows c.loop-row.row-index c.row-item.result all.0 c.loop-row-test.true c.row-item.is all.1) all.2.0 all.2.1
+          c.either-fixing.ensures;
       room = c.look_at.ensures.room;
     }
 
@@ -90,7 +97,8 @@ returns-then-fixing-clause-foresees c =
     let new = row_of n c.args.new.now in (
       foreseen form new c.requires.form c.requires.new.primitive c.requires.zero c.loop-row.row-index l.0 c.loop-row.fixing past l.1 c.requires.new.small,
       looked_grows form new c.requires.form c.requires.new.primitive c.requires.zero c.loop-row.row-index l.0 c.loop-row.fixing past l.1 c.requires.new.small,
-      looked_fixing form new c.requires.form c.requires.new.primitive c.requires.zero c.loop-row.row-index l.0 c.loop-row.fixing past l.1 c.requires.new.small c.if-fixing.true,
+      looked_fixing form new c.requires.form c.requires.new.primitive c.requires.zero c.loop-row.row-index l.0 c.loop-row.fixing past l.1 c.requires.new.small
+          c.if-fixing.true,
     )
 
 pub returns-then-new-eq1-clause-foresees : goal.returns-then-new-eq1-clause-foresees
@@ -99,9 +107,11 @@ returns-then-new-eq1-clause-foresees c =
     let rows = c.args.rows.now in
     let form : Echelon = record { n = n; rows = rows_of n rows } in
     let new = row_of n c.args.new.now in
-    let made = all_cleared_small n c.args.new.now c.requires.new c.if-new-eq1.true rows c.requires.kept c.requires.form.primitive c.requires.form.entries c.requires.zero in
+    let made = all_cleared_small n c.args.new.now c.requires.new c.if-new-eq1.true rows c.requires.kept c.requires.form.primitive c.requires.form.entries
+    c.requires.zero in
     let all = length form.rows in
-    let l = looked n (rows_of n rows) c.args.new.now all true c.requires.new c.requires.multiple (glanced_at_once n form.rows new made.0 made.1 made.2 ((lone_new n c.args.new.now c.requires.new).0 c.if-new-eq1.true)) in (
+    let l = looked n (rows_of n rows) c.args.new.now all true c.requires.new c.requires.multiple
+    (glanced_at_once n form.rows new made.0 made.1 made.2 ((lone_new n c.args.new.now c.requires.new).0 c.if-new-eq1.true)) in (
       foreseen form new c.requires.form c.requires.new.primitive c.requires.zero all l.0 true (omega arith) l.1 c.requires.new.small,
       looked_grows form new c.requires.form c.requires.new.primitive c.requires.zero all l.0 true (omega arith) l.1 c.requires.new.small,
       looked_fixing form new c.requires.form c.requires.new.primitive c.requires.zero all l.0 true (omega arith) l.1 c.requires.new.small refl,
@@ -117,7 +127,8 @@ returns-else-fixing-clause-foresees c =
     let new = row_of n c.args.new.now in (
       foreseen form new c.requires.form c.requires.new.primitive c.requires.zero c.loop-row.row-index l.0 c.loop-row.fixing past l.1 c.requires.new.small,
       looked_grows form new c.requires.form c.requires.new.primitive c.requires.zero c.loop-row.row-index l.0 c.loop-row.fixing past l.1 c.requires.new.small,
-      looked_open form new c.requires.form c.requires.new.primitive c.requires.zero c.loop-row.row-index l.0 c.loop-row.fixing past l.1 c.requires.new.small (λ t. true≢false (sym t ∙ c.if-fixing.false)),
+      looked_open form new c.requires.form c.requires.new.primitive c.requires.zero c.loop-row.row-index l.0 c.loop-row.fixing past l.1 c.requires.new.small
+          (λ t. true≢false (sym t ∙ c.if-fixing.false)),
     )
 
 pub look_at-requires-clause-kept : goal.look_at-requires-clause-kept

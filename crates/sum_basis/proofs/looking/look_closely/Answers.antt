@@ -20,7 +20,8 @@ pub value_at-times-requires : goal.value_at-times-requires
 value_at-times-requires c =
     let fits = c.ranges.columns.fits in
     rw c.deref.ensures.value
-    (listed_to 0 c.args.columns 65536 c.args.row.now.free.items (omega arith) (listed_from (c.args.row.now.pivot + 1) 0 c.args.columns c.args.row.now.free.items (omega arith) c.requires.kept.listed.3))
+    (listed_to 0 c.args.columns 65536 c.args.row.now.free.items (omega arith)
+    (listed_from (c.args.row.now.pivot + 1) 0 c.args.columns c.args.row.now.free.items (omega arith) c.requires.kept.listed.3))
 
 pub bounds-new-0 : goal.bounds-new-0
 bounds-new-0 c = c.requires.new.some
@@ -78,7 +79,8 @@ are_parallel-requires-clause-first c =
 pub are_parallel-requires-clause-times : goal.are_parallel-requires-clause-times
 are_parallel-requires-clause-times c =
     let times : FitsSigned w128 c.value_at-times.result = search rules in
-    times_small c.args.columns c.args.row.now _ c.deref.result.now c.value_at-times.result _ c.requires.kept c.requires.small c.deref.ensures.value c.value_at-times.ensures
+    times_small c.args.columns c.args.row.now _ c.deref.result.now c.value_at-times.result _ c.requires.kept c.requires.small c.deref.ensures.value
+    c.value_at-times.ensures
     (to_z-of_z w128 c.value_at-times.result times)
 
 pub are_parallel-requires-clause-second : goal.are_parallel-requires-clause-second
@@ -97,7 +99,8 @@ returns-then-is_surely_small-clause-cleared c =
     (to_z-of_z w128 (get_or c.args.new.now 0 none).value by) found c.are_parallel.result
     (is ∙ c.value_at-times.ensures ∙ ap (λ l. entry_at l (get_or c.args.new.now 0 none).place) c.deref.ensures.value)
     (λ z. c.if-times-eq0.false (ap (of_z w128) (sym is ∙ z)))
-    (subst (λ (size : ℕ). unsigned_abs first * c.args.row.now.most + size * c.args.most ≤ 2 ^ 56) c.unsigned_abs.ensures.value (c.is_surely_small.ensures c.if-is_surely_small.true))
+    (subst (λ (size : ℕ). unsigned_abs first * c.args.row.now.most + size * c.args.most ≤ 2 ^ 56) c.unsigned_abs.ensures.value
+    (c.is_surely_small.ensures c.if-is_surely_small.true))
     (λ yes. ap (map (scaled first)) (sym list) ∙ told.0 yes, λ same. told.1 (ap (map (scaled first)) list ∙ same))
 
 pub returns-then-times-eq0-clause-cleared : goal.returns-then-times-eq0-clause-cleared
@@ -107,8 +110,16 @@ returns-then-times-eq0-clause-cleared c =
     let times : FitsSigned w128 c.value_at-times.result = search rules in
     let nothing = sym c.value_at-times.ensures ∙ zero_from_bits c.value_at-times.result times c.if-times-eq0.true in (
       row_of n (entries_of r),
-      cleared_as_it_is n r c.args.new.now c.requires.kept c.requires.new c.requires.zero c.requires.primitive (ap (λ l. entry_at l (get_or c.args.new.now 0 none).place) (sym c.deref.ensures.value) ∙ nothing),
-      (c.requires.small, lone_by_length n r.free.len (record { place = r.pivot; value = r.head }) r.free.items c.is_empty.result c.requires.kept.listed r.free.ok.0 c.is_empty.ensures),
+      cleared_as_it_is n r c.args.new.now c.requires.kept c.requires.new c.requires.zero c.requires.primitive
+          (ap (λ l. entry_at l (get_or c.args.new.now 0 none).place) (sym c.deref.ensures.value) ∙ nothing),
+      (
+        c.requires.small,
+        lone_by_length n r.free.len (record {
+          place = r.pivot;
+          value =
+              r.head;
+        }) r.free.items c.is_empty.result c.requires.kept.listed r.free.ok.0 c.is_empty.ensures,
+      ),
     )
 
 pub returns-in_err-cleared-clause-cleared : goal.returns-in_err-cleared-clause-cleared

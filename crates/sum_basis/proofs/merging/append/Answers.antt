@@ -36,7 +36,8 @@ loop-e-preserved c =
     record {
       items = c.push_reserved.ensures.items
           ∙ pushed _ c.args.out.now.items c.loop-e.out.items c.args.rest.now c.loop-e.e-index _ c.loop-e-test.true c.loop-e.invariant.items
-          (to_z-of_z w128 c.product-value.result result ∙ c.product-value.ensures.exact ∙ ap (λ z. to_z w128 (of_z w128 c.args.by) *ℤ z) (to_z-of_z w128 e.value value));
+          (to_z-of_z w128 c.product-value.result result ∙ c.product-value.ensures.exact
+          ∙ ap (λ z. to_z w128 (of_z w128 c.args.by) *ℤ z) (to_z-of_z w128 e.value value));
       capacity = c.push_reserved.ensures.capacity ∙ c.loop-e.invariant.capacity;
     }
 

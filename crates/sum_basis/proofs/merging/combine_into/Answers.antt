@@ -108,7 +108,8 @@ returns-clause-capacity c = c.append-2.ensures.capacity ∙ c.append.ensures.cap
 
 pub put-requires : goal.put-requires
 put-requires c =
-    let free = out_room c.args.columns _ c.args.first.now _ c.args.second.now c.loop-i.out.items c.loop-i.i c.loop-i.j c.loop-i.invariant.merging c.loop-i-test.true c.if-j-second.true in
+    let free = out_room c.args.columns _ c.args.first.now _ c.args.second.now c.loop-i.out.items c.loop-i.i c.loop-i.j c.loop-i.invariant.merging
+    c.loop-i-test.true c.if-j-second.true in
     let len = c.loop-i.out.ok.0 in
     let cap = c.loop-i.invariant.capacity in
     let enough = c.requires.room in
@@ -116,7 +117,8 @@ put-requires c =
 
 pub put-requires-then-other-one : goal.put-requires-then-other-one
 put-requires-then-other-one c =
-    let free = out_room c.args.columns _ c.args.first.now _ c.args.second.now c.loop-i.out.items c.loop-i.i c.loop-i.j c.loop-i.invariant.merging c.loop-i-test.true c.if-j-second.true in
+    let free = out_room c.args.columns _ c.args.first.now _ c.args.second.now c.loop-i.out.items c.loop-i.i c.loop-i.j c.loop-i.invariant.merging
+    c.loop-i-test.true c.if-j-second.true in
     let len = c.loop-i.out.ok.0 in
     let cap = c.loop-i.invariant.capacity in
     let enough = c.requires.room in
@@ -124,7 +126,8 @@ put-requires-then-other-one c =
 
 pub put-requires-else-other-one : goal.put-requires-else-other-one
 put-requires-else-other-one c =
-    let free = out_room c.args.columns _ c.args.first.now _ c.args.second.now c.loop-i.out.items c.loop-i.i c.loop-i.j c.loop-i.invariant.merging c.loop-i-test.true c.if-j-second.true in
+    let free = out_room c.args.columns _ c.args.first.now _ c.args.second.now c.loop-i.out.items c.loop-i.i c.loop-i.j c.loop-i.invariant.merging
+    c.loop-i-test.true c.if-j-second.true in
     let len = c.loop-i.out.ok.0 in
     let cap = c.loop-i.invariant.capacity in
     let enough = c.requires.room in
@@ -135,7 +138,9 @@ loop-i-preserved-then-one-other c =
     let x : FitsSigned w128 (get_or c.args.first.now c.loop-i.i (record { place = 0; value = pos 0 })).value = search rules in
     let v : FitsSigned w128 c.product.result = search rules in
     record {
-      merging = rw c.put.ensures.items (first_merged c.args.columns _ c.args.first.now _ c.args.second.now c.loop-i.out.items c.loop-i.i c.loop-i.j c.loop-i.invariant.merging c.loop-i-test.true c.if-j-second.true _ c.if-one-other.true (passed _ _ v (c.product.ensures.exact ∙ of_value _ _ x)));
+      merging = rw c.put.ensures.items
+          (first_merged c.args.columns _ c.args.first.now _ c.args.second.now c.loop-i.out.items c.loop-i.i c.loop-i.j c.loop-i.invariant.merging
+          c.loop-i-test.true c.if-j-second.true _ c.if-one-other.true (passed _ _ v (c.product.ensures.exact ∙ of_value _ _ x)));
       capacity = c.put.ensures.capacity ∙ c.loop-i.invariant.capacity;
     }
 
@@ -144,8 +149,12 @@ loop-i-preserved-then-other-one c =
     let y : FitsSigned w128 (get_or c.args.second.now c.loop-i.j (record { place = 0; value = pos 0 })).value = search rules in
     let v : FitsSigned w128 c.product-then-other-one.result = search rules in
     record {
-      merging = rw c.put-then-other-one.ensures.items (second_merged c.args.columns _ c.args.first.now _ c.args.second.now c.loop-i.out.items c.loop-i.i c.loop-i.j c.loop-i.invariant.merging c.loop-i-test.true c.if-j-second.true _ c.if-other-one.true
-          (passed _ _ v (c.product-then-other-one.ensures.exact ∙ ap (λ z. z *ℤ to_z w128 (of_z w128 (get_or c.args.second.now c.loop-i.j (record { place = 0; value = pos 0 })).value)) (minus_is c.args.times c.ranges.times c.requires.times) ∙ of_value _ _ y)));
+      merging = rw c.put-then-other-one.ensures.items
+          (second_merged c.args.columns _ c.args.first.now _ c.args.second.now c.loop-i.out.items c.loop-i.i c.loop-i.j c.loop-i.invariant.merging
+          c.loop-i-test.true c.if-j-second.true _ c.if-other-one.true
+          (passed _ _ v (c.product-then-other-one.ensures.exact
+          ∙ ap (λ z. z *ℤ to_z w128 (of_z w128 (get_or c.args.second.now c.loop-i.j (record { place = 0; value = pos 0 })).value))
+          (minus_is c.args.times c.ranges.times c.requires.times) ∙ of_value _ _ y)));
       capacity = c.put-then-other-one.ensures.capacity ∙ c.loop-i.invariant.capacity;
     }
 
@@ -158,15 +167,23 @@ loop-i-preserved c =
     let down = c.if-other-one.false in
     record {
       merging =
-          rw c.put-else-other-one.ensures.items (both_merged c.args.columns _ c.args.first.now _ c.args.second.now c.loop-i.out.items c.loop-i.i c.loop-i.j c.loop-i.invariant.merging c.loop-i-test.true c.if-j-second.true _ (omega arith) (passed _ _ v (c.difference.ensures ∙ of_values _ _ _ _ x y)));
+          rw c.put-else-other-one.ensures.items
+          (both_merged c.args.columns _ c.args.first.now _ c.args.second.now c.loop-i.out.items c.loop-i.i c.loop-i.j c.loop-i.invariant.merging
+          c.loop-i-test.true c.if-j-second.true _ (omega arith) (passed _ _ v (c.difference.ensures ∙ of_values _ _ _ _ x y)));
       capacity = c.put-else-other-one.ensures.capacity ∙ c.loop-i.invariant.capacity;
     }
 
 pub append-requires-clause-room : goal.append-requires-clause-room
 append-requires-clause-room c =
-    let over : (length c.args.first.now ≤ c.loop-i.i) ⊎ (length c.args.second.now ≤ c.loop-i.j) = elim c.loop-i-test.branch [ then-loop-i-test+else-j-second w ↦ let past = w.if-j-second.false in inr (omega arith) | else-loop-i-test w ↦ let past = w.loop-i-test.false in inl (omega arith) ] in
+    let over : (length c.args.first.now ≤ c.loop-i.i) ⊎ (length c.args.second.now ≤ c.loop-i.j) =
+    elim c.loop-i-test.branch [
+      | then-loop-i-test+else-j-second w ↦ let past = w.if-j-second.false in
+          inr (omega arith)
+      | else-loop-i-test w ↦ let past = w.loop-i-test.false in inl (omega arith)
+    ] in
     let m = c.loop-i.invariant.merging in
-    let enough = part_length c.args.columns _ c.args.first.now _ c.args.second.now c.loop-i.out.items c.loop-i.i c.loop-i.j m over (some_by c.args.by c.ranges.by c.requires.by_some) (some_by c.args.times c.ranges.times c.requires.times_some) in
+    let enough = part_length c.args.columns _ c.args.first.now _ c.args.second.now c.loop-i.out.items c.loop-i.i c.loop-i.j m over
+    (some_by c.args.by c.ranges.by c.requires.by_some) (some_by c.args.times c.ranges.times c.requires.times_some) in
     let len = c.loop-i.out.ok.0 in
     let cap = c.loop-i.invariant.capacity in
     let room = c.requires.room in
@@ -174,11 +191,19 @@ append-requires-clause-room c =
 
 pub append-requires-2-clause-room : goal.append-requires-2-clause-room
 append-requires-2-clause-room c =
-    let over : (length c.args.first.now ≤ c.loop-i.i) ⊎ (length c.args.second.now ≤ c.loop-i.j) = elim c.loop-i-test.branch [ then-loop-i-test+else-j-second w ↦ let past = w.if-j-second.false in inr (omega arith) | else-loop-i-test w ↦ let past = w.loop-i-test.false in inl (omega arith) ] in
+    let over : (length c.args.first.now ≤ c.loop-i.i) ⊎ (length c.args.second.now ≤ c.loop-i.j) =
+    elim c.loop-i-test.branch [
+      | then-loop-i-test+else-j-second w ↦ let past = w.if-j-second.false in
+          inr (omega arith)
+      | else-loop-i-test w ↦ let past = w.loop-i-test.false in inl (omega arith)
+    ] in
     let m = c.loop-i.invariant.merging in
-    let enough = whole_length c.args.columns _ c.args.first.now _ c.args.second.now c.loop-i.out.items c.loop-i.i c.loop-i.j m over (some_by c.args.by c.ranges.by c.requires.by_some) (some_by c.args.times c.ranges.times c.requires.times_some) in
-    let same : length c.append.new.out.items ≡ length (c.loop-i.out.items ++ map (scaled (to_z w128 (of_z w128 c.args.by))) (drop c.loop-i.i c.args.first.now)) =
-    ap length (c.append.ensures.items ∙ ap (λ l. c.loop-i.out.items ++ map (scaled (to_z w128 (of_z w128 c.args.by))) l) (end_is c.args.first.now c.loop-i.i)) in
+    let enough = whole_length c.args.columns _ c.args.first.now _ c.args.second.now c.loop-i.out.items c.loop-i.i c.loop-i.j m over
+    (some_by c.args.by c.ranges.by c.requires.by_some) (some_by c.args.times c.ranges.times c.requires.times_some) in
+    let same : length c.append.new.out.items ≡ length (c.loop-i.out.items ++ map (scaled (to_z w128 (of_z w128 c.args.by)))
+    (drop c.loop-i.i c.args.first.now)) =
+    ap length (c.append.ensures.items ∙ ap (λ l. c.loop-i.out.items ++ map (scaled (to_z w128 (of_z w128 c.args.by))) l)
+    (end_is c.args.first.now c.loop-i.i)) in
     let len = c.append.new.out.ok.0 in
     let cap = c.append.ensures.capacity in
     let before = c.loop-i.invariant.capacity in
@@ -187,15 +212,30 @@ append-requires-2-clause-room c =
 
 pub returns-clause-listed : goal.returns-clause-listed
 returns-clause-listed c =
-    let over : (length c.args.first.now ≤ c.loop-i.i) ⊎ (length c.args.second.now ≤ c.loop-i.j) = elim c.loop-i-test.branch [ then-loop-i-test+else-j-second w ↦ let past = w.if-j-second.false in inr (omega arith) | else-loop-i-test w ↦ let past = w.loop-i-test.false in inl (omega arith) ] in
-    let is = appended c.loop-i.out.items c.append.new.out.items c.append-2.new.out.items c.args.first.now c.args.second.now _ (to_z w128 (of_z w128 c.args.times)) _ c.loop-i.i c.loop-i.j c.append.ensures.items c.append-2.ensures.items (minus_is c.args.times c.ranges.times c.requires.times) in
+    let over : (length c.args.first.now ≤ c.loop-i.i) ⊎ (length c.args.second.now ≤ c.loop-i.j) =
+    elim c.loop-i-test.branch [
+      | then-loop-i-test+else-j-second w ↦ let past = w.if-j-second.false in
+          inr (omega arith)
+      | else-loop-i-test w ↦ let past = w.loop-i-test.false in inl (omega arith)
+    ] in
+    let is = appended c.loop-i.out.items c.append.new.out.items c.append-2.new.out.items c.args.first.now c.args.second.now _
+    (to_z w128 (of_z w128 c.args.times)) _ c.loop-i.i c.loop-i.j c.append.ensures.items c.append-2.ensures.items
+    (minus_is c.args.times c.ranges.times c.requires.times) in
     rw is
-    (whole_listed c.args.columns _ c.args.first.now _ c.args.second.now c.loop-i.out.items c.loop-i.i c.loop-i.j c.loop-i.invariant.merging over (some_by c.args.by c.ranges.by c.requires.by_some) (some_by c.args.times c.ranges.times c.requires.times_some))
+    (whole_listed c.args.columns _ c.args.first.now _ c.args.second.now c.loop-i.out.items c.loop-i.i c.loop-i.j c.loop-i.invariant.merging over
+    (some_by c.args.by c.ranges.by c.requires.by_some) (some_by c.args.times c.ranges.times c.requires.times_some))
 
 pub returns-clause-combined : goal.returns-clause-combined
 returns-clause-combined c = λ k.
-    let over : (length c.args.first.now ≤ c.loop-i.i) ⊎ (length c.args.second.now ≤ c.loop-i.j) = elim c.loop-i-test.branch [ then-loop-i-test+else-j-second w ↦ let past = w.if-j-second.false in inr (omega arith) | else-loop-i-test w ↦ let past = w.loop-i-test.false in inl (omega arith) ] in
-    let is = appended c.loop-i.out.items c.append.new.out.items c.append-2.new.out.items c.args.first.now c.args.second.now _ (to_z w128 (of_z w128 c.args.times)) _ c.loop-i.i c.loop-i.j c.append.ensures.items c.append-2.ensures.items (minus_is c.args.times c.ranges.times c.requires.times) in
+    let over : (length c.args.first.now ≤ c.loop-i.i) ⊎ (length c.args.second.now ≤ c.loop-i.j) =
+    elim c.loop-i-test.branch [
+      | then-loop-i-test+else-j-second w ↦ let past = w.if-j-second.false in
+          inr (omega arith)
+      | else-loop-i-test w ↦ let past = w.loop-i-test.false in inl (omega arith)
+    ] in
+    let is = appended c.loop-i.out.items c.append.new.out.items c.append-2.new.out.items c.args.first.now c.args.second.now _
+    (to_z w128 (of_z w128 c.args.times)) _ c.loop-i.i c.loop-i.j c.append.ensures.items c.append-2.ensures.items
+    (minus_is c.args.times c.ranges.times c.requires.times) in
     ap (λ l. entry_at l k) is
     ∙ whole_is c.args.columns _ c.args.first.now _ c.args.second.now c.loop-i.out.items c.loop-i.i c.loop-i.j c.loop-i.invariant.merging over
     (some_by c.args.by c.ranges.by c.requires.by_some) (some_by c.args.times c.ranges.times c.requires.times_some) k

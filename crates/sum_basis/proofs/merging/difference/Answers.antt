@@ -31,4 +31,5 @@ returns c =
     let q : FitsSigned w128 c.product-2.result = search rules in
     let first = product_of c.product.result c.args.by c.args.x p c.ranges.by c.ranges.x c.product.ensures.exact in
     let second = product_of c.product-2.result c.args.times c.args.y q c.ranges.times c.ranges.y c.product-2.ensures.exact in
-    rw (first, second) (to_z-of_z w128 (c.args.by *ℤ c.args.x -ℤ c.args.times *ℤ c.args.y) (difference_fits c.args.by c.args.x c.args.times c.args.y c.requires.by c.requires.x c.requires.times c.requires.y))
+    rw (first, second) (to_z-of_z w128 (c.args.by *ℤ c.args.x -ℤ c.args.times *ℤ c.args.y)
+    (difference_fits c.args.by c.args.x c.args.times c.args.y c.requires.by c.requires.x c.requires.times c.requires.y))

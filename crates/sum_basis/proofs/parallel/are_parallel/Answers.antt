@@ -25,23 +25,30 @@ returns-then-first-second c =
 
 pub returns-then-not-are_alike : goal.returns-then-not-are_alike
 returns-then-not-are_alike c =
-    let t = zip_turn c.args.first.now c.args.second.now c.loop-one.yielded c.into_iter-one-iterator.result c.loop-one.one-iterator c.next.new.self c.next.result (search rules) (search rules) c.loop-one.yielded_by (c.in-Some.one, c.in-Some.other) c.in-Some.is c.next.ensures.steps in (
+    let t = zip_turn c.args.first.now c.args.second.now c.loop-one.yielded c.into_iter-one-iterator.result c.loop-one.one-iterator c.next.new.self c.next.result
+    (search rules) (search rules) c.loop-one.yielded_by (c.in-Some.one, c.in-Some.other) c.in-Some.is c.next.ensures.steps in (
       λ yes. absurd (true≢false (sym yes)),
       λ same.
-          let here = ap (scaled c.args.by) (t.2 none) ∙ alike_at c.args.by c.args.times c.args.first.now c.args.second.now (length c.loop-one.yielded) none t.0 t.1 same ∙ sym (ap (scaled c.args.times) (t.3 none)) in
-          absurd (refused c.are_alike.result c.if-not-are_alike.true (c.are_alike.ensures.1 (turned _ _ c.args.by c.args.times c.in-Some.one.now c.in-Some.other.now (to_z-of_z w128 c.args.by c.ranges.by) (to_z-of_z w128 c.args.times c.ranges.times) here))),
+          let here = ap (scaled c.args.by) (t.2 none) ∙ alike_at c.args.by c.args.times c.args.first.now c.args.second.now
+          (length c.loop-one.yielded) none t.0 t.1 same ∙ sym (ap (scaled c.args.times) (t.3 none)) in
+          absurd (refused c.are_alike.result c.if-not-are_alike.true
+          (c.are_alike.ensures.1 (turned _ _ c.args.by c.args.times c.in-Some.one.now c.in-Some.other.now (to_z-of_z w128 c.args.by c.ranges.by)
+          (to_z-of_z w128 c.args.times c.ranges.times) here))),
     )
 
 pub loop-one-preserved : goal.loop-one-preserved
 loop-one-preserved c =
-    let t = zip_turn c.args.first.now c.args.second.now c.loop-one.yielded c.into_iter-one-iterator.result c.loop-one.one-iterator c.next.new.self c.next.result (search rules) (search rules) c.loop-one.yielded_by (c.in-Some.one, c.in-Some.other) c.in-Some.is c.next.ensures.steps in
+    let t = zip_turn c.args.first.now c.args.second.now c.loop-one.yielded c.into_iter-one-iterator.result c.loop-one.one-iterator c.next.new.self c.next.result
+    (search rules) (search rules) c.loop-one.yielded_by (c.in-Some.one, c.in-Some.other) c.in-Some.is c.next.ensures.steps in
     let alike = c.are_alike.ensures.0 c.if-not-are_alike.false in
     rw (length_push c.loop-one.yielded (c.in-Some.one, c.in-Some.other))
-    (one_more_alike _ _ c.args.first.now c.args.second.now (length c.loop-one.yielded) none t.0 t.1 c.loop-one.invariant (sym (ap (scaled _) (t.2 none)) ∙ alike ∙ ap (scaled _) (t.3 none)))
+    (one_more_alike _ _ c.args.first.now c.args.second.now (length c.loop-one.yielded) none t.0 t.1 c.loop-one.invariant
+    (sym (ap (scaled _) (t.2 none)) ∙ alike ∙ ap (scaled _) (t.3 none)))
 
 pub returns : goal.returns
 returns c =
-    let t = zip_end c.args.first.now c.args.second.now c.loop-one.yielded c.into_iter-one-iterator.result c.loop-one.one-iterator c.next.new.self c.next.result (search rules) (search rules) c.loop-one.yielded_by c.in-None.is c.next.ensures.steps in
+    let t = zip_end c.args.first.now c.args.second.now c.loop-one.yielded c.into_iter-one-iterator.result c.loop-one.one-iterator c.next.new.self c.next.result
+    (search rules) (search rules) c.loop-one.yielded_by c.in-None.is c.next.ensures.steps in
     let by = to_z-of_z w128 c.args.by c.ranges.by in
     let times = to_z-of_z w128 c.args.times c.ranges.times in
     let whole = all_alike _ _ c.args.first.now c.args.second.now (length c.loop-one.yielded) (omega arith) (omega arith) c.loop-one.invariant in
@@ -61,10 +68,12 @@ value_at es k e l is all = subst (λ (x : FreeEntry). unsigned_abs x.value ≤ 2
 
 pub are_alike-requires-clause-first : goal.are_alike-requires-clause-first
 are_alike-requires-clause-first c =
-    let t = zip_turn c.args.first.now c.args.second.now c.loop-one.yielded c.into_iter-one-iterator.result c.loop-one.one-iterator c.next.new.self c.next.result (search rules) (search rules) c.loop-one.yielded_by (c.in-Some.one, c.in-Some.other) c.in-Some.is c.next.ensures.steps in
+    let t = zip_turn c.args.first.now c.args.second.now c.loop-one.yielded c.into_iter-one-iterator.result c.loop-one.one-iterator c.next.new.self c.next.result
+    (search rules) (search rules) c.loop-one.yielded_by (c.in-Some.one, c.in-Some.other) c.in-Some.is c.next.ensures.steps in
     value_at c.args.first.now (length c.loop-one.yielded) c.in-Some.one.now t.0 (t.2 none) c.requires.first
 
 pub are_alike-requires-clause-second : goal.are_alike-requires-clause-second
 are_alike-requires-clause-second c =
-    let t = zip_turn c.args.first.now c.args.second.now c.loop-one.yielded c.into_iter-one-iterator.result c.loop-one.one-iterator c.next.new.self c.next.result (search rules) (search rules) c.loop-one.yielded_by (c.in-Some.one, c.in-Some.other) c.in-Some.is c.next.ensures.steps in
+    let t = zip_turn c.args.first.now c.args.second.now c.loop-one.yielded c.into_iter-one-iterator.result c.loop-one.one-iterator c.next.new.self c.next.result
+    (search rules) (search rules) c.loop-one.yielded_by (c.in-Some.one, c.in-Some.other) c.in-Some.is c.next.ensures.steps in
     value_at c.args.second.now (length c.loop-one.yielded) c.in-Some.other.now t.1 (t.3 none) c.requires.second

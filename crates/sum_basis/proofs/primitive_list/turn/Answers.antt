@@ -25,7 +25,8 @@ loop-k-preserved c =
     let is = to_z-of_z w128 c.negative-value.result q ∙ c.negative-value.ensures ∙ ap neg_ℤ (to_z-of_z w128 c.index-e.result.now.value value) in
     record {
       scaled =
-          one_more_scaled c.args.entries.now.items c.loop-k.entries.items _ c.loop-k.k _ (omega arith) c.loop-k.invariant.scaled (here ∙ turned c.index-e.result.now (to_z w128 (of_z w128 c.negative-value.result)) is);
+          one_more_scaled c.args.entries.now.items c.loop-k.entries.items _ c.loop-k.k _ (omega arith) c.loop-k.invariant.scaled
+          (here ∙ turned c.index-e.result.now (to_z w128 (of_z w128 c.negative-value.result)) is);
       length = length-set c.loop-k.entries.items c.loop-k.k _ ∙ c.loop-k.invariant.length;
       capacity = c.loop-k.invariant.capacity;
     }

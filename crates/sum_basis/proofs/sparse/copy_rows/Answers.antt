@@ -27,7 +27,8 @@ loop-row-preserved c =
     let items = c.push_reserved.ensures.items in
     record {
       same = ap (rows_of c.args.columns) items
-          ∙ one_more_row c.args.columns c.args.rows.now c.loop-row.copies.items c.loop-row.row-index c.row-item.result c.in_ok-copy.copy c.loop-row-test.true c.row-item.is c.loop-row.invariant.same c.in_ok-copy.ensures.same;
+          ∙ one_more_row c.args.columns c.args.rows.now c.loop-row.copies.items c.loop-row.row-index c.row-item.result c.in_ok-copy.copy c.loop-row-test.true
+          c.row-item.is c.loop-row.invariant.same c.in_ok-copy.ensures.same;
       kept = subst (AllByRecursion (IsKept c.args.columns)) (sym items)
           (all-push (IsKept c.args.columns) c.loop-row.copies.items c.in_ok-copy.copy c.loop-row.invariant.kept c.in_ok-copy.ensures.kept);
       count = ap length items ∙ length_push c.loop-row.copies.items c.in_ok-copy.copy ∙ ap (λ k. k + 1) c.loop-row.invariant.count;

@@ -20,7 +20,8 @@ next : (row : List ℤ) (list new : List FreeEntry) (k : ℕ) (v : ℤ) → IsPa
     new ≡ cond (is_zero v) list (list ++ record { place = k; value = v } ∷ []) → IsPartlyListed row new (k + 1)
 next row list new k v part e is = elim (zero_or_not v) [
   | inl z ↦ rw (is ∙ ap (λ b. cond b list (list ++ record { place = k; value = v } ∷ [])) (ap is_zero z)) (left_out row list k part (sym e ∙ z))
-  | inr some ↦ rw (is ∙ ap (λ b. cond b list (list ++ record { place = k; value = v } ∷ [])) (test_of_not_zero v some)) (one_more_listed row list k v part e some)
+  | inr some ↦ rw (is ∙ ap (λ b. cond b list (list ++ record { place = k; value = v } ∷ [])) (test_of_not_zero v some))
+      (one_more_listed row list k v part e some)
 ]
 
 pub loop-place-preserved : goal.loop-place-preserved
@@ -28,7 +29,8 @@ loop-place-preserved c =
     let fits : FitsSigned w128 (get_or c.args.row.now c.loop-place.place (pos 0)) = search rules in
     record {
       listed =
-          next c.args.row.now c.loop-place.list.items c.put.new.out.items c.loop-place.place _ c.loop-place.invariant.listed (to_z-of_z w128 (get_or c.args.row.now c.loop-place.place (pos 0)) fits) c.put.ensures.items;
+          next c.args.row.now c.loop-place.list.items c.put.new.out.items c.loop-place.place _ c.loop-place.invariant.listed
+          (to_z-of_z w128 (get_or c.args.row.now c.loop-place.place (pos 0)) fits) c.put.ensures.items;
       room = c.put.ensures.capacity ∙ c.loop-place.invariant.room;
     }
 

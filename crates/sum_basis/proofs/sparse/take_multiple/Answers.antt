@@ -38,14 +38,18 @@ pub subtract-requires-clause-times : goal.subtract-requires-clause-times
 subtract-requires-clause-times c =
     let fits : FitsSigned w128 c.quotient-times.result = search rules in
     rw (to_z-of_z w128 c.quotient-times.result fits)
-    (factor_small (number_at c.args.row.now c.args.other.now.pivot) c.args.other.now.head c.quotient-times.result (is_multiple (get_or c.args.row.now c.args.other.now.pivot (pos 0)) c.args.other.now.head c.quotient-times.result (search rules) (search rules) c.quotient-times.ensures) c.requires.other.leading c.requires.at_pivot)
+    (factor_small (number_at c.args.row.now c.args.other.now.pivot) c.args.other.now.head c.quotient-times.result
+    (is_multiple (get_or c.args.row.now c.args.other.now.pivot (pos 0)) c.args.other.now.head c.quotient-times.result (search rules)
+    (search rules) c.quotient-times.ensures) c.requires.other.leading c.requires.at_pivot)
 
 pub returns-then-multiple-ne0 : goal.returns-then-multiple-ne0
 returns-then-multiple-ne0 c =
     let fits : FitsSigned w128 c.quotient-times.result = search rules in
     less_by_entries (length c.args.row.now) c.args.other.now c.args.row.now c.subtract.new.row c.quotient-times.result c.requires.other refl
-    (is_multiple (get_or c.args.row.now c.args.other.now.pivot (pos 0)) c.args.other.now.head c.quotient-times.result (search rules) (search rules) c.quotient-times.ensures) c.requires.at_pivot
-    (rw (sym (length-set c.args.row.now c.args.other.now.pivot (pos 0)), sym c.deref.ensures.value) (c.subtract.ensures ∙ rw (to_z-of_z w128 c.quotient-times.result fits) refl))
+    (is_multiple (get_or c.args.row.now c.args.other.now.pivot (pos 0)) c.args.other.now.head c.quotient-times.result (search rules)
+    (search rules) c.quotient-times.ensures) c.requires.at_pivot
+    (rw (sym (length-set c.args.row.now c.args.other.now.pivot (pos 0)), sym c.deref.ensures.value)
+    (c.subtract.ensures ∙ rw (to_z-of_z w128 c.quotient-times.result fits) refl))
 
 pub returns-else-multiple-ne0 : goal.returns-else-multiple-ne0
 returns-else-multiple-ne0 c =

@@ -22,11 +22,15 @@ loop-e-init c =
 pub loop-e-preserved : goal.loop-e-preserved
 loop-e-preserved c =
     let value : FitsSigned w128 (get_or c.args.entries.now c.loop-e.e-index (record { place = 0; value = pos 0 })).value = search rules in
-    let common : IsGcd c.loop-e.divisor (unsigned_abs (get_or c.args.entries.now c.loop-e.e-index (record { place = 0; value = pos 0 })).value) c.with-divisor.result =
-    subst (λ (m : ℤ). IsGcd c.loop-e.divisor (unsigned_abs m) c.with-divisor.result) (to_z-of_z w128 (get_or c.args.entries.now c.loop-e.e-index (record { place = 0; value = pos 0 })).value value) c.with-divisor.ensures in
+    let common : IsGcd c.loop-e.divisor (unsigned_abs (get_or c.args.entries.now c.loop-e.e-index
+    (record { place = 0; value = pos 0 })).value) c.with-divisor.result =
+    subst (λ (m : ℤ). IsGcd c.loop-e.divisor (unsigned_abs m) c.with-divisor.result)
+    (to_z-of_z w128 (get_or c.args.entries.now c.loop-e.e-index (record { place = 0; value = pos 0 })).value value) c.with-divisor.ensures in
     record {
       content =
-          one_more_value (to_z w128 (of_z w128 c.args.head)) c.args.entries.now c.loop-e.e-index c.loop-e.divisor c.with-divisor.result c.loop-e-test.true c.loop-e.invariant.content common;
+          one_more_value (to_z w128
+          (of_z w128 c.args.head)) c.args.entries.now c.loop-e.e-index c.loop-e.divisor c.with-divisor.result c.loop-e-test.true c.loop-e.invariant.content
+          common;
       positive = pos_of_dvd_of_pos common.0 c.loop-e.invariant.positive;
     }
 
@@ -37,7 +41,8 @@ so_far head es k g fits content = subst (λ (h : ℤ). IsContent (h ∷ values (
 
 pub returns-then-is_below : goal.returns-then-is_below
 returns-then-is_below c =
-    let has = has_content c.args.head c.args.entries.now c.loop-e.e-index c.loop-e.divisor c.requires.head.0 c.loop-e.invariant.positive (so_far c.args.head c.args.entries.now c.loop-e.e-index c.loop-e.divisor c.ranges.head c.loop-e.invariant.content) in
+    let has = has_content c.args.head c.args.entries.now c.loop-e.e-index c.loop-e.divisor c.requires.head.0 c.loop-e.invariant.positive
+    (so_far c.args.head c.args.entries.now c.loop-e.e-index c.loop-e.divisor c.ranges.head c.loop-e.invariant.content) in
     let below = c.is_below.ensures.0 c.if-is_below.true in
     let most = has.at_most in
     record { content = (has.content, has.is, has.positive, omega arith) }
@@ -50,7 +55,15 @@ returns-then-is_one c =
       | inl below ↦ absurd (true≢false (sym (c.is_below.ensures.1 below) ∙ c.if-is_below.false))
       | inr enough ↦ omega arith
     ] in
-    record { content = (1, stays_one c.args.head c.args.entries.now c.loop-e.e-index (subst (IsContent (c.args.head ∷ values (take c.loop-e.e-index c.args.entries.now))) one content), omega arith, (one, enough)) }
+    record {
+      content = (
+        1,
+        stays_one c.args.head c.args.entries.now c.loop-e.e-index
+            (subst (IsContent (c.args.head ∷ values (take c.loop-e.e-index c.args.entries.now))) one content),
+        omega arith,
+        (one, enough),
+      );
+    }
 
 pub new-divisor-requires : goal.new-divisor-requires
 new-divisor-requires c = rw (to_z-of_z w128 c.args.head c.ranges.head) c.requires.head.1
@@ -69,7 +82,14 @@ of_all head es k g fits past content = subst (λ l. IsContent (head ∷ values l
 pub returns-then-is_below-2 : goal.returns-then-is_below-2
 returns-then-is_below-2 c =
     let below = c.is_below-2.ensures.0 c.if-is_below-2.true in
-    record { content = (c.loop-e.divisor, of_all c.args.head c.args.entries.now c.loop-e.e-index c.loop-e.divisor c.ranges.head c.loop-e-test.false c.loop-e.invariant.content, c.loop-e.invariant.positive, below) }
+    record {
+      content = (
+        c.loop-e.divisor,
+        of_all c.args.head c.args.entries.now c.loop-e.e-index c.loop-e.divisor c.ranges.head c.loop-e-test.false c.loop-e.invariant.content,
+        c.loop-e.invariant.positive,
+        below,
+      );
+    }
 
 pub returns : goal.returns
 returns c =
@@ -77,4 +97,11 @@ returns c =
       | inl below ↦ absurd (true≢false (sym (c.is_below-2.ensures.1 below) ∙ c.if-is_below-2.false))
       | inr enough ↦ enough
     ] in
-    record { content = (c.loop-e.divisor, of_all c.args.head c.args.entries.now c.loop-e.e-index c.loop-e.divisor c.ranges.head c.loop-e-test.false c.loop-e.invariant.content, c.loop-e.invariant.positive, (refl, enough)) }
+    record {
+      content = (
+        c.loop-e.divisor,
+        of_all c.args.head c.args.entries.now c.loop-e.e-index c.loop-e.divisor c.ranges.head c.loop-e-test.false c.loop-e.invariant.content,
+        c.loop-e.invariant.positive,
+        (refl, enough),
+      );
+    }

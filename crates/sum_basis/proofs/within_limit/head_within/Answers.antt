@@ -29,13 +29,16 @@ returns-in_err-divisor c =
     let es = c.args.entries.now in
     let content = content_of head es all.0 c.ranges.head all.1 in
     let e = exact head (pos all.0) content.divides.0 in
-    let least = subst (λ (h : ℤ). (m : ℕ) → unsigned_abs h ≤ m → AllByRecursion (λ (x : FreeEntry). unsigned_abs x.value ≤ m) es → c.bound_of-most.result ≤ m) (to_z-of_z w128 head c.ranges.head) c.bound_of-most.ensures.least in
+    let least = subst (λ (h : ℤ). (m : ℕ) → unsigned_abs h ≤ m → AllByRecursion (λ (x : FreeEntry). unsigned_abs x.value ≤ m) es → c.bound_of-most.result ≤ m)
+    (to_z-of_z w128 head c.ranges.head) c.bound_of-most.ensures.least in
     record {
       within = (
         int_div head (pos all.0),
         over all.0 es,
         is_over head (int_div head (pos all.0)) es all.0 all.2 content e,
-        rw c.from_residual.ensures (too_large head (int_div head (pos all.0)) es all.0 c.bound_of-most.result c.least_content.result content e least c.least_content.ensures.least all.3),
+        rw c.from_residual.ensures
+            (too_large head (int_div head
+            (pos all.0)) es all.0 c.bound_of-most.result c.least_content.result content e least c.least_content.ensures.least all.3),
       );
     }
 
@@ -50,7 +53,9 @@ returns c =
     let positive : 0 < g = subst (λ m. 0 < m) (sym all.3.0) all.2 in
     let enough = subst (λ m. c.least_content.result ≤ m) (sym all.3.0) all.3.1 in
     let by = to_z w128 (of_z w128 c.quotient.result) in
-    let e : head ≡ pos g *ℤ by = sym (to_z-of_z w128 head c.ranges.head) ∙ c.quotient.ensures ∙ ap (λ z. pos g *ℤ z) (sym (to_z-of_z w128 c.quotient.result q)) in
+    let e : head ≡ pos g *ℤ by = sym (to_z-of_z w128 head c.ranges.head) ∙ c.quotient.ensures
+    ∙ ap (λ z. pos g *ℤ z) (sym (to_z-of_z w128 c.quotient.result q)) in
     let at_head = subst (λ (h : ℤ). unsigned_abs h ≤ c.bound_of-most.result) (to_z-of_z w128 head c.ranges.head) c.bound_of-most.ensures.head in
-    let small = small_enough head by es g c.bound_of-most.result c.least_content.result positive content e at_head c.bound_of-most.ensures.values c.least_content.ensures.enough enough in
+    let small = small_enough head by es g c.bound_of-most.result c.least_content.result positive content e at_head c.bound_of-most.ensures.values
+    c.least_content.ensures.enough enough in
     record { within = (by, over g es, is_over head by es g positive content e, (refl, small.0, small.1)) }

@@ -23,11 +23,13 @@ returns c =
     let v = set_row c.args.self.now.n c.args.rows.now.list in
     let is = row_is c.args.rows.now.n c.args.self.now.n c.args.rows.now.list c.write_set.new.row c.write_set.ensures c.requires in
     let all = c.remainder.ensures.remainder in
-    let rest = subst (λ (row : List ℤ). IsRemainder c.args.self.now.rows (times (pos all.0) row) c.remainder.new.row) is (subst (λ (e : Echelon). IsRemainder e.rows (times (pos all.0) c.write_set.new.row) c.remainder.new.row) c.self.view_is all.2) in (
+    let rest = subst (λ (row : List ℤ). IsRemainder c.args.self.now.rows (times (pos all.0) row) c.remainder.new.row) is
+    (subst (λ (e : Echelon). IsRemainder e.rows (times (pos all.0) c.write_set.new.row) c.remainder.new.row) c.self.view_is all.2) in (
       λ yes. in_span c.args.self.now.rows v c.remainder.new.row all.0 all.1 rest (no_pivot c.remainder.new.row (c.has_no_pivot.ensures.0 yes)),
       λ p.
           let small = subst (λ (e : Echelon). IsSmallForm e.n e.rows) c.self.view_is form in
-          let none = nothing_left c.args.self.now.rows v c.remainder.new.row all.0 all.1 rest small.echelon (leads_from c.args.self.now.n c.args.self.now.rows small.primitive) p in
+          let none = nothing_left c.args.self.now.rows v c.remainder.new.row all.0 all.1 rest small.echelon
+          (leads_from c.args.self.now.n c.args.self.now.rows small.primitive) p in
           let at_end = pivot_of_zeros c.remainder.new.row (all_by_number (λ x. x ≡ pos 0) c.remainder.new.row none) in
           c.has_no_pivot.ensures.1 at_end,
     )

@@ -12,11 +12,13 @@ join-requires-clause-bits c = set_bits c.args.rows.now.n c.args.rows.now.list c.
 pub returns-clause-stands : goal.returns-clause-stands
 returns-clause-stands c = λ sets r.
     stands_for c.args.self.now c.join.new.self c.args.rows.now.list c.in_ok-grown.grown
-    (grows_at c.self.inside.form c.args.self.now c.write_set.new.row c.args.rows.now.n c.args.rows.now.list c.in_ok-grown.grown c.join.new.self c.self.view_is c.write_set.ensures c.requires c.in_ok-grown.ensures.grows) sets r
+    (grows_at c.self.inside.form c.args.self.now c.write_set.new.row c.args.rows.now.n c.args.rows.now.list c.in_ok-grown.grown c.join.new.self c.self.view_is
+    c.write_set.ensures c.requires c.in_ok-grown.ensures.grows) sets r
 
 pub returns-clause-wide : goal.returns-clause-wide
 returns-clause-wide c =
     wide_exactly c.args.self.now c.join.new.self (set_row c.args.self.now.n c.args.rows.now.list) c.in_ok-grown.grown
     (subst (λ (e : Echelon). IsSmallForm e.n e.rows) c.self.view_is c.columns.ensures.form)
     (subst (λ (e : Echelon). IsNarrow e.rows) c.self.view_is c.columns.ensures.narrow)
-    (grows_at c.self.inside.form c.args.self.now c.write_set.new.row c.args.rows.now.n c.args.rows.now.list c.in_ok-grown.grown c.join.new.self c.self.view_is c.write_set.ensures c.requires c.in_ok-grown.ensures.grows)
+    (grows_at c.self.inside.form c.args.self.now c.write_set.new.row c.args.rows.now.n c.args.rows.now.list c.in_ok-grown.grown c.join.new.self c.self.view_is
+    c.write_set.ensures c.requires c.in_ok-grown.ensures.grows)

@@ -17,16 +17,19 @@ insert-requires-clause-bits c = set_bits c.args.rows.now.n c.args.rows.now.list 
 
 pub insert-requires-clause-narrow : goal.insert-requires-clause-narrow
 insert-requires-clause-narrow c =
-    not_wide_at c.self.inside.form c.args.self.now c.write_set.new.row c.args.rows.now.n c.args.rows.now.list c.self.view_is c.write_set.ensures c.requires.n c.requires.narrow
+    not_wide_at c.self.inside.form c.args.self.now c.write_set.new.row c.args.rows.now.n c.args.rows.now.list c.self.view_is c.write_set.ensures c.requires.n
+    c.requires.narrow
 
 pub returns-clause-reduced : goal.returns-clause-reduced
 returns-clause-reduced c =
-    reduced_at c.self.inside.form c.args.self.now c.insert.new.self.rows c.write_set.new.row c.args.rows.now.n c.args.rows.now.list c.self.view_is c.write_set.ensures c.requires.n c.in_ok-insert.ensures.reduced
+    reduced_at c.self.inside.form c.args.self.now c.insert.new.self.rows c.write_set.new.row c.args.rows.now.n c.args.rows.now.list c.self.view_is
+    c.write_set.ensures c.requires.n c.in_ok-insert.ensures.reduced
 
 pub returns-clause-stands : goal.returns-clause-stands
 returns-clause-stands c =
     stands_with c.args.self.now c.insert.new.self c.args.rows.now.list
-    (reduced_at c.self.inside.form c.args.self.now c.insert.new.self.rows c.write_set.new.row c.args.rows.now.n c.args.rows.now.list c.self.view_is c.write_set.ensures c.requires.n c.in_ok-insert.ensures.reduced)
+    (reduced_at c.self.inside.form c.args.self.now c.insert.new.self.rows c.write_set.new.row c.args.rows.now.n c.args.rows.now.list c.self.view_is
+    c.write_set.ensures c.requires.n c.in_ok-insert.ensures.reduced)
 
 -- the held list is that of the set
 module _ (form seen : Echelon) (held : Option Held) (m : ℕ) (list : List ℕ) (new : Held) (view : form ≡ seen) (is_held : IsHeld form held)
@@ -65,7 +68,9 @@ pub returns-in-Some-clause-stands : goal.returns-in-Some-clause-stands
 returns-in-Some-clause-stands c =
     let is = rw c.in-Some.is at c.list_of_set.ensures in
     stands_with c.args.self.now c.insert_list.new.self c.args.rows.now.list
-    (with_list c.self.inside.form c.args.self.now c.self.inside.held c.args.rows.now.n c.args.rows.now.list (record { rows = c.args.rows.now; list = c.in-Some.list }) c.self.view_is c.self.invariant.1 (sym c.take-held.ensures.value ∙ is) refl c.requires.n c.insert_list.new.self.rows
+    (with_list c.self.inside.form c.args.self.now c.self.inside.held c.args.rows.now.n c.args.rows.now.list
+    (record { rows = c.args.rows.now; list = c.in-Some.list }) c.self.view_is c.self.invariant.1
+    (sym c.take-held.ensures.value ∙ is) refl c.requires.n c.insert_list.new.self.rows
     c.in_ok-insert_list.ensures.reduced)
 
 pub insert_list-requires-clause-new : goal.insert_list-requires-clause-new

@@ -11,4 +11,5 @@ prospect-requires-clause-bits c = set_bits c.args.rows.now.n c.args.rows.now.lis
 pub returns : goal.returns
 returns c =
     subst (λ (s : Echelon). Foresees s (set_row c.args.self.now.n c.args.rows.now.list) c.in_ok-prospect.prospect) c.self.view_is
-    (subst (λ (row : List ℤ). Foresees c.self.inside.form row c.in_ok-prospect.prospect) (c.write_set.ensures ∙ ap (λ (k : ℕ). set_row k c.args.rows.now.list) c.requires) c.in_ok-prospect.ensures)
+    (subst (λ (row : List ℤ). Foresees c.self.inside.form row c.in_ok-prospect.prospect)
+    (c.write_set.ensures ∙ ap (λ (k : ℕ). set_row k c.args.rows.now.list) c.requires) c.in_ok-prospect.ensures)

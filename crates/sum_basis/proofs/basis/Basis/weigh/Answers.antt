@@ -12,4 +12,5 @@ pub returns-clause-foresees : goal.returns-clause-foresees
 returns-clause-foresees c =
     let told = c.in_ok-prospect.field-0.prospect in
     subst (λ (s : Echelon). Foresees s (set_row c.args.self.now.n c.args.rows.now.list) told) c.self.view_is
-    (subst (λ (row : List ℤ). Foresees c.self.inside.form row told) (c.write_set.ensures ∙ ap (λ (k : ℕ). set_row k c.args.rows.now.list) c.requires) c.in_ok-prospect.ensures.foresees)
+    (subst (λ (row : List ℤ). Foresees c.self.inside.form row told)
+    (c.write_set.ensures ∙ ap (λ (k : ℕ). set_row k c.args.rows.now.list) c.requires) c.in_ok-prospect.ensures.foresees)

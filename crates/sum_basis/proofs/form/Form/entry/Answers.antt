@@ -19,10 +19,12 @@ pub returns-then-column-row : goal.returns-then-column-row
 returns-then-column-row c =
     let head : FitsSigned w128 c.index-row.result.now.head = search rules in
     to_z-of_z w128 c.index-row.result.now.head head
-    ∙ head_seen c.self.inside.columns c.self.inside.rows.items c.args.self.now c.self.view_is c.self.invariant.kept c.args.k c.index-row.result.now c.requires.k c.index-row.ensures c.args.column c.if-column-row.true
+    ∙ head_seen c.self.inside.columns c.self.inside.rows.items c.args.self.now c.self.view_is c.self.invariant.kept c.args.k c.index-row.result.now c.requires.k
+    c.index-row.ensures c.args.column c.if-column-row.true
 
 pub returns-else-column-row : goal.returns-else-column-row
 returns-else-column-row c =
     let value : FitsSigned w128 c.value_at.result = search rules in
     to_z-of_z w128 c.value_at.result value ∙ c.value_at.ensures ∙ ap (λ l. entry_at l c.args.column) c.deref.ensures.value
-    ∙ free_seen c.self.inside.columns c.self.inside.rows.items c.args.self.now c.self.view_is c.self.invariant.kept c.args.k c.index-row.result.now c.requires.k c.index-row.ensures c.args.column c.if-column-row.false
+    ∙ free_seen c.self.inside.columns c.self.inside.rows.items c.args.self.now c.self.view_is c.self.invariant.kept c.args.k c.index-row.result.now c.requires.k
+    c.index-row.ensures c.args.column c.if-column-row.false

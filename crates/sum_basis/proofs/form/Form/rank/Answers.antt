@@ -8,7 +8,8 @@ use Rattle.sum_basis.proofs.form.Form.rank.Goals as goal
 
 pub overflow_cast-result : goal.overflow_cast-result
 overflow_cast-result c =
-    let rank = rank_at_most c.self.inside.columns (rows_of c.self.inside.columns c.self.inside.rows.items) c.self.invariant.form.primitive c.self.invariant.form.echelon in
+    let rank = rank_at_most c.self.inside.columns
+    (rows_of c.self.inside.columns c.self.inside.rows.items) c.self.invariant.form.primitive c.self.invariant.form.echelon in
     let most = c.self.invariant.at_most in
     let l = length-map c.self.inside.rows.items (λ (x : SparseRow). row_of c.self.inside.columns (entries_of x)) in
     let len = c.self.inside.rows.ok.0 in

@@ -29,7 +29,8 @@ long row v common n e l = ap length e ∙ length-map v (λ z. common *ℤ z) ∙
 
 pub reduce-requires-clause-few : goal.reduce-requires-clause-few
 reduce-requires-clause-few c =
-    let rank = rank_at_most c.self.inside.columns (rows_of c.self.inside.columns c.self.inside.rows.items) c.self.invariant.form.primitive c.self.invariant.form.echelon in
+    let rank = rank_at_most c.self.inside.columns
+    (rows_of c.self.inside.columns c.self.inside.rows.items) c.self.invariant.form.primitive c.self.invariant.form.echelon in
     let most = c.self.invariant.at_most in
     let l = length-map c.self.inside.rows.items (λ (x : SparseRow). row_of c.self.inside.columns (entries_of x)) in
     let same = ap length c.deref.ensures.value in
@@ -45,17 +46,21 @@ pub reduce-requires-clause-divides : goal.reduce-requires-clause-divides
 reduce-requires-clause-divides c =
     let fits : FitsSigned w128 c.self.inside.common = search rules in
     let is = is_multiple c.scale.new.row c.args.row.now c.self.inside.common fits c.scale.ensures in
-    let n = long c.scale.new.row c.args.row.now c.self.inside.common c.self.inside.columns is (c.requires.length ∙ sym (ap (λ (e : Echelon). e.n) c.self.view_is)) in
+    let n = long c.scale.new.row c.args.row.now c.self.inside.common c.self.inside.columns is
+    (c.requires.length ∙ sym (ap (λ (e : Echelon). e.n) c.self.view_is)) in
     rw (n, c.deref.ensures.value)
-    (subst (λ (row : List ℤ). AllByRecursion (λ r. unsigned_abs (pivot_entry r) ∣ unsigned_abs (number_at row (pivot r))) (rows_of c.self.inside.columns c.self.inside.rows.items)) (sym is)
+    (subst (λ (row : List ℤ). AllByRecursion (λ r. unsigned_abs (pivot_entry r) ∣ unsigned_abs (number_at row (pivot r)))
+    (rows_of c.self.inside.columns c.self.inside.rows.items)) (sym is)
     (entries_divide (rows_of c.self.inside.columns c.self.inside.rows.items) c.args.row.now c.self.inside.common c.self.invariant.multiple.multiple))
 
 pub returns-clause-remainder : goal.returns-clause-remainder
 returns-clause-remainder c =
     let fits : FitsSigned w128 c.self.inside.common = search rules in
     let is = is_multiple c.scale.new.row c.args.row.now c.self.inside.common fits c.scale.ensures in
-    let n = long c.scale.new.row c.args.row.now c.self.inside.common c.self.inside.columns is (c.requires.length ∙ sym (ap (λ (e : Echelon). e.n) c.self.view_is)) in
-    let rows = ap (λ (m : ℕ). rows_of m c.deref.result.now) n ∙ ap (rows_of c.self.inside.columns) c.deref.ensures.value ∙ ap (λ (e : Echelon). e.rows) c.self.view_is in
+    let n = long c.scale.new.row c.args.row.now c.self.inside.common c.self.inside.columns is
+    (c.requires.length ∙ sym (ap (λ (e : Echelon). e.n) c.self.view_is)) in
+    let rows = ap (λ (m : ℕ). rows_of m c.deref.result.now) n ∙ ap (rows_of c.self.inside.columns) c.deref.ensures.value
+    ∙ ap (λ (e : Echelon). e.rows) c.self.view_is in
     let row = is ∙ ap (λ (z : ℤ). times z c.args.row.now) (positive_size c.self.inside.common c.self.invariant.positive) in (
       unsigned_abs c.self.inside.common,
       size_positive c.self.inside.common c.self.invariant.positive,
@@ -69,4 +74,5 @@ returns-clause-form c = subst (λ (e : Echelon). IsSmallForm e.n e.rows) c.self.
 pub returns-clause-narrow : goal.returns-clause-narrow
 returns-clause-narrow c =
     subst (λ (e : Echelon). IsNarrow e.rows) c.self.view_is
-    (is_narrow c.self.inside.columns (unsigned_abs c.self.inside.common) (rows_of c.self.inside.columns c.self.inside.rows.items) c.self.invariant.form c.self.invariant.multiple c.self.invariant.small)
+    (is_narrow c.self.inside.columns (unsigned_abs c.self.inside.common)
+    (rows_of c.self.inside.columns c.self.inside.rows.items) c.self.invariant.form c.self.invariant.multiple c.self.invariant.small)

@@ -30,7 +30,9 @@ none_listed (x ∷ list) row e is j = absurd (omega arith)
 pub returns-then-is_empty-clause-left : goal.returns-then-is_empty-clause-left
 returns-then-is_empty-clause-left c =
     nothing_new c.args.self.now c.args.row.now c.remainder.new.row c.remainder.ensures.form c.remainder.ensures.remainder
-    (none_listed c.in_ok-list.list.items c.remainder.new.row (empty c.in_ok-list.list.len c.in_ok-list.list.items c.is_empty.result c.in_ok-list.list.ok.0 c.is_empty.ensures c.if-is_empty.true) c.in_ok-list.ensures.is)
+    (none_listed c.in_ok-list.list.items c.remainder.new.row
+    (empty c.in_ok-list.list.len c.in_ok-list.list.items c.is_empty.result c.in_ok-list.list.ok.0 c.is_empty.ensures c.if-is_empty.true)
+    c.in_ok-list.ensures.is)
 
 first_some : (n : ℕ) (list : List FreeEntry) → IsListed 0 n list → 0 < length list → (get_or list 0 none).value ≢ pos 0
 first_some n [] h some = absurd (omega arith)
@@ -50,27 +52,45 @@ make_primitive-requires-clause-first c =
 pub make_primitive-requires-clause-size : goal.make_primitive-requires-clause-size
 make_primitive-requires-clause-size c =
     all-unmap (λ (e : FreeEntry). e.value) (λ x. unsigned_abs x ≤ 2 ^ 126) c.in_ok-list.list.items
-    (values_from (λ x. unsigned_abs x ≤ 2 ^ 126) 0 (length c.remainder.new.row) c.in_ok-list.list.items c.in_ok-list.ensures.listed (λ j. rw (c.in_ok-list.ensures.is j) (let small = c.remainder.ensures.small j in omega arith)) (omega arith))
+    (values_from (λ x. unsigned_abs x ≤ 2 ^ 126) 0 (length c.remainder.new.row) c.in_ok-list.list.items c.in_ok-list.ensures.listed
+    (λ j. rw (c.in_ok-list.ensures.is j) (let small = c.remainder.ensures.small j in omega arith)) (omega arith))
 
 pub returns-then-not-are_small-clause-left : goal.returns-then-not-are_small-clause-left
 returns-then-not-are_small-clause-left c =
     let n = c.args.self.now.n in
-    let line = made_line n c.remainder.new.row c.in_ok-list.list.items c.make_primitive.new.entries.items c.remainder.ensures.length c.in_ok-list.ensures.listed c.in_ok-list.ensures.is (not_empty c.in_ok-list.list.len c.in_ok-list.list.items c.is_empty.result c.in_ok-list.list.ok.0 c.is_empty.ensures c.if-is_empty.false) c.make_primitive.ensures.made in
-    let listed = made_listed n c.remainder.new.row c.in_ok-list.list.items c.make_primitive.new.entries.items c.remainder.ensures.length c.in_ok-list.ensures.listed c.in_ok-list.ensures.is (not_empty c.in_ok-list.list.len c.in_ok-list.list.items c.is_empty.result c.in_ok-list.list.ok.0 c.is_empty.ensures c.if-is_empty.false) c.make_primitive.ensures.made in
+    let line = made_line n c.remainder.new.row c.in_ok-list.list.items c.make_primitive.new.entries.items c.remainder.ensures.length c.in_ok-list.ensures.listed
+    c.in_ok-list.ensures.is (not_empty c.in_ok-list.list.len c.in_ok-list.list.items c.is_empty.result c.in_ok-list.list.ok.0 c.is_empty.ensures
+    c.if-is_empty.false) c.make_primitive.ensures.made in
+    let listed = made_listed n c.remainder.new.row c.in_ok-list.list.items c.make_primitive.new.entries.items c.remainder.ensures.length
+    c.in_ok-list.ensures.listed c.in_ok-list.ensures.is (not_empty c.in_ok-list.list.len c.in_ok-list.list.items c.is_empty.result c.in_ok-list.list.ok.0
+    c.is_empty.ensures c.if-is_empty.false) c.make_primitive.ensures.made in
     let row = new_row c.args.self.now c.args.row.now c.remainder.new.row c.remainder.ensures.form c.remainder.ensures.remainder _ line in (
       row.outside,
       grows_wide c.args.self.now c.args.row.now _ row (new_too_large c.args.self.now _ c.remainder.ensures.form row.primitive row.zeros
-          (λ small. true≢false (sym (c.are_small.ensures.1 (subst (AllByRecursion (λ (e : FreeEntry). unsigned_abs e.value ≤ 2 ^ 56)) (sym c.deref.ensures.value) (small_values n c.make_primitive.new.entries.items listed small))) ∙ c.if-not-are_small.true))),
+          (λ small. true≢false (sym (c.are_small.ensures.1 (subst (AllByRecursion (λ (e : FreeEntry). unsigned_abs e.value ≤ 2 ^ 56))
+          (sym c.deref.ensures.value) (small_values n c.make_primitive.new.entries.items listed small))) ∙ c.if-not-are_small.true))),
     )
 
 pub returns-clause-left : goal.returns-clause-left
 returns-clause-left c =
     let n = c.args.self.now.n in
-    let listed = made_listed n c.remainder.new.row c.in_ok-list.list.items c.make_primitive.new.entries.items c.remainder.ensures.length c.in_ok-list.ensures.listed c.in_ok-list.ensures.is (not_empty c.in_ok-list.list.len c.in_ok-list.list.items c.is_empty.result c.in_ok-list.list.ok.0 c.is_empty.ensures c.if-is_empty.false) c.make_primitive.ensures.made in
-    let line = made_line n c.remainder.new.row c.in_ok-list.list.items c.make_primitive.new.entries.items c.remainder.ensures.length c.in_ok-list.ensures.listed c.in_ok-list.ensures.is (not_empty c.in_ok-list.list.len c.in_ok-list.list.items c.is_empty.result c.in_ok-list.list.ok.0 c.is_empty.ensures c.if-is_empty.false) c.make_primitive.ensures.made in
+    let listed = made_listed n c.remainder.new.row c.in_ok-list.list.items c.make_primitive.new.entries.items c.remainder.ensures.length
+    c.in_ok-list.ensures.listed c.in_ok-list.ensures.is (not_empty c.in_ok-list.list.len c.in_ok-list.list.items c.is_empty.result c.in_ok-list.list.ok.0
+    c.is_empty.ensures c.if-is_empty.false) c.make_primitive.ensures.made in
+    let line = made_line n c.remainder.new.row c.in_ok-list.list.items c.make_primitive.new.entries.items c.remainder.ensures.length c.in_ok-list.ensures.listed
+    c.in_ok-list.ensures.is (not_empty c.in_ok-list.list.len c.in_ok-list.list.items c.is_empty.result c.in_ok-list.list.ok.0 c.is_empty.ensures
+    c.if-is_empty.false) c.make_primitive.ensures.made in
     let row = new_row c.args.self.now c.args.row.now c.remainder.new.row c.remainder.ensures.form c.remainder.ensures.remainder _ line in
-    let small = subst (AllByRecursion (λ (e : FreeEntry). unsigned_abs e.value ≤ 2 ^ 56)) c.deref.ensures.value (c.are_small.ensures.0 c.if-not-are_small.false) in (
-      record { some = made_some n c.remainder.new.row c.in_ok-list.list.items c.make_primitive.new.entries.items c.remainder.ensures.length c.in_ok-list.ensures.listed c.in_ok-list.ensures.is (not_empty c.in_ok-list.list.len c.in_ok-list.list.items c.is_empty.result c.in_ok-list.list.ok.0 c.is_empty.ensures c.if-is_empty.false) c.make_primitive.ensures.made; listed = listed; primitive = row.primitive; small = small_row n c.make_primitive.new.entries.items listed small },
+    let small = subst (AllByRecursion (λ (e : FreeEntry). unsigned_abs e.value ≤ 2 ^ 56)) c.deref.ensures.value
+    (c.are_small.ensures.0 c.if-not-are_small.false) in (
+      record {
+        some = made_some n c.remainder.new.row c.in_ok-list.list.items c.make_primitive.new.entries.items c.remainder.ensures.length c.in_ok-list.ensures.listed
+            c.in_ok-list.ensures.is (not_empty c.in_ok-list.list.len c.in_ok-list.list.items c.is_empty.result c.in_ok-list.list.ok.0 c.is_empty.ensures
+            c.if-is_empty.false) c.make_primitive.ensures.made;
+        listed = listed;
+        primitive = row.primitive;
+        small = small_row n c.make_primitive.new.entries.items listed small;
+      },
       row,
       (let room = c.in_ok-list.ensures.room in let long = c.remainder.ensures.length in let kept = c.make_primitive.ensures.capacity in omega arith),
     )

@@ -30,7 +30,8 @@ returns-then-is_empty c =
     let is = item c.deref-row-items.result.now items k r c.deref-row-items.ensures.value c.row-item.is in
     let f = subst (λ (e : Echelon). IsSmallForm e.n e.rows) c.self.view_is c.self.invariant.form in
     let lone = lone_seen n items seen c.self.view_is c.self.invariant.kept k r h is r.free.len c.is_empty.result r.free.ok.0 c.is_empty.ensures in
-    let first = subst (IsFirstUnit seen) (sym (pivot_seen n items seen c.self.view_is c.self.invariant.kept k r h is)) (first_unit seen k f h c.loop-row.invariant (lone.0 c.if-is_empty.true)) in
+    let first = subst (IsFirstUnit seen) (sym (pivot_seen n items seen c.self.view_is c.self.invariant.kept k r h is))
+    (first_unit seen k f h c.loop-row.invariant (lone.0 c.if-is_empty.true)) in
     ((first.within, first.in_span), λ j before spans. first.least j before spans.1)
 
 pub loop-row-preserved : goal.loop-row-preserved
