@@ -60,11 +60,13 @@ module _ (shape : Shape) (history : List Answered) (r : Answered) where
   other_column : (column : ℕ) → r.column ≢ column → known_of (setting_of shape) (history ++ r ∷ []) column ≡ known_of (setting_of shape) history column
   other_column column apart =
       ap (knows column)
-      (answers_of-push column history r ∙ ap (λ b. answers_of column history ++ led_by (answer_in r) b []) (ne_eqb r.column column apart) ∙ append-nil (answers_of column history))
+      (answers_of-push column history r ∙ ap (λ b. answers_of column history ++ led_by (answer_in r) b []) (ne_eqb r.column column apart)
+      ∙ append-nil (answers_of column history))
 
   -- where the record's own column takes its answer, the columns are those after it
   pub record_taken : (list : List Column) (old new : Column) → IsCore shape list history → r.column < columns shape → old ≡ get_or list r.column old →
-      known_in new ≡ with_answer (known_in old) r.rows.list r.answer → FitsShape shape r.column r.rows → IsCore shape (slice_set list r.column new) (history ++ r ∷ [])
+      known_in new ≡ with_answer (known_in old) r.rows.list r.answer → FitsShape shape r.column r.rows →
+      IsCore shape (slice_set list r.column new) (history ++ r ∷ [])
   record_taken list old new core below reads takes fits =
       let known = column_at shape history (columns shape) list r.column old core.columns_after below reads in
       record {

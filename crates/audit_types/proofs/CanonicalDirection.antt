@@ -48,7 +48,8 @@ module _ (n : ℕ) (form : List (List ℤ)) (i : ℕ) (h : ℕ → ℤ) (past : 
   own_free row facts begins is = elim (cases_lt (free_column_of form form i) n) [
     | inr outside ↦ past (free_column_of form form i) outside
     | inl inside ↦
-        let some : number_at row (free_column_of form form i) ≢ pos 0 = first_free_entry form row 0 (free_column_of form form i) (sym is ∙ omega arith) (omega (arith, facts.one_each)) in
+        let some : number_at row (free_column_of form form i) ≢ pos 0 =
+        first_free_entry form row 0 (free_column_of form form i) (sym is ∙ omega arith) (omega (arith, facts.one_each)) in
         let only : product row h n ≡ number_at row (free_column_of form form i) *ℤ h (free_column_of form form i) =
         total-single (λ j. number_at row j *ℤ h j) n (free_column_of form form i) inside (λ j l other. elim (cases_Bool (is_pivot form j)) [
           | inl at ↦ elim (cases_eq j (pivot row)) [
@@ -117,7 +118,8 @@ product-difference : (n : ℕ) (a : ℤ) (d : List ℤ) (b : ℤ) (e : List ℤ)
     product row (number_at e) n ≡ pos 0 →
     product row (difference a d b e) n ≡ pos 0
 product-difference n a d b e row p q =
-    let apart = total-agree (λ j. number_at row j *ℤ difference a d b e j) (λ j. a *ℤ (number_at row j *ℤ number_at d j) +ℤ neg_ℤ b *ℤ (number_at row j *ℤ number_at e j)) n
+    let apart = total-agree (λ j. number_at row j *ℤ difference a d b e j)
+    (λ j. a *ℤ (number_at row j *ℤ number_at d j) +ℤ neg_ℤ b *ℤ (number_at row j *ℤ number_at e j)) n
     (λ j l. spread (number_at row j) a (number_at d j) b (number_at e j)) in
     let both = total-add (λ j. a *ℤ (number_at row j *ℤ number_at d j)) (λ j. neg_ℤ b *ℤ (number_at row j *ℤ number_at e j)) n in
     let first = total-times a (λ j. number_at row j *ℤ number_at d j) n ∙ ap (λ z. a *ℤ z) p ∙ *ℤ-zero a in

@@ -25,7 +25,8 @@ ones_more : (x i : ℕ) → ones (x % 2 ^ (i + 1)) ≡ ones (x % 2 ^ i) + bit_at
 ones_more x i =
     let split : x % 2 ^ (i + 1) ≡ (x / 2 ^ i % 2 ^ 1) * 2 ^ i + x % 2 ^ i = ap (λ m. x % 2 ^ m) (one-first i) ∙ mod-pow-add x 1 i in
     let positive : 0 < 2 ^ i = pow_pos i in
-    let apart : ones ((x / 2 ^ i % 2 ^ 1) * 2 ^ i + x % 2 ^ i) ≡ ones (x / 2 ^ i % 2 ^ 1) + ones (x % 2 ^ i) = ones_cat i (x / 2 ^ i % 2 ^ 1) (x % 2 ^ i) (omega arith) in
+    let apart : ones ((x / 2 ^ i % 2 ^ 1) * 2 ^ i + x % 2 ^ i) ≡ ones (x / 2 ^ i % 2 ^ 1) + ones (x % 2 ^ i) =
+    ones_cat i (x / 2 ^ i % 2 ^ 1) (x % 2 ^ i) (omega arith) in
     let bit : ones (x / 2 ^ i % 2 ^ 1) ≡ bit_at x i = ones_of_bit (bit_at x i) (bit_at-lt x i) in
     ap ones split ∙ apart ∙ ap (λ b. b + ones (x % 2 ^ i)) bit ∙ add_comm (bit_at x i) (ones (x % 2 ^ i))
 
@@ -52,7 +53,8 @@ count-bits words k (suc i) h =
     let more : length (rows_that (has_bit words) (64 * k + i + 1)) ≡ length (rows_that (has_bit words) (64 * k + i)) + bit_at (get_or words k 0) i =
     ap length (rows_that_more (has_bit words) (64 * k + i)) ∙ length-append (rows_that (has_bit words) (64 * k + i)) _
     ∙ ap (λ m. length (rows_that (has_bit words) (64 * k + i)) + m) last in
-    let bits : ones (get_or words k 0 % 2 ^ suc i) ≡ ones (get_or words k 0 % 2 ^ i) + bit_at (get_or words k 0) i = ap (λ m. ones (get_or words k 0 % 2 ^ m)) (sym (add-one i)) ∙ ones_more (get_or words k 0) i in
+    let bits : ones (get_or words k 0 % 2 ^ suc i) ≡ ones (get_or words k 0 % 2 ^ i) + bit_at (get_or words k 0) i =
+    ap (λ m. ones (get_or words k 0 % 2 ^ m)) (sym (add-one i)) ∙ ones_more (get_or words k 0) i in
     omega (arith, ap (λ n. length (rows_that (has_bit words) n)) place)
 
 -- one word more

@@ -53,7 +53,8 @@ pub keeps_agreement : (table : Table) (history : List Answered) (r : Answered) �
 keeps_agreement table history r agree true_answer column below = record {
   one_each = (agree column below).one_each;
   same = subst (AllByRecursion (Gives table column)) (sym (answers_of-append column history (r ∷ [])))
-      (all-append (Gives table column) (answers_of column history) (answers_of column (r ∷ [])) (agree column below).same (all_given table column (r ∷ []) (true_answer, tt)));
+      (all-append (Gives table column) (answers_of column history) (answers_of column (r ∷ [])) (agree column below).same
+      (all_given table column (r ∷ []) (true_answer, tt)));
 }
 
 -- so there is an answer after which the history is possible

@@ -105,7 +105,11 @@ module _ (x y : ℤ) where
         AreAlike (upper_bound (answers ++ asked_x ∷ []) r) (upper_bound (answers ++ asked_y ∷ []) r)
     unfolding AreAlike
     alike_bounds [] all r =
-        elim (has_row rows r) as (λ b. AreAlike (cond b (Some x) None) (cond b (Some y) None)) [ true ↦ inr (refl, refl) | false ↦ inl (refl, λ u e. absurd cc) ]
+        elim (has_row rows r) as (λ b. AreAlike (cond b (Some x) None) (cond b (Some y) None)) [
+          | true ↦ inr (refl, refl)
+          | false ↦
+              inl (refl, λ u e. absurd cc)
+        ]
     alike_bounds (a ∷ answers) all r = alike_step (has_row a.rows r) a.value _ _ all.0 (alike_bounds answers all.1 r)
 
     module _ (answers : List Answer) (all : AllByRecursion (λ a. LiesAlike x y a.value) answers) where
@@ -129,7 +133,11 @@ module _ (x y : ℤ) where
                 (subst (λ l. 0 < length l) new_extremes some.1);
             row = leaves.row;
             lone = elim (front_or_last answers asked_x leaves.lone.0 leaves.lone.1) [
-              | inl one ↦ (leaves.lone.0, one_of_front answers asked_y leaves.lone.0 one, sym (old_extremes leaves.lone.0 (all_at (λ b. LiesAlike x y b.value) answers leaves.lone.0 all one)) ∙ leaves.lone.2)
+              | inl one ↦ (
+                leaves.lone.0,
+                one_of_front answers asked_y leaves.lone.0 one,
+                sym (old_extremes leaves.lone.0 (all_at (λ b. LiesAlike x y b.value) answers leaves.lone.0 all one)) ∙ leaves.lone.2,
+              )
               | inr last ↦ (asked_y, one_of_last answers asked_y, sym new_extremes ∙ ap (extremes (answers ++ asked_x ∷ [])) last ∙ leaves.lone.2)
             ];
           }

@@ -34,7 +34,8 @@ least_step all taken least x one h = record {
     | inr e ↦ (x, one, sym e)
   ];
   low = all-push (λ b. int_min least x.value ≤ℤ b.value) taken x
-      (all_from (λ b. int_min least x.value ≤ℤ b.value) taken (λ b among. let low = all_at (λ c. least ≤ℤ c.value) taken b h.low among in omega (arith, ints, clamps)))
+      (all_from (λ b. int_min least x.value ≤ℤ b.value) taken
+      (λ b among. let low = all_at (λ c. least ≤ℤ c.value) taken b h.low among in omega (arith, ints, clamps)))
       (omega (arith, ints, clamps));
 }
   where
@@ -169,8 +170,10 @@ pub AreCandidates-sorted : (answers : List Answer) (lowest : ℤ) (raw sorted ke
 AreCandidates-sorted answers lowest raw sorted kept is all moved in_order rid = record {
   ascending = rw rid (ascends (dedup int_eq sorted) (IsStrictlySortedBy-dedup int_cmp_total tied sorted in_order));
   each = λ a. (
-    (λ there. (gathered answers lowest is a).0 (rw all at (Contains-permutation sorted raw a (IsPermutation-sym raw sorted moved) (Contains-from_dedup int_eq sorted a (rw rid at there))))),
-    (λ candidate. rw rid (Contains-dedup int_eq_equiv (λ x y. (Decides-int_eq x y).0) sorted a (Contains-permutation raw sorted a moved (rw all ((gathered answers lowest is a).1 candidate))))),
+    (λ there. (gathered answers lowest is a).0 (rw all at (Contains-permutation sorted raw a (IsPermutation-sym raw sorted moved)
+        (Contains-from_dedup int_eq sorted a (rw rid at there))))),
+    (λ candidate. rw rid (Contains-dedup int_eq_equiv (λ x y. (Decides-int_eq x y).0) sorted a
+        (Contains-permutation raw sorted a moved (rw all ((gathered answers lowest is a).1 candidate))))),
   );
 }
 

@@ -31,7 +31,14 @@ with_lower x answers a less (answered b one e) = answered b (inr one) e
 with_lower x answers a less (before_all all) =
     behind x (inl refl) less (inl (omega (arith, ints)), all_from _ answers (λ c one. inr (all_at (λ d. a <ℤ d.value) answers c all one)))
 with_lower x answers a less (behind b one under all) = by_lt_z b.value x.value
-    (λ higher. behind x (inl refl) less (inl (omega (arith, ints)), all_from _ answers (λ c among. elim (all_at (λ d. (d.value ≤ℤ b.value) ⊎ (a <ℤ d.value)) answers c all among) [ inl low ↦ inl (omega (arith, ints)) | inr high ↦ inr high ])))
+    (λ higher. behind x (inl refl) less (
+      inl (omega (arith, ints)),
+      all_from _ answers (λ c among. elim (all_at (λ d. (d.value ≤ℤ b.value) ⊎ (a <ℤ d.value)) answers c all among) [
+        | inl low ↦
+            inl (omega (arith, ints))
+        | inr high ↦ inr high
+      ]),
+    ))
     (λ lower. behind b (inr one) under (inl lower, all))
 
 -- one answer more, above the number
@@ -54,7 +61,15 @@ least_answer : (x : Answer) (answers : List Answer) → (b : Answer) × IsOneOf 
 least_answer x [] = (x, inl refl, (omega (arith, ints), tt))
 least_answer x (y ∷ answers) = let rest = least_answer y answers in let b = rest.0 in by_lt_z b.value x.value
     (λ less. (b, inr rest.1, (omega (arith, ints), rest.2)))
-    (λ not. (x, inl refl, (omega (arith, ints), all_from _ (y ∷ answers) (λ c one. let low = all_at (λ d. b.value ≤ℤ d.value) (y ∷ answers) c rest.2 one in omega (arith, ints)))))
+    (λ not. (
+      x,
+      inl refl,
+      (
+        omega (arith, ints),
+        all_from _ (y ∷ answers)
+            (λ c one. let low = all_at (λ d. b.value ≤ℤ d.value) (y ∷ answers) c rest.2 one in omega (arith, ints)),
+      ),
+    ))
 
 -- the candidate that lies as a number does
 pub candidate_for : (answers : List Answer) (a : ℤ) → (y : ℤ) × IsCandidate answers y × AllByRecursion (λ c. LiesAlike a y c.value) answers

@@ -50,7 +50,8 @@ module _ (n : ℕ) (answers : List Answer) (rows : List ℕ) (well : IsWellForme
         row = danger.row;
         lone = elim (lone_or_free n (answered value) danger.row (still_well value) consistent danger.row_below) [
           | inl lone ↦ lone
-          | inr (u, v, first, second, differ) ↦ absurd (differ (danger.disclosed v (gives_same danger.w v second) ∙ sym (danger.disclosed u (gives_same danger.w u first))))
+          | inr (u, v, first, second, differ) ↦ absurd (differ
+              (danger.disclosed v (gives_same danger.w v second) ∙ sym (danger.disclosed u (gives_same danger.w u first))))
         ];
       }
 
@@ -64,7 +65,8 @@ module _ (n : ℕ) (answers : List Answer) (rows : List ℕ) (well : IsWellForme
       let a = leaves.lone.0 in
       let one = leaves.lone.1 in
       let full = all_at (λ b. b.rows ≢ []) (answered value) a (still_well value).some one in
-      let there = filter-has (λ r. is_bound (upper_bound (answered value) r) a.value) a.rows leaves.row (ap (λ l. has_row l leaves.row) leaves.lone.2 ∙ has_first leaves.row []) in
+      let there = filter-has (λ r. is_bound (upper_bound (answered value) r) a.value) a.rows leaves.row
+      (ap (λ l. has_row l leaves.row) leaves.lone.2 ∙ has_first leaves.row []) in
       record {
         w = w;
         agrees = record { one_each = agrees.one_each; same = parts.0 };

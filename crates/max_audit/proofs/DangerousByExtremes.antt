@@ -100,7 +100,8 @@ module _ (answers : List Answer) (rows : List ℕ) where
             one = one;
             one_left = ap length (sym (higher_loses answers rows x a one less) ∙ only);
             lower = λ b among none. by_lt_z x b.value
-                (λ above. absurd (none_in (extremes (with_asked answers rows x) b) (higher_loses answers rows x b among above ∙ none) (still b (one_of_front answers (asked answers rows x) b among))))
+                (λ above. absurd (none_in (extremes (with_asked answers rows x) b) (higher_loses answers rows x b among above ∙ none)
+                (still b (one_of_front answers (asked answers rows x) b among))))
                 (λ not. omega (arith, ints));
           },
         ))
@@ -265,7 +266,8 @@ module _ (n : ℕ) (answers : List Answer) (rows : List ℕ) (are : AreRows n ro
             ]))
             (λ q found apart.
             let parts = has_asked answers rows x q found in
-            none_beside (upper_bound answers q) (upper_bound answers r) (λ b is none. top.free r q b none there parts.0 is) (λ b is. top.under r b there is) parts.1 (alone q parts.0 apart)),
+            none_beside (upper_bound answers q) (upper_bound answers r) (λ b is none. top.free r q b none there parts.0 is)
+            (λ b is. top.under r b there is) parts.1 (alone q parts.0 apart)),
       );
     }
 
@@ -278,7 +280,8 @@ module _ (n : ℕ) (answers : List Answer) (rows : List ℕ) (are : AreRows n ro
     still_one : (a : Answer) → IsOneOf a answers → 0 < length (extremes (with_asked answers rows x) a)
     unfolding x
     still_one a one = by_lt_z x a.value
-        (λ less. subst (λ l. 0 < length l) (sym (higher_loses answers rows x a one less)) (some_length (outside rows (extremes answers a)) (λ none. let low = stranded.lower a one none in absurd (omega (arith, ints)))))
+        (λ less. subst (λ l. 0 < length l) (sym (higher_loses answers rows x a one less))
+        (some_length (outside rows (extremes answers a)) (λ none. let low = stranded.lower a one none in absurd (omega (arith, ints)))))
         (λ not. subst (λ l. 0 < length l) (sym (lower_keeps answers rows x a one (omega (arith, ints)))) (had a one))
 
     high_row : IsAtLeast x (upper_bound answers e)

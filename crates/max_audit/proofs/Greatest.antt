@@ -42,7 +42,11 @@ found : (w : List ℤ) (a : ℤ) (rows : List ℕ) → (top w a rows ≡ a) ⊎ 
 found w a [] = inl refl
 found w a (r ∷ rows) =
     elim (found w (int_max a (number_at w r)) rows) [
-      | inl e ↦ elim (cases_cond (int_lt (number_at w r) a) a (number_at w r) (int_max a (number_at w r)) refl) [ inl f ↦ inl (e ∙ f) | inr f ↦ inr (r, has_first r rows, sym (e ∙ f)) ]
+      | inl e ↦ elim (cases_cond (int_lt (number_at w r) a) a (number_at w r) (int_max a (number_at w r)) refl) [
+        | inl f ↦ inl (e ∙ f)
+        | inr f ↦
+            inr (r, has_first r rows, sym (e ∙ f))
+      ]
       | inr (q, there, is) ↦ inr (q, has_later r q rows there, is)
     ]
 

@@ -18,5 +18,7 @@ least_fixed n answers None well consistent none = λ i fixed.
     none i ((fixed_by_lone_rows n answers i well ((possible_by_extremes n answers well).1 consistent) fixed.0).0 fixed.1)
 least_fixed n answers (Some r) well consistent (lone, least) =
     let possible = (possible_by_extremes n answers well).1 consistent in
-    let below = lone_below n answers r well lone in
-    ((below, (fixed_by_lone_rows n answers r well possible below).1 lone), λ j less fixed. least j less ((fixed_by_lone_rows n answers j well possible fixed.0).0 fixed.1))
+    let below = lone_below n answers r well lone in (
+      (below, (fixed_by_lone_rows n answers r well possible below).1 lone),
+      λ j less fixed. least j less ((fixed_by_lone_rows n answers j well possible fixed.0).0 fixed.1),
+    )

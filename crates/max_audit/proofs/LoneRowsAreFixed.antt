@@ -28,8 +28,12 @@ extreme_row w answers a gives one some =
     let low = below_bound w answers q bound.0 gives bound.1 in
     let reach = hit.2 in
     let under = bound.2 in
-    let same : bound.0 ≡ a.value = omega (arith, ints) in
-    (q, has-filter (λ r. is_bound (upper_bound answers r) a.value) a.rows q hit.1 (bound_is (upper_bound answers q) bound.0 a.value bound.1 same), reach ∙ value)
+    let same : bound.0 ≡ a.value = omega (arith, ints) in (
+      q,
+      has-filter (λ r. is_bound (upper_bound answers r) a.value) a.rows q hit.1 (bound_is (upper_bound answers q) bound.0 a.value bound.1 same),
+      reach
+          ∙ value,
+    )
 
 -- a lone row has the value of its answer
 pub lone_value : (w : List ℤ) (answers : List Answer) (a : Answer) (r : ℕ) → Gives w answers → IsOneOf a answers → a.rows ≢ [] → extremes answers a ≡ r ∷ [] →

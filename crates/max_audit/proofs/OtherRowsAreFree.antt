@@ -40,7 +40,8 @@ module _ (n : ℕ) (answers : List Answer) (well : IsWellFormed (known_max n ans
   gives_one w below a one e there at =
       let found = extreme_at a e there in
       greatest_is w a.rows a.value e (all_at (λ b. b.rows ≢ []) answers a well.some one)
-      (λ r h. let under = below r (row_below n a.rows r (rows_of a one) h) in let bound = bound_below answers a r one h in let least = bound.2 in let same = some_is (upper_bound answers r) bound.0 bound.1 in omega (arith, ints))
+      (λ r h. let under = below r (row_below n a.rows r (rows_of a one) h) in let bound = bound_below answers a r one h in let least = bound.2 in
+      let same = some_is (upper_bound answers r) bound.0 bound.1 in omega (arith, ints))
       found.0 (at ∙ bound_from (upper_bound answers e) a.value found.1)
 
   -- an extreme row of the table
@@ -71,7 +72,8 @@ module _ (n : ℕ) (answers : List Answer) (well : IsWellFormed (known_max n ans
       lowered_below : (r : ℕ) → r < n → number_at (lowered_at (highest n answers) i) r ≤ℤ bound_or_zero (upper_bound answers r)
       lowered_below r h = elim (cases_eq r i) [
         | inl e ↦ let at = ap (number_at (lowered_at (highest n answers) i)) e
-            ∙ lowered_same in let top = number_at-highest n answers i i_below in let same = ap (λ q. bound_or_zero (upper_bound answers q)) e in omega (arith, ints)
+            ∙ lowered_same in let top = number_at-highest n answers i i_below in let same = ap (λ q. bound_or_zero (upper_bound answers q)) e in
+            omega (arith, ints)
         | inr apart ↦ same_is_below _ _ (lowered_other r apart ∙ number_at-highest n answers r h)
       ]
 
@@ -79,16 +81,18 @@ module _ (n : ℕ) (answers : List Answer) (well : IsWellFormed (known_max n ans
       lowered_agrees not = record {
         one_each = length-set (highest n answers) i (number_at (highest n answers) i -ℤ pos 1) ∙ length-highest n answers;
         same = all_from (λ a. greatest_over (lowered_at (highest n answers) i) a.rows ≡ a.value) answers (λ a one.
-            let hit = other_row n (extremes answers a) i (filter-ascends 0 n (λ r. is_bound (upper_bound answers r) a.value) a.rows (rows_of a one)) (some_extreme a one) (not a one) in
+            let hit = other_row n (extremes answers a) i (filter-ascends 0 n (λ r. is_bound (upper_bound answers r) a.value) a.rows (rows_of a one))
+            (some_extreme a one) (not a one) in
             gives_one (lowered_at (highest n answers) i) lowered_below a one hit.0 hit.1
             (lowered_other hit.0 hit.2 ∙ number_at-highest n answers hit.0 (extreme_below a one hit.0 hit.1)));
       }
 
       lowered_or_lone : IsLone answers i ⊎ Agrees (known_max n answers) (lowered_at (highest n answers) i)
-      lowered_or_lone = elim (one_or_none (λ a. extremes answers a ≡ i ∷ []) (λ a. extremes answers a ≢ i ∷ []) (λ a. only_or_not i (extremes answers a)) answers) [
-        | inl lone ↦ inl lone
-        | inr not ↦ inr (lowered_agrees not)
-      ]
+      lowered_or_lone = elim (one_or_none (λ a. extremes answers a ≡ i ∷ []) (λ a. extremes answers a ≢ i ∷ [])
+          (λ a. only_or_not i (extremes answers a)) answers) [
+            | inl lone ↦ inl lone
+            | inr not ↦ inr (lowered_agrees not)
+          ]
 
 -- the highest list agrees
 pub highest_agrees_law : HighestAgrees

@@ -12,7 +12,8 @@ pub greatest-start : (w : List ℤ) (rows : List ℕ) → rows ≢ [] → ((r : 
 greatest-start w [] some low = absurd (some refl)
 greatest-start w (r ∷ rows) some low =
     let fits = low r in
-    let first : int_max (negsuc 9223372036854775807) (number_at w r) ≡ number_at w r = omega (arith, ints, int_max_is (negsuc 9223372036854775807) (number_at w r)) in
+    let first : int_max (negsuc 9223372036854775807) (number_at w r) ≡ number_at w r =
+    omega (arith, ints, int_max_is (negsuc 9223372036854775807) (number_at w r)) in
     ap (λ a. fold int_max a (map (number_at w) rows)) first
 
 -- what a size bounds

@@ -48,7 +48,8 @@ module _ (n : ℕ) (answers : List Answer) (rows : List ℕ) where
             let direction : IsDirection n (sets_with (known_sum n answers) rows) (difference v w) = record {
               one_each = length-difference n v w mistaken.agrees.one_each possible.1.one_each;
               zero_sums =
-                  all-push (λ s. sum_over (difference v w) s ≡ pos 0) (map (λ a. a.rows) answers) rows (zero_between v w answers mistaken.agrees.same possible.1.same) asked;
+                  all-push (λ s. sum_over (difference v w) s ≡ pos 0) (map (λ a. a.rows) answers) rows
+                  (zero_between v w answers mistaken.agrees.same possible.1.same) asked;
             } in
             let zero_there = pinned.1.still (difference v w) direction in
             let here = number_at-difference v w pinned.0 in

@@ -24,8 +24,16 @@ sets_directions n sets d are = (
 -- each row of the form is spanned by the sets, and the row of each set by the form
 pub directions_by_form : DirectionsByForm
 directions_by_form n sets form d are reduced = (
-  (λ direction. record { one_each = direction.one_each; zeros = products_in_span n (number_at d) (map (set_row n) sets) form (products_from_sums n d sets are direction.zero_sums) reduced.within }),
-  (λ orthogonal. record { one_each = orthogonal.one_each; zero_sums = sums_from_products n d sets are (products_in_span n (number_at d) form (map (set_row n) sets) orthogonal.zeros reduced.spans) }),
+  (λ direction. record {
+    one_each = direction.one_each;
+    zeros =
+        products_in_span n (number_at d) (map (set_row n) sets) form (products_from_sums n d sets are direction.zero_sums) reduced.within;
+  }),
+  (λ orthogonal. record {
+    one_each = orthogonal.one_each;
+    zero_sums =
+        sums_from_products n d sets are (products_in_span n (number_at d) form (map (set_row n) sets) orthogonal.zeros reduced.spans);
+  }),
 )
 
 dot-unit_row : (n i : ℕ) (d : List ℤ) → i < n → dot n (number_at (unit_row n i)) d ≡ number_at d i

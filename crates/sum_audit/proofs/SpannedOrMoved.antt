@@ -173,7 +173,8 @@ spans_or_moves n (r ∷ rows) u lengths past =
           let k = dot n u d.list in
           let size = positive_is c d.up in
           elim (spans_or_moves n rows (rest_of c u k r) lengths.1 (λ j l. past_rest c k u r j (past j l) (let one_each = lengths.0 in omega arith))) [
-            | inl s ↦ inl (with_first size.0 u k r rows size.2 (spans_same rows (rest_of c u k r) (rest_of (pos size.0) u k r) (λ j. ap (λ z. z *ℤ u j +ℤ neg_ℤ k *ℤ number_at r j) size.1) s))
+            | inl s ↦ inl (with_first size.0 u k r rows size.2
+                (spans_same rows (rest_of c u k r) (rest_of (pos size.0) u k r) (λ j. ap (λ z. z *ℤ u j +ℤ neg_ℤ k *ℤ number_at r j) size.1) s))
             | inr m ↦ inr (move_first n u r rows d m)
           ]
     ]

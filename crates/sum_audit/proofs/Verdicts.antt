@@ -29,7 +29,14 @@ module _ (n : ℕ) (answers : List Answer) (rows : List ℕ) (are : AllByRecursi
   )
   judged_at form Released reduced narrow is = (
     record { form = form; reduced = reduced; narrow = narrow },
-    λ pin. is (pin.0, (pin.1.below, (pinned_by_form n (sets_with (known_sum n answers) rows) form pin.0 (all-push (AreRows n) (sets_of answers) rows are last) reduced pin.1.below).0 pin.1)),
+    λ pin. is (
+      pin.0,
+      (
+        pin.1.below,
+        (pinned_by_form n (sets_with (known_sum n answers) rows) form pin.0
+            (all-push (AreRows n) (sets_of answers) rows are last) reduced pin.1.below).0 pin.1,
+      ),
+    ),
   )
 
 -- after possible answers the judgement is the decision
@@ -58,7 +65,8 @@ module _ (one_more : OneMoreSet) (n : ℕ) (answers : List Answer) (known : Know
       IsSpanVerdict form verdict → IsRightVerdict known rows verdict
   right_by_form form verdict e reduced narrow is =
       subst (λ k. IsRightVerdict k rows verdict) view (right n answers rows verdict
-      (judged_at n answers rows are (subst (λ k. AreRows k rows) same_n last) form.rows verdict reduced narrow (subst (λ k. IsSpanVerdict (record { n = k; rows = form.rows }) verdict) e is)))
+      (judged_at n answers rows are (subst (λ k. AreRows k rows) same_n last) form.rows verdict reduced narrow
+      (subst (λ k. IsSpanVerdict (record { n = k; rows = form.rows }) verdict) e is)))
 
   -- the form of the sets with the asked one
   reduced_with : (form : Echelon) (new : List (List ℤ)) → form.n ≡ n → Reduced n (sets_of answers) form.rows →
@@ -81,7 +89,8 @@ module _ (one_more : OneMoreSet) (n : ℕ) (answers : List Answer) (known : Know
   right_by_prospect form Open e reduced h = right_by_growth form h.0 Released e reduced h.1 h.2
 
 -- the least unit row in the span of the form is the least pinned row
-least_at : (n : ℕ) (sets : List (List ℕ)) (form : List (List ℤ)) (least : Option ℕ) → AllByRecursion (AreRows n) sets → Reduced n sets form → IsLeastUnit (record { n = n; rows = form }) least → IsLeastPinned n sets least
+least_at : (n : ℕ) (sets : List (List ℕ)) (form : List (List ℤ)) (least : Option ℕ) → AllByRecursion (AreRows n) sets → Reduced n sets form →
+    IsLeastUnit (record { n = n; rows = form }) least → IsLeastPinned n sets least
 least_at n sets form None are reduced none = λ i pin. none i (pin.below, (pinned_by_form n sets form i are reduced pin.below).0 pin)
 least_at n sets form (Some i) are reduced hit = (
   (pinned_by_form n sets form i are reduced hit.0.0).1 hit.0.1,

@@ -37,7 +37,8 @@ module _ (n : ℕ) (form : List (List ℤ)) (free : ℕ) (d : List ℤ) (common 
 
   one_orthogonal : (row : List ℤ) → IsPrimitive n row → IsZeroAtOthers form row → Solves d common free row → free ≢ pivot row → dot n (number_at row) d ≡ pos 0
   one_orthogonal row primitive zeros solves apart =
-      let two = dot_two n (number_at row) d free (pivot row) below (pivot_below n row primitive) apart (λ j other own. by_pivot row zeros j other own (is_pivot form j) refl) in
+      let two = dot_two n (number_at row) d free (pivot row) below (pivot_below n row primitive) apart
+      (λ j other own. by_pivot row zeros j other own (is_pivot form j) refl) in
       let first = ap (λ z. number_at row free *ℤ z) solved.at_free in
       let second = *ℤ_comm (pivot_entry row) (number_at d (pivot row)) ∙ solves in
       two ∙ ap (λ z. z +ℤ pivot_entry row *ℤ number_at d (pivot row)) first ∙ ap (λ z. number_at row free *ℤ common +ℤ z) second
@@ -54,7 +55,8 @@ module _ (n : ℕ) (form : List (List ℤ)) (free : ℕ) (d : List ℤ) (common 
     reached : (rows : List (List ℤ)) (i : ℕ) → AllByRecursion (Solves d common free) rows → Reaches rows i free → number_at d i ≢ pos 0
     reached [] i s r e = r
     reached (row ∷ rows) i s (inl here) e =
-        let none : number_at row free *ℤ common ≡ pos 0 = none_left (number_at d (pivot row)) (pivot_entry row) (number_at row free *ℤ common) (ap (number_at d) here.0 ∙ e) s.0 in
+        let none : number_at row free *ℤ common ≡ pos 0 = none_left (number_at d (pivot row)) (pivot_entry row) (number_at row free *ℤ common)
+        (ap (number_at d) here.0 ∙ e) s.0 in
         here.1 (zero_product common (number_at row free) (*ℤ_comm common (number_at row free) ∙ none) (positive_not_zero common positive))
       where
         none_left : (x p z : ℤ) → x ≡ pos 0 → x *ℤ p ≡ neg_ℤ z → z ≡ pos 0
@@ -97,7 +99,8 @@ module _ (directions : DirectionsByForm) (unique : FormsAreUnique) (n : ℕ) (se
     solved_direction = (directions n sets form solved are reduced).1 (record {
       one_each = is_solved.2.one_each;
       zeros =
-          all_orthogonal n form free solved is_solved.0 column.below is_solved.2 form reduced.primitive (zero_at_others form reduced.echelon) is_solved.2.solves (no_pivot form free column.free);
+          all_orthogonal n form free solved is_solved.0 column.below is_solved.2 form reduced.primitive (zero_at_others form reduced.echelon) is_solved.2.solves
+          (no_pivot form free column.free);
     })
 
     module _ (d : List ℤ) (divided : IsDivided solved i d) where
@@ -116,10 +119,12 @@ module _ (directions : DirectionsByForm) (unique : FormsAreUnique) (n : ℕ) (se
         direction = record {
           one_each = divided_length;
           zero_sums =
-              zero_sums_divided divided.factor d sets factor_not_zero (subst (λ l. AllByRecursion (λ s. sum_over l s ≡ pos 0) sets) divided.is_multiple solved_direction.zero_sums);
+              zero_sums_divided divided.factor d sets factor_not_zero
+              (subst (λ l. AllByRecursion (λ s. sum_over l s ≡ pos 0) sets) divided.is_multiple solved_direction.zero_sums);
         };
         free = λ j none other. zero_product divided.factor (number_at d j)
-            (sym (number_at-times divided.factor d j) ∙ ap (λ l. number_at l j) (sym divided.is_multiple) ∙ is_solved.2.elsewhere j none (λ e. other (e ∙ is_column))) factor_not_zero;
+            (sym (number_at-times divided.factor d j) ∙ ap (λ l. number_at l j) (sym divided.is_multiple)
+            ∙ is_solved.2.elsewhere j none (λ e. other (e ∙ is_column))) factor_not_zero;
         content = divided.content;
         positive = divided.positive;
       }

@@ -115,7 +115,8 @@ module _ (old new : List ℤ) (row : ℕ) (moves : number_at old row ≢ pos 0) 
   pub made_small : IsSmall old → IsSmall new
   made_small s =
       small_divided made.factor new
-      (λ e. moves (ap (λ l. number_at l row) made.is_multiple ∙ number_at-times made.factor new row ∙ ap (λ z. z *ℤ number_at new row) e ∙ *ℤ_comm (pos 0) (number_at new row) ∙ *ℤ-zero (number_at new row)))
+      (λ e. moves (ap (λ l. number_at l row) made.is_multiple ∙ number_at-times made.factor new row ∙ ap (λ z. z *ℤ number_at new row) e
+      ∙ *ℤ_comm (pos 0) (number_at new row) ∙ *ℤ-zero (number_at new row)))
       (subst IsSmall made.is_multiple s)
 
 -- small numbers are within what may be divided and turned

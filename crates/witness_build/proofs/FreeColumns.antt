@@ -36,7 +36,8 @@ module _ (form : List (List ℤ)) (k : ℕ) (below : k < length form) where
   one_stops n h j inside other some =
       let row = get_or form k [] in
       let zero_elsewhere = All-from_recursion (IsZeroAtOthers form) form (zero_at_others form h.echelon) k [] below in
-      let test = or_from (is_pivot form j) (is_zero (number_at row j)) (false_from_ne_true (is_pivot form j) (λ there. some (zero_elsewhere j there other))) (test_of_not_zero (number_at row j) some) in
+      let test = or_from (is_pivot form j) (is_zero (number_at row j)) (false_from_ne_true (is_pivot form j) (λ there. some (zero_elsewhere j there other)))
+      (test_of_not_zero (number_at row j) some) in
       ap (λ l. first_free form l j) (drop-cons row j (pos 0) inside) ∙ stops form (number_at row j) (drop (suc j) row) j test
 
 pub none_left : (form : List (List ℤ)) (row : List ℤ) (j : ℕ) → length row ≤ j → free_from form row j ≡ j
@@ -149,7 +150,8 @@ lone_pins : (n : ℕ) (sets : List (List ℕ)) (row : List ℤ) (i : ℕ) → po
 lone_pins n sets row i leading e below zeros orthogonal = record {
   below = below;
   still = λ d direction.
-      let one = total-single (λ k. number_at row k *ℤ number_at d k) n i below (λ k l other. ap (λ z. z *ℤ number_at d k) (zeros k l other) ∙ zero-*ℤ (number_at d k)) in
+      let one = total-single (λ k. number_at row k *ℤ number_at d k) n i below
+      (λ k l other. ap (λ z. z *ℤ number_at d k) (zeros k l other) ∙ zero-*ℤ (number_at d k)) in
       let positive : pos 0 <ℤ number_at row i = let entry = ap (number_at row) e in omega (arith, ints) in
       zero_factor (number_at d i) (number_at row i) (*ℤ_comm (number_at d i) (number_at row i) ∙ sym one ∙ orthogonal d direction) positive;
 }

@@ -27,16 +27,17 @@ pub record IsQuotient (common pivot_entry : ℤ) (times : ℕ) : Type 0 where
 
 pub quotient : (common lead : ℤ) (a b : ℕ) → pos 0 <ℤ common → pos 0 <ℤ lead → unsigned_abs common ≤ 2 ^ 56 → unsigned_abs lead ∣ unsigned_abs common →
     a ≡ unsigned_abs common → b ≡ unsigned_abs lead → IsQuotient common lead (a / b)
-quotient (pos m) (pos p) a b h k small divides e f = subst (λ x. IsQuotient (pos m) (pos p) (x / b)) (sym e) (subst (λ y. IsQuotient (pos m) (pos p) (m / y)) (sym f) (record {
-  product =
-      let whole = div-add-mod' m p in
-      let none = mod-eq-zero_of_dvd p divides in
-      pos-*ℤ-pos (m / p) p ∙ ap pos (omega arith);
-  small =
-      let whole = div-add-mod' m p in
-      let positive : 0 < p = omega (arith, ints) in
-      at_most (m / p) p m (omega arith) positive small;
-}))
+quotient (pos m) (pos p) a b h k small divides e f = subst (λ x. IsQuotient (pos m) (pos p) (x / b)) (sym e)
+    (subst (λ y. IsQuotient (pos m) (pos p) (m / y)) (sym f) (record {
+      product =
+          let whole = div-add-mod' m p in
+          let none = mod-eq-zero_of_dvd p divides in
+          pos-*ℤ-pos (m / p) p ∙ ap pos (omega arith);
+      small =
+          let whole = div-add-mod' m p in
+          let positive : 0 < p = omega (arith, ints) in
+          at_most (m / p) p m (omega arith) positive small;
+    }))
   where
     at_most : (q p m : ℕ) → q * p ≤ m → 0 < p → m ≤ 2 ^ 56 → q ≤ 2 ^ 56
     at_most q zero m l h s = absurd (omega arith)
@@ -99,7 +100,8 @@ solving_begins n common free d e zeros below small = record {
   solves = tt;
   elsewhere = λ j none other. get_or-set_other d free j common (pos 0) other ∙ zeros j;
   small =
-      all-set (λ y. unsigned_abs y ≤ 2 ^ 112) d free common (all_by_number (λ y. unsigned_abs y ≤ 2 ^ 112) d (λ j. let none = ap unsigned_abs (zeros j) in omega arith)) (omega arith);
+      all-set (λ y. unsigned_abs y ≤ 2 ^ 112) d free common (all_by_number (λ y. unsigned_abs y ≤ 2 ^ 112) d
+      (λ j. let none = ap unsigned_abs (zeros j) in omega arith)) (omega arith);
 }
 
 still_solves : (d : List ℤ) (common : ℤ) (free p : ℕ) (x : ℤ) (rows : List (List ℤ)) → AllByRecursion (λ r. pivot r ≢ p) rows →
@@ -116,7 +118,8 @@ solved_more n common rows row free p d x e below apart others so_far is = record
   one_each = length-set d p x ∙ so_far.one_each;
   at_free = get_or-set_other d p free x (pos 0) apart ∙ so_far.at_free;
   solves = all-push (Solves (set d p x) common free) rows row (still_solves d common free p x rows others so_far.solves)
-      (ap (λ z. z *ℤ pivot_entry row) (ap (number_at (set d p x)) (sym e) ∙ get_or-set_same d p x (pos 0) (let long = so_far.one_each in omega arith)) ∙ is.exact);
+      (ap (λ z. z *ℤ pivot_entry row) (ap (number_at (set d p x)) (sym e) ∙ get_or-set_same d p x (pos 0) (let long = so_far.one_each in omega arith))
+      ∙ is.exact);
   elsewhere = λ j none other.
       let neither = sym (is_pivot-more rows row j) ∙ none in
       let here = (or_parts (pivot row == j) false (or_parts (is_pivot rows j) (pivot row == j || false) neither).1).0 in
@@ -134,7 +137,8 @@ pub row_solved : (n : ℕ) (common : ℤ) (form : List (List ℤ)) (k free p : �
     IsSolution (number_at (get_or form k []) free) (pivot_entry (get_or form k [])) common x → IsSolvedWith n common (take (k + 1) form) free (set d p x)
 row_solved n common form k free p d x h l none e below so_far is =
     subst (λ rows. IsSolvedWith n common rows free (set d p x)) (sym (take_more form k [] l))
-    (solved_more n common (take k form) (get_or form k []) free p d x e below apart (subst (λ q. AllByRecursion (λ r. pivot r ≢ q) (take k form)) (sym e) (other_pivots form k h.echelon l)) so_far is)
+    (solved_more n common (take k form) (get_or form k []) free p d x e below apart
+    (subst (λ q. AllByRecursion (λ r. pivot r ≢ q) (take k form)) (sym e) (other_pivots form k h.echelon l)) so_far is)
   where
     apart : free ≢ p
     apart same = let there = is_pivot_at form k l in let at_free : is_pivot form free ≡ true = ap (is_pivot form) (same ∙ e) ∙ there in absurd cc

@@ -19,7 +19,8 @@ by_one multiple of e = sym (one-times multiple) ∙ sym (ap (λ z. z *ℤ multip
 pub returns-then-of-eq1 : goal.returns-then-of-eq1
 returns-then-of-eq1 c = rw (to_z-of_z w128 c.args.multiple c.ranges.multiple) (elim c.then-of-eq1.branch [
   | then-of-eq1-via-then-of-eq1 w ↦ by_one c.args.multiple c.args.of (sym (to_z-of_z w128 c.args.of c.ranges.of) ∙ ap (to_z w128) w.if-of-eq1.true)
-  | then-of-eq1-via-else-of-eq1+then-multiple-eq0 w ↦ of_zero c.args.multiple c.args.of (zero_from_bits c.args.multiple c.ranges.multiple w.if-multiple-eq0.true)
+  | then-of-eq1-via-else-of-eq1+then-multiple-eq0 w ↦ of_zero c.args.multiple c.args.of
+      (zero_from_bits c.args.multiple c.ranges.multiple w.if-multiple-eq0.true)
 ])
 
 -- a size that was tested
@@ -29,13 +30,15 @@ tested z b fits is size = subst (λ (x : ℤ). unsigned_abs x < 2 ^ 62) (to_z-of
 pub short_quotient-requires-clause-divides : goal.short_quotient-requires-clause-divides
 short_quotient-requires-clause-divides c =
     let one = short_is c.args.multiple c.ranges.multiple (tested c.args.multiple c.is_short.result c.ranges.multiple c.if-is_short.true c.is_short.ensures.0) in
-    let two = short_is c.args.of c.ranges.of (tested c.args.of c.is_short-then-is_short.result c.ranges.of c.if-is_short-2.true c.is_short-then-is_short.ensures.0) in
+    let two = short_is c.args.of c.ranges.of (tested c.args.of c.is_short-then-is_short.result c.ranges.of c.if-is_short-2.true
+    c.is_short-then-is_short.ensures.0) in
     rw (one, two) c.requires.divides
 
 pub returns-then-is_short-2 : goal.returns-then-is_short-2
 returns-then-is_short-2 c =
     let one = short_is c.args.multiple c.ranges.multiple (tested c.args.multiple c.is_short.result c.ranges.multiple c.if-is_short.true c.is_short.ensures.0) in
-    let two = short_is c.args.of c.ranges.of (tested c.args.of c.is_short-then-is_short.result c.ranges.of c.if-is_short-2.true c.is_short-then-is_short.ensures.0) in
+    let two = short_is c.args.of c.ranges.of (tested c.args.of c.is_short-then-is_short.result c.ranges.of c.if-is_short-2.true
+    c.is_short-then-is_short.ensures.0) in
     let q : FitsSigned w64 c.short_quotient.result = search rules in
     let wide : FitsSigned w128 c.short_quotient.result = search rules in
     sym one ∙ c.short_quotient.ensures ∙ ap (λ z. z *ℤ c.short_quotient.result) two

@@ -15,7 +15,8 @@ loop-x-preserved c =
     let size = size_is (get_or c.args.row.now c.loop-x.x-index (pos 0)) c.unsigned_abs.result fits c.unsigned_abs.ensures.value in
     record {
       content = rw (take_more c.args.row.now c.loop-x.x-index (pos 0) c.loop-x-test.true)
-          (IsContent-push _ _ _ _ c.loop-x.invariant.content (subst (λ (m : ℕ). IsGcd c.loop-x.divisor m c.common_divisor-divisor.result) size c.common_divisor-divisor.ensures.divisor));
+          (IsContent-push _ _ _ _ c.loop-x.invariant.content
+          (subst (λ (m : ℕ). IsGcd c.loop-x.divisor m c.common_divisor-divisor.result) size c.common_divisor-divisor.ensures.divisor));
       small = c.common_divisor-divisor.ensures.small;
     }
 

@@ -40,7 +40,8 @@ loop-x-preserved c =
     let i = c.loop-x.x-index in
     let fits : FitsSigned w128 (get_or c.loop-x.row i (pos 0)) = search rules in
     let q : FitsSigned w128 c.quotient.result = search rules in
-    let is = sym (to_z-of_z w128 (get_or c.loop-x.row i (pos 0)) fits) ∙ c.quotient.ensures ∙ ap (λ z. to_z w128 (of_z w128 c.args.by) *ℤ z) (sym (to_z-of_z w128 c.quotient.result q)) in
+    let is = sym (to_z-of_z w128 (get_or c.loop-x.row i (pos 0)) fits) ∙ c.quotient.ensures
+    ∙ ap (λ z. to_z w128 (of_z w128 c.args.by) *ℤ z) (sym (to_z-of_z w128 c.quotient.result q)) in
     one_more c.args.row.now c.loop-x.row _ _ i (omega arith) c.loop-x.invariant is
 
 pub returns : goal.returns

@@ -16,8 +16,12 @@ loop-pair-preserved c =
     let above = one_above a fits in
     let gathered = c.loop-pair.invariant.gathered in
     record {
-      gathered =
-          (gathered.0, gathered.1, rw (more, ← c.pair-item.is) (pushed gathered.0 _ (answer_of c.pair-item.result) _ _ _ _ _ gathered.2 c.in_ok-push-2.ensures c.in_ok-push-3.ensures itself above));
+      gathered = (
+        gathered.0,
+        gathered.1,
+        rw (more, ← c.pair-item.is)
+            (pushed gathered.0 _ (answer_of c.pair-item.result) _ _ _ _ _ gathered.2 c.in_ok-push-2.ensures c.in_ok-push-3.ensures itself above),
+      );
       near = near-pushed a c.loop-pair.candidates.items _ _ _ _ fits c.loop-pair.invariant.near c.in_ok-push-2.ensures c.in_ok-push-3.ensures itself above;
     }
 
@@ -30,5 +34,6 @@ returns-clause-exact c =
 
 pub returns-clause-near : goal.returns-clause-near
 returns-clause-near c =
-    near-sorted c.loop-pair.candidates.items c.sort_unstable.new.self.items c.dedup.new.self.items c.loop-pair.invariant.near c.sort_unstable.ensures.permutation
+    near-sorted c.loop-pair.candidates.items c.sort_unstable.new.self.items c.dedup.new.self.items c.loop-pair.invariant.near
+    c.sort_unstable.ensures.permutation
     (dedup_is _ _ _ c.dedup.ensures.filtered)

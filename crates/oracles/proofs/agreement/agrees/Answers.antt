@@ -10,6 +10,7 @@ returns-then-truth-record c = (
   λ agrees.
       let r = c.record-item.result in
       let P : Answer → Type 0 = λ a. truth c.args.kind c.args.numbers.now a.rows ≡ a.value in
-      let here = own_answer P c.args.column c.args.history.now c.loop-record.record-index r c.loop-record-test.true c.record-item.is c.if-record-column.true agrees.same in
+      let here = own_answer P c.args.column c.args.history.now c.loop-record.record-index r c.loop-record-test.true c.record-item.is c.if-record-column.true
+      agrees.same in
       absurd (c.if-truth-record.true (ap (of_z w64) (c.truth.ensures ∙ here))),
 )

@@ -39,7 +39,8 @@ loop-row-preserved-then-eq c =
     ∙ ap (λ a. option_eq int_eq c.upper_bound.result (Some a)) (sym answer) ∙ sym c.eq.ensures ∙ c.if-eq.true in
     record {
       together =
-          walk_more c.loop-row.yielded c.loop-row.row-iterator c.next.new.self c.args.answered.now.rows.list c.in-Some.row c.loop-row.invariant.together c.in-Some.ensures.steps;
+          walk_more c.loop-row.yielded c.loop-row.row-iterator c.next.new.self c.args.answered.now.rows.list c.in-Some.row c.loop-row.invariant.together
+          c.in-Some.ensures.steps;
       same_n = c.add.ensures.n ∙ c.loop-row.invariant.same_n;
       rows = c.add.ensures.added ∙ ap (λ n. with_row n c.loop-row.extremes.list c.in-Some.row) c.loop-row.invariant.same_n
           ∙ ap (λ l. with_row c.args.answered.now.rows.n l c.in-Some.row) c.loop-row.invariant.rows
@@ -56,7 +57,8 @@ loop-row-preserved c =
     ∙ ap (λ a. option_eq int_eq c.upper_bound.result (Some a)) (sym answer) ∙ sym c.eq.ensures ∙ c.if-eq.false in
     record {
       together =
-          walk_more c.loop-row.yielded c.loop-row.row-iterator c.next.new.self c.args.answered.now.rows.list c.in-Some.row c.loop-row.invariant.together c.in-Some.ensures.steps;
+          walk_more c.loop-row.yielded c.loop-row.row-iterator c.next.new.self c.args.answered.now.rows.list c.in-Some.row c.loop-row.invariant.together
+          c.in-Some.ensures.steps;
       same_n = c.loop-row.invariant.same_n;
       rows = c.loop-row.invariant.rows ∙ rows-passed p c.args.answered.now.rows.n c.loop-row.yielded c.in-Some.row fails;
     }

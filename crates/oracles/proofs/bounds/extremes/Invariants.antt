@@ -8,5 +8,6 @@ abbrev pub invariant-loop-row : goal.invariant-loop-row
 invariant-loop-row l = record {
   together : l.yielded ++ l.row-iterator ≡ l.answered.rows.list;
   same_n : l.extremes.n ≡ l.answered.rows.n;
-  rows : l.extremes.list ≡ rows_that (λ r. has_row l.yielded r && is_bound (upper_bound (answers_of l.answered.column l.history) r) l.answered.answer) l.answered.rows.n;
+  rows : l.extremes.list ≡ rows_that (λ r. has_row l.yielded r && is_bound
+      (upper_bound (answers_of l.answered.column l.history) r) l.answered.answer) l.answered.rows.n;
 }

@@ -14,7 +14,8 @@ bounds-numbers-row c =
 pub overflow_add-sum : goal.overflow_add-sum
 overflow_add-sum c =
     let most = length-rows c.args.rows.now.n c.args.rows.now.list c.n.ensures.are_rows in
-    let few : length c.loop-row.yielded + length c.loop-row.row-iterator ≡ length c.args.rows.now.list = sym (length-append c.loop-row.yielded c.loop-row.row-iterator) ∙ ap length c.loop-row.invariant.together in
+    let few : length c.loop-row.yielded + length c.loop-row.row-iterator ≡ length c.args.rows.now.list =
+    sym (length-append c.loop-row.yielded c.loop-row.row-iterator) ∙ ap length c.loop-row.invariant.together in
     let at_most : length c.loop-row.yielded ≤ 1024 = omega arith in
     let sum = within (to_z w64 c.loop-row.sum-bits) (10 ^ 12 * length c.loop-row.yielded) c.loop-row.invariant.small in
     let number = within (number_at c.args.numbers.now c.in-Some.row) (10 ^ 12) (number_small c.args.numbers.now c.in-Some.row c.requires.in_range) in
@@ -23,14 +24,16 @@ overflow_add-sum c =
 pub loop-row-preserved : goal.loop-row-preserved
 loop-row-preserved c =
     let most = length-rows c.args.rows.now.n c.args.rows.now.list c.n.ensures.are_rows in
-    let few : length c.loop-row.yielded + length c.loop-row.row-iterator ≡ length c.args.rows.now.list = sym (length-append c.loop-row.yielded c.loop-row.row-iterator) ∙ ap length c.loop-row.invariant.together in
+    let few : length c.loop-row.yielded + length c.loop-row.row-iterator ≡ length c.args.rows.now.list =
+    sym (length-append c.loop-row.yielded c.loop-row.row-iterator) ∙ ap length c.loop-row.invariant.together in
     let at_most : length c.loop-row.yielded ≤ 1024 = omega arith in
     let one_more = length-append c.loop-row.yielded (c.in-Some.row ∷ []) in
     let sum = within (to_z w64 c.loop-row.sum-bits) (10 ^ 12 * length c.loop-row.yielded) c.loop-row.invariant.small in
     let number = within (number_at c.args.numbers.now c.in-Some.row) (10 ^ 12) (number_small c.args.numbers.now c.in-Some.row c.requires.in_range) in
     record {
       together =
-          walk_more c.loop-row.yielded c.loop-row.row-iterator c.next.new.self c.args.rows.now.list c.in-Some.row c.loop-row.invariant.together c.in-Some.ensures.steps;
+          walk_more c.loop-row.yielded c.loop-row.row-iterator c.next.new.self c.args.rows.now.list c.in-Some.row c.loop-row.invariant.together
+          c.in-Some.ensures.steps;
       sum = omega (arith, ints, c.loop-row.invariant.sum, ap (sum_over c.args.numbers.now) c.in-Some.ensures.steps);
       small = size_within (to_z w64 (of_z w64 (to_z w64 c.loop-row.sum-bits +ℤ to_z w64 (of_z w64 (get_or c.args.numbers.now c.in-Some.row (pos 0))))))
           (10 ^ 12 * length (c.loop-row.yielded ++ c.in-Some.row ∷ [])) (omega (arith, ints)) (omega (arith, ints));

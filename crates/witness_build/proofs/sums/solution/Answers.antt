@@ -4,20 +4,24 @@ use Rattle.witness_build.proofs.sums.solution.Goals as goal
 
 pub overflow_mul-result : goal.overflow_mul-result
 overflow_mul-result c =
-    let q = quotient c.args.common c.args.pivot_entry c.unsigned_abs.result c.unsigned_abs-2.result c.requires.common.0 c.requires.positive c.requires.common.1 c.requires.divides (search rules) (search rules) in
+    let q = quotient c.args.common c.args.pivot_entry c.unsigned_abs.result c.unsigned_abs-2.result c.requires.common.0 c.requires.positive c.requires.common.1
+    c.requires.divides (search rules) (search rules) in
     product_fits c.args.entry _ c.ranges.entry c.requires.entry q.small
 
 pub overflow_sub-result : goal.overflow_sub-result
 overflow_sub-result c =
-    let q = quotient c.args.common c.args.pivot_entry c.unsigned_abs.result c.unsigned_abs-2.result c.requires.common.0 c.requires.positive c.requires.common.1 c.requires.divides (search rules) (search rules) in
+    let q = quotient c.args.common c.args.pivot_entry c.unsigned_abs.result c.unsigned_abs-2.result c.requires.common.0 c.requires.positive c.requires.common.1
+    c.requires.divides (search rules) (search rules) in
     turned_fits c.args.entry _ c.ranges.entry c.requires.entry q.small
 
 pub returns-clause-exact : goal.returns-clause-exact
 returns-clause-exact c =
-    let q = quotient c.args.common c.args.pivot_entry c.unsigned_abs.result c.unsigned_abs-2.result c.requires.common.0 c.requires.positive c.requires.common.1 c.requires.divides (search rules) (search rules) in
+    let q = quotient c.args.common c.args.pivot_entry c.unsigned_abs.result c.unsigned_abs-2.result c.requires.common.0 c.requires.positive c.requires.common.1
+    c.requires.divides (search rules) (search rules) in
     (solution_is c.args.entry _ c.ranges.entry c.requires.entry q.small c.args.pivot_entry c.args.common q).exact
 
 pub returns-clause-small : goal.returns-clause-small
 returns-clause-small c =
-    let q = quotient c.args.common c.args.pivot_entry c.unsigned_abs.result c.unsigned_abs-2.result c.requires.common.0 c.requires.positive c.requires.common.1 c.requires.divides (search rules) (search rules) in
+    let q = quotient c.args.common c.args.pivot_entry c.unsigned_abs.result c.unsigned_abs-2.result c.requires.common.0 c.requires.positive c.requires.common.1
+    c.requires.divides (search rules) (search rules) in
     (solution_is c.args.entry _ c.ranges.entry c.requires.entry q.small c.args.pivot_entry c.args.common q).small

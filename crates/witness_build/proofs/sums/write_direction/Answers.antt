@@ -9,8 +9,12 @@ solve-requires c =
     let known = c.args.column.now in
     let same = sym c.basis-basis.ensures.n in
     let form = c.basis-basis.result.now.rows in
-    let free_column = column c.directions_of_a_form.ensures.directions c.forms_are_unique.ensures known.n (sets_of known.answers) form c.args.row c.free_column-free.result c.n.ensures.are_rows c.basis-basis.ensures.form c.requires.row c.requires.free c.free_column-free.ensures in
-    let rows = is_form c.directions_of_a_form.ensures.directions c.forms_are_unique.ensures known.n (sets_of known.answers) form c.args.row c.free_column-free.result c.n.ensures.are_rows c.basis-basis.ensures.form c.requires.row c.requires.free c.free_column-free.ensures in
+    let free_column = column c.directions_of_a_form.ensures.directions c.forms_are_unique.ensures known.n
+    (sets_of known.answers) form c.args.row c.free_column-free.result c.n.ensures.are_rows c.basis-basis.ensures.form c.requires.row c.requires.free
+    c.free_column-free.ensures in
+    let rows = is_form c.directions_of_a_form.ensures.directions c.forms_are_unique.ensures known.n
+    (sets_of known.answers) form c.args.row c.free_column-free.result c.n.ensures.are_rows c.basis-basis.ensures.form c.requires.row c.requires.free
+    c.free_column-free.ensures in
     record {
       n = c.requires.n ∙ same;
       zeros = c.requires.zeros;
@@ -27,7 +31,9 @@ divide-requires c =
     record {
       small = solved.2.small;
       moves =
-          moves c.directions_of_a_form.ensures.directions c.forms_are_unique.ensures known.n (sets_of known.answers) form c.args.row c.free_column-free.result c.n.ensures.are_rows c.basis-basis.ensures.form c.requires.row c.requires.free c.free_column-free.ensures c.solve.new.direction solved;
+          moves c.directions_of_a_form.ensures.directions c.forms_are_unique.ensures known.n
+          (sets_of known.answers) form c.args.row c.free_column-free.result c.n.ensures.are_rows c.basis-basis.ensures.form c.requires.row c.requires.free
+          c.free_column-free.ensures c.solve.new.direction solved;
     }
 
 pub returns : goal.returns
@@ -37,9 +43,15 @@ returns c =
     let solved = subst (λ k. IsSolved k form c.free_column-free.result c.solve.new.direction) c.basis-basis.ensures.n c.solve.ensures in
     record {
       canonical =
-          canonical c.directions_of_a_form.ensures.directions c.forms_are_unique.ensures known.n (sets_of known.answers) form c.args.row c.free_column-free.result c.n.ensures.are_rows c.basis-basis.ensures.form c.requires.row c.requires.free c.free_column-free.ensures c.solve.new.direction solved c.divide.new.numbers c.divide.ensures;
+          canonical c.directions_of_a_form.ensures.directions c.forms_are_unique.ensures known.n
+          (sets_of known.answers) form c.args.row c.free_column-free.result c.n.ensures.are_rows c.basis-basis.ensures.form c.requires.row c.requires.free
+          c.free_column-free.ensures c.solve.new.direction solved c.divide.new.numbers c.divide.ensures;
       small =
-          divided_small c.directions_of_a_form.ensures.directions c.forms_are_unique.ensures known.n (sets_of known.answers) form c.args.row c.free_column-free.result c.n.ensures.are_rows c.basis-basis.ensures.form c.requires.row c.requires.free c.free_column-free.ensures c.solve.new.direction solved c.divide.new.numbers c.divide.ensures;
+          divided_small c.directions_of_a_form.ensures.directions c.forms_are_unique.ensures known.n
+          (sets_of known.answers) form c.args.row c.free_column-free.result c.n.ensures.are_rows c.basis-basis.ensures.form c.requires.row c.requires.free
+          c.free_column-free.ensures c.solve.new.direction solved c.divide.new.numbers c.divide.ensures;
       n =
-          divided_length c.directions_of_a_form.ensures.directions c.forms_are_unique.ensures known.n (sets_of known.answers) form c.args.row c.free_column-free.result c.n.ensures.are_rows c.basis-basis.ensures.form c.requires.row c.requires.free c.free_column-free.ensures c.solve.new.direction solved c.divide.new.numbers c.divide.ensures;
+          divided_length c.directions_of_a_form.ensures.directions c.forms_are_unique.ensures known.n
+          (sets_of known.answers) form c.args.row c.free_column-free.result c.n.ensures.are_rows c.basis-basis.ensures.form c.requires.row c.requires.free
+          c.free_column-free.ensures c.solve.new.direction solved c.divide.new.numbers c.divide.ensures;
     }

@@ -6,5 +6,6 @@ use Rattle.witness_check.proofs.directions.has_zero_sums.Goals as goal
 pub returns-then-sum_over-ne0 : goal.returns-then-sum_over-ne0
 returns-then-sum_over-ne0 c = (
   (λ yes. absurd cc),
-  (λ all. let zero_sum = zero_at c.args.numbers.now c.args.sets.now c.loop-set.set-index c.set-item.result c.loop-set-test.true c.set-item.is all in absurd (c.if-sum_over-ne0.true (ap (of_z w128) (c.sum_over.ensures ∙ zero_sum)))),
+  (λ all. let zero_sum = zero_at c.args.numbers.now c.args.sets.now c.loop-set.set-index c.set-item.result c.loop-set-test.true c.set-item.is all in
+      absurd (c.if-sum_over-ne0.true (ap (of_z w128) (c.sum_over.ensures ∙ zero_sum)))),
 )

@@ -15,5 +15,6 @@ loop-row-preserved c =
     let number = get_or c.args.numbers.now c.in-Some.row (pos 0) in
     let fits : FitsSigned w128 number = search rules in
     rw
-    (next_is (to_z w128 c.loop-row.sum-bits) number fits (sum_fits c.args.numbers.now c.args.rows.now.list c.in-Some.row c.next.new.self (to_z w128 c.loop-row.sum-bits) c.requires.small so_far))
+    (next_is (to_z w128 c.loop-row.sum-bits) number fits (sum_fits c.args.numbers.now c.args.rows.now.list c.in-Some.row c.next.new.self
+    (to_z w128 c.loop-row.sum-bits) c.requires.small so_far))
     (sum_step c.args.numbers.now c.args.rows.now.list c.in-Some.row c.next.new.self (to_z w128 c.loop-row.sum-bits) c.requires.small so_far)

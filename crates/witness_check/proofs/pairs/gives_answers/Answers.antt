@@ -9,7 +9,8 @@ returns-then-not-is_answer c = record {
   exact = (
     (λ yes. absurd (true≢false (sym yes))),
     (λ all. absurd (true≢false (sym (c.is_answer.ensures.exact.1
-        (own_answer (IsAnswerOf c.args.numbers.now) c.args.column c.args.list.now c.loop-answered.answered-index c.answered-item.result c.loop-answered-test.true c.answered-item.is c.if-answered-column.true all))
+        (own_answer (IsAnswerOf c.args.numbers.now) c.args.column c.args.list.now c.loop-answered.answered-index c.answered-item.result
+        c.loop-answered-test.true c.answered-item.is c.if-answered-column.true all))
         ∙ c.if-not-is_answer.true))),
   );
 }

@@ -18,7 +18,8 @@ loop-row-preserved c =
     let value : to_z w128 (of_z w128 c.greater.result) ≡ greater_of c.loop-row.greatest number =
     to_z-of_z w128 c.greater.result fits_greater ∙ c.greater.ensures ∙ ap (greater_of c.loop-row.greatest) (to_z-of_z w128 number fits) in
     rw value
-    (greatest_step c.args.numbers.now c.args.rows.now.list c.in-Some.row c.next.new.self c.loop-row.greatest (rw c.in-Some.ensures.steps at c.loop-row.invariant))
+    (greatest_step c.args.numbers.now c.args.rows.now.list c.in-Some.row c.next.new.self c.loop-row.greatest
+    (rw c.in-Some.ensures.steps at c.loop-row.invariant))
 
 pub returns : goal.returns
 returns c = let done = rw c.in-None.ensures.steps.0 at c.loop-row.invariant in record { exact = done.leads }

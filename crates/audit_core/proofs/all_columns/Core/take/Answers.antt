@@ -19,7 +19,8 @@ invariant_of-self-2 c =
     let below = subst (λ a. r.column < columns a.setting.shape) (sym c.self.view_is) c.requires.fits.column_below in
     let records = c.push_reserved.ensures.items ∙ ap (λ l. l ++ r ∷ []) c.reserve.ensures.items in
     subst (IsCore c.self.inside.shape _) (sym records)
-    (record_taken c.self.inside.shape c.self.inside.history.items r c.self.inside.columns.items c.index_mut.result.now c.accept.new.self c.self.invariant below c.index_mut.ensures.value
+    (record_taken c.self.inside.shape c.self.inside.history.items r c.self.inside.columns.items c.index_mut.result.now c.accept.new.self c.self.invariant below
+    c.index_mut.ensures.value
     (c.in_ok-accept.ensures.ok ∙ ap (with_answer (known_in c.index_mut.result.now) r.rows.list) (to_z-of_z w64 r.answer fits))
     (subst (λ (a : Audited). FitsShape a.setting.shape r.column r.rows) (sym c.self.view_is) c.requires.fits))
 

@@ -29,4 +29,5 @@ returns-clause-decided c =
 pub invariant_of-self : goal.invariant_of-self
 invariant_of-self c =
     let below = subst (λ a. c.args.asked.now.column < columns a.setting.shape) (sym c.self.view_is) c.requires.column_below in
-    same_known c.self.inside.shape c.self.inside.history.items c.self.inside.columns.items c.args.asked.now.column c.index_mut.result.now c.weigh.new.self c.self.invariant below c.index_mut.ensures.value c.weigh.ensures.same
+    same_known c.self.inside.shape c.self.inside.history.items c.self.inside.columns.items c.args.asked.now.column c.index_mut.result.now c.weigh.new.self
+    c.self.invariant below c.index_mut.ensures.value c.weigh.ensures.same

@@ -14,5 +14,6 @@ returns-clause-added c =
     let e : c.self.inside.n ≡ c.args.self.now.n = ap (λ (s : Rows). s.n) c.self.view_is in
     let below : c.args.row / 64 < length c.self.inside.words = omega (arith, c.self.invariant.at_most) in
     rows_that_agree _ _ c.self.inside.n
-    (λ r l. has_bit-set c.self.inside.words c.args.row r below ∙ ap (λ b. b || (r == c.args.row)) (sym (has-view c.self.inside.n c.self.inside.words c.self.invariant r)))
+    (λ r l. has_bit-set c.self.inside.words c.args.row r below
+    ∙ ap (λ b. b || (r == c.args.row)) (sym (has-view c.self.inside.n c.self.inside.words c.self.invariant r)))
     ∙ ap (λ (s : Rows). with_row s.n s.list c.args.row) c.self.view_is

@@ -12,12 +12,16 @@ invariant_of-self c = AreWords-cleared c.self.inside.n c.self.inside.words c.arg
 pub returns-then-self-k-clause-whole : goal.returns-then-self-k-clause-whole
 returns-then-self-k-clause-whole c = (
   λ yes. absurd (true≢false (sym yes)),
-  λ all. absurd (c.if-self-k.true (has_full c.self.inside.words c.args.block (c.self.invariant.ranges c.args.block) (λ r word. sym (shown c.self.inside c.args.self.now c.self.invariant c.self.view_is r) ∙ all r word))),
+  λ all. absurd (c.if-self-k.true (has_full c.self.inside.words c.args.block (c.self.invariant.ranges c.args.block)
+      (λ r word. sym (shown c.self.inside c.args.self.now c.self.invariant c.self.view_is r) ∙ all r word))),
 )
 
 pub returns-clause-whole : goal.returns-clause-whole
-returns-clause-whole c =
-    (λ yes r word. shown c.self.inside c.args.self.now c.self.invariant c.self.view_is r ∙ full_has c.self.inside.words c.args.block r c.if-self-k.false word, λ all. refl)
+returns-clause-whole c = (
+  λ yes r word. shown c.self.inside c.args.self.now c.self.invariant c.self.view_is r
+      ∙ full_has c.self.inside.words c.args.block r c.if-self-k.false word,
+  λ all. refl,
+)
 
 pub returns-clause-left : goal.returns-clause-left
 returns-clause-left c =

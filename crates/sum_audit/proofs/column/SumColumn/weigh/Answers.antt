@@ -5,11 +5,15 @@ use Rattle.sum_audit.proofs.column.SumColumn.weigh.Goals as goal
 pub returns-clause-judged : goal.returns-clause-judged
 returns-clause-judged c =
     let right = subst (IsRightVerdict c.args.self.now c.args.rows.now.list) (sym c.verdict_of.ensures)
-    (right_by_prospect c.one_more_set.ensures _ _ c.args.self.now c.self.view_is c.args.rows.now.list c.args.rows.now.n c.self.invariant.are_rows c.n.ensures.are_rows c.requires.same_n c.self.inside.basis c.in_ok-prospect.prospect c.self.invariant.same_n c.self.invariant.form c.in_ok-prospect.ensures.foresees) in
+    (right_by_prospect c.one_more_set.ensures _ _ c.args.self.now c.self.view_is c.args.rows.now.list c.args.rows.now.n c.self.invariant.are_rows
+    c.n.ensures.are_rows c.requires.same_n c.self.inside.basis c.in_ok-prospect.prospect c.self.invariant.same_n c.self.invariant.form
+    c.in_ok-prospect.ensures.foresees) in
     right.judged
 
 pub returns-clause-decided : goal.returns-clause-decided
 returns-clause-decided c =
     let right = subst (IsRightVerdict c.args.self.now c.args.rows.now.list) (sym c.verdict_of.ensures)
-    (right_by_prospect c.one_more_set.ensures _ _ c.args.self.now c.self.view_is c.args.rows.now.list c.args.rows.now.n c.self.invariant.are_rows c.n.ensures.are_rows c.requires.same_n c.self.inside.basis c.in_ok-prospect.prospect c.self.invariant.same_n c.self.invariant.form c.in_ok-prospect.ensures.foresees) in
+    (right_by_prospect c.one_more_set.ensures _ _ c.args.self.now c.self.view_is c.args.rows.now.list c.args.rows.now.n c.self.invariant.are_rows
+    c.n.ensures.are_rows c.requires.same_n c.self.inside.basis c.in_ok-prospect.prospect c.self.invariant.same_n c.self.invariant.form
+    c.in_ok-prospect.ensures.foresees) in
     right.decided
