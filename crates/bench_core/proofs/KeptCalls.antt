@@ -6,7 +6,7 @@ use Rattle.std.proofs.lemmas.List.{take-append-le, drop-append-le, drop_at, map_
 use Rattle.bench_core.specs.Machine.{wrote, sending}
 use Rattle.bench_core.specs.declared.log.Past.{Past}
 use Rattle.bench_core.specs.declared.log.Past.TheVariants as past
-use Rattle.bench_core.specs.LogContents.{call_of, IsKept}
+use Rattle.bench_core.specs.LogContents.{LogContents, call_of, IsKept}
 use Rattle.audit_types.specs.ListLaws.{all-push, all-weaker}
 
 piece_stays : (from count : ℕ) (bytes more : List ℕ) → from + count ≤ length bytes → take count (drop from (bytes ++ more)) ≡ take count (drop from bytes)
@@ -62,3 +62,14 @@ written_grows pieces sent piece at all kept =
     map_push (call_of (pieces ++ piece) sent) all (past.Wrote at (length pieces) (length piece))
     ∙ ap (λ t. t ++ call_of (pieces ++ piece) sent (past.Wrote at (length pieces) (length piece)) ∷ []) stay
     ∙ ap (λ p. map (call_of pieces sent) all ++ wrote at p ∷ []) (piece_at_end pieces piece)
+
+-- a call without a piece joins the record
+pub record_grows : (pieces sent : List ℕ) (all now : List Past) (p : Past) (most_calls most_written most_sent : ℕ) (log : LogContents)
+    → now ≡ all ++ p ∷ []
+    → record { calls = map (call_of pieces sent) all; written = length pieces; sent = sent; most_calls = most_calls; most_written = most_written; most_sent = most_sent } ≡ log
+    → record { calls = map (call_of pieces sent) now; written = length pieces; sent = sent; most_calls = most_calls; most_written = most_written; most_sent = most_sent }
+    ≡ record log { calls = log.calls ++ call_of pieces sent p ∷ [] }
+record_grows pieces sent all now p most_calls most_written most_sent log joined is =
+    ap (λ calls. record { calls = calls; written = length pieces; sent = sent; most_calls = most_calls; most_written = most_written; most_sent = most_sent })
+    (ap (map (call_of pieces sent)) joined ∙ map_push (call_of pieces sent) all p)
+    ∙ ap (λ (log : LogContents). record log { calls = log.calls ++ call_of pieces sent p ∷ [] }) is

@@ -12,25 +12,30 @@ pub mark-requires : goal.mark-requires
 mark-requires c =
     omega (arith, c.requires.room, ap (λ (d : DiskContents). d.room) c.self.view_is, c.self.invariant.3, ap length c.deref_mut-2.ensures.value)
 
-pub returns-clause-written : goal.returns-clause-written
-returns-clause-written c =
+pub returns : goal.returns
+returns c =
     let d = c.self.inside in
     let piece = c.args.piece.now in
     let wrote : c.put.new.bytes ≡ written d.file.items c.args.at piece = c.put.ensures ∙ ap (λ f. written f c.args.at piece) c.deref_mut.ensures.value in
     let file = ap (λ (v : DiskContents). length v.file) c.self.view_is in
     let inside : c.args.at ≤ d.len = omega (arith, c.requires.inside, file, length-take d.len d.file.items) in
     let kept = stored c.put.new.bytes c.deref_mut.result.now d.file.items d.file.len c.put.auto.bytes c.deref_mut.ensures.len in
-    ap (take c.max-self-inside.result) (kept ∙ wrote)
-    ∙ front_written d.file.items d.len c.args.at c.max-self-inside.result piece inside c.self.invariant.0 c.max-self-inside.ensures
-    ∙ ap (λ (v : DiskContents). written v.file c.args.at piece) c.self.view_is
-
-pub returns-clause-touched : goal.returns-clause-touched
-returns-clause-touched c = λ place lt.
-    let d = c.self.inside in
     let lent : c.deref_mut-2.result.now ≡ c.args.self.now.dirty = c.deref_mut-2.ensures.value ∙ ap (λ (v : DiskContents). v.dirty) c.self.view_is in
-    let kept = stored c.mark.new.dirty c.deref_mut-2.result.now d.dirty.items d.dirty.len c.mark.ensures.len c.deref_mut-2.ensures.len in
-    ap (λ (l : List Bool). is_dirty l place) kept ∙ c.mark.ensures.touched place (omega (arith, lt, ap length lent))
-    ∙ ap (λ (l : List Bool). dirtied (is_dirty l) c.args.at (length c.args.piece.now) place) lent
+    let marked = stored c.mark.new.dirty c.deref_mut-2.result.now d.dirty.items d.dirty.len c.mark.ensures.len c.deref_mut-2.ensures.len in
+    record {
+      written =
+          ap (take c.max-self-inside.result) (kept ∙ wrote)
+          ∙ front_written d.file.items d.len c.args.at c.max-self-inside.result piece inside c.self.invariant.0 c.max-self-inside.ensures
+          ∙ ap (λ (v : DiskContents). written v.file c.args.at piece) c.self.view_is;
+      touched = λ place lt.
+          ap (λ (l : List Bool). is_dirty l place) marked ∙ c.mark.ensures.touched place (omega (arith, lt, ap length lent))
+          ∙ ap (λ (l : List Bool). dirtied (is_dirty l) c.args.at (length piece) place) lent;
+      flags = ap length marked ∙ c.mark.ensures.len ∙ ap length lent;
+      same = (
+        ap (λ (v : DiskContents). v.stable) c.self.view_is,
+        ap length kept ∙ c.put.auto.bytes ∙ ap length c.deref_mut.ensures.value ∙ ap (λ (v : DiskContents). v.room) c.self.view_is,
+      );
+    }
 
 pub invariant_of-self : goal.invariant_of-self
 invariant_of-self c =

@@ -27,3 +27,15 @@ pub returns-in_default-clause-image : goal.returns-in_default-clause-image
 returns-in_default-clause-image c =
     IfOk-weaker c.with_file-in_default.result _ _
     (λ bench made. subst (λ (f : List ℕ). may_leave c.args.self.now f) (sym (made.0 ∙ c.file-file.ensures.file)) (reads_itself c.args.self.now)) c.with_file-in_default.ensures.file
+
+pub returns-in-1-clause-torn : goal.returns-in-1-clause-torn
+returns-in-1-clause-torn c = λ is. absurd (omega (arith, is, c.in-1.is))
+
+pub returns-in-1-clause-read : goal.returns-in-1-clause-read
+returns-in-1-clause-read c = λ not_1 not_2. absurd (not_1 c.in-1.is)
+
+pub returns-in_ok-torn-in-2-clause-stable : goal.returns-in_ok-torn-in-2-clause-stable
+returns-in_ok-torn-in-2-clause-stable c = λ is. absurd (omega (arith, is, c.in-2.is))
+
+pub returns-in_ok-torn-in-2-clause-read : goal.returns-in_ok-torn-in-2-clause-read
+returns-in_ok-torn-in-2-clause-read c = λ not_1 not_2. absurd (not_2 c.in-2.is)

@@ -1,26 +1,43 @@
-use Rattle.std.proofs.Common.{length, ap, refl, ◌∙◌, arith}
+use Rattle.std.proofs.Common.{rules, [], ◌∷◌, length, ap, refl, ◌∙◌, arith, length-append}
+use Rattle.bench_core.specs.Bench.{Unsent}
 use Rattle.bench_core.specs.Machine.{State, other}
-use Rattle.bench_core.proofs.WhatCallsLeave.{passed_state, time_unsent, same_images}
+use Rattle.bench_core.specs.BenchContents.{sent_of, may_leave}
+use Rattle.bench_core.proofs.WhatCallsLeave.{passed_state, time_still, time_unsent, same_images}
 use Rattle.bench_core.proofs.memory_bench.MemoryBenchBench.length.Goals as goal
 
-pub returns-clause-file : goal.returns-clause-file
-returns-clause-file c = rw c.pass.ensures (ap (λ (s : State). s.file) (passed_state c.args.self.now other))
+pub returns-then-next_fails : goal.returns-then-next_fails
+returns-then-next_fails c =
+    let still = c.args.self.now in
+    let below = c.fail.ensures.faults in
+    rw c.fail.ensures.changed (record {
+      length = λ told. tt;
+      file = refl;
+      sent = refl;
+      crash = λ image left. left;
+      time = time_still still (Unsent (may_leave still) (sent_of still));
+      ticks = λ told. tt;
+      one_tick = omega arith;
+      cause = record { later = omega arith; failed = refl; steady = tt };
+      last_call = refl;
+      fails = search rules;
+      done = tt;
+      failed = refl;
+    })
 
-pub returns-clause-sent : goal.returns-clause-sent
-returns-clause-sent c = rw c.pass.ensures (ap (λ (s : State). s.sent) (passed_state c.args.self.now other))
-
-pub returns-clause-crash : goal.returns-clause-crash
-returns-clause-crash c = rw c.pass.ensures (same_images c.args.self.now)
-
-pub returns-clause-time : goal.returns-clause-time
-returns-clause-time c = rw c.pass.ensures (time_unsent c.args.self.now other (λ image sent found. found) refl)
-
-pub returns-clause-length : goal.returns-clause-length
-returns-clause-length c = λ told. ap length (c.file.ensures.file ∙ (rw c.pass.ensures (ap (λ (s : State). s.file) (passed_state c.args.self.now other))))
-
-pub returns-clause-cause : goal.returns-clause-cause
-returns-clause-cause c = rw c.pass.ensures (record { later = omega arith; failed = tt; steady = refl })
-
-pub returns-then-next_fails-clause-cause : goal.returns-then-next_fails-clause-cause
-returns-then-next_fails-clause-cause c =
-    let below = c.fail.ensures.faults in rw c.fail.ensures.changed (record { later = omega arith; failed = refl; steady = tt })
+pub returns : goal.returns
+returns c =
+    let old = c.args.self.now in
+    rw c.pass.ensures (record {
+      length = λ told. ap length (c.file.ensures.file ∙ (rw c.pass.ensures (ap (λ (s : State). s.file) (passed_state old other))));
+      file = ap (λ (s : State). s.file) (passed_state old other);
+      sent = ap (λ (s : State). s.sent) (passed_state old other);
+      crash = same_images old;
+      time = time_unsent old other (λ image sent found. found) refl;
+      ticks = λ told. length-append old.past (other ∷ []);
+      one_tick = omega (arith, length-append old.past (other ∷ []));
+      cause = record { later = omega arith; failed = tt; steady = refl };
+      last_call = refl;
+      fails = search rules;
+      done = refl;
+      failed = tt;
+    })
