@@ -123,7 +123,8 @@ records_shown None = []
 
 -- the record that such a line makes may follow the history
 abbrev pub CanFollow : Setting → List Answered → Option Shown → Type 0
-CanFollow setting history (Some (Agrees (Some answered))) = FitsShape setting.shape answered.column answered.rows × IsWithinWidth (known_of setting history answered.column) answered.rows.list
+CanFollow setting history (Some (Agrees (Some answered))) =
+    FitsShape setting.shape answered.column answered.rows × IsWithinWidth (known_of setting history answered.column) answered.rows.list
 CanFollow setting history (Some (Agrees None)) = Unit {0}
 CanFollow setting history (Some Disagrees) = Unit {0}
 CanFollow setting history None = Unit {0}
