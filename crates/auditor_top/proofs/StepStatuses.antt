@@ -25,11 +25,11 @@ use Rattle.auditor_top.specs.declared.words.Command.TheVariants.{Init, Serve, Au
 use Rattle.auditor_top.specs.declared.status.Which.{Which}
 use Rattle.auditor_top.specs.declared.status.Which.TheVariants.{Schema, Table, Input}
 use Rattle.auditor_top.specs.declared.status.Status.{Status}
-use Rattle.auditor_top.specs.declared.status.Status.TheVariants.{Done, BadWords, BadSchema, BadTable, SourceFault, BenchFault, NoMemory}
+use Rattle.auditor_top.specs.declared.status.Status.TheVariants.{Done, BadWords, BadSchema, BadTable, SourceFault, BenchFault, NotMade, AlreadyThere, Damaged, OtherShape, Untrue, Illegal, InputLimit, Disagrees, NoMemory}
 use Rattle.auditor_top.specs.Status.{open_status, start_status, making_status, session_status, audit_status, simulation_status}
 use Rattle.auditor_top.specs.Commands.{reads_files, opens_journal}
 use Rattle.auditor_top.specs.Causes.{FaultCounts, counts, NeverFall, WordCause, SchemaCause, TableCause, FileCause, InputCause}
-use Rattle.auditor_top.specs.Stages.{Stage, reading_table, opening_journal, reading_lines, is_short_of, reached, Before}
+use Rattle.auditor_top.specs.Stages.{Stage, reading_words, reading_schema, reading_table, opening_journal, reading_lines, ending, Reach, to, from, is_short_of, reached, Before}
 use Rattle.auditor_top.proofs.OneTable.{same_ok}
 
 -- what holds anyway holds before each stage
@@ -42,11 +42,44 @@ always_before stage status holds = on_any (is_short_of stage (reached status)) h
 
 -- and what follows from it
 so_then : {P Q : Type 0} (b : Bool) → (P → Q) → OnTrue b P → OnTrue b Q
-so_then true to holds = to holds
-so_then false to holds = tt
+so_then true follows holds = follows holds
+so_then false follows holds = tt
 
 pub before_so : {P Q : Type 0} (stage : Stage) (status : Status) → (P → Q) → Before stage status P → Before stage status Q
-before_so stage status to holds = so_then (is_short_of stage (reached status)) to holds
+before_so stage status follows holds = so_then (is_short_of stage (reached status)) follows holds
+
+-- what isn't come to before the lines isn't before the journal
+earlier_than_lines : {P Q : Type 0} (reach : Reach) → (P → Q) → OnTrue (is_short_of reading_lines reach) P → OnTrue (is_short_of opening_journal reach) Q
+earlier_than_lines (to reading_words) so holds = so holds
+earlier_than_lines (to reading_schema) so holds = so holds
+earlier_than_lines (to reading_table) so holds = so holds
+earlier_than_lines (to opening_journal) so holds = tt
+earlier_than_lines (to reading_lines) so holds = tt
+earlier_than_lines (to ending) so holds = tt
+earlier_than_lines (from stage) so holds = tt
+
+pub before_journal : {P Q : Type 0} (status : Status) → (P → Q) → Before reading_lines status P → Before opening_journal status Q
+before_journal status so holds = earlier_than_lines (reached status) so holds
+
+-- a run that ends before the lines isn't done, and no call of the bench failed
+pub kept_before_lines : {P : Type 0} (status : Status) → (status ≢ Done → status ≢ BenchFault → P) → Before reading_lines status P
+kept_before_lines Done kept = tt
+kept_before_lines BadWords kept = kept (λ is. cc) (λ is. cc)
+kept_before_lines (BadSchema fault) kept = kept (λ is. cc) (λ is. cc)
+kept_before_lines (BadTable fault) kept = kept (λ is. cc) (λ is. cc)
+kept_before_lines (SourceFault Schema) kept = kept (λ is. cc) (λ is. cc)
+kept_before_lines (SourceFault Table) kept = kept (λ is. cc) (λ is. cc)
+kept_before_lines (SourceFault Input) kept = tt
+kept_before_lines BenchFault kept = tt
+kept_before_lines NotMade kept = kept (λ is. cc) (λ is. cc)
+kept_before_lines AlreadyThere kept = kept (λ is. cc) (λ is. cc)
+kept_before_lines (Damaged at) kept = kept (λ is. cc) (λ is. cc)
+kept_before_lines (OtherShape kept_shape now) kept = kept (λ is. cc) (λ is. cc)
+kept_before_lines (Untrue place kept_answer now) kept = kept (λ is. cc) (λ is. cc)
+kept_before_lines (Illegal place) kept = kept (λ is. cc) (λ is. cc)
+kept_before_lines InputLimit kept = tt
+kept_before_lines (Disagrees line due) kept = tt
+kept_before_lines NoMemory kept = tt
 
 -- no count of faults fell where they are as they were
 pub never_fall : (before : FaultCounts) → NeverFall before before

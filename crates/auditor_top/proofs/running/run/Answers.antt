@@ -1,4 +1,4 @@
-use Rattle.std.proofs.Common.{◌≡◌, ◌+◌, ℕ, List, [], ◌++◌, rules, Option, Some, refl, sym, ◌∙◌, ap, subst, inl, inr}
+use Rattle.std.proofs.Common.{◌≡◌, ◌+◌, ℕ, List, [], ◌++◌, Option, Some, refl, sym, ◌∙◌, ap, subst, inl, inr}
 use Rattle.std.proofs.lemmas.Bool.{false≢true}
 use Rattle.std.proofs.lemmas.List.{append_cancel_left, append-nil}
 use Rattle.bench_core.specs.Calls.{LeavesOnly}
@@ -21,7 +21,7 @@ use Rattle.auditor_top.specs.Ends.{ServeEnds, audit_over, outside}
 use Rattle.auditor_top.proofs.OneTable.{nothing_served, untouched_stops}
 use Rattle.auditor_top.proofs.AuditEndings.{untouched_report}
 use Rattle.auditor_top.proofs.SimulationEndings.{none_begun, before_lines, still_file}
-use Rattle.auditor_top.proofs.StepStatuses.{always_before, before_so, never_fall, bad_words_say, no_memory_says}
+use Rattle.auditor_top.proofs.StepStatuses.{always_before, before_journal, before_so, kept_before_lines, never_fall, bad_words_say, no_memory_says}
 use Rattle.auditor_top.proofs.Openings.{one_more}
 use Rattle.auditor_top.proofs.StepFaults.{not_made}
 use Rattle.auditor_top.proofs.OneCommand.{refused_words, not_asked, none_asked, bad_words, one_command, one_batch, one_drill, takes_step, lacks_step}
@@ -243,7 +243,7 @@ returns-in-Ok-Init g c = record {
   before_table = c.init.ensures.before_table;
   before_bench = c.init.ensures.before_bench;
   before_lines = always_before reading_lines c.init.result (refl, c.init.ensures.sent);
-  unwritten = search rules;
+  unwritten = λ told. kept_before_lines c.init.result (c.init.ensures.kept told);
   unread = λ none. none_asked _ _ none c.in-Ok-Init.ensures.command;
   no_files = λ command asked none.
       takes_step reads_files _ _ _ command c.in-Ok-Init.ensures.command c.in-Ok-Init.field-0-is asked refl none;
@@ -475,7 +475,7 @@ returns-in-Ok-Simulate g c = record {
   audit_calls = λ ptold told asked. not_asked _ _ _ _ c.in-Ok-Simulate.ensures.command c.in-Ok-Simulate.field-0-is asked refl;
   simulate_calls = λ itold told asked done. c.simulate.ensures.calls itold told done;
   before_table = c.simulate.ensures.before_table;
-  before_bench = search rules;
+  before_bench = before_journal c.simulate.result (λ both. both.1) c.simulate.ensures.before_lines;
   before_lines = before_so reading_lines c.simulate.result (λ both. (both.0, ap g.B.Bench.sent both.1)) c.simulate.ensures.before_lines;
   unwritten = λ told. always_before reading_lines c.simulate.result c.simulate.ensures.file;
   unread = λ none. none_asked _ _ none c.in-Ok-Simulate.ensures.command;

@@ -6,6 +6,11 @@ use Rattle.auditor_top.specs.Status.{status_text}
 use Rattle.auditor_top.proofs.StatusWords.{tells_no_number}
 use Rattle.auditor_top.proofs.status.StatusDisplay.fmt.Goals as goal
 
+pub returns-in-Damaged-clause-writes : goal.returns-in-Damaged-clause-writes
+returns-in-Damaged-clause-writes g c = λ plain ok.
+    let wrote : HasWritten g.W.Write.write_str_gives c.args.f.now (codes "journal damaged at byte " ++ decimal c.in-Damaged.at) c.write-in-Damaged.new.self = c.write-in-Damaged.ensures.writes plain ok in
+    subst (λ (s : Status). HasWritten g.W.Write.write_str_gives c.args.f.now (status_text s) c.write-in-Damaged.new.self) (sym c.in-Damaged.is) wrote
+
 pub returns-in-Untrue-clause-writes : goal.returns-in-Untrue-clause-writes
 returns-in-Untrue-clause-writes g c = λ plain ok.
     let wrote : HasWritten g.W.Write.write_str_gives c.args.f.now (codes "record " ++ (decimal c.in-Untrue.place ++ (codes " holds " ++ (signed_decimal c.in-Untrue.kept ++ (codes ", table gives " ++ signed_decimal c.in-Untrue.now))))) c.write-in-Untrue.new.self = c.write-in-Untrue.ensures.writes plain ok in
