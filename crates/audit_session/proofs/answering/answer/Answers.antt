@@ -24,7 +24,8 @@ decide-requires-clause-stands g c = c.requires.stands
 
 pub returns-in_err-send_all : goal.returns-in_err-send_all
 returns-in_err-send_all g c =
-    let same : c.from_residual-in_err-send_all.result ≡ ended_by end.Bench = refusal c.from_residual-in_err-send_all.result _ c.from_residual-in_err-send_all.ensures in
+    let same : c.from_residual-in_err-send_all.result ≡ ended_by end.Bench =
+    refusal c.from_residual-in_err-send_all.result _ c.from_residual-in_err-send_all.ensures in
     record {
       answers = IfOk-from_err _ _ c.from_residual-in_err-send_all.ensures.0;
       stands = IfOk-from_err _ _ c.from_residual-in_err-send_all.ensures.0;
@@ -32,8 +33,12 @@ returns-in_err-send_all g c =
           let store = c.args.store.now in
           let mid = c.decide.new.bench in
           let e = c.in_ok-decide.ensures in
-          let sends = subst (λ (rs : List Reply). LeavesOnly g.B.Bench mid c.send_all.new.bench (SendsPart (g.B.Bench.file mid) (g.B.Bench.sent mid) (flat_map reply_bytes rs))) c.deref.ensures.value (c.send_all.ensures.moments t (e.stands.quiet t quiet)) in
-          then_sent g.B.Bench c.args.bench.now mid store.secret store.history c.args.group.now.plans.items c.decide.new.store.history c.decide.new.group.replies.items e.decides e.sent c.send_all.new.bench
+          let sends =
+          subst (λ (rs : List Reply). LeavesOnly g.B.Bench mid c.send_all.new.bench
+          (SendsPart (g.B.Bench.file mid) (g.B.Bench.sent mid) (flat_map reply_bytes rs))) c.deref.ensures.value (c.send_all.ensures.moments t
+          (e.stands.quiet t quiet)) in
+          then_sent g.B.Bench c.args.bench.now mid store.secret store.history c.args.group.now.plans.items c.decide.new.store.history
+          c.decide.new.group.replies.items e.decides e.sent c.send_all.new.bench
           (left_stands (g.B.Bench.file mid) store c.decide.new.store (e.stands.as_left t) e.secret) (e.moments t quiet) sends;
       left = λ t usable. subst (λ (file : List ℕ). IsAsLeft file c.decide.new.store) (sym c.send_all.ensures.file) (c.in_ok-decide.ensures.stands.as_left t);
       no_memory = λ is. bench_no_memory c.from_residual-in_err-send_all.result same is;
@@ -41,7 +46,8 @@ returns-in_err-send_all g c =
       secret = c.decide.ensures.secret;
       is = c.decide.ensures.is;
       failed = λ is.
-          subst (λ (n : ℕ). Rose n (g.B.Bench.faults c.send_all.new.bench)) (c.in_ok-decide.ensures.steady (λ is. no_refusal _ _ is)) c.in_err-send_all.ensures.cause.failed;
+          subst (λ (n : ℕ). Rose n (g.B.Bench.faults c.send_all.new.bench))
+          (c.in_ok-decide.ensures.steady (λ is. no_refusal _ _ is)) c.in_err-send_all.ensures.cause.failed;
       last_call = λ is. c.in_err-send_all.ensures.last_call;
       steady = λ other. absurd (other same);
       later = still_later _ _ _ (c.in_ok-decide.ensures.steady (λ is. no_refusal _ _ is)) c.send_all.ensures.cause.later;
@@ -77,7 +83,8 @@ returns g c =
       answers =
           let sent = c.in_ok-send_all.ensures in
           let told = c.deref.ensures.value in
-          group_answered g.B.Bench c.args.bench.now mid store.secret store.history c.args.group.now.plans.items c.decide.new.store.history c.decide.new.group.replies.items e.decides e.sent c.send_all.new.bench
+          group_answered g.B.Bench c.args.bench.now mid store.secret store.history c.args.group.now.plans.items c.decide.new.store.history
+          c.decide.new.group.replies.items e.decides e.sent c.send_all.new.bench
           (λ t. subst (λ (rs : List Reply). g.B.Bench.sent c.send_all.new.bench ≡ g.B.Bench.sent mid ++ flat_map reply_bytes rs) told (sent.all t))
           (λ t. subst (λ (rs : List Reply). g.B.Bench.moment c.send_all.new.bench ≡ g.B.Bench.moment mid + length rs) told (sent.ticks t));
       stands = record {
@@ -86,8 +93,12 @@ returns g c =
         quiet = λ t quiet image leaves. c.in_ok-decide.ensures.stands.quiet t quiet image (c.send_all.ensures.crash image leaves) ∙ sym c.send_all.ensures.file;
       };
       moments = λ t quiet.
-          let sends = subst (λ (rs : List Reply). LeavesOnly g.B.Bench mid c.send_all.new.bench (SendsPart (g.B.Bench.file mid) (g.B.Bench.sent mid) (flat_map reply_bytes rs))) c.deref.ensures.value (c.send_all.ensures.moments t (e.stands.quiet t quiet)) in
-          then_sent g.B.Bench c.args.bench.now mid store.secret store.history c.args.group.now.plans.items c.decide.new.store.history c.decide.new.group.replies.items e.decides e.sent c.send_all.new.bench
+          let sends =
+          subst (λ (rs : List Reply). LeavesOnly g.B.Bench mid c.send_all.new.bench
+          (SendsPart (g.B.Bench.file mid) (g.B.Bench.sent mid) (flat_map reply_bytes rs))) c.deref.ensures.value (c.send_all.ensures.moments t
+          (e.stands.quiet t quiet)) in
+          then_sent g.B.Bench c.args.bench.now mid store.secret store.history c.args.group.now.plans.items c.decide.new.store.history
+          c.decide.new.group.replies.items e.decides e.sent c.send_all.new.bench
           (left_stands (g.B.Bench.file mid) store c.decide.new.store (e.stands.as_left t) e.secret) (e.moments t quiet) sends;
       left = λ t usable. subst (λ (file : List ℕ). IsAsLeft file c.decide.new.store) (sym c.send_all.ensures.file) (c.in_ok-decide.ensures.stands.as_left t);
       no_memory = λ is. no_refusal _ _ is;

@@ -38,8 +38,11 @@ tell_all-requires-clause-can g c =
     let store = c.args.store.now in
     let plans = c.args.group.now.plans.items in
     let asked : c.deref.result.now ≡ questions_of plans = c.deref.ensures.value ∙ c.requires.questions in
-    let due = subst (λ (l : List Asked). AreOutcomes (secret_table store.secret) store.history l c.in_ok-outcomes.outcomes.items) asked c.in_ok-outcomes.ensures.outcomes in
-    let can : CanAllBeTold plans c.in_ok-outcomes.outcomes.items = can_all c.told_outcomes.ensures.can store.secret c.requires.is.numbers store.history plans c.in_ok-outcomes.outcomes.items c.requires.served due in
+    let due =
+    subst (λ (l : List Asked). AreOutcomes
+    (secret_table store.secret) store.history l c.in_ok-outcomes.outcomes.items) asked c.in_ok-outcomes.ensures.outcomes in
+    let can : CanAllBeTold plans c.in_ok-outcomes.outcomes.items =
+    can_all c.told_outcomes.ensures.can store.secret c.requires.is.numbers store.history plans c.in_ok-outcomes.outcomes.items c.requires.served due in
     subst (λ (os : List Outcome). CanAllBeTold c.deref-2.result.now os) (sym c.deref-3.ensures.value)
     (subst (λ (ps : List Plan). CanAllBeTold ps c.in_ok-outcomes.outcomes.items) (sym c.deref-2.ensures.value) can)
 
@@ -59,9 +62,12 @@ returns-in_err-outcomes g c =
           let asked : c.deref.result.now ≡ questions_of plans = c.deref.ensures.value ∙ c.requires.questions in
           let e = c.in_err-outcomes.ensures in
           by_fault c.in_err-outcomes.field-0.0
-          (λ memory. nothing_called g.B.Bench c.args.bench.now c.ask_all.new.bench store.secret store.history plans (e.no_memory memory) (λ image bytes was. g.met.B.Bench.only_now c.args.bench.now image bytes was) quiet (store.journal.gate, c.requires.stands told))
-          (λ other. while_kept g.B.Bench c.args.bench.now c.ask_all.new.bench store.secret store.history plans c.told_outcomes.ensures.can c.told_outcomes.ensures.some c.requires.is.numbers c.requires.served (g.B.Bench.sent c.args.bench.now)
-          (subst (λ (l : List Asked). Keeps g.B.Bench c.args.bench.now c.ask_all.new.bench store.secret store.history l (g.B.Bench.sent c.args.bench.now)) asked (e.any_moment told quiet other)));
+          (λ memory. nothing_called g.B.Bench c.args.bench.now c.ask_all.new.bench store.secret store.history plans (e.no_memory memory)
+          (λ image bytes was. g.met.B.Bench.only_now c.args.bench.now image bytes was) quiet (store.journal.gate, c.requires.stands told))
+          (λ other. while_kept g.B.Bench c.args.bench.now c.ask_all.new.bench store.secret store.history plans c.told_outcomes.ensures.can
+          c.told_outcomes.ensures.some c.requires.is.numbers c.requires.served (g.B.Bench.sent c.args.bench.now)
+          (subst (λ (l : List Asked). Keeps g.B.Bench c.args.bench.now c.ask_all.new.bench store.secret store.history l (g.B.Bench.sent c.args.bench.now)) asked
+          (e.any_moment told quiet other)));
       sent = c.ask_all.ensures.sent;
       room = search rules;
       plans = search rules;
@@ -83,8 +89,11 @@ returns g c =
           let outcomes = c.in_ok-outcomes.outcomes.items in
           let e = c.in_ok-outcomes.ensures in
           let due = subst (λ (l : List Asked). AreOutcomes (secret_table store.secret) store.history l outcomes) asked e.outcomes in
-          let told = subst (λ (os : List Outcome). AreTold plans os c.tell_all.new.replies.items) c.deref-3.ensures.value (subst (λ (ps : List Plan). AreTold ps c.deref-3.result.now c.tell_all.new.replies.items) c.deref-2.ensures.value c.tell_all.ensures.told) in
-          told_group g.B.Bench c.args.bench.now c.ask_all.new.bench store.secret store.history plans c.ask_all.new.self.history outcomes c.tell_all.new.replies.items due told
+          let told =
+          subst (λ (os : List Outcome). AreTold plans os c.tell_all.new.replies.items) c.deref-3.ensures.value
+          (subst (λ (ps : List Plan). AreTold ps c.deref-3.result.now c.tell_all.new.replies.items) c.deref-2.ensures.value c.tell_all.ensures.told) in
+          told_group g.B.Bench c.args.bench.now c.ask_all.new.bench store.secret store.history plans c.ask_all.new.self.history outcomes
+          c.tell_all.new.replies.items due told
           (e.history ∙ ap (λ (l : List Asked). store.history ++ records_made l outcomes) asked)
           (λ t. e.ticks t ∙ ap (λ (l : List Asked). g.B.Bench.moment c.args.bench.now + calls_for (records_made l outcomes)) asked);
       in_range = c.tell_all.ensures.in_range;
@@ -92,9 +101,11 @@ returns g c =
       err = search rules;
       no_memory = λ is. no_refusal _ _ is;
       moments = λ told quiet.
-          while_kept g.B.Bench c.args.bench.now c.ask_all.new.bench store.secret store.history plans c.told_outcomes.ensures.can c.told_outcomes.ensures.some c.requires.is.numbers c.requires.served
+          while_kept g.B.Bench c.args.bench.now c.ask_all.new.bench store.secret store.history plans c.told_outcomes.ensures.can c.told_outcomes.ensures.some
+          c.requires.is.numbers c.requires.served
           (g.B.Bench.sent c.args.bench.now)
-          (subst (λ (l : List Asked). Keeps g.B.Bench c.args.bench.now c.ask_all.new.bench store.secret store.history l (g.B.Bench.sent c.args.bench.now)) asked (c.in_ok-outcomes.ensures.any_moment told quiet (search rules)));
+          (subst (λ (l : List Asked). Keeps g.B.Bench c.args.bench.now c.ask_all.new.bench store.secret store.history l (g.B.Bench.sent c.args.bench.now)) asked
+          (c.in_ok-outcomes.ensures.any_moment told quiet (search rules)));
       sent = c.ask_all.ensures.sent;
       room = c.tell_all.ensures.room;
       plans = search rules;

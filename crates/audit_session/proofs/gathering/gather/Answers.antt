@@ -24,14 +24,21 @@ loop-alloc-preserved g c =
     let plan = c.in-Some.plan in
     let added = c.in_ok-add-in-Some.ensures in
     let room : length group.plans.items < c.args.batch = omega (arith, c.has_room.ensures.room c.loop-alloc-test.true, c.loop-alloc.invariant.many) in
-    let next = subst (λ (o : Option Plan). GivesNext g.P.Source.told c.args.schema.now.columns c.args.index.now (c.loop-alloc.lines.pending ++ g.P.Source.left c.loop-alloc.source) (now.pending ++ g.P.Source.left from) now.ended o) c.in-Some.is e.next in
-    let takes = subst (λ (o : Option Plan). TakesByte (c.loop-alloc.lines.taken + length now.pending) (now.taken + length c.loop-alloc.lines.pending) o) c.in-Some.is e.takes in
-    let one = one_gathered g.P.Source c.args.schema.now.columns c.args.index.now c.args.batch c.args.lines.now c.loop-alloc.lines c.args.source.now c.loop-alloc.source group.plans.items group.asked.items c.loop-alloc.invariant.gathering
+    let next =
+    subst (λ (o : Option Plan). GivesNext g.P.Source.told c.args.schema.now.columns c.args.index.now
+    (c.loop-alloc.lines.pending ++ g.P.Source.left c.loop-alloc.source) (now.pending ++ g.P.Source.left from) now.ended o) c.in-Some.is e.next in
+    let takes =
+    subst (λ (o : Option Plan). TakesByte (c.loop-alloc.lines.taken + length now.pending)
+    (now.taken + length c.loop-alloc.lines.pending) o) c.in-Some.is e.takes in
+    let one = one_gathered g.P.Source c.args.schema.now.columns c.args.index.now c.args.batch c.args.lines.now c.loop-alloc.lines c.args.source.now
+    c.loop-alloc.source group.plans.items group.asked.items c.loop-alloc.invariant.gathering
     now from plan next room takes e.same e.taken e.within (λ ended. (e.once ended).1) (e.steady (search rules)) in
-    let AllGathered : List Plan → List Asked → Type 0 = λ plans asked. Gathering g.P.Source c.args.schema.now.columns c.args.index.now c.args.batch c.args.lines.now now c.args.source.now from plans asked in
+    let AllGathered : List Plan → List Asked → Type 0 =
+    λ plans asked. Gathering g.P.Source c.args.schema.now.columns c.args.index.now c.args.batch c.args.lines.now now c.args.source.now from plans asked in
     record {
       gathering =
-          subst (λ (asked : List Asked). AllGathered c.add.new.self.plans.items asked) (sym added.asked) (subst (λ (plans : List Plan). AllGathered plans (group.asked.items ++ question_in plan)) (sym added.plans) one);
+          subst (λ (asked : List Asked). AllGathered c.add.new.self.plans.items asked) (sym added.asked)
+          (subst (λ (plans : List Plan). AllGathered plans (group.asked.items ++ question_in plan)) (sym added.plans) one);
       many = search rules;
       room = added.room ∙ c.loop-alloc.invariant.room;
     }
@@ -40,7 +47,8 @@ pub loop-alloc-smaller : goal.loop-alloc-smaller
 loop-alloc-smaller g c =
     let room = c.has_room.ensures.room c.loop-alloc-test.true in
     let many : vec_len c.add.new.self.plans ≡ length c.add.new.self.plans.items = search rules in
-    omega (arith, room, many, c.loop-alloc.invariant.many, ap (λ (l : List Plan). length l) c.in_ok-add-in-Some.ensures.plans, length-append c.loop-alloc.group.plans.items (c.in-Some.plan ∷ []))
+    omega (arith, room, many, c.loop-alloc.invariant.many, ap
+    (λ (l : List Plan). length l) c.in_ok-add-in-Some.ensures.plans, length-append c.loop-alloc.group.plans.items (c.in-Some.plan ∷ []))
 
 pub next_plan-requires-clause-same : goal.next_plan-requires-clause-same
 next_plan-requires-clause-same g c = c.loop-alloc.invariant.gathering.same
@@ -62,15 +70,18 @@ returns-in_err-plan g c =
       room = c.loop-alloc.invariant.room;
       input = λ t is.
           let here = same_fault {X = Bool} {Y = Option Plan} c.in_err-plan.field-0.0 end.Input (sym same ∙ is) in
-          cut_short g.P.Source c.args.schema.now.columns c.args.index.now c.args.batch c.args.lines.now c.loop-alloc.lines c.args.source.now c.loop-alloc.source group.plans.items group.asked.items c.loop-alloc.invariant.gathering
+          cut_short g.P.Source c.args.schema.now.columns c.args.index.now c.args.batch c.args.lines.now c.loop-alloc.lines c.args.source.now c.loop-alloc.source
+          group.plans.items group.asked.items c.loop-alloc.invariant.gathering
           (g.P.Source.left c.next_plan.new.source) t (λ ended none. (e.once ended).2 here) room (e.input t here);
       limit = λ t is.
           let here = same_fault {X = Bool} {Y = Option Plan} c.in_err-plan.field-0.0 end.Limit (sym same ∙ is) in
           let now = c.next_plan.new.lines in
           let left = g.P.Source.left c.next_plan.new.source in
-          cut_short g.P.Source c.args.schema.now.columns c.args.index.now c.args.batch c.args.lines.now c.loop-alloc.lines c.args.source.now c.loop-alloc.source group.plans.items group.asked.items c.loop-alloc.invariant.gathering
+          cut_short g.P.Source c.args.schema.now.columns c.args.index.now c.args.batch c.args.lines.now c.loop-alloc.lines c.args.source.now c.loop-alloc.source
+          group.plans.items group.asked.items c.loop-alloc.invariant.gathering
           (now.pending ++ left) t
-          (λ ended none. not_over (c.loop-alloc.lines.pending ++ g.P.Source.left c.loop-alloc.source) now.pending left (e.limit t here) (e.over here).1 none) room
+          (λ ended none. not_over (c.loop-alloc.lines.pending ++ g.P.Source.left c.loop-alloc.source) now.pending left (e.limit t here)
+          (e.over here).1 none) room
           (e.limit t here);
       over = λ is. c.in_err-plan.ensures.over (same_fault {X = Bool} {Y = Option Plan} c.in_err-plan.field-0.0 end.Limit (sym same ∙ is));
       read = λ is. c.in_err-plan.ensures.read (same_fault {X = Bool} {Y = Option Plan} c.in_err-plan.field-0.0 end.Input (sym same ∙ is));
@@ -78,12 +89,16 @@ returns-in_err-plan g c =
       taken = λ t. c.next_plan.ensures.taken t ∙ c.loop-alloc.invariant.gathering.taken t;
       within = c.next_plan.ensures.within;
       once = λ ended.
-          ((c.next_plan.ensures.once (c.loop-alloc.invariant.gathering.once ended)).1, λ is. (c.in_err-plan.ensures.once (c.loop-alloc.invariant.gathering.once ended)).2 (same_fault {X = Bool} {Y = Option Plan} c.in_err-plan.field-0.0 end.Input (sym same ∙ is)));
+          ((c.next_plan.ensures.once (c.loop-alloc.invariant.gathering.once ended)).1, λ is.
+          (c.in_err-plan.ensures.once (c.loop-alloc.invariant.gathering.once ended)).2
+          (same_fault {X = Bool} {Y = Option Plan} c.in_err-plan.field-0.0 end.Input (sym same ∙ is)));
       later = still_later _ _ _ c.loop-alloc.invariant.gathering.steady c.next_plan.ensures.later;
       steady = λ other.
-          c.in_err-plan.ensures.steady (λ is. other (same ∙ same_fault {X = Option Plan} {Y = Bool} c.in_err-plan.field-0.0 end.Input is)) ∙ c.loop-alloc.invariant.gathering.steady;
+          c.in_err-plan.ensures.steady (λ is. other (same ∙ same_fault {X = Option Plan} {Y = Bool} c.in_err-plan.field-0.0 end.Input is))
+          ∙ c.loop-alloc.invariant.gathering.steady;
       failed = λ is.
-          subst (λ (n : ℕ). Rose n (g.P.Source.faults c.next_plan.new.source)) c.loop-alloc.invariant.gathering.steady (c.in_err-plan.ensures.failed (same_fault {X = Bool} {Y = Option Plan} c.in_err-plan.field-0.0 end.Input (sym same ∙ is)));
+          subst (λ (n : ℕ). Rose n (g.P.Source.faults c.next_plan.new.source)) c.loop-alloc.invariant.gathering.steady
+          (c.in_err-plan.ensures.failed (same_fault {X = Bool} {Y = Option Plan} c.in_err-plan.field-0.0 end.Input (sym same ∙ is)));
       last_call = λ is. c.in_err-plan.ensures.last_call (same_fault {X = Bool} {Y = Option Plan} c.in_err-plan.field-0.0 end.Input (sym same ∙ is));
       others = λ is. c.in_err-plan.ensures.others (same_fault {X = Bool} {Y = Option Plan} c.in_err-plan.field-0.0 end.Bench (sym same ∙ is));
     }
@@ -96,14 +111,17 @@ returns-in-None g c =
     record {
       gathers =
           gathers_last g.P.Source.told c.args.schema.now.columns c.args.index.now
-          (c.args.lines.now.pending ++ g.P.Source.left c.args.source.now) rest left c.loop-alloc.lines.ended c.loop-alloc.group.plans.items c.loop-alloc.invariant.gathering.gathers
-          (subst (λ (o : Option Plan). GivesNext g.P.Source.told c.args.schema.now.columns c.args.index.now rest left now.ended o) c.in-None.is c.in_ok-plan.ensures.next);
+          (c.args.lines.now.pending ++ g.P.Source.left c.args.source.now) rest left c.loop-alloc.lines.ended c.loop-alloc.group.plans.items
+          c.loop-alloc.invariant.gathering.gathers
+          (subst (λ (o : Option Plan). GivesNext g.P.Source.told c.args.schema.now.columns c.args.index.now rest left now.ended o) c.in-None.is
+          c.in_ok-plan.ensures.next);
       questions = c.loop-alloc.invariant.gathering.questions;
       served = c.loop-alloc.invariant.gathering.served;
       most = c.loop-alloc.invariant.gathering.most;
       whole = λ is. no_more is;
       last = λ t is.
-          (subst (λ (o : Option Plan). GivesNext g.P.Source.told c.args.schema.now.columns c.args.index.now rest left now.ended o) c.in-None.is c.in_ok-plan.ensures.next t).0;
+          (subst (λ (o : Option Plan). GivesNext g.P.Source.told c.args.schema.now.columns c.args.index.now rest left now.ended o) c.in-None.is
+          c.in_ok-plan.ensures.next t).0;
       takes = λ is. no_more is;
       room = c.loop-alloc.invariant.room;
       input = λ t is. no_refusal _ _ is;
@@ -123,7 +141,8 @@ returns-in-None g c =
 
 pub returns-in_err-add-in-Some : goal.returns-in_err-add-in-Some
 returns-in_err-add-in-Some g c =
-    let same : c.from_residual-in_err-add-in-Some.result ≡ refused end.NoMemory = refusal c.from_residual-in_err-add-in-Some.result _ c.from_residual-in_err-add-in-Some.ensures in
+    let same : c.from_residual-in_err-add-in-Some.result ≡ refused end.NoMemory =
+    refusal c.from_residual-in_err-add-in-Some.result _ c.from_residual-in_err-add-in-Some.ensures in
     record {
       gathers = IfOk-from_err _ _ c.from_residual-in_err-add-in-Some.ensures.0;
       questions = IfOk-from_err _ _ c.from_residual-in_err-add-in-Some.ensures.0;
@@ -141,7 +160,8 @@ returns-in_err-add-in-Some g c =
       taken = λ t. c.next_plan.ensures.taken t ∙ c.loop-alloc.invariant.gathering.taken t;
       within = c.next_plan.ensures.within;
       once = λ ended.
-          ((c.next_plan.ensures.once (c.loop-alloc.invariant.gathering.once ended)).1, λ is. absurd (memory_no_input c.from_residual-in_err-add-in-Some.result same is));
+          ((c.next_plan.ensures.once (c.loop-alloc.invariant.gathering.once ended)).1, λ is. absurd
+          (memory_no_input c.from_residual-in_err-add-in-Some.result same is));
       later = still_later _ _ _ c.loop-alloc.invariant.gathering.steady c.next_plan.ensures.later;
       steady = λ other. c.in_ok-plan.ensures.steady (λ is. no_refusal _ _ is) ∙ c.loop-alloc.invariant.gathering.steady;
       failed = λ is. absurd (memory_no_input c.from_residual-in_err-add-in-Some.result same is);

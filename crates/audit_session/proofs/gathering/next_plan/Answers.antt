@@ -28,9 +28,11 @@ returns-in_ok-plan_line-in-Ok-Line g c = record {
         record {
           lines = text new.text ∷ [];
           planned =
-              (subst (λ (shown : List ℕ). IsPlan c.args.schema.now.columns c.args.index.now (text shown) c.in_ok-plan_line-in-Ok-Line.field-0) c.text.ensures c.in_ok-plan_line-in-Ok-Line.ensures.planned, tt);
+              (subst (λ (shown : List ℕ). IsPlan c.args.schema.now.columns c.args.index.now
+              (text shown) c.in_ok-plan_line-in-Ok-Line.field-0) c.text.ensures c.in_ok-plan_line-in-Ok-Line.ensures.planned, tt);
           reads =
-              λ t. reads_one rest (new.pending ++ left) new.ended (text new.text) (takes_text given rest new left (c.in-Ok-Line.ensures.answer t) c.in-Ok-Line.field-0-is)
+              λ t. reads_one rest (new.pending ++ left) new.ended (text new.text)
+              (takes_text given rest new left (c.in-Ok-Line.ensures.answer t) c.in-Ok-Line.field-0-is)
               (counts_text given (counted_lines rest) new.text (counted_lines (new.pending ++ left)) (c.in-Ok-Line.ensures.counted t) c.in-Ok-Line.field-0-is);
         },
       );
@@ -61,7 +63,8 @@ returns-in-Ok-Long g c = record {
         record {
           lines = long ∷ [];
           planned = (refl, tt);
-          reads = λ t. reads_one rest (new.pending ++ left) new.ended long (takes_long given rest new left (c.in-Ok-Long.ensures.answer t) c.in-Ok-Long.field-0-is)
+          reads = λ t. reads_one rest (new.pending ++ left) new.ended long
+          (takes_long given rest new left (c.in-Ok-Long.ensures.answer t) c.in-Ok-Long.field-0-is)
               (counts_long given (counted_lines rest) new.text (counted_lines (new.pending ++ left)) (c.in-Ok-Long.ensures.counted t) c.in-Ok-Long.field-0-is);
         },
       );
@@ -84,7 +87,8 @@ returns-in-Ok-Long g c = record {
 pub returns-in-Ok-End : goal.returns-in-Ok-End
 returns-in-Ok-End g c = record {
   next = λ t.
-      takes_none c.in-Ok-End.field-0 (c.args.lines.now.pending ++ g.P.Source.left c.args.source.now) c.next.new.self (g.P.Source.left c.next.new.source) (c.in-Ok-End.ensures.answer t) c.in-Ok-End.field-0-is;
+      takes_none c.in-Ok-End.field-0 (c.args.lines.now.pending ++ g.P.Source.left c.args.source.now) c.next.new.self (g.P.Source.left c.next.new.source)
+      (c.in-Ok-End.ensures.answer t) c.in-Ok-End.field-0-is;
   takes = tt;
   input = λ t is. no_refusal _ _ is;
   limit = λ t is. no_refusal _ _ is;
@@ -110,9 +114,11 @@ returns-in-Err g c =
       next = tt;
       takes = tt;
       input = λ t is.
-          stops_input given (c.args.lines.now.pending ++ g.P.Source.left c.args.source.now) c.next.new.self (g.P.Source.left c.next.new.source) (c.in-Err.ensures.stop t) (by_input given answer same is);
+          stops_input given (c.args.lines.now.pending ++ g.P.Source.left c.args.source.now) c.next.new.self (g.P.Source.left c.next.new.source)
+          (c.in-Err.ensures.stop t) (by_input given answer same is);
       limit = λ t is.
-          stops_limit given (c.args.lines.now.pending ++ g.P.Source.left c.args.source.now) c.next.new.self (g.P.Source.left c.next.new.source) (c.in-Err.ensures.stop t) (by_limit given answer same is);
+          stops_limit given (c.args.lines.now.pending ++ g.P.Source.left c.args.source.now) c.next.new.self (g.P.Source.left c.next.new.source)
+          (c.in-Err.ensures.stop t) (by_limit given answer same is);
       over = λ is. limit_within given c.next.new.self c.in-Err.ensures.stop_within (by_limit given answer same is);
       read = λ is. read_within given c.next.new.self c.in-Err.ensures.stop_within (by_input given answer same is);
       same = c.next.ensures.same;

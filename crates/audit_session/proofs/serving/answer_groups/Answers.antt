@@ -27,7 +27,8 @@ given more = Ok more
 pub loop-more-init : goal.loop-more-init
 loop-more-init g c = record {
   served =
-      nothing_served g.P.Source g.B.Bench c.args.schema.now.columns c.args.index.now c.args.batch c.args.lines.now c.args.store.now c.args.source.now c.args.bench.now c.requires.fresh c.requires.usable c.requires.is c.requires.stands
+      nothing_served g.P.Source g.B.Bench c.args.schema.now.columns c.args.index.now c.args.batch c.args.lines.now c.args.store.now c.args.source.now
+      c.args.bench.now c.requires.fresh c.requires.usable c.requires.is c.requires.stands
       (λ image bytes was. g.met.B.Bench.only_now c.args.bench.now image bytes was);
   room = c.requires.room;
 }
@@ -43,15 +44,18 @@ loop-more-preserved g c =
     let bench_steady = a.steady (search rules) in
     record {
       served =
-          next_turn g.P.Source g.B.Bench c.args.schema.now.columns c.args.index.now c.args.batch c.loop-more.lines c.args.store.now c.loop-more.store c.args.source.now c.loop-more.source c.args.bench.now c.loop-more.bench c.loop-more.invariant.served
+          next_turn g.P.Source g.B.Bench c.args.schema.now.columns c.args.index.now c.args.batch c.loop-more.lines c.args.store.now c.loop-more.store
+          c.args.source.now c.loop-more.source c.args.bench.now c.loop-more.bench c.loop-more.invariant.served
           now (not c.in_ok-more.more || now.ended) c.gather.new.source plans e.gathers e.most c.requires.batch.0
           (λ ended. still_ended c.in_ok-more.more now.ended (e.once ended).0) c.answer.new.store.history c.answer.new.bench a.answers
-          c.answer.new.store refl (ap (λ (b : Bool). not b || now.ended) more_is) (e.whole (ap given more_is)) e.same e.taken e.within steady a.stands a.secret a.is bench_steady a.moments;
+          c.answer.new.store refl (ap (λ (b : Bool). not b || now.ended) more_is)
+          (e.whole (ap given more_is)) e.same e.taken e.within steady a.stands a.secret a.is bench_steady a.moments;
       room = a.room ∙ e.room ∙ c.loop-more.invariant.room;
     }
 
 pub loop-more-smaller : goal.loop-more-smaller
-loop-more-smaller g c = omega (arith, c.in_ok-more.ensures.takes (ap given c.if-not-more.false), c.in_ok-more.ensures.within, c.loop-more.invariant.served.within)
+loop-more-smaller g c = omega
+    (arith, c.in_ok-more.ensures.takes (ap given c.if-not-more.false), c.in_ok-more.ensures.within, c.loop-more.invariant.served.within)
 
 pub gather-requires-clause-same : goal.gather-requires-clause-same
 gather-requires-clause-same g c = c.loop-more.invariant.served.same
@@ -94,17 +98,22 @@ returns-in_err-more g c =
           let s = c.loop-more.invariant.served in
           let rest = c.loop-more.lines.pending ++ g.P.Source.left c.loop-more.source in
           let now = c.gather.new.lines in
-          subst (λ (r : Result (Unit {0}) EndFault). Ends c.args.batch r base c.args.store.now.history input left c.loop-more.store.history before after) (sym same)
+          subst (λ (r : Result (Unit {0}) EndFault). Ends c.args.batch r base c.args.store.now.history input left c.loop-more.store.history before after)
+          (sym same)
           (ends_by {X = Bool} c.args.batch base c.args.store.now.history input left c.loop-more.store.history before after fault
-          (λ is. served_whole g.P.Source g.B.Bench c.args.schema.now.columns c.args.index.now c.args.batch c.loop-more.lines c.args.store.now c.loop-more.store c.args.source.now c.loop-more.source c.args.bench.now c.loop-more.bench s t u left
+          (λ is. served_whole g.P.Source g.B.Bench c.args.schema.now.columns c.args.index.now c.args.batch c.loop-more.lines c.args.store.now c.loop-more.store
+          c.args.source.now c.loop-more.source c.args.bench.now c.loop-more.bench s t u left
           (λ ended none. (e.once ended).1 is) (e.input t is))
-          (λ is. served_limited g.P.Source g.B.Bench c.args.schema.now.columns c.args.index.now c.args.batch c.loop-more.lines c.args.store.now c.loop-more.store c.args.source.now c.loop-more.source c.args.bench.now c.loop-more.bench s t u (now.pending ++ left)
+          (λ is. served_limited g.P.Source g.B.Bench c.args.schema.now.columns c.args.index.now c.args.batch c.loop-more.lines c.args.store.now
+          c.loop-more.store c.args.source.now c.loop-more.source c.args.bench.now c.loop-more.bench s t u (now.pending ++ left)
           (λ ended none. cut_not_over c.args.batch rest now.pending left (e.limit t is) (e.over is).1 none) (e.limit t is) now.pending left now.taken refl
           (e.over is).0 (e.taken t ∙ s.taken t))
-          (λ is. some_served g.P.Source g.B.Bench c.args.schema.now.columns c.args.index.now c.args.batch c.loop-more.lines c.args.store.now c.loop-more.store c.args.source.now c.loop-more.source c.args.bench.now c.loop-more.bench s t u));
+          (λ is. some_served g.P.Source g.B.Bench c.args.schema.now.columns c.args.index.now c.args.batch c.loop-more.lines c.args.store.now c.loop-more.store
+          c.args.source.now c.loop-more.source c.args.bench.now c.loop-more.bench s t u));
       reads = λ t.
           subst (λ (r : Result (Unit {0}) EndFault). Reads r input left) (sym same)
-          (reads_by {X = Bool} input left fault (λ is. omega (arith, e.taken t, c.loop-more.invariant.served.taken t, e.read is)) (λ is. omega (arith, e.taken t, c.loop-more.invariant.served.taken t, (e.over is).0, (e.over is).1)));
+          (reads_by {X = Bool} input left fault (λ is. omega (arith, e.taken t, c.loop-more.invariant.served.taken t, e.read is))
+          (λ is. omega (arith, e.taken t, c.loop-more.invariant.served.taken t, (e.over is).0, (e.over is).1)));
       rests = λ no.
           record { stands = λ u. (c.loop-more.store.journal.gate, c.loop-more.invariant.served.as_left u); quiet = c.loop-more.invariant.served.quiet };
       again = IfOk-from_err _ _ c.from_residual.ensures.0;
@@ -114,10 +123,16 @@ returns-in_err-more g c =
       moments = c.loop-more.invariant.served.moments;
       kept = (c.loop-more.invariant.served.secret, c.loop-more.invariant.served.is);
       later = (still_later _ _ _ c.loop-more.invariant.served.source_steady c.gather.ensures.later, omega (arith, c.loop-more.invariant.served.bench_steady));
-      input = λ is. subst (λ (n : ℕ). Rose n (g.P.Source.faults c.gather.new.source)) c.loop-more.invariant.served.source_steady (e.failed (same_fault {X = Unit {0}} {Y = Bool} fault end.Input (sym same ∙ is)));
+      input = λ is.
+          subst (λ (n : ℕ). Rose n (g.P.Source.faults c.gather.new.source)) c.loop-more.invariant.served.source_steady
+          (e.failed (same_fault {X = Unit {0}} {Y = Bool} fault end.Input (sym same ∙ is)));
       bench = λ is. absurd (e.others (same_fault {X = Unit {0}} {Y = Bool} fault end.Bench (sym same ∙ is)));
-      last_call = (λ is. e.last_call (same_fault {X = Unit {0}} {Y = Bool} fault end.Input (sym same ∙ is)), λ is. absurd (e.others (same_fault {X = Unit {0}} {Y = Bool} fault end.Bench (sym same ∙ is))));
-      steady = (λ other. e.steady (λ is. other (same ∙ same_fault {X = Bool} {Y = Unit {0}} fault end.Input is)) ∙ c.loop-more.invariant.served.source_steady, λ other. c.loop-more.invariant.served.bench_steady);
+      last_call =
+          (λ is. e.last_call (same_fault {X = Unit {0}} {Y = Bool} fault end.Input (sym same ∙ is)), λ is. absurd
+          (e.others (same_fault {X = Unit {0}} {Y = Bool} fault end.Bench (sym same ∙ is))));
+      steady =
+          (λ other. e.steady (λ is. other (same ∙ same_fault {X = Bool} {Y = Unit {0}} fault end.Input is))
+          ∙ c.loop-more.invariant.served.source_steady, λ other. c.loop-more.invariant.served.bench_steady);
     }
 
 pub returns-in_err-answer : goal.returns-in_err-answer
@@ -131,21 +146,28 @@ returns-in_err-answer g c =
           let input = g.P.Source.left c.args.source.now in
           let left = g.P.Source.left c.gather.new.source in
           let before = g.B.Bench.sent c.args.bench.now in
-          let some = some_served g.P.Source g.B.Bench c.args.schema.now.columns c.args.index.now c.args.batch c.loop-more.lines c.args.store.now c.loop-more.store c.args.source.now c.loop-more.source c.args.bench.now c.loop-more.bench c.loop-more.invariant.served t u in
+          let some =
+          some_served g.P.Source g.B.Bench c.args.schema.now.columns c.args.index.now c.args.batch c.loop-more.lines c.args.store.now c.loop-more.store
+          c.args.source.now c.loop-more.source c.args.bench.now c.loop-more.bench c.loop-more.invariant.served t u in
           subst
-          (λ (r : Result (Unit {0}) EndFault). Ends c.args.batch r base c.args.store.now.history input left c.answer.new.store.history before (g.B.Bench.sent c.answer.new.bench))
+          (λ (r : Result (Unit {0}) EndFault). Ends c.args.batch r base c.args.store.now.history input left c.answer.new.store.history before
+          (g.B.Bench.sent c.answer.new.bench))
           (sym same)
-          (ends_by {X = Unit {0}} c.args.batch base c.args.store.now.history input left c.answer.new.store.history before (g.B.Bench.sent c.answer.new.bench) fault
+          (ends_by {X = Unit {0}} c.args.batch base c.args.store.now.history input left c.answer.new.store.history before
+          (g.B.Bench.sent c.answer.new.bench) fault
           (λ is. absurd (e.others.0 is)) (λ is. absurd (e.others.1 is))
           (λ is.
           let still = e.no_memory is in
-          subst (λ (h : List Answered). ServesSome base c.args.store.now.history c.args.batch (counted_lines input) h before (g.B.Bench.sent c.answer.new.bench))
+          subst (λ (h : List Answered). ServesSome base c.args.store.now.history c.args.batch (counted_lines input) h before
+          (g.B.Bench.sent c.answer.new.bench))
           (sym still.1)
-          (subst (λ b. ServesSome base c.args.store.now.history c.args.batch (counted_lines input) c.loop-more.store.history before (g.B.Bench.sent b)) (sym still.0) some)));
+          (subst (λ b. ServesSome base c.args.store.now.history c.args.batch (counted_lines input) c.loop-more.store.history before (g.B.Bench.sent b))
+          (sym still.0) some)));
       reads = search rules;
       rests = λ no.
           let served = c.loop-more.invariant.served in
-          rests_by {X = Unit {0}} fault e.others.0 e.others.1 (λ is. no (same ∙ is)) g.B.Bench c.args.bench.now c.loop-more.bench c.answer.new.bench c.loop-more.store c.answer.new.store
+          rests_by {X = Unit {0}} fault e.others.0 e.others.1
+          (λ is. no (same ∙ is)) g.B.Bench c.args.bench.now c.loop-more.bench c.answer.new.bench c.loop-more.store c.answer.new.store
           e.no_memory e.secret (record { stands = λ u. (c.loop-more.store.journal.gate, served.as_left u); quiet = served.quiet });
       again = IfOk-from_err _ _ c.from_residual-in_err-answer.ensures.0;
       usable = search rules;
@@ -156,17 +178,22 @@ returns-in_err-answer g c =
           let now = c.gather.new.lines in
           let plans = c.gather.new.group.plans.items in
           let rest = now.pending ++ g.P.Source.left c.gather.new.source in
-          turn_moments g.P.Source g.B.Bench c.args.schema.now.columns c.args.index.now c.args.batch c.loop-more.lines c.args.store.now c.loop-more.store c.args.source.now c.loop-more.source c.args.bench.now c.loop-more.bench c.loop-more.invariant.served
+          turn_moments g.P.Source g.B.Bench c.args.schema.now.columns c.args.index.now c.args.batch c.loop-more.lines c.args.store.now c.loop-more.store
+          c.args.source.now c.loop-more.source c.args.bench.now c.loop-more.bench c.loop-more.invariant.served
           now (not c.in_ok-more.more || now.ended) c.gather.new.source plans e.gathers e.most c.requires.batch.0
           (λ ended. still_ended c.in_ok-more.more now.ended (e.once ended).0) c.answer.new.bench
           (whole_or_last {E = EndFault} g.P.Source.told c.args.batch c.in_ok-more.more plans rest e.whole e.last) u quiet
           (c.in_err-answer.ensures.moments u (c.loop-more.invariant.served.quiet u quiet));
       kept = (c.answer.ensures.secret ∙ c.loop-more.invariant.served.secret, c.answer.ensures.is);
-      later = (still_later _ _ _ c.loop-more.invariant.served.source_steady c.gather.ensures.later, still_later _ _ _ c.loop-more.invariant.served.bench_steady c.answer.ensures.later);
+      later =
+          (still_later _ _ _ c.loop-more.invariant.served.source_steady c.gather.ensures.later, still_later _ _ _ c.loop-more.invariant.served.bench_steady
+          c.answer.ensures.later);
       input = λ is. absurd (e.others.0 (sym same ∙ is));
       bench = λ is. subst (λ (n : ℕ). Rose n (g.B.Bench.faults c.answer.new.bench)) c.loop-more.invariant.served.bench_steady (e.failed (sym same ∙ is));
       last_call = (λ is. absurd (e.others.0 (sym same ∙ is)), λ is. e.last_call (sym same ∙ is));
-      steady = (λ other. c.in_ok-more.ensures.steady (λ is. no_refusal _ _ is) ∙ c.loop-more.invariant.served.source_steady, λ other. e.steady (λ is. other (same ∙ is)) ∙ c.loop-more.invariant.served.bench_steady);
+      steady =
+          (λ other. c.in_ok-more.ensures.steady (λ is. no_refusal _ _ is) ∙ c.loop-more.invariant.served.source_steady, λ other. e.steady
+          (λ is. other (same ∙ is)) ∙ c.loop-more.invariant.served.bench_steady);
     }
 
 pub returns-then-not-more : goal.returns-then-not-more
@@ -177,12 +204,14 @@ returns-then-not-more g c =
     let more_is : c.in_ok-more.more ≡ false = search rules in
     record {
       ends = λ t u.
-          all_served g.P.Source g.B.Bench c.args.schema.now.columns c.args.index.now c.args.batch c.loop-more.lines c.args.store.now c.loop-more.store c.args.source.now c.loop-more.source c.args.bench.now c.loop-more.bench c.loop-more.invariant.served
+          all_served g.P.Source g.B.Bench c.args.schema.now.columns c.args.index.now c.args.batch c.loop-more.lines c.args.store.now c.loop-more.store
+          c.args.source.now c.loop-more.source c.args.bench.now c.loop-more.bench c.loop-more.invariant.served
           now (not c.in_ok-more.more || now.ended) c.gather.new.source plans e.gathers e.most c.requires.batch.0
           (λ ended. still_ended c.in_ok-more.more now.ended (e.once ended).0) c.answer.new.store.history c.answer.new.bench c.in_ok-answer.ensures.answers
           t u (ap counted_lines (e.last t (ap given more_is))) c.answer.new.store.history refl;
       reads = λ t.
-          all_read (g.P.Source.left c.args.source.now) c.gather.new.lines.pending (g.P.Source.left c.gather.new.source) c.gather.new.lines.taken (e.last t (ap given more_is))
+          all_read (g.P.Source.left c.args.source.now) c.gather.new.lines.pending (g.P.Source.left c.gather.new.source) c.gather.new.lines.taken
+          (e.last t (ap given more_is))
           (e.taken t ∙ c.loop-more.invariant.served.taken t) e.within;
       rests = λ no. record {
         stands = λ u. (c.answer.new.store.journal.gate, c.in_ok-answer.ensures.stands.as_left u);
@@ -192,21 +221,27 @@ returns-then-not-more g c =
       usable = λ bench memory. c.in_ok-answer.ensures.stands.usable;
       left = λ u usable. c.in_ok-answer.ensures.stands.as_left u;
       calls = λ t u.
-          all_calls g.P.Source g.B.Bench c.args.schema.now.columns c.args.index.now c.args.batch c.loop-more.lines c.args.store.now c.loop-more.store c.args.source.now c.loop-more.source c.args.bench.now c.loop-more.bench c.loop-more.invariant.served
+          all_calls g.P.Source g.B.Bench c.args.schema.now.columns c.args.index.now c.args.batch c.loop-more.lines c.args.store.now c.loop-more.store
+          c.args.source.now c.loop-more.source c.args.bench.now c.loop-more.bench c.loop-more.invariant.served
           now (not c.in_ok-more.more || now.ended) c.gather.new.source plans e.gathers e.most c.requires.batch.0
           (λ ended. still_ended c.in_ok-more.more now.ended (e.once ended).0) c.answer.new.store.history c.answer.new.bench c.in_ok-answer.ensures.answers
           t u (ap counted_lines (e.last t (ap given more_is)));
       moments = λ u quiet.
           let rest = now.pending ++ g.P.Source.left c.gather.new.source in
-          turn_moments g.P.Source g.B.Bench c.args.schema.now.columns c.args.index.now c.args.batch c.loop-more.lines c.args.store.now c.loop-more.store c.args.source.now c.loop-more.source c.args.bench.now c.loop-more.bench c.loop-more.invariant.served
+          turn_moments g.P.Source g.B.Bench c.args.schema.now.columns c.args.index.now c.args.batch c.loop-more.lines c.args.store.now c.loop-more.store
+          c.args.source.now c.loop-more.source c.args.bench.now c.loop-more.bench c.loop-more.invariant.served
           now (not c.in_ok-more.more || now.ended) c.gather.new.source plans e.gathers e.most c.requires.batch.0
           (λ ended. still_ended c.in_ok-more.more now.ended (e.once ended).0) c.answer.new.bench
           (whole_or_last {E = EndFault} g.P.Source.told c.args.batch c.in_ok-more.more plans rest e.whole e.last) u quiet
           (c.in_ok-answer.ensures.moments u (c.loop-more.invariant.served.quiet u quiet));
       kept = (c.in_ok-answer.ensures.secret ∙ c.loop-more.invariant.served.secret, c.in_ok-answer.ensures.is);
-      later = (still_later _ _ _ c.loop-more.invariant.served.source_steady c.gather.ensures.later, still_later _ _ _ c.loop-more.invariant.served.bench_steady c.answer.ensures.later);
+      later =
+          (still_later _ _ _ c.loop-more.invariant.served.source_steady c.gather.ensures.later, still_later _ _ _ c.loop-more.invariant.served.bench_steady
+          c.answer.ensures.later);
       input = λ is. no_refusal _ _ is;
       bench = λ is. no_refusal _ _ is;
       last_call = (λ is. no_refusal _ _ is, λ is. no_refusal _ _ is);
-      steady = (λ no. c.in_ok-more.ensures.steady (λ is. no_refusal _ _ is) ∙ c.loop-more.invariant.served.source_steady, λ no. c.in_ok-answer.ensures.steady (λ is. no_refusal _ _ is) ∙ c.loop-more.invariant.served.bench_steady);
+      steady =
+          (λ no. c.in_ok-more.ensures.steady (λ is. no_refusal _ _ is) ∙ c.loop-more.invariant.served.source_steady, λ no. c.in_ok-answer.ensures.steady
+          (λ is. no_refusal _ _ is) ∙ c.loop-more.invariant.served.bench_steady);
     }

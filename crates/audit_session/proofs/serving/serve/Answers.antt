@@ -29,7 +29,8 @@ returns-in_err-lines g c =
       left = λ u usable. c.requires.stands u;
       calls = λ t u. IfOk-from_err _ _ c.from_residual.ensures.0;
       any_moment = λ t u quiet.
-          stops_first g.B.Bench c.args.bench.now (base_of c.args.schema.now.columns c.args.index.now c.args.store.now.secret) c.args.batch c.args.store.now.history
+          stops_first g.B.Bench c.args.bench.now
+          (base_of c.args.schema.now.columns c.args.index.now c.args.store.now.secret) c.args.batch c.args.store.now.history
           (counted_lines (g.P.Source.left c.args.source.now))
           (λ image bytes was. g.met.B.Bench.only_now c.args.bench.now image bytes was) quiet (c.args.store.now.journal.gate, c.requires.stands u);
       legal = λ u quiet.
@@ -37,8 +38,10 @@ returns-in_err-lines g c =
           weakens g.B.Bench c.args.bench.now c.args.bench.now _ _
           (λ image sent stop history stands.
           c.stops.ensures base c.args.batch c.args.store.now.history [] image stop.0 history
-          (record { schema = c.count-columns.ensures.columns; shape = c.requires.shape }) c.history-history.ensures.is.numbers c.history-history.ensures.is.legal stop.2 stands)
-          (stops_first g.B.Bench c.args.bench.now base c.args.batch c.args.store.now.history [] (λ image bytes was. g.met.B.Bench.only_now c.args.bench.now image bytes was) quiet (c.args.store.now.journal.gate, c.requires.stands u));
+          (record { schema = c.count-columns.ensures.columns; shape = c.requires.shape }) c.history-history.ensures.is.numbers
+          c.history-history.ensures.is.legal stop.2 stands)
+          (stops_first g.B.Bench c.args.bench.now base c.args.batch c.args.store.now.history []
+          (λ image bytes was. g.met.B.Bench.only_now c.args.bench.now image bytes was) quiet (c.args.store.now.journal.gate, c.requires.stands u));
       secret = refl;
       is = c.history-history.ensures.is;
       read = λ t. IfOk-from_err _ _ c.from_residual.ensures.0;
@@ -56,11 +59,20 @@ pub returns : goal.returns
 returns g c = record {
   done = λ t u. all_by _ c.args.batch _ _ _ (g.P.Source.left c.answer_groups.new.source) _ _ _ (c.answer_groups.ensures.ends t u);
   input_end = λ t u is.
-      subst (λ (r : Result (Unit {0}) EndFault). Ends c.args.batch r (base_of c.args.schema.now.columns c.args.index.now c.args.store.now.secret) c.args.store.now.history (g.P.Source.left c.args.source.now) (g.P.Source.left c.answer_groups.new.source) c.answer_groups.new.store.history (g.B.Bench.sent c.args.bench.now) (g.B.Bench.sent c.answer_groups.new.bench)) is (c.answer_groups.ensures.ends t u);
+      subst (λ (r : Result (Unit {0}) EndFault). Ends c.args.batch r
+      (base_of c.args.schema.now.columns c.args.index.now c.args.store.now.secret) c.args.store.now.history (g.P.Source.left c.args.source.now)
+      (g.P.Source.left c.answer_groups.new.source) c.answer_groups.new.store.history (g.B.Bench.sent c.args.bench.now)
+      (g.B.Bench.sent c.answer_groups.new.bench)) is (c.answer_groups.ensures.ends t u);
   limit_end = λ t u is.
-      subst (λ (r : Result (Unit {0}) EndFault). Ends c.args.batch r (base_of c.args.schema.now.columns c.args.index.now c.args.store.now.secret) c.args.store.now.history (g.P.Source.left c.args.source.now) (g.P.Source.left c.answer_groups.new.source) c.answer_groups.new.store.history (g.B.Bench.sent c.args.bench.now) (g.B.Bench.sent c.answer_groups.new.bench)) is (c.answer_groups.ensures.ends t u);
+      subst (λ (r : Result (Unit {0}) EndFault). Ends c.args.batch r
+      (base_of c.args.schema.now.columns c.args.index.now c.args.store.now.secret) c.args.store.now.history (g.P.Source.left c.args.source.now)
+      (g.P.Source.left c.answer_groups.new.source) c.answer_groups.new.store.history (g.B.Bench.sent c.args.bench.now)
+      (g.B.Bench.sent c.answer_groups.new.bench)) is (c.answer_groups.ensures.ends t u);
   memory_end = λ t u is.
-      subst (λ (r : Result (Unit {0}) EndFault). Ends c.args.batch r (base_of c.args.schema.now.columns c.args.index.now c.args.store.now.secret) c.args.store.now.history (g.P.Source.left c.args.source.now) (g.P.Source.left c.answer_groups.new.source) c.answer_groups.new.store.history (g.B.Bench.sent c.args.bench.now) (g.B.Bench.sent c.answer_groups.new.bench)) is (c.answer_groups.ensures.ends t u);
+      subst (λ (r : Result (Unit {0}) EndFault). Ends c.args.batch r
+      (base_of c.args.schema.now.columns c.args.index.now c.args.store.now.secret) c.args.store.now.history (g.P.Source.left c.args.source.now)
+      (g.P.Source.left c.answer_groups.new.source) c.answer_groups.new.store.history (g.B.Bench.sent c.args.bench.now)
+      (g.B.Bench.sent c.answer_groups.new.bench)) is (c.answer_groups.ensures.ends t u);
   stands = λ u no. (c.answer_groups.ensures.rests no).stands u;
   quiet = λ u quiet no. (c.answer_groups.ensures.rests no).quiet u quiet;
   again = c.answer_groups.ensures.again;
@@ -74,16 +86,19 @@ returns g c = record {
       weakens g.B.Bench c.args.bench.now c.answer_groups.new.bench _ _
       (λ image sent stop history stands.
       c.stops.ensures base c.args.batch c.args.store.now.history stop.0.0 image stop.0.1.0 history
-      (record { schema = c.count-columns.ensures.columns; shape = c.requires.shape }) c.history-history.ensures.is.numbers c.history-history.ensures.is.legal stop.0.1.2 stands)
+      (record { schema = c.count-columns.ensures.columns; shape = c.requires.shape }) c.history-history.ensures.is.numbers c.history-history.ensures.is.legal
+      stop.0.1.2 stands)
       (c.answer_groups.ensures.moments u quiet);
   secret = c.answer_groups.ensures.kept.0;
   is = c.answer_groups.ensures.kept.1;
   read = λ t. read_by _ (g.P.Source.left c.args.source.now) _ (c.answer_groups.ensures.reads t);
   within = λ t. within_by _ _ (g.P.Source.left c.answer_groups.new.source) (c.answer_groups.ensures.reads t);
   input_within = λ t is.
-      subst (λ (r : Result (Unit {0}) EndFault). Reads r (g.P.Source.left c.args.source.now) (g.P.Source.left c.answer_groups.new.source)) is (c.answer_groups.ensures.reads t);
+      subst (λ (r : Result (Unit {0}) EndFault). Reads r (g.P.Source.left c.args.source.now) (g.P.Source.left c.answer_groups.new.source)) is
+      (c.answer_groups.ensures.reads t);
   limit = λ t is.
-      subst (λ (r : Result (Unit {0}) EndFault). Reads r (g.P.Source.left c.args.source.now) (g.P.Source.left c.answer_groups.new.source)) is (c.answer_groups.ensures.reads t);
+      subst (λ (r : Result (Unit {0}) EndFault). Reads r (g.P.Source.left c.args.source.now) (g.P.Source.left c.answer_groups.new.source)) is
+      (c.answer_groups.ensures.reads t);
   later = c.answer_groups.ensures.later;
   input = c.answer_groups.ensures.input;
   bench = c.answer_groups.ensures.bench;

@@ -58,7 +58,8 @@ pub returns-in_err-append_ready : goal.returns-in_err-append_ready
 returns-in_err-append_ready g c = record {
   any_moment = λ history told stands many quiet.
       let journal = c.args.journal.now in
-      subst (λ (group : List Answered). LeavesOnly g.B.Bench c.args.bench.now c.append_ready.new.bench (IsBeforeOrAfter journal.shape history group (g.B.Bench.sent c.args.bench.now)))
+      subst (λ (group : List Answered). LeavesOnly g.B.Bench c.args.bench.now c.append_ready.new.bench
+      (IsBeforeOrAfter journal.shape history group (g.B.Bench.sent c.args.bench.now)))
       c.in_ok-ready.ensures.1 (c.append_ready.ensures.any_moment history told stands many quiet);
   done = λ history told stands many. IfOk-from_err _ _ c.from_residual-in_err-append_ready.ensures.0;
   written = λ told. IfOk-from_err _ _ c.from_residual-in_err-append_ready.ensures.0;
@@ -82,7 +83,8 @@ pub returns-in_err-ready : goal.returns-in_err-ready
 returns-in_err-ready g c = record {
   any_moment = λ history told stands many quiet.
       let journal = c.args.journal.now in
-      nothing_appended g.B.Bench c.args.bench.now journal.shape history c.args.group.now journal.gate (λ image sent was. g.met.B.Bench.only_now c.args.bench.now image sent was) quiet stands;
+      nothing_appended g.B.Bench c.args.bench.now journal.shape history c.args.group.now journal.gate
+      (λ image sent was. g.met.B.Bench.only_now c.args.bench.now image sent was) quiet stands;
   done = λ history told stands many. IfOk-from_err _ _ c.from_residual.ensures.0;
   written = λ told. IfOk-from_err _ _ c.from_residual.ensures.0;
   quiet = λ told quiet. IfOk-from_err _ _ c.from_residual.ensures.0;
@@ -107,7 +109,8 @@ returns g c =
     let some : 0 < length c.args.group.now = some_record c.args.group.now (sym c.is_empty.ensures ∙ c.if-is_empty.false) in
     record {
       any_moment = λ history told stands many quiet.
-          subst (λ (group : List Answered). LeavesOnly g.B.Bench c.args.bench.now c.append_ready.new.bench (IsBeforeOrAfter journal.shape history group (g.B.Bench.sent c.args.bench.now)))
+          subst (λ (group : List Answered). LeavesOnly g.B.Bench c.args.bench.now c.append_ready.new.bench
+          (IsBeforeOrAfter journal.shape history group (g.B.Bench.sent c.args.bench.now)))
           c.in_ok-ready.ensures.1 (c.append_ready.ensures.any_moment history told stands many quiet);
       done = λ history told stands many.
           let now = c.append_ready.new.self in
@@ -115,7 +118,8 @@ returns g c =
           (c.in_ok-append_ready.ensures.done history told stands many);
       written = λ told.
           has_group journal.shape c.args.group.now journal.gate (g.B.Bench.file c.args.bench.now) (g.B.Bench.file c.append_ready.new.bench) some
-          (subst (λ (group : List Answered). AppendsGroup journal.shape group journal.gate (g.B.Bench.file c.args.bench.now) (g.B.Bench.file c.append_ready.new.bench))
+          (subst (λ (group : List Answered). AppendsGroup journal.shape group journal.gate (g.B.Bench.file c.args.bench.now)
+          (g.B.Bench.file c.append_ready.new.bench))
           c.in_ok-ready.ensures.1 (c.in_ok-append_ready.ensures.written told));
       quiet = λ told quiet. c.in_ok-append_ready.ensures.quiet told;
       sent = c.append_ready.ensures.sent;

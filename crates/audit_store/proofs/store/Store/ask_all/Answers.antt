@@ -25,7 +25,8 @@ keep-requires-clause-stands g c = λ told.
     let usable : i.usable ≡ true = ap (λ (s : StoreContents). s.usable) c.self.view_is ∙ c.requires.usable in
     let shape : i.journal.shape ≡ i.secret.shape = c.self.invariant.0.same_shape usable in
     let history = take i.released i.core.history in
-    let before : StandsAt file i.secret.shape history i.journal.gate = subst (λ (s : StoreContents). StandsAt file s.secret.shape s.history s.journal.gate) (sym c.self.view_is) (c.requires.stands told) in
+    let before : StandsAt file i.secret.shape history i.journal.gate =
+    subst (λ (s : StoreContents). StandsAt file s.secret.shape s.history s.journal.gate) (sym c.self.view_is) (c.requires.stands told) in
     let here : StandsAt file i.journal.shape history i.journal.gate = subst (λ (s : Shape). StandsAt file s history i.journal.gate) (sym shape) before in
     (history, here, sym (c.self.invariant.0.counted usable))
 
@@ -115,7 +116,8 @@ returns-in_err-keep g c =
       stands = λ told. IfOk-from_err _ _ c.from_residual-in_err-keep.ensures.0;
       usable = IfOk-from_err _ _ c.from_residual-in_err-keep.ensures.0;
       kept =
-          refused_history c.from_residual-in_err-keep.result i.core.history c.decide_all.new.core.history c.args.self.now.history i.released (c.self.invariant.1.all usable) c.decide_all.ensures.begins
+          refused_history c.from_residual-in_err-keep.result i.core.history c.decide_all.new.core.history c.args.self.now.history i.released
+          (c.self.invariant.1.all usable) c.decide_all.ensures.begins
           (ap (λ (s : StoreContents). s.history) c.self.view_is);
       no_memory = λ is.
           c.in_err-keep.ensures.no_memory (given_is c.in_err-keep.field-0.0 NoMemory c.from_residual-in_err-keep.result c.from_residual-in_err-keep.ensures is);
@@ -124,23 +126,35 @@ returns-in_err-keep g c =
       last_call = λ is.
           c.in_err-keep.ensures.last_call (given_is c.in_err-keep.field-0.0 Failed c.from_residual-in_err-keep.result c.from_residual-in_err-keep.ensures is);
       steady = λ other.
-          c.in_err-keep.ensures.steady (λ is. other (answer_is c.in_err-keep.field-0.0 Failed c.from_residual-in_err-keep.result c.from_residual-in_err-keep.ensures is));
+          c.in_err-keep.ensures.steady
+          (λ is. other (answer_is c.in_err-keep.field-0.0 Failed c.from_residual-in_err-keep.result c.from_residual-in_err-keep.ensures is));
       later = c.keep.ensures.later;
       secret = ap (λ (s : StoreContents). s.secret) c.self.view_is;
       is = (invariant_of-self-in_err-keep g c).0;
       any_moment = λ told quiet other.
           let made = records_made c.args.asked.now c.in_ok-outcomes.outcomes.items in
-          let group = taken_since i.core.history c.decide_all.new.core.history c.history.result.now made i.released c.history.ensures.is (c.self.invariant.1.all usable) c.in_ok-outcomes.ensures.history in
+          let group =
+          taken_since i.core.history c.decide_all.new.core.history c.history.result.now made i.released c.history.ensures.is
+          (c.self.invariant.1.all usable) c.in_ok-outcomes.ensures.history in
           let file = g.B.Bench.file c.args.bench.now in
           let sent = g.B.Bench.sent c.args.bench.now in
           let shape : i.journal.shape ≡ i.secret.shape = c.self.invariant.0.same_shape usable in
           let history = take i.released i.core.history in
-          let before : StandsAt file i.secret.shape history i.journal.gate = subst (λ (s : StoreContents). StandsAt file s.secret.shape s.history s.journal.gate) (sym c.self.view_is) (c.requires.stands told) in
+          let before : StandsAt file i.secret.shape history i.journal.gate =
+          subst (λ (s : StoreContents). StandsAt file s.secret.shape s.history s.journal.gate) (sym c.self.view_is) (c.requires.stands told) in
           let here : StandsAt file i.journal.shape history i.journal.gate = subst (λ (s : Shape). StandsAt file s history i.journal.gate) (sym shape) before in
           let found = c.keep.ensures.any_moment history told here (sym (c.self.invariant.0.counted usable)) quiet in
-          let moments = subst (λ (s : StoreContents). LeavesOnly g.B.Bench c.args.bench.now c.keep.new.bench (IsBeforeOrAfter s.secret.shape s.history made sent)) c.self.view_is (subst (λ (s : Shape). LeavesOnly g.B.Bench c.args.bench.now c.keep.new.bench (IsBeforeOrAfter s history made sent)) shape (subst (λ (l : List Answered). LeavesOnly g.B.Bench c.args.bench.now c.keep.new.bench (IsBeforeOrAfter i.journal.shape history l sent)) group found)) in
+          let moments =
+          subst (λ (s : StoreContents). LeavesOnly g.B.Bench c.args.bench.now c.keep.new.bench
+          (IsBeforeOrAfter s.secret.shape s.history made sent)) c.self.view_is (subst
+          (λ (s : Shape). LeavesOnly g.B.Bench c.args.bench.now c.keep.new.bench (IsBeforeOrAfter s history made sent)) shape
+          (subst (λ (l : List Answered). LeavesOnly g.B.Bench c.args.bench.now c.keep.new.bench
+          (IsBeforeOrAfter i.journal.shape history l sent)) group found)) in
           let all = core_is_history i.secret i.core i.released i.usable history c.self.invariant.1 usable refl in
-          let due = subst (λ (s : StoreContents). AreOutcomes (secret_table s.secret) s.history c.args.asked.now c.in_ok-outcomes.outcomes.items) c.self.view_is (subst (λ (h : List Answered). AreOutcomes (secret_table i.secret) h c.args.asked.now c.in_ok-outcomes.outcomes.items) all c.in_ok-outcomes.ensures.outcomes) in
+          let due =
+          subst (λ (s : StoreContents). AreOutcomes (secret_table s.secret) s.history c.args.asked.now c.in_ok-outcomes.outcomes.items) c.self.view_is
+          (subst (λ (h : List Answered). AreOutcomes
+          (secret_table i.secret) h c.args.asked.now c.in_ok-outcomes.outcomes.items) all c.in_ok-outcomes.ensures.outcomes) in
           record { outcomes = c.in_ok-outcomes.outcomes.items; due = due; moments = moments };
       moments = λ told quiet. IfOk-from_err _ _ c.from_residual-in_err-keep.ensures.0;
       written = λ told. IfOk-from_err _ _ c.from_residual-in_err-keep.ensures.0;
@@ -161,7 +175,8 @@ returns-in_err-outcomes g c = record {
   kept =
       let i = c.self.inside in
       let usable : i.usable ≡ true = ap (λ (s : StoreContents). s.usable) c.self.view_is ∙ c.requires.usable in
-      refused_history c.from_residual.result i.core.history c.decide_all.new.core.history c.args.self.now.history i.released (c.self.invariant.1.all usable) c.decide_all.ensures.begins
+      refused_history c.from_residual.result i.core.history c.decide_all.new.core.history c.args.self.now.history i.released
+      (c.self.invariant.1.all usable) c.decide_all.ensures.begins
       (ap (λ (s : StoreContents). s.history) c.self.view_is);
   no_memory = λ is. refl;
   failed = λ is. memory_no_call c.from_residual.result c.from_residual.ensures is;
@@ -189,24 +204,34 @@ returns g c =
     let shape : i.journal.shape ≡ i.secret.shape = c.self.invariant.0.same_shape usable in
     let history = take i.released i.core.history in
     let made = records_made c.args.asked.now c.in_ok-outcomes.outcomes.items in
-    let group = taken_since i.core.history c.decide_all.new.core.history c.history.result.now made i.released c.history.ensures.is (c.self.invariant.1.all usable) c.in_ok-outcomes.ensures.history in
+    let group =
+    taken_since i.core.history c.decide_all.new.core.history c.history.result.now made i.released c.history.ensures.is
+    (c.self.invariant.1.all usable) c.in_ok-outcomes.ensures.history in
     let sent = g.B.Bench.sent c.args.bench.now in
     record {
       outcomes =
           let all = core_is_history i.secret i.core i.released i.usable (take i.released i.core.history) c.self.invariant.1 usable refl in
           subst (λ (s : StoreContents). AreOutcomes (secret_table s.secret) s.history c.args.asked.now c.in_ok-outcomes.outcomes.items) c.self.view_is
-          (subst (λ (h : List Answered). AreOutcomes (secret_table i.secret) h c.args.asked.now c.in_ok-outcomes.outcomes.items) all c.in_ok-outcomes.ensures.outcomes);
+          (subst (λ (h : List Answered). AreOutcomes
+          (secret_table i.secret) h c.args.asked.now c.in_ok-outcomes.outcomes.items) all c.in_ok-outcomes.ensures.outcomes);
       history =
-          more_released i.core.history c.decide_all.new.core.history c.args.self.now.history (records_made c.args.asked.now c.in_ok-outcomes.outcomes.items) i.released (length c.history-2.result.now)
-          (c.self.invariant.1.all usable) c.in_ok-outcomes.ensures.history (ap (λ (l : List Answered). length l) c.history-2.ensures.is) (ap (λ (s : StoreContents). s.history) c.self.view_is);
+          more_released i.core.history c.decide_all.new.core.history c.args.self.now.history
+          (records_made c.args.asked.now c.in_ok-outcomes.outcomes.items) i.released (length c.history-2.result.now)
+          (c.self.invariant.1.all usable) c.in_ok-outcomes.ensures.history (ap (λ (l : List Answered). length l) c.history-2.ensures.is)
+          (ap (λ (s : StoreContents). s.history) c.self.view_is);
       stands = λ told.
           let whole = c.decide_all.new.core.history in
-          let before : StandsAt file i.secret.shape history i.journal.gate = subst (λ (s : StoreContents). StandsAt file s.secret.shape s.history s.journal.gate) (sym c.self.view_is) (c.requires.stands told) in
+          let before : StandsAt file i.secret.shape history i.journal.gate =
+          subst (λ (s : StoreContents). StandsAt file s.secret.shape s.history s.journal.gate) (sym c.self.view_is) (c.requires.stands told) in
           let here : StandsAt file i.journal.shape history i.journal.gate = subst (λ (s : Shape). StandsAt file s history i.journal.gate) (sym shape) before in
-          let all : history ++ take (length whole - i.released) (drop i.released whole) ≡ whole = released_and_more i.core.history whole i.released (c.self.invariant.1.all usable) c.in_ok-outcomes.ensures.begins in
-          let same : whole ≡ take (length c.history-2.result.now) whole = sym (ap (λ (l : List Answered). take (length l) whole) c.history-2.ensures.is ∙ take-length whole) in
+          let all : history ++ take (length whole - i.released) (drop i.released whole) ≡ whole =
+          released_and_more i.core.history whole i.released (c.self.invariant.1.all usable) c.in_ok-outcomes.ensures.begins in
+          let same : whole ≡ take (length c.history-2.result.now) whole =
+          sym (ap (λ (l : List Answered). take (length l) whole) c.history-2.ensures.is ∙ take-length whole) in
           let done = c.in_ok-keep.ensures.done history told here (sym (c.self.invariant.0.counted usable)) in
-          let ended = subst (λ (h : List Answered). StandsAt (g.B.Bench.file c.keep.new.bench) c.keep.new.journal.shape h c.keep.new.journal.gate) (ap (λ (l : List Answered). history ++ take (length l - i.released) (drop i.released l)) c.history.ensures.is ∙ all ∙ same) done in
+          let ended =
+          subst (λ (h : List Answered). StandsAt (g.B.Bench.file c.keep.new.bench) c.keep.new.journal.shape h c.keep.new.journal.gate)
+          (ap (λ (l : List Answered). history ++ take (length l - i.released) (drop i.released l)) c.history.ensures.is ∙ all ∙ same) done in
           subst (λ (s : Shape). StandsAt (g.B.Bench.file c.keep.new.bench) s (take (length c.history-2.result.now) whole) c.keep.new.journal.gate)
           (c.in_ok-keep.ensures.shape ∙ shape) ended;
       usable = refl;
@@ -219,18 +244,33 @@ returns g c =
       secret = ap (λ (s : StoreContents). s.secret) c.self.view_is;
       is = (invariant_of-self-2 g c).0;
       any_moment = λ told quiet other.
-          let before : StandsAt file i.secret.shape history i.journal.gate = subst (λ (s : StoreContents). StandsAt file s.secret.shape s.history s.journal.gate) (sym c.self.view_is) (c.requires.stands told) in
+          let before : StandsAt file i.secret.shape history i.journal.gate =
+          subst (λ (s : StoreContents). StandsAt file s.secret.shape s.history s.journal.gate) (sym c.self.view_is) (c.requires.stands told) in
           let here : StandsAt file i.journal.shape history i.journal.gate = subst (λ (s : Shape). StandsAt file s history i.journal.gate) (sym shape) before in
           let found = c.keep.ensures.any_moment history told here (sym (c.self.invariant.0.counted usable)) quiet in
-          let moments = subst (λ (s : StoreContents). LeavesOnly g.B.Bench c.args.bench.now c.keep.new.bench (IsBeforeOrAfter s.secret.shape s.history made sent)) c.self.view_is (subst (λ (s : Shape). LeavesOnly g.B.Bench c.args.bench.now c.keep.new.bench (IsBeforeOrAfter s history made sent)) shape (subst (λ (l : List Answered). LeavesOnly g.B.Bench c.args.bench.now c.keep.new.bench (IsBeforeOrAfter i.journal.shape history l sent)) group found)) in
+          let moments =
+          subst (λ (s : StoreContents). LeavesOnly g.B.Bench c.args.bench.now c.keep.new.bench
+          (IsBeforeOrAfter s.secret.shape s.history made sent)) c.self.view_is (subst
+          (λ (s : Shape). LeavesOnly g.B.Bench c.args.bench.now c.keep.new.bench (IsBeforeOrAfter s history made sent)) shape
+          (subst (λ (l : List Answered). LeavesOnly g.B.Bench c.args.bench.now c.keep.new.bench
+          (IsBeforeOrAfter i.journal.shape history l sent)) group found)) in
           let all = core_is_history i.secret i.core i.released i.usable history c.self.invariant.1 usable refl in
-          let due = subst (λ (s : StoreContents). AreOutcomes (secret_table s.secret) s.history c.args.asked.now c.in_ok-outcomes.outcomes.items) c.self.view_is (subst (λ (h : List Answered). AreOutcomes (secret_table i.secret) h c.args.asked.now c.in_ok-outcomes.outcomes.items) all c.in_ok-outcomes.ensures.outcomes) in
+          let due =
+          subst (λ (s : StoreContents). AreOutcomes (secret_table s.secret) s.history c.args.asked.now c.in_ok-outcomes.outcomes.items) c.self.view_is
+          (subst (λ (h : List Answered). AreOutcomes
+          (secret_table i.secret) h c.args.asked.now c.in_ok-outcomes.outcomes.items) all c.in_ok-outcomes.ensures.outcomes) in
           record { outcomes = c.in_ok-outcomes.outcomes.items; due = due; moments = moments };
       moments = λ told quiet.
-          let before : StandsAt file i.secret.shape history i.journal.gate = subst (λ (s : StoreContents). StandsAt file s.secret.shape s.history s.journal.gate) (sym c.self.view_is) (c.requires.stands told) in
+          let before : StandsAt file i.secret.shape history i.journal.gate =
+          subst (λ (s : StoreContents). StandsAt file s.secret.shape s.history s.journal.gate) (sym c.self.view_is) (c.requires.stands told) in
           let here : StandsAt file i.journal.shape history i.journal.gate = subst (λ (s : Shape). StandsAt file s history i.journal.gate) (sym shape) before in
           let found = c.keep.ensures.any_moment history told here (sym (c.self.invariant.0.counted usable)) quiet in
-          let moments = subst (λ (s : StoreContents). LeavesOnly g.B.Bench c.args.bench.now c.keep.new.bench (IsBeforeOrAfter s.secret.shape s.history made sent)) c.self.view_is (subst (λ (s : Shape). LeavesOnly g.B.Bench c.args.bench.now c.keep.new.bench (IsBeforeOrAfter s history made sent)) shape (subst (λ (l : List Answered). LeavesOnly g.B.Bench c.args.bench.now c.keep.new.bench (IsBeforeOrAfter i.journal.shape history l sent)) group found)) in
+          let moments =
+          subst (λ (s : StoreContents). LeavesOnly g.B.Bench c.args.bench.now c.keep.new.bench
+          (IsBeforeOrAfter s.secret.shape s.history made sent)) c.self.view_is (subst
+          (λ (s : Shape). LeavesOnly g.B.Bench c.args.bench.now c.keep.new.bench (IsBeforeOrAfter s history made sent)) shape
+          (subst (λ (l : List Answered). LeavesOnly g.B.Bench c.args.bench.now c.keep.new.bench
+          (IsBeforeOrAfter i.journal.shape history l sent)) group found)) in
           moments;
       written = λ told.
           let old = g.B.Bench.file c.args.bench.now in

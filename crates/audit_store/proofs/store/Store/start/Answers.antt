@@ -31,7 +31,9 @@ returns-in-Ok g c =
           cause_in_file file journal.shape list journal.gate c.args.secret fault (c.in-Ok.ensures.stands told)
           (subst (λ (h : List Answered). HistoryCause fault journal.shape h c.args.secret) c.deref.ensures.value cause);
       due = λ fault told some cause.
-          let here = due_of_history file c.args.secret journal.shape list fault (c.in-Ok.ensures.made told) (λ at. c.in-Ok.ensures.damaged_only at told) (λ other others gate stands. let same = c.in-Ok.ensures.whole other others gate told stands in (same.0, same.1)) some cause in
+          let here =
+          due_of_history file c.args.secret journal.shape list fault (c.in-Ok.ensures.made told) (λ at. c.in-Ok.ensures.damaged_only at told)
+          (λ other others gate stands. let same = c.in-Ok.ensures.whole other others gate told stands in (same.0, same.1)) some cause in
           c.opened.ensures.due fault some (subst (λ (h : List Answered). HistoryCause fault journal.shape h c.args.secret) (sym c.deref.ensures.value) here);
       opens = λ history told stands legal.
           let same = c.in-Ok.ensures.whole c.args.secret.shape history stands.0 told stands.1 in
@@ -57,10 +59,13 @@ returns-in-Err g c = record {
   cause = λ fault told is.
       let file = g.B.Bench.file c.args.bench.now in
       let found = cause_of_reading file c.args.secret c.in-Err.fault (c.in-Err.ensures.not_made told) (λ at. c.in-Err.ensures.damaged at told) in
-      IfErr-at_err (λ (f : StartFault). StartCause f file c.args.secret) is (subst (λ (f : StartFault). StartCause f file c.args.secret) (sym c.from.ensures) found);
+      IfErr-at_err (λ (f : StartFault). StartCause f file c.args.secret) is
+      (subst (λ (f : StartFault). StartCause f file c.args.secret) (sym c.from.ensures) found);
   due = λ fault told some cause.
       let file = g.B.Bench.file c.args.bench.now in
-      let due = due_of_reading file c.args.secret c.in-Err.fault fault (c.in-Err.ensures.made told) (λ at. c.in-Err.ensures.damaged_only at told) (λ shape history gate. c.in-Err.ensures.whole shape history gate told) some cause in
+      let due =
+      due_of_reading file c.args.secret c.in-Err.fault fault (c.in-Err.ensures.made told) (λ at. c.in-Err.ensures.damaged_only at told)
+      (λ shape history gate. c.in-Err.ensures.whole shape history gate told) some cause in
       rw c.from.ensures due;
   opens = λ history told stands legal.
       subst (λ (f : StartFault). GivesUp f) (sym c.from.ensures)
