@@ -19,7 +19,9 @@ returns-in_err-length g c = record {
   file = c.length.ensures.file;
   sent = c.length.ensures.sent;
   crash = c.length.ensures.crash;
-  cause = has_cause (g.B.Bench.faults c.args.bench.now) (g.B.Bench.faults c.length.new.self) c.from_residual.result c.from_residual.ensures.0 (c.length.ensures.cause.later) (c.in_err-length.ensures.cause.failed);
+  cause =
+      has_cause (g.B.Bench.faults c.args.bench.now) (g.B.Bench.faults c.length.new.self) c.from_residual.result c.from_residual.ensures.0
+      (c.length.ensures.cause.later) (c.in_err-length.ensures.cause.failed);
   last_call = on_err_always c.from_residual.result c.in_err-length.ensures.last_call;
 }
 
@@ -74,7 +76,11 @@ returns-in_err-read_at g c = record {
   file = c.read_at.ensures.file ∙ c.length.ensures.file;
   sent = c.read_at.ensures.sent ∙ c.length.ensures.sent;
   crash = λ image left. c.length.ensures.crash image (c.read_at.ensures.crash image left);
-  cause = has_cause (g.B.Bench.faults c.args.bench.now) (g.B.Bench.faults c.read_at.new.self) c.from_residual-in_err-read_at.result c.from_residual-in_err-read_at.ensures.0 (subst (λ (n : ℕ). n ≤ g.B.Bench.faults c.read_at.new.self) (c.in_ok-length.ensures.cause.steady) c.read_at.ensures.cause.later) (subst (λ (n : ℕ). Rose n (g.B.Bench.faults c.read_at.new.self)) (c.in_ok-length.ensures.cause.steady) c.in_err-read_at.ensures.cause.failed);
+  cause =
+      has_cause (g.B.Bench.faults c.args.bench.now)
+      (g.B.Bench.faults c.read_at.new.self) c.from_residual-in_err-read_at.result c.from_residual-in_err-read_at.ensures.0
+      (subst (λ (n : ℕ). n ≤ g.B.Bench.faults c.read_at.new.self) (c.in_ok-length.ensures.cause.steady) c.read_at.ensures.cause.later)
+      (subst (λ (n : ℕ). Rose n (g.B.Bench.faults c.read_at.new.self)) (c.in_ok-length.ensures.cause.steady) c.in_err-read_at.ensures.cause.failed);
   last_call = on_err_always c.from_residual-in_err-read_at.result c.in_err-read_at.ensures.last_call;
 }
 
@@ -93,7 +99,10 @@ returns-then-gate-eq1 g c = record {
   file = c.read_at.ensures.file ∙ c.length.ensures.file;
   sent = c.read_at.ensures.sent ∙ c.length.ensures.sent;
   crash = λ image left. c.length.ensures.crash image (c.read_at.ensures.crash image left);
-  cause = record { later = subst (λ (n : ℕ). n ≤ g.B.Bench.faults c.read_at.new.self) (c.in_ok-length.ensures.cause.steady) c.read_at.ensures.cause.later; failed = tt; steady = c.in_ok-read_at.ensures.cause.steady ∙ c.in_ok-length.ensures.cause.steady };
+  cause =
+      record { later = subst (λ (n : ℕ). n ≤ g.B.Bench.faults c.read_at.new.self)
+      (c.in_ok-length.ensures.cause.steady) c.read_at.ensures.cause.later; failed = tt; steady = c.in_ok-read_at.ensures.cause.steady
+      ∙ c.in_ok-length.ensures.cause.steady };
   last_call = tt;
 }
 
@@ -112,6 +121,9 @@ returns-else-gate-eq1 g c = record {
   file = c.read_at.ensures.file ∙ c.length.ensures.file;
   sent = c.read_at.ensures.sent ∙ c.length.ensures.sent;
   crash = λ image left. c.length.ensures.crash image (c.read_at.ensures.crash image left);
-  cause = record { later = subst (λ (n : ℕ). n ≤ g.B.Bench.faults c.read_at.new.self) (c.in_ok-length.ensures.cause.steady) c.read_at.ensures.cause.later; failed = tt; steady = c.in_ok-read_at.ensures.cause.steady ∙ c.in_ok-length.ensures.cause.steady };
+  cause =
+      record { later = subst (λ (n : ℕ). n ≤ g.B.Bench.faults c.read_at.new.self)
+      (c.in_ok-length.ensures.cause.steady) c.read_at.ensures.cause.later; failed = tt; steady = c.in_ok-read_at.ensures.cause.steady
+      ∙ c.in_ok-length.ensures.cause.steady };
   last_call = tt;
 }

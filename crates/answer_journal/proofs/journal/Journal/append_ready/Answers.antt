@@ -32,14 +32,18 @@ returns-in_err-append_bytes g c = record {
       let gate : c.self.inside.gate ≡ c.args.self.now.gate = ap (λ (j : JournalContents). j.gate) c.self.view_is in
       let here = subst (λ (k : ℕ). StandsAt file shape history k) (sym gate) stands in
       let room : length history + length list ≤ 65536 = omega (arith, counted, c.requires.few) in
-      at_every_moment file c.bytes-bytes.result.now shape c.args.ready.now.shape history list c.self.inside.gate here c.bytes-bytes.ensures c.requires.shape room g.B.Bench c.args.bench.now c.append_bytes.new.bench sent
+      at_every_moment file c.bytes-bytes.result.now shape c.args.ready.now.shape history list c.self.inside.gate here c.bytes-bytes.ensures c.requires.shape
+      room g.B.Bench c.args.bench.now c.append_bytes.new.bench sent
       (c.append_bytes.ensures.any_moment told quiet);
   done = λ history told stands many. IfOk-from_err _ _ c.from_residual.ensures.0;
   written = λ told. IfOk-from_err _ _ c.from_residual.ensures.0;
   quiet = λ told. IfOk-from_err _ _ c.from_residual.ensures.0;
   sent = c.append_bytes.ensures.sent;
   ticks = λ told. IfOk-from_err _ _ c.from_residual.ensures.0;
-  cause = has_cause (g.B.Bench.faults c.args.bench.now) (g.B.Bench.faults c.append_bytes.new.bench) c.from_residual.result c.from_residual.ensures.0 c.append_bytes.ensures.cause.later c.in_err-append_bytes.ensures.cause.failed;
+  cause =
+      has_cause (g.B.Bench.faults c.args.bench.now)
+      (g.B.Bench.faults c.append_bytes.new.bench) c.from_residual.result c.from_residual.ensures.0 c.append_bytes.ensures.cause.later
+      c.in_err-append_bytes.ensures.cause.failed;
   last_call = on_err_always c.from_residual.result c.in_err-append_bytes.ensures.last_call;
   shape = ap (λ (j : JournalContents). j.shape) c.self.view_is;
   counted = IfOk-from_err _ _ c.from_residual.ensures.0;
@@ -59,7 +63,8 @@ returns g c = record {
       let gate : c.self.inside.gate ≡ c.args.self.now.gate = ap (λ (j : JournalContents). j.gate) c.self.view_is in
       let here = subst (λ (k : ℕ). StandsAt file shape history k) (sym gate) stands in
       let room : length history + length list ≤ 65536 = omega (arith, counted, c.requires.few) in
-      at_every_moment file c.bytes-bytes.result.now shape c.args.ready.now.shape history list c.self.inside.gate here c.bytes-bytes.ensures c.requires.shape room g.B.Bench c.args.bench.now c.append_bytes.new.bench sent
+      at_every_moment file c.bytes-bytes.result.now shape c.args.ready.now.shape history list c.self.inside.gate here c.bytes-bytes.ensures c.requires.shape
+      room g.B.Bench c.args.bench.now c.append_bytes.new.bench sent
       (c.append_bytes.ensures.any_moment told quiet);
   done = λ history told stands counted.
       let file = g.B.Bench.file c.args.bench.now in

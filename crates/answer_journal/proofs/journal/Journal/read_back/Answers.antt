@@ -19,7 +19,8 @@ ending_at-requires g c =
     let long : c.len-count.result ≡ length contents.list.items = search rules in
     let some = c.in-Ok.ensures.journal in
     subst (λ (n : ℕ). IsJournal (record { shape = contents.shape; count = n; gate = contents.gate; usable = true })) (sym long)
-    (is_journal some.0 contents.shape contents.list.items contents.gate some.1 (c.bytes_of_records.ensures.gate some.0 contents.shape contents.list.items contents.gate some.1))
+    (is_journal some.0 contents.shape contents.list.items contents.gate some.1
+    (c.bytes_of_records.ensures.gate some.0 contents.shape contents.list.items contents.gate some.1))
 
 -- ---- it was read
 
@@ -47,7 +48,9 @@ returns-in-Ok g c = record {
       c.no_break_in_a_journal.ensures (g.B.Bench.file c.args.bench.now) contents.shape contents.list.items contents.gate at (c.in-Ok.ensures.ok told) breaks;
   whole = λ shape history gate told stands.
       let contents = c.in-Ok.contents in
-      let once = c.one_reading.ensures (g.B.Bench.file c.args.bench.now) contents.shape shape contents.list.items history contents.gate gate (c.in-Ok.ensures.ok told) stands in
+      let once =
+      c.one_reading.ensures (g.B.Bench.file c.args.bench.now) contents.shape shape contents.list.items history contents.gate gate
+      (c.in-Ok.ensures.ok told) stands in
       (ap (λ (j : JournalContents). j.shape) c.ending_at.ensures ∙ once.0, once.1, ap (λ (j : JournalContents). j.gate) c.ending_at.ensures ∙ once.2);
   file = c.contents_of.ensures.file;
   sent = c.contents_of.ensures.sent;
@@ -75,7 +78,8 @@ returns-in-Err g c = record {
   damaged_only =
       λ at told made breaks. damage_is_due (g.B.Bench.file c.args.bench.now) c.in-Err.fault at c.one_break.ensures (c.in-Err.ensures.err told) made breaks;
   whole =
-      λ shape history gate told stands. whole_has_no_fault (g.B.Bench.file c.args.bench.now) c.in-Err.fault shape history gate c.no_break_in_a_journal.ensures (c.in-Err.ensures.err told) stands;
+      λ shape history gate told stands. whole_has_no_fault (g.B.Bench.file c.args.bench.now) c.in-Err.fault shape history gate c.no_break_in_a_journal.ensures
+      (c.in-Err.ensures.err told) stands;
   file = c.contents_of.ensures.file;
   sent = c.contents_of.ensures.sent;
   crash = c.contents_of.ensures.crash;
