@@ -11,3 +11,4 @@ pub mod LoweredSets
 pub mod Descending
 pub mod NextExtremes
 pub mod DangerCases
+pub mod FailedCalls

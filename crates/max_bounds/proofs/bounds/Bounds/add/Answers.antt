@@ -1,6 +1,5 @@
 use Rattle.std.proofs.Common.{ℕ, Vec, Global, ◌≡◌, ◌≤◌, ◌++◌, ◌∷◌, [], List, Some, arith, sym, ap, ◌∙◌, subst, length, map, cond, min, to_z, of_z}
 use Rattle.std.specs.Int.{w64}
-use Rattle.std.specs.Prelude.{Result, Ok, Err, IsErr, OnOk, OnErr}
 use Rattle.std.specs.List.{AllByRecursion}
 use Rattle.std.proofs.Math.Path.{fun_ext}
 use Rattle.std.proofs.lemmas.Int.{to_z-of_z}
@@ -15,6 +14,7 @@ use Rattle.max_bounds.specs.Kept.{is_at_least, rows_at_least, rows_above, fewest
 use Rattle.max_bounds.specs.declared.answered.AnsweredMax.{AnsweredMax}
 use Rattle.max_bounds.specs.declared.bounds.Bounds.TheInside.{Inside}
 use Rattle.audit_types.specs.ListLaws.{all-push}
+use Rattle.max_bounds.proofs.FailedCalls.{no_ok, at_err}
 use Rattle.max_bounds.proofs.FallingCounts.{fewest_of-push}
 use Rattle.max_bounds.proofs.HighRows.{all_stay, least_low}
 use Rattle.max_bounds.specs.OneMoreLaws.{bound_in_set}
@@ -201,15 +201,6 @@ insert-requires-clause-told c =
     subst (λ l. AreLeast (extremes (and_answer (answers_of l) rows x)) (answers_of l) (answers_of (with_items c.make_room.new.least c.fall-fewest.new.least).items))
     (c.deref-3.ensures.value ∙ sym c.deref-5.ensures.value)
     (subst (λ s. AreLeast (extremes (and_answer (answers_of c.deref-3.result.now) rows x)) (answers_of c.deref-3.result.now) (answers_of s)) (sym least_is) c.fall-fewest.ensures.tells.are_least)
-
--- an error
-no_ok : {A E : Type 0} (r : Result A E) (P : Type 0) → IsErr r → OnOk r P
-no_ok (Ok u) P is = absurd cc
-no_ok (Err e) P is = tt
-
-at_err : {A E : Type 0} (r : Result A E) (P : Type 0) → P → OnErr r P
-at_err (Ok u) P h = tt
-at_err (Err e) P h = h
 
 pub returns-in_err-make_room : goal.returns-in_err-make_room
 returns-in_err-make_room c = record {
