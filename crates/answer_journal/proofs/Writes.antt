@@ -5,11 +5,7 @@ use Rattle.bench_core.specs.Bench.{Holds}
 use Rattle.answer_journal.specs.Append.{Appending, Writing, appended}
 
 module _ (gate : ℕ) (group file before : List ℕ) (inside : gate < length file) where
-  -- the group behind the closed gate
-  pub staged : List ℕ
-  staged = take (gate + 1) file ++ group ++ drop (gate + 1 + length group) file
-
-  -- a crash while it is written leaves the gate and all before it
+  -- a crash while the group is written behind the closed gate leaves the gate and all before it
   pub stage_image : (image sent : List ℕ) → Writing (gate + 1) (length group) file before image sent → Appending gate group file before image sent
   stage_image image sent (same, torn) = (same, inl torn.before)
 
