@@ -59,9 +59,12 @@ taken_fault columns k name text c fault.NoMemory found read = tt
 -- what is taken of a column that answers it can be asked
 pub taken_can : (columns : List Column) (k : Take) (c : ℕ) (p : Pred) (r : Request) → IsTaken k c (tree_of p) r → HasSecret columns c (kind_for k)
     → fits columns (tree_of p) ≡ true → CanBeAsked columns r
-taken_can columns take.Sum c p (request.Sum d q) is has fit = (subst (λ n. HasSecret columns n (kind_for take.Sum)) (sym is.0) has, ap (fits columns) is.1 ∙ fit)
-taken_can columns take.Avg c p (request.Avg d q) is has fit = (subst (λ n. HasSecret columns n (kind_for take.Avg)) (sym is.0) has, ap (fits columns) is.1 ∙ fit)
-taken_can columns take.Max c p (request.Max d q) is has fit = (subst (λ n. HasSecret columns n (kind_for take.Max)) (sym is.0) has, ap (fits columns) is.1 ∙ fit)
+taken_can columns take.Sum c p (request.Sum d q) is has fit =
+    (subst (λ n. HasSecret columns n (kind_for take.Sum)) (sym is.0) has, ap (fits columns) is.1 ∙ fit)
+taken_can columns take.Avg c p (request.Avg d q) is has fit =
+    (subst (λ n. HasSecret columns n (kind_for take.Avg)) (sym is.0) has, ap (fits columns) is.1 ∙ fit)
+taken_can columns take.Max c p (request.Max d q) is has fit =
+    (subst (λ n. HasSecret columns n (kind_for take.Max)) (sym is.0) has, ap (fits columns) is.1 ∙ fit)
 taken_can columns k c p r is has fit = absurd is
 
 -- a column that isn't found names no byte

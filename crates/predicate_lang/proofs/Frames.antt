@@ -69,7 +69,8 @@ pub put_there : {X : Type 0} (columns : List Column) (s : State) (stand : Stand)
 put_there columns s stand t at r left is puts = subst (λ (x : Stand). Puts columns (build_at s x) t at r left) (sym is) puts
 
 -- without a whole part there is no tree
-pub no_tree : (fs : List Frame) (ors : Option Tree) (at : Spot) (ls : List Literal) → ((p : Box Pred Global) → at ≡ spot.Whole p → ⊥) → tree_at fs ors (stand_of at ls) ≡ None
+pub no_tree : (fs : List Frame) (ors : Option Tree) (at : Spot) (ls : List Literal) → ((p : Box Pred Global) → at ≡ spot.Whole p → ⊥)
+    → tree_at fs ors (stand_of at ls) ≡ None
 no_tree [] ors spot.Operand ls open_end = refl
 no_tree [] ors (spot.Name c) ls open_end = refl
 no_tree [] ors (spot.Operator c o) ls open_end = refl

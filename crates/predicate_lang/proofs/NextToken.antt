@@ -72,7 +72,8 @@ pub text_is : (columns : List Column) (at : ℕ) (tail word : List ℕ) (bytes :
 text_is columns at tail word bytes closed = ap (λ o. lexeme columns at (text_front o)) closed
 
 -- the quote that begins there isn't closed
-pub no_text_is : (columns : List Column) (at : ℕ) (tail : List ℕ) → quoted false tail ≡ None → lexeme columns at (text_front (quoted false tail)) ≡ None
+pub no_text_is : (columns : List Column) (at : ℕ) (tail : List ℕ) → quoted false tail ≡ None
+    → lexeme columns at (text_front (quoted false tail)) ≡ None
 no_text_is columns at tail open_end = ap (λ o. lexeme columns at (text_front o)) open_end
 
 -- ---- the next token

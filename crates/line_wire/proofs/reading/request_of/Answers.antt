@@ -11,7 +11,8 @@ returns-in-Ok c =
     let columns = c.args.schema.now.columns in
     let pred = c.in-Ok.pred in
     record {
-      exact = subst (λ (w : Written). Answers columns w (Ok (Count pred))) (sym (ap written_of c.in-Count.is)) (counted_is columns c.in-Count.text.now pred c.in-Ok.ensures.exact);
+      exact = subst (λ (w : Written). Answers columns w (Ok (Count pred))) (sym (ap written_of c.in-Count.is))
+          (counted_is columns c.in-Count.text.now pred c.in-Ok.ensures.exact);
       fitting = c.in-Ok.ensures.fitting;
       within = tt;
     }
@@ -21,7 +22,8 @@ returns-in-Err c =
     let columns = c.args.schema.now.columns in
     let fault = c.in-Err.fault in
     record {
-      exact = subst (λ (w : Written). Answers columns w (Err fault)) (sym (ap written_of c.in-Count.is)) (counted_fault columns c.in-Count.text.now fault c.in-Err.ensures.exact);
+      exact = subst (λ (w : Written). Answers columns w (Err fault)) (sym (ap written_of c.in-Count.is))
+          (counted_fault columns c.in-Count.text.now fault c.in-Err.ensures.exact);
       fitting = tt;
       within = c.in-Err.ensures.within;
     }
@@ -34,7 +36,8 @@ returns-in-Ok-condition c =
     let pred = c.in-Ok-condition.pred in
     record {
       exact = subst (λ (w : Written). Answers columns w (Ok c.taking.result)) (sym (ap written_of asked.is))
-          (taken_answers columns asked.take asked.column.now asked.text.now column pred c.taking.result c.in-Ok-column_of.ensures.finds c.in-Ok-condition.ensures.exact c.taking.ensures);
+          (taken_answers columns asked.take asked.column.now asked.text.now column pred c.taking.result
+          c.in-Ok-column_of.ensures.finds c.in-Ok-condition.ensures.exact c.taking.ensures);
       fitting = taken_can columns asked.take column pred c.taking.result c.taking.ensures c.in-Ok-column_of.ensures.has c.in-Ok-condition.ensures.fitting;
       within = tt;
     }
@@ -46,7 +49,8 @@ returns-in-Err-condition c =
     let fault = c.in-Err-condition.fault in
     record {
       exact = subst (λ (w : Written). Answers columns w (Err fault)) (sym (ap written_of asked.is))
-          (taken_fault columns asked.take asked.column.now asked.text.now c.in-Ok-column_of.column fault c.in-Ok-column_of.ensures.finds c.in-Err-condition.ensures.exact);
+          (taken_fault columns asked.take asked.column.now asked.text.now c.in-Ok-column_of.column fault
+          c.in-Ok-column_of.ensures.finds c.in-Err-condition.ensures.exact);
       fitting = tt;
       within = c.in-Err-condition.ensures.within;
     }
@@ -58,7 +62,8 @@ returns-in-Err-column_of c =
     let fault = c.in-Err-column_of.column_fault in
     let finds = c.in-Err-column_of.ensures.finds in
     record {
-      exact = subst (λ (w : Written). Answers columns w (Err fault)) (sym (ap written_of asked.is)) (unfound columns asked.take asked.column.now asked.text.now fault finds);
+      exact = subst (λ (w : Written). Answers columns w (Err fault)) (sym (ap written_of asked.is))
+          (unfound columns asked.take asked.column.now asked.text.now fault finds);
       fitting = tt;
       within = unfound_within columns asked.take asked.column.now fault 8192 finds;
     }

@@ -18,16 +18,19 @@ pub returns-in-Long : goal.returns-in-Long
 returns-in-Long c = record { count = c.write_refusal-in-Long.ensures.count; bytes = c.write_refusal-in-Long.ensures.bytes ∙ sym (ap reply_bytes c.in-Long.is) }
 
 pub returns-in-Column : goal.returns-in-Column
-returns-in-Column c = record { count = c.write_refusal-in-Column.ensures.count; bytes = c.write_refusal-in-Column.ensures.bytes ∙ sym (ap reply_bytes c.in-Column.is) }
+returns-in-Column c =
+    record { count = c.write_refusal-in-Column.ensures.count; bytes = c.write_refusal-in-Column.ensures.bytes ∙ sym (ap reply_bytes c.in-Column.is) }
 
 pub returns-in-Kind : goal.returns-in-Kind
 returns-in-Kind c = record { count = c.write_refusal-in-Kind.ensures.count; bytes = c.write_refusal-in-Kind.ensures.bytes ∙ sym (ap reply_bytes c.in-Kind.is) }
 
 pub returns-in-Condition : goal.returns-in-Condition
-returns-in-Condition c = record { count = c.write_number-in-Condition.ensures.count; bytes = c.write_number-in-Condition.ensures.bytes ∙ sym (ap reply_bytes c.in-Condition.is) }
+returns-in-Condition c =
+    record { count = c.write_number-in-Condition.ensures.count; bytes = c.write_number-in-Condition.ensures.bytes ∙ sym (ap reply_bytes c.in-Condition.is) }
 
 pub returns-in-Empty : goal.returns-in-Empty
-returns-in-Empty c = record { count = c.write_refusal-in-Empty.ensures.count; bytes = c.write_refusal-in-Empty.ensures.bytes ∙ sym (ap reply_bytes c.in-Empty.is) }
+returns-in-Empty c =
+    record { count = c.write_refusal-in-Empty.ensures.count; bytes = c.write_refusal-in-Empty.ensures.bytes ∙ sym (ap reply_bytes c.in-Empty.is) }
 
 pub returns-in-Full : goal.returns-in-Full
 returns-in-Full c = record { count = c.write_refusal-in-Full.ensures.count; bytes = c.write_refusal-in-Full.ensures.bytes ∙ sym (ap reply_bytes c.in-Full.is) }

@@ -17,7 +17,8 @@ nots-preserved c =
     let ended = c.end_not.ensures.frames in
     record {
       same_tree =
-          ap (negated (frames_of c.end_not.new.opened.items)) c.in_ok-p.ensures ∙ sym (ap (λ fs. negated fs (tree_of c.nots.p.value)) ended) ∙ c.nots.invariant.same_tree;
+          ap (negated (frames_of c.end_not.new.opened.items)) c.in_ok-p.ensures
+          ∙ sym (ap (λ fs. negated fs (tree_of c.nots.p.value)) ended) ∙ c.nots.invariant.same_tree;
       same_rest = sym (ap without_nots ended) ∙ c.nots.invariant.same_rest;
     }
 
@@ -27,7 +28,8 @@ nots-smaller c = c.end_not.ensures.fewer
 pub returns : goal.returns
 returns c =
     let frames = frames_of c.nots.opened.items in
-    let none : is_under_not frames ≡ false = ap (λ os. is_under_not (frames_of os)) (sym c.deref.ensures.value) ∙ sym c.is_under_not.ensures ∙ c.nots-test.false in
+    let none : is_under_not frames ≡ false =
+    ap (λ os. is_under_not (frames_of os)) (sym c.deref.ensures.value) ∙ sym c.is_under_not.ensures ∙ c.nots-test.false in
     record {
       tree = sym (negated_bracket frames (tree_of c.nots.p.value) none) ∙ c.nots.invariant.same_tree;
       rest = sym (without_nots_bracket frames none) ∙ c.nots.invariant.same_rest;

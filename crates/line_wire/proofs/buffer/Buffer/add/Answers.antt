@@ -27,8 +27,10 @@ pub invariant_of-self-2 : goal.invariant_of-self-2
 invariant_of-self-2 c =
     let pending = ap (λ (held : Held). held.pending) c.self.view_is in
     let fits = range-long c.self.inside.bytes.items c.self.inside.from c.self.inside.end c.args.count (omega arith) (rw (← pending) at c.requires) in
-    let same : length c.move_bytes.new.bytes ≡ length c.self.inside.bytes.items = c.move_bytes.ensures.len ∙ ap (λ (l : List ℕ). length l) c.deref_mut.ensures.value in
-    let whole = ap (λ (l : List ℕ). length l) (written_back c.self.inside.bytes.len c.move_bytes.new.bytes c.self.inside.bytes.items same (omega arith)) ∙ same in
+    let same : length c.move_bytes.new.bytes ≡ length c.self.inside.bytes.items =
+    c.move_bytes.ensures.len ∙ ap (λ (l : List ℕ). length l) c.deref_mut.ensures.value in
+    let whole =
+    ap (λ (l : List ℕ). length l) (written_back c.self.inside.bytes.len c.move_bytes.new.bytes c.self.inside.bytes.items same (omega arith)) ∙ same in
     (omega arith, omega (arith, c.min.ensures), omega (arith, c.min.ensures), fits, omega arith, omega (arith, whole))
 
 pub returns-then-len-eq-KEPT-clause-pending : goal.returns-then-len-eq-KEPT-clause-pending

@@ -13,7 +13,12 @@ returns-in-Err g c =
       bytes = λ told. tt;
       ended = λ told. tt;
       failed = failed.bytes;
-      kept = (cleared.same.0 ∙ ap (λ (v : Cutter). v.taken) c.self.view_is, cleared.same.1 ∙ ap (λ (v : Cutter). v.ended) c.self.view_is, cleared.same.2 ∙ failed.none, cleared.text);
+      kept = (
+        cleared.same.0 ∙ ap (λ (v : Cutter). v.taken) c.self.view_is,
+        cleared.same.1 ∙ ap (λ (v : Cutter). v.ended) c.self.view_is,
+        cleared.same.2 ∙ failed.none,
+        cleared.text,
+      );
       cause = record { later = failed.cause.later; failed = failed.cause.failed; steady = tt };
       last_call = failed.last_call;
       within = cleared.within;

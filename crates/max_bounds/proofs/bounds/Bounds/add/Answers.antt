@@ -249,7 +249,14 @@ pub renew_high-requires-clause-within : goal.renew_high-requires-clause-within
 renew_high-requires-clause-within c =
     let same_n : c.args.rows.now.n ≡ c.self.inside.n = c.requires.same_n ∙ sym (ap (λ (m : Maxima). m.n) c.self.view_is) in
     let upper_is : (with_items c.self.inside.upper c.settle.new.upper).items ≡ c.settle.new.upper = with_items_is c.self.inside.upper c.settle.new.upper (c.settle.auto.upper ∙ c.deref_mut-3.ensures.len) in
-    omega (arith, same_n, c.self.invariant.one_each, ap length (c.deref-6.ensures.value ∙ upper_is), c.settle.auto.upper, ap length c.deref_mut-3.ensures.value)
+    omega (
+      arith,
+      same_n,
+      c.self.invariant.one_each,
+      ap length (c.deref-6.ensures.value ∙ upper_is),
+      c.settle.auto.upper,
+      ap length c.deref_mut-3.ensures.value,
+    )
 
 pub returns-clause-err : goal.returns-clause-err
 returns-clause-err c = tt
