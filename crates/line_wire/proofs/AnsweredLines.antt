@@ -76,7 +76,8 @@ unfound_within columns k name (fault.Condition at) n is = absurd is
 unfound_within columns k name fault.NoMemory n is = tt
 
 -- what is wrong with the column that a question names is its first fault
-pub unfound : (columns : List Column) (k : Take) (name text : List ℕ) (f : LineFault) → FindsColumn columns k name (Err f) → Answers columns (taken k name text) (Err f)
+pub unfound : (columns : List Column) (k : Take) (name text : List ℕ) (f : LineFault) → FindsColumn columns k name (Err f) →
+    Answers columns (taken k name text) (Err f)
 unfound columns k name text fault.Line is = is
 unfound columns k name text fault.Column is = is
 unfound columns k name text fault.Kind is = is

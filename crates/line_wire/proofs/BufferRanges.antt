@@ -16,12 +16,14 @@ pub taken_there : (buffer bytes : List ℕ) (at count : ℕ) → buffer ≡ byte
 taken_there buffer bytes at count same = take-take count (at + count - at) (drop at buffer) (omega arith) ∙ ap (λ (l : List ℕ). take count (drop at l)) same
 
 -- a line that was moved to the front is still there after a read behind it
-pub still_in_front : (after read before moved line : List ℕ) (n : ℕ) → after ≡ read → take n read ≡ take n before → before ≡ moved → slice_range moved 0 (0 + n) ≡ line →
+pub still_in_front : (after read before moved line : List ℕ) (n : ℕ) → after ≡ read → take n read ≡ take n before → before ≡ moved →
+    slice_range moved 0 (0 + n) ≡ line →
     slice_range after 0 n ≡ line
 still_in_front after read before moved line n was kept is there =
     let size : n - 0 ≡ n = omega arith in
     let whole : 0 + n - 0 ≡ n = omega arith in
-    ap (λ (k : ℕ). take k after) size ∙ ap (λ (l : List ℕ). take n l) was ∙ kept ∙ ap (λ (l : List ℕ). take n l) is ∙ ap (λ (k : ℕ). take k moved) (sym whole) ∙ there
+    ap (λ (k : ℕ). take k after) size ∙ ap (λ (l : List ℕ). take n l) was ∙ kept ∙ ap (λ (l : List ℕ). take n l) is ∙ ap (λ (k : ℕ). take k moved) (sym whole)
+    ∙ there
 
 -- a range that begins later
 pub range-later : (bytes : List ℕ) (from end count : ℕ) → from + count ≤ end → slice_range bytes (from + count) end ≡ drop count (slice_range bytes from end)
@@ -89,7 +91,8 @@ module _ (most : ℕ) (bytes moved : List ℕ) (start stop from end count : ℕ)
   piece_size : length (take count (slice_range bytes from end)) ≡ count
   piece_size = length-take-le count (slice_range bytes from end) (omega (arith, length-take (end - from) (drop from bytes), length-drop from bytes))
 
-  grown : slice_range moved (from - (stop - start)) (from + min count (most - (stop - start))) ≡ take most (slice_range bytes start stop ++ take count (slice_range bytes from end))
+  grown : slice_range moved (from - (stop - start)) (from + min count (most - (stop - start))) ≡ take most
+      (slice_range bytes start stop ++ take count (slice_range bytes from end))
   grown =
       let line : List ℕ = slice_range bytes start stop in
       let piece : List ℕ = take count (slice_range bytes from end) in

@@ -41,7 +41,8 @@ front_len (x ∷ front) rest none =
 -- the first comma stands after a front that has none
 position_behind : (front rest : List ℕ) → IsCommaless front → position (λ b. b == 44) (front ++ 44 ∷ rest) ≡ Some (length front)
 position_behind front rest none =
-    let inside : nat_lt (length front) (length (front ++ 44 ∷ rest)) ≡ true = lt-ltb (length front) (length (front ++ 44 ∷ rest)) (omega (arith, length-append front (44 ∷ rest))) in
+    let inside : nat_lt (length front) (length (front ++ 44 ∷ rest)) ≡ true =
+    lt-ltb (length front) (length (front ++ 44 ∷ rest)) (omega (arith, length-append front (44 ∷ rest))) in
     ap (λ (n : ℕ). cond (nat_lt n (length (front ++ 44 ∷ rest))) (Some n) None) (front_len front rest none)
     ∙ ap (λ (b : Bool). cond b (Some (length front)) None) inside
 
@@ -62,7 +63,8 @@ commaless-front_of num small = (refl, (refl, (refl, (refl, (refl, (refl, (refl, 
 -- wholes that are equal have equal fronts before their first comma, and equal rests after it
 pub same_parts : (a b r s : List ℕ) → IsCommaless a → IsCommaless b → a ++ 44 ∷ r ≡ b ++ 44 ∷ s → (a ≡ b) × (r ≡ s)
 same_parts a b r s first second is =
-    let place : length a ≡ length b = same_Some (length a) (length b) (sym (position_behind a r first) ∙ ap (position (λ b. b == 44)) is ∙ position_behind b s second) in (
+    let place : length a ≡ length b = same_Some (length a) (length b)
+    (sym (position_behind a r first) ∙ ap (position (λ b. b == 44)) is ∙ position_behind b s second) in (
       sym (take-append_seam a (44 ∷ r)) ∙ (λ i. take (place i) (is i)) ∙ take-append_seam b (44 ∷ s),
       ap (λ (l : List ℕ). drop 1 l) (sym (drop-append_seam a (44 ∷ r)) ∙ (λ i. drop (place i) (is i)) ∙ drop-append_seam b (44 ∷ s)),
     )

@@ -29,14 +29,16 @@ pub record Turn {S : Type 0} (told : Type 0) (left : S → List ℕ) (faults : S
 pub grown_feed : (old now new : Cutter) → old.taken + length now.pending + length now.text ≤ now.taken + length old.pending → PassesFeed now new →
     new.taken ≡ now.taken → old.taken + length new.pending < new.taken + length old.pending
 grown_feed old now new grown passes same =
-    let size : length now.pending ≡ length passes.piece + suc (length new.pending) = ap (λ (l : List ℕ). length l) passes.split ∙ length-append passes.piece (10 ∷ new.pending) in
+    let size : length now.pending ≡ length passes.piece + suc (length new.pending) = ap (λ (l : List ℕ). length l) passes.split
+    ∙ length-append passes.piece (10 ∷ new.pending) in
     omega (arith, grown, size, same)
 
 -- bytes that were passed without a line feed are at hand or in the line
 pub grown_none : (old now new : Cutter) → old.taken + length now.pending + length now.text ≤ now.taken + length old.pending → PassesNone now new →
     new.taken ≡ now.taken → old.taken + length new.pending + length new.text ≤ new.taken + length old.pending
 grown_none old now new grown passes same =
-    let size : length now.pending ≡ length passes.piece + length new.pending = ap (λ (l : List ℕ). length l) passes.split ∙ length-append passes.piece new.pending in
+    let size : length now.pending ≡ length passes.piece + length new.pending = ap (λ (l : List ℕ). length l) passes.split
+    ∙ length-append passes.piece new.pending in
     let text : length new.text ≤ length now.text + length passes.piece = kept-le now.text passes.piece new.text passes.text in
     omega (arith, grown, size, same, text)
 
@@ -84,7 +86,8 @@ pub limit_is_no_input : (result : Result Next LineStop) → result ≡ Err stop.
 limit_is_no_input result limit input = cc
 
 -- where a whole line is at hand, nothing was read
-pub nothing_read : {S : Type 0} (old now : Cutter) (first source : S) → ((source ≡ first) × Reached (old.pending ++ []) now []) ⊎ (whole_lines (old.pending ++ []) ≡ []) →
+pub nothing_read : {S : Type 0} (old now : Cutter) (first source : S) →
+    ((source ≡ first) × Reached (old.pending ++ []) now []) ⊎ (whole_lines (old.pending ++ []) ≡ []) →
     whole_lines old.pending ≢ [] → source ≡ first
 nothing_read old now first source (inl here) some = here.0
 nothing_read old now first source (inr none) some = absurd (some (ap whole_lines (sym (append-nil old.pending)) ∙ none))
@@ -155,4 +158,5 @@ pub more_read : (was mid now : Cutter) → was.ended ≡ false → mid.taken ≡
     (most_input + 65536 - now.taken) + (most_input + length now.pending - now.taken) + cond now.ended 0 1
     < (most_input + 65536 - was.taken) + (most_input + length was.pending - was.taken) + cond was.ended 0 1
 more_read was mid now open_end taken within is grows =
-    rw open_end (more_read_by most_input was.taken (length was.pending) now.taken (length now.pending) now.ended (rw taken at within) (rw taken at is) (λ goes_on. rw taken at (grows goes_on)))
+    rw open_end (more_read_by most_input was.taken (length was.pending) now.taken (length now.pending) now.ended (rw taken at within) (rw taken at is)
+    (λ goes_on. rw taken at (grows goes_on)))

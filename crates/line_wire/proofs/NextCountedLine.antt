@@ -134,7 +134,8 @@ answers_last next.Long rest old new left so_far dry none same ended gives = give
 answers_last next.End rest old new left so_far dry none same ended gives = (
   ap (λ (l : List ℕ). l ++ left) (same ∙ dry) ∙ none,
   ap counted_lines
-      (so_far.split ∙ ap (λ (l : List ℕ). so_far.skipped ++ (so_far.line ++ (l ++ left))) dry ∙ ap (λ (l : List ℕ). so_far.skipped ++ (so_far.line ++ l)) none ∙ ap (λ (l : List ℕ). so_far.skipped ++ l) (append-nil so_far.line))
+      (so_far.split ∙ ap (λ (l : List ℕ). so_far.skipped ++ (so_far.line ++ (l ++ left))) dry ∙ ap (λ (l : List ℕ). so_far.skipped ++ (so_far.line ++ l)) none
+      ∙ ap (λ (l : List ℕ). so_far.skipped ++ l) (append-nil so_far.line))
       ∙ so_far.passed.counted so_far.line ∙ counted-last so_far.line so_far.feedless ∙ sym (line_of-kept so_far.line) ∙ ap line_of (sym so_far.text) ∙ gives.0,
 )
 

@@ -53,9 +53,11 @@ mark-reply_bytes Full = refl
 same_average : (a b : ℤ) (c d : ℕ) → unsigned_abs a < 2 ^ 63 → unsigned_abs b < 2 ^ 63 → c < 2 ^ 64 → d < 2 ^ 64 → average a c ≡ average b d → (a ≡ b) × (c ≡ d)
 same_average a b c d low high small short is =
     let parts : (front_of a ≡ front_of b) × (rest_of c (codes "}\n") ≡ rest_of d (codes "}\n")) =
-    same_parts (front_of a) (front_of b) (rest_of c (codes "}\n")) (rest_of d (codes "}\n")) (commaless-front_of a low) (commaless-front_of b high) (sym (average_parts a c) ∙ is ∙ average_parts b d) in (
+    same_parts (front_of a) (front_of b) (rest_of c (codes "}\n")) (rest_of d (codes "}\n")) (commaless-front_of a low) (commaless-front_of b high)
+    (sym (average_parts a c) ∙ is ∙ average_parts b d) in (
       signed_decimal_injective a b (mag_below a low) (mag_below b high) (append_cancel_left (codes "{\"num\":") (signed_decimal a) (signed_decimal b) parts.0),
-      decimal_injective c d small short (append_cancel_right (decimal c) (decimal d) (codes "}\n") (append_cancel_left (codes "\"den\":") (decimal c ++ codes "}\n") (decimal d ++ codes "}\n") parts.1)),
+      decimal_injective c d small short (append_cancel_right (decimal c) (decimal d) (codes "}\n")
+          (append_cancel_left (codes "\"den\":") (decimal c ++ codes "}\n") (decimal d ++ codes "}\n") parts.1)),
     )
 
 by_mark : (r s : Reply) → mark_of r ≡ mark_of s → IsInRange r → IsInRange s → reply_bytes r ≡ reply_bytes s → r ≡ s
@@ -64,15 +66,18 @@ by_mark (Count a) (Count b) _ low high is =
 by_mark (Count a) s marks _ _ _ = absurd (omega arith)
 by_mark (Sum a) (Sum b) _ low high is =
     ap Sum
-    (signed_decimal_injective a b (mag_below a (omega (arith, low))) (mag_below b (omega (arith, high))) (same_number (codes "{\"sum\":") (signed_decimal a) (signed_decimal b) is))
+    (signed_decimal_injective a b (mag_below a (omega (arith, low))) (mag_below b (omega (arith, high)))
+    (same_number (codes "{\"sum\":") (signed_decimal a) (signed_decimal b) is))
 by_mark (Sum a) s marks _ _ _ = absurd (omega arith)
 by_mark (Avg a c) (Avg b d) _ low high is =
-    let parts : (a ≡ b) × (c ≡ d) = same_average a b c d (omega (arith, low.within)) (omega (arith, high.within)) (omega (arith, low.rows)) (omega (arith, high.rows)) is in
+    let parts : (a ≡ b) × (c ≡ d) = same_average a b c d (omega (arith, low.within)) (omega (arith, high.within)) (omega (arith, low.rows))
+    (omega (arith, high.rows)) is in
     (λ i. Avg (parts.0 i) (parts.1 i))
 by_mark (Avg a da) s marks _ _ _ = absurd (omega arith)
 by_mark (Max a) (Max b) _ low high is =
     ap Max
-    (signed_decimal_injective a b (mag_below a (omega (arith, low))) (mag_below b (omega (arith, high))) (same_number (codes "{\"max\":") (signed_decimal a) (signed_decimal b) is))
+    (signed_decimal_injective a b (mag_below a (omega (arith, low))) (mag_below b (omega (arith, high)))
+    (same_number (codes "{\"max\":") (signed_decimal a) (signed_decimal b) is))
 by_mark (Max a) s marks _ _ _ = absurd (omega arith)
 by_mark Unsafe Unsafe _ _ _ _ = refl
 by_mark Unsafe s marks _ _ _ = absurd (omega arith)

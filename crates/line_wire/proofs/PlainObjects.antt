@@ -245,11 +245,13 @@ is_string (Some s) = refl
 -- the question of a value by what is found in it
 written : (d : Data) (text word : List ℕ) (ask : Ask) (user column : Option (List ℕ)) → has_known_keys (as_object d) ≡ true
     → get (codes "user") d ≡ option_map string user → get (codes "where") d ≡ Some (string text)
-    → get (codes "ask") d ≡ Some (string word) → ask_of word ≡ Some ask → get (codes "column") d ≡ option_map string column → question_in d ≡ with_column ask (option_map string column) text
+    → get (codes "ask") d ≡ Some (string word) → ask_of word ≡ Some ask → get (codes "column") d ≡ option_map string column →
+    question_in d ≡ with_column ask (option_map string column) text
 unfolding question_in
 written d text word ask user column known is_user is_where is_ask asks is_column =
     ap
-    (λ b. if b then asked_with (option_and_then as_str (get (codes "where") d)) (option_and_then ask_of (option_and_then as_str (get (codes "ask") d))) (get (codes "column") d) else None)
+    (λ b. if b then asked_with (option_and_then as_str (get (codes "where") d)) (option_and_then ask_of (option_and_then as_str (get (codes "ask") d)))
+    (get (codes "column") d) else None)
     (and_from _ _ known (ap may_be_text is_user ∙ is_string user))
     ∙ ap (λ o. asked_with (option_and_then as_str o) (option_and_then ask_of (option_and_then as_str (get (codes "ask") d))) (get (codes "column") d)) is_where
     ∙ ap (λ o. asked_with (Some text) (option_and_then ask_of (option_and_then as_str o)) (get (codes "column") d)) is_ask

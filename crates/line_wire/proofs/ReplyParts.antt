@@ -37,7 +37,10 @@ same_line line written bytes end same ends feed tests = (to, from)
 -- a reply in range is the line's where its bytes are the line and a line feed
 pub written_line : (line written : List ℕ) (reply : Reply) (same : Bool) → IsInRange reply → written ≡ reply_bytes reply →
     IsTrue same ↔ (written ≡ line ++ 10 ∷ []) → IsTrue same ↔ IsReply line reply
-written_line line written reply same range is tests = (λ equal. record { range = range; bytes = sym (tests.0 equal) ∙ is }, λ told. tests.1 (is ∙ sym told.bytes))
+written_line line written reply same range is tests = (
+  λ equal. record { range = range; bytes = sym (tests.0 equal) ∙ is },
+  λ told. tests.1 (is ∙ sym told.bytes),
+)
 
 -- the line of a number after what names it
 pub numbered_line : (line front number : List ℕ) → line ++ 10 ∷ [] ≡ numbered front number → line ≡ front ++ (number ++ codes "}")

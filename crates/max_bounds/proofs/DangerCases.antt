@@ -97,7 +97,9 @@ module _ (answers : List Answer) (counts : List ℕ) (fewest : ℕ) (sets : List
         let cover = tells.are_least.covered a stranded.one in
         let e = cover.0 in
         let source = tells.are_least.each e cover.1 in
-        let of_table : AreRows n e.rows = subst (AreRows n) source.3 (filter-ascends 0 n (λ r. is_bound (upper_bound answers r) source.0.value) source.0.rows (all_at (λ b. AreRows n b.rows) answers source.0 are source.1)) in
+        let of_table : AreRows n e.rows = subst (AreRows n) source.3
+        (filter-ascends 0 n (λ r. is_bound (upper_bound answers r) source.0.value) source.0.rows
+        (all_at (λ b. AreRows n b.rows) answers source.0 are source.1)) in
         let only = one_row (outside rows (extremes answers a)) stranded.one_left in
         let value = cover.2 in (
           e,

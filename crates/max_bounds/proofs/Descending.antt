@@ -67,8 +67,10 @@ place_after sets x i point =
         AllByRecursion (λ b. b.value ≤ℤ x) (answers_of (drop i sets))
     after [] zero low = tt
     after [] (suc i) low = tt
-    after (y ∷ sets) zero low =
-        (let here = low 0 y (omega arith) (omega arith) in omega (arith, ints, here), after sets zero (λ k d late within. low (suc k) d (omega arith) (omega (arith, within))))
+    after (y ∷ sets) zero low = (
+      let here = low 0 y (omega arith) (omega arith) in omega (arith, ints, here),
+      after sets zero (λ k d late within. low (suc k) d (omega arith) (omega (arith, within))),
+    )
     after (y ∷ sets) (suc i) low = after sets i (λ k d late within. low (suc k) d (omega (arith, late)) (omega (arith, within)))
 
 -- a lowered set keeps its answer
@@ -84,8 +86,10 @@ lowered_descend x rows (a ∷ sets) h = (still sets h.0, lowered_descend x rows 
     still : (l : List Answer) → AllByRecursion (λ b. b.value ≤ℤ a.value) l →
         AllByRecursion (λ b. b.value ≤ℤ (lowered_set x rows a).value) (map (lowered_set x rows) l)
     still [] low = tt
-    still (b ∷ l) low =
-        (subst (λ v. (lowered_set x rows b).value ≤ℤ v) (sym (value_kept x rows a)) (subst (λ v. v ≤ℤ a.value) (sym (value_kept x rows b)) low.0), still l low.1)
+    still (b ∷ l) low = (
+      subst (λ v. (lowered_set x rows b).value ≤ℤ v) (sym (value_kept x rows a)) (subst (λ v. v ≤ℤ a.value) (sym (value_kept x rows b)) low.0),
+      still l low.1,
+    )
 
 -- one more among sets
 pub answers_inserted : (least : List AnsweredMax) (i : ℕ) (y : AnsweredMax) →
@@ -102,7 +106,8 @@ inserted_descend [] zero y h at = (tt, tt)
 inserted_descend [] (suc i) y h at = (tt, tt)
 inserted_descend (z ∷ least) zero y h at = (at.rest, h)
 inserted_descend (z ∷ least) (suc i) y h at = (
-  subst (AllByRecursion (λ b. b.value ≤ℤ z.answer)) (sym (answers_inserted least i y)) (all_inserted (λ b. b.value ≤ℤ z.answer) (answers_of least) i (answer_of y) h.0 at.front.0),
+  subst (AllByRecursion (λ b. b.value ≤ℤ z.answer)) (sym (answers_inserted least i y))
+      (all_inserted (λ b. b.value ≤ℤ z.answer) (answers_of least) i (answer_of y) h.0 at.front.0),
   inserted_descend least i y h.1 (record { front = at.front.1; rest = at.rest }),
 )
 

@@ -88,10 +88,11 @@ module _ (n : ℕ) (bound : ℕ → Option ℤ) (high : HighRows) (is : IsHigh n
 
   -- a row of the set is high, or its bound is below the cut
   high_or_below : (q : ℕ) → has_row rows q ≡ true → (has_row (intersection n rows high.rows.list) q ≡ true) ⊎ (is_at_least high.cut (bound q) ≡ false)
-  high_or_below q there = elim (is_at_least high.cut (bound q)) as (λ t. is_at_least high.cut (bound q) ≡ t → (has_row (intersection n rows high.rows.list) q ≡ true) ⊎ (t ≡ false)) [
-    | true ↦ λ e. inl (in_both n rows high.rows.list q are there (is.covers q (row_below n rows q are there) e))
-    | false ↦ λ e. inr refl
-  ] refl
+  high_or_below q there = elim (is_at_least high.cut (bound q)) as
+      (λ t. is_at_least high.cut (bound q) ≡ t → (has_row (intersection n rows high.rows.list) q ≡ true) ⊎ (t ≡ false)) [
+        | true ↦ λ e. inl (in_both n rows high.rows.list q are there (is.covers q (row_below n rows q are there) e))
+        | false ↦ λ e. inr refl
+      ] refl
 
   -- where one of the high rows reaches the cut, they tell whether one row is highest
   pub same_highest : (q : ℕ) → has_row (intersection n rows high.rows.list) q ≡ true → is_at_least high.cut (bound q) ≡ true →
@@ -114,8 +115,11 @@ module _ (n : ℕ) (bound : ℕ → Option ℤ) (high : HighRows) (is : IsHigh n
             let top : is_at_least high.cut (bound r) ≡ true = elim (cases_eq q r) [
               | inl same ↦ ap (λ p. is_at_least high.cut (bound p)) (sym same) ∙ reaches
               | inr apart ↦ above_cut (bound q) (bound r) reaches (one.2 q (of_both n rows high.rows.list q there) apart)
-            ] in
-            (r, in_both n rows high.rows.list r are one.1 (is.covers r (row_below n rows r are one.1) top), λ p here apart. one.2 p (of_both n rows high.rows.list p here) apart)),
+            ] in (
+              r,
+              in_both n rows high.rows.list r are one.1 (is.covers r (row_below n rows r are one.1) top),
+              λ p here apart. one.2 p (of_both n rows high.rows.list p here) apart,
+            )),
       )
 
 -- a number that a row gets for its bound is not above the one before
@@ -151,7 +155,8 @@ all_inserted P (y ∷ xs) (suc i) x all p = (all.0, all_inserted P xs i x all.1 
 -- the high rows of a cut stay so without rows whose bounds are below it
 pub low_leave : (n : ℕ) (bound : ℕ → Option ℤ) (before after : HighRows) (answer : ℤ) (others rows : List ℕ) → after.rows.n ≡ before.rows.n →
     after.cut ≡ before.cut →
-    after.rows.list ≡ intersection before.rows.n before.rows.list others → others ≡ complement n rows → answer <ℤ before.cut → AreLow bound answer rows → IsHigh n bound before → IsHigh n bound after
+    after.rows.list ≡ intersection before.rows.n before.rows.list others → others ≡ complement n rows → answer <ℤ before.cut → AreLow bound answer rows →
+    IsHigh n bound before → IsHigh n bound after
 low_leave n bound before after answer others rows same cut both are higher low is = record {
   same_n = same ∙ is.same_n;
   covers = λ r below reaches.

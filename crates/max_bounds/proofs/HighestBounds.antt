@@ -122,7 +122,11 @@ module _ (bound : ℕ → Option ℤ) where
     pub highest_below : bound q ≢ highest → (IsBelowBound highest (bound q) → ⊥) → IsHighest bound (seen ++ q ∷ []) highest alone
     highest_below apart not = record {
       most =
-          λ p there. elim (has-push seen q p there) [ inl front ↦ so_far.most p front | inr last ↦ inr (subst (λ o. IsBelowBound o highest) (ap bound last) below) ];
+          λ p there. elim (has-push seen q p there) [
+            | inl front ↦ so_far.most p front
+            | inr last ↦
+                inr (subst (λ o. IsBelowBound o highest) (ap bound last) below)
+          ];
       have = still alone so_far.have;
     }
       where
@@ -135,7 +139,11 @@ module _ (bound : ℕ → Option ℤ) where
           has = has-front seen q have.row have.has;
           is = have.is;
           others =
-              λ p there other. elim (has-push seen q p there) [ inl front ↦ have.others p front other | inr last ↦ subst (λ o. IsBelowBound o highest) (ap bound last) below ];
+              λ p there other. elim (has-push seen q p there) [
+                | inl front ↦ have.others p front other
+                | inr last ↦
+                    subst (λ o. IsBelowBound o highest) (ap bound last) below
+              ];
         }
         still false have = record {
           one = have.one;
@@ -154,7 +162,8 @@ module _ (bound : ℕ → Option ℤ) where
     two_free rows within same free fresh (r, there, alone') =
         let found = some_has seen highest alone so_far.have in
         elim (cases_eq found.0 r) [
-          | inl e ↦ subst (λ o. IsBelowBound o (bound r)) (same ∙ free) (alone' q (within q (has-last seen q)) (λ f. true≢false (sym found.1 ∙ ap (has_row seen) (e ∙ sym f) ∙ fresh)))
+          | inl e ↦ subst (λ o. IsBelowBound o (bound r)) (same ∙ free)
+              (alone' q (within q (has-last seen q)) (λ f. true≢false (sym found.1 ∙ ap (has_row seen) (e ∙ sym f) ∙ fresh)))
           | inr apart ↦ subst (λ o. IsBelowBound o (bound r)) (found.2 ∙ free) (alone' found.0 (within found.0 (has-front seen q found.0 found.1)) apart)
         ]
 

@@ -62,8 +62,10 @@ module _ (seen : List Answer) (rows : List ℕ) (x : Answer) where
     | inl front ↦ h b front
     | inr last ↦ subst (λ (y : Answer). 1 < length (left_of rows y)) last more
   ]
-  lost_more (AllButOne v) h more =
-      ((h.0.0, stranded-push h.0.0 h.0.1 (λ whole. let short = none (left_of rows x) whole in absurd (omega arith)), h.0.2), most-push v h.1 (λ few. absurd (omega arith)))
+  lost_more (AllButOne v) h more = (
+    (h.0.0, stranded-push h.0.0 h.0.1 (λ whole. let short = none (left_of rows x) whole in absurd (omega arith)), h.0.2),
+    most-push v h.1 (λ few. absurd (omega arith)),
+  )
   lost_more (Whole v) h more = ((h.0.0, one_of_front seen x h.0.0 h.0.1, h.0.2, h.0.3), most-push v h.1 (λ few. absurd (omega arith)))
 
   -- a set of which one row is left

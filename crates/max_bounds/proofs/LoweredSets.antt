@@ -23,7 +23,8 @@ same_test false false f g = refl
 -- the rows of a list that are among the others than a set's are those outside the set
 pub outside_is : (n : ℕ) (set rows : List ℕ) → AreRows n rows → intersection n rows (complement n set) ≡ outside set rows
 outside_is n set rows are = ascending_same 0 n n (intersection n rows (complement n set)) (outside set rows)
-    (AreRows-rows_that (λ r. has_row rows r && has_row (complement n set) r) n) (filter-ascends 0 n (λ r. not (has_row set r)) rows are) (λ r. elim (cases_lt r n) [
+    (AreRows-rows_that (λ r. has_row rows r && has_row (complement n set) r) n) (filter-ascends 0 n (λ r. not (has_row set r)) rows are)
+    (λ r. elim (cases_lt r n) [
       | inl below ↦
           has-rows_that (λ q. has_row rows q && has_row (complement n set) q) n r below
           ∙ ap (λ b. has_row rows r && b) (has-rows_that (λ q. not (has_row set q)) n r below)

@@ -38,7 +38,8 @@ row_lowered a q r rest bounds below = elim (cases_eq q r) [
       let here : (q == r) ≡ true = eq-eqb q r same in
       rw (at, here) (lowered_again a (bound_at bounds r) (has_row rest r))
   | inr apart ↦
-      let at : bound_at (set bounds q (Some (least_of a (get_or bounds q None)))) r ≡ bound_at bounds r = get_or-set_other bounds q r (Some (least_of a (get_or bounds q None))) None (λ e. apart (sym e)) in
+      let at : bound_at (set bounds q (Some (least_of a (get_or bounds q None)))) r ≡ bound_at bounds r =
+      get_or-set_other bounds q r (Some (least_of a (get_or bounds q None))) None (λ e. apart (sym e)) in
       let there : (q == r) ≡ false = ne_eqb q r apart in
       rw (at, there) refl
 ]

@@ -121,7 +121,8 @@ module _ (answers : List Answer) (rows : List ℕ) (x : ℤ) where
         let one = filter-has test falling r there in
         let two = filter-has (λ q. is_above x (upper_bound answers q)) rows r one.0 in
         has-filter (has_row rows) (extremes answers a) r
-        (has-filter (λ q. is_bound (upper_bound answers q) a.value) a.rows r (and_parts (has_row a.rows r) (is_bound (upper_bound answers r) a.value) one.1).0 (and_parts (has_row a.rows r) (is_bound (upper_bound answers r) a.value) one.1).1)
+        (has-filter (λ q. is_bound (upper_bound answers q) a.value) a.rows r (and_parts (has_row a.rows r) (is_bound (upper_bound answers r) a.value) one.1).0
+        (and_parts (has_row a.rows r) (is_bound (upper_bound answers r) a.value) one.1).1)
         two.0))
 
     -- none of another's falls
@@ -141,7 +142,8 @@ module _ (answers : List Answer) (rows : List ℕ) (x : ℤ) where
     next_count a one of_table = by_lt_z x a.value
         (λ less.
         let parts = length-filter_both (has_row rows) (λ r. not (has_row rows r)) (λ r. refl) (extremes answers a) in
-        let falls : length (filter (has_row rows) (extremes answers a)) ≡ length (falls_of (upper_bound answers) (rows_above (upper_bound answers) x rows) a) = ap length (inside a of_table less) in
+        let falls : length (filter (has_row rows) (extremes answers a)) ≡ length (falls_of (upper_bound answers) (rows_above (upper_bound answers) x rows) a) =
+        ap length (inside a of_table less) in
         let stay : length (extremes more a) ≡ length (outside rows (extremes answers a)) = ap length (higher_loses answers rows x a one less) in
         (omega arith, omega arith))
         (λ not.
@@ -194,8 +196,13 @@ module _ (answers : List Answer) (rows : List ℕ) (x : ℤ) where
   least_lowered sets h = record {
     each = λ e' one.
         let from = from_map sets e' one in
-        let found = h.each from.0 from.1 in
-        (found.0, found.1, found.2 ∙ sym (lowered_value from.0) ∙ ap (λ (b : Answer). b.value) from.2, lowered_extremes found.0 from.0 found.1 found.2 found.3 ∙ ap (λ (b : Answer). b.rows) from.2);
+        let found = h.each from.0 from.1 in (
+          found.0,
+          found.1,
+          found.2 ∙ sym (lowered_value from.0) ∙ ap (λ (b : Answer). b.value) from.2,
+          lowered_extremes found.0 from.0 found.1 found.2 found.3
+              ∙ ap (λ (b : Answer). b.rows) from.2,
+        );
     covered = λ a one.
         let found = h.covered a one in
         (lowered_set x rows found.0, to_map sets found.0 found.1, lowered_value found.0 ∙ found.2, lowered_fewer a found.0 one found.2 found.3);
@@ -217,7 +224,13 @@ module _ (answers : List Answer) (rows : List ℕ) (x : ℤ) where
   least_inserted sets place own is h = record {
     each = λ e one. elim (one_of_inserted sets place (record { rows = own; value = x }) e one) [
       | inl other ↦ let found = h.each e other in (found.0, one_of_front answers (asked answers rows x) found.0 found.1, found.2, found.3)
-      | inr this ↦ (asked answers rows x, one_of_last answers (asked answers rows x), ap (λ (b : Answer). b.value) this, sym is ∙ ap (λ (b : Answer). b.rows) this)
+      | inr this ↦ (
+        asked answers rows x,
+        one_of_last answers (asked answers rows x),
+        ap (λ (b : Answer). b.value) this,
+        sym is
+            ∙ ap (λ (b : Answer). b.rows) this,
+      )
     ];
     covered = λ a one. elim (front_or_last answers (asked answers rows x) a one) [
       | inl front ↦ let found = h.covered a front in (found.0, inserted_has sets place (record { rows = own; value = x }) found.0 found.1, found.2, found.3)

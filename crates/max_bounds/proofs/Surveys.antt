@@ -126,5 +126,6 @@ module _ (bound : ℕ → Option ℤ) where
           | inl front ↦ inl (a, front, is)
           | inr last ↦ inr (ap (λ (y : Answer). reaching bound y.rows y.value) last ∙ is)
         ])
-        (lesser_is_least (IsAlone bound answers) (λ r. reaching bound x.rows x.value ≡ r ∷ []) trial.lone only h.lone (subst (IsLeast (λ r. reaching bound x.rows x.value ≡ r ∷ [])) (sym alone) (lone_is_least (reaching bound x.rows x.value)))));
+        (lesser_is_least (IsAlone bound answers) (λ r. reaching bound x.rows x.value ≡ r ∷ []) trial.lone only h.lone
+        (subst (IsLeast (λ r. reaching bound x.rows x.value ≡ r ∷ [])) (sym alone) (lone_is_least (reaching bound x.rows x.value)))));
   }

@@ -150,7 +150,8 @@ counted-same test rows r count is fails = is ∙ ap length (sym (append-nil (fil
 -- what passed so far is no more than what passes
 pub no_more : (test : ℕ → Bool) (seen later rows : List ℕ) → seen ++ later ≡ rows → length (filter test seen) ≤ length (filter test rows)
 no_more test seen later rows together =
-    let apart : length (filter test rows) ≡ length (filter test seen ++ filter test later) = ap (λ l. length (filter test l)) (sym together) ∙ ap length (filter-append test seen later) in
+    let apart : length (filter test rows) ≡ length (filter test seen ++ filter test later) = ap (λ l. length (filter test l)) (sym together)
+    ∙ ap length (filter-append test seen later) in
     let longer = length-append (filter test seen) (filter test later) in
     omega arith
 

@@ -52,13 +52,20 @@ module _ (columns : List Column) where
   -- each bracket that is open can be closed
   closes : (n : ℕ) (ts : List Token) (fs : List Frame) (ors ands : Option Tree) (p : Tree) → length fs ≤ n → Written columns ts (build fs ors ands (behind p)) →
       BeginPredicate columns ts
-  closes n ts [] ors ands p few w =
-      ([], (add_or ors p, built_written columns (ts ++ []) [] ors ands (behind p) (add_or ors p) (subst (λ (xs : List Token). Written columns xs (build [] ors ands (behind p))) (sym (append-nil ts)) w) refl))
+  closes n ts [] ors ands p few w = (
+    [],
+    (
+      add_or ors p,
+      built_written columns (ts ++ []) [] ors ands (behind p) (add_or ors p)
+          (subst (λ (xs : List Token). Written columns xs (build [] ors ands (behind p))) (sym (append-nil ts)) w) refl,
+    ),
+  )
   closes zero ts (f ∷ fs) ors ands p few w = absurd (omega (arith, few))
   closes (suc n) ts (a_not ∷ fs) ors ands p few w = absurd (false≢true (sym w.stands.0))
   closes (suc n) ts (a_bracket o a ∷ fs) ors ands p few w =
       less ts close_bracket
-      (closes n (ts ++ close_bracket ∷ []) (without_nots fs) o None (add_and a (negated fs (add_or ors p))) (omega (arith, few, length-without fs)) (close_written columns ts fs o a ors ands p w))
+      (closes n (ts ++ close_bracket ∷ []) (without_nots fs) o None (add_and a (negated fs (add_or ors p))) (omega (arith, few, length-without fs))
+      (close_written columns ts fs o a ors ands p w))
 
   -- after a whole operand
   behind_operand : (ts : List Token) (fs : List Frame) (ors ands : Option Tree) (p : Tree) → Written columns ts (whole fs ors ands p) →
@@ -78,7 +85,8 @@ module _ (columns : List Column) where
   at_a_comma ts fs ors ands c ls w =
       let l = some_literal (role_at columns c) in
       less ts (value l)
-      (at_a_literal (ts ++ value l ∷ []) fs ors ands c (ls ++ l ∷ []) (put_written columns ts fs ors ands (at_comma c ls) (value l) w (has_literal (role_at columns c) w.stands.named.public)))
+      (at_a_literal (ts ++ value l ∷ []) fs ors ands c (ls ++ l ∷ [])
+      (put_written columns ts fs ors ands (at_comma c ls) (value l) w (has_literal (role_at columns c) w.stands.named.public)))
 
   -- a literal may stand after an operator
   at_an_operator : (ts : List Token) (fs : List Frame) (ors ands : Option Tree) (c : ℕ) (o : Op) → Written columns ts (build fs ors ands (at_operator c o)) →
@@ -87,7 +95,8 @@ module _ (columns : List Column) where
       let l = some_literal (role_at columns c) in
       let n = w.stands.0 in
       less ts (value l)
-      (behind_operand (ts ++ value l ∷ []) fs ors ands (compared c o l) (put_written columns ts fs ors ands (at_operator c o) (value l) w (has_literal (role_at columns c) n.public)))
+      (behind_operand (ts ++ value l ∷ []) fs ors ands (compared c o l)
+      (put_written columns ts fs ors ands (at_operator c o) (value l) w (has_literal (role_at columns c) n.public)))
 
   -- from wherever the machine stands
   completes : (ts : List Token) (fs : List Frame) (ors ands : Option Tree) (stand : Stand) → Written columns ts (build fs ors ands stand) →
@@ -96,7 +105,8 @@ module _ (columns : List Column) where
       less ts all_word (behind_operand (ts ++ all_word ∷ []) fs ors ands all_rows (put_written columns ts fs ors ands at_operand all_word w refl))
   completes ts fs ors ands (at_name c) w =
       less ts (operator op.Eq)
-      (at_an_operator (ts ++ operator op.Eq ∷ []) fs ors ands c op.Eq (put_written columns ts fs ors ands (at_name c) (operator op.Eq) w (has_equal (role_at columns c) w.stands.public)))
+      (at_an_operator (ts ++ operator op.Eq ∷ []) fs ors ands c op.Eq
+      (put_written columns ts fs ors ands (at_name c) (operator op.Eq) w (has_equal (role_at columns c) w.stands.public)))
   completes ts fs ors ands (at_operator c o) w = at_an_operator ts fs ors ands c o w
   completes ts fs ors ands (at_in c) w =
       less ts open_bracket (at_a_comma (ts ++ open_bracket ∷ []) fs ors ands c [] (put_written columns ts fs ors ands (at_in c) open_bracket w refl))

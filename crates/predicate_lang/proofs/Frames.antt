@@ -48,8 +48,11 @@ some_opened (o ∷ os) h = omega arith
 pub frames_under_not : (os : List Opened) → is_under_not (frames_of os) ≡ true → (0 < length os) × (frames_of os ≡ a_not ∷ frames_of (take (length os - 1) os))
 frames_under_not os h =
     let some = some_opened os h in
-    let last = frames_of_last os opened.Not some in
-    (some, last ∙ ap (λ f. f ∷ frames_of (take (length os - 1) os)) (first_not (frame_of (get_or os (length os - 1) opened.Not)) (frames_of (take (length os - 1) os)) (ap is_under_not (sym last) ∙ h)))
+    let last = frames_of_last os opened.Not some in (
+      some,
+      last ∙ ap (λ f. f ∷ frames_of (take (length os - 1) os))
+          (first_not (frame_of (get_or os (length os - 1) opened.Not)) (frames_of (take (length os - 1) os)) (ap is_under_not (sym last) ∙ h)),
+    )
 
 -- where no `not` stands before the operand, none ends with it
 pub without_nots_bracket : (fs : List Frame) → is_under_not fs ≡ false → without_nots fs ≡ fs

@@ -51,9 +51,13 @@ pub name_boundary : (text : List ℕ) (at n : ℕ) → IsUtf8 text → at < leng
     n ≡ length (take_while is_name_byte (drop (at + 1) text)) → n ≤ length (drop (at + 1) text) → IsCharBoundary text (at + 1 + n)
 name_boundary text at n utf8 inside letter is within =
     let from_there : IsUtf8 (drop at text) = IsUtf8-drop text at utf8 (IsCharBoundary-before_ascii text at inside (letter_ascii (get_or text at 0) letter)) in
-    let word : take (at + 1 + n - at) (drop at text) ≡ get_or text at 0 ∷ take_while is_name_byte (drop (at + 1) text) = take_front is_name_byte text at n inside is in
-    let ascii : IsAscii (take (at + 1 + n - at) (drop at text)) = subst IsAscii (sym word) (IsAscii-cons (get_or text at 0) (take_while is_name_byte (drop (at + 1) text)) (letter_ascii (get_or text at 0) letter) (name_ascii (drop (at + 1) text))) in
+    let word : take (at + 1 + n - at) (drop at text) ≡ get_or text at 0 ∷ take_while is_name_byte (drop (at + 1) text) =
+    take_front is_name_byte text at n inside is in
+    let ascii : IsAscii (take (at + 1 + n - at) (drop at text)) =
+    subst IsAscii (sym word) (IsAscii-cons (get_or text at 0) (take_while is_name_byte (drop (at + 1) text)) (letter_ascii (get_or text at 0) letter)
+    (name_ascii (drop (at + 1) text))) in
     let fits : at + 1 + n - at ≤ length (drop at text) = omega (arith, length-drop at text, length-drop (at + 1) text) in
-    let here : IsCharBoundary (drop at text) (at + 1 + n - at) = IsCharBoundary-from_take (drop at text) (at + 1 + n - at) from_there fits (IsUtf8-from_ascii (take (at + 1 + n - at) (drop at text)) ascii) in
+    let here : IsCharBoundary (drop at text) (at + 1 + n - at) =
+    IsCharBoundary-from_take (drop at text) (at + 1 + n - at) from_there fits (IsUtf8-from_ascii (take (at + 1 + n - at) (drop at text)) ascii) in
     let sum : at + (at + 1 + n - at) ≡ at + 1 + n = omega arith in
     subst (IsCharBoundary text) sum (IsCharBoundary-from_rest text at (at + 1 + n - at) (omega arith) here)

@@ -85,7 +85,8 @@ all_below n zero at bytes fits = below_none n
 all_below n (suc t) at [] fits = below_none n
 all_below n (suc t) at (b ∷ bytes) fits =
     at_blank n t at bytes (is_blank b) (front_token b bytes) (fits (omega arith))
-    (λ k. all_below n t (at + 1 + k) (drop k bytes) (λ some. (let whole : at + suc (length bytes) ≤ n = fits (omega arith) in omega (arith, whole, length-drop k bytes, some))))
+    (λ k. all_below n t (at + 1 + k) (drop k bytes) (λ some.
+    (let whole : at + suc (length bytes) ≤ n = fits (omega arith) in omega (arith, whole, length-drop k bytes, some))))
   where
     at_front : (n t at : ℕ) (bytes : List ℕ) (o : Option Front) → at + suc (length bytes) ≤ n →
         ((k : ℕ) → AllBelow n (lex_from t (at + 1 + k) (drop k bytes))) → AllBelow n (lex_front at o (λ k. lex_from t (at + 1 + k) (drop k bytes)))
@@ -198,8 +199,10 @@ front_runs columns x y s h = go (run columns x (Some start)) (sym (run-append co
 read_begin : (columns : List Column) (front rest : List Placed) (k : ℕ) (s : Build) → run columns (tokens_of front) (Some start) ≡ Some s → k < length front →
     BeginPredicate columns (tokens_of (take (k + 1) (front ++ rest)))
 read_begin columns front rest k s runs low =
-    let split : tokens_of front ≡ tokens_of (take (k + 1) front) ++ tokens_of (drop (k + 1) front) = ap tokens_of (sym (take-append-drop (k + 1) front)) ∙ map-append (λ (p : Placed). p.token) (take (k + 1) front) (drop (k + 1) front) in
-    let begin = goes_on_predicate columns (tokens_of (take (k + 1) front)) (front_runs columns (tokens_of (take (k + 1) front)) (tokens_of (drop (k + 1) front)) s (ap (λ ts. run columns ts (Some start)) (sym split) ∙ runs)) in
+    let split : tokens_of front ≡ tokens_of (take (k + 1) front) ++ tokens_of (drop (k + 1) front) = ap tokens_of (sym (take-append-drop (k + 1) front))
+    ∙ map-append (λ (p : Placed). p.token) (take (k + 1) front) (drop (k + 1) front) in
+    let begin = goes_on_predicate columns (tokens_of (take (k + 1) front))
+    (front_runs columns (tokens_of (take (k + 1) front)) (tokens_of (drop (k + 1) front)) s (ap (λ ts. run columns ts (Some start)) (sym split) ∙ runs)) in
     subst (λ (ps : List Placed). BeginPredicate columns (tokens_of ps)) (sym (take-append-le (k + 1) front rest (omega arith))) begin
 
 -- ---- the least offset
@@ -213,7 +216,8 @@ none_before columns text from count n b read few within all other (unfit k p is 
     go : Where read.front (lexed_from text from).tokens k p → n ≤ p.at
     go (among_read low) =
         absurd
-        (none (subst (λ (ps : List Placed). BeginPredicate columns (tokens_of (take (k + 1) ps))) (sym (tokens_are columns text from count b read)) (read_begin columns read.front (lexed_from text from).tokens k (b) read.builds low)))
+        (none (subst (λ (ps : List Placed). BeginPredicate columns (tokens_of (take (k + 1) ps))) (sym (tokens_are columns text from count b read))
+        (read_begin columns read.front (lexed_from text from).tokens k (b) read.builds low)))
     go (among_rest j here high) = all.tokens j p here
 none_before columns text from count n b read few within all other (too_many p is) =
     go (where_is read.front (lexed_from text from).tokens 512 p (ap (λ ps. slice_get ps 512) (sym (tokens_are columns text from count b read)) ∙ is))
@@ -229,14 +233,17 @@ next_all : (columns : List Column) (text : List ℕ) (from : ℕ) (l : Lexeme) �
 next_all columns text from l next =
     let longer : l.at < l.end = next.longer in
     subst (AllFrom l.at) (sym next.lexed)
-    (from_token l.at l.at next.token (lexed_from text l.end) (omega arith) (from_lower l.end l.at (lexed_from text l.end) (omega (arith, longer)) (lexed_from_rises text l.end)))
+    (from_token l.at l.at next.token (lexed_from text l.end) (omega arith)
+    (from_lower l.end l.at (lexed_from text l.end) (omega (arith, longer)) (lexed_from_rises text l.end)))
 
 -- the next token is the one after those that were read
-next_there : (columns : List Column) (text : List ℕ) (from count : ℕ) (b : Build) (l : Lexeme) (read : HasRead columns text from count b) (next : IsNext columns text from l) →
+next_there : (columns : List Column) (text : List ℕ) (from count : ℕ) (b : Build) (l : Lexeme) (read : HasRead columns text from count b)
+    (next : IsNext columns text from l) →
     (lexed text).tokens ≡ read.front ++ placed next.token l.at ∷ (lexed_from text l.end).tokens
 next_there columns text from count b l read next = tokens_are columns text from count b read ∙ ap (λ (m : Lexed). read.front ++ m.tokens) next.lexed
 
-next_at : (columns : List Column) (text : List ℕ) (from count : ℕ) (b : Build) (l : Lexeme) (read : HasRead columns text from count b) (next : IsNext columns text from l) →
+next_at : (columns : List Column) (text : List ℕ) (from count : ℕ) (b : Build) (l : Lexeme) (read : HasRead columns text from count b)
+    (next : IsNext columns text from l) →
     slice_get (lexed text).tokens count ≡ Some (placed next.token l.at)
 next_at columns text from count b l read next =
     ap (slice_get (lexed text).tokens) (sym read.many) ∙ ap (λ ps. slice_get ps (length read.front)) (next_there columns text from count b l read next)
@@ -247,7 +254,8 @@ pub unfit_there : (columns : List Column) (text : List ℕ) (from count : ℕ) (
     IsNext columns text from l → may_put columns b l.token ≡ false → IsPlace columns text l.at
 unfit_there columns text from count b l read few next may =
     let p = placed next.token l.at in
-    let up_to : take (count + 1) (lexed text).tokens ≡ read.front ++ p ∷ [] = ap (λ n. take (n + 1) (lexed text).tokens) (sym read.many) ∙ ap (take (length read.front + 1)) (next_there columns text from count b l read next) ∙ taken read.front (lexed_from text l.end).tokens p in
+    let up_to : take (count + 1) (lexed text).tokens ≡ read.front ++ p ∷ [] = ap (λ n. take (n + 1) (lexed text).tokens) (sym read.many)
+    ∙ ap (take (length read.front + 1)) (next_there columns text from count b l read next) ∙ taken read.front (lexed_from text l.end).tokens p in
     let stopped : run columns (tokens_of (take (count + 1) (lexed text).tokens)) (Some start) ≡ None =
     ap (λ ps. run columns (tokens_of ps) (Some start)) up_to
     ∙ run-push columns read.front b next.token l.at read.builds
@@ -257,7 +265,8 @@ unfit_there columns text from count b l read few next may =
     let longer : l.at < l.end = next.longer in
     record {
       refuses =
-          unfit count p (next_at columns text from count b l read next) (λ begin. false≢true (sym (ap is_some stopped) ∙ begins_runs columns (tokens_of (take (count + 1) (lexed text).tokens)) begin));
+          unfit count p (next_at columns text from count b l read next)
+          (λ begin. false≢true (sym (ap is_some stopped) ∙ begins_runs columns (tokens_of (take (count + 1) (lexed text).tokens)) begin));
       least = none_before columns text from count l.at b read few (omega (arith, inside, longer)) (next_all columns text from l next);
     }
 
@@ -293,7 +302,9 @@ pub unfinished_there : (columns : List Column) (text : List ℕ) (from count : �
 unfinished_there columns text from count b read few none no_tree =
     record {
       refuses = unfinished (stop_is columns text from count b read ∙ ap (λ (l : Lexed). l.stop) none)
-          (λ is. false≢true (sym (ap is_some no_tree) ∙ ap is_complete (sym read.builds ∙ ap (λ ps. run columns (tokens_of ps) (Some start)) (sym (all_read columns text from count b read none))) ∙ predicate_completes columns (tokens_of (lexed text).tokens) is));
+          (λ is. false≢true (sym (ap is_some no_tree) ∙ ap is_complete
+          (sym read.builds ∙ ap (λ ps. run columns (tokens_of ps) (Some start)) (sym (all_read columns text from count b read none)))
+          ∙ predicate_completes columns (tokens_of (lexed text).tokens) is));
       least = none_before columns text from count (length text) b read few (omega arith) (subst (AllFrom (length text)) (sym none) (from_none (length text)));
     }
 
@@ -322,7 +333,8 @@ pub refused_means_nothing : (columns : List Column) (text : List ℕ) (t : Tree)
 refused_means_nothing columns text t at means (unfit k p is none) =
     none (
       tokens_of (drop (k + 1) (lexed text).tokens),
-      subst (IsPredicate columns) (ap tokens_of (sym (take-append-drop (k + 1) (lexed text).tokens)) ∙ map-append (λ (q : Placed). q.token) (take (k + 1) (lexed text).tokens) (drop (k + 1) (lexed text).tokens)) (t, means.writes),
+      subst (IsPredicate columns) (ap tokens_of (sym (take-append-drop (k + 1) (lexed text).tokens))
+          ∙ map-append (λ (q : Placed). q.token) (take (k + 1) (lexed text).tokens) (drop (k + 1) (lexed text).tokens)) (t, means.writes),
     )
 refused_means_nothing columns text t at means (too_many p is) =
     let few : length (lexed text).tokens ≤ 512 = means.few in

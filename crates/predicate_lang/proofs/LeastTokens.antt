@@ -151,7 +151,8 @@ module _ (columns : List Column) where
     least_one_of room n c l ls place of_role =
         let name_is : n ≡ column_name columns c = named columns n c place in
         let found : place_of (column_name columns c) columns ≡ Some c = ap (λ m. place_of m columns) (sym name_is) ∙ place in
-        let way : Operand columns room (name (column_name columns c) ∷ in_word ∷ open_bracket ∷ value l ∷ more_literals ls) (among c (l ∷ ls)) = one_of found of_role in
+        let way : Operand columns room (name (column_name columns c) ∷ in_word ∷ open_bracket ∷ value l ∷ more_literals ls) (among c (l ∷ ls)) =
+        one_of found of_role in
         record { alone = conj (unit way); in_or_writes = unit way; writes = way; light = omega (arith, ap (λ m. w (name m)) name_is) }
 
     mutual
@@ -165,7 +166,13 @@ module _ (columns : List Column) where
           record {
             writes = or_conj left.writes right.writes;
             light =
-                omega (arith, left.light, right.light, total-append w (print_tokens columns p) (or_word ∷ bracketed (is_or q) (print_tokens columns q)), total-append w xs (or_word ∷ ys));
+                omega (
+                  arith,
+                  left.light,
+                  right.light,
+                  total-append w (print_tokens columns p) (or_word ∷ bracketed (is_or q) (print_tokens columns q)),
+                  total-append w xs (or_word ∷ ys),
+                );
           }
 
       least_in_or : (room : ℕ) (us : List Token) (t : Tree) → Conjunction columns room us t → LeastInOr room us t
@@ -180,7 +187,14 @@ module _ (columns : List Column) where
             alone = conj way;
             writes = way;
             light =
-                omega (arith, left.light, right.light, total-append w (bracketed (is_or p) (print_tokens columns p)) (and_word ∷ bracketed (is_or_and q) (print_tokens columns q)), total-append w xs (and_word ∷ ys));
+                omega (
+                  arith,
+                  left.light,
+                  right.light,
+                  total-append w (bracketed (is_or p) (print_tokens columns p))
+                      (and_word ∷ bracketed (is_or_and q) (print_tokens columns q)),
+                  total-append w xs (and_word ∷ ys),
+                );
           }
 
       least_in_and : (room : ℕ) (us : List Token) (t : Tree) → Operand columns room us t → LeastInAnd room us t

@@ -16,7 +16,8 @@ same_step t u at b bytes same = at_blank (is_blank b)
     at_front (Some f) = ap (with_token f.token at) (same f.more (at + 1 + f.more))
 
     at_blank : (blank : Bool) →
-        cond blank (lex_from t (at + 1) bytes) (lex_front at (front_token b bytes) (λ n. lex_from t (at + 1 + n) (drop n bytes))) ≡ cond blank (lex_from u (at + 1) bytes) (lex_front at (front_token b bytes) (λ n. lex_from u (at + 1 + n) (drop n bytes)))
+        cond blank (lex_from t (at + 1) bytes) (lex_front at (front_token b bytes) (λ n. lex_from t (at + 1 + n) (drop n bytes))) ≡ cond blank
+        (lex_from u (at + 1) bytes) (lex_front at (front_token b bytes) (λ n. lex_from u (at + 1 + n) (drop n bytes)))
     at_blank true = same 0 (at + 1)
     at_blank false = at_front (front_token b bytes)
 
@@ -45,7 +46,8 @@ pub lexed_from_blank : (text : List ℕ) (at : ℕ) → at < length text → is_
 lexed_from_blank text at inside blank =
     sym (lexed_from_step text at inside
     ∙ ap
-    (λ b. cond b (lex_from (length text) (at + 1) (drop (at + 1) text)) (lex_front at (front_token (get_or text at 0) (drop (at + 1) text)) (λ n. lex_from (length text) (at + 1 + n) (drop n (drop (at + 1) text))))) blank
+    (λ b. cond b (lex_from (length text) (at + 1) (drop (at + 1) text))
+    (lex_front at (front_token (get_or text at 0) (drop (at + 1) text)) (λ n. lex_from (length text) (at + 1 + n) (drop n (drop (at + 1) text))))) blank
     ∙ one_less text (at + 1) (omega arith) (omega arith))
 
 -- what isn't blank is looked at as a token
@@ -55,7 +57,8 @@ lexed_from_front : (text : List ℕ) (at : ℕ) → at < length text → is_blan
 lexed_from_front text at inside solid =
     lexed_from_step text at inside
     ∙ ap
-    (λ b. cond b (lex_from (length text) (at + 1) (drop (at + 1) text)) (lex_front at (front_token (get_or text at 0) (drop (at + 1) text)) (λ n. lex_from (length text) (at + 1 + n) (drop n (drop (at + 1) text))))) solid
+    (λ b. cond b (lex_from (length text) (at + 1) (drop (at + 1) text))
+    (lex_front at (front_token (get_or text at 0) (drop (at + 1) text)) (λ n. lex_from (length text) (at + 1 + n) (drop n (drop (at + 1) text))))) solid
 
 -- a token, and then those after it
 pub lexed_from_token : (text : List ℕ) (at : ℕ) (f : Front) → at < length text → is_blank (get_or text at 0) ≡ false

@@ -19,14 +19,16 @@ pub front_of_letter : (b : ℕ) (bytes : List ℕ) → is_ascii_alphabetic b ≡
 unfolding front_token
 front_of_letter b bytes h =
     ap
-    (λ t. cond t (word_front b bytes) (cond (is_ascii_digit b || (b == 45)) (number_front b bytes) (cond (b == 39) (text_front (quoted false bytes)) (mark_front b bytes)))) h
+    (λ t. cond t (word_front b bytes) (cond (is_ascii_digit b || (b == 45)) (number_front b bytes)
+    (cond (b == 39) (text_front (quoted false bytes)) (mark_front b bytes)))) h
 
 pub front_of_number : (b : ℕ) (bytes : List ℕ) → is_ascii_alphabetic b ≡ false → (is_ascii_digit b || (b == 45)) ≡ true →
     front_token b bytes ≡ number_front b bytes
 unfolding front_token
 front_of_number b bytes h i =
     ap
-    (λ t. cond t (word_front b bytes) (cond (is_ascii_digit b || (b == 45)) (number_front b bytes) (cond (b == 39) (text_front (quoted false bytes)) (mark_front b bytes)))) h
+    (λ t. cond t (word_front b bytes) (cond (is_ascii_digit b || (b == 45)) (number_front b bytes)
+    (cond (b == 39) (text_front (quoted false bytes)) (mark_front b bytes)))) h
     ∙ ap (λ t. cond t (number_front b bytes) (cond (b == 39) (text_front (quoted false bytes)) (mark_front b bytes))) i
 
 pub front_of_quote : (b : ℕ) (bytes : List ℕ) → is_ascii_alphabetic b ≡ false → (is_ascii_digit b || (b == 45)) ≡ false → (b == 39) ≡ true →
@@ -34,7 +36,8 @@ pub front_of_quote : (b : ℕ) (bytes : List ℕ) → is_ascii_alphabetic b ≡ 
 unfolding front_token
 front_of_quote b bytes h i j =
     ap
-    (λ t. cond t (word_front b bytes) (cond (is_ascii_digit b || (b == 45)) (number_front b bytes) (cond (b == 39) (text_front (quoted false bytes)) (mark_front b bytes)))) h
+    (λ t. cond t (word_front b bytes) (cond (is_ascii_digit b || (b == 45)) (number_front b bytes)
+    (cond (b == 39) (text_front (quoted false bytes)) (mark_front b bytes)))) h
     ∙ ap (λ t. cond t (number_front b bytes) (cond (b == 39) (text_front (quoted false bytes)) (mark_front b bytes))) i
     ∙ ap (λ t. cond t (text_front (quoted false bytes)) (mark_front b bytes)) j
 
@@ -43,7 +46,8 @@ pub front_of_mark : (b : ℕ) (bytes : List ℕ) → is_ascii_alphabetic b ≡ f
 unfolding front_token
 front_of_mark b bytes h i j =
     ap
-    (λ t. cond t (word_front b bytes) (cond (is_ascii_digit b || (b == 45)) (number_front b bytes) (cond (b == 39) (text_front (quoted false bytes)) (mark_front b bytes)))) h
+    (λ t. cond t (word_front b bytes) (cond (is_ascii_digit b || (b == 45)) (number_front b bytes)
+    (cond (b == 39) (text_front (quoted false bytes)) (mark_front b bytes)))) h
     ∙ ap (λ t. cond t (number_front b bytes) (cond (b == 39) (text_front (quoted false bytes)) (mark_front b bytes))) i
     ∙ ap (λ t. cond t (text_front (quoted false bytes)) (mark_front b bytes)) j
 
@@ -53,7 +57,8 @@ begins_number b r told (inl digit) = ap (λ t. t || (b == 45)) (sym told ∙ dig
 begins_number b r told (inr p) = ap (λ t. t || (b == 45)) (sym told ∙ p.0) ∙ eq-eqb b 45 p.1
 
 -- the number that begins at an offset
-pub number_is : (columns : List Column) (at b end : ℕ) (tail : List ℕ) (n : ℤ) → Some n ≡ number_at b tail → end ≡ at + 1 + length (take_while is_ascii_digit tail)
+pub number_is : (columns : List Column) (at b end : ℕ) (tail : List ℕ) (n : ℤ) → Some n ≡ number_at b tail →
+    end ≡ at + 1 + length (take_while is_ascii_digit tail)
     → lexeme columns at (number_front b tail) ≡ Some (record { token = Value (Number n); at = at; end = end })
 number_is columns at b end tail n found ends =
     ap (λ o. lexeme columns at (taking (length (take_while is_ascii_digit tail)) (number_token o))) (sym found)

@@ -27,5 +27,6 @@ one_digit digits i v d w inside is more same =
 pub too_large : (digits : List ℕ) (i v d : ℕ) → i < length digits → d ≡ get_or digits i 0 → decimal_after v (drop i digits) ≡ decimal_after 0 digits →
     10 ^ 12 < 10 * v + (d - 48) → within_most (decimal_after 0 digits) ≡ None
 too_large digits i v d inside is same large =
-    let grows : 10 * v + (d - 48) ≤ decimal_after 0 digits = omega (arith, decimal_after_grows (drop (i + 1) digits) (10 * v + (d - 48)), step_at digits i v d inside is, same) in
+    let grows : 10 * v + (d - 48) ≤ decimal_after 0 digits =
+    omega (arith, decimal_after_grows (drop (i + 1) digits) (10 * v + (d - 48)), step_at digits i v d inside is, same) in
     ap (λ b. cond b (Some (decimal_after 0 digits)) None) (lt-leb (decimal_after 0 digits) most_number (omega (arith, grows, large)))

@@ -108,8 +108,11 @@ word_facts b bytes letter rest =
     go false false true s t k f g h i j = (refl, sym (h refl))
     go false false false true t k f g h i j = (refl, sym (i refl))
     go false false false false true k f g h i j = (refl, sym (j refl))
-    go false false false false false k f g h i j =
-        (ap (λ x. x && (list_all is_name_byte bytes && not (is_keyword (b ∷ bytes)))) letter ∙ ap (λ x. x && not (is_keyword (b ∷ bytes))) rest ∙ ap not k, refl)
+    go false false false false false k f g h i j = (
+      ap (λ x. x && (list_all is_name_byte bytes && not (is_keyword (b ∷ bytes)))) letter ∙ ap (λ x. x && not (is_keyword (b ∷ bytes))) rest
+          ∙ ap not k,
+      refl,
+    )
 
 -- ---- numbers
 
@@ -177,7 +180,8 @@ number_front_facts b bytes z begins h = go (b == 45) (is_ascii_digit b) refl ref
         let facts = number_facts true (take_while is_ascii_digit bytes) z digits (number_is true (take_while is_ascii_digit bytes) z j) in
         (facts.0, omega (arith, facts.1))
     go false true e f i j =
-        let facts = number_facts false (b ∷ take_while is_ascii_digit bytes) z (ap (λ t. t && list_all is_ascii_digit (take_while is_ascii_digit bytes)) f ∙ digits) (number_is false (b ∷ take_while is_ascii_digit bytes) z j) in
+        let facts = number_facts false (b ∷ take_while is_ascii_digit bytes) z
+        (ap (λ t. t && list_all is_ascii_digit (take_while is_ascii_digit bytes)) f ∙ digits) (number_is false (b ∷ take_while is_ascii_digit bytes) z j) in
         (facts.0, omega (arith, facts.1))
     go false false e f i j = absurd cc
 

@@ -94,8 +94,10 @@ pub cut_behind : (xs ys : List ℕ) → IsUtf8 (xs ++ 39 ∷ ys) → IsUtf8 ys
 cut_behind xs ys utf8 =
     let inside : length xs < length (xs ++ 39 ∷ ys) = omega (arith, length-append xs (39 ∷ ys)) in
     let here : get_or (xs ++ 39 ∷ ys) (length xs) 0 ≡ 39 = ap (λ n. get_or (xs ++ 39 ∷ ys) n 0) (omega arith) ∙ get_or-append-add xs (39 ∷ ys) 0 0 in
-    let cut : IsUtf8 (drop (length xs + 1) (xs ++ 39 ∷ ys)) = IsUtf8-drop (xs ++ 39 ∷ ys) (length xs + 1) utf8 (IsCharBoundary-after_ascii (xs ++ 39 ∷ ys) (length xs) utf8 inside (omega (arith, here))) in
-    let rest : drop (length xs + 1) (xs ++ 39 ∷ ys) ≡ ys = ap (drop (length xs + 1)) (sym (append_assoc xs (39 ∷ []) ys)) ∙ drop_at (xs ++ 39 ∷ []) ys (length xs + 1) (length-append xs (39 ∷ [])) in
+    let cut : IsUtf8 (drop (length xs + 1) (xs ++ 39 ∷ ys)) =
+    IsUtf8-drop (xs ++ 39 ∷ ys) (length xs + 1) utf8 (IsCharBoundary-after_ascii (xs ++ 39 ∷ ys) (length xs) utf8 inside (omega (arith, here))) in
+    let rest : drop (length xs + 1) (xs ++ 39 ∷ ys) ≡ ys = ap (drop (length xs + 1)) (sym (append_assoc xs (39 ∷ []) ys))
+    ∙ drop_at (xs ++ 39 ∷ []) ys (length xs + 1) (length-append xs (39 ∷ [])) in
     subst IsUtf8 rest cut
 
 -- one quote in place of two

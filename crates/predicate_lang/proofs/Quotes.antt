@@ -24,7 +24,8 @@ pub plain_byte : (rest xs ys : List ℕ) (i : ℕ) → i < length rest → (get_
 plain_byte rest xs ys i inside plain kept same =
     let b = get_or rest i 0 in
     let next : quoted false (drop i rest) ≡ quoted false (b ∷ drop (i + 1) rest) = ap (quoted false) (drop_more rest i 0 inside) in
-    let one : quoted false (b ∷ drop (i + 1) rest) ≡ with_front (b ∷ []) 1 (quoted false (drop (i + 1) rest)) = ap (λ t. cond t (quoted true (drop (i + 1) rest)) (with_front (b ∷ []) 1 (quoted false (drop (i + 1) rest)))) (ne_eqb b 39 plain) in
+    let one : quoted false (b ∷ drop (i + 1) rest) ≡ with_front (b ∷ []) 1 (quoted false (drop (i + 1) rest)) =
+    ap (λ t. cond t (quoted true (drop (i + 1) rest)) (with_front (b ∷ []) 1 (quoted false (drop (i + 1) rest)))) (ne_eqb b 39 plain) in
     same ∙ ap (with_front xs i) (next ∙ one) ∙ with_front-with_front xs (b ∷ []) i 1 (quoted false (drop (i + 1) rest))
     ∙ ap (λ zs. with_front zs (i + 1) (quoted false (drop (i + 1) rest))) (sym kept)
 
@@ -33,25 +34,30 @@ pub doubled_quote : (rest xs ys : List ℕ) (i : ℕ) → i + 1 < length rest �
     → quoted false rest ≡ with_front xs i (quoted false (drop i rest))
     → quoted false rest ≡ with_front ys (i + 2) (quoted false (drop (i + 2) rest))
 doubled_quote rest xs ys i inside first second kept same =
-    let next : drop i rest ≡ 39 ∷ 39 ∷ drop (i + 1 + 1) rest = drop_more rest i 0 (omega arith) ∙ ap (λ x. x ∷ drop (i + 1) rest) first ∙ ap (λ ys. 39 ∷ ys) (drop_more rest (i + 1) 0 inside ∙ ap (λ x. x ∷ drop (i + 1 + 1) rest) second) in
+    let next : drop i rest ≡ 39 ∷ 39 ∷ drop (i + 1 + 1) rest = drop_more rest i 0 (omega arith) ∙ ap (λ x. x ∷ drop (i + 1) rest) first
+    ∙ ap (λ ys. 39 ∷ ys) (drop_more rest (i + 1) 0 inside ∙ ap (λ x. x ∷ drop (i + 1 + 1) rest) second) in
     let two : i + 1 + 1 ≡ i + 2 = omega arith in
     same ∙ ap (λ ys. with_front xs i (quoted false ys)) (next ∙ ap (λ k. 39 ∷ 39 ∷ drop k rest) two)
     ∙ with_front-with_front xs (39 ∷ []) i 2 (quoted false (drop (i + 2) rest))
     ∙ ap (λ zs. with_front zs (i + 2) (quoted false (drop (i + 2) rest))) (sym (kept ∙ ap (λ b. xs ++ b ∷ []) first))
 
 -- a quote at the end closes the text
-pub closed_last : (rest xs : List ℕ) (i : ℕ) → i < length rest → length rest ≤ i + 1 → get_or rest i 0 ≡ 39 → quoted false rest ≡ with_front xs i (quoted false (drop i rest)) → quoted false rest ≡ Some (record { text = xs; bytes = i + 1 })
+pub closed_last : (rest xs : List ℕ) (i : ℕ) → i < length rest → length rest ≤ i + 1 → get_or rest i 0 ≡ 39 →
+    quoted false rest ≡ with_front xs i (quoted false (drop i rest)) → quoted false rest ≡ Some (record { text = xs; bytes = i + 1 })
 closed_last rest xs i inside last quote same =
     let next : drop i rest ≡ 39 ∷ [] = drop_more rest i 0 inside ∙ ap (λ b. b ∷ drop (i + 1) rest) quote ∙ ap (λ ys. 39 ∷ ys) (drop_of_length-le rest last) in
     same ∙ ap (λ ys. with_front xs i (quoted false ys)) next ∙ ap (λ zs. Some (record { text = zs; bytes = i + 1 })) (append-nil xs)
 
 -- a quote before another byte closes it
-pub closed_before : (rest xs : List ℕ) (i : ℕ) → i + 1 < length rest → get_or rest i 0 ≡ 39 → (get_or rest (i + 1) 0 ≡ 39 → ⊥) → quoted false rest ≡ with_front xs i (quoted false (drop i rest)) → quoted false rest ≡ Some (record { text = xs; bytes = i + 1 })
+pub closed_before : (rest xs : List ℕ) (i : ℕ) → i + 1 < length rest → get_or rest i 0 ≡ 39 → (get_or rest (i + 1) 0 ≡ 39 → ⊥) →
+    quoted false rest ≡ with_front xs i (quoted false (drop i rest)) → quoted false rest ≡ Some (record { text = xs; bytes = i + 1 })
 closed_before rest xs i inside quote other same =
     let b = get_or rest (i + 1) 0 in
-    let next : drop i rest ≡ 39 ∷ b ∷ drop (i + 1 + 1) rest = drop_more rest i 0 (omega arith) ∙ ap (λ x. x ∷ drop (i + 1) rest) quote ∙ ap (λ ys. 39 ∷ ys) (drop_more rest (i + 1) 0 inside) in
+    let next : drop i rest ≡ 39 ∷ b ∷ drop (i + 1 + 1) rest = drop_more rest i 0 (omega arith) ∙ ap (λ x. x ∷ drop (i + 1) rest) quote
+    ∙ ap (λ ys. 39 ∷ ys) (drop_more rest (i + 1) 0 inside) in
     same ∙ ap (λ ys. with_front xs i (quoted false ys)) next
-    ∙ ap (λ t. with_front xs i (cond t (with_front (39 ∷ []) 2 (quoted false (drop (i + 1 + 1) rest))) (Some (record { text = []; bytes = 1 })))) (ne_eqb b 39 other)
+    ∙ ap (λ t. with_front xs i (cond t (with_front (39 ∷ []) 2 (quoted false (drop (i + 1 + 1) rest))) (Some (record { text = []; bytes = 1 }))))
+    (ne_eqb b 39 other)
     ∙ ap (λ zs. Some (record { text = zs; bytes = i + 1 })) (append-nil xs)
 
 -- with no quote left the text is not closed

@@ -163,7 +163,8 @@ minus_number_read n rest small stop = record {
   front = front_of_number 45 (decimal (suc n) ++ rest) refl refl
       ∙ ap (λ xs. taking (length xs) (number_token (number_of true xs)))
       (take_while-append is_ascii_digit (decimal (suc n)) rest (digits_decimal decimals (suc n) (omega arith)) (digits_stop rest stop))
-      ∙ ap (λ o. taking (length (decimal (suc n))) (number_token o)) (number_of_digits true (decimal (suc n)) (suc n) (decimal_nonempty (suc n) (omega arith)) (digits_value-decimal decimals (suc n) (omega arith)) small);
+      ∙ ap (λ o. taking (length (decimal (suc n))) (number_token o))
+      (number_of_digits true (decimal (suc n)) (suc n) (decimal_nonempty (suc n) (omega arith)) (digits_value-decimal decimals (suc n) (omega arith)) small);
 }
 
 -- a number
@@ -273,7 +274,8 @@ unfolding lex_from
 lex_token t rest turns at read =
     ap (λ xs. lex_from (suc turns) at (xs ++ rest)) read.is
     ∙ ap
-    (λ b. cond b (lex_from turns (at + 1) (read.more ++ rest)) (lex_front at (front_token read.first (read.more ++ rest)) (λ n. lex_from turns (at + 1 + n) (drop n (read.more ++ rest))))) read.solid
+    (λ b. cond b (lex_from turns (at + 1) (read.more ++ rest))
+    (lex_front at (front_token read.first (read.more ++ rest)) (λ n. lex_from turns (at + 1 + n) (drop n (read.more ++ rest))))) read.solid
     ∙ ap (λ o. lex_front at o (λ n. lex_from turns (at + 1 + n) (drop n (read.more ++ rest)))) read.front
     ∙ ap (λ xs. with_token t at (lex_from turns (at + 1 + length read.more) xs)) (drop_at read.more rest (length read.more) refl)
 
@@ -325,7 +327,8 @@ lexed_after t ts zero at fit enough = absurd (omega arith)
 lexed_after t [] (suc turns) at fit enough =
     let read : IsReadBefore t [] = token_read t [] (printable_first (is_printable t) (total unprintable []) fit).0 (or_right (opens t) true refl) in
     subst (λ (xs : List ℕ). LexesAs (lex_from (suc turns) at xs) (t ∷ [])) (append-nil (token_text t))
-    (subst (λ (l : Lexed). LexesAs l (t ∷ [])) (sym (lex_token t [] turns at read)) (with_one t [] at (lex_from turns (at + 1 + length read.more) []) (at_end turns (at + 1 + length read.more))))
+    (subst (λ (l : Lexed). LexesAs l (t ∷ [])) (sym (lex_token t [] turns at read))
+    (with_one t [] at (lex_from turns (at + 1 + length read.more) []) (at_end turns (at + 1 + length read.more))))
 lexed_after t (u ∷ ts) (suc turns) at fit enough =
     let rest : List ℕ = cond (opens t || closes u) [] (32 ∷ []) ++ spaced_after u ts in
     let fits = printable_first (is_printable t) (total unprintable (u ∷ ts)) fit in

@@ -33,8 +33,13 @@ length-spaced_after : (t : Token) (ts : List Token) → length (spaced_after t t
 length-spaced_after t [] = omega arith
 length-spaced_after t (u ∷ ts) =
     let gap : List ℕ = cond (opens t || closes u) [] (32 ∷ []) in
-    omega
-    (arith, length-append (token_text t) (gap ++ spaced_after u ts), length-append gap (spaced_after u ts), length-gap (opens t || closes u), length-spaced_after u ts)
+    omega (
+      arith,
+      length-append (token_text t) (gap ++ spaced_after u ts),
+      length-append gap (spaced_after u ts),
+      length-gap (opens t || closes u),
+      length-spaced_after u ts,
+    )
 
 -- spaces stand only between two tokens
 length-spaced : (ts : List Token) → length (spaced ts) ≤ total printed_length ts + (length ts - 1)
@@ -78,14 +83,21 @@ module _ (columns : List Column) where
 least : (columns : List Column) (text : List ℕ) (t : Tree) (w : Token → ℕ) → Means columns text t →
     total w (print_tokens columns t) ≤ total w (tokens_of (lexed text).tokens)
 least columns text t w means =
-    let best : LeastAlone columns w most_depth (tokens_of (lexed text).tokens) t = least_alone columns w most_depth (tokens_of (lexed text).tokens) t means.writes in
+    let best : LeastAlone columns w most_depth (tokens_of (lexed text).tokens) t =
+    least_alone columns w most_depth (tokens_of (lexed text).tokens) t means.writes in
     best.light
 
 -- no more tokens
 fewer : (columns : List Column) (text : List ℕ) (t : Tree) → Means columns text t → length (print_tokens columns t) ≤ 512
 fewer columns text t means =
-    omega
-    (arith, least columns text t count_one means, total-one (print_tokens columns t), total-one (tokens_of (lexed text).tokens), length-tokens_of (lexed text).tokens, means.few)
+    omega (
+      arith,
+      least columns text t count_one means,
+      total-one (print_tokens columns t),
+      total-one (tokens_of (lexed text).tokens),
+      length-tokens_of (lexed text).tokens,
+      means.few,
+    )
 
 -- each part of the tree has a token of its own
 height_tokens : (columns : List Column) (t : Tree) → height t ≤ length (print_tokens columns t)
@@ -101,8 +113,13 @@ height_tokens columns (both p q) =
       length-append (bracketed (is_or p) (print_tokens columns p)) (and_word ∷ bracketed (is_or_and q) (print_tokens columns q)),
     )
 height_tokens columns (either p q) =
-    omega
-    (arith, height_tokens columns p, height_tokens columns q, length-bracketed (is_or q) (print_tokens columns q), length-append (print_tokens columns p) (or_word ∷ bracketed (is_or q) (print_tokens columns q)))
+    omega (
+      arith,
+      height_tokens columns p,
+      height_tokens columns q,
+      length-bracketed (is_or q) (print_tokens columns q),
+      length-append (print_tokens columns p) (or_word ∷ bracketed (is_or q) (print_tokens columns q)),
+    )
 height_tokens columns (compared c o l) = omega arith
 height_tokens columns (among c ls) = omega arith
 
@@ -120,7 +137,8 @@ printable columns text t means =
 pub printed_means : (columns : List Column) (text : List ℕ) (t : Tree) → Means columns text t → Means columns (printed columns t) t
 printed_means columns text t means =
     let again : LexesAs (lexed (printed columns t)) (print_tokens columns t) = lexed-spaced (print_tokens columns t) (printable columns text t means) in
-    let best : LeastAlone columns count_one most_depth (tokens_of (lexed text).tokens) t = least_alone columns count_one most_depth (tokens_of (lexed text).tokens) t means.writes in
+    let best : LeastAlone columns count_one most_depth (tokens_of (lexed text).tokens) t =
+    least_alone columns count_one most_depth (tokens_of (lexed text).tokens) t means.writes in
     record {
       whole = again.stop;
       few = omega (arith, fewer columns text t means, ap (length {A = Token}) again.tokens, length-tokens_of (lexed (printed columns t)).tokens);

@@ -120,11 +120,13 @@ tree_part columns (negation p) fit =
 tree_part columns (both p q) fit =
     join_part (bracketed (is_or p) (print_tokens columns p)) (and_word ∷ bracketed (is_or_and q) (print_tokens columns q))
     (bracketed_part (is_or p) (print_tokens columns p) (tree_part columns p (and_parts (fits columns p) (fits columns q) fit).0))
-    (join_part (and_word ∷ []) (bracketed (is_or_and q) (print_tokens columns q)) (one_part and_word refl refl) (bracketed_part (is_or_and q) (print_tokens columns q) (tree_part columns q (and_parts (fits columns p) (fits columns q) fit).1)))
+    (join_part (and_word ∷ []) (bracketed (is_or_and q) (print_tokens columns q)) (one_part and_word refl refl)
+    (bracketed_part (is_or_and q) (print_tokens columns q) (tree_part columns q (and_parts (fits columns p) (fits columns q) fit).1)))
 tree_part columns (either p q) fit =
     join_part (print_tokens columns p) (or_word ∷ bracketed (is_or q) (print_tokens columns q))
     (tree_part columns p (and_parts (fits columns p) (fits columns q) fit).0)
-    (join_part (or_word ∷ []) (bracketed (is_or q) (print_tokens columns q)) (one_part or_word refl refl) (bracketed_part (is_or q) (print_tokens columns q) (tree_part columns q (and_parts (fits columns p) (fits columns q) fit).1)))
+    (join_part (or_word ∷ []) (bracketed (is_or q) (print_tokens columns q)) (one_part or_word refl refl)
+    (bracketed_part (is_or q) (print_tokens columns q) (tree_part columns q (and_parts (fits columns p) (fits columns q) fit).1)))
 tree_part columns (compared c o l) fit = record { first = name_of columns c; rest = operator o ∷ value l ∷ []; is = refl; starts = refl; ends = refl }
 tree_part columns (among c ls) fit = record {
   first = name_of columns c;

@@ -71,28 +71,41 @@ mark_front_is b bytes f h = eq (b == 61) refl h
     opening false e i = closing (b == 41) refl i
 
     gt : (t n : Bool) → (b == 62) ≡ t → is_equals_next bytes ≡ n →
-        cond t (cond n (taking 1 (Some (operator op.Ge))) (taking 0 (Some (operator op.Gt)))) (cond (b == 40) (taking 0 (Some open_bracket)) (cond (b == 41) (taking 0 (Some close_bracket)) (cond (b == 44) (taking 0 (Some comma)) None))) ≡ Some f →
+        cond t (cond n (taking 1 (Some (operator op.Ge))) (taking 0 (Some (operator op.Gt))))
+        (cond (b == 40) (taking 0 (Some open_bracket)) (cond (b == 41) (taking 0 (Some close_bracket)) (cond (b == 44) (taking 0 (Some comma)) None))) ≡
+        Some f →
         IsMark b bytes f
     gt true true e n i = is_two b 62 bytes f (operator op.Ge) e (omega arith) refl (omega arith) n i
     gt true false e n i = is_one b 62 bytes f (operator op.Gt) e (omega arith) refl (omega arith) i
     gt false x e n i = opening (b == 40) refl i
 
     lt : (t n : Bool) → (b == 60) ≡ t → is_equals_next bytes ≡ n →
-        cond t (cond n (taking 1 (Some (operator op.Le))) (taking 0 (Some (operator op.Lt)))) (cond (b == 62) (cond (is_equals_next bytes) (taking 1 (Some (operator op.Ge))) (taking 0 (Some (operator op.Gt)))) (cond (b == 40) (taking 0 (Some open_bracket)) (cond (b == 41) (taking 0 (Some close_bracket)) (cond (b == 44) (taking 0 (Some comma)) None)))) ≡ Some f →
+        cond t (cond n (taking 1 (Some (operator op.Le))) (taking 0 (Some (operator op.Lt))))
+        (cond (b == 62) (cond (is_equals_next bytes) (taking 1 (Some (operator op.Ge))) (taking 0 (Some (operator op.Gt))))
+        (cond (b == 40) (taking 0 (Some open_bracket)) (cond (b == 41) (taking 0 (Some close_bracket)) (cond (b == 44) (taking 0 (Some comma)) None)))) ≡
+        Some f →
         IsMark b bytes f
     lt true true e n i = is_two b 60 bytes f (operator op.Le) e (omega arith) refl (omega arith) n i
     lt true false e n i = is_one b 60 bytes f (operator op.Lt) e (omega arith) refl (omega arith) i
     lt false x e n i = gt (b == 62) (is_equals_next bytes) refl refl i
 
     ne : (t n : Bool) → (b == 33) ≡ t → is_equals_next bytes ≡ n →
-        cond t (cond n (taking 1 (Some (operator op.Ne))) None) (cond (b == 60) (cond (is_equals_next bytes) (taking 1 (Some (operator op.Le))) (taking 0 (Some (operator op.Lt)))) (cond (b == 62) (cond (is_equals_next bytes) (taking 1 (Some (operator op.Ge))) (taking 0 (Some (operator op.Gt)))) (cond (b == 40) (taking 0 (Some open_bracket)) (cond (b == 41) (taking 0 (Some close_bracket)) (cond (b == 44) (taking 0 (Some comma)) None))))) ≡ Some f →
+        cond t (cond n (taking 1 (Some (operator op.Ne))) None)
+        (cond (b == 60) (cond (is_equals_next bytes) (taking 1 (Some (operator op.Le))) (taking 0 (Some (operator op.Lt))))
+        (cond (b == 62) (cond (is_equals_next bytes) (taking 1 (Some (operator op.Ge))) (taking 0 (Some (operator op.Gt))))
+        (cond (b == 40) (taking 0 (Some open_bracket)) (cond (b == 41) (taking 0 (Some close_bracket)) (cond (b == 44) (taking 0 (Some comma)) None))))) ≡
+        Some f →
         IsMark b bytes f
     ne true true e n i = is_two b 33 bytes f (operator op.Ne) e (omega arith) refl (omega arith) n i
     ne true false e n i = absurd cc
     ne false x e n i = lt (b == 60) (is_equals_next bytes) refl refl i
 
     eq : (t : Bool) → (b == 61) ≡ t →
-        cond t (taking 0 (Some (operator op.Eq))) (cond (b == 33) (cond (is_equals_next bytes) (taking 1 (Some (operator op.Ne))) None) (cond (b == 60) (cond (is_equals_next bytes) (taking 1 (Some (operator op.Le))) (taking 0 (Some (operator op.Lt)))) (cond (b == 62) (cond (is_equals_next bytes) (taking 1 (Some (operator op.Ge))) (taking 0 (Some (operator op.Gt)))) (cond (b == 40) (taking 0 (Some open_bracket)) (cond (b == 41) (taking 0 (Some close_bracket)) (cond (b == 44) (taking 0 (Some comma)) None)))))) ≡ Some f →
+        cond t (taking 0 (Some (operator op.Eq))) (cond (b == 33) (cond (is_equals_next bytes) (taking 1 (Some (operator op.Ne))) None)
+        (cond (b == 60) (cond (is_equals_next bytes) (taking 1 (Some (operator op.Le))) (taking 0 (Some (operator op.Lt))))
+        (cond (b == 62) (cond (is_equals_next bytes) (taking 1 (Some (operator op.Ge))) (taking 0 (Some (operator op.Gt))))
+        (cond (b == 40) (taking 0 (Some open_bracket)) (cond (b == 41) (taking 0 (Some close_bracket)) (cond (b == 44) (taking 0 (Some comma)) None)))))) ≡
+        Some f →
         IsMark b bytes f
     eq true e i = is_one b 61 bytes f (operator op.Eq) e (omega arith) refl (omega arith) i
     eq false e i = ne (b == 33) (is_equals_next bytes) refl refl i

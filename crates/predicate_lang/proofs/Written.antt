@@ -62,7 +62,8 @@ last_part columns p b c old one two is first second =
 
 -- a `not` that is written piece by piece
 pub negation_written : (columns : List Column) (t p : Tree) (c : Bool) (old one two three : List ℕ) → t ≡ negation p → fits columns t ≡ true → c ≡ is_or_and p
-    → one ≡ old ++ codes "not " → two ≡ one ++ cond c (codes "(") [] → three ≡ two ++ printed columns p → three ++ cond c (codes ")") [] ≡ old ++ printed columns t
+    → one ≡ old ++ codes "not " → two ≡ one ++ cond c (codes "(") [] → three ≡ two ++ printed columns p →
+    three ++ cond c (codes ")") [] ≡ old ++ printed columns t
 negation_written columns t p c old one two three is fit told first second third =
     last_part columns p (is_or_and p) c one two three told second third ∙ behind_push old one (codes "not ") (part_text columns (is_or_and p) p) first
     ∙ ap (λ xs. old ++ xs) (sym (printed-negation columns p (ap (fits columns) (sym is) ∙ fit)) ∙ ap (printed columns) (sym is))
@@ -80,7 +81,8 @@ both_written columns t p q b c old one two three four five six is fit left right
 
 -- an `or` that is written piece by piece
 pub either_written : (columns : List Column) (t p q : Tree) (c : Bool) (old one two three four : List ℕ) → t ≡ either p q → fits columns t ≡ true → c ≡ is_or q
-    → one ≡ old ++ printed columns p → two ≡ one ++ codes " or " → three ≡ two ++ cond c (codes "(") [] → four ≡ three ++ printed columns q → four ++ cond c (codes ")") [] ≡ old ++ printed columns t
+    → one ≡ old ++ printed columns p → two ≡ one ++ codes " or " → three ≡ two ++ cond c (codes "(") [] → four ≡ three ++ printed columns q →
+    four ++ cond c (codes ")") [] ≡ old ++ printed columns t
 either_written columns t p q c old one two three four is fit right first second third fourth =
     last_part columns q (is_or q) c two three four right third fourth ∙ behind_push one two (codes " or ") (part_text columns (is_or q) q) second
     ∙ behind_push old one (printed columns p) (codes " or " ++ part_text columns (is_or q) q) first
@@ -93,6 +95,7 @@ pub among_written : (columns : List Column) (t : Tree) (c : ℕ) (ls : List Lite
 among_written columns t c [] found old one two three is some named first second third = absurd cc
 among_written columns t c (l ∷ ls) found old one two three is some named first second third =
     third
-    ∙ behind_push one two (codes " in (") (spaced (list_tokens (l ∷ ls))) second ∙ behind_push old one found (codes " in (" ++ spaced (list_tokens (l ∷ ls))) first
+    ∙ behind_push one two (codes " in (") (spaced (list_tokens (l ∷ ls))) second
+    ∙ behind_push old one found (codes " in (" ++ spaced (list_tokens (l ∷ ls))) first
     ∙ ap
     (λ (n : Option (List ℕ)). old ++ (unwrap_or n [] ++ (codes " in (" ++ spaced (list_tokens (l ∷ ls))))) named ∙ ap (λ x. old ++ printed columns x) (sym is)

@@ -107,7 +107,8 @@ module _ (columns : List Column) where
       Before columns room us fs ors None → Conjunction columns room vs (add_and ands p) → Written columns (us ++ vs) (whole fs ors ands p)
   plain_whole room us vs fs ors ands p plain before c =
       subst (Written columns (us ++ vs))
-      (sym (ap (λ gs. build gs ors None (behind (add_and ands (negated fs p)))) (without_nots_bracket fs plain) ∙ ap (λ u. build fs ors None (behind (add_and ands u))) (negated_bracket fs p plain)))
+      (sym (ap (λ gs. build gs ors None (behind (add_and ands (negated fs p)))) (without_nots_bracket fs plain)
+      ∙ ap (λ u. build fs ors None (behind (add_and ands u))) (negated_bracket fs p plain)))
       (record { room = room; front = us; part = vs; split = refl; before = before; stands = (plain, refl, c) })
 
   -- an operand more is written, under each `not` that waits for it
@@ -150,7 +151,13 @@ module _ (columns : List Column) where
       Conjunction columns room vs p → Joined room us vs fs (add_or ors p)
   joined room us vs fs None p bare before c = record { ts = us; all = vs; split = refl; before = before; way = conj c }
   joined room us vs fs (Some d) p bare (after_or {ts = ws} {us = xs} plain b way) c =
-      record { ts = ws; all = xs ++ or_word ∷ vs; split = append_assoc ws (xs ++ or_word ∷ []) vs ∙ ap (λ ys. ws ++ ys) (append_assoc xs (or_word ∷ []) vs); before = b; way = or_conj way c }
+      record {
+        ts = ws;
+        all = xs ++ or_word ∷ vs;
+        split = append_assoc ws (xs ++ or_word ∷ []) vs ∙ ap (λ ys. ws ++ ys) (append_assoc xs (or_word ∷ []) vs);
+        before = b;
+        way = or_conj way c;
+      }
   joined room us vs fs (Some d) p bare (after_not b) c = absurd (false≢true (sym bare))
 
   -- the bracket with all in it is an operand
@@ -161,7 +168,8 @@ module _ (columns : List Column) where
       let j = joined room us vs (a_bracket o a ∷ fs) ors p refl before c in
       let i = inner room j.ts fs o a j.before in
       along ((us ++ vs) ++ close_bracket ∷ []) (i.ts ++ open_bracket ∷ (j.all ++ close_bracket ∷ [])) (whole fs o a (add_or ors p))
-      (ap (λ xs. xs ++ close_bracket ∷ []) (j.split ∙ ap (λ xs. xs ++ j.all) i.split ∙ append_assoc i.ts (open_bracket ∷ []) j.all) ∙ append_assoc i.ts (open_bracket ∷ j.all) (close_bracket ∷ []))
+      (ap (λ xs. xs ++ close_bracket ∷ []) (j.split ∙ ap (λ xs. xs ++ j.all) i.split ∙ append_assoc i.ts (open_bracket ∷ []) j.all)
+      ∙ append_assoc i.ts (open_bracket ∷ j.all) (close_bracket ∷ []))
       (whole_written (suc room) i.ts (open_bracket ∷ (j.all ++ close_bracket ∷ [])) fs o a (add_or ors p) i.before (in_brackets j.way))
 
   -- ---- with one token more
@@ -186,7 +194,14 @@ module _ (columns : List Column) where
       Written columns (ts ++ open_bracket ∷ []) (build (a_bracket ors ands ∷ fs) None None at_operand)
   opened_bracket zero ts fs ors ands before may = let low = ltb-true (length fs) 64 may in absurd (omega (arith, rooms zero ts fs ors ands before, low))
   opened_bracket (suc room) ts fs ors ands before may =
-      record { room = room; front = ts ++ open_bracket ∷ []; part = []; split = sym (append-nil (ts ++ open_bracket ∷ [])); before = after_bracket before; stands = refl }
+      record {
+        room = room;
+        front = ts ++ open_bracket ∷ [];
+        part = [];
+        split = sym (append-nil (ts ++ open_bracket ∷ []));
+        before = after_bracket before;
+        stands = refl;
+      }
 
   -- before an operand all tokens stand in front of it
   no_part : (ts : List Token) (b : Build) (w : Written columns ts b) → w.part ≡ [] → ts ≡ w.front
@@ -198,7 +213,14 @@ module _ (columns : List Column) where
       → Written columns (ts ++ name n ∷ []) (put (build fs ors ands at_operand) (ColumnToken place))
   named_written ts fs ors ands n None is w may = absurd (false≢true may)
   named_written ts fs ors ands n (Some c) is w may =
-      record { room = w.room; front = w.front; part = name n ∷ []; split = ap (λ xs. xs ++ name n ∷ []) (no_part ts (build fs ors ands at_operand) w w.stands); before = w.before; stands = record { word = n; place = is; public = may; split = refl } }
+      record {
+        room = w.room;
+        front = w.front;
+        part = name n ∷ [];
+        split = ap (λ xs. xs ++ name n ∷ []) (no_part ts (build fs ors ands at_operand) w w.stands);
+        before = w.before;
+        stands = record { word = n; place = is; public = may; split = refl };
+      }
 
   -- the operand that a part and one token more are
   compared_written : (ts : List Token) (fs : List Frame) (ors ands : Option Tree) (c : ℕ) (o : Op) (l : Literal) →
@@ -224,10 +246,12 @@ module _ (columns : List Column) where
       let n = w.stands.named in
       let closes = w.stands.goes_on in
       let whole_list : w.stands.list ++ close_bracket ∷ [] ≡ literals ls = closes.1 [] ∙ ap literals (append-nil ls) in
-      let spelled : w.part ++ close_bracket ∷ [] ≡ name n.word ∷ in_word ∷ open_bracket ∷ literals ls = ap (λ xs. xs ++ close_bracket ∷ []) n.split ∙ ap (λ xs. name n.word ∷ in_word ∷ open_bracket ∷ xs) whole_list in
+      let spelled : w.part ++ close_bracket ∷ [] ≡ name n.word ∷ in_word ∷ open_bracket ∷ literals ls = ap (λ xs. xs ++ close_bracket ∷ []) n.split
+      ∙ ap (λ xs. name n.word ∷ in_word ∷ open_bracket ∷ xs) whole_list in
       along (ts ++ close_bracket ∷ []) (w.front ++ (name n.word ∷ in_word ∷ open_bracket ∷ literals ls)) (whole fs ors ands (among c ls))
       (more_tokens ts w.front w.part close_bracket w.split ∙ ap (λ xs. w.front ++ xs) spelled)
-      (whole_written w.room w.front (name n.word ∷ in_word ∷ open_bracket ∷ literals ls) fs ors ands (among c ls) w.before (listed_operand w.room c n.word ls n.place closes.0 w.stands.of_role))
+      (whole_written w.room w.front (name n.word ∷ in_word ∷ open_bracket ∷ literals ls) fs ors ands (among c ls) w.before
+      (listed_operand w.room c n.word ls n.place closes.0 w.stands.of_role))
 
   -- a literal more
   literal_written : (ts : List Token) (fs : List Frame) (ors ands : Option Tree) (c : ℕ) (ls : List Literal) (l : Literal) →
@@ -245,8 +269,11 @@ module _ (columns : List Column) where
           list = s.list ++ value l ∷ [];
           named = more_named c w.part (in_word ∷ open_bracket ∷ s.list) (value l) s.named;
           of_role = all_push (is_of_role (role_at columns c)) ls l s.of_role of_role;
-          goes_on =
-              (has_push ls l, λ more. append_assoc s.list (value l ∷ []) (more_literals more) ∙ s.goes_on l more ∙ ap literals (sym (append_assoc ls (l ∷ []) more)));
+          goes_on = (
+            has_push ls l,
+            λ more. append_assoc s.list (value l ∷ []) (more_literals more) ∙ s.goes_on l more
+                ∙ ap literals (sym (append_assoc ls (l ∷ []) more)),
+          );
         };
       }
 
@@ -303,7 +330,8 @@ module _ (columns : List Column) where
   pub close_written : (ts : List Token) (fs : List Frame) (o a ors ands : Option Tree) (p : Tree) →
       Written columns ts (build (a_bracket o a ∷ fs) ors ands (behind p)) → Written columns (ts ++ close_bracket ∷ []) (whole fs o a (add_or ors p))
   close_written ts fs o a ors ands p w =
-      let before : Before columns w.room w.front (a_bracket o a ∷ fs) ors None = subst (Before columns w.room w.front (a_bracket o a ∷ fs) ors) w.stands.1 w.before in
+      let before : Before columns w.room w.front (a_bracket o a ∷ fs) ors None =
+      subst (Before columns w.room w.front (a_bracket o a ∷ fs) ors) w.stands.1 w.before in
       along (ts ++ close_bracket ∷ []) ((w.front ++ w.part) ++ close_bracket ∷ []) (whole fs o a (add_or ors p)) (ap (λ xs. xs ++ close_bracket ∷ []) w.split)
       (closed_written w.room w.front w.part fs o a ors p before w.stands.2)
 
@@ -326,12 +354,33 @@ module _ (columns : List Column) where
       (whole_written w.room w.front (all_word ∷ []) fs ors ands all_rows w.before all)
   put_written ts fs ors ands at_operand (name n) w may = named_written ts fs ors ands n (place_of n columns) refl w may
   put_written ts fs ors ands (at_name c) in_word w may =
-      record { room = w.room; front = w.front; part = w.part ++ in_word ∷ []; split = more_tokens ts w.front w.part in_word w.split; before = w.before; stands = more_named c w.part [] in_word w.stands }
+      record {
+        room = w.room;
+        front = w.front;
+        part = w.part ++ in_word ∷ [];
+        split = more_tokens ts w.front w.part in_word w.split;
+        before = w.before;
+        stands = more_named c w.part [] in_word w.stands;
+      }
   put_written ts fs ors ands (at_name c) (operator o) w may =
-      record { room = w.room; front = w.front; part = w.part ++ operator o ∷ []; split = more_tokens ts w.front w.part (operator o) w.split; before = w.before; stands = (more_named c w.part [] (operator o) w.stands, may) }
+      record {
+        room = w.room;
+        front = w.front;
+        part = w.part ++ operator o ∷ [];
+        split = more_tokens ts w.front w.part (operator o) w.split;
+        before = w.before;
+        stands = (more_named c w.part [] (operator o) w.stands, may);
+      }
   put_written ts fs ors ands (at_operator c o) (value l) w may = compared_written ts fs ors ands c o l w may
   put_written ts fs ors ands (at_in c) open_bracket w may =
-      record { room = w.room; front = w.front; part = w.part ++ open_bracket ∷ []; split = more_tokens ts w.front w.part open_bracket w.split; before = w.before; stands = record { list = []; named = more_named c w.part (in_word ∷ []) open_bracket w.stands; of_role = refl; goes_on = λ l more. refl } }
+      record {
+        room = w.room;
+        front = w.front;
+        part = w.part ++ open_bracket ∷ [];
+        split = more_tokens ts w.front w.part open_bracket w.split;
+        before = w.before;
+        stands = record { list = []; named = more_named c w.part (in_word ∷ []) open_bracket w.stands; of_role = refl; goes_on = λ l more. refl };
+      }
   put_written ts fs ors ands (at_comma c ls) (value l) w may = literal_written ts fs ors ands c ls l w may
   put_written ts fs ors ands (at_literal c ls) comma w may = comma_written ts fs ors ands c ls w
   put_written ts fs ors ands (at_literal c ls) close_bracket w may = listed_written ts fs ors ands c ls w
@@ -357,7 +406,8 @@ module _ (columns : List Column) where
       go (may_put columns b (seen columns t)) refl is (λ more goes. run_written (done ++ t ∷ []) ts (put b (seen columns t)) c more goes)
     where
       go : (may : Bool) → may_put columns b (seen columns t) ≡ may → run columns ts (cond may (Some (put b (seen columns t))) None) ≡ Some c
-          → (Written columns (done ++ t ∷ []) (put b (seen columns t)) → run columns ts (Some (put b (seen columns t))) ≡ Some c → Written columns ((done ++ t ∷ []) ++ ts) c) → Written columns (done ++ t ∷ ts) c
+          → (Written columns (done ++ t ∷ []) (put b (seen columns t)) → run columns ts (Some (put b (seen columns t))) ≡ Some c →
+          Written columns ((done ++ t ∷ []) ++ ts) c) → Written columns (done ++ t ∷ ts) c
       go true may e rest =
           along (done ++ t ∷ ts) ((done ++ t ∷ []) ++ ts) c (sym (append_assoc done (t ∷ []) ts))
           (rest (put_written done b.frames b.ors b.ands b.stand t w may) e)
@@ -388,5 +438,6 @@ module _ (columns : List Column) where
       let same : add_or ors p ≡ t = cc in
       let spelled : ts ≡ j.all = w.split ∙ j.split ∙ ap (λ xs. xs ++ j.all) first.none in
       subst (Writes columns ts) same
-      (subst (λ (r : ℕ). Disjunction columns r ts (add_or ors p)) first.all_room (subst (λ (xs : List Token). Disjunction columns w.room xs (add_or ors p)) (sym spelled) j.way))
+      (subst (λ (r : ℕ). Disjunction columns r ts (add_or ors p)) first.all_room
+      (subst (λ (xs : List Token). Disjunction columns w.room xs (add_or ors p)) (sym spelled) j.way))
   built_written ts fs ors ands stand t w is = absurd cc

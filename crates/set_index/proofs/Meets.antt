@@ -83,7 +83,8 @@ meets-numbers p place n o number list rows is same met =
 -- as a search finds them in an order
 pub numbers_found : (p : PublicView) (place n : ℕ) (o : Op) (number : ℤ) (list : List ℤ) (searched order rows : List ℕ) (from to : ℕ) →
     cells_at p place ≡ numbers list → n ≡ p.rows → searched ≡ order →
-    IsRange (λ r. answers o (int_cmp (get_or list r (pos 0)) number)) searched from to → ((test : ℕ → Bool) → IsRange test order from to → rows ≡ rows_that test n) → rows ≡ meets p place o (Number number)
+    IsRange (λ r. answers o (int_cmp (get_or list r (pos 0)) number)) searched from to →
+    ((test : ℕ → Bool) → IsRange test order from to → rows ≡ rows_that test n) → rows ≡ meets p place o (Number number)
 numbers_found p place n o number list searched order rows from to is same it range met =
     meets-numbers p place n o number list rows is same
     (met _ (subst (λ xs. IsRange (λ r. answers o (int_cmp (get_or list r (pos 0)) number)) xs from to) it range))
@@ -106,7 +107,8 @@ meets-texts p place n text list rows is same met =
 -- as a search finds them in an order
 pub texts_found : (p : PublicView) (place n : ℕ) (text : List ℕ) (list : List (List ℕ)) (searched order rows : List ℕ) (from to : ℕ) →
     cells_at p place ≡ texts list → n ≡ p.rows → searched ≡ order →
-    IsRange (λ r. is_eq (slice_cmp nat_cmp (get_or list r []) text)) searched from to → ((test : ℕ → Bool) → IsRange test order from to → rows ≡ rows_that test n) → rows ≡ meets p place Eq (Text text)
+    IsRange (λ r. is_eq (slice_cmp nat_cmp (get_or list r []) text)) searched from to →
+    ((test : ℕ → Bool) → IsRange test order from to → rows ≡ rows_that test n) → rows ≡ meets p place Eq (Text text)
 texts_found p place n text list searched order rows from to is same it range met =
     meets-texts p place n text list rows is same (met _ (subst (λ xs. IsRange (λ r. is_eq (slice_cmp nat_cmp (get_or list r []) text)) xs from to) it range))
 
@@ -131,4 +133,5 @@ never o x y (inr (inr (inr is))) = ap (λ q. compares_text q x y) is
 pub meets_none : (p : PublicView) (place : ℕ) (o : Op) (text rows : List ℕ) → IsOrdered o → rows ≡ [] → rows ≡ meets p place o (Text text)
 meets_none p place o text rows is none =
     none
-    ∙ sym (rows_that_none (λ r. compares_text o (get_or (texts_of (cells_at p place)) r []) text) p.rows (λ r low. never o (get_or (texts_of (cells_at p place)) r []) text is))
+    ∙ sym (rows_that_none (λ r. compares_text o (get_or (texts_of (cells_at p place)) r []) text) p.rows
+    (λ r low. never o (get_or (texts_of (cells_at p place)) r []) text is))

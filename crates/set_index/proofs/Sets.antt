@@ -51,7 +51,8 @@ met_more p place m i ls l old one new inside is same met here added =
     ∙ either_of p.rows (λ r. list_any (compares_cell (row_at p r) place Eq) (take i ls)) (λ r. compares_cell (row_at p r) place Eq l)
     ∙ rows_that_agree (λ r. list_any (compares_cell (row_at p r) place Eq) (take i ls) || compares_cell (row_at p r) place Eq l)
     (λ r. list_any (compares_cell (row_at p r) place Eq) (take (i + 1) ls)) p.rows
-    (λ r low. any_more (compares_cell (row_at p r) place Eq) (take i ls) l ∙ ap (λ ks. list_any (compares_cell (row_at p r) place Eq) ks) (sym (take_more ls i l inside ∙ ap (λ k. take i ls ++ k ∷ []) (sym is))))
+    (λ r low. any_more (compares_cell (row_at p r) place Eq) (take i ls) l
+    ∙ ap (λ ks. list_any (compares_cell (row_at p r) place Eq) ks) (sym (take_more ls i l inside ∙ ap (λ k. take i ls ++ k ∷ []) (sym is))))
 
 -- ---- what the parts mean, the whole means
 

@@ -61,7 +61,8 @@ asked_text (Some text) (Some ask) column n short = with_column_text ask column t
 question_text : (d : Data) → AtMost condition_len (longest d) (question_in d)
 unfolding question_in
 question_text d = either condition_len (longest d) (has_known_keys (as_object d) && may_be_text (get (codes "user") d)) _ None
-    (asked_text _ _ (get (codes "column") d) (longest d) (AtMost-and_then longest length (longest d) (longest d) as_str (λ e short. length-as_str e (longest d) short) (get (codes "where") d) (longest-get (codes "where") d))) tt
+    (asked_text _ _ (get (codes "column") d) (longest d) (AtMost-and_then longest length (longest d) (longest d) as_str
+    (λ e short. length-as_str e (longest d) short) (get (codes "where") d) (longest-get (codes "where") d))) tt
 
 -- a value's question has no longer condition
 pub condition_within : (d : Data) (w : Written) (n m : ℕ) → question_in d ≡ Some w → longest d ≤ n → n ≤ m → length (text_of w) ≤ m

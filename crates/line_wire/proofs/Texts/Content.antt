@@ -49,7 +49,8 @@ content-le plain [] = tt
 content-le plain (x ∷ xs) =
     let n = length (x ∷ xs) in
     either length n (x == 34) _ _ (omega arith)
-    (either length n (x == 92) _ _ (more n _ _ (content-le after_backslash xs) (omega arith)) (either length n (nat_lt x 32) _ _ tt (longer n _ (x ∷ []) _ (content-le plain xs) (omega arith))))
+    (either length n (x == 92) _ _ (more n _ _ (content-le after_backslash xs) (omega arith))
+    (either length n (nat_lt x 32) _ _ tt (longer n _ (x ∷ []) _ (content-le plain xs) (omega arith))))
 content-le after_backslash [] = tt
 content-le after_backslash (x ∷ xs) =
     let n = length (x ∷ xs) in

@@ -65,4 +65,5 @@ pub longest-read : (bytes : List ℕ) (d : Data) → read bytes ≡ Some d → l
 longest-read bytes d is =
     let n = length bytes in
     subst (λ (o : Option Data). AtMost longest n o) is
-    (AtMost-and_then parsed.longest longest n n of_json (λ j small. longest-of_json j n small) _ (last_short _ n (parsed.short_value n max_depth (tokens bytes) (tokens_text bytes))))
+    (AtMost-and_then parsed.longest longest n n of_json (λ j small. longest-of_json j n small) _
+    (last_short _ n (parsed.short_value n max_depth (tokens bytes) (tokens_text bytes))))

@@ -3,7 +3,8 @@ use Rattle.std.specs.Prelude.{is_some}
 use Rattle.line_wire.proofs.plain.is_text_at.Goals as goal
 
 -- whether a known key has a text
-text_known : (known some : Bool) (found : Option (Bor (List ℕ))) (text : Option (List ℕ)) → known ≡ true → option_map (λ s. s.now) found ≡ text → some ≡ is_some found →
+text_known : (known some : Bool) (found : Option (Bor (List ℕ))) (text : Option (List ℕ)) → known ≡ true → option_map (λ s. s.now) found ≡ text →
+    some ≡ is_some found →
     some ≡ (known && is_some text)
 text_known known some None text holds same is = rw (holds, ← same) is
 text_known known some (Some s) text holds same is = rw (holds, ← same) is

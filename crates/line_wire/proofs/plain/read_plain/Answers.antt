@@ -3,7 +3,8 @@ use Rattle.line_wire.proofs.plain.read_plain.Goals as goal
 
 pub returns-in-Ok-clause-writes : goal.returns-in-Ok-clause-writes
 returns-in-Ok-clause-writes c =
-    line_writes c.args.line.now _ c.plain_question.result c.in-Ok.ensures.ok.0 c.in-Ok.ensures.ok.1 c.plain_question.ensures.plain c.plain_question.ensures.writes
+    line_writes c.args.line.now _ c.plain_question.result c.in-Ok.ensures.ok.0 c.in-Ok.ensures.ok.1 c.plain_question.ensures.plain
+    c.plain_question.ensures.writes
 
 pub returns-in-Ok-clause-short : goal.returns-in-Ok-clause-short
 returns-in-Ok-clause-short c =

@@ -7,7 +7,8 @@ use Rattle.line_wire.proofs.reply_reading.between.Goals as goal
 
 pub returns-in-Some : goal.returns-in-Some
 returns-in-Some c = λ piece is.
-    let split : c.args.line.now ≡ c.args.front.now ++ c.in-Some.behind.now = strip_prefix_is Decides-eqb c.args.line.now c.args.front.now (Some c.in-Some.behind) c.in-Some.ensures.cases in
+    let split : c.args.line.now ≡ c.args.front.now ++ c.in-Some.behind.now =
+    strip_prefix_is Decides-eqb c.args.line.now c.args.front.now (Some c.in-Some.behind) c.in-Some.ensures.cases in
     stripped c.in-Some.behind.now piece c.args.end.now c.strip_suffix.result
     (strip_suffix_is Decides-eqb c.in-Some.behind.now c.args.end.now c.strip_suffix.result c.strip_suffix.ensures.cases)
     (append_cancel_left c.args.front.now c.in-Some.behind.now (piece ++ c.args.end.now) (sym split ∙ is))

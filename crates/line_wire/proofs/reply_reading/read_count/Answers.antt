@@ -13,7 +13,8 @@ returns-in_err-count-clause-none c = if_none c.from_residual.result (λ count re
 pub returns-clause-none : goal.returns-clause-none
 returns-clause-none c = unconfirmed c.confirmed.result c.args.line.now _ c.confirmed.ensures (λ wrong count reply.
     wrong (subst (λ (n : ℕ). IsReply c.args.line.now (Count n))
-    (same_Some count c.in_ok-count.count (sym (c.size_between.ensures count (omega (arith, reply.range)) (numbered_line c.args.line.now (codes "{\"count\":") (decimal count) reply.bytes)) ∙ c.in_ok-count.was)) reply))
+    (same_Some count c.in_ok-count.count (sym (c.size_between.ensures count (omega (arith, reply.range))
+    (numbered_line c.args.line.now (codes "{\"count\":") (decimal count) reply.bytes)) ∙ c.in_ok-count.was)) reply))
 
 pub returns-clause-found : goal.returns-clause-found
 returns-clause-found c = confirmed_is c.confirmed.result c.args.line.now _ c.confirmed.ensures

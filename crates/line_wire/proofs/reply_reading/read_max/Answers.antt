@@ -17,7 +17,8 @@ pub returns-clause-none : goal.returns-clause-none
 returns-clause-none c = unconfirmed c.confirmed.result c.args.line.now _ c.confirmed.ensures (λ wrong max reply.
     let fits : SFits w64 c.in_ok-max.max = search rules in
     wrong (simp to_z-of_z (subst (λ (z : ℤ). IsReply c.args.line.now (Max z))
-    (same_Some max c.in_ok-max.max (sym (c.number_between.ensures max (omega (arith, reply.range)) (numbered_line c.args.line.now (codes "{\"max\":") (signed_decimal max) reply.bytes)) ∙ c.in_ok-max.was)) reply)))
+    (same_Some max c.in_ok-max.max (sym (c.number_between.ensures max (omega (arith, reply.range))
+    (numbered_line c.args.line.now (codes "{\"max\":") (signed_decimal max) reply.bytes)) ∙ c.in_ok-max.was)) reply)))
 
 pub returns-clause-found : goal.returns-clause-found
 returns-clause-found c = confirmed_is c.confirmed.result c.args.line.now _ c.confirmed.ensures

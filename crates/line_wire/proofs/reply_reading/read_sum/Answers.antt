@@ -17,7 +17,8 @@ pub returns-clause-none : goal.returns-clause-none
 returns-clause-none c = unconfirmed c.confirmed.result c.args.line.now _ c.confirmed.ensures (λ wrong sum reply.
     let fits : SFits w64 c.in_ok-sum.sum = search rules in
     wrong (simp to_z-of_z (subst (λ (z : ℤ). IsReply c.args.line.now (Sum z))
-    (same_Some sum c.in_ok-sum.sum (sym (c.number_between.ensures sum (omega (arith, reply.range)) (numbered_line c.args.line.now (codes "{\"sum\":") (signed_decimal sum) reply.bytes)) ∙ c.in_ok-sum.was)) reply)))
+    (same_Some sum c.in_ok-sum.sum (sym (c.number_between.ensures sum (omega (arith, reply.range))
+    (numbered_line c.args.line.now (codes "{\"sum\":") (signed_decimal sum) reply.bytes)) ∙ c.in_ok-sum.was)) reply)))
 
 pub returns-clause-found : goal.returns-clause-found
 returns-clause-found c = confirmed_is c.confirmed.result c.args.line.now _ c.confirmed.ensures

@@ -9,7 +9,8 @@ use Rattle.line_wire.proofs.reply_reading.size_between.Goals as goal
 pub returns-in-Some : goal.returns-in-Some
 returns-in-Some c = λ size small is.
     let fits : SFits w64 c.in-Some.number = search rules in
-    let number : c.in-Some.number ≡ pos size = same_Some c.in-Some.number (pos size) (sym c.in-Some.is ∙ c.number_between.ensures (pos size) (omega arith) is) in
+    let number : c.in-Some.number ≡ pos size = same_Some c.in-Some.number (pos size)
+    (sym c.in-Some.is ∙ c.number_between.ensures (pos size) (omega arith) is) in
     c.ok.ensures.value ∙ ap result_ok (whole c.in-Some.number size c.try_from.result number small (simp to_z-of_z at c.try_from.ensures))
 
 pub returns-in-None : goal.returns-in-None

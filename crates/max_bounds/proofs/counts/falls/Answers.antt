@@ -25,21 +25,24 @@ is_extreme-requires c =
 pub overflow_add-count : goal.overflow_add-count
 overflow_add-count c =
     let most = length-rows c.args.falling.now.n c.args.falling.now.list c.n.ensures.are_rows in
-    let few : length c.loop-row.yielded + length c.loop-row.row-iterator ≡ length c.args.falling.now.list = sym (length-append c.loop-row.yielded c.loop-row.row-iterator) ∙ ap length c.loop-row.invariant.together in
+    let few : length c.loop-row.yielded + length c.loop-row.row-iterator ≡ length c.args.falling.now.list =
+    sym (length-append c.loop-row.yielded c.loop-row.row-iterator) ∙ ap length c.loop-row.invariant.together in
     let counted = filter-shorter _ c.loop-row.yielded c.loop-row.count c.loop-row.invariant.counted in
     omega arith
 
 pub loop-row-preserved-then-is_extreme : goal.loop-row-preserved-then-is_extreme
 loop-row-preserved-then-is_extreme c = record {
   together =
-      walk_more c.loop-row.yielded c.loop-row.row-iterator c.next.new.self c.args.falling.now.list c.in-Some.row c.loop-row.invariant.together c.in-Some.ensures.steps;
+      walk_more c.loop-row.yielded c.loop-row.row-iterator c.next.new.self c.args.falling.now.list c.in-Some.row c.loop-row.invariant.together
+      c.in-Some.ensures.steps;
   counted = counted-push _ c.loop-row.yielded c.in-Some.row c.loop-row.count c.loop-row.invariant.counted (sym c.is_extreme.ensures ∙ c.if-is_extreme.true);
 }
 
 pub loop-row-preserved : goal.loop-row-preserved
 loop-row-preserved c = record {
   together =
-      walk_more c.loop-row.yielded c.loop-row.row-iterator c.next.new.self c.args.falling.now.list c.in-Some.row c.loop-row.invariant.together c.in-Some.ensures.steps;
+      walk_more c.loop-row.yielded c.loop-row.row-iterator c.next.new.self c.args.falling.now.list c.in-Some.row c.loop-row.invariant.together
+      c.in-Some.ensures.steps;
   counted = counted-same _ c.loop-row.yielded c.in-Some.row c.loop-row.count c.loop-row.invariant.counted (sym c.is_extreme.ensures ∙ c.if-is_extreme.false);
 }
 
@@ -56,7 +59,8 @@ returns-then-pair-range c =
     let same = to_z-of_z w64 c.args.pair.now.answer fits in
     let low = to_z-of_z w64 c.args.range.low low_fits in
     let high = to_z-of_z w64 c.args.range.high high_fits in
-    sym (ap length (falls-outside (bound_at c.args.upper.now) c.args.falling.now.list c.args.range (answer_of c.args.pair.now) c.requires.holds (elim c.then-pair-range.branch [
+    sym (ap length (falls-outside (bound_at c.args.upper.now) c.args.falling.now.list c.args.range (answer_of c.args.pair.now) c.requires.holds
+    (elim c.then-pair-range.branch [
       | then-pair-range-via-then-pair-range w ↦ inl (omega (arith, ints))
       | then-pair-range-via-else-pair-range+then-pair-range-2 w ↦ inr (omega (arith, ints))
     ])))

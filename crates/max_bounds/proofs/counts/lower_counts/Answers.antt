@@ -13,12 +13,14 @@ pub overflow_sub-counts : goal.overflow_sub-counts
 overflow_sub-counts c =
     let k = c.loop-k.k in
     let count : Answer → ℕ = λ a. length (reaching (bound_at c.args.upper.now) a.rows a.value) in
-    let few : length (falls_of (bound_at c.args.upper.now) c.args.falling.now.list (answer_of c.index-pairs-k.result)) ≤ length (reaching (bound_at c.args.upper.now) c.index-pairs-k.result.rows.list c.index-pairs-k.result.answer) =
+    let few : length (falls_of (bound_at c.args.upper.now) c.args.falling.now.list (answer_of c.index-pairs-k.result)) ≤ length
+    (reaching (bound_at c.args.upper.now) c.index-pairs-k.result.rows.list c.index-pairs-k.result.answer) =
     all_at (λ a. length (falls_of (bound_at c.args.upper.now) c.args.falling.now.list a) ≤ length (reaching (bound_at c.args.upper.now) a.rows a.value))
     (answers_of c.args.pairs.now)
     (answer_of c.index-pairs-k.result) c.requires.few (one_here c.args.pairs.now k c.index-pairs-k.result c.loop-k-test.true c.index-pairs-k.is) in
     let long : length c.args.counts.now ≡ length c.args.pairs.now = ap length c.requires.counted ∙ lengths_same count c.args.pairs.now in
-    let same : get_or c.loop-k.counts k 0 ≡ get_or c.args.counts.now k 0 = same_here c.loop-k.counts c.args.counts.now k 0 (omega (arith, c.loop-k.auto.counts)) (omega arith) c.loop-k.invariant.left in
+    let same : get_or c.loop-k.counts k 0 ≡ get_or c.args.counts.now k 0 =
+    same_here c.loop-k.counts c.args.counts.now k 0 (omega (arith, c.loop-k.auto.counts)) (omega arith) c.loop-k.invariant.left in
     let here : get_or c.args.counts.now k 0 ≡ length (reaching (bound_at c.args.upper.now) c.index-pairs-k.result.rows.list c.index-pairs-k.result.answer) =
     ap (λ l. get_or l k 0) c.requires.counted ∙ value_here c.args.pairs.now k c.index-pairs-k.result c.loop-k-test.true c.index-pairs-k.is count in
     omega (arith, c.falls.ensures)
@@ -27,10 +29,12 @@ pub loop-k-preserved : goal.loop-k-preserved
 loop-k-preserved c =
     let k = c.loop-k.k in
     let count : Answer → ℕ = λ a. length (reaching (bound_at c.args.upper.now) a.rows a.value) in
-    let after : Answer → ℕ = λ a. length (reaching (bound_at c.args.upper.now) a.rows a.value) - length (falls_of (bound_at c.args.upper.now) c.args.falling.now.list a) in
+    let after : Answer → ℕ = λ a. length (reaching (bound_at c.args.upper.now) a.rows a.value) - length
+    (falls_of (bound_at c.args.upper.now) c.args.falling.now.list a) in
     let long : length c.args.counts.now ≡ length c.args.pairs.now = ap length c.requires.counted ∙ lengths_same count c.args.pairs.now in
     let within : k < length c.loop-k.counts = omega (arith, c.loop-k.auto.counts) in
-    let same : get_or c.loop-k.counts k 0 ≡ get_or c.args.counts.now k 0 = same_here c.loop-k.counts c.args.counts.now k 0 within (omega arith) c.loop-k.invariant.left in
+    let same : get_or c.loop-k.counts k 0 ≡ get_or c.args.counts.now k 0 =
+    same_here c.loop-k.counts c.args.counts.now k 0 within (omega arith) c.loop-k.invariant.left in
     let here : get_or c.loop-k.counts k 0 ≡ count (answer_of c.index-pairs-k.result) =
     same ∙ ap (λ l. get_or l k 0) c.requires.counted ∙ value_here c.args.pairs.now k c.index-pairs-k.result c.loop-k-test.true c.index-pairs-k.is count in
     record {
@@ -47,7 +51,8 @@ returns c =
     let long : length c.args.counts.now ≡ length c.args.pairs.now = ap length c.requires.counted ∙ lengths_same count c.args.pairs.now in
     record {
       lowered = sym (take_all c.loop-k.k c.loop-k.counts (omega (arith, c.loop-k.auto.counts))) ∙ c.loop-k.invariant.done
-          ∙ ap (λ l. map (λ a. length (reaching (bound_at c.args.upper.now) a.rows a.value) - length (falls_of (bound_at c.args.upper.now) c.args.falling.now.list a)) (answers_of l)) (take_all c.loop-k.k c.args.pairs.now c.loop-k-test.false);
+          ∙ ap (λ l. map (λ a. length (reaching (bound_at c.args.upper.now) a.rows a.value) - length
+          (falls_of (bound_at c.args.upper.now) c.args.falling.now.list a)) (answers_of l)) (take_all c.loop-k.k c.args.pairs.now c.loop-k-test.false);
     }
 
 pub loop-k-init : goal.loop-k-init
@@ -69,6 +74,7 @@ pub falls-requires : goal.falls-requires
 falls-requires c = record {
   holds = c.range_of-range.ensures;
   same_n = ap (λ (p : AnsweredMax). p.rows.n) c.index-pairs-k.is
-      ∙ all-get_or (λ (p : AnsweredMax). p.rows.n ≡ c.args.falling.now.n) c.args.pairs.now c.loop-k.k c.index-pairs-k.result c.requires.same_n c.loop-k-test.true;
+      ∙ all-get_or (λ (p : AnsweredMax). p.rows.n ≡ c.args.falling.now.n) c.args.pairs.now c.loop-k.k c.index-pairs-k.result c.requires.same_n
+      c.loop-k-test.true;
   within = c.requires.within;
 }

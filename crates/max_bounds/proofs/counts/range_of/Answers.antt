@@ -15,9 +15,11 @@ bounds-upper-row c =
 pub loop-row-preserved : goal.loop-row-preserved
 loop-row-preserved c = record {
   together =
-      walk_more c.loop-row.yielded c.loop-row.row-iterator c.next.new.self c.args.falling.now.list c.in-Some.row c.loop-row.invariant.together c.in-Some.ensures.steps;
+      walk_more c.loop-row.yielded c.loop-row.row-iterator c.next.new.self c.args.falling.now.list c.in-Some.row c.loop-row.invariant.together
+      c.in-Some.ensures.steps;
   holds =
-      range_more (bound_at c.args.upper.now) c.loop-row.yielded c.in-Some.row c.loop-row.range c.widen-range.result c.loop-row.invariant.holds c.widen-range.ensures;
+      range_more (bound_at c.args.upper.now) c.loop-row.yielded c.in-Some.row c.loop-row.range c.widen-range.result c.loop-row.invariant.holds
+      c.widen-range.ensures;
 }
 
 pub returns : goal.returns

@@ -33,5 +33,6 @@ loop-row-preserved c =
 pub returns : goal.returns
 returns c =
     let same : to_z w128 (of_z w128 c.args.answer) ≡ c.args.answer = to_z-of_z w128 c.args.answer c.ranges.answer in
-    let ends = counting_ends (bound_at c.args.bounds.now) c.args.rows.now.list c.args.answer c.loop-row.count c.loop-row.lone (rw (same, c.in-None.ensures.steps.0) at c.loop-row.invariant) in
+    let ends = counting_ends (bound_at c.args.bounds.now) c.args.rows.now.list c.args.answer c.loop-row.count c.loop-row.lone
+    (rw (same, c.in-None.ensures.steps.0) at c.loop-row.invariant) in
     record { count = ends.0; lone = ends.1 }

@@ -17,7 +17,8 @@ bounds-upper-row c =
 pub loop-row-preserved : goal.loop-row-preserved
 loop-row-preserved c = record {
   together =
-      walk_more c.loop-row.yielded c.loop-row.row-iterator c.next.new.self c.args.rows.now.list c.in-Some.row c.loop-row.invariant.together c.in-Some.ensures.steps;
+      walk_more c.loop-row.yielded c.loop-row.row-iterator c.next.new.self c.args.rows.now.list c.in-Some.row c.loop-row.invariant.together
+      c.in-Some.ensures.steps;
 }
 
 pub returns-then-is_at_least : goal.returns-then-is_at_least

@@ -15,6 +15,7 @@ returns-in-Some c =
     (all_inserted P c.args.high.now.items c.in-Some.place _ c.requires.high (record {
       same_n = c.reach_high-rows.ensures.extremes_n ∙ c.all_rows.ensures.same_n;
       covers = λ r below passes. ap (λ l. has_row l r) c.reach_high-rows.ensures.extremes
-          ∙ has-filter (λ q. is_at_least (to_z w64 (of_z w64 c.args.cut)) (bound_at c.args.upper.now q)) c.all_rows.result.list r (c.all_rows.ensures.all r below) passes;
+          ∙ has-filter (λ q. is_at_least (to_z w64 (of_z w64 c.args.cut)) (bound_at c.args.upper.now q)) c.all_rows.result.list r
+          (c.all_rows.ensures.all r below) passes;
     }))
     c.requires.high)

@@ -10,7 +10,8 @@ loop-kept-preserved c =
     let n = c.args.rows.now.n in
     let within : c.loop-kept.kept-index < length c.loop-kept.high = omega (arith, c.loop-kept.auto.high) in
     let same = all-get_or (λ h. h.rows.n ≡ c.args.rows.now.n) c.loop-kept.high i c.kept-item.result c.loop-kept.invariant.same_n within in
-    let others : c.flip.new.self.list ≡ complement c.flip.new.self.n c.args.rows.now.list = c.flip.ensures.others ∙ ap (λ m. complement m c.args.rows.now.list) (sym c.flip.ensures.n) in
+    let others : c.flip.new.self.list ≡ complement c.flip.new.self.n c.args.rows.now.list = c.flip.ensures.others
+    ∙ ap (λ m. complement m c.args.rows.now.list) (sym c.flip.ensures.n) in
     record {
       same_n = all-set (λ h. h.rows.n ≡ c.args.rows.now.n) c.loop-kept.high i c.lower_one.new.high c.loop-kept.invariant.same_n (c.lower_one.ensures.n ∙ same);
       stay = λ bound low all.
@@ -18,5 +19,6 @@ loop-kept-preserved c =
           let here = all-get_or (IsHigh n bound) c.loop-kept.high i c.kept-item.result before within in
           all-set (IsHigh n bound) c.loop-kept.high i c.lower_one.new.high before
           (subst (λ m. IsHigh m bound c.lower_one.new.high) c.flip.ensures.n
-          (c.lower_one.ensures.high bound c.args.rows.now.list others low (subst (λ m. IsHigh m bound (get_or c.loop-kept.high i c.kept-item.result)) (sym c.flip.ensures.n) here)));
+          (c.lower_one.ensures.high bound c.args.rows.now.list others low
+          (subst (λ m. IsHigh m bound (get_or c.loop-kept.high i c.kept-item.result)) (sym c.flip.ensures.n) here)));
     }

@@ -9,4 +9,5 @@ pub returns-then-high-answer-clause-high : goal.returns-then-high-answer-clause-
 returns-then-high-answer-clause-high c = λ bound rows flipped low is.
     let fits : SFits w64 c.args.high.now.cut = search rules in
     let higher : c.args.answer <ℤ c.args.high.now.cut = omega (arith, ints) in
-    low_leave c.args.others.now.n bound c.args.high.now _ c.args.answer c.args.others.now.list rows c.and_with.ensures.n refl c.and_with.ensures.both flipped higher low is
+    low_leave c.args.others.now.n bound c.args.high.now _ c.args.answer c.args.others.now.list rows c.and_with.ensures.n refl c.and_with.ensures.both flipped
+    higher low is

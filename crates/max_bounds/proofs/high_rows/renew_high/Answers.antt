@@ -13,7 +13,8 @@ use Rattle.max_bounds.proofs.high_rows.renew_high.Goals.{then-not-affected, else
 pub lower_high-requires : goal.lower_high-requires
 lower_high-requires c =
     subst (AllByRecursion (λ h. h.rows.n ≡ c.args.rows.now.n)) (sym c.deref_mut.ensures.value)
-    (all-weaker (IsHigh c.args.rows.now.n (bound_at c.args.upper.now)) (λ h. h.rows.n ≡ c.args.rows.now.n) (λ h high. high.same_n) c.args.high.now.items c.requires.high)
+    (all-weaker (IsHigh c.args.rows.now.n (bound_at c.args.upper.now)) (λ h. h.rows.n ≡ c.args.rows.now.n)
+    (λ h high. high.same_n) c.args.high.now.items c.requires.high)
 
 pub insert_high-requires-clause-high : goal.insert_high-requires-clause-high
 insert_high-requires-clause-high c =
@@ -22,7 +23,8 @@ insert_high-requires-clause-high c =
     let renewed : AllByRecursion (IsHigh c.args.rows.now.n (bound_at c.args.upper.now)) c.if-not-affected.high.items = elim c.if-not-affected.branch [
       | then-not-affected w ↦
           subst (AllByRecursion P)
-          (sym (ap (λ (v : Vec HighRows Global). v.items) w.high-is ∙ with_items_is c.args.high.now w.lower_high.new.high (w.lower_high.auto.high ∙ w.deref_mut.ensures.len)))
+          (sym (ap (λ (v : Vec HighRows Global). v.items) w.high-is
+          ∙ with_items_is c.args.high.now w.lower_high.new.high (w.lower_high.auto.high ∙ w.deref_mut.ensures.len)))
           (w.lower_high.ensures (bound_at c.args.upper.now) low (subst (AllByRecursion P) (sym w.deref_mut.ensures.value) c.requires.high))
       | else-not-affected w ↦ subst (λ (v : Vec HighRows Global). AllByRecursion P v.items) (sym w.high-is) c.requires.high
     ] in

@@ -9,7 +9,8 @@ use Rattle.max_bounds.proofs.highest.one_highest.Goals as goal
 
 pub bounds-upper-row : goal.bounds-upper-row
 bounds-upper-row c =
-    let below = walk_row c.args.rows.now.n (c.in-Some.first ∷ c.loop-row.yielded) c.loop-row.row-iterator c.next-in-loop-row.new.self c.args.rows.now.list c.in-Some-row.row
+    let below = walk_row c.args.rows.now.n (c.in-Some.first ∷
+    c.loop-row.yielded) c.loop-row.row-iterator c.next-in-loop-row.new.self c.args.rows.now.list c.in-Some-row.row
     c.n.ensures.are_rows c.loop-row.invariant.together c.in-Some-row.ensures.steps in
     omega arith
 
@@ -18,10 +19,12 @@ returns-then-is_none c =
     let seen : List ℕ = c.in-Some.first ∷ c.loop-row.yielded in
     let q = c.in-Some-row.row in
     let same = equal_bounds _ _ (sym c.eq.ensures ∙ c.if-eq.true) in
-    let new = fresh c.args.rows.now.n seen c.loop-row.row-iterator c.next-in-loop-row.new.self c.args.rows.now.list q c.n.ensures.are_rows c.loop-row.invariant.together c.in-Some-row.ensures.steps in (
+    let new = fresh c.args.rows.now.n seen c.loop-row.row-iterator c.next-in-loop-row.new.self c.args.rows.now.list q c.n.ensures.are_rows
+    c.loop-row.invariant.together c.in-Some-row.ensures.steps in (
       (λ yes. absurd (true≢false (sym yes))),
       (λ one. absurd (two_free (bound_at c.args.upper.now) seen c.loop-row.highest c.loop-row.alone q c.loop-row.invariant.highest c.args.rows.now.list
-          (λ p there. seen_before seen c.loop-row.row-iterator c.next-in-loop-row.new.self c.args.rows.now.list q p c.loop-row.invariant.together c.in-Some-row.ensures.steps there)
+          (λ p there. seen_before seen c.loop-row.row-iterator c.next-in-loop-row.new.self c.args.rows.now.list q p c.loop-row.invariant.together
+          c.in-Some-row.ensures.steps there)
           same (sym same ∙ without_bound _ c.is_none.result c.is_none.ensures c.if-is_none.true) new one)),
     )
 
@@ -35,7 +38,8 @@ loop-row-preserved-then-eq c =
       highest =
           highest_equal (bound_at c.args.upper.now) seen c.loop-row.highest c.loop-row.alone q c.loop-row.invariant.highest
           (equal_bounds _ _ (sym c.eq.ensures ∙ c.if-eq.true))
-          (fresh c.args.rows.now.n seen c.loop-row.row-iterator c.next-in-loop-row.new.self c.args.rows.now.list q c.n.ensures.are_rows c.loop-row.invariant.together c.in-Some-row.ensures.steps);
+          (fresh c.args.rows.now.n seen c.loop-row.row-iterator c.next-in-loop-row.new.self c.args.rows.now.list q c.n.ensures.are_rows
+          c.loop-row.invariant.together c.in-Some-row.ensures.steps);
     }
 
 pub loop-row-preserved-then-is_higher : goal.loop-row-preserved-then-is_higher
@@ -46,7 +50,8 @@ loop-row-preserved-then-is_higher c =
       together =
           walk_more seen c.loop-row.row-iterator c.next-in-loop-row.new.self c.args.rows.now.list q c.loop-row.invariant.together c.in-Some-row.ensures.steps;
       highest =
-          highest_above (bound_at c.args.upper.now) seen c.loop-row.highest c.loop-row.alone q c.loop-row.invariant.highest (c.is_higher.ensures.0 c.if-is_higher.true);
+          highest_above (bound_at c.args.upper.now) seen c.loop-row.highest c.loop-row.alone q c.loop-row.invariant.highest
+          (c.is_higher.ensures.0 c.if-is_higher.true);
     }
 
 pub loop-row-preserved : goal.loop-row-preserved

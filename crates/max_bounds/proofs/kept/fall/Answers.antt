@@ -19,7 +19,8 @@ returns-then-is_empty-clause-tells c =
     let answers = answers_of c.args.pairs.now in
     let rows = c.args.latest.now.rows.list in
     let x = c.args.latest.now.answer in
-    let none : rows_above (upper_bound answers) x rows ≡ [] = ap (λ u. rows_above u x rows) (sym (fun_ext c.requires.bounds)) ∙ sym c.requires.falling ∙ c.is_empty.ensures.0 c.if-is_empty.true in
+    let none : rows_above (upper_bound answers) x rows ≡ [] = ap (λ u. rows_above u x rows) (sym (fun_ext c.requires.bounds)) ∙ sym c.requires.falling
+    ∙ c.is_empty.ensures.0 c.if-is_empty.true in
     let same = none_falls answers rows x none in
     record {
       counted =
@@ -48,7 +49,8 @@ lower_counts-requires-clause-few c =
     (λ a one. (next_count answers rows x n c.n.ensures.are_rows a one (all_at (λ b. AreRows n b.rows) answers a c.requires.are_rows one)).1) in
     subst (λ l. AllByRecursion (λ a. length (falls_of (bound_at c.args.upper.now) l a) ≤ length (reaching (bound_at c.args.upper.now) a.rows a.value)) answers)
     (sym c.requires.falling)
-    (subst (λ u. AllByRecursion (λ a. length (falls_of u (rows_above u x rows) a) ≤ length (reaching u a.rows a.value)) answers) (sym (fun_ext c.requires.bounds)) few)
+    (subst (λ u. AllByRecursion (λ a. length (falls_of u (rows_above u x rows) a) ≤ length (reaching u a.rows a.value)) answers)
+    (sym (fun_ext c.requires.bounds)) few)
 
 pub returns-clause-tells : goal.returns-clause-tells
 returns-clause-tells c =
@@ -61,14 +63,17 @@ returns-clause-tells c =
     record {
       counted = c.lower_counts.ensures.lowered
           ∙ ap
-          (λ l. map (λ (a : Answer). length (reaching (bound_at c.args.upper.now) a.rows a.value) - length (falls_of (bound_at c.args.upper.now) l a)) answers) c.requires.falling
+          (λ l. map (λ (a : Answer). length (reaching (bound_at c.args.upper.now) a.rows a.value) - length
+          (falls_of (bound_at c.args.upper.now) l a)) answers) c.requires.falling
           ∙ ap (λ u. map (λ (a : Answer). length (reaching u a.rows a.value) - length (falls_of u (rows_above u x rows) a)) answers) (fun_ext c.requires.bounds)
           ∙ map_agree (λ a. length (extremes answers a) - length (falls_of (upper_bound answers) (rows_above (upper_bound answers) x rows) a))
           (λ a. length (extremes (and_answer answers rows x) a)) answers
           (λ a one. (next_count answers rows x n c.n.ensures.are_rows a one (all_at (λ b. AreRows n b.rows) answers a c.requires.are_rows one)).0);
       fewest_is = c.fewest.ensures;
       are_least =
-          subst (AreLeast (extremes (and_answer answers rows x)) answers) (sym (c.lower_sets.ensures.lowered ∙ ap (λ a. map (lowered_set a rows) (answers_of c.args.least.now)) same)) (least_lowered answers rows x (answers_of c.args.least.now) c.requires.told.are_least);
+          subst (AreLeast (extremes (and_answer answers rows x)) answers)
+          (sym (c.lower_sets.ensures.lowered ∙ ap (λ a. map (lowered_set a rows) (answers_of c.args.least.now)) same))
+          (least_lowered answers rows x (answers_of c.args.least.now) c.requires.told.are_least);
     }
 
 pub returns-clause-descend : goal.returns-clause-descend

@@ -19,9 +19,11 @@ returns-then-not-has_within-clause-descend c =
     let least = c.args.least.now.items in
     let place = c.place_of-place.result in
     let set : AnsweredMax = record { rows = c.args.own.now; answer = to_z w64 (of_z w64 c.args.latest.now.answer) } in
-    let items_are : c.insert.new.self.items ≡ insert least place set = c.insert.ensures.items ∙ ap (λ b. cond b (insert least place set) least) (c.insert.ensures.succeeds c.requires.room) in
+    let items_are : c.insert.new.self.items ≡ insert least place set = c.insert.ensures.items
+    ∙ ap (λ b. cond b (insert least place set) least) (c.insert.ensures.succeeds c.requires.room) in
     subst (λ l. Descend (answers_of l)) (sym items_are)
-    (inserted_descend least place set c.requires.descend (subst (λ l. IsPlaceOf (to_z w64 (of_z w64 c.args.latest.now.answer)) l place) c.deref-then-not-has_within.ensures.value c.place_of-place.ensures.place))
+    (inserted_descend least place set c.requires.descend (subst
+    (λ l. IsPlaceOf (to_z w64 (of_z w64 c.args.latest.now.answer)) l place) c.deref-then-not-has_within.ensures.value c.place_of-place.ensures.place))
 
 pub returns-then-not-has_within-clause-tells : goal.returns-then-not-has_within-clause-tells
 returns-then-not-has_within-clause-tells c =
@@ -33,9 +35,11 @@ returns-then-not-has_within-clause-tells c =
     let least = c.args.least.now.items in
     let place = c.place_of-place.result in
     let set : AnsweredMax = record { rows = c.args.own.now; answer = to_z w64 (of_z w64 c.args.latest.now.answer) } in
-    let items_are : c.insert.new.self.items ≡ insert least place set = c.insert.ensures.items ∙ ap (λ b. cond b (insert least place set) least) (c.insert.ensures.succeeds c.requires.room) in
+    let items_are : c.insert.new.self.items ≡ insert least place set = c.insert.ensures.items
+    ∙ ap (λ b. cond b (insert least place set) least) (c.insert.ensures.succeeds c.requires.room) in
     subst (AreLeast (extremes (and_answer answers rows x)) (and_answer answers rows x))
-    (sym (ap answers_of items_are ∙ answers_inserted least place set ∙ ap (λ a. take place (answers_of least) ++ record { rows = c.args.own.now.list; value = a } ∷ drop place (answers_of least)) same))
+    (sym (ap answers_of items_are ∙ answers_inserted least place set
+    ∙ ap (λ a. take place (answers_of least) ++ record { rows = c.args.own.now.list; value = a } ∷ drop place (answers_of least)) same))
     (least_inserted answers rows x (answers_of least) place c.args.own.now.list c.requires.own c.requires.told)
 
 pub returns-else-not-has_within-clause-tells : goal.returns-else-not-has_within-clause-tells

@@ -8,5 +8,6 @@ use Rattle.max_bounds.proofs.kept.place_of.Goals as goal
 pub returns-clause-place : goal.returns-clause-place
 returns-clause-place c =
     let parted = above_come_first c.args.least.now c.args.answer c.requires.descend in
-    let point = IsPartitionPoint-from_clause (λ (s : AnsweredMax). int_lt c.args.answer s.answer) _ _ c.partition_point.ensures.partitioned parted (λ a r q k. search rules) in
+    let point = IsPartitionPoint-from_clause (λ (s : AnsweredMax). int_lt c.args.answer s.answer) _ _ c.partition_point.ensures.partitioned parted
+    (λ a r q k. search rules) in
     place_after c.args.least.now c.args.answer c.partition_point.result point

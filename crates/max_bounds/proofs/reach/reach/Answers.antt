@@ -70,4 +70,5 @@ pub returns-then-are_settled-clause-falling : goal.returns-then-are_settled-clau
 returns-then-are_settled-clause-falling c =
     let same : to_z w64 (of_z w64 c.args.answer) ≡ c.args.answer = to_z-of_z w64 c.args.answer c.ranges.answer in
     c.new.ensures.empty
-    ∙ none_above (bound_at c.args.upper.now) c.args.answer c.args.rows.now.list (subst (λ a. AreSettled (bound_at c.args.upper.now) a c.args.rows.now.list) same (c.are_settled.ensures c.if-are_settled.true))
+    ∙ none_above (bound_at c.args.upper.now) c.args.answer c.args.rows.now.list
+    (subst (λ a. AreSettled (bound_at c.args.upper.now) a c.args.rows.now.list) same (c.are_settled.ensures c.if-are_settled.true))

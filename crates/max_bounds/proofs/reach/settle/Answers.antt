@@ -10,19 +10,23 @@ use Rattle.max_bounds.proofs.reach.settle.Goals as goal
 
 pub bounds-upper-row : goal.bounds-upper-row
 bounds-upper-row c =
-    let below = walk_row c.args.affected.now.extremes.n c.loop-row.yielded c.loop-row.row-iterator c.next.new.self c.args.affected.now.extremes.list c.in-Some.row
+    let below = walk_row c.args.affected.now.extremes.n c.loop-row.yielded c.loop-row.row-iterator c.next.new.self c.args.affected.now.extremes.list
+    c.in-Some.row
     c.n.ensures.are_rows c.loop-row.invariant.together c.in-Some.ensures.steps in
     omega (arith, c.loop-row.auto.upper)
 
 pub loop-row-preserved : goal.loop-row-preserved
 loop-row-preserved c =
-    let below = walk_row c.args.affected.now.extremes.n c.loop-row.yielded c.loop-row.row-iterator c.next.new.self c.args.affected.now.extremes.list c.in-Some.row
+    let below = walk_row c.args.affected.now.extremes.n c.loop-row.yielded c.loop-row.row-iterator c.next.new.self c.args.affected.now.extremes.list
+    c.in-Some.row
     c.n.ensures.are_rows c.loop-row.invariant.together c.in-Some.ensures.steps in
     record {
       together =
-          walk_more c.loop-row.yielded c.loop-row.row-iterator c.next.new.self c.args.affected.now.extremes.list c.in-Some.row c.loop-row.invariant.together c.in-Some.ensures.steps;
+          walk_more c.loop-row.yielded c.loop-row.row-iterator c.next.new.self c.args.affected.now.extremes.list c.in-Some.row c.loop-row.invariant.together
+          c.in-Some.ensures.steps;
       settled =
-          settled_step (to_z w64 (of_z w64 c.args.answer)) c.loop-row.yielded c.args.upper.now c.loop-row.upper c.in-Some.row (omega (arith, c.loop-row.auto.upper)) c.loop-row.invariant.settled;
+          settled_step (to_z w64 (of_z w64 c.args.answer)) c.loop-row.yielded c.args.upper.now c.loop-row.upper c.in-Some.row
+          (omega (arith, c.loop-row.auto.upper)) c.loop-row.invariant.settled;
     }
 
 pub returns : goal.returns

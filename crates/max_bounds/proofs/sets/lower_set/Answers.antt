@@ -7,6 +7,7 @@ use Rattle.max_bounds.proofs.sets.lower_set.Goals as goal
 pub returns-then-set-answer-clause-lowered : goal.returns-then-set-answer-clause-lowered
 returns-then-set-answer-clause-lowered c = λ rows flipped.
     let fits : SFits w64 c.args.set.now.answer = search rules in
-    lowered c.args.set.now.rows.n c.args.others.now.n c.args.answer c.args.set.now.answer rows c.args.set.now.rows.list c.args.others.now.list c.and_with.new.self.list
+    lowered c.args.set.now.rows.n c.args.others.now.n c.args.answer c.args.set.now.answer rows c.args.set.now.rows.list c.args.others.now.list
+    c.and_with.new.self.list
     c.requires.same_n c.n.ensures.are_rows flipped c.and_with.ensures.both
     (rw (to_z-of_z w64 c.args.answer c.ranges.answer, to_z-of_z w64 c.args.set.now.answer fits) at c.if-set-answer.true)

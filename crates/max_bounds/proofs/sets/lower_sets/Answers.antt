@@ -15,14 +15,16 @@ loop-set-preserved c =
     let within : i < length c.loop-set.least = omega (arith, c.loop-set.auto.least) in
     let was : i < length c.args.least.now = omega (arith, c.loop-set.auto.least) in
     let n = all-get_or (λ p. p.rows.n ≡ c.args.rows.now.n) c.loop-set.least i c.set-item.result c.loop-set.invariant.same_n within in
-    let others : c.flip.new.self.list ≡ complement c.flip.new.self.n c.args.rows.now.list = c.flip.ensures.others ∙ ap (λ m. complement m c.args.rows.now.list) (sym c.flip.ensures.n) in
+    let others : c.flip.new.self.list ≡ complement c.flip.new.self.n c.args.rows.now.list = c.flip.ensures.others
+    ∙ ap (λ m. complement m c.args.rows.now.list) (sym c.flip.ensures.n) in
     record {
       same_n = all-set (λ p. p.rows.n ≡ c.args.rows.now.n) c.loop-set.least i c.lower_set.new.set c.loop-set.invariant.same_n (c.lower_set.ensures.n ∙ n);
       done =
           lowered_more
           (to_z w64 (of_z w64 c.args.answer)) c.args.rows.now.list c.args.least.now c.loop-set.least i c.set-item.result c.lower_set.new.set within was
           c.loop-set.invariant.left c.set-item.is
-          (c.lower_set.ensures.lowered c.args.rows.now.list others ∙ ap (λ z. lowered_set (to_z w64 (of_z w64 c.args.answer)) c.args.rows.now.list (answer_of z)) (sym c.set-item.is)) c.loop-set.invariant.done;
+          (c.lower_set.ensures.lowered c.args.rows.now.list others
+          ∙ ap (λ z. lowered_set (to_z w64 (of_z w64 c.args.answer)) c.args.rows.now.list (answer_of z)) (sym c.set-item.is)) c.loop-set.invariant.done;
       left = set_after c.loop-set.least c.args.least.now i c.set-item.result c.lower_set.new.set within was c.loop-set.invariant.left;
     }
 

@@ -12,16 +12,20 @@ use Rattle.max_bounds.specs.AnswerLaws.{one_here}
 
 pub returns-then-is_within : goal.returns-then-is_within
 returns-then-is_within c =
-    let others : c.flip.new.self.list ≡ complement c.flip.new.self.n c.args.rows.now.list = c.flip.ensures.others ∙ ap (λ m. complement m c.args.rows.now.list) (sym c.flip.ensures.n) in
+    let others : c.flip.new.self.list ≡ complement c.flip.new.self.n c.args.rows.now.list = c.flip.ensures.others
+    ∙ ap (λ m. complement m c.args.rows.now.list) (sym c.flip.ensures.n) in
     let same = to_z-of_z w64 c.args.answer c.ranges.answer in
-    let is : IsWithin c.args.rows.now.list c.args.answer (answer_of c.set-item.result) = subst (λ a. IsWithin c.args.rows.now.list a (answer_of c.set-item.result)) same ((c.is_within.ensures c.args.rows.now.list others).0 c.if-is_within.true) in (
+    let is : IsWithin c.args.rows.now.list c.args.answer (answer_of c.set-item.result) =
+    subst (λ a. IsWithin c.args.rows.now.list a (answer_of c.set-item.result)) same
+    ((c.is_within.ensures c.args.rows.now.list others).0 c.if-is_within.true) in (
       (λ yes. (answer_of c.set-item.result, one_here c.args.least.now c.loop-set.set-index c.set-item.result c.loop-set-test.true c.set-item.is, is)),
       (λ found. refl),
     )
 
 pub loop-set-preserved : goal.loop-set-preserved
 loop-set-preserved c =
-    let others : c.flip.new.self.list ≡ complement c.flip.new.self.n c.args.rows.now.list = c.flip.ensures.others ∙ ap (λ m. complement m c.args.rows.now.list) (sym c.flip.ensures.n) in
+    let others : c.flip.new.self.list ≡ complement c.flip.new.self.n c.args.rows.now.list = c.flip.ensures.others
+    ∙ ap (λ m. complement m c.args.rows.now.list) (sym c.flip.ensures.n) in
     let i = c.loop-set.set-index in
     let x = answer_of c.set-item.result in
     let seen = answers_of (take i c.args.least.now) in

@@ -13,11 +13,16 @@ loop-row-init c =
 pub loop-row-preserved : goal.loop-row-preserved
 loop-row-preserved c =
     let fits : SFits w128 c.least.result = search rules in
-    let read : to_z w128 (of_z w128 c.least.result) ≡ least_of (to_z w128 (of_z w128 c.args.answer)) (get_or c.loop-row.bounds c.in-Some.row None) = to_z-of_z w128 c.least.result fits ∙ c.least.ensures in
+    let read : to_z w128 (of_z w128 c.least.result) ≡ least_of (to_z w128 (of_z w128 c.args.answer)) (get_or c.loop-row.bounds c.in-Some.row None) =
+    to_z-of_z w128 c.least.result fits ∙ c.least.ensures in
     rw read
-    (lowering_step _ c.args.rows.now.list c.args.bounds.now c.in-Some.row c.next.new.self c.loop-row.bounds (rw c.in-Some.ensures.steps at c.loop-row.invariant))
+    (lowering_step _ c.args.rows.now.list c.args.bounds.now c.in-Some.row c.next.new.self c.loop-row.bounds
+    (rw c.in-Some.ensures.steps at c.loop-row.invariant))
 
 pub returns : goal.returns
 returns c =
     let same : to_z w128 (of_z w128 c.args.answer) ≡ c.args.answer = to_z-of_z w128 c.args.answer c.ranges.answer in
-    record { lowered = rw same at (lowering_ends _ c.args.rows.now.list c.args.bounds.now c.loop-row.bounds (rw c.in-None.ensures.steps.0 at c.loop-row.invariant)) }
+    record {
+      lowered = rw same at (lowering_ends _ c.args.rows.now.list c.args.bounds.now c.loop-row.bounds
+          (rw c.in-None.ensures.steps.0 at c.loop-row.invariant));
+    }

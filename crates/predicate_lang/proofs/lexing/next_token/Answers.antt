@@ -13,7 +13,12 @@ returns-in-Ok c =
     let same = rw c.as_bytes.ensures.value at c.skip_blanks-at.ensures.same in
     let stopped = rw c.as_bytes.ensures.value at c.skip_blanks-at.ensures.stopped in
     let within = rw c.as_bytes.ensures.value at c.skip_blanks-at.ensures.within in
-    let first : IsFirst c.args.text.now c.args.from c.skip_blanks-at.result = record { behind = c.skip_blanks-at.ensures.behind; inside = omega arith; solid = stopped (omega arith); same = same } in
+    let first : IsFirst c.args.text.now c.args.from c.skip_blanks-at.result = record {
+      behind = c.skip_blanks-at.ensures.behind;
+      inside = omega arith;
+      solid = stopped (omega arith);
+      same = same;
+    } in
     next_is c.args.schema.now.columns c.args.text.now c.args.from c.skip_blanks-at.result c.in-Ok.lexeme first c.in-Ok.ensures.exact c.in-Ok.ensures.within
 
 pub returns-in-Err-Bad : goal.returns-in-Err-Bad
@@ -21,6 +26,11 @@ returns-in-Err-Bad c =
     let same = rw c.as_bytes.ensures.value at c.skip_blanks-at.ensures.same in
     let stopped = rw c.as_bytes.ensures.value at c.skip_blanks-at.ensures.stopped in
     let within = rw c.as_bytes.ensures.value at c.skip_blanks-at.ensures.within in
-    let first : IsFirst c.args.text.now c.args.from c.skip_blanks-at.result = record { behind = c.skip_blanks-at.ensures.behind; inside = omega arith; solid = stopped (omega arith); same = same } in
+    let first : IsFirst c.args.text.now c.args.from c.skip_blanks-at.result = record {
+      behind = c.skip_blanks-at.ensures.behind;
+      inside = omega arith;
+      solid = stopped (omega arith);
+      same = same;
+    } in
     let taken = rw c.in-Err-Bad.field-0-is at c.in-Err-Bad.ensures.exact in
     refused_is c.args.schema.now.columns c.args.text.now c.args.from c.skip_blanks-at.result c.in-Err-Bad.at first taken

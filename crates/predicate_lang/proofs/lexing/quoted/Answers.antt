@@ -17,7 +17,8 @@ pub bytes-preserved : goal.bytes-preserved
 bytes-preserved c = record {
   within = omega arith;
   same =
-      doubled_quote c.args.rest.now c.bytes.list.items _ c.bytes.at (omega arith) (omega arith) c.if-rest-at-eq39.true c.in_ok-push-2.ensures.items c.bytes.invariant.same;
+      doubled_quote c.args.rest.now c.bytes.list.items _ c.bytes.at (omega arith)
+      (omega arith) c.if-rest-at-eq39.true c.in_ok-push-2.ensures.items c.bytes.invariant.same;
 }
 
 pub returns-else-at-rest-clause-exact : goal.returns-else-at-rest-clause-exact
@@ -26,7 +27,8 @@ returns-else-at-rest-clause-exact c =
     elim c.else-at-rest.branch [
       | else-at-rest-via-then-at-rest+else-rest-at-eq39 w ↦
           closed_before rest c.bytes.list.items c.bytes.at w.if-at-rest.true c.if-byte-ne39.false w.if-rest-at-eq39.false c.bytes.invariant.same
-      | else-at-rest-via-else-at-rest w ↦ closed_last rest c.bytes.list.items c.bytes.at c.bytes-test.true w.if-at-rest.false c.if-byte-ne39.false c.bytes.invariant.same
+      | else-at-rest-via-else-at-rest w ↦ closed_last rest c.bytes.list.items c.bytes.at c.bytes-test.true w.if-at-rest.false c.if-byte-ne39.false
+          c.bytes.invariant.same
     ]
 
 pub returns-else-at-rest-clause-within : goal.returns-else-at-rest-clause-within

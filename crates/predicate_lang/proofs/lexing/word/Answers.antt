@@ -17,9 +17,13 @@ range-requires-clause-end_boundary c =
 
 pub returns-clause-exact : goal.returns-clause-exact
 returns-clause-exact c =
-    let exact : c.name_length.result ≡ length (take_while is_name_byte (drop (c.args.at + 1) c.args.text.now)) = simp (c.as_bytes-bytes.ensures.value, take_rest) at c.name_length.ensures.exact in
-    let word : c.range.result.now ≡ get_or c.args.text.now c.args.at 0 ∷ take_while is_name_byte (drop (c.args.at + 1) c.args.text.now) = c.range.ensures.value ∙ take_front is_name_byte c.args.text.now c.args.at c.name_length.result c.requires.inside exact in
-    let token : c.word_token.result ≡ seen c.args.schema.now.columns (word_token (get_or c.args.text.now c.args.at 0 ∷ take_while is_name_byte (drop (c.args.at + 1) c.args.text.now))) = c.word_token.ensures ∙ ap (λ w. seen c.args.schema.now.columns (word_token w)) word in
+    let exact : c.name_length.result ≡ length (take_while is_name_byte (drop (c.args.at + 1) c.args.text.now)) =
+    simp (c.as_bytes-bytes.ensures.value, take_rest) at c.name_length.ensures.exact in
+    let word : c.range.result.now ≡ get_or c.args.text.now c.args.at 0 ∷ take_while is_name_byte (drop (c.args.at + 1) c.args.text.now) = c.range.ensures.value
+    ∙ take_front is_name_byte c.args.text.now c.args.at c.name_length.result c.requires.inside exact in
+    let token : c.word_token.result ≡ seen c.args.schema.now.columns
+    (word_token (get_or c.args.text.now c.args.at 0 ∷ take_while is_name_byte (drop (c.args.at + 1) c.args.text.now))) = c.word_token.ensures
+    ∙ ap (λ w. seen c.args.schema.now.columns (word_token w)) word in
     let made : Token → ℕ → Lexeme = λ t n. record { token = t; at = c.args.at; end = c.args.at + 1 + n } in
     ap (λ t. Some (made t (length (take_while is_name_byte (drop (c.args.at + 1) c.args.text.now))))) (sym token)
     ∙ ap (λ n. Some (made c.word_token.result n)) (sym exact)

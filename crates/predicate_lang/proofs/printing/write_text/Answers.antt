@@ -17,7 +17,8 @@ unfolding encode
 returns c =
     then_ok c.write_end.result _ _ c.write_end.ensures
     (λ last. last
-    ∙ last_quote (string_bytes c.args.out.now) (string_bytes c.push.new.self) (string_bytes c.quotes.out) (string_bytes c.quotes.out ++ c.quotes.rest.now) c.args.text.now
+    ∙ last_quote (string_bytes c.args.out.now) (string_bytes c.push.new.self) (string_bytes c.quotes.out)
+    (string_bytes c.quotes.out ++ c.quotes.rest.now) c.args.text.now
     c.quotes.rest.now
     c.in_ok-push.ensures.bytes c.quotes.invariant.1 refl (split_nowhere c.quotes.rest.now c.in_default.ensures.cases))
 

@@ -19,7 +19,8 @@ returns-in-Ok c =
     let next : IsNext c.args.schema.now.columns c.args.text.now c.args.from c.in-Ok-Some.field-0-0 = rw c.in-Ok-Some.field-0-is at c.in-Ok-Some.ensures in
     let longer : c.in-Ok-Some.field-0-0.at < c.in-Ok-Some.field-0-0.end = next.longer in
     let behind : c.args.from ≤ c.in-Ok-Some.field-0-0.at = next.behind in
-    let goes = more_read c.args.schema.now.columns c.args.text.now c.args.from c.args.count (build_of c.args.state.now) c.in-Ok-Some.field-0-0 c.requires.read next c.in-Ok.ensures.0 in
+    let goes = more_read c.args.schema.now.columns c.args.text.now c.args.from c.args.count
+    (build_of c.args.state.now) c.in-Ok-Some.field-0-0 c.requires.read next c.in-Ok.ensures.0 in
     record {
       read = subst (HasRead c.args.schema.now.columns c.args.text.now c.in-Ok-Some.field-0-0.end (c.args.count + 1)) (sym c.in-Ok.ensures.1) goes;
       longer = omega (arith, longer, behind);
@@ -32,7 +33,8 @@ returns-in-Err-put c =
     let next : IsNext c.args.schema.now.columns c.args.text.now c.args.from c.in-Ok-Some.field-0-0 = rw c.in-Ok-Some.field-0-is at c.in-Ok-Some.ensures in
     refused_put c.args.schema.now.columns c.args.text.now _
     (put (build_of c.args.state.now) c.in-Ok-Some.field-0-0.token) c.in-Ok-Some.field-0-0.at c.in-Err-put.fault _ c.in-Err-put.ensures
-    (unfit_there c.args.schema.now.columns c.args.text.now c.args.from c.args.count (build_of c.args.state.now) c.in-Ok-Some.field-0-0 c.requires.read c.requires.few next)
+    (unfit_there c.args.schema.now.columns c.args.text.now c.args.from c.args.count
+    (build_of c.args.state.now) c.in-Ok-Some.field-0-0 c.requires.read c.requires.few next)
 
 pub returns-in-Ok-finish : goal.returns-in-Ok-finish
 returns-in-Ok-finish c =

@@ -22,6 +22,7 @@ returns-clause-rows c =
     let within = c.count_to_number-within.ensures in
     numbers_found c.args.index.now c.args.column _ Eq c.args.number c.numbers_of-list.result.now c.order-order.result.now c.sorted-sorted.result.now.order _
     c.count_to_number-below.result c.count_to_number-within.result
-    (ap (λ (p : PublicView). cells_at p c.args.column) (sym c.public.ensures) ∙ c.numbers_of-list.ensures) c.sorted-sorted.ensures.rows c.order-order.ensures.order
+    (ap (λ (p : PublicView). cells_at p c.args.column) (sym c.public.ensures)
+    ∙ c.numbers_of-list.ensures) c.sorted-sorted.ensures.rows c.order-order.ensures.order
     (equal_range value c.order-order.result.now _ _ below.bound within.bound (rw back at below.point) (rw back at within.point))
     c.range.ensures.rows

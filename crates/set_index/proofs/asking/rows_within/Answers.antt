@@ -5,11 +5,16 @@ use Rattle.set_index.proofs.asking.rows_within.Goals as goal
 
 pub loop-literal-init : goal.loop-literal-init
 loop-literal-init c =
-    record { n = c.new-rows.ensures.n ∙ c.rows.ensures.rows ∙ ap (λ (p : PublicView). p.rows) c.public.ensures; met = c.new-rows.ensures.empty ∙ sym (met_none c.args.index.now c.args.column) }
+    record {
+      n = c.new-rows.ensures.n ∙ c.rows.ensures.rows ∙ ap (λ (p : PublicView). p.rows) c.public.ensures;
+      met = c.new-rows.ensures.empty
+          ∙ sym (met_none c.args.index.now c.args.column);
+    }
 
 pub loop-literal-preserved : goal.loop-literal-preserved
 loop-literal-preserved c = record {
   n = c.or_with.ensures.n ∙ c.loop-literal.invariant.n;
   met =
-      met_more c.args.index.now c.args.column _ c.loop-literal.literal-index c.args.literals.now _ _ _ _ (omega arith) (search rules) c.loop-literal.invariant.n c.loop-literal.invariant.met c.rows_where.ensures.rows c.or_with.ensures.either;
+      met_more c.args.index.now c.args.column _ c.loop-literal.literal-index c.args.literals.now _ _ _ _ (omega arith)
+      (search rules) c.loop-literal.invariant.n c.loop-literal.invariant.met c.rows_where.ensures.rows c.or_with.ensures.either;
 }

@@ -21,6 +21,7 @@ returns-clause-rows c =
     texts_found c.args.index.now c.args.column _ c.args.text.now
     (map (λ t. t.items) c.texts_of-list.result.now) c.order-order.result.now c.sorted-sorted.result.now.order _
     c.count_to_text-below.result c.count_to_text-within.result
-    (ap (λ (p : PublicView). cells_at p c.args.column) (sym c.public.ensures) ∙ c.texts_of-list.ensures) c.sorted-sorted.ensures.rows c.order-order.ensures.order
+    (ap (λ (p : PublicView). cells_at p c.args.column) (sym c.public.ensures)
+    ∙ c.texts_of-list.ensures) c.sorted-sorted.ensures.rows c.order-order.ensures.order
     (equal_range value c.order-order.result.now _ _ below.bound within.bound below.point within.point)
     c.range.ensures.rows

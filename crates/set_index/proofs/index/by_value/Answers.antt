@@ -26,5 +26,6 @@ returns-clause-ascending c =
     let new = c.sort_by_value.new.rows in
     let kept = take_at new (drop (length new) order.items) order.len (omega (arith, c.sort_by_value.auto.rows, c.as_mut_slice.ensures.len)) in
     IfOk-weaker c.new.result _ _
-    (λ (s : SortedView) order_is. subst (λ (l : List ℕ). IsSorted (compare_rows (cells_kept c.args.column.now)) l) (sym (order_is ∙ kept)) c.in_ok-sort_by_value.ensures.ascending)
+    (λ (s : SortedView) order_is. subst (λ (l : List ℕ). IsSorted (compare_rows (cells_kept c.args.column.now)) l)
+    (sym (order_is ∙ kept)) c.in_ok-sort_by_value.ensures.ascending)
     c.new.ensures.order

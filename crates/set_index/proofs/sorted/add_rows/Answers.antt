@@ -16,7 +16,8 @@ loop-row-preserved c = record {
   added = c.add.ensures.added
       ∙ ap (λ n. with_row n c.loop-row.rows.list (get_or c.args.list.now c.loop-row.row-index 0)) c.loop-row.invariant.n
       ∙ ap (λ rows. with_row c.args.rows.now.n rows (get_or c.args.list.now c.loop-row.row-index 0)) c.loop-row.invariant.added
-      ∙ added_more c.args.rows.now.n c.args.rows.now.list c.args.list.now c.loop-row.row-index (get_or c.args.list.now c.loop-row.row-index 0) c.loop-row-test.true refl;
+      ∙ added_more c.args.rows.now.n c.args.rows.now.list c.args.list.now c.loop-row.row-index
+      (get_or c.args.list.now c.loop-row.row-index 0) c.loop-row-test.true refl;
 }
 
 pub returns-clause-added : goal.returns-clause-added

@@ -44,7 +44,8 @@ returns-then-len-eq-KEPT-clause-line c =
     let line = ap (λ (held : Held). held.line) c.self.view_is in
     let size : length c.args.self.now.line ≡ 8193 =
     ap (λ (l : List ℕ). length l) (sym line)
-    ∙ length-take-le (c.self.inside.stop - c.self.inside.start) (drop c.self.inside.start c.self.inside.bytes.items) (omega (arith, length-drop c.self.inside.start c.self.inside.bytes.items))
+    ∙ length-take-le (c.self.inside.stop - c.self.inside.start) (drop c.self.inside.start c.self.inside.bytes.items)
+    (omega (arith, length-drop c.self.inside.start c.self.inside.bytes.items))
     ∙ c.if-len-eq-KEPT.true in
     line ∙ kept-full c.args.self.now.line (take c.args.count c.args.self.now.pending) size
 
@@ -52,7 +53,8 @@ pub returns-clause-pending : goal.returns-clause-pending
 returns-clause-pending c =
     let pending = ap (λ (held : Held). held.pending) c.self.view_is in
     let fits = range-long c.self.inside.bytes.items c.self.inside.from c.self.inside.end c.args.count (omega arith) (rw (← pending) at c.requires) in
-    let same : length c.move_bytes.new.bytes ≡ length c.self.inside.bytes.items = c.move_bytes.ensures.len ∙ ap (λ (l : List ℕ). length l) c.deref_mut.ensures.value in
+    let same : length c.move_bytes.new.bytes ≡ length c.self.inside.bytes.items = c.move_bytes.ensures.len
+    ∙ ap (λ (l : List ℕ). length l) c.deref_mut.ensures.value in
     ap (λ (l : List ℕ). slice_range l (c.self.inside.from + c.args.count) c.self.inside.end)
     (written_back c.self.inside.bytes.len c.move_bytes.new.bytes c.self.inside.bytes.items same (omega arith))
     ∙ rest-same 8193 c.self.inside.bytes.items c.move_bytes.new.bytes c.self.inside.start c.self.inside.stop c.self.inside.from c.self.inside.end c.args.count
@@ -65,7 +67,8 @@ returns-clause-line c =
     let pending = ap (λ (held : Held). held.pending) c.self.view_is in
     let line = ap (λ (held : Held). held.line) c.self.view_is in
     let fits = range-long c.self.inside.bytes.items c.self.inside.from c.self.inside.end c.args.count (omega arith) (rw (← pending) at c.requires) in
-    let same : length c.move_bytes.new.bytes ≡ length c.self.inside.bytes.items = c.move_bytes.ensures.len ∙ ap (λ (l : List ℕ). length l) c.deref_mut.ensures.value in
+    let same : length c.move_bytes.new.bytes ≡ length c.self.inside.bytes.items = c.move_bytes.ensures.len
+    ∙ ap (λ (l : List ℕ). length l) c.deref_mut.ensures.value in
     let begins : ℕ = c.self.inside.from - (c.self.inside.stop - c.self.inside.start) in
     ap (λ (l : List ℕ). slice_range l begins (c.self.inside.from + c.min.result))
     (written_back c.self.inside.bytes.len c.move_bytes.new.bytes c.self.inside.bytes.items same (omega arith))

@@ -44,8 +44,10 @@ returns g c =
           still_in_front _ c.read_to.new.bytes before moved _ len written
           (rw c.deref_mut-2.ensures.value at c.in_ok-count.ensures.before) before_is (rw c.deref_mut.ensures.value at c.move_bytes.ensures.moved)
           ∙ ap (λ (held : Held). held.line) c.self.view_is;
-      count =
-          (omega (arith, size, c.in_ok-count.ensures.bound, length-take (len + c.in_ok-count.count - len) (drop len after), length-drop len after), omega (arith, c.in_ok-count.ensures.bound, read_size));
+      count = (
+        omega (arith, size, c.in_ok-count.ensures.bound, length-take (len + c.in_ok-count.count - len) (drop len after), length-drop len after),
+        omega (arith, c.in_ok-count.ensures.bound, read_size),
+      );
       none = tt;
       bytes = λ told.
           let there = taken_there _ _ len c.in_ok-count.count written in

@@ -32,15 +32,27 @@ loop-self-preserved-in-None g c =
     let taken = finished.same.0 ∙ absorbed.same.0 in
     record {
       within =
-          record { pending = omega (arith, within.pending, size, finished.same.0); given = omega (arith, within.given, size, finished.same.0); small = omega (arith, within.small, size) };
+          record {
+            pending = omega (arith, within.pending, size, finished.same.0);
+            given = omega (arith, within.given, size, finished.same.0);
+            small = omega (arith, within.small, size);
+          };
       reached = λ told. to_next _ _ _ _ (to_feed _ _ _ _ (turn.reached told) absorbed.passes) finished.counts.0 finished.counts.1 finished.same.2;
       same = λ told is. turn.same told (sym ended ∙ is);
       taken = λ told. rw taken (turn.taken told);
       grown =
-          omega (arith, grown_feed c.args.self.now c.loop-self.self c.absorb.new.self turn.grown absorbed.passes absorbed.same.0, size, taken, finished.same.0, ap (λ (l : List ℕ). length l) finished.counts.1);
+          omega (
+            arith,
+            grown_feed c.args.self.now c.loop-self.self c.absorb.new.self turn.grown absorbed.passes absorbed.same.0,
+            size,
+            taken,
+            finished.same.0,
+            ap (λ (l : List ℕ). length l) finished.counts.1,
+          );
       steady = turn.steady;
       unread =
-          next_unread c.args.self.now c.loop-self.self c.absorb.new.self c.finish.new.self _ _ turn.unread absorbed.passes finished.counts.0 finished.counts.1 finished.same.2;
+          next_unread c.args.self.now c.loop-self.self c.absorb.new.self c.finish.new.self _ _ turn.unread absorbed.passes finished.counts.0 finished.counts.1
+          finished.same.2;
       once = λ is. ((turn.once is).0, ended ∙ (turn.once is).1);
     }
 
@@ -49,7 +61,8 @@ loop-self-smaller-in-None g c =
     let absorbed = c.in-Fed.ensures in
     let finished = c.in-None.ensures in
     let fewer = shrinks_feed c.loop-self.self c.absorb.new.self absorbed.passes in
-    less_at_hand c.loop-self.self c.absorb.new.self c.finish.new.self absorbed.same.0 absorbed.same.1 finished.same.0 finished.same.1 finished.same.2 fewer absorbed.within.1.given
+    less_at_hand c.loop-self.self c.absorb.new.self c.finish.new.self absorbed.same.0 absorbed.same.1 finished.same.0 finished.same.1 finished.same.2 fewer
+    absorbed.within.1.given
 
 pub loop-self-preserved : goal.loop-self-preserved
 loop-self-preserved g c =
@@ -66,10 +79,17 @@ loop-self-preserved g c =
           let read = ap (λ (l : List ℕ). length l) (refilled.bytes told) ∙ length-append c.refill.new.self.pending (g.P.Source.left c.refill.new.source) in
           omega (arith, was, read, refilled.taken, absorbed.same.0);
       grown =
-          omega (arith, grown_none c.args.self.now c.loop-self.self c.absorb.new.self turn.grown absorbed.passes.0 absorbed.same.0, ap (λ (l : List ℕ). length l) refilled.text, ap (λ (l : List ℕ). length l) absorbed.passes.1, refilled.taken);
+          omega (
+            arith,
+            grown_none c.args.self.now c.loop-self.self c.absorb.new.self turn.grown absorbed.passes.0 absorbed.same.0,
+            ap (λ (l : List ℕ). length l) refilled.text,
+            ap (λ (l : List ℕ). length l) absorbed.passes.1,
+            refilled.taken,
+          );
       steady = refilled.cause.steady ∙ turn.steady;
       unread =
-          inr (ap whole_lines (append-nil c.args.self.now.pending) ∙ still_unread c.args.self.now c.loop-self.self c.absorb.new.self _ _ turn.unread absorbed.passes.0 absorbed.passes.1);
+          inr (ap whole_lines (append-nil c.args.self.now.pending)
+          ∙ still_unread c.args.self.now c.loop-self.self c.absorb.new.self _ _ turn.unread absorbed.passes.0 absorbed.passes.1);
       once = λ is. absurd (both_ways _ open_end (absorbed.same.1 ∙ (turn.once is).1));
     }
 

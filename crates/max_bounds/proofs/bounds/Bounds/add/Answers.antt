@@ -37,8 +37,10 @@ renew_high-requires-clause-low c =
     let rows = c.args.rows.now.list in
     let x = to_z w64 (of_z w64 c.args.answer) in
     let bounds : bound_at c.deref-2.result.now ≡ upper_bound answers = ap bound_at c.deref-2.ensures.value ∙ fun_ext c.self.invariant.bounds in
-    let upper_is : (with_items c.self.inside.upper c.settle.new.upper).items ≡ c.settle.new.upper = with_items_is c.self.inside.upper c.settle.new.upper (c.settle.auto.upper ∙ c.deref_mut-3.ensures.len) in
-    let reached : c.reach_high-affected.result.extremes.list ≡ rows_at_least (upper_bound answers) x rows = c.reach_high-affected.ensures.extremes ∙ ap (λ u. rows_at_least u x rows) bounds in
+    let upper_is : (with_items c.self.inside.upper c.settle.new.upper).items ≡ c.settle.new.upper =
+    with_items_is c.self.inside.upper c.settle.new.upper (c.settle.auto.upper ∙ c.deref_mut-3.ensures.len) in
+    let reached : c.reach_high-affected.result.extremes.list ≡ rows_at_least (upper_bound answers) x rows = c.reach_high-affected.ensures.extremes
+    ∙ ap (λ u. rows_at_least u x rows) bounds in
     λ r cut there higher. ap (is_at_least cut) (ap (λ l. bound_at l r) (c.deref-6.ensures.value ∙ upper_is) ∙ c.settle.ensures.settled r
     ∙ ap (λ l. cond (has_row l r) (Some x) (bound_at c.deref_mut-3.result.now r)) reached
     ∙ ap (λ o. cond (has_row (rows_at_least (upper_bound answers) x rows) r) (Some x) o)
@@ -52,8 +54,10 @@ renew_high-requires-clause-high c =
     let x = to_z w64 (of_z w64 c.args.answer) in
     let upper = c.self.inside.upper.items in
     let same_n : c.args.rows.now.n ≡ c.self.inside.n = c.requires.same_n ∙ sym (ap (λ (m : Maxima). m.n) c.self.view_is) in
-    let upper_is : (with_items c.self.inside.upper c.settle.new.upper).items ≡ c.settle.new.upper = with_items_is c.self.inside.upper c.settle.new.upper (c.settle.auto.upper ∙ c.deref_mut-3.ensures.len) in
-    let reached : c.reach_high-affected.result.extremes.list ≡ rows_at_least (bound_at upper) x rows = c.reach_high-affected.ensures.extremes ∙ ap (λ l. rows_at_least (bound_at l) x rows) c.deref-2.ensures.value in
+    let upper_is : (with_items c.self.inside.upper c.settle.new.upper).items ≡ c.settle.new.upper =
+    with_items_is c.self.inside.upper c.settle.new.upper (c.settle.auto.upper ∙ c.deref_mut-3.ensures.len) in
+    let reached : c.reach_high-affected.result.extremes.list ≡ rows_at_least (bound_at upper) x rows = c.reach_high-affected.ensures.extremes
+    ∙ ap (λ l. rows_at_least (bound_at l) x rows) c.deref-2.ensures.value in
     subst (λ n. AllByRecursion (IsHigh n (bound_at c.deref-6.result.now)) c.self.inside.high.items) (sym same_n)
     (all_stay c.self.inside.n (bound_at upper) (bound_at c.deref-6.result.now) x rows c.self.inside.high.items c.self.invariant.high (λ r.
     ap (λ l. bound_at l r) (c.deref-6.ensures.value ∙ upper_is) ∙ c.settle.ensures.settled r
@@ -71,21 +75,26 @@ invariant_of-self-2 c =
     let pairs_are = c.push_reserved-2.ensures.items ∙ ap (λ l. l ++ record { rows = c.args.rows.now; answer = x } ∷ []) c.in_ok-make_room.ensures.pairs in
     let answers_are : answers_of c.push_reserved-2.new.self.items ≡ more = ap answers_of pairs_are ∙ map-append answer_of c.self.inside.pairs.items _ in
     let bounds : bound_at c.deref-2.result.now ≡ upper_bound answers = ap bound_at c.deref-2.ensures.value ∙ fun_ext c.self.invariant.bounds in
-    let reached : c.reach_high-affected.result.extremes.list ≡ rows_at_least (upper_bound answers) x rows = c.reach_high-affected.ensures.extremes ∙ ap (λ u. rows_at_least u x rows) bounds in
+    let reached : c.reach_high-affected.result.extremes.list ≡ rows_at_least (upper_bound answers) x rows = c.reach_high-affected.ensures.extremes
+    ∙ ap (λ u. rows_at_least u x rows) bounds in
     let own : c.reach_high-affected.result.extremes.list ≡ extremes more last = reached ∙ next_extremes answers rows x in
     let fallen : TellsExtremes (extremes more) answers c.fall-fewest.new.counts c.fall-fewest.result (answers_of c.fall-fewest.new.least) =
-    subst (λ l. TellsExtremes (extremes (and_answer (answers_of l) rows x)) (answers_of l) c.fall-fewest.new.counts c.fall-fewest.result (answers_of c.fall-fewest.new.least)) (c.deref-3.ensures.value ∙ c.in_ok-make_room.ensures.pairs) c.fall-fewest.ensures.tells in
+    subst (λ l. TellsExtremes (extremes (and_answer (answers_of l) rows x)) (answers_of l) c.fall-fewest.new.counts c.fall-fewest.result
+    (answers_of c.fall-fewest.new.least)) (c.deref-3.ensures.value ∙ c.in_ok-make_room.ensures.pairs) c.fall-fewest.ensures.tells in
     let count : c.len-count.result ≡ length (extremes more last) = c.len-count.ensures ∙ ap length own in
     let counts_are : c.push_reserved.new.self.items ≡ c.fall-fewest.new.counts ++ c.len-count.result ∷ [] =
     c.push_reserved.ensures.items
     ∙ ap (λ l. l ++ c.len-count.result ∷ [])
     (with_items_is c.make_room.new.counts c.fall-fewest.new.counts (c.fall-fewest.auto.counts ∙ c.deref_mut.ensures.len)) in
-    let upper_is : (with_items c.self.inside.upper c.settle.new.upper).items ≡ c.settle.new.upper = with_items_is c.self.inside.upper c.settle.new.upper (c.settle.auto.upper ∙ c.deref_mut-3.ensures.len) in
+    let upper_is : (with_items c.self.inside.upper c.settle.new.upper).items ≡ c.settle.new.upper =
+    with_items_is c.self.inside.upper c.settle.new.upper (c.settle.auto.upper ∙ c.deref_mut-3.ensures.len) in
     let small : c.len-count.result ≤ 65535 = omega (arith, c.len-count.type_inv) in
     record {
       at_most = c.self.invariant.at_most;
       same_n =
-          subst (AllByRecursion (λ p. p.rows.n ≡ c.self.inside.n)) (sym pairs_are) (all-push (λ p. p.rows.n ≡ c.self.inside.n) c.self.inside.pairs.items (record { rows = c.args.rows.now; answer = x }) c.self.invariant.same_n same_n);
+          subst (AllByRecursion (λ p. p.rows.n ≡ c.self.inside.n)) (sym pairs_are)
+          (all-push (λ p. p.rows.n ≡ c.self.inside.n) c.self.inside.pairs.items
+          (record { rows = c.args.rows.now; answer = x }) c.self.invariant.same_n same_n);
       are_rows = subst (AllByRecursion (λ a. AreRows c.self.inside.n a.rows)) (sym answers_are)
           (all-push (λ a. AreRows c.self.inside.n a.rows) answers last c.self.invariant.are_rows (subst (λ n. AreRows n rows) same_n c.n.ensures.are_rows));
       one_each = ap length upper_is ∙ c.settle.auto.upper ∙ ap length c.deref_mut-3.ensures.value ∙ c.self.invariant.one_each;
@@ -97,16 +106,18 @@ invariant_of-self-2 c =
       same_n_least = subst (λ n. AllByRecursion (λ p. p.rows.n ≡ n) c.insert.new.least.items) same_n c.insert.ensures.same_n_least;
       descend = c.insert.ensures.descend;
       high =
-          subst (λ l. AllByRecursion (IsHigh c.self.inside.n (bound_at l)) c.renew_high.new.high.items) c.deref-6.ensures.value (subst (λ n. AllByRecursion (IsHigh n (bound_at c.deref-6.result.now)) c.renew_high.new.high.items) same_n c.renew_high.ensures);
-      tells = subst (λ l. TellsExtremes (extremes l) l c.push_reserved.new.self.items c.min-self-inside.result (answers_of c.insert.new.least.items)) (sym answers_are) (record {
-        counted = counts_are ∙ ap (λ l. l ++ c.len-count.result ∷ []) fallen.counted ∙ ap (λ k. map (λ a. length (extremes more a)) answers ++ k ∷ []) count
-            ∙ sym (map-append (λ a. length (extremes more a)) answers (last ∷ []));
-        fewest_is = c.min-self-inside.ensures ∙ ap (λ f. min f c.len-count.result) fallen.fewest_is
-            ∙ sym (ap fewest_of counts_are ∙ fewest_of-push c.fall-fewest.new.counts c.len-count.result small);
-        are_least =
-            subst (λ l. AreLeast (extremes (and_answer (answers_of l) rows x)) (and_answer (answers_of l) rows x) (answers_of c.insert.new.least.items))
-            (c.deref-5.ensures.value ∙ c.in_ok-make_room.ensures.pairs) c.insert.ensures.tells;
-      });
+          subst (λ l. AllByRecursion (IsHigh c.self.inside.n (bound_at l)) c.renew_high.new.high.items) c.deref-6.ensures.value
+          (subst (λ n. AllByRecursion (IsHigh n (bound_at c.deref-6.result.now)) c.renew_high.new.high.items) same_n c.renew_high.ensures);
+      tells = subst (λ l. TellsExtremes (extremes l) l c.push_reserved.new.self.items c.min-self-inside.result (answers_of c.insert.new.least.items))
+          (sym answers_are) (record {
+            counted = counts_are ∙ ap (λ l. l ++ c.len-count.result ∷ []) fallen.counted ∙ ap (λ k. map (λ a. length (extremes more a)) answers ++ k ∷ []) count
+                ∙ sym (map-append (λ a. length (extremes more a)) answers (last ∷ []));
+            fewest_is = c.min-self-inside.ensures ∙ ap (λ f. min f c.len-count.result) fallen.fewest_is
+                ∙ sym (ap fewest_of counts_are ∙ fewest_of-push c.fall-fewest.new.counts c.len-count.result small);
+            are_least =
+                subst (λ l. AreLeast (extremes (and_answer (answers_of l) rows x)) (and_answer (answers_of l) rows x) (answers_of c.insert.new.least.items))
+                (c.deref-5.ensures.value ∙ c.in_ok-make_room.ensures.pairs) c.insert.ensures.tells;
+          });
     }
 
 pub returns-clause-ok : goal.returns-clause-ok
@@ -116,7 +127,8 @@ returns-clause-ok c =
     let x = to_z w64 (of_z w64 c.args.answer) in
     let same : x ≡ c.args.answer = to_z-of_z w64 c.args.answer c.ranges.answer in
     let pairs_are = c.push_reserved-2.ensures.items ∙ ap (λ l. l ++ record { rows = c.args.rows.now; answer = x } ∷ []) c.in_ok-make_room.ensures.pairs in
-    let answers_are : answers_of c.push_reserved-2.new.self.items ≡ and_answer answers rows x = ap answers_of pairs_are ∙ map-append answer_of c.self.inside.pairs.items _ in
+    let answers_are : answers_of c.push_reserved-2.new.self.items ≡ and_answer answers rows x = ap answers_of pairs_are
+    ∙ map-append answer_of c.self.inside.pairs.items _ in
     ap (λ (l : List Answer). record { n = c.self.inside.n; answers = l }) (answers_are ∙ ap (and_answer answers rows) same)
     ∙ ap (λ (m : Maxima). record { n = m.n; answers = and_answer m.answers rows c.args.answer }) c.self.view_is
 
@@ -138,7 +150,8 @@ same_items b pairs counts least p q s kept = record {
 
 pub invariant_of-self : goal.invariant_of-self
 invariant_of-self c =
-    same_items c.self.inside c.make_room.new.pairs c.make_room.new.counts c.make_room.new.least c.in_err-make_room.ensures.pairs c.in_err-make_room.ensures.counts
+    same_items c.self.inside c.make_room.new.pairs c.make_room.new.counts c.make_room.new.least c.in_err-make_room.ensures.pairs
+    c.in_err-make_room.ensures.counts
     c.in_err-make_room.ensures.least c.self.invariant
 
 pub reach_high-affected-requires-clause-high : goal.reach_high-affected-requires-clause-high
@@ -180,7 +193,12 @@ fall-fewest-requires-clause-descend c =
 
 pub fall-fewest-requires-clause-told : goal.fall-fewest-requires-clause-told
 fall-fewest-requires-clause-told c =
-    rw (c.deref-3.ensures.value ∙ c.in_ok-make_room.ensures.pairs, c.deref_mut.ensures.value ∙ c.in_ok-make_room.ensures.counts, c.deref_mut-2.ensures.value ∙ c.in_ok-make_room.ensures.least)
+    rw (
+      c.deref-3.ensures.value ∙ c.in_ok-make_room.ensures.pairs,
+      c.deref_mut.ensures.value ∙ c.in_ok-make_room.ensures.counts,
+      c.deref_mut-2.ensures.value
+          ∙ c.in_ok-make_room.ensures.least,
+    )
     c.self.invariant.tells
 
 pub insert-requires-clause-same_n_least : goal.insert-requires-clause-same_n_least
@@ -198,9 +216,11 @@ insert-requires-clause-told c =
     let rows = c.args.rows.now.list in
     let x = to_z w64 (of_z w64 c.args.answer) in
     let least_is = with_items_is c.make_room.new.least c.fall-fewest.new.least (c.fall-fewest.auto.least ∙ c.deref_mut-2.ensures.len) in
-    subst (λ l. AreLeast (extremes (and_answer (answers_of l) rows x)) (answers_of l) (answers_of (with_items c.make_room.new.least c.fall-fewest.new.least).items))
+    subst (λ l. AreLeast (extremes (and_answer (answers_of l) rows x)) (answers_of l)
+    (answers_of (with_items c.make_room.new.least c.fall-fewest.new.least).items))
     (c.deref-3.ensures.value ∙ sym c.deref-5.ensures.value)
-    (subst (λ s. AreLeast (extremes (and_answer (answers_of c.deref-3.result.now) rows x)) (answers_of c.deref-3.result.now) (answers_of s)) (sym least_is) c.fall-fewest.ensures.tells.are_least)
+    (subst (λ s. AreLeast (extremes (and_answer (answers_of c.deref-3.result.now) rows x)) (answers_of c.deref-3.result.now) (answers_of s))
+    (sym least_is) c.fall-fewest.ensures.tells.are_least)
 
 pub returns-in_err-make_room : goal.returns-in_err-make_room
 returns-in_err-make_room c = record {
@@ -248,7 +268,8 @@ push_reserved-requires-2 c = c.in_ok-make_room.ensures.pairs_room
 pub renew_high-requires-clause-within : goal.renew_high-requires-clause-within
 renew_high-requires-clause-within c =
     let same_n : c.args.rows.now.n ≡ c.self.inside.n = c.requires.same_n ∙ sym (ap (λ (m : Maxima). m.n) c.self.view_is) in
-    let upper_is : (with_items c.self.inside.upper c.settle.new.upper).items ≡ c.settle.new.upper = with_items_is c.self.inside.upper c.settle.new.upper (c.settle.auto.upper ∙ c.deref_mut-3.ensures.len) in
+    let upper_is : (with_items c.self.inside.upper c.settle.new.upper).items ≡ c.settle.new.upper =
+    with_items_is c.self.inside.upper c.settle.new.upper (c.settle.auto.upper ∙ c.deref_mut-3.ensures.len) in
     omega (
       arith,
       same_n,

@@ -19,7 +19,11 @@ returns-then-self-lt2 c =
     let few = c.self.inside.fewest in
     let sets = answers_of c.self.inside.least.items in
     subst (λ (m : Maxima). IsTrue (few == 1) ↔ IsDangerousByExtremes m.answers c.args.rows.now.list) c.self.view_is (
-      (λ yes. let one = eqb-true few 1 yes in record { consistent = consistent answers counts few sets kept.tells (omega arith); cause = inl (some_lone answers counts few sets kept.tells one) }),
+      (λ yes. let one = eqb-true few 1 yes in record {
+        consistent = consistent answers counts few sets kept.tells (omega arith);
+        cause =
+            inl (some_lone answers counts few sets kept.tells one);
+      }),
       (λ danger. elim (cases_eq few 0) [
         | inl none ↦ absurd (not_consistent answers counts few sets kept.tells none danger.consistent)
         | inr some ↦ eq-eqb few 1 (omega arith)
@@ -63,8 +67,10 @@ returns-else-one_highest_of c =
       (λ yes. record {
         consistent = consistent answers c.self.inside.counts.items c.self.inside.fewest sets kept.tells some;
         cause =
-            inr (inr (stranded_answer answers c.self.inside.counts.items c.self.inside.fewest sets kept.tells rows (subst (λ l. HasStranded (λ a. a.rows) l rows) least (c.strands.ensures.0 yes))));
+            inr (inr (stranded_answer answers c.self.inside.counts.items c.self.inside.fewest sets kept.tells rows
+            (subst (λ l. HasStranded (λ a. a.rows) l rows) least (c.strands.ensures.0 yes))));
       }),
-      (λ danger. c.strands.ensures.1 (subst (λ l. HasStranded (λ a. a.rows) l rows) (sym least) (decides answers c.self.inside.counts.items c.self.inside.fewest sets kept.tells c.self.inside.n kept.are_rows rows more danger
+      (λ danger. c.strands.ensures.1 (subst (λ l. HasStranded (λ a. a.rows) l rows) (sym least)
+          (decides answers c.self.inside.counts.items c.self.inside.fewest sets kept.tells c.self.inside.n kept.are_rows rows more danger
           (λ highest. true≢false (sym (c.one_highest_of.ensures.1 (subst (λ u. HasOneHighest u rows) (sym bounds) highest)) ∙ c.if-one_highest_of.false))))),
     )

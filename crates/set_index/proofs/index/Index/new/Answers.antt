@@ -8,7 +8,8 @@ pub loop-column-preserved : goal.loop-column-preserved
 loop-column-preserved c = record {
   count = omega (arith, simp length-append at (ap length c.in_ok-push.ensures.items), c.loop-column.invariant.count);
   sorted =
-      sorts_more c.rows-rows.result c.columns-column-items.result.now c.loop-column.columns.items c.push.new.self.items c.loop-column.column-index c.column-item.result c.in_ok-sorted.field-0
+      sorts_more c.rows-rows.result c.columns-column-items.result.now c.loop-column.columns.items c.push.new.self.items c.loop-column.column-index
+      c.column-item.result c.in_ok-sorted.field-0
       c.loop-column.invariant.count c.loop-column.invariant.sorted
       (c.column-item.is ∙ get_or_default c.columns-column-items.result.now c.loop-column.column-index c.column-item.result Hidden c.loop-column-test.true)
       c.in_ok-sorted.ensures c.in_ok-push.ensures.items;

@@ -16,7 +16,8 @@ add_rows-requires-clause-below c =
     let within : c.args.count ≤ length c.self.inside.order.items = subst (λ (v : SortedView). c.args.count ≤ length v.order) (sym c.self.view_is) c.requires in
     let is : c.index.result.now ≡ record { n = c.self.inside.rows; list = first_rows c.self.inside.rows c.self.inside.order.items (16 * (c.args.count / 16)) } =
     c.index.ensures ∙ c.self.invariant.marks.sets (c.args.count / 16) c.index.result.now (omega (arith, c.self.invariant.marks.enough)) in
-    let below : All (λ r. r < c.self.inside.rows) (part c.self.inside.order.items (16 * (c.args.count / 16)) c.args.count) = part_below _ _ _ _ c.self.invariant.each_once in
+    let below : All (λ r. r < c.self.inside.rows) (part c.self.inside.order.items (16 * (c.args.count / 16)) c.args.count) =
+    part_below _ _ _ _ c.self.invariant.each_once in
     subst (λ (m : Rows). All (λ r. r < m.n) (part c.deref.result.now (16 * (c.args.count / 16)) c.args.count)) (sym is)
     (subst (λ xs. All (λ r. r < c.self.inside.rows) (part xs (16 * (c.args.count / 16)) c.args.count)) (sym c.deref.ensures.value) below)
 
@@ -28,6 +29,7 @@ returns-clause-rows c =
     c.add_rows.ensures.added
     ∙ ap (λ (m : Rows). union m.n m.list (part c.deref.result.now (16 * (c.args.count / 16)) c.args.count)) is
     ∙ ap
-    (λ xs. union c.self.inside.rows (first_rows c.self.inside.rows c.self.inside.order.items (16 * (c.args.count / 16))) (part xs (16 * (c.args.count / 16)) c.args.count)) c.deref.ensures.value
+    (λ xs. union c.self.inside.rows (first_rows c.self.inside.rows c.self.inside.order.items (16 * (c.args.count / 16)))
+    (part xs (16 * (c.args.count / 16)) c.args.count)) c.deref.ensures.value
     ∙ first_more c.self.inside.rows c.self.inside.order.items (16 * (c.args.count / 16)) c.args.count (omega arith)
     ∙ ap (λ (v : SortedView). first_rows v.rows v.order c.args.count) c.self.view_is

@@ -26,7 +26,8 @@ loop-k-preserved c =
     let list = c.add_rows.ensures.added
     ∙ ap (λ (m : Rows). union m.n m.list (part c.deref.result.now (16 * c.loop-k.k) (16 * (c.loop-k.k + 1)))) c.loop-k.invariant.first
     ∙ ap
-    (λ xs. union c.args.rows (first_rows c.args.rows c.args.order.items (16 * c.loop-k.k)) (part xs (16 * c.loop-k.k) (16 * (c.loop-k.k + 1)))) c.deref.ensures.value
+    (λ xs. union c.args.rows (first_rows c.args.rows c.args.order.items (16 * c.loop-k.k))
+    (part xs (16 * c.loop-k.k) (16 * (c.loop-k.k + 1)))) c.deref.ensures.value
     ∙ first_more c.args.rows c.args.order.items (16 * c.loop-k.k) (16 * (c.loop-k.k + 1)) (omega arith) in
     let is : c.add_rows.new.rows ≡ record { n = c.args.rows; list = first_rows c.args.rows c.args.order.items (16 * (c.loop-k.k + 1)) } =
     rows_are c.add_rows.new.rows c.args.rows _ (c.add_rows.ensures.n ∙ ap (λ (m : Rows). m.n) c.loop-k.invariant.first) list in
@@ -34,5 +35,6 @@ loop-k-preserved c =
       first = is;
       count = omega (arith, simp length-append at (ap length c.in_ok-push-2.ensures.items), c.loop-k.invariant.count);
       held =
-          hold_more c.args.rows c.args.order.items c.loop-k.marks.items _ c.add_rows.new.rows (c.loop-k.k + 1) c.loop-k.invariant.held c.loop-k.invariant.count is c.in_ok-push-2.ensures.items;
+          hold_more c.args.rows c.args.order.items c.loop-k.marks.items _ c.add_rows.new.rows
+          (c.loop-k.k + 1) c.loop-k.invariant.held c.loop-k.invariant.count is c.in_ok-push-2.ensures.items;
     }
