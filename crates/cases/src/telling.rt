@@ -39,7 +39,7 @@ impl Case<'_> {
 }
 
 // What was due, and what came in its place.
-#[derive(Clone, Copy)]
+#[derive(Drop)]
 struct Difference<'a, T> {
     what: &'a str,
     due: &'a T,
