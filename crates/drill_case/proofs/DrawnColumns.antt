@@ -39,7 +39,8 @@ are_numbers : (number which : ℕ) (of_draw : ℕ → ℕ) → ((d : ℕ) → of
 are_numbers number which of_draw least rows = record {
   one_each = length-map-range_with_len (λ row. pos (of_draw (draw number (4 * row + which)))) 0 rows;
   within =
-      within (λ row. pos (of_draw (draw number (4 * row + which)))) (λ row. small (of_draw (draw number (4 * row + which))) (least (draw number (4 * row + which)))) 0 rows;
+      within (λ row. pos (of_draw (draw number (4 * row + which))))
+      (λ row. small (of_draw (draw number (4 * row + which))) (least (draw number (4 * row + which)))) 0 rows;
 }
 
 public_numbers : (number rows : ℕ) → AllByRecursion (AreNumbers rows) (bands number rows ∷ ages number rows ∷ [])

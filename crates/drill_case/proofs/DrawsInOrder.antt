@@ -21,14 +21,18 @@ steps number place next state is at =
 pub four_steps : (number place first second third fourth state : ℕ) → first ≡ next_state state → second ≡ next_state first → third ≡ next_state second
     → fourth ≡ next_state third → state ≡ state_after number place
     → (fourth ≡ state_after number (place + 4)) ×
-    (◌≡◌ {A = List ℕ} (first / 2 ^ 33 ∷ second / 2 ^ 33 ∷ third / 2 ^ 33 ∷ fourth / 2 ^ 33 ∷ []) (draw number place ∷ draw number (place + 1) ∷ draw number (place + 2) ∷ draw number (place + 3) ∷ []))
+    (◌≡◌ {A = List ℕ} (first / 2 ^ 33 ∷ second / 2 ^ 33 ∷ third / 2 ^ 33 ∷ fourth / 2 ^ 33 ∷ [])
+    (draw number place ∷ draw number (place + 1) ∷ draw number (place + 2) ∷ draw number (place + 3) ∷ []))
 four_steps number place first second third fourth state one two three four at =
     let a : first ≡ state_after number (place + 1) = one ∙ steps number place (place + 1) state refl at in
     let b : second ≡ state_after number (place + 2) = two ∙ steps number (place + 1) (place + 2) first (omega arith) a in
     let c : third ≡ state_after number (place + 3) = three ∙ steps number (place + 2) (place + 3) second (omega arith) b in
     let d : fourth ≡ state_after number (place + 4) = four ∙ steps number (place + 3) (place + 4) third (omega arith) c in
-    let later : (before k : ℕ) → before ≡ k + 1 → state_after number before ≡ state_after number (k + 1) = λ before k is. ap (state_after number) is in
-    (d, λ i. a i / 2 ^ 33 ∷ (b ∙ later (place + 2) (place + 1) (omega arith)) i / 2 ^ 33 ∷ (c ∙ later (place + 3) (place + 2) (omega arith)) i / 2 ^ 33 ∷ (d ∙ later (place + 4) (place + 3) (omega arith)) i / 2 ^ 33 ∷ [])
+    let later : (before k : ℕ) → before ≡ k + 1 → state_after number before ≡ state_after number (k + 1) = λ before k is. ap (state_after number) is in (
+      d,
+      λ i. a i / 2 ^ 33 ∷ (b ∙ later (place + 2) (place + 1) (omega arith)) i / 2 ^ 33 ∷ (c ∙ later (place + 3) (place + 2) (omega arith)) i / 2 ^ 33 ∷
+          (d ∙ later (place + 4) (place + 3) (omega arith)) i / 2 ^ 33 ∷ [],
+    )
 
 -- the draw at a place among four
 pub one_of_four : (number start place : ℕ) (four : List ℕ) → place < 4

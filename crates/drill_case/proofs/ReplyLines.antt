@@ -64,7 +64,8 @@ average_line num den = record {
   text = codes "{\"num\":" ++ (signed_decimal num ++ (codes ",\"den\":" ++ (decimal den ++ codes "}")));
   ends = sym (simp append_assoc);
   feedless = feedless-append (codes "{\"num\":") (signed_decimal num ++ (codes ",\"den\":" ++ (decimal den ++ codes "}"))) refl
-      (feedless-append (signed_decimal num) (codes ",\"den\":" ++ (decimal den ++ codes "}")) (feedless-signed_decimal num) (feedless-append (codes ",\"den\":") (decimal den ++ codes "}") refl (feedless-append (decimal den) (codes "}") (feedless-decimal den) refl)));
+      (feedless-append (signed_decimal num) (codes ",\"den\":" ++ (decimal den ++ codes "}")) (feedless-signed_decimal num)
+      (feedless-append (codes ",\"den\":") (decimal den ++ codes "}") refl (feedless-append (decimal den) (codes "}") (feedless-decimal den) refl)));
   some = omega arith;
 }
 

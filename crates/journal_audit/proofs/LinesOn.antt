@@ -27,7 +27,11 @@ module _ {D : Type 0} (bench : Ghosts D) (only_now : NowOnly bench) (audit : Aud
   found_now : (about : List Subject) (old : D) → IsQuiet bench old → LeavesOnly bench old old (SendsMeanwhile audit about (bench.file old) (bench.sent old))
   found_now about old quiet = started bench old (SendsMeanwhile audit about (bench.file old) (bench.sent old)) (λ image sent was.
       let now = only_now old image sent was in
-      record { same = quiet image now.0; front = subst (λ bytes. SendsFront audit about (bench.sent old) bytes) (sym now.1) (none_front audit about (bench.sent old)) })
+      record {
+        same = quiet image now.0;
+        front = subst (λ bytes. SendsFront audit about (bench.sent old) bytes) (sym now.1)
+            (none_front audit about (bench.sent old));
+      })
 
   -- before the first line
   pub no_lines : (old : D) → SendsLinesOn bench audit [] old old (Ok tt)
@@ -66,7 +70,11 @@ module _ {D : Type 0} (bench : Ghosts D) (only_now : NowOnly bench) (audit : Aud
     while_sending sends quiet =
         goes_on bench old old new (SendsMeanwhile audit (subject ∷ []) (bench.file old) (bench.sent old)) (Sending (bench.leaves new) (bench.sent old) line)
         (found_now (subject ∷ []) old quiet) sends.time
-        (λ image sent within. record { same = quiet image (sends.crash image within.0); front = one_front audit subject line (bench.sent old) sent is within.1 })
+        (λ image sent within. record {
+          same = quiet image (sends.crash image within.0);
+          front =
+              one_front audit subject line (bench.sent old) sent is within.1;
+        })
 
     -- it was sent, or a front of it was
     pub line_on : (r : Result (Unit {0}) AuditFault) → SendsLine bench line old new r → SendsLinesOn bench audit (subject ∷ []) old new r
@@ -105,7 +113,11 @@ module _ {D : Type 0} (bench : Ghosts D) (only_now : NowOnly bench) (audit : Aud
         (weakens bench a b (SendsMeanwhile audit xs (bench.file a) (bench.sent a)) (SendsMeanwhile audit (xs ++ ys) (bench.file a) (bench.sent a))
         (λ image sent here. record { same = here.same; front = front_of_more audit xs ys (bench.sent a) sent here.front }) (first.moments told quiet))
         (weakens bench b c (SendsMeanwhile audit ys (bench.file b) (bench.sent b)) (SendsMeanwhile audit (xs ++ ys) (bench.file a) (bench.sent a))
-        (λ image sent here. record { same = here.same ∙ first.file; front = then_front audit xs ys (bench.sent a) (bench.sent b) sent (first.sends told) here.front })
+        (λ image sent here. record {
+          same = here.same ∙ first.file;
+          front =
+              then_front audit xs ys (bench.sent a) (bench.sent b) sent (first.sends told) here.front;
+        })
         (second.moments told (still_quiet quiet)))
 
     -- the first lines and then more

@@ -12,13 +12,15 @@ use Rattle.journal_audit.proofs.Subjects.{rows_before, rows_before-more, rows_af
 -- what is written of a column's own form is a row's line
 pub is_row_line : (audit : Audit) (column row n : ℕ) (answers : List Answer) (name line : List ℕ) → n ≡ audit.shape.rows
     → answers ≡ answers_of column audit.history → name ≡ secret_name audit.schema column
-    → (form : List (List ℤ)) → Reduced n (sets_of answers) form → (d : List ℤ) → IsCanonicalDirection n (sets_of answers) form row d → line ≡ direction_line name row d → IsRowLine audit column row line
+    → (form : List (List ℤ)) → Reduced n (sets_of answers) form → (d : List ℤ) → IsCanonicalDirection n (sets_of answers) form row d →
+    line ≡ direction_line name row d → IsRowLine audit column row line
 is_row_line audit column row n answers name line same_n same_answers same_name form reduced d canonical line_is = record {
   form = form;
   reduced = subst (λ a. Reduced audit.shape.rows (sets_of a) form) same_answers (subst (λ k. Reduced k (sets_of answers) form) same_n reduced);
   direction = d;
   canonical =
-      subst (λ a. IsCanonicalDirection audit.shape.rows (sets_of a) form row d) same_answers (subst (λ k. IsCanonicalDirection k (sets_of answers) form row d) same_n canonical);
+      subst (λ a. IsCanonicalDirection audit.shape.rows (sets_of a) form row d) same_answers
+      (subst (λ k. IsCanonicalDirection k (sets_of answers) form row d) same_n canonical);
   line_is = line_is ∙ ap (λ s. direction_line s row d) same_name;
 }
 

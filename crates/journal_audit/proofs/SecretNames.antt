@@ -22,7 +22,12 @@ stands_at (d ∷ cs) zero c here =
     let same = same_Some d c here in record { here = here; others = cs; all = ap (λ x. x ∷ cs) same; one_more = ap (λ x. x ∷ []) same }
 stands_at (d ∷ cs) (suc place) c here =
     let rest = stands_at cs place c here in
-    record { here = here; others = rest.others; all = ap (λ l. d ∷ l) rest.all; one_more = ap (λ n. take n (d ∷ cs)) (add-one (suc place)) ∙ ap (λ l. d ∷ l) (ap (λ n. take n cs) (sym (add-one place)) ∙ rest.one_more) }
+    record {
+      here = here;
+      others = rest.others;
+      all = ap (λ l. d ∷ l) rest.all;
+      one_more = ap (λ n. take n (d ∷ cs)) (add-one (suc place)) ∙ ap (λ l. d ∷ l) (ap (λ n. take n cs) (sym (add-one place)) ∙ rest.one_more);
+    }
 
 -- a secret column stands at a place, and so many secret ones before it
 pub record IsSecretAt (cs : List Column) (place column : ℕ) : Type 0 where
@@ -72,7 +77,8 @@ by_public cs place n c here false secret is =
     let kept = λ (l : List Column). filter (λ d. is_secret d.role) l in
     ap secret_count (stands_at cs place c here).one_more
     ∙ ap length
-    (filter-append (λ d. is_secret d.role) (take place cs) (c ∷ []) ∙ ap (λ b. kept (take place cs) ++ cond b (c ∷ []) []) secret ∙ append-nil (kept (take place cs)))
+    (filter-append (λ d. is_secret d.role) (take place cs) (c ∷ []) ∙ ap (λ b. kept (take place cs) ++ cond b (c ∷ []) []) secret
+    ∙ append-nil (kept (take place cs)))
 
 no_more : (cs : List Column) (place : ℕ) (c : Column) → slice_get cs place ≡ Some c → secret_place cs place ≡ None →
     secret_count (take (place + 1) cs) ≡ secret_count (take place cs)
@@ -98,7 +104,8 @@ name_is cs place column name is named =
     let own : name ≡ at.c.name = same_Some name at.c.name (named ∙ ap (option_map (λ c. c.name)) at.at.here) in
     let all : secret_names cs ≡ names front ++ at.c.name ∷ names rest =
     ap names
-    (ap (filter (λ d. is_secret d.role)) at.at.all ∙ filter-append (λ d. is_secret d.role) (take place cs) (at.c ∷ at.at.others) ∙ ap (λ l. front ++ l) (kept_one at.c at.at.others at.secret))
+    (ap (filter (λ d. is_secret d.role)) at.at.all ∙ filter-append (λ d. is_secret d.role) (take place cs) (at.c ∷ at.at.others)
+    ∙ ap (λ l. front ++ l) (kept_one at.c at.at.others at.secret))
     ∙ map-append (λ c. c.name) front (at.c ∷ rest) in
     own ∙ sym (get_or-append_seam (names front) at.c.name (names rest) [])
     ∙ ap (λ n. get_or (names front ++ at.c.name ∷ names rest) n []) (length-map front (λ c. c.name) ∙ sym at.counted) ∙ ap (λ l. get_or l column []) (sym all)

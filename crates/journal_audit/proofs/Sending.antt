@@ -69,6 +69,7 @@ then_front audit xs ys a b c sends front = record {
     length (concat sends.lines) + front.sent.0,
     front.sent.1 ∙ ap (λ l. l ++ take front.sent.0 (concat front.lines)) sends.sent_is
         ∙ append_assoc a (concat sends.lines) (take front.sent.0 (concat front.lines))
-        ∙ ap (λ l. a ++ l) (sym (take-append-add (concat sends.lines) (concat front.lines) front.sent.0) ∙ ap (λ l. take (length (concat sends.lines) + front.sent.0) l) (sym (concat-append sends.lines front.lines))),
+        ∙ ap (λ l. a ++ l) (sym (take-append-add (concat sends.lines) (concat front.lines) front.sent.0)
+        ∙ ap (λ l. take (length (concat sends.lines) + front.sent.0) l) (sym (concat-append sends.lines front.lines))),
   );
 }

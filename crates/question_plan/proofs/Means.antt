@@ -57,7 +57,9 @@ module _ (sum : ℤ) (size g : ℕ) (some : 0 < size) (common : IsGcd (unsigned_
   pub lowest : IsGcd (unsigned_abs (int_div sum (pos g))) (size / g) 1
   lowest =
       let scaled = scaled_gcd g divisor_some (suc (size / g)) (unsigned_abs (int_div sum (pos g))) (size / g) (omega arith) in
-      let here : IsGcd (unsigned_abs sum) size (g * scaled.0) = subst (λ (m : ℕ). IsGcd m size (g * scaled.0)) (sym abs_is) (subst (λ (m : ℕ). IsGcd (g * unsigned_abs (int_div sum (pos g))) m (g * scaled.0)) (sym size_is) scaled.2) in
+      let here : IsGcd (unsigned_abs sum) size (g * scaled.0) =
+      subst (λ (m : ℕ). IsGcd m size (g * scaled.0)) (sym abs_is)
+      (subst (λ (m : ℕ). IsGcd (g * unsigned_abs (int_div sum (pos g))) m (g * scaled.0)) (sym size_is) scaled.2) in
       subst (λ (k : ℕ). IsGcd (unsigned_abs (int_div sum (pos g))) (size / g) k)
       (one scaled.0 (same_from_IsGcd (unsigned_abs sum) size g (g * scaled.0) common here)) scaled.1
 

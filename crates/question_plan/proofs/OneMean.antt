@@ -57,8 +57,10 @@ module _ (sum : ℤ) (size : ℕ) (some : 0 < size) (num other : ℤ) (den divis
 
   pub same_den : den ≡ divisor
   same_den = dvd_antisymm
-      (divides_other (unsigned_abs num) den divisor first.lowest (subst (λ (m : ℕ). den ∣ m) (sym across ∙ mul_comm (unsigned_abs num) divisor) (dvd-mul_left den (unsigned_abs other))))
-      (divides_other (unsigned_abs other) divisor den second.lowest (subst (λ (m : ℕ). divisor ∣ m) (across ∙ mul_comm (unsigned_abs other) den) (dvd-mul_left divisor (unsigned_abs num))))
+      (divides_other (unsigned_abs num) den divisor first.lowest
+      (subst (λ (m : ℕ). den ∣ m) (sym across ∙ mul_comm (unsigned_abs num) divisor) (dvd-mul_left den (unsigned_abs other))))
+      (divides_other (unsigned_abs other) divisor den second.lowest
+      (subst (λ (m : ℕ). divisor ∣ m) (across ∙ mul_comm (unsigned_abs other) den) (dvd-mul_left divisor (unsigned_abs num))))
 
   pub same_num : num ≡ other
   same_num = cancel_ℤ num other size some (first.same ∙ ap (λ (d : ℕ). sum *ℤ pos d) same_den ∙ sym second.same)

@@ -99,7 +99,8 @@ module _ (columns : List Column) (o : Option Written) where
 
   condition_twice : (at other : ℕ) → HasBadCondition columns o at → HasBadCondition columns o other → at ≡ other
   condition_twice at other first second =
-      let place = subst (λ (w : Written). IsPlace columns (text_of w) other) (same_Some second.question first.question (sym second.writes ∙ first.writes)) second.place in
+      let place = subst (λ (w : Written). IsPlace columns (text_of w) other)
+      (same_Some second.question first.question (sym second.writes ∙ first.writes)) second.place in
       omega (arith, first.place.least other place.refuses, place.least at first.place.refuses)
 
   -- a question has one first fault
@@ -133,7 +134,8 @@ module _ (columns : List Column) (o : Option Written) where
   asked_or_refused meanings fault.Kind a r refuses is asks = good_column fault.Kind asks.question refuses asks.writes asks.good
   asked_or_refused meanings (fault.Condition at) a r refuses is asks =
       meanings.none columns (text_of refuses.question) asks.tree at
-      (subst (λ (w : Written). Means columns (text_of w) asks.tree) (same_Some asks.question refuses.question (sym asks.writes ∙ refuses.writes)) asks.means) refuses.place.refuses
+      (subst (λ (w : Written). Means columns (text_of w) asks.tree)
+      (same_Some asks.question refuses.question (sym asks.writes ∙ refuses.writes)) asks.means) refuses.place.refuses
   asked_or_refused meanings fault.NoMemory a r refuses is asks = cc
 
 -- ---- lines

@@ -106,7 +106,8 @@ module _ (forms : NarrowOrWide) (table twin : Table) (same : twin.setting ≡ ta
   -- what becomes of a question over both
   outcomes_alike : (x y : Outcome) (answer other : Reply) (a b : Replied Answered) → IsOutcome table history asked x → IsOutcome twin history asked y
       → TellsOutcome take (length asked.rows.list) x answer → TellsOutcome take (length asked.rows.list) y other
-      → a ≡ record { bytes = reply_bytes answer; added = record_of asked x } → b ≡ record { bytes = reply_bytes other; added = record_of asked y } → (a ≡ b) ⊎ AreAnswersAlike table twin a b
+      → a ≡ record { bytes = reply_bytes answer; added = record_of asked x } → b ≡ record { bytes = reply_bytes other; added = record_of asked y } →
+      (a ≡ b) ⊎ AreAnswersAlike table twin a b
   outcomes_alike Full Full answer other a b first second tells told a_is b_is = inl (same_only answer other a b (tells ∙ sym told) a_is b_is)
   outcomes_alike Full (Denied w) answer other a b first second tells told a_is b_is = absurd (omega (arith, first, second.0))
   outcomes_alike Full (Answer y) answer other a b first second tells told a_is b_is = absurd (omega (arith, first, second.0))
@@ -115,7 +116,8 @@ module _ (forms : NarrowOrWide) (table twin : Table) (same : twin.setting ≡ ta
   outcomes_alike (Denied v) (Denied w) answer other a b first second tells told a_is b_is =
       let one = one_verdict v w first.2 second.2 in
       inl
-      (same_only answer other a b (one_denial take asked (length asked.rows.list) v answer other tells (subst (λ (u : Verdict). TellsOutcome take (length asked.rows.list) (Denied u) other) (sym one) told)) a_is b_is)
+      (same_only answer other a b (one_denial take asked (length asked.rows.list) v answer other tells
+      (subst (λ (u : Verdict). TellsOutcome take (length asked.rows.list) (Denied u) other) (sym one) told)) a_is b_is)
   outcomes_alike (Denied v) (Answer y) answer other a b first second tells told a_is b_is = absurd (first.1 (one_verdict v Released first.2 second.1))
   outcomes_alike (Answer x) (Denied w) answer other a b first second tells told a_is b_is = absurd (second.1 (sym (one_verdict Released w first.1 second.2)))
   outcomes_alike (Answer x) (Answer y) answer other a b first second tells told a_is b_is = inr (record {
@@ -133,22 +135,29 @@ replies_alike : NarrowOrWide → (plan : Plan) (table twin : Table) → twin.set
 replies_alike forms (Ready answer) table twin same history a b some first second = inl (first ∙ sym second)
 replies_alike forms (Ask take asked) table twin same history a b some first second =
     outcomes_alike forms table twin same history take asked
-    (some take asked refl) first.outcome second.outcome first.answer second.answer a b first.due second.due first.tells second.tells first.replied_is second.replied_is
+    (some take asked refl) first.outcome second.outcome first.answer second.answer a b first.due second.due first.tells second.tells first.replied_is
+    second.replied_is
 
 pub due_alike : NarrowOrWide → OneMeaning → (columns : List Column) (public : PublicView) (secret twin : SecretView) → twin.shape ≡ secret.shape
     → (history : List Answered) (line : CountedLine) (a b : Replied Answered)
-    → IsDue (base_of columns public secret) history line a → IsDue (base_of columns public twin) history line b → (a ≡ b) ⊎ AreAnswersAlike (secret_table secret) (secret_table twin) a b
+    → IsDue (base_of columns public secret) history line a → IsDue (base_of columns public twin) history line b →
+    (a ≡ b) ⊎ AreAnswersAlike (secret_table secret) (secret_table twin) a b
 due_alike forms meanings columns public secret twin same history line a b first second =
     replies_alike forms first.plan (secret_table secret) (secret_table twin) (ap setting_of same) history a b
     (λ take asked is. asked_some columns public line take asked (subst (λ (p : Plan). IsPlan columns public line p) is first.planned)) first.reply
-    (subst (λ (p : Plan). IsReplyOf (secret_table twin) history p b) (one_plan meanings columns public line second.plan first.plan second.planned first.planned) second.reply)
+    (subst (λ (p : Plan). IsReplyOf (secret_table twin) history p b)
+    (one_plan meanings columns public line second.plan first.plan second.planned first.planned) second.reply)
 
 -- two replies that tell equal answers are equal
 pub equal_answers : EqualAnswersEqualReplies
 equal_answers table twin a b alike value =
     let told = one_telling alike.take (length alike.asked.rows.list) alike.first.answer alike.first.told alike.second.told alike.some alike.first.tells
     (subst (λ (z : ℤ). Tells alike.take (length alike.asked.rows.list) z alike.second.told) (sym value) alike.second.tells) in
-    let whole : Reply → ℤ → Replied Answered = λ r z. record { bytes = reply_bytes r; added = Some (record { column = alike.asked.column; rows = alike.asked.rows; answer = z }) } in
+    let whole : Reply → ℤ → Replied Answered = λ r z. record {
+      bytes = reply_bytes r;
+      added =
+          Some (record { column = alike.asked.column; rows = alike.asked.rows; answer = z });
+    } in
     alike.first.replied_is ∙ ap (λ (r : Reply). whole r alike.first.answer) told ∙ ap (λ (z : ℤ). whole alike.second.told z) value ∙ sym alike.second.replied_is
 
 pub one_due : NarrowOrWide → OneMeaning → OneReplyIsDue
@@ -160,4 +169,5 @@ one_due forms meanings base history line a b first second =
 pub decided_alike : NarrowOrWide → OneMeaning → DecidedAlike
 decided_alike forms meanings base twin history line a b twins first second =
     due_alike forms meanings base.columns base.public base.secret twin.secret twins.shape history line a b first
-    (subst (λ (p : PublicView). IsDue (base_of base.columns p twin.secret) history line b) twins.public (subst (λ (cs : List Column). IsDue (base_of cs twin.public twin.secret) history line b) twins.columns second))
+    (subst (λ (p : PublicView). IsDue (base_of base.columns p twin.secret) history line b) twins.public
+    (subst (λ (cs : List Column). IsDue (base_of cs twin.public twin.secret) history line b) twins.columns second))

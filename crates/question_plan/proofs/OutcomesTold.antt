@@ -27,11 +27,13 @@ use Rattle.question_plan.proofs.Means.{some_mean}
 -- how large the answers over secrets are
 abbrev pub SumsAreSmall : Type 0
 SumsAreSmall =
-    (s : SecretView) (column : ℕ) (rows : List ℕ) → IsSecret s → column < columns s.shape → AreRows s.shape.rows rows → unsigned_abs (sum_over (list_of s.lists column) rows) ≤ 1024 * 10 ^ 12
+    (s : SecretView) (column : ℕ) (rows : List ℕ) → IsSecret s → column < columns s.shape → AreRows s.shape.rows rows →
+    unsigned_abs (sum_over (list_of s.lists column) rows) ≤ 1024 * 10 ^ 12
 
 abbrev pub MaximaAreSmall : Type 0
 MaximaAreSmall =
-    (s : SecretView) (column : ℕ) (rows : List ℕ) → IsSecret s → column < columns s.shape → AreRows s.shape.rows rows → rows ≢ [] → unsigned_abs (greatest_over (list_of s.lists column) rows) ≤ 10 ^ 12
+    (s : SecretView) (column : ℕ) (rows : List ℕ) → IsSecret s → column < columns s.shape → AreRows s.shape.rows rows → rows ≢ [] →
+    unsigned_abs (greatest_over (list_of s.lists column) rows) ≤ 10 ^ 12
 
 module _ (sums : SumsAreSmall) (maxima : MaximaAreSmall) (secret : SecretView) (is : IsSecret secret) (take : Take) (asked : Asked)
     (fits : FitsShape secret.shape asked.column asked.rows) (own_kind : kind_at secret.shape asked.column ≡ kind_for take) where

@@ -29,7 +29,8 @@ from_public cs b e = ap (λ x. checked (if x then Some cs else None)) e
 
 -- with a public column the names are tested next
 from_good : (cs : List Column) → has_public cs ≡ true →
-    checked (with_public cs) ≡ (if not (has_good_names cs) then Err BadName else (if repeats cs then Err Repeated else (if too_many cs then Err TooMany else Ok cs)))
+    checked (with_public cs) ≡ (if not (has_good_names cs) then Err BadName
+    else (if repeats cs then Err Repeated else (if too_many cs then Err TooMany else Ok cs)))
 from_good cs e = from_public cs true e
 
 -- columns that are all secret are no schema
@@ -46,7 +47,8 @@ pub checked_bad : (es : Entries) → list_any (λ c. not (is_secret c.1)) es ≡
 checked_bad es some bad =
     from_good (map column_of_entry es) (some_public es some)
     ∙ ap
-    (λ b. if not b then Err BadName else (if repeats (map column_of_entry es) then Err Repeated else (if too_many (map column_of_entry es) then Err TooMany else Ok (map column_of_entry es))))
+    (λ b. if not b then Err BadName else (if repeats (map column_of_entry es) then Err Repeated
+    else (if too_many (map column_of_entry es) then Err TooMany else Ok (map column_of_entry es))))
     (sym (good_of_entries es) ∙ bad)
 
 -- with good names the repeated ones are looked for next
@@ -56,7 +58,8 @@ past_good : (es : Entries) → list_any (λ c. not (is_secret c.1)) es ≡ true 
 past_good es some good =
     from_good (map column_of_entry es) (some_public es some)
     ∙ ap
-    (λ b. if not b then Err BadName else (if repeats (map column_of_entry es) then Err Repeated else (if too_many (map column_of_entry es) then Err TooMany else Ok (map column_of_entry es))))
+    (λ b. if not b then Err BadName else (if repeats (map column_of_entry es) then Err Repeated
+    else (if too_many (map column_of_entry es) then Err TooMany else Ok (map column_of_entry es))))
     (sym (good_of_entries es) ∙ good)
 
 -- a repeated name is the fault of columns whose names are good

@@ -68,7 +68,8 @@ secrets_filtered [] = refl
 secrets_filtered (e ∷ es) = by (is_secret e.1) (secrets_filtered es)
   where
     by : (b : Bool) → length (filter (λ c. is_secret c.1) es) ≡ secret_count (map column_of_entry es) →
-        length (cond b (e ∷ filter (λ c. is_secret c.1) es) (filter (λ c. is_secret c.1) es)) ≡ length (cond b (column_of_entry e ∷ filter (λ c. is_secret c.role) (map column_of_entry es)) (filter (λ c. is_secret c.role) (map column_of_entry es)))
+        length (cond b (e ∷ filter (λ c. is_secret c.1) es) (filter (λ c. is_secret c.1) es)) ≡ length
+        (cond b (column_of_entry e ∷ filter (λ c. is_secret c.role) (map column_of_entry es)) (filter (λ c. is_secret c.role) (map column_of_entry es)))
     by true h = ap suc h
     by false h = h
 

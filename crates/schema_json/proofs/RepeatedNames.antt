@@ -76,7 +76,8 @@ repeats_front (c ∷ cs) ds h = by (list_any (λ later. has_name later.name c) c
     by false f g e = or_right (list_any (λ later. has_name later.name c) (cs ++ ds)) (repeats (cs ++ ds)) (g e)
 
 -- a look among lent names
-any_of_lent : (name : List ℕ) (keys : List (Bor (List ℕ))) → list_any (λ (k : Bor (List ℕ)). bytes_eq name k.now) keys ≡ list_any (bytes_eq name) (map (λ k. k.now) keys)
+any_of_lent : (name : List ℕ) (keys : List (Bor (List ℕ))) →
+    list_any (λ (k : Bor (List ℕ)). bytes_eq name k.now) keys ≡ list_any (bytes_eq name) (map (λ k. k.now) keys)
 any_of_lent name [] = refl
 any_of_lent name (k ∷ ks) = ap (λ b. bytes_eq name k.now || b) (any_of_lent name ks)
 

@@ -154,7 +154,8 @@ shape_names cs rows are place k is =
     let within : k < length (kind_bytes cs) = omega (arith, below, kinds_count cs) in
     let room : k < 8 = omega (arith, below, at_most_eight cs are) in
     named cs place k is
-    ∙ ap (λ b. Some (role_of_kind (kind_of_byte b))) (sym (get_or-take 8 (kind_bytes cs ++ replicate 8 0) k 0 room ∙ get_or-append (kind_bytes cs) (replicate 8 0) 0 k within))
+    ∙ ap (λ b. Some (role_of_kind (kind_of_byte b))) (sym (get_or-take 8 (kind_bytes cs ++ replicate 8 0) k 0 room
+    ∙ get_or-append (kind_bytes cs) (replicate 8 0) 0 k within))
 
 -- a secret column's place among the secret ones is that of a column of its kind, in each table
 pub secret_is_of : (cs : List Column) (place k : ℕ) → AreColumns cs → secret_place cs place ≡ Some k → IsSecretOf cs (role_at cs place) k

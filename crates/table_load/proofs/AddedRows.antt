@@ -49,7 +49,8 @@ next_bad roles rows n r rest fault same few good bad =
           many_rows roles rows r rest (omega (arith, full, same)) good
           ∙ sym (ap (λ b. if b then Some TooManyRows else record_fault roles (n + 2) r) (eq-eqb n 1024 full)) ∙ bad
       | inr less ↦
-          let fault_is : record_fault roles (n + 2) r ≡ Some fault = sym (ap (λ b. if b then Some TooManyRows else record_fault roles (n + 2) r) (ne_eqb n 1024 less)) ∙ bad in
+          let fault_is : record_fault roles (n + 2) r ≡ Some fault =
+          sym (ap (λ b. if b then Some TooManyRows else record_fault roles (n + 2) r) (ne_eqb n 1024 less)) ∙ bad in
           bad_row roles rows r rest fault (omega (arith, less, same, few)) good (ap (λ k. record_fault roles (k + 2) r) (sym same) ∙ fault_is)
     ]
 
@@ -63,14 +64,17 @@ next_good roles n r few good =
     ]
 
 -- a fault that is answered is the file's
-pub fault_of_row : (columns : List Column) (bytes : List ℕ) (roles : List Role) (rows : List Row) (a b : Reads) (read : Result Row Error) (fault : TableFault) (more : List Row)
-    → HasOpened columns bytes (map fields_of rows) a → RowStep (λ (s : Bor (List ℕ)). Some s.now) a.rdr b.rdr b.left (Some read) → FlexibleStep a.rdr b.rdr (Some read) → roles ≡ roles_of columns → records_fault roles 2 (map fields_of rows) ≡ None → length rows ≤ 1024
+pub fault_of_row : (columns : List Column) (bytes : List ℕ) (roles : List Role) (rows : List Row) (a b : Reads) (read : Result Row Error) (fault : TableFault)
+    (more : List Row)
+    → HasOpened columns bytes (map fields_of rows) a → RowStep (λ (s : Bor (List ℕ)). Some s.now) a.rdr b.rdr b.left (Some read) →
+    FlexibleStep a.rdr b.rdr (Some read) → roles ≡ roles_of columns → records_fault roles 2 (map fields_of rows) ≡ None → length rows ≤ 1024
     → AddsRow (Err fault) roles rows read more → UnlessMemory fault (file_fault columns bytes ≡ Some fault)
 fault_of_row columns bytes roles rows a b (Err error) fault more opened step still is good few adds = rw adds tt
 fault_of_row columns bytes roles rows a b (Ok row) fault more opened step still is good few adds =
     let by = judged columns bytes (map fields_of rows) a b row opened step still in
     unless_memory fault (next_fault roles (length rows) (fields_of row) ≡ Some fault) (file_fault columns bytes ≡ Some fault)
-    (λ bad. by.1 ∙ ap (λ rs. data_fault rs (map fields_of rows ++ fields_of row ∷ by.0)) (sym is) ∙ next_bad roles (map fields_of rows) (length rows) (fields_of row) by.0 fault (sym (length-map rows fields_of)) few good bad)
+    (λ bad. by.1 ∙ ap (λ rs. data_fault rs (map fields_of rows ++ fields_of row ∷ by.0)) (sym is)
+    ∙ next_bad roles (map fields_of rows) (length rows) (fields_of row) by.0 fault (sym (length-map rows fields_of)) few good bad)
     adds
 
 -- what holds of the records before it holds with one more
@@ -80,7 +84,8 @@ pub record Added (columns : List Column) (bytes : List ℕ) (roles : List Role) 
   pub at_most : length rows ≤ 1024
 
 pub added_row : (columns : List Column) (bytes : List ℕ) (roles : List Role) (rows : List Row) (a b : Reads) (read : Result Row Error) (more : List Row)
-    → HasOpened columns bytes (map fields_of rows) a → RowStep (λ (s : Bor (List ℕ)). Some s.now) a.rdr b.rdr b.left (Some read) → FlexibleStep a.rdr b.rdr (Some read) → records_fault roles 2 (map fields_of rows) ≡ None → length rows ≤ 1024
+    → HasOpened columns bytes (map fields_of rows) a → RowStep (λ (s : Bor (List ℕ)). Some s.now) a.rdr b.rdr b.left (Some read) →
+    FlexibleStep a.rdr b.rdr (Some read) → records_fault roles 2 (map fields_of rows) ≡ None → length rows ≤ 1024
     → AddsRow (Ok tt) roles rows read more → Added columns bytes roles more b
 added_row columns bytes roles rows a b (Err error) more opened step still good few adds = absurd adds
 added_row columns bytes roles rows a b (Ok row) more opened step still good few adds =
@@ -89,6 +94,7 @@ added_row columns bytes roles rows a b (Ok row) more opened step still good few 
     record {
       opened = rw longer (opened_more columns bytes (map fields_of rows) a b row opened step still);
       good =
-          rw longer (good_more roles (map fields_of rows) (fields_of row) good (ap (λ k. record_fault roles (k + 2) (fields_of row)) (length-map rows fields_of) ∙ next.1));
+          rw longer (good_more roles (map fields_of rows) (fields_of row) good
+          (ap (λ k. record_fault roles (k + 2) (fields_of row)) (length-map rows fields_of) ∙ next.1));
       at_most = omega (arith, ap length adds.0, length-append rows (row ∷ []), next.0);
     }

@@ -116,7 +116,8 @@ pub all_cells_are : (which : FileColumns) (roles : List Role) (rows : List Field
     → AllByRecursion (AreCells (length rows)) (cells_from which k cs rows)
 all_cells_are which roles rows k [] good at_k = tt
 all_cells_are which roles rows k (c ∷ cs) good at_k = (
-  cells_are c.role k rows (λ public. records_hold roles 2 rows k c.role (roles_of (file_columns which cs)) good (at_k ∙ roles_in which c cs c.role (is_in_file which c.role) refl (public_in_file which c.role public))),
+  cells_are c.role k rows (λ public. records_hold roles 2 rows k c.role (roles_of (file_columns which cs)) good
+      (at_k ∙ roles_in which c cs c.role (is_in_file which c.role) refl (public_in_file which c.role public))),
   all_cells_are which roles rows (place_after which c.role k) cs good (next_roles which roles k c cs (is_in_file which c.role) at_k),
 )
 

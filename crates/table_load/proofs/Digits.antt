@@ -42,7 +42,8 @@ pub one_digit : (bytes : List ℕ) (place size next : ℕ) → place < length by
 one_digit bytes place size next within digit same =
     from_here bytes place size within
     ∙ ap
-    (λ d. option_map capped (cond d (tail_number (10 * size + (get_or bytes place 0 - 48)) (drop (place + 1) bytes)) (cond (list_all is_space (get_or bytes place 0 ∷ drop (place + 1) bytes)) (Some size) None))) digit
+    (λ d. option_map capped (cond d (tail_number (10 * size + (get_or bytes place 0 - 48)) (drop (place + 1) bytes))
+    (cond (list_all is_space (get_or bytes place 0 ∷ drop (place + 1) bytes)) (Some size) None))) digit
     ∙ same_number _ next (drop (place + 1) bytes) (sym same)
 
 -- a first digit begins a number
@@ -66,7 +67,8 @@ pub no_sign : (bytes : List ℕ) → 0 < length bytes → get_or bytes 0 0 ≢ 4
 no_sign [] some no_minus no_plus = absurd (omega (arith, some))
 no_sign (b ∷ bytes) some no_minus no_plus =
     ap
-    (λ m. cond m (option_sign true (digits_number bytes)) (cond (b == 43) (option_sign false (digits_number bytes)) (option_sign false (digits_number (b ∷ bytes)))))
+    (λ m. cond m (option_sign true (digits_number bytes)) (cond (b == 43) (option_sign false (digits_number bytes))
+    (option_sign false (digits_number (b ∷ bytes)))))
     (ne_eqb b 45 no_minus)
     ∙ ap (λ p. cond p (option_sign false (digits_number bytes)) (option_sign false (digits_number (b ∷ bytes)))) (ne_eqb b 43 no_plus)
 

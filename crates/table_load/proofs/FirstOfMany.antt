@@ -41,7 +41,8 @@ later_record roles line r rs place fault none first = record {
 
 record_by_first : (roles : List Role) (line : ℕ) (r : Fields) (rs : List Fields) (fault : TableFault) (first : Option TableFault)
     → record_fault roles line r ≡ first → option_or first (records_fault roles (line + 1) rs) ≡ Some fault
-    → (records_fault roles (line + 1) rs ≡ Some fault → (place : ℕ) × FirstRecord roles (line + 1) rs place fault) → (place : ℕ) × FirstRecord roles line (r ∷ rs) place fault
+    → (records_fault roles (line + 1) rs ≡ Some fault → (place : ℕ) × FirstRecord roles (line + 1) rs place fault) →
+    (place : ℕ) × FirstRecord roles line (r ∷ rs) place fault
 record_by_first roles line r rs fault (Some this) is e rest = (0, this_record roles line r rs fault (is ∙ e))
 record_by_first roles line r rs fault None is e rest = let later = rest e in (suc later.0, later_record roles line r rs later.0 fault is later.1)
 
@@ -54,7 +55,8 @@ first_record : (roles : List Role) (line : ℕ) (rs : List Fields) (place : ℕ)
     records_fault roles line rs ≡ Some fault
 first_record roles line [] place fault first = absurd (none-some first.fields first.stands)
 first_record roles line (r ∷ rs) zero fault first =
-    let here : record_fault roles line r ≡ Some fault = ap (record_fault roles line) (same_Some r first.fields first.stands) ∙ at_line roles line (line + 0) first.fields (omega arith) ∙ first.fault_is in
+    let here : record_fault roles line r ≡ Some fault = ap (record_fault roles line) (same_Some r first.fields first.stands)
+    ∙ at_line roles line (line + 0) first.fields (omega arith) ∙ first.fault_is in
     ap (λ f. option_or f (records_fault roles (line + 1) rs)) here
 first_record roles line (r ∷ rs) (suc place) fault first =
     let none : record_fault roles line r ≡ None = at_line roles line (line + 0) r (omega arith) ∙ first.before 0 r (omega arith) refl in
@@ -95,7 +97,14 @@ at_column role line m n field e = ap (λ k. cell_fault role line k field) e
 this_field : (role : Role) (roles : List Role) (line from : ℕ) (field : List ℕ) (fields : Fields) (fault : TableFault) →
     cell_fault role line from field ≡ Some fault → FirstField (role ∷ roles) line from (field ∷ fields) 0 fault
 this_field role roles line from field fields fault is =
-    record { role = role; field = field; role_is = refl; stands = refl; fault_is = at_column role line (from + 0) from field (omega arith) ∙ is; before = λ k other earlier lt. absurd (omega (arith, lt)) }
+    record {
+      role = role;
+      field = field;
+      role_is = refl;
+      stands = refl;
+      fault_is = at_column role line (from + 0) from field (omega arith) ∙ is;
+      before = λ k other earlier lt. absurd (omega (arith, lt));
+    }
 
 later_field : (role : Role) (roles : List Role) (line from : ℕ) (field : List ℕ) (fields : Fields) (column : ℕ) (fault : TableFault)
     → cell_fault role line from field ≡ None → FirstField roles line (from + 1) fields column fault
@@ -119,7 +128,8 @@ later_field role roles line from field fields column fault none first = record {
 
 field_by_first : (role : Role) (roles : List Role) (line from : ℕ) (field : List ℕ) (fields : Fields) (fault : TableFault) (first : Option TableFault)
     → cell_fault role line from field ≡ first
-    → option_or first (cells_fault line (from + 1) roles fields) ≡ Some fault → (cells_fault line (from + 1) roles fields ≡ Some fault → (column : ℕ) × FirstField roles line (from + 1) fields column fault)
+    → option_or first (cells_fault line (from + 1) roles fields) ≡ Some fault →
+    (cells_fault line (from + 1) roles fields ≡ Some fault → (column : ℕ) × FirstField roles line (from + 1) fields column fault)
     → (column : ℕ) × FirstField (role ∷ roles) line from (field ∷ fields) column fault
 field_by_first role roles line from field fields fault (Some this) is e rest = (0, this_field role roles line from field fields fault (is ∙ e))
 field_by_first role roles line from field fields fault None is e rest =
@@ -143,7 +153,8 @@ first_field (role ∷ roles) line from (field ∷ fields) zero fault first =
     ∙ first.fault_is in
     ap (λ f. option_or f (cells_fault line (from + 1) roles fields)) here
 first_field (role ∷ roles) line from (field ∷ fields) (suc column) fault first =
-    let none : cell_fault role line from field ≡ None = at_column role line from (from + 0) field (omega arith) ∙ first.before 0 role field (omega arith) refl refl in
+    let none : cell_fault role line from field ≡ None = at_column role line from (from + 0) field (omega arith)
+    ∙ first.before 0 role field (omega arith) refl refl in
     let rest : FirstField roles line (from + 1) fields column fault = record {
       role = first.role;
       field = first.field;
@@ -151,7 +162,8 @@ first_field (role ∷ roles) line from (field ∷ fields) (suc column) fault fir
       stands = first.stands;
       fault_is = at_column first.role line (from + 1 + column) (from + suc column) first.field (omega arith) ∙ first.fault_is;
       before =
-          λ k other earlier lt r e. at_column other line (from + 1 + k) (from + suc k) earlier (omega arith) ∙ first.before (suc k) other earlier (omega (arith, lt)) r e;
+          λ k other earlier lt r e. at_column other line (from + 1 + k) (from + suc k) earlier (omega arith)
+          ∙ first.before (suc k) other earlier (omega (arith, lt)) r e;
     } in
     ap (λ f. option_or f (cells_fault line (from + 1) roles fields)) none ∙ first_field roles line (from + 1) fields column fault rest
 

@@ -56,7 +56,8 @@ cells_hold line column (r ∷ roles) (f ∷ fields) zero role rest same fine at_
     let first = (none_first (cell_fault r line column f) (cells_fault line (column + 1) roles fields) fine).0 in
     record { within = omega arith; number = λ numeric. fine_cell r line column f first (ap has_numbers is ∙ numeric) }
 cells_hold line column (r ∷ roles) (f ∷ fields) (suc k) role rest same fine at_k =
-    let later = cells_hold line (column + 1) roles fields k role rest (omega (arith, same)) (none_first (cell_fault r line column f) (cells_fault line (column + 1) roles fields) fine).1 at_k in
+    let later = cells_hold line (column + 1) roles fields k role rest (omega (arith, same))
+    (none_first (cell_fault r line column f) (cells_fault line (column + 1) roles fields) fine).1 at_k in
     record { within = omega (arith, later.within); number = later.number }
 
 -- the parts of a record's test
@@ -66,7 +67,8 @@ record FineRecord (roles : List Role) (line : ℕ) (fields : Fields) : Type 0 wh
 
 -- what each test of a record says where it has no fault
 fine_parts : (roles : List Role) (line : ℕ) (fields : Fields) (a b : Bool) → (length fields == length roles) ≡ a
-    → (if not a then Some (fault.Length line) else (if not b then Some (fault.NotText line) else cells_fault line 0 roles fields)) ≡ None → FineRecord roles line fields
+    → (if not a then Some (fault.Length line) else (if not b then Some (fault.NotText line) else cells_fault line 0 roles fields)) ≡ None →
+    FineRecord roles line fields
 fine_parts roles line fields true true same fine = record { same = eqb-true (length fields) (length roles) same; cells = fine }
 fine_parts roles line fields true false same fine = absurd (cc)
 fine_parts roles line fields false b same fine = absurd (cc)

@@ -81,7 +81,8 @@ pub record HasParts (schema : List Column) (t : TableView) : Type 0 where
 -- bytes that mean a table have good data records, and its parts are made of them
 pub has_parts : (schema : List Column) (bytes : List ℕ) (t : TableView) → table_of schema bytes ≡ Ok t → HasParts schema t
 has_parts schema bytes t is =
-    let parts = answered (file_fault (file_columns file.All schema) bytes) (record { public = public_in file.All schema (data_of bytes); secret = secret_in schema (data_of bytes) }) t is in
+    let parts = answered (file_fault (file_columns file.All schema) bytes)
+    (record { public = public_in file.All schema (data_of bytes); secret = secret_in schema (data_of bytes) }) t is in
     let read = fine_data (file_columns file.All schema) bytes parts.0 in
     record {
       rows = data_of bytes;

@@ -27,7 +27,8 @@ pub read_more : (bytes : List ℕ) (rows : List Fields) (a b : Reads) (row : Row
     RowStep (λ (s : Bor (List ℕ)). Some s.now) a.rdr b.rdr b.left (Some (Ok row)) → is_flexible b.rdr ≡ is_flexible a.rdr →
     HasRead bytes (rows ++ fields_of row ∷ []) b
 read_more bytes rows a b row has step still =
-    let more = rows-more (λ (s : Bor (List ℕ)). Some s.now) a.rdr b.rdr (fields_of row) default_config state.StartRecord (strip_bom bytes) has.left rows has.as_usual has.source has.reached step.0 in
+    let more = rows-more (λ (s : Bor (List ℕ)). Some s.now) a.rdr b.rdr (fields_of row) default_config state.StartRecord
+    (strip_bom bytes) has.left rows has.as_usual has.source has.reached step.0 in
     record {
       plain = step.0.3 ∙ has.plain;
       flexible = still ∙ has.flexible;

@@ -54,7 +54,13 @@ tail_step : (n b : ℕ) (bytes : List ℕ) (m : ℕ) (d : Bool) → is_ascii_dig
     → cond d (tail_number (10 * n + (b - 48)) bytes) (cond s (Some n) None) ≡ Some m → Tail n (b ∷ bytes) m
 tail_step n b bytes m true digit s all later is =
     let more = later is in
-    record { digits = b ∷ more.digits; after = more.after; are_digits = and_from (is_ascii_digit b) _ digit more.are_digits; bytes_are = ap (λ xs. b ∷ xs) more.bytes_are; value_is = more.value_is }
+    record {
+      digits = b ∷ more.digits;
+      after = more.after;
+      are_digits = and_from (is_ascii_digit b) _ digit more.are_digits;
+      bytes_are = ap (λ xs. b ∷ xs) more.bytes_are;
+      value_is = more.value_is;
+    }
 tail_step n b bytes m false other true all later is =
     record { digits = []; after = length (b ∷ bytes); are_digits = refl; bytes_are = spaces_only (b ∷ bytes) all; value_is = sym (ap (λ o. unwrap_or o 0) is) }
 tail_step n b bytes m false other false all later is = absurd (cc)
@@ -93,7 +99,14 @@ digits_step : (b : ℕ) (bytes : List ℕ) (m : ℕ) (d : Bool) → is_ascii_dig
 digits_step b bytes m true digit is =
     let opened = sym (ap (λ d. cond d (tail_number (10 * 0 + (b - 48)) bytes) (cond (list_all is_space (b ∷ bytes)) (Some 0) None)) digit) ∙ is in
     let more = tail_of (10 * 0 + (b - 48)) bytes m opened in
-    record { digits = b ∷ more.digits; after = more.after; some = λ e. cc; are_digits = and_from (is_ascii_digit b) _ digit more.are_digits; bytes_are = ap (λ xs. b ∷ xs) more.bytes_are; value_is = more.value_is }
+    record {
+      digits = b ∷ more.digits;
+      after = more.after;
+      some = λ e. cc;
+      are_digits = and_from (is_ascii_digit b) _ digit more.are_digits;
+      bytes_are = ap (λ xs. b ∷ xs) more.bytes_are;
+      value_is = more.value_is;
+    }
 digits_step b bytes m false other is = absurd (cc)
 
 -- what is read as digits is some digits and then spaces
@@ -165,7 +178,8 @@ plain_step bytes z (Some m) read signed =
 
 -- a first byte that is a sign or none
 signed_step : (b : ℕ) (bytes : List ℕ) (z : ℤ) (is_minus is_plus : Bool) → (b == 45) ≡ is_minus → (b == 43) ≡ is_plus
-    → cond is_minus (option_sign true (digits_number bytes)) (cond is_plus (option_sign false (digits_number bytes)) (option_sign false (digits_number (b ∷ bytes)))) ≡ Some z → Signed (b ∷ bytes) z
+    → cond is_minus (option_sign true (digits_number bytes))
+    (cond is_plus (option_sign false (digits_number bytes)) (option_sign false (digits_number (b ∷ bytes)))) ≡ Some z → Signed (b ∷ bytes) z
 signed_step b bytes z true is_plus m p is = minus_step b bytes z (digits_number bytes) refl (eqb-true b 45 m) is
 signed_step b bytes z false true m p is = plus_step b bytes z (digits_number bytes) refl (eqb-true b 43 p) is
 signed_step b bytes z false false m p is = plain_step (b ∷ bytes) z (digits_number (b ∷ bytes)) refl is
@@ -207,7 +221,8 @@ signed_number-signed none (d ∷ digits) after some are =
     let rest = digits ++ replicate after 32 in
     ap (λ s. signed_number (cond s (after_spaces rest) (d ∷ rest))) (not_digit d 32 digit refl)
     ∙ ap
-    (λ m. cond m (option_sign true (digits_number rest)) (cond (d == 43) (option_sign false (digits_number rest)) (option_sign false (digits_number (d ∷ rest)))))
+    (λ m. cond m (option_sign true (digits_number rest)) (cond (d == 43) (option_sign false (digits_number rest))
+    (option_sign false (digits_number (d ∷ rest)))))
     (not_digit d 45 digit refl)
     ∙ ap (λ p. cond p (option_sign false (digits_number rest)) (option_sign false (digits_number (d ∷ rest)))) (not_digit d 43 digit refl)
     ∙ ap (option_sign false) (digits_number-digits d digits after are)

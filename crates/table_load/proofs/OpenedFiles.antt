@@ -26,7 +26,8 @@ first_of_memory a b (Some read) flexible step = of_memory a b read flexible step
 
 -- after a header the file is opened
 opened_first : (columns : List Column) (bytes : List ℕ) (a b : Reads) (first : Option (Result Row Error))
-    → length bytes ≤ 16777216 → HasRead bytes [] a → RowStep (λ (s : Bor (List ℕ)). Some s.now) a.rdr b.rdr b.left first → FlexibleStep a.rdr b.rdr first → ChecksHeader (Ok tt) columns first → HasOpened columns bytes [] b
+    → length bytes ≤ 16777216 → HasRead bytes [] a → RowStep (λ (s : Bor (List ℕ)). Some s.now) a.rdr b.rdr b.left first → FlexibleStep a.rdr b.rdr first →
+    ChecksHeader (Ok tt) columns first → HasOpened columns bytes [] b
 opened_first columns bytes a b None short has step still checks = absurd checks
 opened_first columns bytes a b (Some (Err error)) short has step still checks = absurd checks
 opened_first columns bytes a b (Some (Ok row)) short has step still checks =
@@ -34,7 +35,8 @@ opened_first columns bytes a b (Some (Ok row)) short has step still checks =
 
 -- a fault of the front is the file's
 fault_first : (columns : List Column) (bytes : List ℕ) (a b : Reads) (first : Option (Result Row Error)) (fault : TableFault)
-    → length bytes ≤ 16777216 → HasRead bytes [] a → RowStep (λ (s : Bor (List ℕ)). Some s.now) a.rdr b.rdr b.left first → FlexibleStep a.rdr b.rdr first → ChecksHeader (Err fault) columns first
+    → length bytes ≤ 16777216 → HasRead bytes [] a → RowStep (λ (s : Bor (List ℕ)). Some s.now) a.rdr b.rdr b.left first → FlexibleStep a.rdr b.rdr first →
+    ChecksHeader (Err fault) columns first
     → UnlessMemory fault (file_fault columns bytes ≡ Some fault)
 fault_first columns bytes a b None fault short has step still checks = rw checks (short_file columns bytes [] short (read_all bytes [] a b has step))
 fault_first columns bytes a b (Some (Err error)) fault short has step still checks = rw checks tt
@@ -44,7 +46,8 @@ fault_first columns bytes a b (Some (Ok row)) fault short has step still checks 
 
 -- the first record opens the file, or makes its first fault
 pub header_read : (columns : List Column) (bytes : List ℕ) (a b : Reads) (first : Option (Result Row Error)) (result : Result Unit TableFault)
-    → length bytes ≤ 16777216 → HasRead bytes [] a → RowStep (λ (s : Bor (List ℕ)). Some s.now) a.rdr b.rdr b.left first → FlexibleStep a.rdr b.rdr first → ChecksHeader result columns first
+    → length bytes ≤ 16777216 → HasRead bytes [] a → RowStep (λ (s : Bor (List ℕ)). Some s.now) a.rdr b.rdr b.left first → FlexibleStep a.rdr b.rdr first →
+    ChecksHeader result columns first
     → Opens result columns bytes b
 header_read columns bytes a b first (Ok tt) short has step still checks = opened_first columns bytes a b first short has step still checks
 header_read columns bytes a b first (Err fault) short has step still checks = fault_first columns bytes a b first fault short has step still checks

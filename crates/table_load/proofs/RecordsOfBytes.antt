@@ -91,10 +91,13 @@ short_step s f p c rest = by (is_end (step default_config s c).1) (rests s c)
   where
     by : (b : Bool) → (b ≡ true → ends_at_end (step default_config s c).0 ≡ false)
         → IsShort
-        (next_record default_config (step default_config s c).0 (fields_after (step default_config s c).1 f p) (field_after (step default_config s c).1 c p) rest)
+        (next_record default_config (step default_config s c).0 (fields_after (step default_config s c).1 f p)
+        (field_after (step default_config s c).1 c p) rest)
         (length rest)
         → IsShort
-        (if b then Some (fields_after (step default_config s c).1 f p, (step default_config s c).0, rest) else next_record default_config (step default_config s c).0 (fields_after (step default_config s c).1 f p) (field_after (step default_config s c).1 c p) rest)
+        (if b then Some (fields_after (step default_config s c).1 f p, (step default_config s c).0, rest)
+        else next_record default_config (step default_config s c).0 (fields_after (step default_config s c).1 f p)
+        (field_after (step default_config s c).1 c p) rest)
         (length rest)
     by true r h = (omega arith, r refl)
     by false r h = h
@@ -109,7 +112,8 @@ short s f p [] = by (ends_at_end s)
     by false = tt
 short s f p (c ∷ rest) =
     longer _ (length rest)
-    (short_step s f p c rest (short (step default_config s c).0 (fields_after (step default_config s c).1 f p) (field_after (step default_config s c).1 c p) rest))
+    (short_step s f p c rest (short (step default_config s c).0 (fields_after (step default_config s c).1 f p)
+    (field_after (step default_config s c).1 c p) rest))
 
 -- a read of some bytes leaves fewer
 short_more : (s : State) (f : List (List ℕ)) (p : List ℕ) (c : ℕ) (rest : List ℕ) → IsShort (next_record default_config s f p (c ∷ rest)) (length rest)
@@ -130,8 +134,12 @@ reached_front : (rows : List (List (List ℕ))) (n : ℕ) (s : State) (xs : List
     → (m : ℕ) × (0 < m) × (records_from default_config n s xs ≡ rows ++ records_from default_config m s2 ys)
 unfolding Reached records_from
 reached_front rows zero s xs s2 ys fresh short_of reached = absurd (omega (arith, short_of))
-reached_front [] (suc n) s xs s2 ys fresh short_of reached =
-    (suc n, omega arith, ap (λ t. records_next (records_from default_config n) (next_record default_config t [] [] xs)) reached.0 ∙ ap (λ zs. records_next (records_from default_config n) (next_record default_config s2 [] [] zs)) reached.1)
+reached_front [] (suc n) s xs s2 ys fresh short_of reached = (
+  suc n,
+  omega arith,
+  ap (λ t. records_next (records_from default_config n) (next_record default_config t [] [] xs)) reached.0
+      ∙ ap (λ zs. records_next (records_from default_config n) (next_record default_config s2 [] [] zs)) reached.1,
+)
 reached_front (r ∷ rs) (suc n) s xs s2 ys fresh short_of reached =
     let p = reached.0 in
     let t = took s xs p fresh reached.1 in

@@ -27,5 +27,6 @@ pub next_column : (shape : Shape) (lists before : List (List ℤ)) (column : ℕ
 next_column shape lists before column blocks within so_far are k below = elim (cases_eq k column) [
   | inl here ↦ subst (λ j. AreBlocks (kind_at shape j) shape.rows (get_or lists j []) (get_or (set before column blocks) j [])) (sym here)
       (subst (AreBlocks (kind_at shape column) shape.rows (get_or lists column [])) (sym (get_or-set_same before column blocks [] within)) are)
-  | inr other ↦ subst (AreBlocks (kind_at shape k) shape.rows (get_or lists k [])) (sym (get_or-set_other before column k blocks [] other)) (so_far k (omega arith))
+  | inr other ↦ subst (AreBlocks (kind_at shape k) shape.rows (get_or lists k [])) (sym (get_or-set_other before column k blocks [] other))
+      (so_far k (omega arith))
 ]

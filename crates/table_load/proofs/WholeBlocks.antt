@@ -56,7 +56,8 @@ greatest_split f a p q (suc n) =
     ∙ ap (λ z. fold int_max z (map f (cond (p n) (n ∷ []) []))) (greatest_split f a p q n)
     ∙ one (p n) (q n) (fold int_max a (map f (rows_that (λ r. p r && q r) n))) (map f (rows_that (λ r. p r && not (q r)) n))
     ∙ sym
-    (ap (λ z. fold int_max z (map f (rows_that (λ r. p r && not (q r)) n ++ cond (p n && not (q n)) (n ∷ []) []))) (joined a (rows_that (λ r. p r && q r) n) (cond (p n && q n) (n ∷ []) []))
+    (ap (λ z. fold int_max z (map f (rows_that (λ r. p r && not (q r)) n ++ cond (p n && not (q n)) (n ∷ []) [])))
+    (joined a (rows_that (λ r. p r && q r) n) (cond (p n && q n) (n ∷ []) []))
     ∙ joined (fold int_max (fold int_max a (map f (rows_that (λ r. p r && q r) n))) (map f (cond (p n && q n) (n ∷ []) [])))
     (rows_that (λ r. p r && not (q r)) n) (cond (p n && not (q n)) (n ∷ []) []))
   where
@@ -90,7 +91,8 @@ module _ (n : ℕ) (w : List ℤ) (rows : List ℕ) (block : ℕ) (are : AreRows
 
   -- and so is the greatest number
   pub greatest_taken : (a : ℤ) →
-      fold int_max a (map (number_at w) rows) ≡ fold int_max (fold int_max a (map (number_at w) (block_rows n block))) (map (number_at w) (rows_left n rows block))
+      fold int_max a (map (number_at w) rows) ≡ fold int_max (fold int_max a (map (number_at w) (block_rows n block)))
+      (map (number_at w) (rows_left n rows block))
   greatest_taken a =
       ap (λ l. fold int_max a (map (number_at w) l)) (sym (rows-again n rows are)) ∙ greatest_split (number_at w) a (has_row rows) (λ r. r / 64 == block) n
       ∙ ap (λ l. fold int_max (fold int_max a (map (number_at w) l)) (map (number_at w) (rows_left n rows block))) (block_is n rows block whole)
@@ -155,7 +157,8 @@ all_below n block row end = rows_that_agree _ _ n (λ r l. elim (cases_eq (r / 6
 -- a block that the table has whole has a row
 pub some_row : (n block : ℕ) → 64 * block + 64 ≤ n → block_rows n block ≢ []
 some_row n block whole none =
-    let there : has_row (block_rows n block) (64 * block) ≡ true = has-rows_that (λ r. r / 64 == block) n (64 * block) (omega arith) ∙ eq-eqb (64 * block / 64) block (omega arith) in
+    let there : has_row (block_rows n block) (64 * block) ≡ true = has-rows_that (λ r. r / 64 == block) n (64 * block) (omega arith)
+    ∙ eq-eqb (64 * block / 64) block (omega arith) in
     true≢false (sym there ∙ ap (λ l. has_row l (64 * block)) none)
 
 -- a block that a set has whole is one that the table has whole

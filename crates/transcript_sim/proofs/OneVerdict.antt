@@ -34,7 +34,8 @@ module _ (replies : LineIsOneReply) (plans : OnePlanIsMade) (judgements : OneJud
   one_call setting history (Ask take asked) a b (inr first) (inl second) = absurd (omega (arith, second.0, first.room))
   one_call setting history (Ask take asked) a b (inr first) (inr second) =
       first.expected_is
-      ∙ ap (λ (v : Verdict). called_by take asked v) (judgements setting history asked.column asked.rows.list first.verdict second.verdict first.judged second.judged)
+      ∙ ap (λ (v : Verdict). called_by take asked v) (judgements setting history asked.column asked.rows.list first.verdict second.verdict first.judged
+      second.judged)
       ∙ sym second.expected_is
 
   -- so does a question
@@ -66,7 +67,8 @@ module _ (replies : LineIsOneReply) (plans : OnePlanIsMade) (judgements : OneJud
     one_verdict history exchange a b first second =
         let same = one_expected columns public history exchange.question first.expected second.expected first.expects second.expects in
         let bytes : a.bytes ≡ b.bytes = first.bytes_are ∙ ap (λ (x : Expected). verdict_bytes (due_of x)) same ∙ sym second.bytes_are in
-        let added : a.added ≡ b.added = one_taken first.expected exchange.shown a.added b.added first.taken (subst (λ (x : Expected). IsTaken x exchange.shown b.added) (sym same) second.taken) in
+        let added : a.added ≡ b.added = one_taken first.expected exchange.shown a.added b.added first.taken
+        (subst (λ (x : Expected). IsTaken x exchange.shown b.added) (sym same) second.taken) in
         let made : List ℕ → Option Answered → Replied Answered = λ bytes added. record { bytes = bytes; added = added } in
         ap (λ (l : List ℕ). made l a.added) bytes ∙ ap (λ (r : Option Answered). made b.bytes r) added
 

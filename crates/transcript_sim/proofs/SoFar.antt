@@ -60,7 +60,8 @@ module _ {P B : Type 0} (source : SourceGhosts P) (bench : Ghosts B) (columns : 
     pub file : bench.file at ≡ bench.file first
     pub crash : (image : List ℕ) → bench.leaves at image → bench.leaves first image
     pub moments : bench.told → IsQuiet bench first →
-        LeavesOnly bench first at (SimulatesMeanwhile source.told columns public (counted_lines (source.left first_source)) (bench.file first) (bench.sent first))
+        LeavesOnly bench first at (SimulatesMeanwhile source.told columns public (counted_lines (source.left first_source)) (bench.file first)
+        (bench.sent first))
     pub ticks : bench.told → bench.moment at ≡ bench.moment first + length verdicts
     pub same : source.told → cutter.ended ≡ true → source.left from ≡ []
     pub taken : source.told → cutter.taken + length (source.left from) ≡ length (source.left first_source)
@@ -76,13 +77,15 @@ module _ {P B : Type 0} (source : SourceGhosts P) (bench : Ghosts B) (columns : 
   begin_of rest ended lines verdicts reads are = record {
     count = length lines;
     are =
-        subst (λ (ls : List CountedLine). AreVerdicts columns public ls verdicts) (sym (ap (λ (ls : List CountedLine). take (length lines) ls) reads.counted ∙ take-append_seam lines (counted_lines rest))) are;
+        subst (λ (ls : List CountedLine). AreVerdicts columns public ls verdicts)
+        (sym (ap (λ (ls : List CountedLine). take (length lines) ls) reads.counted ∙ take-append_seam lines (counted_lines rest))) are;
   }
 
   -- before the first line no moment has passed
   pub nothing_sent : ((image bytes : List ℕ) → bench.since first (bench.moment first) image bytes → bench.leaves first image × (bytes ≡ bench.sent first))
       → IsQuiet bench first
-      → LeavesOnly bench first first (SimulatesMeanwhile source.told columns public (counted_lines (source.left first_source)) (bench.file first) (bench.sent first))
+      → LeavesOnly bench first first (SimulatesMeanwhile source.told columns public (counted_lines (source.left first_source)) (bench.file first)
+      (bench.sent first))
   nothing_sent only_now quiet = started bench first _ (λ image bytes was.
       let found = only_now image bytes was in
       (quiet image found.0, λ t. ([], record { count = 0; are = tt }, (0, found.1 ∙ sym (append-nil (bench.sent first))))))
@@ -93,7 +96,8 @@ module _ {P B : Type 0} (source : SourceGhosts P) (bench : Ghosts B) (columns : 
       → SoFar cutter first_source first [] []
   nothing_yet none cutter fresh only_now = record {
     reads =
-        λ told. subst (λ (rest : List ℕ). ReadsLines (source.left first_source) rest cutter.ended []) (ap (λ (l : List ℕ). l ++ source.left first_source) (sym fresh.1)) (none (source.left first_source) cutter.ended);
+        λ told. subst (λ (rest : List ℕ). ReadsLines (source.left first_source) rest cutter.ended [])
+        (ap (λ (l : List ℕ). l ++ source.left first_source) (sym fresh.1)) (none (source.left first_source) cutter.ended);
     are = tt;
     sent = λ told. sym (append-nil (bench.sent first));
     file = refl;
@@ -127,13 +131,19 @@ module _ {P B : Type 0} (source : SourceGhosts P) (bench : Ghosts B) (columns : 
         are_with : AreVerdicts columns public (lines ++ line ∷ []) (verdicts ++ sent_for expected ∷ [])
         are_with =
             let asked : Exchange = record { question = line; shown = None } in
-            let verdict : IsVerdict columns public (records_of verdicts) asked (sent_for expected) = record { expected = expected; expects = expects; bytes_are = refl; taken = refl } in
+            let verdict : IsVerdict columns public (records_of verdicts) asked (sent_for expected) = record {
+              expected = expected;
+              expects = expects;
+              bytes_are = refl;
+              taken = refl;
+            } in
             subst (λ (es : List Exchange). AreReplies (IsVerdict columns public) [] es (verdicts ++ sent_for expected ∷ []))
             (sym (exchanges-append lines (line ∷ []) half even))
             (replies-append (IsVerdict columns public) [] (exchanges lines) (asked ∷ []) verdicts (sent_for expected ∷ []) so_far.are (verdict, tt))
 
         module _ (sending : B) (file : bench.file sending ≡ bench.file at) (crash : (image : List ℕ) → bench.leaves sending image → bench.leaves at image)
-            (time : Elapses (bench.moment at) (bench.moment sending) (bench.since at) (bench.since sending) (Sending (bench.leaves sending) (bench.sent at) (verdict_bytes (due_of expected)))) where
+            (time : Elapses (bench.moment at) (bench.moment sending) (bench.since at) (bench.since sending)
+            (Sending (bench.leaves sending) (bench.sent at) (verdict_bytes (due_of expected)))) where
           -- a front of the verdicts, whose last one was sent so far
           front_now : bench.told → (bytes : List ℕ) → AppendsFront (bench.sent at) (verdict_bytes (due_of expected)) bytes →
               AppendsFront (bench.sent first) (bytes_of (verdicts ++ sent_for expected ∷ [])) bytes
@@ -141,14 +151,22 @@ module _ {P B : Type 0} (source : SourceGhosts P) (bench : Ghosts B) (columns : 
             length (bytes_of verdicts) + part.0,
             part.1 ∙ ap (λ (l : List ℕ). l ++ take part.0 (verdict_bytes (due_of expected))) (so_far.sent told)
                 ∙ append_assoc (bench.sent first) (bytes_of verdicts) (take part.0 (verdict_bytes (due_of expected)))
-                ∙ ap (λ (l : List ℕ). bench.sent first ++ l) (sym (take-append-add (bytes_of verdicts) (verdict_bytes (due_of expected)) part.0) ∙ ap (λ (l : List ℕ). take (length (bytes_of verdicts) + part.0) l) (sym (bytes-push verdicts (sent_for expected)))),
+                ∙ ap (λ (l : List ℕ). bench.sent first ++ l)
+                (sym (take-append-add (bytes_of verdicts) (verdict_bytes (due_of expected)) part.0)
+                ∙ ap (λ (l : List ℕ). take (length (bytes_of verdicts) + part.0) l) (sym (bytes-push verdicts (sent_for expected)))),
           )
 
           moments_now : bench.told → IsQuiet bench first →
-              LeavesOnly bench first sending (SimulatesMeanwhile source.told columns public (counted_lines (source.left first_source)) (bench.file first) (bench.sent first))
+              LeavesOnly bench first sending (SimulatesMeanwhile source.told columns public (counted_lines (source.left first_source)) (bench.file first)
+              (bench.sent first))
           moments_now told quiet = goes_on bench first at sending _ _ (so_far.moments told quiet) time (λ image bytes found. (
             quiet image (so_far.crash image (crash image found.0)),
-            λ t. (verdicts ++ sent_for expected ∷ [], begin_of (new.pending ++ source.left after) new.ended (lines ++ line ∷ []) (verdicts ++ sent_for expected ∷ []) (reads_now t) are_with, front_now told bytes found.1),
+            λ t. (
+              verdicts ++ sent_for expected ∷ [],
+              begin_of (new.pending ++ source.left after) new.ended (lines ++ line ∷ [])
+                  (verdicts ++ sent_for expected ∷ []) (reads_now t) are_with,
+              front_now told bytes found.1,
+            ),
           ))
 
           -- it was sent
@@ -181,7 +199,12 @@ module _ {P B : Type 0} (source : SourceGhosts P) (bench : Ghosts B) (columns : 
               → Simulates source bench columns public first_source after first sending (Err fault.Bench)
           question_unsent part steady rose last later = record {
             verdicts =
-                λ t. (verdicts ++ sent_for expected ∷ [], begin_of (new.pending ++ source.left after) new.ended (lines ++ line ∷ []) (verdicts ++ sent_for expected ∷ []) (reads_now t) are_with, λ told. front_now told (bench.sent sending) (part told));
+                λ t. (
+                  verdicts ++ sent_for expected ∷ [],
+                  begin_of (new.pending ++ source.left after) new.ended (lines ++ line ∷ [])
+                      (verdicts ++ sent_for expected ∷ []) (reads_now t) are_with,
+                  λ told. front_now told (bench.sent sending) (part told),
+                );
             calls = λ t told. tt;
             reads = λ t. tt;
             moments = moments_now;
@@ -202,8 +225,11 @@ module _ {P B : Type 0} (source : SourceGhosts P) (bench : Ghosts B) (columns : 
     -- by what is said of the verdicts and of the input
     pub ends : (after : P) (result : Result (Unit {0}) SimulationFault) → result ≢ Err fault.Bench
         → (source.told → EndVerdicts result columns public (source.left first_source) (source.left after) verdicts)
-        → (bench.told → EndSends result verdicts (bench.sent first) (bench.sent at)) → (source.told → bench.told → OnOk result (bench.moment at ≡ bench.moment first + length (exchanges (counted_lines (source.left first_source))))) → (source.told → EndReads result (source.left first_source) (source.left after)) → source.faults from ≤ source.faults after
-        → (result ≡ Err fault.Input → Rose (source.faults from) (source.faults after)) → (result ≡ Err fault.Input → source.last_failed after ≡ true) → (result ≢ Err fault.Input → source.faults after ≡ source.faults from)
+        → (bench.told → EndSends result verdicts (bench.sent first) (bench.sent at)) →
+        (source.told → bench.told → OnOk result (bench.moment at ≡ bench.moment first + length (exchanges (counted_lines (source.left first_source))))) →
+        (source.told → EndReads result (source.left first_source) (source.left after)) → source.faults from ≤ source.faults after
+        → (result ≡ Err fault.Input → Rose (source.faults from) (source.faults after)) → (result ≡ Err fault.Input → source.last_failed after ≡ true) →
+        (result ≢ Err fault.Input → source.faults after ≡ source.faults from)
         → Simulates source bench columns public first_source after first at result
     ends after result fine are sends calls reads later rose last steady = record {
       verdicts = λ t. (verdicts, are t, sends);
@@ -236,14 +262,29 @@ module _ {P B : Type 0} (source : SourceGhosts P) (bench : Ghosts B) (columns : 
     pub all_read : (new : Cutter) (after : P) → GivesNone source cutter new from after → Cuts source cutter new from after →
         Simulates source bench columns public first_source after first at (Ok tt)
     all_read new after gives cuts = ends after (Ok tt) (no_fault fault.Bench)
-        (λ t. subst (λ (ls : List CountedLine). AreVerdicts columns public ls verdicts) (sym ((so_far.reads t).counted ∙ ap (λ (ls : List CountedLine). lines ++ ls) (gives.none t) ∙ append-nil lines)) so_far.are) so_far.sent
+        (λ t. subst (λ (ls : List CountedLine). AreVerdicts columns public ls verdicts)
+        (sym ((so_far.reads t).counted ∙ ap (λ (ls : List CountedLine). lines ++ ls) (gives.none t) ∙ append-nil lines)) so_far.are) so_far.sent
         (λ t told.
         let all = (so_far.reads t).counted ∙ ap (λ (ls : List CountedLine). lines ++ ls) (gives.none t) ∙ append-nil lines in
-        omega
-        (arith, so_far.ticks told, length-replies (IsVerdict columns public) [] (exchanges lines) verdicts so_far.are, ap (λ (ls : List CountedLine). length (exchanges ls)) all))
+        omega (
+          arith,
+          so_far.ticks told,
+          length-replies (IsVerdict columns public) [] (exchanges lines) verdicts so_far.are,
+          ap (λ (ls : List CountedLine). length (exchanges ls)) all,
+        ))
         (λ t.
-        let parts = nil_parts new.pending (source.left after) (sym (gives.nothing t)) in
-        (parts.1, omega (arith, cuts.within, cuts.taken t, so_far.taken t, ap (λ (l : List ℕ). length l) parts.0, ap (λ (l : List ℕ). length l) parts.1))) cuts.later (λ is. absurd (no_fault fault.Input is)) (λ is. absurd (no_fault fault.Input is)) (λ other. gives.steady)
+        let parts = nil_parts new.pending (source.left after) (sym (gives.nothing t)) in (
+          parts.1,
+          omega (
+            arith,
+            cuts.within,
+            cuts.taken t,
+            so_far.taken t,
+            ap (λ (l : List ℕ). length l) parts.0,
+            ap (λ (l : List ℕ). length l) parts.1,
+          ),
+        )) cuts.later (λ is. absurd (no_fault fault.Input is)) (λ is. absurd (no_fault fault.Input is))
+        (λ other. gives.steady)
       where
         nil_parts : (a b : List ℕ) → [] ≡ a ++ b → (a ≡ []) × (b ≡ [])
         nil_parts [] b is = (refl, sym is)
@@ -278,19 +319,32 @@ module _ {P B : Type 0} (source : SourceGhosts P) (bench : Ghosts B) (columns : 
     cut_short new after fault.Input short cuts = ends after (Err fault.Input) (search rules)
         (λ t.
         let going : cutter.ended ≡ true → cutter.pending ++ source.left from ≡ [] → ⊥ = λ ended none. short.going ended in
-        record { read = read t (source.left after) going (short.stops t); split = read_split t (source.left after) going (short.stops t); are = read_are t (source.left after) going (short.stops t) }) so_far.sent (λ t told. tt)
+        record {
+          read = read t (source.left after) going (short.stops t);
+          split = read_split t (source.left after) going (short.stops t);
+          are = read_are t (source.left after) going (short.stops t);
+        }) so_far.sent (λ t told. tt)
         (λ t. omega (arith, short.within, cuts.taken t, so_far.taken t)) cuts.later (λ is. short.rose) (λ is. short.last) (λ other. absurd (other refl))
     cut_short new after fault.Limit short cuts = ends after (Err fault.Limit) (search rules)
         (λ t.
         let rest = new.pending ++ source.left after in
-        let going : cutter.ended ≡ true → cutter.pending ++ source.left from ≡ [] → ⊥ = λ ended. not_over new.pending (source.left after) (short.stops t) short.some in
+        let going : cutter.ended ≡ true → cutter.pending ++ source.left from ≡ [] →
+        ⊥ = λ ended. not_over new.pending (source.left after) (short.stops t) short.some in
         let split = read_split t rest going (short.stops t) in
         record {
           read = read t rest going (short.stops t);
           behind = rest;
           split = split;
           size =
-              omega (arith, ap (λ (l : List ℕ). length l) split, length-append (read t rest going (short.stops t)) rest, length-append new.pending (source.left after), short.over, cuts.taken t, so_far.taken t);
+              omega (
+                arith,
+                ap (λ (l : List ℕ). length l) split,
+                length-append (read t rest going (short.stops t)) rest,
+                length-append new.pending (source.left after),
+                short.over,
+                cuts.taken t,
+                so_far.taken t,
+              );
           are = read_are t rest going (short.stops t);
         }) so_far.sent (λ t told. tt)
         (λ t. omega (arith, short.over, short.some, cuts.taken t, so_far.taken t)) cuts.later (λ is. absurd (search rules)) (λ is. absurd (search rules))

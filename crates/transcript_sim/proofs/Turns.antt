@@ -81,21 +81,30 @@ module _ {P B : Type 0} (source : SourceGhosts P) (bench : Ghosts B) (columns : 
     verdicts = verdicts_now;
     so_far = record {
       reads =
-          reads_now source bench columns public first_source first more_read cutter from at asked (half.verdicts ++ sent_for expected ∷ []) half.so_far new after shown gives cuts;
+          reads_now source bench columns public first_source first more_read cutter from at asked
+          (half.verdicts ++ sent_for expected ∷ []) half.so_far new after shown gives cuts;
       are = subst (λ (es : List Exchange). AreReplies (IsVerdict columns public) [] es verdicts_now) (sym exchanges_are)
-          (replies-append (IsVerdict columns public) [] (exchanges half.lines) (exchange ∷ []) half.verdicts (with_record expected added ∷ []) half.before (verdict, tt));
+          (replies-append (IsVerdict columns public) [] (exchanges half.lines) (exchange ∷ []) half.verdicts (with_record expected added ∷ []) half.before
+          (verdict, tt));
       sent =
-          λ told. half.so_far.sent told ∙ ap (λ (l : List ℕ). bench.sent first ++ l) (bytes-push half.verdicts (sent_for expected) ∙ sym (bytes-push half.verdicts (with_record expected added)));
+          λ told. half.so_far.sent told ∙ ap (λ (l : List ℕ). bench.sent first ++ l)
+          (bytes-push half.verdicts (sent_for expected) ∙ sym (bytes-push half.verdicts (with_record expected added)));
       file = half.so_far.file;
       crash = half.so_far.crash;
       moments = half.so_far.moments;
       ticks =
-          λ told. omega (arith, half.so_far.ticks told, length-append half.verdicts (sent_for expected ∷ []), length-append half.verdicts (with_record expected added ∷ []));
+          λ told. omega (
+            arith,
+            half.so_far.ticks told,
+            length-append half.verdicts (sent_for expected ∷ []),
+            length-append half.verdicts (with_record expected added ∷ []),
+          );
       same = cuts.same;
       taken = λ told. cuts.taken told ∙ half.so_far.taken told;
       within = cuts.within;
       counts =
-          counts_now source bench columns public first_source first more_read cutter from at asked (half.verdicts ++ sent_for expected ∷ []) half.so_far new after shown gives cuts;
+          counts_now source bench columns public first_source first more_read cutter from at asked
+          (half.verdicts ++ sent_for expected ∷ []) half.so_far new after shown gives cuts;
       source_steady = gives.steady ∙ half.so_far.source_steady;
       bench_steady = half.so_far.bench_steady;
     };
@@ -121,7 +130,8 @@ module _ {P B : Type 0} (source : SourceGhosts P) (bench : Ghosts B) (columns : 
         none_behind (IsVerdict columns public) (due columns public) [] (exchanges half.lines)
         (record { question = half.question; shown = Some shown }) half.verdicts half.before
         (λ out is. not_agreed out.added
-        (subst (λ (x : Expected). AgreesWith shown x out.added) (called columns public (records_of half.verdicts) half.question is.expected expected is.expects half.expects) is.taken)) more
+        (subst (λ (x : Expected). AgreesWith shown x out.added)
+        (called columns public (records_of half.verdicts) half.question is.expected expected is.expects half.expects) is.taken)) more
         (subst (λ (es : List Exchange). AreReplies (IsVerdict columns public) [] es more) exchanges_are are)
 
     module _ (t : source.told) where
@@ -162,9 +172,23 @@ module _ {P B : Type 0} (source : SourceGhosts P) (bench : Ghosts B) (columns : 
         behind = new.pending ++ source.left after;
         split = reads.split;
         short =
-            omega (arith, ap (λ (l : List ℕ). length l) reads.split, length-append reads.read (new.pending ++ source.left after), length-append new.pending (source.left after), cuts.within, cuts.taken t, half.so_far.taken t);
+            omega (
+              arith,
+              ap (λ (l : List ℕ). length l) reads.split,
+              length-append reads.read (new.pending ++ source.left after),
+              length-append new.pending (source.left after),
+              cuts.within,
+              cuts.taken t,
+              half.so_far.taken t,
+            );
         inside =
-            ⊎_elim (λ (is : IsRead reads.read whole). inl (omega (arith, many, half.line_is, ap (λ (ls : List CountedLine). length ls) (sym (ap whole_lines (append-nil reads.read)) ∙ is [] ∙ append-nil whole)))) (λ over. inr over.1) reads.whole;
+            ⊎_elim (λ (is : IsRead reads.read whole). inl (omega (
+              arith,
+              many,
+              half.line_is,
+              ap (λ (ls : List CountedLine). length ls)
+                  (sym (ap whole_lines (append-nil reads.read)) ∙ is [] ∙ append-nil whole),
+            ))) (λ over. inr over.1) reads.whole;
       }
 
     pub disagreed : Simulates source bench columns public first_source after first at (Err (fault.Disagrees line (due_of expected)))
@@ -184,13 +208,15 @@ module _ {P B : Type 0} (source : SourceGhosts P) (bench : Ghosts B) (columns : 
     expects = subst (λ (h : List Answered). Expects columns public h question.line expected) turn.history question.expects
 
     -- it was sent
-    pub asked_half : SendsVerdict bench at sending (due_of expected) → Half source bench columns public first_source first new after sending core (line + 2) expected
+    pub asked_half : SendsVerdict bench at sending (due_of expected) →
+        Half source bench columns public first_source first new after sending core (line + 2) expected
     asked_half sends = record {
       lines = turn.lines;
       verdicts = turn.verdicts;
       question = question.line;
       so_far =
-          question_sent source bench columns public first_source first more_read cutter from at turn.lines turn.verdicts turn.so_far new after question.line question.gives cuts
+          question_sent source bench columns public first_source first more_read cutter from at turn.lines turn.verdicts turn.so_far new after question.line
+          question.gives cuts
           (length turn.verdicts) turn.even expected expects sending sends.file sends.crash sends.time sends.all sends.ticks question.gives.steady sends.steady;
       before = turn.so_far.are;
       expects = expects;
@@ -203,8 +229,10 @@ module _ {P B : Type 0} (source : SourceGhosts P) (bench : Ghosts B) (columns : 
     -- it couldn't be
     asked_unsent : FailsSending bench at sending (due_of expected) → Simulates source bench columns public first_source after first sending (Err fault.Bench)
     asked_unsent fails =
-        question_unsent source bench columns public first_source first more_read cutter from at turn.lines turn.verdicts turn.so_far new after question.line question.gives cuts
-        (length turn.verdicts) turn.even expected expects sending fails.file fails.crash fails.time fails.part question.gives.steady fails.rose fails.last fails.later
+        question_unsent source bench columns public first_source first more_read cutter from at turn.lines turn.verdicts turn.so_far new after question.line
+        question.gives cuts
+        (length turn.verdicts) turn.even expected expects sending fails.file fails.crash fails.time fails.part question.gives.steady fails.rose fails.last
+        fails.later
 
   unasked : (why : SimulationFault) → IsCutShort source cutter new from after why → sending ≡ at →
       Simulates source bench columns public first_source after first sending (Err why)
@@ -233,9 +261,11 @@ module _ {P B : Type 0} (source : SourceGhosts P) (bench : Ghosts B) (columns : 
     (half : Half source bench columns public first_source first cutter from at core line expected) (new : Cutter) (after : P)
     (cuts : Cuts source cutter new from after) where
   -- no line was given
-  pub unshown : (why : SimulationFault) → IsCutShort source cutter new from after why → Simulates source bench columns public first_source after first at (Err why)
+  pub unshown : (why : SimulationFault) → IsCutShort source cutter new from after why →
+      Simulates source bench columns public first_source after first at (Err why)
   unshown why short =
-      cut_short source bench columns public first_source first more_read cutter from at (half.lines ++ half.question ∷ []) (half.verdicts ++ sent_for expected ∷ [])
+      cut_short source bench columns public first_source first more_read cutter from at (half.lines ++ half.question ∷ [])
+      (half.verdicts ++ sent_for expected ∷ [])
       half.so_far new after why short cuts
 
   -- the transcript goes on
@@ -243,7 +273,8 @@ module _ {P B : Type 0} (source : SourceGhosts P) (bench : Ghosts B) (columns : 
       → (core_now : Audited) → core_now.history ≡ core.history ++ records_shown shown → core_now.setting ≡ core.setting
       → Turn source bench columns public first_source first new after at core_now line
   went_on (Some (Agrees added)) shows is core_now history setting =
-      agreed source bench columns public first_source first more_read cutter from at core line expected half new after shows.line shows.gives cuts added shows.comes_to core_now history setting
+      agreed source bench columns public first_source first more_read cutter from at core line expected half new after shows.line shows.gives cuts added
+      shows.comes_to core_now history setting
   went_on (Some Disagrees) shows is core_now history setting = absurd (search rules)
   went_on None shows is core_now history setting = absurd (search rules)
 
@@ -253,7 +284,8 @@ module _ {P B : Type 0} (source : SourceGhosts P) (bench : Ghosts B) (columns : 
   ended (Some (Agrees added)) shows is = absurd (search rules)
   ended (Some Disagrees) shows is = absurd (search rules)
   ended None shows is =
-      all_read source bench columns public first_source first more_read cutter from at (half.lines ++ half.question ∷ []) (half.verdicts ++ sent_for expected ∷ [])
+      all_read source bench columns public first_source first more_read cutter from at (half.lines ++ half.question ∷ [])
+      (half.verdicts ++ sent_for expected ∷ [])
       half.so_far new after shows cuts
 
   -- it ends with a reply that doesn't agree
@@ -263,5 +295,6 @@ module _ {P B : Type 0} (source : SourceGhosts P) (bench : Ghosts B) (columns : 
   refused called due (Some (Agrees added)) shows why is = absurd (search rules)
   refused called due (Some Disagrees) shows why is =
       subst (λ (r : Result (Unit {0}) SimulationFault). Simulates source bench columns public first_source after first at r) (search rules)
-      (disagreed source bench columns public first_source first more_read cutter from at core line expected half new after shows.line shows.gives cuts called due shows.comes_to)
+      (disagreed source bench columns public first_source first more_read cutter from at core line expected half new after shows.line shows.gives cuts called
+      due shows.comes_to)
   refused called due None shows why is = absurd (search rules)

@@ -32,7 +32,8 @@ use Rattle.transcript_sim.specs.Verdicts.{Expects, AgreesWith, due_of, verdict_b
 -- the record of an answer to the question may follow the history
 abbrev pub CanBeTaken : Setting → List Answered → Expected → Type 0
 CanBeTaken setting history (Only answer) = Unit {0}
-CanBeTaken setting history (Answer take asked) = FitsShape setting.shape asked.column asked.rows × IsWithinWidth (known_of setting history asked.column) asked.rows.list
+CanBeTaken setting history (Answer take asked) = FitsShape setting.shape asked.column asked.rows ×
+    IsWithinWidth (known_of setting history asked.column) asked.rows.list
 
 -- what a line that was shown comes to: it agrees, and makes this record, or it agrees with none
 abbrev pub ComesTo : CountedLine → Expected → Shown → Type 0
@@ -93,7 +94,8 @@ GivesNext source old new before after next.End = GivesNone source old new before
 -- ---- the two lines of an exchange
 
 -- a question, and what it calls for
-pub record GivesQuestion {P : Type 0} (source : Ghosts P) (old new : Cutter) (before after : P) (columns : List Column) (public : PublicView) (history : List Answered) (expected : Expected) : Type 0 where
+pub record GivesQuestion {P : Type 0} (source : Ghosts P) (old new : Cutter) (before after : P) (columns : List Column) (public : PublicView)
+    (history : List Answered) (expected : Expected) : Type 0 where
   pub line : CountedLine
   pub gives : GivesLine source old new before after line
   pub expects : Expects columns public history line expected
@@ -162,15 +164,18 @@ SendsFor bench old new None = new ≡ old
 SendsFor bench old new (Some expected) = SendsVerdict bench old new (due_of expected)
 
 -- a question whose verdict couldn't be sent
-pub record GivesUnsent {P B : Type 0} (source : Ghosts P) (bench : BenchGhosts B) (old new : Cutter) (before after : P) (at now : B) (columns : List Column) (public : PublicView) (history : List Answered) : Type 0 where
+pub record GivesUnsent {P B : Type 0} (source : Ghosts P) (bench : BenchGhosts B) (old new : Cutter) (before after : P) (at now : B) (columns : List Column)
+    (public : PublicView) (history : List Answered) : Type 0 where
   pub expected : Expected
   pub question : GivesQuestion source old new before after columns public history expected
   pub fails : FailsSending bench at now (due_of expected)
 
 -- why no verdict was sent: no question was given and no call was made, or the call failed
-abbrev pub IsUnjudged : {P B : Type 0} → Ghosts P → BenchGhosts B → Cutter → Cutter → P → P → B → B → List Column → PublicView → List Answered → SimulationFault → Type 0
+abbrev pub IsUnjudged : {P B : Type 0} → Ghosts P → BenchGhosts B → Cutter → Cutter → P → P → B → B → List Column → PublicView → List Answered →
+    SimulationFault → Type 0
 IsUnjudged source bench old new before after at now columns public history why =
-    (IsCutShort source old new before after why × (now ≡ at)) ⊎ ((why ≡ fault.Bench) × GivesUnsent source bench old new before after at now columns public history)
+    (IsCutShort source old new before after why × (now ≡ at)) ⊎
+    ((why ≡ fault.Bench) × GivesUnsent source bench old new before after at now columns public history)
 
 -- ---- the end of reading
 

@@ -7,7 +7,8 @@ use Rattle.drill_case.proofs.lines.write_lines.Goals as goal
 
 pub loop-line-init : goal.loop-line-init
 loop-line-init c = record {
-  state = c.skip_fours.ensures c.args.number c.new-draws.ensures ∙ ap (λ (rows : ℕ). state_after c.args.number (4 * rows)) c.row_count.ensures.rows ∙ ap (state_after c.args.number) (omega arith);
+  state = c.skip_fours.ensures c.args.number c.new-draws.ensures ∙ ap (λ (rows : ℕ). state_after c.args.number (4 * rows)) c.row_count.ensures.rows
+      ∙ ap (state_after c.args.number) (omega arith);
   lines = c.new-lines.ensures.items;
   short = omega (arith, ap (λ (l : List ℕ). length l) c.new-lines.ensures.items);
 }
@@ -18,7 +19,8 @@ loop-line-preserved c =
     let line = c.loop-line._line in
     let had = c.loop-line.invariant in
     let next = c.four.ensures number (4 * drill_rows + 4 * line) had.state in
-    let text : line_of_draws (get_or c.four.result 0 0) (get_or c.four.result 1 0) (get_or c.four.result 2 0) (get_or c.four.result 3 0) ≡ drill_line number line =
+    let text : line_of_draws (get_or c.four.result 0 0) (get_or c.four.result 1 0) (get_or c.four.result 2 0)
+    (get_or c.four.result 3 0) ≡ drill_line number line =
     ap (λ (l : List ℕ). line_of_draws (get_or l 0 0) (get_or l 1 0) (get_or l 2 0) (get_or l 3 0)) next.1 in
     record {
       state = next.0 ∙ ap (state_after number) (omega arith);

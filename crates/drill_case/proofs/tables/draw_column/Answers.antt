@@ -11,7 +11,8 @@ loop-row-preserved c =
     let row = c.loop-row._row in
     let had = c.loop-row.invariant in
     let next = c.four-four.ensures number (4 * row) had.state in
-    let put : c.push.new.self.items ≡ c.loop-row.list.items ++ pos (c.args.drawing.least + get_or c.four-four.result c.args.drawing.place 0 % c.args.drawing.span) ∷ [] =
+    let put : c.push.new.self.items ≡ c.loop-row.list.items ++ pos
+    (c.args.drawing.least + get_or c.four-four.result c.args.drawing.place 0 % c.args.drawing.span) ∷ [] =
     grind (arith, common_steps) in
     let drawn = one_of_four number (4 * row) c.args.drawing.place c.four-four.result c.requires.place next.1 in
     record {

@@ -6,7 +6,8 @@ use Rattle.drill_case.proofs.tables.draw_public.Goals as goal
 pub of_numbers-requires : goal.of_numbers-requires
 of_numbers-requires c =
     let number = c.args.number in
-    lists_fit number drill_rows _ _ some_rows few_rows c.requires (c.in_ok-draw_columns.ensures ∙ λ i. from_zero number 0 8 drill_rows i ∷ ages number drill_rows ∷ [])
+    lists_fit number drill_rows _ _ some_rows few_rows c.requires
+    (c.in_ok-draw_columns.ensures ∙ λ i. from_zero number 0 8 drill_rows i ∷ ages number drill_rows ∷ [])
 
 pub returns : goal.returns
 returns c =

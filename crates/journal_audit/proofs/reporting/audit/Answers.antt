@@ -15,7 +15,8 @@ refused_first g c =
     let audit = audit_of c.args.schema.now.columns c.args.store.now in
     let is = refusal_is c.from_residual.result _ c.from_residual.ensures in
     subst (λ r. SendsLinesOn g.B.Bench audit (subjects shape) c.args.bench.now c.send_columns.new.bench r) (sym (is.1.0 ∙ ap Err is.1.1))
-    (refused g.B.Bench g.met.B.Bench.only_now audit (subjects_before shape (columns shape)) (totals ∷ []) c.args.bench.now c.send_columns.new.bench c.in_err-send_columns.field-0.0 c.in_err-send_columns.ensures)
+    (refused g.B.Bench g.met.B.Bench.only_now audit (subjects_before shape (columns shape))
+    (totals ∷ []) c.args.bench.now c.send_columns.new.bench c.in_err-send_columns.field-0.0 c.in_err-send_columns.ensures)
 
 -- the columns' lines were sent, and then that of totals
 then_totals : (g : Over) (c : goal.After-drop-line-2 g) →

@@ -42,16 +42,21 @@ loop-place-preserved g c =
       | in-Some+in_ok-send_column w ↦
           let column = w.in-Some.column in
           let found = sym c.secret.ensures.place ∙ w.in-Some.is in
-          let so_far = subst (λ n. SendsLinesOn g.B.Bench audit (subjects_before shape n) c.args.bench.now c.loop-place.bench (Ok tt)) (sym (secret_at schema place column found).counted) c.loop-place.invariant in
-          let both = and_then g.B.Bench g.met.B.Bench.only_now audit (subjects_before shape column) (subjects_of shape column (kind_at shape column)) c.args.bench.now c.loop-place.bench w.send_column.new.bench so_far (Ok tt) w.in_ok-send_column.ensures in
+          let so_far = subst (λ n. SendsLinesOn g.B.Bench audit (subjects_before shape n) c.args.bench.now c.loop-place.bench (Ok tt))
+          (sym (secret_at schema place column found).counted) c.loop-place.invariant in
+          let both = and_then g.B.Bench g.met.B.Bench.only_now audit (subjects_before shape column)
+          (subjects_of shape column (kind_at shape column)) c.args.bench.now c.loop-place.bench w.send_column.new.bench so_far
+          (Ok tt) w.in_ok-send_column.ensures in
           subst (λ l. SendsLinesOn g.B.Bench audit l c.args.bench.now c.match-secret.bench (Ok tt))
           (sym (ap (subjects_before shape) (one_more_secret schema place column found) ∙ subjects_before-more shape column))
-          (subst (λ b. SendsLinesOn g.B.Bench audit (subjects_before shape column ++ subjects_of shape column (kind_at shape column)) c.args.bench.now b (Ok tt)) (sym w.bench-is) both)
+          (subst (λ b. SendsLinesOn g.B.Bench audit (subjects_before shape column ++ subjects_of shape column (kind_at shape column)) c.args.bench.now b
+          (Ok tt)) (sym w.bench-is) both)
       | in_default w ↦
           let none = sym c.secret.ensures.place ∙ w.in_default.is in
           subst (λ n. SendsLinesOn g.B.Bench audit (subjects_before shape n) c.args.bench.now c.match-secret.bench (Ok tt))
           (sym (no_more_secret schema place below none))
-          (subst (λ b. SendsLinesOn g.B.Bench audit (subjects_before shape (secret_count (take place schema))) c.args.bench.now b (Ok tt)) (sym w.bench-is) c.loop-place.invariant)
+          (subst (λ b. SendsLinesOn g.B.Bench audit (subjects_before shape (secret_count (take place schema))) c.args.bench.now b (Ok tt))
+          (sym w.bench-is) c.loop-place.invariant)
     ]
 
 pub returns : goal.returns
@@ -60,5 +65,6 @@ returns g c =
     let schema = c.args.schema.now.columns in
     let audit = audit_of schema c.args.store.now in
     let end : c.loop-place.place ≡ length schema = omega (arith, c.loop-place-test.false, c.loop-place.auto.place-end, c.count-place-end.ensures.count) in
-    let all = ap (λ n. secret_count (take n schema)) end ∙ ap secret_count (take-length schema) ∙ sym (c.shape_of_a_table.ensures.secrets schema shape.rows c.count-place-end.ensures.columns) ∙ ap columns (sym c.requires.shape) in
+    let all = ap (λ n. secret_count (take n schema)) end ∙ ap secret_count (take-length schema)
+    ∙ sym (c.shape_of_a_table.ensures.secrets schema shape.rows c.count-place-end.ensures.columns) ∙ ap columns (sym c.requires.shape) in
     subst (λ n. SendsLinesOn g.B.Bench audit (subjects_before shape n) c.args.bench.now c.loop-place.bench (Ok tt)) all c.loop-place.invariant

@@ -32,20 +32,24 @@ write_row-requires-clause-free g c =
     let audit = audit_of c.args.schema.now.columns c.args.store.now in
     let secret = c.args.store.now.secret in
     not_pinned_here audit c.args.column c.loop-row.row c.args.sums.now.n c.args.sums.now.answers c.requires.part.n c.requires.part.answers
-    (c.free_numbers.ensures.pinned (secret_table secret) audit.history c.args.column c.loop-row.row (c.lists_of_secrets.ensures secret c.requires.is.numbers) c.requires.is.legal c.requires.below c.requires.part.own_kind)
+    (c.free_numbers.ensures.pinned (secret_table secret) audit.history c.args.column c.loop-row.row
+    (c.lists_of_secrets.ensures secret c.requires.is.numbers) c.requires.is.legal c.requires.below c.requires.part.own_kind)
 
 pub write_row-requires-clause-same_n : goal.write_row-requires-clause-same_n
 write_row-requires-clause-same_n g c =
     let audit = audit_of c.args.schema.now.columns c.args.store.now in
-    let sets = sets_same_n audit.shape.rows (λ r. r.column == c.args.column) audit.history (same_n (secret_table c.args.store.now.secret) audit.history c.requires.is.legal) in
-    let here = c.deref.ensures.value ∙ c.in_ok-sets.ensures ∙ ap (λ l. map (λ (r : Answered). r.rows) (filter (λ r. r.column == c.args.column) l)) c.history.ensures.history in
+    let sets = sets_same_n audit.shape.rows (λ r. r.column == c.args.column) audit.history
+    (same_n (secret_table c.args.store.now.secret) audit.history c.requires.is.legal) in
+    let here = c.deref.ensures.value ∙ c.in_ok-sets.ensures ∙ ap
+    (λ l. map (λ (r : Answered). r.rows) (filter (λ r. r.column == c.args.column) l)) c.history.ensures.history in
     subst (λ n. AllByRecursion (λ s. s.n ≡ n) c.deref.result.now) (sym c.requires.part.n)
     (subst (λ l. AllByRecursion (λ s. s.n ≡ audit.shape.rows) l) (sym here) sets)
 
 pub write_row-requires-clause-sets : goal.write_row-requires-clause-sets
 write_row-requires-clause-sets g c =
     let kept = filter (λ (r : Answered). r.column == c.args.column) c.args.store.now.history in
-    let here = c.deref.ensures.value ∙ c.in_ok-sets.ensures ∙ ap (λ l. map (λ (r : Answered). r.rows) (filter (λ r. r.column == c.args.column) l)) c.history.ensures.history in
+    let here = c.deref.ensures.value ∙ c.in_ok-sets.ensures ∙ ap
+    (λ l. map (λ (r : Answered). r.rows) (filter (λ r. r.column == c.args.column) l)) c.history.ensures.history in
     ap lists_of here ∙ lists_of_records kept ∙ sym (ap sets_of c.requires.part.answers)
 
 pub returns-in_err-write_row : goal.returns-in_err-write_row
@@ -69,11 +73,13 @@ returns-in_err-send_line g c =
     let among = row_among column row audit.shape.rows (omega (arith, c.loop-row-test.true, c.n-row-end.ensures.n, c.requires.part.n)) in
     let w = c.in_ok-write_row.ensures in
     let name = name_is audit.schema c.args.place column c.name-name.result.now c.requires.named c.name-name.ensures in
-    let line = is_row_line audit column row c.args.sums.now.n c.args.sums.now.answers c.name-name.result.now c.deref-in-loop-row.result.now c.requires.part.n c.requires.part.answers name w.0 w.1 w.2.0 w.2.1 (c.deref-in-loop-row.ensures.value ∙ w.2.2) in
+    let line = is_row_line audit column row c.args.sums.now.n c.args.sums.now.answers c.name-name.result.now c.deref-in-loop-row.result.now c.requires.part.n
+    c.requires.part.answers name w.0 w.1 w.2.0 w.2.1 (c.deref-in-loop-row.ensures.value ∙ w.2.2) in
     refused_among g.B.Bench g.met.B.Bench.only_now audit (rows_before column row) (row_of column row ∷ []) among.0
     (rows_before column audit.shape.rows) c.args.bench.now c.loop-row.bench c.send_line.new.bench
     c.from_residual-in_err-send_line.result c.in_err-send_line.field-0.0 among.1 (is.1.0 ∙ ap Err is.1.1) c.loop-row.invariant
-    (line_on g.B.Bench g.met.B.Bench.only_now audit (row_of column row) c.deref-in-loop-row.result.now line c.loop-row.bench c.send_line.new.bench (Err c.in_err-send_line.field-0.0) c.in_err-send_line.ensures)
+    (line_on g.B.Bench g.met.B.Bench.only_now audit (row_of column row) c.deref-in-loop-row.result.now line c.loop-row.bench c.send_line.new.bench
+    (Err c.in_err-send_line.field-0.0) c.in_err-send_line.ensures)
 
 pub loop-row-preserved : goal.loop-row-preserved
 loop-row-preserved g c =
@@ -82,10 +88,13 @@ loop-row-preserved g c =
     let row = c.loop-row.row in
     let w = c.in_ok-write_row.ensures in
     let name = name_is audit.schema c.args.place column c.name-name.result.now c.requires.named c.name-name.ensures in
-    let line = is_row_line audit column row c.args.sums.now.n c.args.sums.now.answers c.name-name.result.now c.deref-in-loop-row.result.now c.requires.part.n c.requires.part.answers name w.0 w.1 w.2.0 w.2.1 (c.deref-in-loop-row.ensures.value ∙ w.2.2) in
+    let line = is_row_line audit column row c.args.sums.now.n c.args.sums.now.answers c.name-name.result.now c.deref-in-loop-row.result.now c.requires.part.n
+    c.requires.part.answers name w.0 w.1 w.2.0 w.2.1 (c.deref-in-loop-row.ensures.value ∙ w.2.2) in
     subst (λ l. SendsLinesOn g.B.Bench audit l c.args.bench.now c.send_line.new.bench (Ok tt)) (sym (rows_before-more column row))
-    (and_then g.B.Bench g.met.B.Bench.only_now audit (rows_before column row) (row_of column row ∷ []) c.args.bench.now c.loop-row.bench c.send_line.new.bench c.loop-row.invariant (Ok tt)
-    (line_on g.B.Bench g.met.B.Bench.only_now audit (row_of column row) c.deref-in-loop-row.result.now line c.loop-row.bench c.send_line.new.bench (Ok tt) c.in_ok-send_line.ensures))
+    (and_then g.B.Bench g.met.B.Bench.only_now audit (rows_before column row)
+    (row_of column row ∷ []) c.args.bench.now c.loop-row.bench c.send_line.new.bench c.loop-row.invariant (Ok tt)
+    (line_on g.B.Bench g.met.B.Bench.only_now audit (row_of column row) c.deref-in-loop-row.result.now line c.loop-row.bench c.send_line.new.bench
+    (Ok tt) c.in_ok-send_line.ensures))
 
 pub returns : goal.returns
 returns g c =

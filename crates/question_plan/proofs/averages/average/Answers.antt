@@ -15,7 +15,8 @@ returns-clause-tells c =
     let divisor = subst (λ (z : ℤ). IsGcd (unsigned_abs z) c.args.size c.divisor_of-divisor.result) sum c.divisor_of-divisor.ensures.divisor in (
       to_z w64 (of_z w64 c.quotient.result),
       c.args.size / c.divisor_of-divisor.result,
-      subst (λ (z : ℤ). IsMean c.args.sum c.args.size z (c.args.size / c.divisor_of-divisor.result)) (sym is) (mean c.args.sum c.args.size c.divisor_of-divisor.result c.requires.some divisor),
+      subst (λ (z : ℤ). IsMean c.args.sum c.args.size z (c.args.size / c.divisor_of-divisor.result)) (sym is)
+          (mean c.args.sum c.args.size c.divisor_of-divisor.result c.requires.some divisor),
       refl,
     )
 

@@ -22,7 +22,8 @@ overflow_cast-result c =
     let second : FitsSigned w128 c.from-2.result = search rules in
     let third : FitsSigned w128 c.gcd.result = search rules in
     let value = to_z-of_z w128 c.gcd.result third ∙ c.gcd.ensures.1 in
-    let common = gcd_of _ _ (pos c.gcd.ensures.0) c.args.sum c.args.size c.gcd.ensures.0 (to_z-of_z w128 c.from.result first ∙ c.from.ensures ∙ to_z-of_z w64 c.args.sum c.ranges.sum)
+    let common = gcd_of _ _ (pos c.gcd.ensures.0) c.args.sum c.args.size c.gcd.ensures.0
+    (to_z-of_z w128 c.from.result first ∙ c.from.ensures ∙ to_z-of_z w64 c.args.sum c.ranges.sum)
     (to_z-of_z w128 c.from-2.result second ∙ c.from-2.ensures) refl c.gcd.ensures.2 in
     let small : c.gcd.ensures.0 ≤ c.args.size = divisor_below c.args.sum c.args.size c.gcd.ensures.0 c.requires.some common in
     rw value (tt, omega arith)

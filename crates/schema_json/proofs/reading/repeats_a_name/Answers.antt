@@ -20,6 +20,7 @@ loop-name-preserved c =
     record {
       kept =
           next_key c.args.columns.now c.loop-name.name-index c.loop-name-item.result c.loop-name.names.keys _ c.as_str.result c.in_ok-insert.field-0
-          c.loop-name-test.true c.loop-name-item.is inv.kept c.as_str.ensures.value c.in_ok-insert.ensures.added c.if-not-branch.false c.in_ok-insert.ensures.keys;
+          c.loop-name-test.true c.loop-name-item.is inv.kept c.as_str.ensures.value c.in_ok-insert.ensures.added c.if-not-branch.false
+          c.in_ok-insert.ensures.keys;
       once = next ∙ ap not c.if-not-branch.false;
     }

@@ -31,7 +31,8 @@ loop-place-preserved c =
           let secret : is_secret role ≡ true = sym c.is_secret.ensures ∙ w.if-is_secret.true in
           let items = w.in_ok-push.ensures.items in
           let more : map (λ (v : Vec ℤ Global). v.items) w.push.new.self.items ≡ old ++ number_column place rows ∷ [] =
-          ap (map (λ (v : Vec ℤ Global). v.items)) items ∙ map-append (λ (v : Vec ℤ Global). v.items) c.loop-place.lists.items (w.in_ok-number_column.field-0 ∷ [])
+          ap (map (λ (v : Vec ℤ Global). v.items)) items ∙ map-append (λ (v : Vec ℤ Global). v.items) c.loop-place.lists.items
+          (w.in_ok-number_column.field-0 ∷ [])
           ∙ ap (λ x. old ++ x ∷ []) w.in_ok-number_column.ensures in
           rw (w.lists-is, more) (
           step

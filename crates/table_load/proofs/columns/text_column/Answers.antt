@@ -15,7 +15,8 @@ loop-row-preserved c =
     let items = c.in_ok-push.ensures.items in
     let old = map (λ (t : Vec ℕ Global). t.items) c.loop-row.texts.items in
     let rest = text_column c.args.k (map fields_of (drop (c.loop-row.row-index + 1) c.args.rows.now)) in
-    let text : c.in_ok-to_vec.field-0.items ≡ field_of c.args.k (fields_of c.row-item.result) = c.in_ok-to_vec.ensures.items_if_clones_equal (λ x y is. is) ∙ c.field.ensures in
+    let text : c.in_ok-to_vec.field-0.items ≡ field_of c.args.k (fields_of c.row-item.result) = c.in_ok-to_vec.ensures.items_if_clones_equal (λ x y is. is)
+    ∙ c.field.ensures in
     let here = drop_here c.args.rows.now c.loop-row.row-index c.row-item.result (omega arith)
     ∙ ap (λ row. row ∷ drop (c.loop-row.row-index + 1) c.args.rows.now) (sym c.row-item.is) in
     let more : map (λ (t : Vec ℕ Global). t.items) c.push.new.self.items ≡ old ++ c.in_ok-to_vec.field-0.items ∷ [] =

@@ -3,7 +3,8 @@ use Rattle.table_load.proofs.laws.secrets_of_a_table.Goals as goal
 
 pub returns-clause-secret : goal.returns-clause-secret
 returns-clause-secret c =
-    λ schema bytes t are is. secret_is schema t (has_parts schema bytes t is) (c.shape_of_a_table.ensures.valid schema) (λ rows. c.shape_of_a_table.ensures.secrets schema rows are)
+    λ schema bytes t are is. secret_is schema t (has_parts schema bytes t is) (c.shape_of_a_table.ensures.valid schema)
+    (λ rows. c.shape_of_a_table.ensures.secrets schema rows are)
 
 pub returns-clause-public : goal.returns-clause-public
 returns-clause-public c = λ schema bytes t is. public_is schema t (has_parts schema bytes t is)

@@ -17,5 +17,6 @@ of-requires c =
       some = c.requires.some;
       at_most = c.requires.at_most;
       columns =
-          rw c.in-Ok.ensures (subst P (length-map c.args.rows.now fields_of) (all_cells_are c.args.which (roles_of (file_columns c.args.which cs)) rows 0 cs c.requires.good refl));
+          rw c.in-Ok.ensures (subst P (length-map c.args.rows.now fields_of)
+          (all_cells_are c.args.which (roles_of (file_columns c.args.which cs)) rows 0 cs c.requires.good refl));
     }

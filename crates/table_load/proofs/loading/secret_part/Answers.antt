@@ -21,4 +21,5 @@ new-requires-clause-numbers c =
     let rows = map fields_of c.args.rows.now in
     let P : ℕ → Type 0 = λ n. AllByRecursion (AreNumbers n) (secrets_from 0 cs rows) in
     rw c.in-Ok.ensures
-    (subst P (length-map c.args.rows.now fields_of ∙ sym (ap (λ (s : Shape). s.rows) c.shape.ensures.shape)) (all_secrets_are _ rows 0 cs c.requires.good (all_roles_from 0 cs)))
+    (subst P (length-map c.args.rows.now fields_of ∙ sym (ap (λ (s : Shape). s.rows) c.shape.ensures.shape))
+    (all_secrets_are _ rows 0 cs c.requires.good (all_roles_from 0 cs)))

@@ -14,14 +14,16 @@ returns-in-Err-add_row c =
     let opened = c.records.invariant.opened in
     let steps = c.in-Some.ensures.steps opened.read.turns opened.read.plain in
     fault_of_row
-    (file_columns c.args.which c.args.schema.now.columns) c.args.bytes.now c.args.roles.now c.records.rows.items c.records.records c.next.new.self c.in-Some.row c.in-Err-add_row.fault c.add_row.new.rows.items
+    (file_columns c.args.which c.args.schema.now.columns) c.args.bytes.now c.args.roles.now c.records.rows.items c.records.records c.next.new.self c.in-Some.row
+    c.in-Err-add_row.fault c.add_row.new.rows.items
     opened (steps.0 opened.read.ready) steps.3 c.requires.roles c.records.invariant.good c.records.invariant.at_most c.in-Err-add_row.ensures
 
 pub records-preserved : goal.records-preserved
 records-preserved c =
     let opened = c.records.invariant.opened in
     let steps = c.in-Some.ensures.steps opened.read.turns opened.read.plain in
-    let added = added_row (file_columns c.args.which c.args.schema.now.columns) c.args.bytes.now c.args.roles.now c.records.rows.items c.records.records c.next.new.self c.in-Some.row c.add_row.new.rows.items
+    let added = added_row (file_columns c.args.which c.args.schema.now.columns) c.args.bytes.now c.args.roles.now c.records.rows.items c.records.records
+    c.next.new.self c.in-Some.row c.add_row.new.rows.items
     opened (steps.0 opened.read.ready) steps.3 c.records.invariant.good c.records.invariant.at_most c.in_default-add_row.ensures in
     record { opened = added.opened; good = added.good; at_most = added.at_most }
 

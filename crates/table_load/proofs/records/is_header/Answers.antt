@@ -20,12 +20,16 @@ returns-then-k-len c =
     elim c.then-k-len.branch [
       | then-k-len-via-then-k-len w ↦
           sym
-          (c.loop-place.invariant.same ∙ no_name_left c.args.which cs place c.role.result fields k within c.role.ensures in_file (omega (arith, c.len.ensures, w.if-k-len.true)))
+          (c.loop-place.invariant.same ∙ no_name_left c.args.which cs place c.role.result fields k within c.role.ensures in_file
+          (omega (arith, c.len.ensures, w.if-k-len.true)))
       | then-k-len-via-else-k-len+then-ne w ↦
           let in_fields : k < length fields = omega (arith, c.len.ensures, w.if-k-len.false) in
-          let differs : bytes_eq (get_or fields k []) w.name.result.now ≡ false = rw (w.field.ensures, w.as_bytes.ensures.value) at (not-true (bytes_eq w.field.result.now w.as_bytes.result.now) (sym w.ne.ensures ∙ w.if-ne.true)) in
+          let differs : bytes_eq (get_or fields k []) w.name.result.now ≡ false =
+          rw (w.field.ensures, w.as_bytes.ensures.value) at
+          (not-true (bytes_eq w.field.result.now w.as_bytes.result.now) (sym w.ne.ensures ∙ w.if-ne.true)) in
           sym
-          (c.loop-place.invariant.same ∙ names_from c.args.which cs place c.role.result w.name.result.now fields k within in_fields c.role.ensures in_file w.name.ensures ∙ and_left _ _ differs)
+          (c.loop-place.invariant.same ∙ names_from c.args.which cs place c.role.result w.name.result.now fields k within in_fields c.role.ensures in_file
+          w.name.ensures ∙ and_left _ _ differs)
     ]
 
 pub loop-place-preserved : goal.loop-place-preserved
@@ -39,7 +43,9 @@ loop-place-preserved c =
       | then-has+else-k-len+else-ne w ↦
           let in_file : is_in_file c.args.which c.role.result ≡ true = sym c.has.ensures ∙ w.if-has.true in
           let in_fields : k < length fields = omega (arith, w.len.ensures, w.if-k-len.false) in
-          let named : bytes_eq (get_or fields k []) w.name.result.now ≡ true = rw (w.field.ensures, w.as_bytes.ensures.value) at (not-false (bytes_eq w.field.result.now w.as_bytes.result.now) (sym w.ne.ensures ∙ w.if-ne.false)) in
+          let named : bytes_eq (get_or fields k []) w.name.result.now ≡ true =
+          rw (w.field.ensures, w.as_bytes.ensures.value) at
+          (not-false (bytes_eq w.field.result.now w.as_bytes.result.now) (sym w.ne.ensures ∙ w.if-ne.false)) in
           record {
             same = rw w.k-is (
                 c.loop-place.invariant.same
@@ -52,7 +58,8 @@ loop-place-preserved c =
           let not_in_file : is_in_file c.args.which c.role.result ≡ false = sym c.has.ensures ∙ w.if-has.false in
           record {
             same =
-                rw w.k-is (c.loop-place.invariant.same ∙ ap (names_are (drop k fields)) (columns_without c.args.which cs place c.role.result within c.role.ensures not_in_file));
+                rw w.k-is (c.loop-place.invariant.same ∙ ap (names_are (drop k fields))
+                (columns_without c.args.which cs place c.role.result within c.role.ensures not_in_file));
             at_most = omega (arith, w.k-is, c.loop-place.invariant.at_most);
           }
     ]

@@ -9,7 +9,8 @@ use Rattle.transcript_sim.proofs.questions.next_line.Goals as goal
 pub returns-clause-gives : goal.returns-clause-gives
 returns-clause-gives g c =
     let said = c.in_ok-next.ensures in
-    gave g.P.Source c.args.lines.now c.next.new.self c.args.source.now c.next.new.source c.lines_in_turn.ensures.one c.in_ok-next.field-0 said.answer said.counted said.advances said.text (said.steady (search rules))
+    gave g.P.Source c.args.lines.now c.next.new.self c.args.source.now c.next.new.source c.lines_in_turn.ensures.one c.in_ok-next.field-0 said.answer
+    said.counted said.advances said.text (said.steady (search rules))
 
 pub returns-clause-cuts : goal.returns-clause-cuts
 returns-clause-cuts g c =
@@ -23,7 +24,8 @@ returns-in_err-next-clause-short g c =
     let refused : Result Next SimulationFault = Err (stop_fault why) in
     let same : c.from_residual.result ≡ refused = search rules in
     subst (λ (r : Result Next SimulationFault). IfErr r (IsCutShort g.P.Source c.args.lines.now c.next.new.self c.args.source.now c.next.new.source)) (sym same)
-    (stopped g.P.Source c.args.lines.now c.next.new.self c.args.source.now c.next.new.source why said.stop said.stop_within said.steady said.input said.last_call said.once)
+    (stopped g.P.Source c.args.lines.now c.next.new.self c.args.source.now c.next.new.source why said.stop said.stop_within said.steady said.input
+    said.last_call said.once)
 
 pub returns-in_err-next-clause-cuts : goal.returns-in_err-next-clause-cuts
 returns-in_err-next-clause-cuts g c =

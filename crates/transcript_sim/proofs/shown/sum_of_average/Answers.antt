@@ -10,7 +10,8 @@ pub returns-else-remainder-eq0 : goal.returns-else-remainder-eq0
 returns-else-remainder-eq0 c = λ sum is.
     let fits : FitsSigned w64 c.product-shares.result = search rules in
     let small : FitsSigned w64 c.args.num = search rules in
-    let shares = to_z-of_z w64 c.product-shares.result fits ∙ c.product-shares.ensures ∙ ap (λ (z : ℤ). z *ℤ pos c.args.size) (to_z-of_z w64 c.args.num small) ∙ is in
+    let shares = to_z-of_z w64 c.product-shares.result fits ∙ c.product-shares.ensures ∙ ap (λ (z : ℤ). z *ℤ pos c.args.size) (to_z-of_z w64 c.args.num small)
+    ∙ is in
     let none : c.remainder.result ≡ pos 0 = c.remainder.ensures ∙ ap (λ (z : ℤ). int_rem z (pos c.args.den)) shares ∙ rest_of_multiple sum c.args.den in
     c.if-remainder-eq0.false (ap (λ (z : ℤ). of_z w64 z) none)
 
@@ -20,7 +21,8 @@ returns-then-remainder-eq0 c =
     let small : FitsSigned w64 c.args.num = search rules in
     let rest : FitsSigned w64 c.remainder.result = search rules in
     let whole : FitsSigned w64 c.quotient.result = search rules in
-    let shares = to_z-of_z w64 c.product-shares.result fits ∙ c.product-shares.ensures ∙ ap (λ (z : ℤ). z *ℤ pos c.args.size) (to_z-of_z w64 c.args.num small) in
+    let shares = to_z-of_z w64 c.product-shares.result fits ∙ c.product-shares.ensures
+    ∙ ap (λ (z : ℤ). z *ℤ pos c.args.size) (to_z-of_z w64 c.args.num small) in
     let none : c.remainder.result ≡ pos 0 = sym (to_z-of_z w64 c.remainder.result rest) ∙ ap (λ (x : ℕ). to_z w64 x) c.if-remainder-eq0.true in
     let sum = c.quotient.ensures in
     sym shares ∙ multiple_without_rest (to_z w64 (of_z w64 c.product-shares.result)) c.args.den (sym c.remainder.ensures ∙ none)

@@ -17,7 +17,8 @@ loop-expected-init g c = record {
   lines = [];
   verdicts = [];
   so_far =
-      nothing_yet g.P.Source g.B.Bench c.args.schema.now.columns c.args.index.now c.args.source.now c.args.bench.now c.lines_in_turn.ensures.none c.args.simulation.now.lines c.requires.fresh (λ image bytes was. g.met.B.Bench.only_now c.args.bench.now image bytes was);
+      nothing_yet g.P.Source g.B.Bench c.args.schema.now.columns c.args.index.now c.args.source.now c.args.bench.now c.lines_in_turn.ensures.none
+      c.args.simulation.now.lines c.requires.fresh (λ image bytes was. g.met.B.Bench.only_now c.args.bench.now image bytes was);
   even = refl;
   line_is = refl;
   history = c.requires.nothing;
@@ -31,65 +32,109 @@ returns-in_err-expected g c =
     let why = c.in_err-expected.field-0.0 in
     let same : c.from_residual.result ≡ ended_by why = search rules in
     subst
-    (λ (r : Result (Unit {0}) SimulationFault). Simulates g.P.Source g.B.Bench c.args.schema.now.columns c.args.index.now c.args.source.now c.judge_question.new.source c.args.bench.now c.judge_question.new.bench r)
+    (λ (r : Result (Unit {0}) SimulationFault). Simulates g.P.Source g.B.Bench c.args.schema.now.columns c.args.index.now c.args.source.now
+    c.judge_question.new.source c.args.bench.now c.judge_question.new.bench r)
     (sym same)
-    (unjudged g.P.Source g.B.Bench c.args.schema.now.columns c.args.index.now c.args.source.now c.args.bench.now c.lines_in_turn.ensures.more c.loop-expected.simulation.lines c.loop-expected.source c.loop-expected.bench c.loop-expected.simulation.core c.loop-expected.line c.loop-expected.invariant c.judge_question.new.self.lines c.judge_question.new.source c.in_err-expected.ensures.cuts c.judge_question.new.bench why c.in_err-expected.ensures.unjudged)
+    (unjudged g.P.Source g.B.Bench c.args.schema.now.columns c.args.index.now c.args.source.now c.args.bench.now c.lines_in_turn.ensures.more
+    c.loop-expected.simulation.lines c.loop-expected.source c.loop-expected.bench c.loop-expected.simulation.core c.loop-expected.line c.loop-expected.invariant
+    c.judge_question.new.self.lines c.judge_question.new.source c.in_err-expected.ensures.cuts c.judge_question.new.bench why
+    c.in_err-expected.ensures.unjudged)
 
 pub returns : goal.returns
 returns g c =
-    let none = subst (λ (o : Option Expected). AsksNext g.P.Source c.loop-expected.simulation.lines c.judge_question.new.self.lines c.loop-expected.source c.judge_question.new.source c.args.schema.now.columns c.args.index.now c.loop-expected.simulation.core.history o) c.in_default.is c.in_ok-expected.ensures.asks in
-    let nothing = subst (λ (o : Option Expected). SendsFor g.B.Bench c.loop-expected.bench c.judge_question.new.bench o) c.in_default.is c.in_ok-expected.ensures.sends in
-    none_left g.P.Source g.B.Bench c.args.schema.now.columns c.args.index.now c.args.source.now c.args.bench.now c.lines_in_turn.ensures.more c.loop-expected.simulation.lines c.loop-expected.source c.loop-expected.bench c.loop-expected.simulation.core c.loop-expected.line c.loop-expected.invariant c.judge_question.new.self.lines c.judge_question.new.source c.in_ok-expected.ensures.cuts c.judge_question.new.bench none nothing
+    let none = subst (λ (o : Option Expected). AsksNext g.P.Source c.loop-expected.simulation.lines c.judge_question.new.self.lines c.loop-expected.source
+    c.judge_question.new.source c.args.schema.now.columns c.args.index.now c.loop-expected.simulation.core.history o) c.in_default.is
+    c.in_ok-expected.ensures.asks in
+    let nothing = subst (λ (o : Option Expected). SendsFor g.B.Bench c.loop-expected.bench c.judge_question.new.bench o) c.in_default.is
+    c.in_ok-expected.ensures.sends in
+    none_left g.P.Source g.B.Bench c.args.schema.now.columns c.args.index.now c.args.source.now c.args.bench.now c.lines_in_turn.ensures.more
+    c.loop-expected.simulation.lines c.loop-expected.source c.loop-expected.bench c.loop-expected.simulation.core c.loop-expected.line c.loop-expected.invariant
+    c.judge_question.new.self.lines c.judge_question.new.source c.in_ok-expected.ensures.cuts c.judge_question.new.bench none nothing
 
 -- ---- the line that was shown to it
 
 pub returns-in_err-shown : goal.returns-in_err-shown
 returns-in_err-shown g c =
-    let question = subst (λ (o : Option Expected). AsksNext g.P.Source c.loop-expected.simulation.lines c.judge_question.new.self.lines c.loop-expected.source c.judge_question.new.source c.args.schema.now.columns c.args.index.now c.loop-expected.simulation.core.history o) c.in-Some.is c.in_ok-expected.ensures.asks in
-    let sends = subst (λ (o : Option Expected). SendsFor g.B.Bench c.loop-expected.bench c.judge_question.new.bench o) c.in-Some.is c.in_ok-expected.ensures.sends in
+    let question = subst (λ (o : Option Expected). AsksNext g.P.Source c.loop-expected.simulation.lines c.judge_question.new.self.lines c.loop-expected.source
+    c.judge_question.new.source c.args.schema.now.columns c.args.index.now c.loop-expected.simulation.core.history o) c.in-Some.is
+    c.in_ok-expected.ensures.asks in
+    let sends = subst (λ (o : Option Expected). SendsFor g.B.Bench c.loop-expected.bench c.judge_question.new.bench o) c.in-Some.is
+    c.in_ok-expected.ensures.sends in
     let half =
-    asked_half g.P.Source g.B.Bench c.args.schema.now.columns c.args.index.now c.args.source.now c.args.bench.now c.lines_in_turn.ensures.more c.loop-expected.simulation.lines c.loop-expected.source c.loop-expected.bench c.loop-expected.simulation.core c.loop-expected.line c.loop-expected.invariant c.judge_question.new.self.lines c.judge_question.new.source c.in_ok-expected.ensures.cuts c.judge_question.new.bench
+    asked_half g.P.Source g.B.Bench c.args.schema.now.columns c.args.index.now c.args.source.now c.args.bench.now c.lines_in_turn.ensures.more
+    c.loop-expected.simulation.lines c.loop-expected.source c.loop-expected.bench c.loop-expected.simulation.core c.loop-expected.line c.loop-expected.invariant
+    c.judge_question.new.self.lines c.judge_question.new.source c.in_ok-expected.ensures.cuts c.judge_question.new.bench
     c.in-Some.expected question sends in
     let why = c.in_err-shown.field-0.0 in
     let same : c.from_residual-in_err-shown.result ≡ ended_by why = search rules in
     subst
-    (λ (r : Result (Unit {0}) SimulationFault). Simulates g.P.Source g.B.Bench c.args.schema.now.columns c.args.index.now c.args.source.now c.take_shown.new.source c.args.bench.now c.judge_question.new.bench r)
+    (λ (r : Result (Unit {0}) SimulationFault). Simulates g.P.Source g.B.Bench c.args.schema.now.columns c.args.index.now c.args.source.now
+    c.take_shown.new.source c.args.bench.now c.judge_question.new.bench r)
     (sym same)
-    (unshown g.P.Source g.B.Bench c.args.schema.now.columns c.args.index.now c.args.source.now c.args.bench.now c.lines_in_turn.ensures.more c.judge_question.new.self.lines c.judge_question.new.source c.judge_question.new.bench c.loop-expected.simulation.core (c.loop-expected.line + 2) c.in-Some.expected half c.take_shown.new.self.lines c.take_shown.new.source c.in_err-shown.ensures.cuts why c.in_err-shown.ensures.short)
+    (unshown g.P.Source g.B.Bench c.args.schema.now.columns c.args.index.now c.args.source.now c.args.bench.now c.lines_in_turn.ensures.more
+    c.judge_question.new.self.lines c.judge_question.new.source c.judge_question.new.bench c.loop-expected.simulation.core
+    (c.loop-expected.line + 2) c.in-Some.expected half c.take_shown.new.self.lines c.take_shown.new.source c.in_err-shown.ensures.cuts why
+    c.in_err-shown.ensures.short)
 
 pub returns-in_err-goes_on : goal.returns-in_err-goes_on
 returns-in_err-goes_on g c =
-    let question = subst (λ (o : Option Expected). AsksNext g.P.Source c.loop-expected.simulation.lines c.judge_question.new.self.lines c.loop-expected.source c.judge_question.new.source c.args.schema.now.columns c.args.index.now c.loop-expected.simulation.core.history o) c.in-Some.is c.in_ok-expected.ensures.asks in
-    let sends = subst (λ (o : Option Expected). SendsFor g.B.Bench c.loop-expected.bench c.judge_question.new.bench o) c.in-Some.is c.in_ok-expected.ensures.sends in
+    let question = subst (λ (o : Option Expected). AsksNext g.P.Source c.loop-expected.simulation.lines c.judge_question.new.self.lines c.loop-expected.source
+    c.judge_question.new.source c.args.schema.now.columns c.args.index.now c.loop-expected.simulation.core.history o) c.in-Some.is
+    c.in_ok-expected.ensures.asks in
+    let sends = subst (λ (o : Option Expected). SendsFor g.B.Bench c.loop-expected.bench c.judge_question.new.bench o) c.in-Some.is
+    c.in_ok-expected.ensures.sends in
     let half =
-    asked_half g.P.Source g.B.Bench c.args.schema.now.columns c.args.index.now c.args.source.now c.args.bench.now c.lines_in_turn.ensures.more c.loop-expected.simulation.lines c.loop-expected.source c.loop-expected.bench c.loop-expected.simulation.core c.loop-expected.line c.loop-expected.invariant c.judge_question.new.self.lines c.judge_question.new.source c.in_ok-expected.ensures.cuts c.judge_question.new.bench
+    asked_half g.P.Source g.B.Bench c.args.schema.now.columns c.args.index.now c.args.source.now c.args.bench.now c.lines_in_turn.ensures.more
+    c.loop-expected.simulation.lines c.loop-expected.source c.loop-expected.bench c.loop-expected.simulation.core c.loop-expected.line c.loop-expected.invariant
+    c.judge_question.new.self.lines c.judge_question.new.source c.in_ok-expected.ensures.cuts c.judge_question.new.bench
     c.in-Some.expected question sends in
     let why = c.in_err-goes_on.field-0.0 in
     let same : c.from_residual-in_err-goes_on.result ≡ ended_by why = search rules in
     let is : Err why ≡ goes_on c.in_ok-shown.shown (c.loop-expected.line + 2) (due_of c.in-Some.expected) = search rules in
     subst
-    (λ (r : Result (Unit {0}) SimulationFault). Simulates g.P.Source g.B.Bench c.args.schema.now.columns c.args.index.now c.args.source.now c.take_shown.new.source c.args.bench.now c.judge_question.new.bench r)
+    (λ (r : Result (Unit {0}) SimulationFault). Simulates g.P.Source g.B.Bench c.args.schema.now.columns c.args.index.now c.args.source.now
+    c.take_shown.new.source c.args.bench.now c.judge_question.new.bench r)
     (sym same)
-    (refused g.P.Source g.B.Bench c.args.schema.now.columns c.args.index.now c.args.source.now c.args.bench.now c.lines_in_turn.ensures.more c.judge_question.new.self.lines c.judge_question.new.source c.judge_question.new.bench c.loop-expected.simulation.core (c.loop-expected.line + 2) c.in-Some.expected half c.take_shown.new.self.lines c.take_shown.new.source c.in_ok-shown.ensures.cuts c.one_verdict.ensures.called c.one_verdict.ensures.due c.in_ok-shown.shown c.in_ok-shown.ensures.shows why is)
+    (refused g.P.Source g.B.Bench c.args.schema.now.columns c.args.index.now c.args.source.now c.args.bench.now c.lines_in_turn.ensures.more
+    c.judge_question.new.self.lines c.judge_question.new.source c.judge_question.new.bench c.loop-expected.simulation.core
+    (c.loop-expected.line + 2) c.in-Some.expected half c.take_shown.new.self.lines c.take_shown.new.source c.in_ok-shown.ensures.cuts
+    c.one_verdict.ensures.called c.one_verdict.ensures.due c.in_ok-shown.shown c.in_ok-shown.ensures.shows why is)
 
 pub returns-then-not-branch : goal.returns-then-not-branch
 returns-then-not-branch g c =
-    let question = subst (λ (o : Option Expected). AsksNext g.P.Source c.loop-expected.simulation.lines c.judge_question.new.self.lines c.loop-expected.source c.judge_question.new.source c.args.schema.now.columns c.args.index.now c.loop-expected.simulation.core.history o) c.in-Some.is c.in_ok-expected.ensures.asks in
-    let sends = subst (λ (o : Option Expected). SendsFor g.B.Bench c.loop-expected.bench c.judge_question.new.bench o) c.in-Some.is c.in_ok-expected.ensures.sends in
+    let question = subst (λ (o : Option Expected). AsksNext g.P.Source c.loop-expected.simulation.lines c.judge_question.new.self.lines c.loop-expected.source
+    c.judge_question.new.source c.args.schema.now.columns c.args.index.now c.loop-expected.simulation.core.history o) c.in-Some.is
+    c.in_ok-expected.ensures.asks in
+    let sends = subst (λ (o : Option Expected). SendsFor g.B.Bench c.loop-expected.bench c.judge_question.new.bench o) c.in-Some.is
+    c.in_ok-expected.ensures.sends in
     let half =
-    asked_half g.P.Source g.B.Bench c.args.schema.now.columns c.args.index.now c.args.source.now c.args.bench.now c.lines_in_turn.ensures.more c.loop-expected.simulation.lines c.loop-expected.source c.loop-expected.bench c.loop-expected.simulation.core c.loop-expected.line c.loop-expected.invariant c.judge_question.new.self.lines c.judge_question.new.source c.in_ok-expected.ensures.cuts c.judge_question.new.bench
+    asked_half g.P.Source g.B.Bench c.args.schema.now.columns c.args.index.now c.args.source.now c.args.bench.now c.lines_in_turn.ensures.more
+    c.loop-expected.simulation.lines c.loop-expected.source c.loop-expected.bench c.loop-expected.simulation.core c.loop-expected.line c.loop-expected.invariant
+    c.judge_question.new.self.lines c.judge_question.new.source c.in_ok-expected.ensures.cuts c.judge_question.new.bench
     c.in-Some.expected question sends in
     let is : Ok false ≡ goes_on c.in_ok-shown.shown (c.loop-expected.line + 2) (due_of c.in-Some.expected) = search rules in
-    ended g.P.Source g.B.Bench c.args.schema.now.columns c.args.index.now c.args.source.now c.args.bench.now c.lines_in_turn.ensures.more c.judge_question.new.self.lines c.judge_question.new.source c.judge_question.new.bench c.loop-expected.simulation.core (c.loop-expected.line + 2) c.in-Some.expected half c.take_shown.new.self.lines c.take_shown.new.source c.in_ok-shown.ensures.cuts c.in_ok-shown.shown c.in_ok-shown.ensures.shows is
+    ended g.P.Source g.B.Bench c.args.schema.now.columns c.args.index.now c.args.source.now c.args.bench.now c.lines_in_turn.ensures.more
+    c.judge_question.new.self.lines c.judge_question.new.source c.judge_question.new.bench c.loop-expected.simulation.core
+    (c.loop-expected.line + 2) c.in-Some.expected half c.take_shown.new.self.lines c.take_shown.new.source c.in_ok-shown.ensures.cuts c.in_ok-shown.shown
+    c.in_ok-shown.ensures.shows is
 
 pub loop-expected-preserved : goal.loop-expected-preserved
 loop-expected-preserved g c =
-    let question = subst (λ (o : Option Expected). AsksNext g.P.Source c.loop-expected.simulation.lines c.judge_question.new.self.lines c.loop-expected.source c.judge_question.new.source c.args.schema.now.columns c.args.index.now c.loop-expected.simulation.core.history o) c.in-Some.is c.in_ok-expected.ensures.asks in
-    let sends = subst (λ (o : Option Expected). SendsFor g.B.Bench c.loop-expected.bench c.judge_question.new.bench o) c.in-Some.is c.in_ok-expected.ensures.sends in
+    let question = subst (λ (o : Option Expected). AsksNext g.P.Source c.loop-expected.simulation.lines c.judge_question.new.self.lines c.loop-expected.source
+    c.judge_question.new.source c.args.schema.now.columns c.args.index.now c.loop-expected.simulation.core.history o) c.in-Some.is
+    c.in_ok-expected.ensures.asks in
+    let sends = subst (λ (o : Option Expected). SendsFor g.B.Bench c.loop-expected.bench c.judge_question.new.bench o) c.in-Some.is
+    c.in_ok-expected.ensures.sends in
     let half =
-    asked_half g.P.Source g.B.Bench c.args.schema.now.columns c.args.index.now c.args.source.now c.args.bench.now c.lines_in_turn.ensures.more c.loop-expected.simulation.lines c.loop-expected.source c.loop-expected.bench c.loop-expected.simulation.core c.loop-expected.line c.loop-expected.invariant c.judge_question.new.self.lines c.judge_question.new.source c.in_ok-expected.ensures.cuts c.judge_question.new.bench
+    asked_half g.P.Source g.B.Bench c.args.schema.now.columns c.args.index.now c.args.source.now c.args.bench.now c.lines_in_turn.ensures.more
+    c.loop-expected.simulation.lines c.loop-expected.source c.loop-expected.bench c.loop-expected.simulation.core c.loop-expected.line c.loop-expected.invariant
+    c.judge_question.new.self.lines c.judge_question.new.source c.in_ok-expected.ensures.cuts c.judge_question.new.bench
     c.in-Some.expected question sends in
     let is : Ok true ≡ goes_on c.in_ok-shown.shown (c.loop-expected.line + 2) (due_of c.in-Some.expected) = search rules in
     let same : c.judge_question.new.self.core ≡ c.loop-expected.simulation.core = c.in_ok-expected.ensures.same in
     let shown = records_shown c.in_ok-shown.shown in
-    went_on g.P.Source g.B.Bench c.args.schema.now.columns c.args.index.now c.args.source.now c.args.bench.now c.lines_in_turn.ensures.more c.judge_question.new.self.lines c.judge_question.new.source c.judge_question.new.bench c.loop-expected.simulation.core (c.loop-expected.line + 2) c.in-Some.expected half c.take_shown.new.self.lines c.take_shown.new.source c.in_ok-shown.ensures.cuts c.in_ok-shown.shown c.in_ok-shown.ensures.shows is c.take_shown.new.self.core (c.in_ok-shown.ensures.takes ∙ ap (λ (k : Audited). k.history ++ shown) same) (c.in_ok-shown.ensures.setting ∙ ap (λ (k : Audited). k.setting) same)
+    went_on g.P.Source g.B.Bench c.args.schema.now.columns c.args.index.now c.args.source.now c.args.bench.now c.lines_in_turn.ensures.more
+    c.judge_question.new.self.lines c.judge_question.new.source c.judge_question.new.bench c.loop-expected.simulation.core
+    (c.loop-expected.line + 2) c.in-Some.expected half c.take_shown.new.self.lines c.take_shown.new.source c.in_ok-shown.ensures.cuts c.in_ok-shown.shown
+    c.in_ok-shown.ensures.shows is c.take_shown.new.self.core (c.in_ok-shown.ensures.takes ∙ ap (λ (k : Audited). k.history ++ shown) same)
+    (c.in_ok-shown.ensures.setting ∙ ap (λ (k : Audited). k.setting) same)

@@ -17,7 +17,8 @@ returns-in_err-simulation-clause-verdicts g c = λ t.
     let sent = g.B.Bench.sent c.args.bench.now in
     let same : c.from_residual.result ≡ ended_by fault.NoMemory = search rules in
     subst
-    (λ (r : Result (Unit {0}) SimulationFault). (verdicts : List (Replied Answered)) × EndVerdicts r c.args.schema.now.columns c.args.index.now input input verdicts × (g.B.Bench.told → EndSends r verdicts sent sent))
+    (λ (r : Result (Unit {0}) SimulationFault). (verdicts : List (Replied Answered)) ×
+    EndVerdicts r c.args.schema.now.columns c.args.index.now input input verdicts × (g.B.Bench.told → EndSends r verdicts sent sent))
     (sym same)
     ([], record { count = 0; are = tt }, λ u. sym (append-nil sent))
 

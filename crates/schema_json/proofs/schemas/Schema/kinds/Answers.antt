@@ -29,8 +29,12 @@ loop-k-preserved c =
     let cs = c.args.self.now.columns in
     let inv = c.loop-k.invariant in
     elim c.match-role.branch [
-      | in-Text w ↦ let p = keeps cs c.loop-k.k _ _ _ c.role.ensures (ap byte_of w.in-Text.is) inv in record { at_is = w.at-is ∙ p.at_is; kinds_are = w.kinds-is ∙ p.kinds_are }
-      | in-Number w ↦ let p = keeps cs c.loop-k.k _ _ _ c.role.ensures (ap byte_of w.in-Number.is) inv in record { at_is = w.at-is ∙ p.at_is; kinds_are = w.kinds-is ∙ p.kinds_are }
-      | in-Sum w ↦ let p = puts cs c.loop-k.k _ 1 _ _ c.count-k-end.ensures.columns c.role.ensures (ap is_secret w.in-Sum.is) (ap byte_of w.in-Sum.is) inv in record { at_is = w.at-is ∙ p.at_is; kinds_are = w.kinds-is ∙ p.kinds_are }
-      | in-Max w ↦ let p = puts cs c.loop-k.k _ 2 _ _ c.count-k-end.ensures.columns c.role.ensures (ap is_secret w.in-Max.is) (ap byte_of w.in-Max.is) inv in record { at_is = w.at-is ∙ p.at_is; kinds_are = w.kinds-is ∙ p.kinds_are }
+      | in-Text w ↦ let p = keeps cs c.loop-k.k _ _ _ c.role.ensures (ap byte_of w.in-Text.is) inv in
+          record { at_is = w.at-is ∙ p.at_is; kinds_are = w.kinds-is ∙ p.kinds_are }
+      | in-Number w ↦ let p = keeps cs c.loop-k.k _ _ _ c.role.ensures (ap byte_of w.in-Number.is) inv in
+          record { at_is = w.at-is ∙ p.at_is; kinds_are = w.kinds-is ∙ p.kinds_are }
+      | in-Sum w ↦ let p = puts cs c.loop-k.k _ 1 _ _ c.count-k-end.ensures.columns c.role.ensures (ap is_secret w.in-Sum.is) (ap byte_of w.in-Sum.is) inv in
+          record { at_is = w.at-is ∙ p.at_is; kinds_are = w.kinds-is ∙ p.kinds_are }
+      | in-Max w ↦ let p = puts cs c.loop-k.k _ 2 _ _ c.count-k-end.ensures.columns c.role.ensures (ap is_secret w.in-Max.is) (ap byte_of w.in-Max.is) inv in
+          record { at_is = w.at-is ∙ p.at_is; kinds_are = w.kinds-is ∙ p.kinds_are }
     ]

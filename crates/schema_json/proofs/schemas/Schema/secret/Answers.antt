@@ -10,8 +10,10 @@ loop-k-preserved c =
     let more = secrets_more c.args.self.now.columns c.loop-k.k _ c.role-in-loop-k.ensures in
     let kept = c.loop-k.invariant in
     elim c.if-is_secret.branch [
-      | then-is_secret w ↦ let one = ap {B = ℕ} (λ b. cond b 1 0) (sym c.is_secret-in-loop-k.ensures ∙ w.if-is_secret.true) in record { counted = omega (arith, w.before-is, more, one, kept.counted); at_most = omega (arith, w.before-is, kept.at_most) }
-      | else-is_secret w ↦ let none = ap {B = ℕ} (λ b. cond b 1 0) (sym c.is_secret-in-loop-k.ensures ∙ w.if-is_secret.false) in record { counted = omega (arith, w.before-is, more, none, kept.counted); at_most = omega (arith, w.before-is, kept.at_most) }
+      | then-is_secret w ↦ let one = ap {B = ℕ} (λ b. cond b 1 0) (sym c.is_secret-in-loop-k.ensures ∙ w.if-is_secret.true) in
+          record { counted = omega (arith, w.before-is, more, one, kept.counted); at_most = omega (arith, w.before-is, kept.at_most) }
+      | else-is_secret w ↦ let none = ap {B = ℕ} (λ b. cond b 1 0) (sym c.is_secret-in-loop-k.ensures ∙ w.if-is_secret.false) in
+          record { counted = omega (arith, w.before-is, more, none, kept.counted); at_most = omega (arith, w.before-is, kept.at_most) }
     ]
 
 pub returns-clause-kind : goal.returns-clause-kind

@@ -28,7 +28,8 @@ loop-place-preserved c =
       columns = rw more (
           c.loop-place.invariant.columns
           ∙ ap (λ xs. old ++ xs)
-          (numbered_next cs place c.role.result lists left (cells_kept c.next_column.result) within c.role.ensures c.next_column.ensures.column c.next_column.ensures.left)
+          (numbered_next cs place c.role.result lists left (cells_kept c.next_column.result) within c.role.ensures c.next_column.ensures.column
+          c.next_column.ensures.left)
           ∙ sym (append_assoc old (cells_kept c.next_column.result ∷ []) (numbered (drop (place + 1) cs) (map (λ (v : Vec ℤ Global). v.items) left)))
           );
       enough = left_enough cs place c.role.result lists left within c.role.ensures c.loop-place.invariant.enough c.next_column.ensures.left;
@@ -43,7 +44,8 @@ of-requires c =
     let done = drop_of_length-le cs {i = c.loop-place.place} (omega (arith, c.count-place-end.ensures.count)) in
     let made : numbered cs lists ≡ map cells_kept c.loop-place.columns.items =
     c.loop-place.invariant.columns
-    ∙ ap (λ columns. map cells_kept c.loop-place.columns.items ++ numbered columns (map (λ (v : Vec ℤ Global). v.items) (into_iter_items c.loop-place.left))) done
+    ∙ ap (λ columns. map cells_kept c.loop-place.columns.items ++ numbered columns
+    (map (λ (v : Vec ℤ Global). v.items) (into_iter_items c.loop-place.left))) done
     ∙ append-nil (map cells_kept c.loop-place.columns.items) in
     let P : ℕ → Type 0 = λ m. AllByRecursion (AreCells m) (numbered cs lists) in
     let Q : List Cells → Type 0 = λ cells. AllByRecursion (AreCells c.rows_in-rows.result) cells in
@@ -60,7 +62,8 @@ returns-clause-fits c = λ place role is.
     let done = drop_of_length-le cs {i = c.loop-place.place} (omega (arith, c.count-place-end.ensures.count)) in
     let made : numbered cs lists ≡ map cells_kept c.loop-place.columns.items =
     c.loop-place.invariant.columns
-    ∙ ap (λ columns. map cells_kept c.loop-place.columns.items ++ numbered columns (map (λ (v : Vec ℤ Global). v.items) (into_iter_items c.loop-place.left))) done
+    ∙ ap (λ columns. map cells_kept c.loop-place.columns.items ++ numbered columns
+    (map (λ (v : Vec ℤ Global). v.items) (into_iter_items c.loop-place.left))) done
     ∙ append-nil (map cells_kept c.loop-place.columns.items) in
     let P : List Cells → Type 0 = λ cells. HoldsRole role (get_or cells place hidden) in
     subst P (made ∙ sym (ap (λ (p : PublicView). p.columns) c.of.ensures)) (numbered_fit cs lists place role c.requires.no_texts is)
@@ -75,7 +78,8 @@ returns-clause-columns c =
     let done = drop_of_length-le cs {i = c.loop-place.place} (omega (arith, c.count-place-end.ensures.count)) in
     let made : numbered cs lists ≡ map cells_kept c.loop-place.columns.items =
     c.loop-place.invariant.columns
-    ∙ ap (λ columns. map cells_kept c.loop-place.columns.items ++ numbered columns (map (λ (v : Vec ℤ Global). v.items) (into_iter_items c.loop-place.left))) done
+    ∙ ap (λ columns. map cells_kept c.loop-place.columns.items ++ numbered columns
+    (map (λ (v : Vec ℤ Global). v.items) (into_iter_items c.loop-place.left))) done
     ∙ append-nil (map cells_kept c.loop-place.columns.items) in
     ap (λ (p : PublicView). p.columns) c.of.ensures ∙ sym made
 

@@ -19,7 +19,8 @@ pub loop-column-preserved : goal.loop-column-preserved
 loop-column-preserved c =
     let within : c.loop-column.column < length c.args.lists.items = omega arith in
     let kinds : length c.args.shape.kinds ≡ 8 = search rules in
-    let eighth : c.loop-column.column < length c.loop-column.blocks = omega (arith, count_by-le-length (λ b. nat_lt 0 b) c.args.shape.kinds, c.loop-column.invariant.eight) in
+    let eighth : c.loop-column.column < length c.loop-column.blocks =
+    omega (arith, count_by-le-length (λ b. nat_lt 0 b) c.args.shape.kinds, c.loop-column.invariant.eight) in
     let list = listed c.args.lists.items c.loop-column.column c.list-item.result c.as_slice.result.now within
     (c.list-item.is ∙ ap (λ l. get_or l c.loop-column.column c.list-item.result) c.deref-list-items.ensures.value) c.as_slice.ensures.value in
     record {
