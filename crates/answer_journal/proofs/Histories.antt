@@ -58,10 +58,13 @@ module _ (file : List ℕ) (shape : Shape) (history : List Answered) (gate : ℕ
   pub kept : (image : List ℕ) → take (gate + 1) image ≡ take (gate + 1) file → StandsAt image shape history gate
   kept image same =
       let closing = stands.ends.gate in
-      let whole : file ≡ (front ++ closing ∷ []) ++ stands.ends.rest = file_is ∙ ap (λ b. front ++ b) stands.ends.bytes_are ∙ sym (append_assoc front (closing ∷ []) stands.ends.rest) in
+      let whole : file ≡ (front ++ closing ∷ []) ++ stands.ends.rest = file_is ∙ ap (λ b. front ++ b) stands.ends.bytes_are
+      ∙ sym (append_assoc front (closing ∷ []) stands.ends.rest) in
       let size : length (front ++ closing ∷ []) ≡ gate + 1 = omega (arith, length-append front (closing ∷ []), length-front) in
-      let start : take (gate + 1) image ≡ front ++ closing ∷ [] = same ∙ ap (take (gate + 1)) whole ∙ take_at (front ++ closing ∷ []) stands.ends.rest (gate + 1) size in
-      let is : image ≡ front ++ (closing ∷ drop (gate + 1) image) = sym (take-append-drop (gate + 1) image) ∙ ap (λ t. t ++ drop (gate + 1) image) start ∙ append_assoc front (closing ∷ []) (drop (gate + 1) image) in
+      let start : take (gate + 1) image ≡ front ++ closing ∷ [] = same ∙ ap (take (gate + 1)) whole
+      ∙ take_at (front ++ closing ∷ []) stands.ends.rest (gate + 1) size in
+      let is : image ≡ front ++ (closing ∷ drop (gate + 1) image) = sym (take-append-drop (gate + 1) image) ∙ ap (λ t. t ++ drop (gate + 1) image) start
+      ∙ append_assoc front (closing ∷ []) (drop (gate + 1) image) in
       ended image (closing ∷ drop (gate + 1) image) (record { gate = closing; rest = drop (gate + 1) image; bytes_are = refl; closed = stands.ends.closed }) is
 
   module _ (text : List ℕ) (list : List Answered) (group : IsGroup shape text list) (room : length history + length list ≤ 65536) where
@@ -104,10 +107,22 @@ module _ (file : List ℕ) (shape : Shape) (history : List Answered) (gate : ℕ
         let behind_is : behind ≡ (text ++ 0 ∷ []) ++ rest = sym (take-append-drop (length (text ++ 0 ∷ [])) behind) ∙ ap (λ t. t ++ rest) stage.1 in
         let b = get_or image gate 0 in
         let at_gate : drop gate image ≡ b ∷ behind = rw add-one (drop-cons image gate 0 long) in
-        let is : image ≡ front ++ (b ∷ ((text ++ 0 ∷ []) ++ rest)) = sym (take-append-drop gate image) ∙ ap (λ t. t ++ drop gate image) (stage.0 ∙ take-file) ∙ ap (λ t. front ++ t) (at_gate ∙ ap (λ t. b ∷ t) behind_is) in
+        let is : image ≡ front ++ (b ∷ ((text ++ 0 ∷ []) ++ rest)) = sym (take-append-drop gate image) ∙ ap (λ t. t ++ drop gate image) (stage.0 ∙ take-file)
+        ∙ ap (λ t. front ++ t) (at_gate ∙ ap (λ t. b ∷ t) behind_is) in
         elim (cases_eq b 1) [
           | inl open_gate ↦ (same, inr (gate + (length text + 1), grown image rest (is ∙ ap (λ k. front ++ (k ∷ ((text ++ 0 ∷ []) ++ rest))) open_gate)))
-          | inr closed ↦ (same, inl (gate, ended image (b ∷ ((text ++ 0 ∷ []) ++ rest)) (record { gate = b; rest = (text ++ 0 ∷ []) ++ rest; bytes_are = refl; closed = closed }) is))
+          | inr closed ↦ (
+            same,
+            inl (
+              gate,
+              ended image (b ∷ ((text ++ 0 ∷ []) ++ rest)) (record {
+                gate = b;
+                rest = (text ++ 0 ∷ []) ++ rest;
+                bytes_are = refl;
+                closed = closed;
+              }) is,
+            ),
+          )
         ]
 
     -- the file that the append makes
@@ -126,7 +141,8 @@ module _ (file bytes : List ℕ) (shape other : Shape) (history list : List Answ
       LeavesOnly bench old new (IsBeforeOrAfter shape history list before)
   at_every_moment bench old new before only =
       weakens bench old new (Appending gate bytes file before) (IsBeforeOrAfter shape history list before)
-      (λ image sent found. appending file shape history gate stands ready.text list group room before image sent (subst (λ b. Appending gate b file before image sent) ready.bytes_are found)) only
+      (λ image sent found. appending file shape history gate stands ready.text list group room before image sent
+      (subst (λ b. Appending gate b file before image sent) ready.bytes_are found)) only
 
   pub at_end : (new : List ℕ) → new ≡ appended gate bytes file → StandsAt new shape (history ++ list) (gate + length bytes)
   at_end new is =

@@ -30,15 +30,25 @@ fresh image shape rest shaped is =
 module _ (file : List ℕ) (shape : Shape) (shaped : IsWholeShape shape) (some : 0 < length file) (closed : get_or file 0 0 ≢ 1) where
   -- what a crash while the header is opened leaves
   pub opening : (before image sent : List ℕ) → Appending 0 (named shape ++ 0 ∷ []) file before image sent → IsUnmadeOrEmpty shape before image sent
-  opening before image sent (same, inl start) =
-      (same, inl (λ made. closed (sym (get_or-take 1 file 0 0 (omega arith)) ∙ ap (λ l. get_or l 0 0) (sym start) ∙ get_or-take 1 image 0 0 (omega arith) ∙ made.1)))
+  opening before image sent (same, inl start) = (
+    same,
+    inl (λ made. closed (sym (get_or-take 1 file 0 0 (omega arith)) ∙ ap (λ l. get_or l 0 0) (sym start) ∙ get_or-take 1 image 0 0 (omega arith)
+        ∙ made.1)),
+  )
   opening before image sent (same, inr stage) =
       elim (cases_eq (get_or image 0 0) 1) [
         | inl open_gate ↦
             let behind = drop 1 image in
-            let long : 0 < length image = omega (arith, ap length stage.1, length-take (length (named shape ++ 0 ∷ [])) behind, length-drop 1 image, length-append (named shape) (0 ∷ [])) in
+            let long : 0 < length image = omega (
+              arith,
+              ap length stage.1,
+              length-take (length (named shape ++ 0 ∷ [])) behind,
+              length-drop 1 image,
+              length-append (named shape) (0 ∷ []),
+            ) in
             let rest = drop (length (named shape ++ 0 ∷ [])) behind in
-            let behind_is : behind ≡ (named shape ++ 0 ∷ []) ++ rest = sym (take-append-drop (length (named shape ++ 0 ∷ [])) behind) ∙ ap (λ t. t ++ rest) stage.1 in
+            let behind_is : behind ≡ (named shape ++ 0 ∷ []) ++ rest = sym (take-append-drop (length (named shape ++ 0 ∷ [])) behind)
+            ∙ ap (λ t. t ++ rest) stage.1 in
             (same, inr (20, fresh image shape rest shaped (drop-cons image 0 0 long ∙ ap (λ k. k ∷ behind) open_gate ∙ ap (λ t. 1 ∷ t) behind_is)))
         | inr still ↦ (same, inl (λ made. still made.1))
       ]
@@ -97,7 +107,8 @@ short_calls file before mid now found look make =
     omega (arith, look, make, calls)
 
 -- a refusal has one fault
-pub failed_no_already : {X P : Type 0} (answer : Result X MakeFault) → IsErr answer × IsErrAnd answer (λ e. e ≡ fault.Failed) → IsErrOf answer fault.AlreadyThere → P
+pub failed_no_already : {X P : Type 0} (answer : Result X MakeFault) → IsErr answer × IsErrAnd answer (λ e. e ≡ fault.Failed) →
+    IsErrOf answer fault.AlreadyThere → P
 failed_no_already (Ok x) fails is = absurd (false≢true fails.0)
 failed_no_already (Err e) fails is = let none : ⊥ = cc in absurd none
 

@@ -53,7 +53,12 @@ module _ (bytes : List ℕ) (shape : Shape) (list : List Answered) (gate : ℕ) 
 
   begins : Begins bytes shape read.groups (drop gate bytes)
   begins =
-      record { shaped = read.shaped; whole = read.whole; file_is = parts ∙ append_assoc (header shape) (texts read.groups) (drop gate bytes); few = omega (arith, read.few, ap length read.list_is) }
+      record {
+        shaped = read.shaped;
+        whole = read.whole;
+        file_is = parts ∙ append_assoc (header shape) (texts read.groups) (drop gate bytes);
+        few = omega (arith, read.few, ap length read.list_is);
+      }
 
   -- the next gate isn't there
   pub breaks_at_end : length bytes ≤ gate → BreaksBehind bytes gate
@@ -74,7 +79,13 @@ module _ (bytes : List ℕ) (shape : Shape) (list : List Answered) (gate : ℕ) 
     behind = drop gate bytes;
     begins = begins;
     breaks =
-        inr (drop (gate + 1) bytes, at, at_gate lt ∙ ap (λ b. b ∷ drop (gate + 1) bytes) open_gate, subst (λ (l : List Answered). GroupBreaks shape (65536 - length l) (drop (gate + 1) bytes) at) read.list_is breaks, ap (λ g. g + 1 + at) read.gate_is);
+        inr (
+          drop (gate + 1) bytes,
+          at,
+          at_gate lt ∙ ap (λ b. b ∷ drop (gate + 1) bytes) open_gate,
+          subst (λ (l : List Answered). GroupBreaks shape (65536 - length l) (drop (gate + 1) bytes) at) read.list_is breaks,
+          ap (λ g. g + 1 + at) read.gate_is,
+        );
   }
 
   -- what a fault behind the open gate says of the whole journal
@@ -94,9 +105,12 @@ module _ (bytes : List ℕ) (shape : Shape) (list : List Answered) (gate : ℕ) 
       let text = take size (drop (gate + 1) bytes) in
       let added : Written = record { text = text; list = more } in
       let all : List Written = read.groups ++ added ∷ [] in
-      let texts_are : texts all ≡ texts read.groups ++ (1 ∷ text) = flat_map-append (λ (g : Written). 1 ∷ g.text) read.groups (added ∷ []) ∙ ap (λ t. texts read.groups ++ t) (flat_map-cons (λ (g : Written). 1 ∷ g.text) added [] ∙ append-nil (1 ∷ text)) in
-      let records_are : records all ≡ records read.groups ++ more = flat_map-append (λ (g : Written). g.list) read.groups (added ∷ []) ∙ ap (λ t. records read.groups ++ t) (flat_map-cons (λ (g : Written). g.list) added [] ∙ append-nil more) in
-      let behind : take (1 + size) (drop gate bytes) ≡ 1 ∷ text = ap (take (1 + size)) (at_gate lt ∙ ap (λ b. b ∷ drop (gate + 1) bytes) open_gate) ∙ take-more size (drop (gate + 1) bytes) in
+      let texts_are : texts all ≡ texts read.groups ++ (1 ∷ text) = flat_map-append (λ (g : Written). 1 ∷ g.text) read.groups (added ∷ [])
+      ∙ ap (λ t. texts read.groups ++ t) (flat_map-cons (λ (g : Written). 1 ∷ g.text) added [] ∙ append-nil (1 ∷ text)) in
+      let records_are : records all ≡ records read.groups ++ more = flat_map-append (λ (g : Written). g.list) read.groups (added ∷ [])
+      ∙ ap (λ t. records read.groups ++ t) (flat_map-cons (λ (g : Written). g.list) added [] ∙ append-nil more) in
+      let behind : take (1 + size) (drop gate bytes) ≡ 1 ∷ text = ap (take (1 + size)) (at_gate lt ∙ ap (λ b. b ∷ drop (gate + 1) bytes) open_gate)
+      ∙ take-more size (drop (gate + 1) bytes) in
       record {
         groups = all;
         shaped = read.shaped;

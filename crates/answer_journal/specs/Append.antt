@@ -12,7 +12,8 @@ Writing at count file before image sent = (sent ≡ before) × Torn at count fil
 -- Nothing was sent meanwhile. Either the gate and all before it are as they were, or the whole group stands behind it.
 abbrev pub Appending : ℕ → List ℕ → List ℕ → List ℕ → List ℕ → List ℕ → Type 0
 Appending gate group file before image sent =
-    (sent ≡ before) × ((take (gate + 1) image ≡ take (gate + 1) file) ⊎ ((take gate image ≡ take gate file) × (take (length group) (drop (gate + 1) image) ≡ group)))
+    (sent ≡ before) × ((take (gate + 1) image ≡ take (gate + 1) file) ⊎
+    ((take gate image ≡ take gate file) × (take (length group) (drop (gate + 1) image) ≡ group)))
 
 -- the file with the group behind the open gate
 abbrev pub appended : ℕ → List ℕ → List ℕ → List ℕ

@@ -50,7 +50,8 @@ module _ {B : Type 0} (bench : Ghosts B) (old mid : B) (secret : SecretView) (hi
   -- the outcomes were told
   pub told_group : (now : List Answered) (outcomes : List Outcome) (told : List Reply) → AreOutcomes (secret_table secret) history (questions_of plans) outcomes
       → AreTold plans outcomes told
-      → now ≡ history ++ records_made (questions_of plans) outcomes → (bench.told → bench.moment mid ≡ bench.moment old + calls_for (records_made (questions_of plans) outcomes))
+      → now ≡ history ++ records_made (questions_of plans) outcomes →
+      (bench.told → bench.moment mid ≡ bench.moment old + calls_for (records_made (questions_of plans) outcomes))
       → DecidesGroup bench old mid (secret_table secret) history now plans told
   told_group now outcomes told are tells history_is calls =
       let records = records_are plans outcomes told tells in
@@ -96,14 +97,17 @@ module _ {B : Type 0} (bench : Ghosts B) (old mid : B) (secret : SecretView) (hi
       (nothing_sent : bench.sent mid ≡ bench.sent old) where
     pub then_sent : (new : B) → stands_of secret (bench.file mid) now
         → LeavesOnly bench old mid (InGroup (IsReplyOf (secret_table secret)) (stands_of secret) history plans (bench.sent old))
-        → LeavesOnly bench mid new (SendsPart (bench.file mid) (bench.sent mid) (flat_map reply_bytes told)) → LeavesOnly bench old new (InGroup (IsReplyOf (secret_table secret)) (stands_of secret) history plans (bench.sent old))
+        → LeavesOnly bench mid new (SendsPart (bench.file mid) (bench.sent mid) (flat_map reply_bytes told)) →
+        LeavesOnly bench old new (InGroup (IsReplyOf (secret_table secret)) (stands_of secret) history plans (bench.sent old))
     then_sent new stands first sends =
         joins bench old mid new _ first (weakens bench mid new _ _ (λ image bytes found.
         inr (
           decides.replies,
           decides.due,
-          subst (λ (i : List ℕ). stands_of secret i (history ++ records_of decides.replies)) (sym found.0) (subst (λ (h : List Answered). stands_of secret (bench.file mid) h) decides.history_is stands),
-          subst (λ (l : List ℕ). AppendsFront (bench.sent old) l bytes) (sym decides.bytes_are) (subst (λ (l : List ℕ). AppendsFront l (flat_map reply_bytes told) bytes) nothing_sent found.1),
+          subst (λ (i : List ℕ). stands_of secret i (history ++ records_of decides.replies)) (sym found.0)
+              (subst (λ (h : List Answered). stands_of secret (bench.file mid) h) decides.history_is stands),
+          subst (λ (l : List ℕ). AppendsFront (bench.sent old) l bytes) (sym decides.bytes_are)
+              (subst (λ (l : List ℕ). AppendsFront l (flat_map reply_bytes told) bytes) nothing_sent found.1),
         )) sends)
 
     pub group_answered : (new : B) → (bench.told → bench.sent new ≡ bench.sent mid ++ flat_map reply_bytes told) →

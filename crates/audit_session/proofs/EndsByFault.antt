@@ -14,9 +14,11 @@ use Rattle.journal_form.specs.Journal.{StandsFor}
 use Rattle.audit_store.specs.Stores.{StoreContents}
 use Rattle.audit_session.specs.Ends.{Ends, Reads, Rests, Serves, ServesWhole, ServesSome, ServesLimited, limited}
 
-pub ends_by : {X : Type 0} (batch : ℕ) (base : Database) (history : List Answered) (input left : List ℕ) (now : List Answered) (before after : List ℕ) (fault : EndFault)
+pub ends_by : {X : Type 0} (batch : ℕ) (base : Database) (history : List Answered) (input left : List ℕ) (now : List Answered) (before after : List ℕ)
+    (fault : EndFault)
     → (IsErrOf {T = X} (Err fault) end.Input → ServesWhole base history batch input left now before after)
-    → (IsErrOf {T = X} (Err fault) end.Limit → ServesLimited base history batch input now before after) → (IsErrOf {T = X} (Err fault) end.NoMemory → ServesSome base history batch (counted_lines input) now before after)
+    → (IsErrOf {T = X} (Err fault) end.Limit → ServesLimited base history batch input now before after) →
+    (IsErrOf {T = X} (Err fault) end.NoMemory → ServesSome base history batch (counted_lines input) now before after)
     → Ends batch (Err fault) base history input left now before after
 ends_by batch base history input left now before after end.Input whole limit some = whole refl
 ends_by batch base history input left now before after end.Limit whole limit some = limit refl
@@ -31,7 +33,8 @@ reads_by input left end.NoMemory within over = tt
 reads_by input left end.Bench within over = tt
 
 -- the clauses on an end without a fault
-pub all_by : (answer : Result (Unit {0}) EndFault) (batch : ℕ) (base : Database) (history : List Answered) (input left : List ℕ) (now : List Answered) (before after : List ℕ)
+pub all_by : (answer : Result (Unit {0}) EndFault) (batch : ℕ) (base : Database) (history : List Answered) (input left : List ℕ) (now : List Answered)
+    (before after : List ℕ)
     → Ends batch answer base history input left now before after → OnOk answer (Serves base history (counted_lines input) now before after)
 all_by (Ok done) batch base history input left now before after ends = ends
 all_by (Err fault) batch base history input left now before after ends = tt
@@ -51,7 +54,8 @@ all_read input [] left taken none read within = (none, omega (arith, read, withi
 all_read input (byte ∷ pending) left taken none read within = let never : ⊥ = cc in absurd never
 
 -- an answer that refused for want of memory alone leaves all as it stood
-pub rests_by : {B X : Type 0} (fault : EndFault) → (IsErrOf {T = X} (Err fault) end.Input → ⊥) → (IsErrOf {T = X} (Err fault) end.Limit → ⊥) → (IsErrOf {T = X} (Err fault) end.Bench → ⊥)
+pub rests_by : {B X : Type 0} (fault : EndFault) → (IsErrOf {T = X} (Err fault) end.Input → ⊥) → (IsErrOf {T = X} (Err fault) end.Limit → ⊥) →
+    (IsErrOf {T = X} (Err fault) end.Bench → ⊥)
     → (bench : Ghosts B) (old mid new : B) (was now : StoreContents) → (IsErrOf {T = X} (Err fault) end.NoMemory → (new ≡ mid) × (now.history ≡ was.history))
     → now.secret ≡ was.secret → Rests bench old mid was → Rests bench old new now
 rests_by end.Input no_input no_limit no_bench bench old mid new was now still secret rests = absurd (no_input refl)

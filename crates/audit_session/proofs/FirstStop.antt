@@ -21,7 +21,8 @@ stops_first bench at base batch history lines only_now quiet stands = started be
       found.1 ∙ sym (append-nil (bench.sent at)),
       stop_between (IsDue base) (stands_over base) batch history lines 0 [] image []
           (subst (λ (n : ℕ). AreReplies (IsDue base) history (take n lines) []) none tt)
-          (subst (λ (h : List Answered). stands_over base image h) (sym (append-nil history)) (subst (λ (f : List ℕ). stands_over base f history) (sym (quiet image found.0)) stands)) refl,
+          (subst (λ (h : List Answered). stands_over base image h) (sym (append-nil history))
+          (subst (λ (f : List ℕ). stands_over base f history) (sym (quiet image found.0)) stands)) refl,
     ))
   where
     none : 0 ≡ 0 * batch

@@ -58,11 +58,13 @@ no_input stop.Input answer same other is = other same
 no_input stop.Limit answer same other is = cc
 
 -- the store's fault, by the end that it makes
-pub by_memory : {X Y : Type 0} (given : StoreFault) (answer : Result X EndFault) → answer ≡ Err (store_end given) → answer ≡ Err end.NoMemory → IsErrOf {T = Y} (Err given) store.NoMemory
+pub by_memory : {X Y : Type 0} (given : StoreFault) (answer : Result X EndFault) → answer ≡ Err (store_end given) → answer ≡ Err end.NoMemory →
+    IsErrOf {T = Y} (Err given) store.NoMemory
 by_memory store.Failed answer same is = let none : ⊥ = cc in absurd none
 by_memory store.NoMemory answer same is = refl
 
-pub by_bench : {X Y : Type 0} (given : StoreFault) (answer : Result X EndFault) → answer ≡ Err (store_end given) → answer ≡ Err end.Bench → IsErrOf {T = Y} (Err given) store.Failed
+pub by_bench : {X Y : Type 0} (given : StoreFault) (answer : Result X EndFault) → answer ≡ Err (store_end given) → answer ≡ Err end.Bench →
+    IsErrOf {T = Y} (Err given) store.Failed
 by_bench store.Failed answer same is = refl
 by_bench store.NoMemory answer same is = let none : ⊥ = cc in absurd none
 

@@ -56,17 +56,21 @@ pub record Served {P B : Type 0} (source : SourceGhosts P) (bench : Ghosts B) (c
   pub is : IsStore store
   pub as_left : bench.told → IsAsLeft (bench.file at) store
   pub quiet : bench.told → IsQuiet bench first → IsQuiet bench at
-  pub answered : AnsweredLines source.told (base_of columns public first_store.secret) batch first_store.history (source.left first_source) (lines.pending ++ source.left from) lines.ended store.history
+  pub answered : AnsweredLines source.told (base_of columns public first_store.secret) batch first_store.history (source.left first_source)
+      (lines.pending ++ source.left from) lines.ended store.history
   pub sent_is : bench.told → bench.sent at ≡ bench.sent first ++ bytes_of answered.replies
   pub calls : bench.told → bench.moment at ≡ bench.moment first + length answered.lines + 4 * commits batch answered.replies
   pub moments : bench.told → IsQuiet bench first →
-      LeavesOnly bench first at (StopsAmong source.told (base_of columns public first_store.secret) batch first_store.history (counted_lines (source.left first_source)) (bench.sent first))
+      LeavesOnly bench first at (StopsAmong source.told (base_of columns public first_store.secret) batch first_store.history
+      (counted_lines (source.left first_source)) (bench.sent first))
   pub source_steady : source.faults from ≡ source.faults first_source
   pub bench_steady : bench.faults at ≡ bench.faults first
 
 -- before the first group
-pub first_moments : {B : Type 0} (told : Type 0) (bench : Ghosts B) (columns : List Column) (public : PublicView) (batch : ℕ) (store : StoreContents) (all : List CountedLine) (at : B)
-    → ((image bytes : List ℕ) → bench.since at (bench.moment at) image bytes → bench.leaves at image × (bytes ≡ bench.sent at)) → IsQuiet bench at → IsAsLeft (bench.file at) store
+pub first_moments : {B : Type 0} (told : Type 0) (bench : Ghosts B) (columns : List Column) (public : PublicView) (batch : ℕ) (store : StoreContents)
+    (all : List CountedLine) (at : B)
+    → ((image bytes : List ℕ) → bench.since at (bench.moment at) image bytes → bench.leaves at image × (bytes ≡ bench.sent at)) → IsQuiet bench at →
+    IsAsLeft (bench.file at) store
     → LeavesOnly bench at at (StopsAmong told (base_of columns public store.secret) batch store.history all (bench.sent at))
 first_moments told bench columns public batch store all at only_now quiet stands =
     let stops : (ls : List CountedLine) → LeavesOnly bench at at (StopsOver (base_of columns public store.secret) batch store.history ls (bench.sent at)) =
@@ -77,7 +81,8 @@ first_moments told bench columns public batch store all at only_now quiet stands
       before = λ t image bytes le was. inl was;
     }
 
-pub nothing_served : {P B : Type 0} (source : SourceGhosts P) (bench : Ghosts B) (columns : List Column) (public : PublicView) (batch : ℕ) (lines : Cutter) (store : StoreContents) (from : P) (at : B)
+pub nothing_served : {P B : Type 0} (source : SourceGhosts P) (bench : Ghosts B) (columns : List Column) (public : PublicView) (batch : ℕ) (lines : Cutter)
+    (store : StoreContents) (from : P) (at : B)
     → (lines.taken ≡ 0) × (lines.pending ≡ []) × (lines.ended ≡ false) → store.usable ≡ true → IsStore store → (bench.told → IsAsLeft (bench.file at) store)
     → ((image bytes : List ℕ) → bench.since at (bench.moment at) image bytes → bench.leaves at image × (bytes ≡ bench.sent at))
     → Served source bench columns public batch lines store store from from at at
@@ -93,7 +98,8 @@ nothing_served source bench columns public batch lines store from at fresh usabl
   answered = record {
     lines = [];
     reads =
-        λ told. subst (λ (rest : List ℕ). ReadsLines (source.left from) rest lines.ended []) (ap (λ (l : List ℕ). l ++ source.left from) (sym fresh.1)) (reads_none (source.left from) lines.ended);
+        λ told. subst (λ (rest : List ℕ). ReadsLines (source.left from) rest lines.ended []) (ap (λ (l : List ℕ). l ++ source.left from) (sym fresh.1))
+        (reads_none (source.left from) lines.ended);
     count = 0;
     many = omega arith;
     replies = [];
@@ -132,7 +138,8 @@ module _ {P B : Type 0} (source : SourceGhosts P) (bench : Ghosts B) (columns : 
   some_served t u = record {
     count = served.answered.count;
     serves =
-        groups_served u all (ap (λ (ls : List CountedLine). groups batch served.answered.count ls) (served.answered.reads t).counted ∙ first_groups batch served.answered.count served.answered.lines (counted_lines (lines.pending ++ source.left from)) served.answered.many);
+        groups_served u all (ap (λ (ls : List CountedLine). groups batch served.answered.count ls) (served.answered.reads t).counted
+        ∙ first_groups batch served.answered.count served.answered.lines (counted_lines (lines.pending ++ source.left from)) served.answered.many);
   }
 
   -- a group was cut short where this is left
@@ -165,12 +172,20 @@ module _ {P B : Type 0} (source : SourceGhosts P) (bench : Ghosts B) (columns : 
 
     rest : length (whole_lines read) < (served.answered.count + 1) * batch
     rest =
-        let size : (served.answered.count + 1) * batch ≡ served.answered.count * batch + batch = ap (λ (n : ℕ). n * batch) (omega arith) ∙ suc-mul served.answered.count batch in
+        let size : (served.answered.count + 1) * batch ≡ served.answered.count * batch + batch = ap (λ (n : ℕ). n * batch) (omega arith)
+        ∙ suc-mul served.answered.count batch in
         omega (arith, many_lines, size, cut.few)
 
     pub served_whole : ServesWhole base first_store.history batch (source.left first_source) left store.history (bench.sent first) (bench.sent at)
     served_whole =
-        record { read = read; split = split; count = served.answered.count; begun = begun; rest = rest; serves = groups_served u (whole_lines read) whole_groups }
+        record {
+          read = read;
+          split = split;
+          count = served.answered.count;
+          begun = begun;
+          rest = rest;
+          serves = groups_served u (whole_lines read) whole_groups;
+        }
 
     below_limit : (pending behind : List ℕ) (taken : ℕ) → left ≡ pending ++ behind → taken ≡ most_input + length pending →
         taken + length behind ≡ length (source.left first_source) → limited (source.left first_source) ≡ read
@@ -182,7 +197,9 @@ module _ {P B : Type 0} (source : SourceGhosts P) (bench : Ghosts B) (columns : 
         ServesLimited base first_store.history batch (source.left first_source) store.history (bench.sent first) (bench.sent at)
     served_limited pending behind taken left_is over total =
         let is = below_limit pending behind taken left_is over total in
-        let P : List ℕ → Type 0 = λ l. (served.answered.count * batch ≤ length (whole_lines l)) × (length (whole_lines l) < (served.answered.count + 1) * batch) × Serves base first_store.history (groups batch served.answered.count (whole_lines l)) store.history (bench.sent first) (bench.sent at) in
+        let P : List ℕ → Type 0 = λ l. (served.answered.count * batch ≤ length (whole_lines l)) ×
+        (length (whole_lines l) < (served.answered.count + 1) * batch) ×
+        Serves base first_store.history (groups batch served.answered.count (whole_lines l)) store.history (bench.sent first) (bench.sent at) in
         let here : P (limited (source.left first_source)) = subst P (sym is) (begun, rest, groups_served u (whole_lines read) whole_groups) in
         record { count = served.answered.count; begun = here.0; rest = here.1; serves = here.2 }
 
@@ -217,14 +234,16 @@ module _ {P B : Type 0} (source : SourceGhosts P) (bench : Ghosts B) (columns : 
     turn_moments new ends u quiet moments =
         joins bench first at new _ (served.moments u quiet)
         (weakens bench at new _ _ (λ image bytes found.
-        stops_among base batch served.answered.count first_store.history store.history served.answered.lines gathers.lines served.answered.replies plans served.answered.many few served.answered.due served.answered.history_is gathers.planned
+        stops_among base batch served.answered.count first_store.history store.history served.answered.lines gathers.lines served.answered.replies plans
+        served.answered.many few served.answered.due served.answered.history_is gathers.planned
         source.told all behind (bench.sent first) (bench.sent at) image bytes all_are ends (served.sent_is u) found)
         (over_first (λ s. LeavesOnly bench at new (InGroup (IsReplyOf (secret_table s)) (stands_of s) store.history plans (bench.sent at))) moments))
 
     module _ (now : List Answered) (new : B) (answers : AnswersGroup bench at new (secret_table store.secret) store.history now plans) where
       due_now : AreReplies (IsDue base) first_store.history (served.answered.lines ++ gathers.lines) (served.answered.replies ++ answers.replies)
       due_now =
-          all_due base batch served.answered.count first_store.history store.history served.answered.lines gathers.lines served.answered.replies plans served.answered.many few served.answered.due served.answered.history_is gathers.planned answers.replies
+          all_due base batch served.answered.count first_store.history store.history served.answered.lines gathers.lines served.answered.replies plans
+          served.answered.many few served.answered.due served.answered.history_is gathers.planned answers.replies
           (over_first (λ s. AreReplies (IsReplyOf (secret_table s)) store.history plans answers.replies) answers.due)
 
       history_now : now ≡ first_store.history ++ records_of (served.answered.replies ++ answers.replies)
@@ -239,20 +258,31 @@ module _ {P B : Type 0} (source : SourceGhosts P) (bench : Ghosts B) (columns : 
           ∙ ap (λ (l : List ℕ). bench.sent first ++ l) (sym (bytes_of-append served.answered.replies answers.replies))
 
       calls_now : bench.told →
-          bench.moment new ≡ bench.moment first + length (served.answered.lines ++ gathers.lines) + 4 * commits batch (served.answered.replies ++ answers.replies)
+          bench.moment new ≡ bench.moment first + length (served.answered.lines ++ gathers.lines) + 4 * commits batch
+          (served.answered.replies ++ answers.replies)
       calls_now u =
-          let long : length served.answered.replies ≡ served.answered.count * batch = length-replies (IsDue base) first_store.history served.answered.lines served.answered.replies served.answered.due ∙ served.answered.many in
-          let more : length answers.replies ≡ length plans = length-replies (IsReplyOf (secret_table store.secret)) store.history plans answers.replies answers.due in
-          omega
-          (arith, answers.calls u, served.calls u, as_many, length-append served.answered.lines gathers.lines, commits_more batch served.answered.count served.answered.replies some long answers.replies (omega (arith, more, few)))
+          let long : length served.answered.replies ≡ served.answered.count * batch =
+          length-replies (IsDue base) first_store.history served.answered.lines served.answered.replies served.answered.due ∙ served.answered.many in
+          let more : length answers.replies ≡ length plans =
+          length-replies (IsReplyOf (secret_table store.secret)) store.history plans answers.replies answers.due in
+          omega (
+            arith,
+            answers.calls u,
+            served.calls u,
+            as_many,
+            length-append served.answered.lines gathers.lines,
+            commits_more batch served.answered.count served.answered.replies some long answers.replies (omega (arith, more, few)),
+          )
 
       -- the group was whole
       pub next_turn : (store_now : StoreContents) → store_now.history ≡ now → ended_now ≡ lines_now.ended → length plans ≡ batch
           → (source.told → lines_now.ended ≡ true → source.left source_now ≡ [])
           → (source.told → lines_now.taken + length (source.left source_now) ≡ lines.taken + length (source.left from))
-          → lines_now.taken ≤ most_input + length lines_now.pending → source.faults source_now ≡ source.faults from → StandsOn bench at new store_now → store_now.secret ≡ store.secret → IsStore store_now → bench.faults new ≡ bench.faults at
+          → lines_now.taken ≤ most_input + length lines_now.pending → source.faults source_now ≡ source.faults from → StandsOn bench at new store_now →
+          store_now.secret ≡ store.secret → IsStore store_now → bench.faults new ≡ bench.faults at
           →
-          (bench.told → IsQuiet bench at → LeavesOnly bench at new (InGroup (IsReplyOf (secret_table store.secret)) (stands_of store.secret) store.history plans (bench.sent at)))
+          (bench.told → IsQuiet bench at → LeavesOnly bench at new
+          (InGroup (IsReplyOf (secret_table store.secret)) (stands_of store.secret) store.history plans (bench.sent at)))
           → Served source bench columns public batch lines_now first_store store_now first_source source_now first new
       next_turn store_now is is_ended full same taken within source_steady stands secret of_store bench_steady moments = record {
         same = same;
@@ -266,10 +296,12 @@ module _ {P B : Type 0} (source : SourceGhosts P) (bench : Ghosts B) (columns : 
         answered = record {
           lines = served.answered.lines ++ gathers.lines;
           reads =
-              λ t. subst (λ (b : Bool). ReadsLines (source.left first_source) (lines_now.pending ++ source.left source_now) b (served.answered.lines ++ gathers.lines)) is_ended (reads_now t);
+              λ t. subst (λ (b : Bool). ReadsLines (source.left first_source) (lines_now.pending ++ source.left source_now) b
+              (served.answered.lines ++ gathers.lines)) is_ended (reads_now t);
           count = served.answered.count + 1;
           many =
-              let size : (served.answered.count + 1) * batch ≡ served.answered.count * batch + batch = ap (λ (n : ℕ). n * batch) (omega arith) ∙ suc-mul served.answered.count batch in
+              let size : (served.answered.count + 1) * batch ≡ served.answered.count * batch + batch = ap (λ (n : ℕ). n * batch) (omega arith)
+              ∙ suc-mul served.answered.count batch in
               omega (arith, length-append served.answered.lines gathers.lines, served.answered.many, as_many, full, size);
           replies = served.answered.replies ++ answers.replies;
           due = due_now;
@@ -286,14 +318,16 @@ module _ {P B : Type 0} (source : SourceGhosts P) (bench : Ghosts B) (columns : 
       lines_are_all : source.told → behind ≡ [] → served.answered.lines ++ gathers.lines ≡ all
       lines_are_all t none =
           sym
-          ((reads_now t).counted ∙ ap (λ (ls : List CountedLine). (served.answered.lines ++ gathers.lines) ++ ls) none ∙ append-nil (served.answered.lines ++ gathers.lines))
+          ((reads_now t).counted ∙ ap (λ (ls : List CountedLine). (served.answered.lines ++ gathers.lines) ++ ls) none
+          ∙ append-nil (served.answered.lines ++ gathers.lines))
 
       pub all_served : source.told → bench.told → behind ≡ [] → (last : List Answered) → last ≡ now →
           Serves base first_store.history all last (bench.sent first) (bench.sent new)
       all_served t u none last is = record {
         replies = served.answered.replies ++ answers.replies;
         due =
-            subst (λ (ls : List CountedLine). AreReplies (IsDue base) first_store.history ls (served.answered.replies ++ answers.replies)) (lines_are_all t none) due_now;
+            subst (λ (ls : List CountedLine). AreReplies (IsDue base) first_store.history ls (served.answered.replies ++ answers.replies))
+            (lines_are_all t none) due_now;
         history_is = is ∙ history_now;
         sent_is = sent_now u;
       }
@@ -302,7 +336,9 @@ module _ {P B : Type 0} (source : SourceGhosts P) (bench : Ghosts B) (columns : 
       all_calls t u none = record {
         replies = served.answered.replies ++ answers.replies;
         due =
-            subst (λ (ls : List CountedLine). AreReplies (IsDue base) first_store.history ls (served.answered.replies ++ answers.replies)) (lines_are_all t none) due_now;
+            subst (λ (ls : List CountedLine). AreReplies (IsDue base) first_store.history ls (served.answered.replies ++ answers.replies))
+            (lines_are_all t none) due_now;
         calls =
-            subst (λ (ls : List CountedLine). bench.moment new ≡ bench.moment first + length ls + 4 * commits batch (served.answered.replies ++ answers.replies)) (lines_are_all t none) (calls_now u);
+            subst (λ (ls : List CountedLine). bench.moment new ≡ bench.moment first + length ls + 4 * commits batch
+            (served.answered.replies ++ answers.replies)) (lines_are_all t none) (calls_now u);
       }

@@ -77,7 +77,11 @@ module _ (table : Table) (history : List Answered) where
   illegal_once a b p q =
       elim (cases_lt a b) [
         | inl lt ↦ absurd (illegal_not_before a b p q lt)
-        | inr le ↦ elim (cases_lt b a) [ inl lt ↦ absurd (illegal_not_before b a q p lt) | inr from ↦ let place : b ≡ a = omega arith in ap (λ k. Illegal k) place ]
+        | inr le ↦ elim (cases_lt b a) [
+          | inl lt ↦ absurd (illegal_not_before b a q p lt)
+          | inr from ↦ let place : b ≡ a = omega arith in
+              ap (λ k. Illegal k) place
+        ]
       ]
 
   untrue_or_illegal : (a b : ℕ) (kept now : ℤ) → IsFirstUntrue table history a kept now → IsFirstIllegal table history b → ⊥
@@ -125,7 +129,8 @@ module _ (file : List ℕ) (secret : SecretView) where
   -- where the journal was not read back, what is due of the start is due of the reading
   pub due_of_reading : (fault : BackFault) (due : StartFault) → ((IsMade file → ⊥) → IsDueOrGaveUp back.NotMade fault)
       → ((at : ℕ) → IsMade file → BreaksAt file at → IsDueOrGaveUp (back.Damaged at) fault)
-      → ((shape : Shape) (history : List Answered) (gate : ℕ) → StandsAt file shape history gate → GaveUp fault) → (GivesUp due → ⊥) → StartCause due file secret → RefusedUnlessFailed due (Err (start_fault fault))
+      → ((shape : Shape) (history : List Answered) (gate : ℕ) → StandsAt file shape history gate → GaveUp fault) → (GivesUp due → ⊥) →
+      StartCause due file secret → RefusedUnlessFailed due (Err (start_fault fault))
   due_of_reading fault NotMade unmade damaged whole some cause = due_fault back.NotMade fault (unmade cause)
   due_of_reading fault (Damaged at) unmade damaged whole some cause = due_fault (back.Damaged at) fault (damaged at cause.0 cause.1)
   due_of_reading fault (OtherShape kept now) unmade damaged whole some cause = inr (gave_up fault (whole kept cause.0 cause.1.0 cause.1.1))
@@ -136,7 +141,8 @@ module _ (file : List ℕ) (secret : SecretView) where
 
   -- where it was, the cause lies in its history
   pub due_of_history : (shape : Shape) (history : List Answered) (due : StartFault) → ((IsMade file → ⊥) → ⊥) → ((at : ℕ) → IsMade file → BreaksAt file at → ⊥)
-      → ((other : Shape) (others : List Answered) (gate : ℕ) → StandsAt file other others gate → (shape ≡ other) × (history ≡ others)) → (GivesUp due → ⊥) → StartCause due file secret → HistoryCause due shape history secret
+      → ((other : Shape) (others : List Answered) (gate : ℕ) → StandsAt file other others gate → (shape ≡ other) × (history ≡ others)) → (GivesUp due → ⊥) →
+      StartCause due file secret → HistoryCause due shape history secret
   due_of_history shape history NotMade made whole once some cause = made cause
   due_of_history shape history (Damaged at) made whole once some cause = whole at cause.0 cause.1
   due_of_history shape history (OtherShape kept now) made whole once some cause =

@@ -30,5 +30,6 @@ module _ (table : Table) (list : List Answered) (k : ℕ) (legal : IsLegal table
   pub released_before : (i : ℕ) (r : Answered) → i < k → slice_get list i ≡ Some r → IsReleasedAfter table (take i list) r
   released_before i r lt here =
       let inside : i < length list = slice_get_within list i r here in
-      let there : slice_get (take k list) i ≡ Some r = slice_get-get_or (take k list) i r (omega (arith, lt, inside, length-take k list)) ∙ ap (λ x. Some x) (get_or-take k list i r lt ∙ get_or_from_slice_get list i r r here) in
+      let there : slice_get (take k list) i ≡ Some r = slice_get-get_or (take k list) i r (omega (arith, lt, inside, length-take k list))
+      ∙ ap (λ x. Some x) (get_or-take k list i r lt ∙ get_or_from_slice_get list i r r here) in
       subst (λ h. IsReleasedAfter table h r) (take-take i k list (omega (arith, lt))) (legal.each i r there).released

@@ -12,13 +12,17 @@ use Rattle.audit_core.specs.Outcomes.{IsOutcome, AreOutcomes, record_of, records
 -- one question more, decided after the history and the records of those before it
 pub outcomes_more : (table : Table) (history : List Answered) (questions : List Asked) (outcomes : List Outcome) (asked : Asked) (outcome : Outcome)
     → AreOutcomes table history questions outcomes
-    → IsOutcome table (history ++ records_made questions outcomes) asked outcome → AreOutcomes table history (questions ++ asked ∷ []) (outcomes ++ outcome ∷ [])
+    → IsOutcome table (history ++ records_made questions outcomes) asked outcome →
+    AreOutcomes table history (questions ++ asked ∷ []) (outcomes ++ outcome ∷ [])
 outcomes_more table history [] [] asked outcome are is = (subst (λ h. IsOutcome table h asked outcome) (append-nil history) is, tt)
 outcomes_more table history [] (o ∷ outcomes) asked outcome are is = absurd are
 outcomes_more table history (a ∷ questions) [] asked outcome are is = absurd are
 outcomes_more table history (a ∷ questions) (o ∷ outcomes) asked outcome are is =
-    let first = option_to_list (record_of a o) in
-    (are.0, outcomes_more table (history ++ first) questions outcomes asked outcome are.1 (subst (λ h. IsOutcome table h asked outcome) (sym (append_assoc history first (records_made questions outcomes))) is))
+    let first = option_to_list (record_of a o) in (
+      are.0,
+      outcomes_more table (history ++ first) questions outcomes asked outcome are.1
+          (subst (λ h. IsOutcome table h asked outcome) (sym (append_assoc history first (records_made questions outcomes))) is),
+    )
 
 -- its record stands after theirs
 pub records_more : (table : Table) (history : List Answered) (questions : List Asked) (outcomes : List Outcome) (asked : Asked) (outcome : Outcome)

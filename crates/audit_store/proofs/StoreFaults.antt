@@ -37,12 +37,14 @@ failed_no_memory (Ok x) refuses is = absurd (false≢true refuses.0)
 failed_no_memory (Err e) refuses is = let none : ⊥ = cc in absurd none
 
 -- the fault that was given is the answer's
-pub given_is : {X Y : Type 0} (given fault : StoreFault) (answer : Result X StoreFault) → Refuses answer given → IsErrOf answer fault → IsErrOf {T = Y} (Err given) fault
+pub given_is : {X Y : Type 0} (given fault : StoreFault) (answer : Result X StoreFault) → Refuses answer given → IsErrOf answer fault →
+    IsErrOf {T = Y} (Err given) fault
 given_is given fault (Ok x) refuses is = absurd (false≢true refuses.0)
 given_is {X} {Y} given fault (Err e) refuses is = subst (λ (f : StoreFault). IsErrOf {T = Y} (Err f) fault) refuses.1 (same_fault e fault is)
 
 -- and the answer's is the one that was given
-pub answer_is : {X Y : Type 0} (given fault : StoreFault) (answer : Result X StoreFault) → Refuses answer given → IsErrOf {T = Y} (Err given) fault → IsErrOf answer fault
+pub answer_is : {X Y : Type 0} (given fault : StoreFault) (answer : Result X StoreFault) → Refuses answer given → IsErrOf {T = Y} (Err given) fault →
+    IsErrOf answer fault
 answer_is given fault (Ok x) refuses is = absurd (false≢true refuses.0)
 answer_is {X} {Y} given fault (Err e) refuses is = subst (λ (f : StoreFault). IsErrOf {T = X} (Err f) fault) (sym refuses.1) (same_fault given fault is)
 
@@ -54,14 +56,16 @@ on_ok_always (Ok x) holds = holds
 on_ok_always (Err e) holds = tt
 
 -- a call failed where the journal was read, and nowhere else
-pub read_failed : {X Y : Type 0} (read : BackFault) (fault : StartFault) → fault ≡ start_fault read → IsErrOf {T = X} (Err fault) start.Failed → IsErrOf {T = Y} (Err read) back.Failed
+pub read_failed : {X Y : Type 0} (read : BackFault) (fault : StartFault) → fault ≡ start_fault read → IsErrOf {T = X} (Err fault) start.Failed →
+    IsErrOf {T = Y} (Err read) back.Failed
 read_failed back.NotMade fault same is = let none : ⊥ = cc in absurd none
 read_failed (back.Damaged at) fault same is = let none : ⊥ = cc in absurd none
 read_failed back.Failed fault same is = refl
 read_failed back.NoMemory fault same is = let none : ⊥ = cc in absurd none
 
 -- and where that call failed, the start did
-pub start_failed : {X Y : Type 0} (read : BackFault) (fault : StartFault) → fault ≡ start_fault read → IsErrOf {T = Y} (Err read) back.Failed → IsErrOf {T = X} (Err fault) start.Failed
+pub start_failed : {X Y : Type 0} (read : BackFault) (fault : StartFault) → fault ≡ start_fault read → IsErrOf {T = Y} (Err read) back.Failed →
+    IsErrOf {T = X} (Err fault) start.Failed
 start_failed back.NotMade fault same is = let none : ⊥ = cc in absurd none
 start_failed (back.Damaged at) fault same is = let none : ⊥ = cc in absurd none
 start_failed back.Failed fault same is = cc

@@ -46,7 +46,8 @@ pub left_store : {E : Type 0} (answer : Result StoreContents E) (secret : Secret
     → IfOk answer (λ s. s ≡ store_of secret history journal) → IfOk answer IsStore → StandsAt file journal.shape history journal.gate
     → IfOk answer (λ s. IsAsLeft file s)
 left_store (Ok s) secret history journal file is store stands =
-    let shape : journal.shape ≡ s.secret.shape = sym (ap (λ (t : StoreContents). t.journal.shape) is) ∙ store.same_shape (ap (λ (t : StoreContents). t.usable) is) in
+    let shape : journal.shape ≡ s.secret.shape = sym (ap (λ (t : StoreContents). t.journal.shape) is)
+    ∙ store.same_shape (ap (λ (t : StoreContents). t.usable) is) in
     subst (λ (x : Shape). StandsAt file x s.history s.journal.gate) shape
     (subst (λ (t : StoreContents). StandsAt file journal.shape t.history t.journal.gate) (sym is) stands)
 left_store (Err e) secret history journal file is store stands = tt
@@ -72,7 +73,8 @@ core_is_history secret core released usable history audited is_usable view =
 pub released_and_more : (old new : List Answered) (released : ℕ) → released ≡ length old → take (length old) new ≡ old →
     take released old ++ take (length new - released) (drop released new) ≡ new
 released_and_more old new released long begins =
-    let more : take (length new - released) (drop released new) ≡ drop released new = take_all (length new - released) (drop released new) (omega (arith, length-drop released new)) in
+    let more : take (length new - released) (drop released new) ≡ drop released new =
+    take_all (length new - released) (drop released new) (omega (arith, length-drop released new)) in
     ap (λ t. take released old ++ t) more
     ∙ ap (λ t. t ++ drop released new) (ap (λ n. take n old) long ∙ take-length old ∙ sym begins ∙ ap (λ n. take n new) (sym long))
     ∙ take-append-drop released new

@@ -83,5 +83,6 @@ few_lines law number sent most answers =
     let base = drill_base number in
     let counted = counted_lines (drill_text number) in
     let each = law (texts answers.replies) (are_texts base [] counted answers.replies answers.due) in
-    let same : length (lines_in sent) ≡ length (texts answers.replies) = ap (λ (bytes : List ℕ). length (lines_in bytes)) (answers.sent_is ∙ joined answers.replies) ∙ each in
+    let same : length (lines_in sent) ≡ length (texts answers.replies) =
+    ap (λ (bytes : List ℕ). length (lines_in bytes)) (answers.sent_is ∙ joined answers.replies) ∙ each in
     omega (arith, same, as_many base [] counted answers.replies answers.due, no_more_lines (drill_text number), most)

@@ -14,7 +14,8 @@ use Rattle.audit_session.specs.Lives.{Run, GoesFrom, Lead, KeepAll}
 -- one file has one history
 abbrev pub OneReading : Type 0
 OneReading =
-    (file : List ℕ) (shape other : Shape) (history others : List Answered) (gate place : ℕ) → StandsAt file shape history gate → StandsAt file other others place → (shape ≡ other) × (history ≡ others) × (gate ≡ place)
+    (file : List ℕ) (shape other : Shape) (history others : List Answered) (gate place : ℕ) → StandsAt file shape history gate →
+    StandsAt file other others place → (shape ≡ other) × (history ≡ others) × (gate ≡ place)
 
 -- the empty history is legal
 pub nothing_is_legal : (table : Table) → IsLegal table []
@@ -31,7 +32,8 @@ module _ (one : OneReading) (base : Database) where
   -- the history that a run left is the one before it with the records of its replies
   left_is : (first : List Answered) (run : Run) (goes : GoesFrom base first run) → run.last ≡ first ++ records_of goes.stop.replies
   left_is first run goes =
-      (one goes.image base.secret.shape base.secret.shape run.last (first ++ records_of goes.stop.replies) goes.stands.0 goes.stop.stands_for.0 goes.stands.1 goes.stop.stands_for.1).1
+      (one goes.image base.secret.shape base.secret.shape run.last
+      (first ++ records_of goes.stop.replies) goes.stands.0 goes.stop.stands_for.0 goes.stands.1 goes.stop.stands_for.1).1
 
   -- a life loses nothing
   pub first_in_last : (first : List Answered) (runs : List Run) (last : List Answered) → Lead base first runs last → IsFront first last
@@ -46,7 +48,13 @@ module _ (one : OneReading) (base : Database) where
       let stop = lead.0.stop in
       let rest = first_in_last run.last runs last lead.1 in (
         rest,
-        record { count = _; replies = stop.replies; due = stop.due; sent = stop.so_far; kept = subst (λ (h : List Answered). IsFront h last) (left_is first run lead.0) rest },
+        record {
+          count = _;
+          replies = stop.replies;
+          due = stop.due;
+          sent = stop.so_far;
+          kept = subst (λ (h : List Answered). IsFront h last) (left_is first run lead.0) rest;
+        },
         all_kept run.last runs last lead.1,
       )
 

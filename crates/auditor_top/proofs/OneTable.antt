@@ -30,7 +30,8 @@ pub same_base : (schema table : List ℕ) (columns : List Column) (meant : Table
 same_base schema table columns meant base schema_is table_is files =
     let one : base.columns ≡ columns = same_ok (schema_of schema) base.columns columns files.schema_is schema_is in
     let view : TableView = record { public = base.public; secret = base.secret } in
-    let two : view ≡ meant = same_ok (table_of columns table) view meant (subst (λ (cs : List Column). table_of cs table ≡ Ok view) one files.table_is) table_is in
+    let two : view ≡ meant = same_ok (table_of columns table) view meant
+    (subst (λ (cs : List Column). table_of cs table ≡ Ok view) one files.table_is) table_is in
     ap (λ (cs : List Column). base_of cs base.public base.secret) one ∙ ap (λ (v : TableView). base_of columns v.public v.secret) two
 
 -- the same, by parts that are equal
@@ -46,8 +47,20 @@ none_due base batch history lines = subst (λ (ls : List CountedLine). AreReplie
 -- no line was answered
 pub nothing_served : (base : Database) (batch : ℕ) (history : List Answered) (input sent file : List ℕ) → StandsFor file base.secret.shape history →
     StandsForWhat file base (λ now. ServesSome base history batch (counted_lines input) now sent sent)
-nothing_served base batch history input sent file stands =
-    (history, record { count = 0; serves = record { replies = []; due = none_due base batch history (counted_lines input); history_is = sym (append-nil history); sent_is = sym (append-nil sent) } }, stands)
+nothing_served base batch history input sent file stands = (
+  history,
+  record {
+    count = 0;
+    serves = record {
+      replies = [];
+      due = none_due base batch history (counted_lines input);
+      history_is =
+          sym (append-nil history);
+      sent_is = sym (append-nil sent);
+    };
+  },
+  stands,
+)
 
 -- a file that is left as it was is a stop before the first line
 pub untouched_stops : (base : Database) (batch : ℕ) (history : List Answered) (lines : List CountedLine) (file before image sent : List ℕ) →
@@ -61,7 +74,8 @@ untouched_stops base batch history lines file before image sent stands same =
         replies = [];
         due = none_due base batch history lines;
         stands_for =
-            subst (λ (now : List Answered). StandsFor image shape now) (sym (append-nil history)) (subst (λ (f : List ℕ). StandsFor f shape history) (sym same.1) stands);
+            subst (λ (now : List Answered). StandsFor image shape now) (sym (append-nil history))
+            (subst (λ (f : List ℕ). StandsFor f shape history) (sym same.1) stands);
         begun = record { rest = []; is = sym (ap (λ (rs : List (Replied Answered)). bytes_of rs ++ []) (take-nil ((0 - 1) * batch))) };
         so_far = record { rest = []; is = refl };
       },

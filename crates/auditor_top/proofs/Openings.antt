@@ -35,15 +35,18 @@ pub same_table_fault : {X Y : Type 0} (a b : FileFault TableFault) → ◌≡◌
     → ◌≡◌ {A = Result Y (FileFault TableFault)} (Err a) (Err b)
 same_table_fault a b is = cc
 
-pub not_table : {X : Type 0} (a : FileFault SchemaFault) (b : FileFault TableFault) → ◌≢◌ {A = Result X OpenFault} (Err (opening.Schema a)) (Err (opening.Table b))
+pub not_table : {X : Type 0} (a : FileFault SchemaFault) (b : FileFault TableFault) →
+    ◌≢◌ {A = Result X OpenFault} (Err (opening.Schema a)) (Err (opening.Table b))
 not_table a b is = cc
 
-pub not_schema : {X : Type 0} (a : FileFault TableFault) (b : FileFault SchemaFault) → ◌≢◌ {A = Result X OpenFault} (Err (opening.Table a)) (Err (opening.Schema b))
+pub not_schema : {X : Type 0} (a : FileFault TableFault) (b : FileFault SchemaFault) →
+    ◌≢◌ {A = Result X OpenFault} (Err (opening.Table a)) (Err (opening.Schema b))
 not_schema a b is = cc
 
 -- ---- the schema's file
 
-pub schema_says : (fault : FileFault SchemaFault) (meant : Result (List Column) SchemaFault) → IsFaultOf fault meant → SchemaCause (open_status (opening.Schema fault)) meant
+pub schema_says : (fault : FileFault SchemaFault) (meant : Result (List Column) SchemaFault) → IsFaultOf fault meant →
+    SchemaCause (open_status (opening.Schema fault)) meant
 schema_says file.Failed meant is = tt
 schema_says file.NoMemory meant is = tt
 schema_says (file.Bad f) meant is = is
@@ -64,7 +67,8 @@ schema_faults (file.Bad f) schema later table input bench spare failed steady = 
 
 -- ---- the table's file
 
-pub table_says : {X : Type 0} (fault : FileFault TableFault) (meant : Result X TableFault) → IsFaultOf fault meant → TableCause (open_status (opening.Table fault)) meant
+pub table_says : {X : Type 0} (fault : FileFault TableFault) (meant : Result X TableFault) → IsFaultOf fault meant →
+    TableCause (open_status (opening.Table fault)) meant
 table_says file.Failed meant is = tt
 table_says file.NoMemory meant is = tt
 table_says (file.Bad f) meant is = is

@@ -85,7 +85,8 @@ unopened_sends (opening.Table (file.Bad f)) sent = sym (append-nil sent)
 -- ---- reading the transcript
 
 -- the ends of a simulation are those of the run
-pub simulation_ends : (ended : Result (Unit {0}) SimulationFault) (columns : List Column) (public : PublicView) (input left : List ℕ) (verdicts : List (Replied Answered)) →
+pub simulation_ends : (ended : Result (Unit {0}) SimulationFault) (columns : List Column) (public : PublicView) (input left : List ℕ)
+    (verdicts : List (Replied Answered)) →
     EndVerdicts ended columns public input left verdicts → SimulateEnds (simulation_status ended) columns public input left verdicts
 simulation_ends (Ok done) columns public input left verdicts are = are
 simulation_ends (Err verdict.Input) columns public input left verdicts are = are
@@ -116,7 +117,8 @@ simulation_reads (Err verdict.NoMemory) before after reads = tt
 -- the count of what failed rose, and no other changed
 pub simulation_faults : (ended : Result (Unit {0}) SimulationFault) (before : FaultCounts) (input bench : ℕ)
     → (ended ≡ Err verdict.Input → Rose before.input input) → (ended ≢ Err verdict.Input → input ≡ before.input)
-    → (ended ≡ Err verdict.Bench → Rose before.bench bench) → (ended ≢ Err verdict.Bench → bench ≡ before.bench) → FaultCause (simulation_status ended) before (record before { input = input; bench = bench })
+    → (ended ≡ Err verdict.Bench → Rose before.bench bench) → (ended ≢ Err verdict.Bench → bench ≡ before.bench) →
+    FaultCause (simulation_status ended) before (record before { input = input; bench = bench })
 simulation_faults (Ok done) before input bench input_rose input_same bench_rose bench_same =
     same_counts before input bench (input_same (not_both done verdict.Input)) (bench_same (not_both done verdict.Bench))
 simulation_faults (Err verdict.Input) before input bench input_rose input_same bench_rose bench_same =
@@ -132,9 +134,11 @@ simulation_faults (Err verdict.NoMemory) before input bench input_rose input_sam
 
 -- where every reply agrees, the input is within its limit and nothing failed, it is done, or there was no memory
 pub simulation_wants : FirstLinesHaveVerdicts
-    → (ended : Result (Unit {0}) SimulationFault) (columns : List Column) (public : PublicView) (input left : List ℕ) (verdicts others : List (Replied Answered)) (before after : FaultCounts)
+    → (ended : Result (Unit {0}) SimulationFault) (columns : List Column) (public : PublicView) (input left : List ℕ)
+    (verdicts others : List (Replied Answered)) (before after : FaultCounts)
     → EndVerdicts ended columns public input left verdicts → EndReads ended input left
-    → AreVerdicts columns public (counted_lines input) others → length input ≤ 2 ^ 30 → FaultCause (simulation_status ended) before after → NothingFailed before after → IsDoneOrWants (simulation_status ended)
+    → AreVerdicts columns public (counted_lines input) others → length input ≤ 2 ^ 30 → FaultCause (simulation_status ended) before after →
+    NothingFailed before after → IsDoneOrWants (simulation_status ended)
 simulation_wants first (Ok done) columns public input left verdicts others before after are reads agree within rose none = inl refl
 simulation_wants first (Err verdict.Input) columns public input left verdicts others before after are reads agree within rose none = absurd (none.input rose.0)
 simulation_wants first (Err verdict.Bench) columns public input left verdicts others before after are reads agree within rose none = absurd (none.bench rose.0)

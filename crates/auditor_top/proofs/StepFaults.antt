@@ -96,7 +96,8 @@ unstarted_ends (start.Illegal place) base batch history before after opens same 
 unstarted_ends start.Failed base batch history before after opens same stands = tt
 unstarted_ends start.NoMemory base batch history before after opens same stands =
     subst
-    (λ (sent : List ℕ). (now : List Answered) × ServesSome base history batch (counted_lines before.input) now before.sent sent × StandsFor after.file base.secret.shape now) same
+    (λ (sent : List ℕ). (now : List Answered) × ServesSome base history batch (counted_lines before.input) now before.sent sent ×
+    StandsFor after.file base.secret.shape now) same
     (nothing_served base batch history before.input before.sent after.file stands)
 
 -- where the bench didn't fail either, it was want of memory
@@ -158,7 +159,8 @@ making_wants (Err make.AlreadyThere) before after absent rose none = absurd (abs
 making_wants (Err make.Failed) before after absent rose none = absurd (none.bench rose.0)
 
 -- where the bench didn't fail, a journal was made, or one or another file was there
-pub made_or_there : {P : Type 0} (making : Result (Unit {0}) MakeFault) → making_status making ≢ BenchFault → OnOk making P → (IsErrOf making make.AlreadyThere → P) → P
+pub made_or_there : {P : Type 0} (making : Result (Unit {0}) MakeFault) → making_status making ≢ BenchFault → OnOk making P →
+    (IsErrOf making make.AlreadyThere → P) → P
 made_or_there (Ok done) fine made there = made
 made_or_there (Err make.AlreadyThere) fine made there = there refl
 made_or_there (Err make.Failed) fine made there = absurd (fine refl)
@@ -189,8 +191,10 @@ session_cause (Err end.NoMemory) batch file secret legal = tt
 -- the ends of a session are those of the run
 pub session_ends : {X : Type 0} (ended : Result X EndFault) (base : Database) (batch : ℕ) (history now : List Answered) (before after : Outside)
     → OnOk ended (Serves base history (counted_lines before.input) now before.sent after.sent)
-    → (ended ≡ Err end.Input → ServesWhole base history batch before.input after.input now before.sent after.sent) → (ended ≡ Err end.Limit → ServesLimited base history batch before.input now before.sent after.sent)
-    → (ended ≡ Err end.NoMemory → ServesSome base history batch (counted_lines before.input) now before.sent after.sent) → (ended ≢ Err end.Bench → StandsFor after.file base.secret.shape now) → ServeEnds batch (session_status ended) base history before after
+    → (ended ≡ Err end.Input → ServesWhole base history batch before.input after.input now before.sent after.sent) →
+    (ended ≡ Err end.Limit → ServesLimited base history batch before.input now before.sent after.sent)
+    → (ended ≡ Err end.NoMemory → ServesSome base history batch (counted_lines before.input) now before.sent after.sent) →
+    (ended ≢ Err end.Bench → StandsFor after.file base.secret.shape now) → ServeEnds batch (session_status ended) base history before after
 session_ends (Ok done) base batch history now before after all whole limited some stands = (now, all, stands (not_both done end.Bench))
 session_ends (Err end.Input) base batch history now before after all whole limited some stands = (now, whole refl, stands (search rules))
 session_ends (Err end.Bench) base batch history now before after all whole limited some stands = tt
@@ -200,7 +204,8 @@ session_ends (Err end.NoMemory) base batch history now before after all whole li
 -- the count of what failed rose, and no other changed
 pub session_faults : {X : Type 0} (ended : Result X EndFault) (before : FaultCounts) (input bench : ℕ) → (ended ≡ Err end.Input → Rose before.input input)
     → (ended ≢ Err end.Input → input ≡ before.input)
-    → (ended ≡ Err end.Bench → Rose before.bench bench) → (ended ≢ Err end.Bench → bench ≡ before.bench) → FaultCause (session_status ended) before (record before { input = input; bench = bench })
+    → (ended ≡ Err end.Bench → Rose before.bench bench) → (ended ≢ Err end.Bench → bench ≡ before.bench) →
+    FaultCause (session_status ended) before (record before { input = input; bench = bench })
 session_faults (Ok done) before input bench input_rose input_same bench_rose bench_same =
     same_counts before input bench (input_same (not_both done end.Input)) (bench_same (not_both done end.Bench))
 session_faults (Err end.Input) before input bench input_rose input_same bench_rose bench_same =

@@ -86,7 +86,8 @@ pub never_fall : (before : FaultCounts) → NeverFall before before
 never_fall before = record { schema = omega arith; table = omega arith; input = omega arith; bench = omega arith }
 
 -- nor where the bench's alone rose
-pub bench_rose : (schema table input bench later spare : ℕ) → bench ≤ later → NeverFall (counts schema table input bench spare) (counts schema table input later spare)
+pub bench_rose : (schema table input bench later spare : ℕ) → bench ≤ later →
+    NeverFall (counts schema table input bench spare) (counts schema table input later spare)
 bench_rose schema table input bench later spare rose = record { schema = omega arith; table = omega arith; input = omega arith; bench = rose }
 
 -- ---- no command was taken
@@ -102,10 +103,26 @@ pub record IsNoStep (status : Status) : Type 0 where
   pub undone : status ≢ Done
 
 pub bad_words_say : IsNoStep BadWords
-bad_words_say = record { own_schema = λ is. cc; own_table = λ is. cc; no_schema = λ is. cc; no_table = λ is. cc; no_input = λ is. cc; no_bench = λ is. cc; undone = λ is. cc }
+bad_words_say = record {
+  own_schema = λ is. cc;
+  own_table = λ is. cc;
+  no_schema = λ is. cc;
+  no_table = λ is. cc;
+  no_input = λ is. cc;
+  no_bench = λ is. cc;
+  undone = λ is. cc;
+}
 
 pub no_memory_says : IsNoStep NoMemory
-no_memory_says = record { own_schema = λ is. cc; own_table = λ is. cc; no_schema = λ is. cc; no_table = λ is. cc; no_input = λ is. cc; no_bench = λ is. cc; undone = λ is. cc }
+no_memory_says = record {
+  own_schema = λ is. cc;
+  own_table = λ is. cc;
+  no_schema = λ is. cc;
+  no_table = λ is. cc;
+  no_input = λ is. cc;
+  no_bench = λ is. cc;
+  undone = λ is. cc;
+}
 
 -- no source failed where the run is done, where the bench failed and where memory was wanting
 pub done_no_source : (which : Which) → Done ≢ SourceFault which
@@ -133,12 +150,78 @@ pub record Unopened (fault : OpenFault) : Type 0 where
   pub undone : open_status fault ≢ Done
 
 pub unopened : (fault : OpenFault) → Unopened fault
-unopened (opening.Schema file.Failed) = record { words = λ command reads. reads; journal = λ command bytes secret. tt; input = λ bytes. refl; own_schema = λ is. cc; own_table = λ is. cc; schema = λ is. cc; table = λ is. cc; no_input = λ is. cc; no_bench = λ is. cc; undone = λ is. cc }
-unopened (opening.Schema file.NoMemory) = record { words = λ command reads. tt; journal = λ command bytes secret. tt; input = λ bytes. tt; own_schema = λ is. cc; own_table = λ is. cc; schema = λ is. cc; table = λ is. cc; no_input = λ is. cc; no_bench = λ is. cc; undone = λ is. cc }
-unopened (opening.Schema (file.Bad f)) = record { words = λ command reads. reads; journal = λ command bytes secret. tt; input = λ bytes. refl; own_schema = λ is. cc; own_table = λ is. cc; schema = λ is. cc; table = λ is. cc; no_input = λ is. cc; no_bench = λ is. cc; undone = λ is. cc }
-unopened (opening.Table file.Failed) = record { words = λ command reads. reads; journal = λ command bytes secret. tt; input = λ bytes. refl; own_schema = λ is. cc; own_table = λ is. cc; schema = λ is. cc; table = λ is. cc; no_input = λ is. cc; no_bench = λ is. cc; undone = λ is. cc }
-unopened (opening.Table file.NoMemory) = record { words = λ command reads. tt; journal = λ command bytes secret. tt; input = λ bytes. tt; own_schema = λ is. cc; own_table = λ is. cc; schema = λ is. cc; table = λ is. cc; no_input = λ is. cc; no_bench = λ is. cc; undone = λ is. cc }
-unopened (opening.Table (file.Bad f)) = record { words = λ command reads. reads; journal = λ command bytes secret. tt; input = λ bytes. refl; own_schema = λ is. cc; own_table = λ is. cc; schema = λ is. cc; table = λ is. cc; no_input = λ is. cc; no_bench = λ is. cc; undone = λ is. cc }
+unopened (opening.Schema file.Failed) = record {
+  words = λ command reads. reads;
+  journal = λ command bytes secret. tt;
+  input = λ bytes. refl;
+  own_schema = λ is. cc;
+  own_table = λ is. cc;
+  schema = λ is. cc;
+  table = λ is. cc;
+  no_input = λ is. cc;
+  no_bench = λ is. cc;
+  undone = λ is. cc;
+}
+unopened (opening.Schema file.NoMemory) = record {
+  words = λ command reads. tt;
+  journal = λ command bytes secret. tt;
+  input = λ bytes. tt;
+  own_schema = λ is. cc;
+  own_table = λ is. cc;
+  schema = λ is. cc;
+  table = λ is. cc;
+  no_input = λ is. cc;
+  no_bench = λ is. cc;
+  undone = λ is. cc;
+}
+unopened (opening.Schema (file.Bad f)) = record {
+  words = λ command reads. reads;
+  journal = λ command bytes secret. tt;
+  input = λ bytes. refl;
+  own_schema = λ is. cc;
+  own_table = λ is. cc;
+  schema = λ is. cc;
+  table = λ is. cc;
+  no_input = λ is. cc;
+  no_bench = λ is. cc;
+  undone = λ is. cc;
+}
+unopened (opening.Table file.Failed) = record {
+  words = λ command reads. reads;
+  journal = λ command bytes secret. tt;
+  input = λ bytes. refl;
+  own_schema = λ is. cc;
+  own_table = λ is. cc;
+  schema = λ is. cc;
+  table = λ is. cc;
+  no_input = λ is. cc;
+  no_bench = λ is. cc;
+  undone = λ is. cc;
+}
+unopened (opening.Table file.NoMemory) = record {
+  words = λ command reads. tt;
+  journal = λ command bytes secret. tt;
+  input = λ bytes. tt;
+  own_schema = λ is. cc;
+  own_table = λ is. cc;
+  schema = λ is. cc;
+  table = λ is. cc;
+  no_input = λ is. cc;
+  no_bench = λ is. cc;
+  undone = λ is. cc;
+}
+unopened (opening.Table (file.Bad f)) = record {
+  words = λ command reads. reads;
+  journal = λ command bytes secret. tt;
+  input = λ bytes. refl;
+  own_schema = λ is. cc;
+  own_table = λ is. cc;
+  schema = λ is. cc;
+  table = λ is. cc;
+  no_input = λ is. cc;
+  no_bench = λ is. cc;
+  undone = λ is. cc;
+}
 
 -- ---- both files were read
 
@@ -157,41 +240,258 @@ pub record PastFiles (status : Status) : Type 1 where
 pub table_read : {X : Type 0} (meaning : List Column → Result X TableFault) (status : Status) (schema : List ℕ) (opened columns : List Column) (meant : X)
     → PastFiles status → schema_of schema ≡ Ok opened → meaning opened ≡ Ok meant → schema_of schema ≡ Ok columns → TableCause status (meaning columns)
 table_read {X} meaning status schema opened columns meant past is means asked =
-    subst (λ (cs : List Column). TableCause status (meaning cs)) (same_ok (schema_of schema) opened columns is asked) (subst (TableCause status) (sym means) (past.table X meant))
+    subst (λ (cs : List Column). TableCause status (meaning cs)) (same_ok (schema_of schema) opened columns is asked)
+    (subst (TableCause status) (sym means) (past.table X meant))
 
 pub started_past : (fault : StartFault) → PastFiles (start_status fault)
-started_past start.NotMade = record { schema = λ columns. refl; table = λ X meant. refl; own_schema = λ is. cc; own_table = λ is. cc; no_schema = λ is. cc; no_table = λ is. cc; before_table = λ P. tt; before_bench = λ P. tt }
-started_past (start.Damaged at) = record { schema = λ columns. refl; table = λ X meant. refl; own_schema = λ is. cc; own_table = λ is. cc; no_schema = λ is. cc; no_table = λ is. cc; before_table = λ P. tt; before_bench = λ P. tt }
-started_past (start.OtherShape kept now) = record { schema = λ columns. refl; table = λ X meant. refl; own_schema = λ is. cc; own_table = λ is. cc; no_schema = λ is. cc; no_table = λ is. cc; before_table = λ P. tt; before_bench = λ P. tt }
-started_past (start.Untrue place kept now) = record { schema = λ columns. refl; table = λ X meant. refl; own_schema = λ is. cc; own_table = λ is. cc; no_schema = λ is. cc; no_table = λ is. cc; before_table = λ P. tt; before_bench = λ P. tt }
-started_past (start.Illegal place) = record { schema = λ columns. refl; table = λ X meant. refl; own_schema = λ is. cc; own_table = λ is. cc; no_schema = λ is. cc; no_table = λ is. cc; before_table = λ P. tt; before_bench = λ P. tt }
-started_past start.Failed = record { schema = λ columns. refl; table = λ X meant. refl; own_schema = λ is. cc; own_table = λ is. cc; no_schema = λ is. cc; no_table = λ is. cc; before_table = λ P. tt; before_bench = λ P. tt }
-started_past start.NoMemory = record { schema = λ columns. tt; table = λ X meant. tt; own_schema = λ is. cc; own_table = λ is. cc; no_schema = λ is. cc; no_table = λ is. cc; before_table = λ P. tt; before_bench = λ P. tt }
+started_past start.NotMade = record {
+  schema = λ columns. refl;
+  table = λ X meant. refl;
+  own_schema = λ is. cc;
+  own_table = λ is. cc;
+  no_schema = λ is. cc;
+  no_table = λ is. cc;
+  before_table = λ P. tt;
+  before_bench = λ P. tt;
+}
+started_past (start.Damaged at) = record {
+  schema = λ columns. refl;
+  table = λ X meant. refl;
+  own_schema = λ is. cc;
+  own_table = λ is. cc;
+  no_schema = λ is. cc;
+  no_table = λ is. cc;
+  before_table = λ P. tt;
+  before_bench = λ P. tt;
+}
+started_past (start.OtherShape kept now) = record {
+  schema = λ columns. refl;
+  table = λ X meant. refl;
+  own_schema = λ is. cc;
+  own_table = λ is. cc;
+  no_schema = λ is. cc;
+  no_table = λ is. cc;
+  before_table = λ P. tt;
+  before_bench = λ P. tt;
+}
+started_past (start.Untrue place kept now) = record {
+  schema = λ columns. refl;
+  table = λ X meant. refl;
+  own_schema = λ is. cc;
+  own_table = λ is. cc;
+  no_schema = λ is. cc;
+  no_table = λ is. cc;
+  before_table = λ P. tt;
+  before_bench = λ P. tt;
+}
+started_past (start.Illegal place) = record {
+  schema = λ columns. refl;
+  table = λ X meant. refl;
+  own_schema = λ is. cc;
+  own_table = λ is. cc;
+  no_schema = λ is. cc;
+  no_table = λ is. cc;
+  before_table = λ P. tt;
+  before_bench = λ P. tt;
+}
+started_past start.Failed = record {
+  schema = λ columns. refl;
+  table = λ X meant. refl;
+  own_schema = λ is. cc;
+  own_table = λ is. cc;
+  no_schema = λ is. cc;
+  no_table = λ is. cc;
+  before_table = λ P. tt;
+  before_bench = λ P. tt;
+}
+started_past start.NoMemory = record {
+  schema = λ columns. tt;
+  table = λ X meant. tt;
+  own_schema = λ is. cc;
+  own_table = λ is. cc;
+  no_schema = λ is. cc;
+  no_table = λ is. cc;
+  before_table = λ P. tt;
+  before_bench = λ P. tt;
+}
 
 pub made : {X : Type 0} (ended : Result X MakeFault) → PastFiles (making_status ended)
-made (Ok done) = record { schema = λ columns. refl; table = λ X meant. refl; own_schema = λ is. cc; own_table = λ is. cc; no_schema = λ is. cc; no_table = λ is. cc; before_table = λ P. tt; before_bench = λ P. tt }
-made (Err make.AlreadyThere) = record { schema = λ columns. refl; table = λ X meant. refl; own_schema = λ is. cc; own_table = λ is. cc; no_schema = λ is. cc; no_table = λ is. cc; before_table = λ P. tt; before_bench = λ P. tt }
-made (Err make.Failed) = record { schema = λ columns. refl; table = λ X meant. refl; own_schema = λ is. cc; own_table = λ is. cc; no_schema = λ is. cc; no_table = λ is. cc; before_table = λ P. tt; before_bench = λ P. tt }
+made (Ok done) = record {
+  schema = λ columns. refl;
+  table = λ X meant. refl;
+  own_schema = λ is. cc;
+  own_table = λ is. cc;
+  no_schema = λ is. cc;
+  no_table = λ is. cc;
+  before_table = λ P. tt;
+  before_bench = λ P. tt;
+}
+made (Err make.AlreadyThere) = record {
+  schema = λ columns. refl;
+  table = λ X meant. refl;
+  own_schema = λ is. cc;
+  own_table = λ is. cc;
+  no_schema = λ is. cc;
+  no_table = λ is. cc;
+  before_table = λ P. tt;
+  before_bench = λ P. tt;
+}
+made (Err make.Failed) = record {
+  schema = λ columns. refl;
+  table = λ X meant. refl;
+  own_schema = λ is. cc;
+  own_table = λ is. cc;
+  no_schema = λ is. cc;
+  no_table = λ is. cc;
+  before_table = λ P. tt;
+  before_bench = λ P. tt;
+}
 
 pub answered : {X : Type 0} (ended : Result X EndFault) → PastFiles (session_status ended)
-answered (Ok done) = record { schema = λ columns. refl; table = λ X meant. refl; own_schema = λ is. cc; own_table = λ is. cc; no_schema = λ is. cc; no_table = λ is. cc; before_table = λ P. tt; before_bench = λ P. tt }
-answered (Err end.Input) = record { schema = λ columns. refl; table = λ X meant. refl; own_schema = λ is. cc; own_table = λ is. cc; no_schema = λ is. cc; no_table = λ is. cc; before_table = λ P. tt; before_bench = λ P. tt }
-answered (Err end.Bench) = record { schema = λ columns. refl; table = λ X meant. refl; own_schema = λ is. cc; own_table = λ is. cc; no_schema = λ is. cc; no_table = λ is. cc; before_table = λ P. tt; before_bench = λ P. tt }
-answered (Err end.Limit) = record { schema = λ columns. refl; table = λ X meant. refl; own_schema = λ is. cc; own_table = λ is. cc; no_schema = λ is. cc; no_table = λ is. cc; before_table = λ P. tt; before_bench = λ P. tt }
-answered (Err end.NoMemory) = record { schema = λ columns. tt; table = λ X meant. tt; own_schema = λ is. cc; own_table = λ is. cc; no_schema = λ is. cc; no_table = λ is. cc; before_table = λ P. tt; before_bench = λ P. tt }
+answered (Ok done) = record {
+  schema = λ columns. refl;
+  table = λ X meant. refl;
+  own_schema = λ is. cc;
+  own_table = λ is. cc;
+  no_schema = λ is. cc;
+  no_table = λ is. cc;
+  before_table = λ P. tt;
+  before_bench = λ P. tt;
+}
+answered (Err end.Input) = record {
+  schema = λ columns. refl;
+  table = λ X meant. refl;
+  own_schema = λ is. cc;
+  own_table = λ is. cc;
+  no_schema = λ is. cc;
+  no_table = λ is. cc;
+  before_table = λ P. tt;
+  before_bench = λ P. tt;
+}
+answered (Err end.Bench) = record {
+  schema = λ columns. refl;
+  table = λ X meant. refl;
+  own_schema = λ is. cc;
+  own_table = λ is. cc;
+  no_schema = λ is. cc;
+  no_table = λ is. cc;
+  before_table = λ P. tt;
+  before_bench = λ P. tt;
+}
+answered (Err end.Limit) = record {
+  schema = λ columns. refl;
+  table = λ X meant. refl;
+  own_schema = λ is. cc;
+  own_table = λ is. cc;
+  no_schema = λ is. cc;
+  no_table = λ is. cc;
+  before_table = λ P. tt;
+  before_bench = λ P. tt;
+}
+answered (Err end.NoMemory) = record {
+  schema = λ columns. tt;
+  table = λ X meant. tt;
+  own_schema = λ is. cc;
+  own_table = λ is. cc;
+  no_schema = λ is. cc;
+  no_table = λ is. cc;
+  before_table = λ P. tt;
+  before_bench = λ P. tt;
+}
 
 pub reported : {X : Type 0} (ended : Result X AuditFault) → PastFiles (audit_status ended)
-reported (Ok done) = record { schema = λ columns. refl; table = λ X meant. refl; own_schema = λ is. cc; own_table = λ is. cc; no_schema = λ is. cc; no_table = λ is. cc; before_table = λ P. tt; before_bench = λ P. tt }
-reported (Err report.Failed) = record { schema = λ columns. refl; table = λ X meant. refl; own_schema = λ is. cc; own_table = λ is. cc; no_schema = λ is. cc; no_table = λ is. cc; before_table = λ P. tt; before_bench = λ P. tt }
-reported (Err report.NoMemory) = record { schema = λ columns. tt; table = λ X meant. tt; own_schema = λ is. cc; own_table = λ is. cc; no_schema = λ is. cc; no_table = λ is. cc; before_table = λ P. tt; before_bench = λ P. tt }
+reported (Ok done) = record {
+  schema = λ columns. refl;
+  table = λ X meant. refl;
+  own_schema = λ is. cc;
+  own_table = λ is. cc;
+  no_schema = λ is. cc;
+  no_table = λ is. cc;
+  before_table = λ P. tt;
+  before_bench = λ P. tt;
+}
+reported (Err report.Failed) = record {
+  schema = λ columns. refl;
+  table = λ X meant. refl;
+  own_schema = λ is. cc;
+  own_table = λ is. cc;
+  no_schema = λ is. cc;
+  no_table = λ is. cc;
+  before_table = λ P. tt;
+  before_bench = λ P. tt;
+}
+reported (Err report.NoMemory) = record {
+  schema = λ columns. tt;
+  table = λ X meant. tt;
+  own_schema = λ is. cc;
+  own_table = λ is. cc;
+  no_schema = λ is. cc;
+  no_table = λ is. cc;
+  before_table = λ P. tt;
+  before_bench = λ P. tt;
+}
 
 pub simulated : {X : Type 0} (ended : Result X SimulationFault) → PastFiles (simulation_status ended)
-simulated (Ok done) = record { schema = λ columns. refl; table = λ X meant. refl; own_schema = λ is. cc; own_table = λ is. cc; no_schema = λ is. cc; no_table = λ is. cc; before_table = λ P. tt; before_bench = λ P. tt }
-simulated (Err verdict.Input) = record { schema = λ columns. refl; table = λ X meant. refl; own_schema = λ is. cc; own_table = λ is. cc; no_schema = λ is. cc; no_table = λ is. cc; before_table = λ P. tt; before_bench = λ P. tt }
-simulated (Err verdict.Bench) = record { schema = λ columns. refl; table = λ X meant. refl; own_schema = λ is. cc; own_table = λ is. cc; no_schema = λ is. cc; no_table = λ is. cc; before_table = λ P. tt; before_bench = λ P. tt }
-simulated (Err verdict.Limit) = record { schema = λ columns. refl; table = λ X meant. refl; own_schema = λ is. cc; own_table = λ is. cc; no_schema = λ is. cc; no_table = λ is. cc; before_table = λ P. tt; before_bench = λ P. tt }
-simulated (Err (verdict.Disagrees line due)) = record { schema = λ columns. refl; table = λ X meant. refl; own_schema = λ is. cc; own_table = λ is. cc; no_schema = λ is. cc; no_table = λ is. cc; before_table = λ P. tt; before_bench = λ P. tt }
-simulated (Err verdict.NoMemory) = record { schema = λ columns. tt; table = λ X meant. tt; own_schema = λ is. cc; own_table = λ is. cc; no_schema = λ is. cc; no_table = λ is. cc; before_table = λ P. tt; before_bench = λ P. tt }
+simulated (Ok done) = record {
+  schema = λ columns. refl;
+  table = λ X meant. refl;
+  own_schema = λ is. cc;
+  own_table = λ is. cc;
+  no_schema = λ is. cc;
+  no_table = λ is. cc;
+  before_table = λ P. tt;
+  before_bench = λ P. tt;
+}
+simulated (Err verdict.Input) = record {
+  schema = λ columns. refl;
+  table = λ X meant. refl;
+  own_schema = λ is. cc;
+  own_table = λ is. cc;
+  no_schema = λ is. cc;
+  no_table = λ is. cc;
+  before_table = λ P. tt;
+  before_bench = λ P. tt;
+}
+simulated (Err verdict.Bench) = record {
+  schema = λ columns. refl;
+  table = λ X meant. refl;
+  own_schema = λ is. cc;
+  own_table = λ is. cc;
+  no_schema = λ is. cc;
+  no_table = λ is. cc;
+  before_table = λ P. tt;
+  before_bench = λ P. tt;
+}
+simulated (Err verdict.Limit) = record {
+  schema = λ columns. refl;
+  table = λ X meant. refl;
+  own_schema = λ is. cc;
+  own_table = λ is. cc;
+  no_schema = λ is. cc;
+  no_table = λ is. cc;
+  before_table = λ P. tt;
+  before_bench = λ P. tt;
+}
+simulated (Err (verdict.Disagrees line due)) = record {
+  schema = λ columns. refl;
+  table = λ X meant. refl;
+  own_schema = λ is. cc;
+  own_table = λ is. cc;
+  no_schema = λ is. cc;
+  no_table = λ is. cc;
+  before_table = λ P. tt;
+  before_bench = λ P. tt;
+}
+simulated (Err verdict.NoMemory) = record {
+  schema = λ columns. tt;
+  table = λ X meant. tt;
+  own_schema = λ is. cc;
+  own_table = λ is. cc;
+  no_schema = λ is. cc;
+  no_table = λ is. cc;
+  before_table = λ P. tt;
+  before_bench = λ P. tt;
+}
 
 -- ---- the words
 
@@ -335,7 +635,8 @@ simulation_at_lines P (Err verdict.Limit) = tt
 simulation_at_lines P (Err (verdict.Disagrees line due)) = tt
 simulation_at_lines P (Err verdict.NoMemory) = tt
 
-pub simulation_file : {X : Type 0} (ended : Result X SimulationFault) (bytes : List ℕ) (secret : SecretView) → FileCause (simulation_status ended) Simulate bytes secret
+pub simulation_file : {X : Type 0} (ended : Result X SimulationFault) (bytes : List ℕ) (secret : SecretView) →
+    FileCause (simulation_status ended) Simulate bytes secret
 simulation_file (Ok done) bytes secret = tt
 simulation_file (Err verdict.Input) bytes secret = tt
 simulation_file (Err verdict.Bench) bytes secret = tt

@@ -93,4 +93,10 @@ wants_not_failed is = cc
 
 -- what was read before a read that failed is no more than may be
 pub read_within : (most : ℕ) (before bytes now after : List ℕ) → before ≡ bytes ++ now → after ≡ now → length bytes ≤ most → length before ≤ most + length after
-read_within most before bytes now after is same few = omega (arith, few, ap (λ (l : List ℕ). length l) is, ap (λ (l : List ℕ). length l) same, length-append bytes now)
+read_within most before bytes now after is same few = omega (
+  arith,
+  few,
+  ap (λ (l : List ℕ). length l) is,
+  ap (λ (l : List ℕ). length l) same,
+  length-append bytes now,
+)

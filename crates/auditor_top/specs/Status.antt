@@ -87,7 +87,8 @@ status_text (BadSchema fault) = codes "schema: fault " ++ decimal (schema.fault_
 status_text (BadTable fault) = codes "table: fault " ++ decimal (table.fault_number fault) ++ place_text fault
 status_text (Damaged at) = codes "journal damaged at byte " ++ decimal at
 status_text (OtherShape kept now) = codes "journal is of another table: rows " ++ decimal kept.rows ++ codes ", now " ++ decimal now.rows
-status_text (Untrue place kept now) = codes "record " ++ (decimal place ++ (codes " holds " ++ (signed_decimal kept ++ (codes ", table gives " ++ signed_decimal now))))
+status_text (Untrue place kept now) = codes "record " ++ (decimal place ++
+    (codes " holds " ++ (signed_decimal kept ++ (codes ", table gives " ++ signed_decimal now))))
 status_text (Illegal place) = codes "record " ++ decimal place ++ codes " should not have been released"
 status_text (Disagrees line due) = codes "line " ++ (decimal line ++ (codes " disagrees, due " ++ word_of due))
 status_text other = words_of other

@@ -66,8 +66,22 @@ written_grows pieces sent piece at all kept =
 -- a call without a piece joins the record
 pub record_grows : (pieces sent : List ℕ) (all now : List Past) (p : Past) (most_calls most_written most_sent : ℕ) (log : LogContents)
     → now ≡ all ++ p ∷ []
-    → record { calls = map (call_of pieces sent) all; written = length pieces; sent = sent; most_calls = most_calls; most_written = most_written; most_sent = most_sent } ≡ log
-    → record { calls = map (call_of pieces sent) now; written = length pieces; sent = sent; most_calls = most_calls; most_written = most_written; most_sent = most_sent }
+    → record {
+      calls = map (call_of pieces sent) all;
+      written = length pieces;
+      sent = sent;
+      most_calls = most_calls;
+      most_written = most_written;
+      most_sent = most_sent;
+    } ≡ log
+    → record {
+      calls = map (call_of pieces sent) now;
+      written = length pieces;
+      sent = sent;
+      most_calls = most_calls;
+      most_written = most_written;
+      most_sent = most_sent;
+    }
     ≡ record log { calls = log.calls ++ call_of pieces sent p ∷ [] }
 record_grows pieces sent all now p most_calls most_written most_sent log joined is =
     ap (λ calls. record { calls = calls; written = length pieces; sent = sent; most_calls = most_calls; most_written = most_written; most_sent = most_sent })

@@ -26,12 +26,24 @@ pub record Steps (b : Inside) (call : Call) (disk : DiskContents) (log : LogCont
 -- a bench with another disk and log, other counts, and another answer of its last call
 abbrev pub moved : Inside → DiskContents → LogContents → ℕ → ℕ → Bool → Inside
 moved b disk log calls faults last_failed =
-    record { alloc = b.alloc; first = b.first; disk = disk; log = log; failing = b.failing; stop = b.stop; room = b.room; calls = calls; faults = faults; last_failed = last_failed }
+    record {
+      alloc = b.alloc;
+      first = b.first;
+      disk = disk;
+      log = log;
+      failing = b.failing;
+      stop = b.stop;
+      room = b.room;
+      calls = calls;
+      faults = faults;
+      last_failed = last_failed;
+    }
 
 pub tied_step : (b : Inside) (call : Call) (disk : DiskContents) (log : LogContents) (calls faults : ℕ) (last_failed : Bool) → IsTied b →
     Steps b call disk log calls → IsTied (moved b disk log calls faults last_failed)
 tied_step b call disk log calls faults last_failed tied step =
-    let now : after_all (start b.first.items) log.calls ≡ after (state_in b) call = ap (after_all (start b.first.items)) step.calls_are ∙ after_all-push (start b.first.items) b.log.calls call in
+    let now : after_all (start b.first.items) log.calls ≡ after (state_in b) call = ap (after_all (start b.first.items)) step.calls_are
+    ∙ after_all-push (start b.first.items) b.log.calls call in
     record {
       file = step.file ∙ ap (λ (s : State). s.file) (sym now);
       stable = step.stable ∙ ap (λ (s : State). s.stable) (sym now);
@@ -50,5 +62,10 @@ tied_step b call disk log calls faults last_failed tied step =
 -- a write makes the file as long as it reaches
 pub length-written : (file : List ℕ) (at : ℕ) (piece : List ℕ) → at ≤ length file → length (written file at piece) ≡ max (length file) (at + length piece)
 length-written file at piece inside =
-    omega
-    (arith, length-append (take at file ++ piece) (drop (at + length piece) file), length-append (take at file) piece, length-take at file, length-drop (at + length piece) file)
+    omega (
+      arith,
+      length-append (take at file ++ piece) (drop (at + length piece) file),
+      length-append (take at file) piece,
+      length-take at file,
+      length-drop (at + length piece) file,
+    )

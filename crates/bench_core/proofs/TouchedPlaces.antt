@@ -21,7 +21,8 @@ pub touched_more : (old : List Bool) (at place : ℕ) (new : List Bool) → at �
 touched_more old at place new le lt so_far = record {
   flags = λ k. elim (cases_eq k place) [
     | inl e ↦ ap (λ j. get_or (set new place true) j false) e ∙ get_or-set_same new place true false lt
-        ∙ sym (ap (λ j. is_dirty old j || (nat_le at j && nat_lt j (place + 1))) e ∙ ap (λ b. is_dirty old place || b) (this_test at place le) ∙ or_right (is_dirty old place) true refl)
+        ∙ sym (ap (λ j. is_dirty old j || (nat_le at j && nat_lt j (place + 1))) e ∙ ap (λ b. is_dirty old place || b) (this_test at place le)
+        ∙ or_right (is_dirty old place) true refl)
     | inr other ↦ get_or-set_other new place k true false other ∙ so_far.flags k ∙ ap (λ b. is_dirty old k || b) (same_test at place k other)
   ];
   long = length-set new place true ∙ so_far.long;

@@ -46,7 +46,14 @@ pub time_sending : (b : BenchContents) (piece whole : List ℕ) → ((sent : Lis
     (Sending (may_leave (passed b (sending piece))) (sent_of b) whole)
 time_sending b piece whole longer =
     time_passed b (sending piece) (Sending (may_leave (passed b (sending piece))) (sent_of b) whole)
-    (λ image sent in_it. (subst (λ (s : State). Leaves s image) (sym (passed_state b (sending piece))) (record { no_shorter = in_it.0.no_shorter; no_longer = in_it.0.no_longer; same = in_it.0.same }), longer sent in_it.1))
+    (λ image sent in_it. (
+      subst (λ (s : State). Leaves s image) (sym (passed_state b (sending piece))) (record {
+        no_shorter = in_it.0.no_shorter;
+        no_longer = in_it.0.no_longer;
+        same = in_it.0.same;
+      }),
+      longer sent in_it.1,
+    ))
 
 pub same_images : (b : BenchContents) (image : List ℕ) → may_leave (passed b other) image → may_leave b image
 same_images b image left = subst (λ (s : State). Leaves s image) (passed_state b other) left
@@ -72,18 +79,32 @@ follows_write b at piece inside image left =
     let s = state_of b in
     let file = written s.file at piece in
     let now = subst (λ (s : State). Leaves s image) (passed_state b (wrote at piece)) left in
-    let image_left : IsImage s.stable (dirtied s.dirty at (length piece)) file image = record { no_shorter = now.no_shorter; no_longer = now.no_longer; same = now.same } in
-    let grown : length file ≤ max (length s.file) (at + length piece) = omega (arith, length-written s.file at piece inside) in
-    (before_write s at (length piece) file image (always_sound b).long inside grown image_left, was_left s at (length piece) file image (always_sound b).long inside grown image_left, is_torn s at (length piece) file image (always_sound b).long inside grown image_left)
+    let image_left : IsImage s.stable (dirtied s.dirty at (length piece)) file image = record {
+      no_shorter = now.no_shorter;
+      no_longer = now.no_longer;
+      same = now.same;
+    } in
+    let grown : length file ≤ max (length s.file) (at + length piece) = omega (arith, length-written s.file at piece inside) in (
+      before_write s at (length piece) file image (always_sound b).long inside grown image_left,
+      was_left s at (length piece) file image (always_sound b).long inside grown image_left,
+      is_torn s at (length piece) file image (always_sound b).long inside grown image_left,
+    )
 
 pub follows_touch : (b : BenchContents) (at count : ℕ) → at ≤ length (file_of b) →
     Follows (Torn at count) (may_leave b) (may_leave (passed b (unwritten at count)))
 follows_touch b at count inside image left =
     let s = state_of b in
     let now = subst (λ (s : State). Leaves s image) (passed_state b (unwritten at count)) left in
-    let image_left : IsImage s.stable (dirtied s.dirty at count) s.file image = record { no_shorter = now.no_shorter; no_longer = now.no_longer; same = now.same } in
-    let grown : length s.file ≤ max (length s.file) (at + count) = omega arith in
-    (before_write s at count s.file image (always_sound b).long inside grown image_left, was_left s at count s.file image (always_sound b).long inside grown image_left, is_torn s at count s.file image (always_sound b).long inside grown image_left)
+    let image_left : IsImage s.stable (dirtied s.dirty at count) s.file image = record {
+      no_shorter = now.no_shorter;
+      no_longer = now.no_longer;
+      same = now.same;
+    } in
+    let grown : length s.file ≤ max (length s.file) (at + count) = omega arith in (
+      before_write s at count s.file image (always_sound b).long inside grown image_left,
+      was_left s at count s.file image (always_sound b).long inside grown image_left,
+      is_torn s at count s.file image (always_sound b).long inside grown image_left,
+    )
 
 pub follows_nothing : (b : BenchContents) (at count : ℕ) → Follows (Torn at count) (may_leave b) (may_leave b)
 follows_nothing b at count image left = (image, left, torn_same at count image)

@@ -55,7 +55,8 @@ whole_record shape text rest r at is breaks =
     let good : IsGoodRecordByte shape bytes at = record {
       column = λ e. omega (arith, first, is.column, is.column_below);
       no_padding =
-          λ e. let last : get_or text at 0 ≡ get_or (set_in shape.rows text) (set_size shape.rows - 1) 0 = set_last shape text at some_bytes (omega (arith, e)) in omega (arith, same, last, is.set.no_padding);
+          λ e. let last : get_or text at 0 ≡ get_or (set_in shape.rows text) (set_size shape.rows - 1) 0 =
+          set_last shape text at some_bytes (omega (arith, e)) in omega (arith, same, last, is.set.no_padding);
       some = λ e none. is.some (is.set.rows_are ∙ sym (ap (rows_in shape.rows) set_same) ∙ none);
     } in
     elim breaks.stops [
@@ -68,7 +69,8 @@ whole_record shape text rest r at is breaks =
     set_last shape text at some_bytes e =
         let last : 9 + (set_size shape.rows - 1) ≡ at = omega (arith, e, some_bytes) in
         sym
-        (get_or-take (set_size shape.rows) (drop 9 text) (set_size shape.rows - 1) 0 (omega (arith, some_bytes)) ∙ get_or-drop 9 text (set_size shape.rows - 1) 0 ∙ ap (λ k. get_or text k 0) last)
+        (get_or-take (set_size shape.rows) (drop 9 text) (set_size shape.rows - 1) 0 (omega (arith, some_bytes))
+        ∙ get_or-drop 9 text (set_size shape.rows - 1) 0 ∙ ap (λ k. get_or text k 0) last)
 
 -- after fewer records than stand there, none is broken
 whole_records : (shape : Shape) (a b x y : List ℕ) (list others : List Answered) (at : ℕ) → AreRecords shape a list → AreRecords shape b others →
@@ -78,7 +80,8 @@ whole_records shape a b x y (r ∷ list) [] at p q fewer e breaks =
     let parts : p.0 ++ (p.1 ++ x) ≡ y = sym (append_assoc p.0 p.1 x) ∙ ap (λ front. front ++ x) (sym p.2) ∙ e ∙ ap (λ front. front ++ y) q in
     whole_record shape p.0 (p.1 ++ x) r at p.3 (subst (λ l. RecordBreaks shape l at) (sym parts) breaks)
 whole_records shape a b x y (r ∷ list) (s ∷ others) at p q fewer e breaks =
-    let parts : p.0 ++ (p.1 ++ x) ≡ q.0 ++ (q.1 ++ y) = sym (append_assoc p.0 p.1 x) ∙ ap (λ front. front ++ x) (sym p.2) ∙ e ∙ ap (λ front. front ++ y) q.2 ∙ append_assoc q.0 q.1 y in
+    let parts : p.0 ++ (p.1 ++ x) ≡ q.0 ++ (q.1 ++ y) = sym (append_assoc p.0 p.1 x) ∙ ap (λ front. front ++ x) (sym p.2) ∙ e ∙ ap (λ front. front ++ y) q.2
+    ∙ append_assoc q.0 q.1 y in
     let first = same_front p.0 q.0 (p.1 ++ x) (q.1 ++ y) (p.3.long ∙ sym q.3.long) parts in
     whole_records shape p.1 q.1 x y list others at p.4 q.4 (omega arith) first.1 breaks
 
@@ -108,7 +111,8 @@ same_record_breaks shape left bytes a b p q =
     same_place : length p.list ≡ length q.list → p.whole ++ p.part ≡ q.whole ++ q.part → a ≡ b
     same_place as_many behind =
         let same = same_records shape p.whole q.whole p.part q.part p.list q.list as_many p.records q.records behind in
-        let place : p.place ≡ q.place = first_once (IsGoodRecordByte shape p.part) (record_size shape) p.part p.place q.place p.breaks (subst (λ l. RecordBreaks shape l q.place) (sym same.behind) q.breaks) in
+        let place : p.place ≡ q.place = first_once (IsGoodRecordByte shape p.part) (record_size shape) p.part p.place q.place p.breaks
+        (subst (λ l. RecordBreaks shape l q.place) (sym same.behind) q.breaks) in
         p.at_is ∙ ap (λ t. 1 + length t + p.place) same.text ∙ ap (λ k. 1 + length q.whole + k) place ∙ sym q.at_is
 
 not_a_count : (shape : Shape) (left : ℕ) (bytes : List ℕ) (a : ℕ) → CountBreaks left bytes → BreaksInRecord shape left bytes a → ⊥
@@ -161,7 +165,8 @@ behind_once file a b p q =
             let bytes : some.0 ≡ other.0 = tails 1 1 some.0 other.0 (sym some.2 ∙ same.1.behind ∙ other.2) in
             let there : GroupBreaks q.shape (65536 - length (records q.groups)) other.0 some.1 =
             subst (λ l. GroupBreaks q.shape (65536 - length (records q.groups)) l some.1) bytes
-            (subst (λ l. GroupBreaks q.shape (65536 - length l) some.0 some.1) same.1.records_same (subst (λ s. GroupBreaks s (65536 - length (records p.groups)) some.0 some.1) same.0 some.3)) in
+            (subst (λ l. GroupBreaks q.shape (65536 - length l) some.0 some.1) same.1.records_same
+            (subst (λ s. GroupBreaks s (65536 - length (records p.groups)) some.0 some.1) same.0 some.3)) in
             let place = group_once q.shape (65536 - length (records q.groups)) other.0 some.1 other.1 there other.3 in
             some.4 ∙ ap (λ g. g + 1 + some.1) gate ∙ ap (λ k. gate_behind q.groups + 1 + k) place ∙ sym other.4
       ]
@@ -176,7 +181,8 @@ breaks_once file at place (inr p) (inr q) = behind_once file at place p q
 pub whole_or_broken : (file : List ℕ) (shape : Shape) (history : List Answered) (gate at : ℕ) → StandsAt file shape history gate → BreaksAt file at → ⊥
 whole_or_broken file shape history gate at p (inl q) = whole_header file shape p.groups p.behind at p.begins q
 whole_or_broken file shape history gate at p (inr q) =
-    let same = same_begins file shape q.shape p.groups q.groups p.behind q.behind p.begins q.begins (closed_ends shape (length (records p.groups)) p.behind p.ends) (broken_ends file at q) in
+    let same = same_begins file shape q.shape p.groups q.groups p.behind q.behind p.begins q.begins
+    (closed_ends shape (length (records p.groups)) p.behind p.ends) (broken_ends file at q) in
     elim q.breaks [
       | inl none ↦ nothing_here p.ends.gate p.ends.rest (sym p.ends.bytes_are ∙ same.1.behind ∙ none.0)
       | inr some ↦ p.ends.closed (heads p.ends.gate 1 p.ends.rest some.0 (sym p.ends.bytes_are ∙ same.1.behind ∙ some.2))

@@ -107,7 +107,14 @@ breaks_behind_longer front rest at long b =
     let shape = b.shape in
     let groups = b.groups in
     let told = texts_long shape groups b.begins.shaped.valid b.begins.whole in
-    let size : length front ≡ gate_behind groups + length b.behind = omega (arith, ap length b.begins.file_is, b.begins.shaped.eight, length-append shape.kinds (texts groups ++ b.behind), length-append (texts groups) b.behind) in
+    let size : length front ≡ gate_behind groups + length b.behind =
+    omega (
+      arith,
+      ap length b.begins.file_is,
+      b.begins.shaped.eight,
+      length-append shape.kinds (texts groups ++ b.behind),
+      length-append (texts groups) b.behind,
+    ) in
     record {
       shape = shape;
       groups = groups;
@@ -119,7 +126,8 @@ breaks_behind_longer front rest at long b =
           some.0 ++ rest,
           some.1,
           ap (λ l. l ++ rest) some.2,
-          group_breaks_longer shape (65536 - length (records groups)) some.0 rest some.1 b.begins.shaped.valid (omega (arith, long, size, told, ap length some.2, b.begins.few)) some.3,
+          group_breaks_longer shape (65536 - length (records groups)) some.0 rest some.1 b.begins.shaped.valid
+              (omega (arith, long, size, told, ap length some.2, b.begins.few)) some.3,
           some.4,
         )
       ];

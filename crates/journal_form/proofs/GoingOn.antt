@@ -79,7 +79,12 @@ completed good size (suc missing) bytes by_front goes long are =
     ] in
     let rest = completed good size missing (bytes ++ next.0 ∷ []) by_front goes (omega (arith, long, longer)) are_more in
     let joined : (bytes ++ next.0 ∷ []) ++ rest.more ≡ bytes ++ (next.0 ∷ rest.more) = append_assoc bytes (next.0 ∷ []) rest.more in
-    record { more = next.0 ∷ rest.more; long = ap length (sym joined) ∙ rest.long; good_all = subst (AreGood good) joined rest.good_all; small = (next.1, rest.small) }
+    record {
+      more = next.0 ∷ rest.more;
+      long = ap length (sym joined) ∙ rest.long;
+      good_all = subst (AreGood good) joined rest.good_all;
+      small = (next.1, rest.small);
+    }
 
 -- the bytes before the first bad one are good
 record GoodBefore (good : List ℕ → ℕ → Type 0) (bytes : List ℕ) (at : ℕ) : Type 0 where
@@ -94,7 +99,8 @@ good_before good size bytes at by_front breaks =
     record {
       long = size_is;
       are =
-          λ k lt. by_front bytes (take at bytes) k (sym (take-take (k + 1) at bytes (omega (arith, lt, size_is)))) (breaks.before k (omega (arith, lt, size_is)));
+          λ k lt. by_front bytes (take at bytes) k (sym (take-take (k + 1) at bytes (omega (arith, lt, size_is))))
+          (breaks.before k (omega (arith, lt, size_is)));
     }
 
 -- ---- a header
@@ -107,15 +113,38 @@ middle_goes_on : (bytes : List ℕ) → 9 ≤ length bytes → length bytes < 12
     (b : ℕ) × (b < 256) × IsGoodHeaderByte (bytes ++ b ∷ []) (length bytes)
 middle_goes_on bytes from below are =
     let n = length bytes in
-    let high : 10 ≤ n → (b : ℕ) → (get_or (bytes ++ b ∷ []) 9 0 ≡ get_or bytes 9 0) × (get_or bytes 9 0 ≤ 4) = λ more b. (get_or-append bytes (b ∷ []) 0 9 (omega (arith, more)), (are 9 (omega (arith, more))).rows_high refl) in
+    let high : 10 ≤ n → (b : ℕ) → (get_or (bytes ++ b ∷ []) 9 0 ≡ get_or bytes 9 0) × (get_or bytes 9 0 ≤ 4) =
+    λ more b. (get_or-append bytes (b ∷ []) 0 9 (omega (arith, more)), (are 9 (omega (arith, more))).rows_high refl) in
     elim (cases_lt n 10) [
-      | inl nine ↦ (0, omega arith, middle_byte (bytes ++ 0 ∷ []) n from below (λ e. omega (arith, last_byte bytes 0 9 (sym e))) (λ e. absurd (omega (arith, e, nine))) (λ e. absurd (omega (arith, e, nine))))
+      | inl nine ↦ (
+        0,
+        omega arith,
+        middle_byte (bytes ++ 0 ∷ []) n from below (λ e. omega (arith, last_byte bytes 0 9 (sym e)))
+            (λ e. absurd (omega (arith, e, nine))) (λ e. absurd (omega (arith, e, nine))),
+      )
       | inr more ↦ elim (cases_lt n 11) [
         | inl ten ↦ elim (cases_lt 0 (get_or bytes 9 0)) [
-          | inl some ↦ (0, omega arith, middle_byte (bytes ++ 0 ∷ []) n from below (λ e. absurd (omega (arith, e, more))) (λ e. let h = high more 0 in let l = last_byte bytes 0 10 (sym e) in (omega (arith, h.0, l, some), omega (arith, h.0, h.1, l))) (λ e. absurd (omega (arith, e, ten))))
-          | inr none ↦ (1, omega arith, middle_byte (bytes ++ 1 ∷ []) n from below (λ e. absurd (omega (arith, e, more))) (λ e. let h = high more 1 in let l = last_byte bytes 1 10 (sym e) in (omega (arith, h.0, l, none), omega (arith, h.0, l, none))) (λ e. absurd (omega (arith, e, ten))))
+          | inl some ↦ (
+            0,
+            omega arith,
+            middle_byte (bytes ++ 0 ∷ []) n from below (λ e. absurd (omega (arith, e, more)))
+                (λ e. let h = high more 0 in let l = last_byte bytes 0 10 (sym e) in (omega (arith, h.0, l, some), omega (arith, h.0, h.1, l)))
+                (λ e. absurd (omega (arith, e, ten))),
+          )
+          | inr none ↦ (
+            1,
+            omega arith,
+            middle_byte (bytes ++ 1 ∷ []) n from below (λ e. absurd (omega (arith, e, more)))
+                (λ e. let h = high more 1 in let l = last_byte bytes 1 10 (sym e) in (omega (arith, h.0, l, none), omega (arith, h.0, l, none)))
+                (λ e. absurd (omega (arith, e, ten))),
+          )
         ]
-        | inr eleven ↦ (0, omega arith, middle_byte (bytes ++ 0 ∷ []) n from below (λ e. absurd (omega (arith, e, more))) (λ e. absurd (omega (arith, e, eleven))) (λ e. omega (arith, last_byte bytes 0 11 (sym e))))
+        | inr eleven ↦ (
+          0,
+          omega arith,
+          middle_byte (bytes ++ 0 ∷ []) n from below (λ e. absurd (omega (arith, e, more)))
+              (λ e. absurd (omega (arith, e, eleven))) (λ e. omega (arith, last_byte bytes 0 11 (sym e))),
+        )
       ]
     ]
 
@@ -131,7 +160,11 @@ kinds_go_on bytes from =
 
 header_goes_on : GoesOnBelow IsGoodHeaderByte 20
 header_goes_on bytes short are = elim (cases_lt (length bytes) 9) [
-  | inl lt ↦ let b = get_or front (length bytes) 0 in (b, byte_at front (length bytes) front_bytes, front_byte (bytes ++ b ∷ []) (length bytes) lt (last_byte bytes b (length bytes) refl))
+  | inl lt ↦ let b = get_or front (length bytes) 0 in (
+    b,
+    byte_at front (length bytes) front_bytes,
+    front_byte (bytes ++ b ∷ []) (length bytes) lt (last_byte bytes b (length bytes) refl),
+  )
   | inr from ↦ elim (cases_lt (length bytes) 12) [
     | inl below ↦ middle_goes_on bytes from below are
     | inr kinds ↦ kinds_go_on bytes kinds
@@ -157,7 +190,12 @@ header_begins file at small breaks =
           groups = [];
           behind = 0 ∷ [];
           begins =
-              record { shaped = read.0; whole = tt; file_is = sym (append_assoc (take at file) whole.more (0 ∷ [])) ∙ ap (λ l. l ++ 0 ∷ []) read.1; few = omega arith };
+              record {
+                shaped = read.0;
+                whole = tt;
+                file_is = sym (append_assoc (take at file) whole.more (0 ∷ [])) ∙ ap (λ l. l ++ 0 ∷ []) read.1;
+                few = omega arith;
+              };
           ends = record { gate = 0; rest = []; bytes_are = refl; closed = λ e. omega (arith, e) };
           history_is = refl;
           gate_is = refl;
@@ -188,11 +226,20 @@ record_goes_on : (shape : Shape) → 0 < columns shape → 0 < shape.rows → Go
 record_goes_on shape some_column some_row bytes short are =
     let n = length bytes in
     elim (cases_lt (n + 1) (record_size shape)) [
-      | inl before ↦ (0, omega arith, record { column = λ first. omega (arith, last_byte bytes 0 0 (sym first), some_column); no_padding = λ last. absurd (omega (arith, last, before)); some = λ last. absurd (omega (arith, last, before)) })
+      | inl before ↦ (
+        0,
+        omega arith,
+        record {
+          column = λ first. omega (arith, last_byte bytes 0 0 (sym first), some_column);
+          no_padding = λ last. absurd (omega (arith, last, before));
+          some = λ last. absurd (omega (arith, last, before));
+        },
+      )
       | inr end ↦
           let last : n + 1 ≡ record_size shape = omega (arith, end, short) in
           let one : get_or (bytes ++ 1 ∷ []) n 0 ≡ 1 = last_byte bytes 1 n refl in
-          let in_set : get_or (set_in shape.rows (bytes ++ 1 ∷ [])) (set_size shape.rows - 1) 0 ≡ 1 = last_of_set shape.rows n (bytes ++ 1 ∷ []) some_row last ∙ one in (
+          let in_set : get_or (set_in shape.rows (bytes ++ 1 ∷ [])) (set_size shape.rows - 1) 0 ≡ 1 = last_of_set shape.rows n (bytes ++ 1 ∷ []) some_row last
+          ∙ one in (
             1,
             omega arith,
             record {
@@ -217,8 +264,15 @@ record_of shape bytes some_row long are =
       rows_are = refl;
       no_padding = let fits = last.no_padding end in omega (arith, fits, last_of_set n (8 + size) bytes some_row end);
     } in
-    let r : Answered = record { column = get_or bytes 0 0; rows = record { n = n; list = rows_in n set }; answer = cast_signed w64 (from_be_bytes w64 (take 8 (drop 1 bytes))) } in
-    (r, subst (λ t. IsRecord shape t r) (take_all (record_size shape) bytes (omega (arith, long))) (record_read shape bytes r (omega (arith, long)) refl ((are 0 (omega (arith, long))).column refl) refl refl is_set (last.some end)))
+    let r : Answered = record {
+      column = get_or bytes 0 0;
+      rows = record { n = n; list = rows_in n set };
+      answer = cast_signed w64 (from_be_bytes w64 (take 8 (drop 1 bytes)));
+    } in (
+      r,
+      subst (λ t. IsRecord shape t r) (take_all (record_size shape) bytes (omega (arith, long)))
+          (record_read shape bytes r (omega (arith, long)) refl ((are 0 (omega (arith, long))).column refl) refl refl is_set (last.some end)),
+    )
 
 -- so many records, and their bytes
 record SomeRecords (shape : Shape) (count : ℕ) : Type 0 where
@@ -231,10 +285,17 @@ record SomeRecords (shape : Shape) (count : ℕ) : Type 0 where
 some_records : (shape : Shape) → 0 < columns shape → 0 < shape.rows → (count : ℕ) → SomeRecords shape count
 some_records shape some_column some_row zero = record { text = []; list = []; are = refl; as_many = refl; small = tt }
 some_records shape some_column some_row (suc count) =
-    let whole = completed (IsGoodRecordByte shape) (record_size shape) (record_size shape) [] (good_record_byte shape) (record_goes_on shape some_column some_row) (omega arith) (λ k lt. absurd (omega (arith, lt))) in
+    let whole = completed (IsGoodRecordByte shape) (record_size shape) (record_size shape) [] (good_record_byte shape)
+    (record_goes_on shape some_column some_row) (omega arith) (λ k lt. absurd (omega (arith, lt))) in
     let first = record_of shape whole.more some_row whole.long whole.good_all in
     let rest = some_records shape some_column some_row count in
-    record { text = whole.more ++ rest.text; list = first.0 ∷ rest.list; are = (whole.more, rest.text, refl, first.1, rest.are); as_many = omega (arith, rest.as_many); small = bytes_append whole.more rest.text whole.small rest.small }
+    record {
+      text = whole.more ++ rest.text;
+      list = first.0 ∷ rest.list;
+      are = (whole.more, rest.text, refl, first.1, rest.are);
+      as_many = omega (arith, rest.as_many);
+      small = bytes_append whole.more rest.text whole.small rest.small;
+    }
 
 records_append : (shape : Shape) (a b : List ℕ) (xs ys : List Answered) → AreRecords shape a xs → AreRecords shape b ys → AreRecords shape (a ++ b) (xs ++ ys)
 records_append shape a b [] ys none are = subst (λ front. AreRecords shape (front ++ b) ys) (sym none) are
@@ -255,20 +316,30 @@ group_begins : (shape : Shape) (left : ℕ) (bytes : List ℕ) (at : ℕ) → 0 
     BeginsGroup shape left (take at bytes)
 group_begins shape left bytes at some_column some_row room (inl count) =
     let one = some_records shape some_column some_row 1 in
-    let whole : BeginsGroup shape left [] = record { more = 1 ∷ one.text; list = one.list; is = (sym one.as_many, omega arith, omega arith, one.are); few = omega (arith, one.as_many, room); small = (omega arith, one.small) } in
+    let whole : BeginsGroup shape left [] = record {
+      more = 1 ∷ one.text;
+      list = one.list;
+      is = (sym one.as_many, omega arith, omega arith, one.are);
+      few = omega (arith, one.as_many, room);
+      small = (omega arith, one.small);
+    } in
     subst (λ k. BeginsGroup shape left (take k bytes)) (sym count.0) whole
 group_begins shape left bytes at some_column some_row room (inr b) =
     let before = good_before (IsGoodRecordByte shape) (record_size shape) b.part b.place (good_record_byte shape) b.breaks in
     let part = take b.place b.part in
-    let whole = completed (IsGoodRecordByte shape) (record_size shape) (record_size shape - b.place) part (good_record_byte shape) (record_goes_on shape some_column some_row) (omega (arith, before.long, b.breaks.within)) before.are in
+    let whole = completed (IsGoodRecordByte shape) (record_size shape) (record_size shape - b.place) part (good_record_byte shape)
+    (record_goes_on shape some_column some_row) (omega (arith, before.long, b.breaks.within)) before.are in
     let this = record_of shape (part ++ whole.more) some_row whole.long whole.good_all in
     let rest = some_records shape some_column some_row (b.count - length b.list - 1) in
     let list = b.list ++ (this.0 ∷ rest.list) in
     let list_long : length list ≡ b.count = omega (arith, length-append b.list (this.0 ∷ rest.list), rest.as_many, b.fewer) in
     let front = b.count ∷ b.whole in
     let cut : take at bytes ≡ front ++ part = ap (take at) b.bytes_are ∙ cut_behind front b.part b.place at (omega (arith, b.at_is)) in
-    let joined : (front ++ part) ++ (whole.more ++ rest.text) ≡ front ++ ((part ++ whole.more) ++ rest.text) = append_assoc front part (whole.more ++ rest.text) ∙ ap (λ l. front ++ l) (sym (append_assoc part whole.more rest.text)) in
-    let are : AreRecords shape (b.whole ++ ((part ++ whole.more) ++ rest.text)) list = records_append shape b.whole ((part ++ whole.more) ++ rest.text) b.list (this.0 ∷ rest.list) b.records (part ++ whole.more, rest.text, refl, this.1, rest.are) in
+    let joined : (front ++ part) ++ (whole.more ++ rest.text) ≡ front ++ ((part ++ whole.more) ++ rest.text) = append_assoc front part (whole.more ++ rest.text)
+    ∙ ap (λ l. front ++ l) (sym (append_assoc part whole.more rest.text)) in
+    let are : AreRecords shape (b.whole ++ ((part ++ whole.more) ++ rest.text)) list =
+    records_append shape b.whole ((part ++ whole.more) ++ rest.text) b.list (this.0 ∷ rest.list) b.records
+    (part ++ whole.more, rest.text, refl, this.1, rest.are) in
     let group : IsGroup shape (front ++ ((part ++ whole.more) ++ rest.text)) list = (sym list_long, b.good_count.0, b.good_count.1, are) in
     record {
       more = whole.more ++ rest.text;
@@ -314,8 +385,17 @@ closed_behind file shape groups begins = (
 end_begins : (file : List ℕ) (at : ℕ) (b : BreaksBehind file at) → b.behind ≡ [] → at ≡ gate_behind b.groups → BeginsJournal (take at file)
 end_begins file at b none at_is =
     let front = header b.shape in
-    let long : length file ≡ at = omega (arith, ap length b.begins.file_is, length-append front (texts b.groups ++ b.behind), length-append (texts b.groups) b.behind, b.begins.shaped.eight, ap length none, at_is) in
-    let file_is : file ≡ front ++ texts b.groups = b.begins.file_is ∙ ap (λ l. front ++ (texts b.groups ++ l)) none ∙ ap (λ l. front ++ l) (append-nil (texts b.groups)) in
+    let long : length file ≡ at = omega (
+      arith,
+      ap length b.begins.file_is,
+      length-append front (texts b.groups ++ b.behind),
+      length-append (texts b.groups) b.behind,
+      b.begins.shaped.eight,
+      ap length none,
+      at_is,
+    ) in
+    let file_is : file ≡ front ++ texts b.groups = b.begins.file_is ∙ ap (λ l. front ++ (texts b.groups ++ l)) none
+    ∙ ap (λ l. front ++ l) (append-nil (texts b.groups)) in
     record {
       more = 0 ∷ [];
       are_bytes = (omega arith, tt);
@@ -336,14 +416,18 @@ gate_begins : (file : List ℕ) (at : ℕ) (b : BreaksBehind file at) (group : L
 gate_begins file at b group place follow behind_is breaks at_is =
     let front = header b.shape in
     let before = front ++ (texts b.groups ++ 1 ∷ []) in
-    let before_long : length before ≡ 21 + length (texts b.groups) = omega (arith, length-append front (texts b.groups ++ 1 ∷ []), length-append (texts b.groups) (1 ∷ []), b.begins.shaped.eight) in
-    let file_is : file ≡ before ++ group = b.begins.file_is ∙ ap (λ l. front ++ (texts b.groups ++ l)) behind_is ∙ sym (gate_between front (texts b.groups) group) in
-    let begun = group_begins b.shape (most_records - length (records b.groups)) group place follow.0 b.begins.shaped.valid.some_rows (omega (arith, follow.1)) breaks in
+    let before_long : length before ≡ 21 + length (texts b.groups) =
+    omega (arith, length-append front (texts b.groups ++ 1 ∷ []), length-append (texts b.groups) (1 ∷ []), b.begins.shaped.eight) in
+    let file_is : file ≡ before ++ group = b.begins.file_is ∙ ap (λ l. front ++ (texts b.groups ++ l)) behind_is
+    ∙ sym (gate_between front (texts b.groups) group) in
+    let begun = group_begins b.shape (most_records - length (records b.groups)) group place follow.0 b.begins.shaped.valid.some_rows
+    (omega (arith, follow.1)) breaks in
     let part = take place group in
     let cut : take at file ≡ before ++ part = ap (take at) file_is ∙ cut_behind before group place at (omega (arith, at_is, before_long)) in
     let text = part ++ begun.more in
     let last : Written = record { text = text; list = begun.list } in
-    let joined : (before ++ part) ++ (begun.more ++ 0 ∷ []) ≡ before ++ (text ++ 0 ∷ []) = append_assoc before part (begun.more ++ 0 ∷ []) ∙ ap (λ l. before ++ l) (sym (append_assoc part begun.more (0 ∷ []))) in
+    let joined : (before ++ part) ++ (begun.more ++ 0 ∷ []) ≡ before ++ (text ++ 0 ∷ []) = append_assoc before part (begun.more ++ 0 ∷ [])
+    ∙ ap (λ l. before ++ l) (sym (append_assoc part begun.more (0 ∷ []))) in
     record {
       more = begun.more ++ 0 ∷ [];
       are_bytes = bytes_append begun.more (0 ∷ []) begun.small (omega arith, tt);

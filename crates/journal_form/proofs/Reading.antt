@@ -41,7 +41,8 @@ same_records shape a b x y [] [] long p q e =
 same_records shape a b x y [] (s ∷ others) long p q e = absurd (omega arith)
 same_records shape a b x y (r ∷ list) [] long p q e = absurd (omega arith)
 same_records shape a b x y (r ∷ list) (s ∷ others) long p q e =
-    let parts : p.0 ++ (p.1 ++ x) ≡ q.0 ++ (q.1 ++ y) = sym (append_assoc p.0 p.1 x) ∙ ap (λ front. front ++ x) (sym p.2) ∙ e ∙ ap (λ front. front ++ y) q.2 ∙ append_assoc q.0 q.1 y in
+    let parts : p.0 ++ (p.1 ++ x) ≡ q.0 ++ (q.1 ++ y) = sym (append_assoc p.0 p.1 x) ∙ ap (λ front. front ++ x) (sym p.2) ∙ e ∙ ap (λ front. front ++ y) q.2
+    ∙ append_assoc q.0 q.1 y in
     let first = same_front p.0 q.0 (p.1 ++ x) (q.1 ++ y) (p.3.long ∙ sym q.3.long) parts in
     let rest = same_records shape p.1 q.1 x y list others (omega arith) p.4 q.4 first.1 in
     let r_is : r ≡ s = same_record shape q.0 r s (subst (λ t. IsRecord shape t r) first.0 p.3) q.3 in
@@ -105,10 +106,13 @@ same_groups shape before (g ∷ gs) [] x y p q some few ends stops e =
     absurd (stops g.text (texts gs ++ x) g.list p.0 (omega (arith, some, count_more before g gs)) (sym e ∙ texts-cons g gs x))
 same_groups shape before (g ∷ gs) (h ∷ hs) x y p q some few ends stops e =
     let both : 1 ∷ (g.text ++ (texts gs ++ x)) ≡ 1 ∷ (h.text ++ (texts hs ++ y)) = sym (texts-cons g gs x) ∙ e ∙ texts-cons h hs y in
-    let first = same_group shape g.text h.text (texts gs ++ x) (texts hs ++ y) g.list h.list p.0 q.0 (tails 1 1 (g.text ++ (texts gs ++ x)) (h.text ++ (texts hs ++ y)) both) in
+    let first = same_group shape g.text h.text (texts gs ++ x) (texts hs ++ y) g.list h.list p.0 q.0
+    (tails 1 1 (g.text ++ (texts gs ++ x)) (h.text ++ (texts hs ++ y)) both) in
     let at_g = count_more before g gs in
-    let at_h : before + length (records (h ∷ hs)) ≡ (before + length g.list) + length (records hs) = count_more before h hs ∙ ap (λ l. (before + length l) + length (records hs)) (sym first.list_same) in
-    let rest = same_groups shape (before + length g.list) gs hs x y p.1 q.1 (omega (arith, some, at_g)) (omega (arith, few, at_h)) (subst (λ n. NoGroup shape n x) at_g ends) (subst (λ n. NoGroup shape n y) at_h stops) first.behind in
+    let at_h : before + length (records (h ∷ hs)) ≡ (before + length g.list) + length (records hs) = count_more before h hs
+    ∙ ap (λ l. (before + length l) + length (records hs)) (sym first.list_same) in
+    let rest = same_groups shape (before + length g.list) gs hs x y p.1 q.1 (omega (arith, some, at_g)) (omega (arith, few, at_h))
+    (subst (λ n. NoGroup shape n x) at_g ends) (subst (λ n. NoGroup shape n y) at_h stops) first.behind in
     record {
       texts_same =
           flat_map-cons (λ group. 1 ∷ group.text) g gs ∙ ap (λ t. 1 ∷ (t ++ texts gs)) first.text ∙ ap (λ t. 1 ∷ (h.text ++ t)) rest.texts_same
@@ -152,11 +156,13 @@ same_begins file shape other gs hs x y p q ends stops =
     let at_h : length (records hs) ≡ 0 + length (records hs) = omega arith in (
       front.shape_same,
       same_groups other 0 gs hs x y (subst (λ s. AreGroups s gs) front.shape_same p.whole) q.whole (omega (arith, p.few)) (omega (arith, q.few))
-          (subst (λ n. NoGroup other n x) at_g (subst (λ s. NoGroup s (length (records gs)) x) front.shape_same ends)) (subst (λ n. NoGroup other n y) at_h stops) front.behind,
+          (subst (λ n. NoGroup other n x) at_g (subst (λ s. NoGroup s (length (records gs)) x) front.shape_same ends))
+          (subst (λ n. NoGroup other n y) at_h stops) front.behind,
     )
 
 pub reads_once : (file : List ℕ) (shape other : Shape) (history others : List Answered) (gate place : ℕ) → StandsAt file shape history gate →
     StandsAt file other others place → (shape ≡ other) × (history ≡ others) × (gate ≡ place)
 reads_once file shape other history others gate place p q =
-    let same = same_begins file shape other p.groups q.groups p.behind q.behind p.begins q.begins (closed_ends shape (length (records p.groups)) p.behind p.ends) (closed_ends other (length (records q.groups)) q.behind q.ends) in
+    let same = same_begins file shape other p.groups q.groups p.behind q.behind p.begins q.begins
+    (closed_ends shape (length (records p.groups)) p.behind p.ends) (closed_ends other (length (records q.groups)) q.behind q.ends) in
     (same.0, p.history_is ∙ same.1.records_same ∙ sym q.history_is, p.gate_is ∙ ap (λ t. 20 + length t) same.1.texts_same ∙ sym q.gate_is)

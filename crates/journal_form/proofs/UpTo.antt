@@ -23,10 +23,15 @@ good_header_byte a b k e h =
       front = λ below. sym this ∙ h.front below;
       rows_high = λ nine. let high = h.rows_high nine in omega (arith, high, at 9 (omega (arith, nine)));
       rows_low =
-          λ ten. let low = h.rows_low ten in let nine = at 9 (omega (arith, ten)) in let same = at 10 (omega (arith, ten)) in (omega (arith, low.0, nine, same), omega (arith, low.1, nine, same));
+          λ ten. let low = h.rows_low ten in let nine = at 9 (omega (arith, ten)) in let same = at 10 (omega (arith, ten)) in
+          (omega (arith, low.0, nine, same), omega (arith, low.1, nine, same));
       columns = λ eleven. let few = h.columns eleven in omega (arith, few, at 11 (omega (arith, eleven)));
       kind =
-          λ from below. elim (h.kind from (omega (arith, below, at 11 (omega (arith, from))))) [ inl one ↦ inl (sym this ∙ one) | inr two ↦ inr (sym this ∙ two) ];
+          λ from below. elim (h.kind from (omega (arith, below, at 11 (omega (arith, from))))) [
+            | inl one ↦ inl (sym this ∙ one)
+            | inr two ↦
+                inr (sym this ∙ two)
+          ];
       no_kind = λ from. sym this ∙ h.no_kind (omega (arith, from, at 11 (omega (arith, from))));
     }
 
@@ -49,7 +54,8 @@ first_bad_up_to : (good : List ℕ → ℕ → Type 0) (size : ℕ) (a b : List 
     → FirstBad (good a) size a at → FirstBad (good b) size b at
 first_bad_up_to good size a b at judged e inside breaks = record {
   before =
-      λ k lt. judged a b k (sym (take-take (k + 1) (at + 1) a (omega (arith, lt))) ∙ ap (take (k + 1)) e ∙ take-take (k + 1) (at + 1) b (omega (arith, lt))) (breaks.before k lt);
+      λ k lt. judged a b k (sym (take-take (k + 1) (at + 1) a (omega (arith, lt))) ∙ ap (take (k + 1)) e ∙ take-take (k + 1) (at + 1) b (omega (arith, lt)))
+      (breaks.before k lt);
   within = breaks.within;
   stops = elim breaks.stops [
     | inl ended ↦ absurd (omega (arith, ended, inside))
@@ -120,8 +126,10 @@ behind_up_to file more at inside b = elim b.breaks [
         at ≡ 20 + length (texts b.groups) + 1 + place → BreaksBehind (take (at + 1) file ++ more) at
     behind_gate group place behind_is breaks at_is =
         let before = front ++ (texts b.groups ++ 1 ∷ []) in
-        let before_long : length before ≡ 21 + length (texts b.groups) = omega (arith, length-append front (texts b.groups ++ 1 ∷ []), length-append (texts b.groups) (1 ∷ []), b.begins.shaped.eight) in
-        let file_is : file ≡ before ++ group = b.begins.file_is ∙ ap (λ l. front ++ (texts b.groups ++ l)) behind_is ∙ sym (gate_between front (texts b.groups) group) in
+        let before_long : length before ≡ 21 + length (texts b.groups) =
+        omega (arith, length-append front (texts b.groups ++ 1 ∷ []), length-append (texts b.groups) (1 ∷ []), b.begins.shaped.eight) in
+        let file_is : file ≡ before ++ group = b.begins.file_is ∙ ap (λ l. front ++ (texts b.groups ++ l)) behind_is
+        ∙ sym (gate_between front (texts b.groups) group) in
         let within : place < length group = omega (arith, inside, long, ap length behind_is, at_is) in
         record {
           shape = b.shape;
@@ -136,7 +144,13 @@ behind_up_to file more at inside b = elim b.breaks [
             few = b.begins.few;
           };
           breaks =
-              inr (take (place + 1) group ++ more, place, refl, group_breaks_up_to b.shape (most_records - length (records b.groups)) group more place within breaks, at_is);
+              inr (
+                take (place + 1) group ++ more,
+                place,
+                refl,
+                group_breaks_up_to b.shape (most_records - length (records b.groups)) group more place within breaks,
+                at_is,
+              );
         }
 
 pub breaks_up_to : (file more : List ℕ) (at : ℕ) → at < length file → BreaksAt file at → BreaksAt (take (at + 1) file ++ more) at

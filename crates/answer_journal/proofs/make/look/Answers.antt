@@ -100,9 +100,13 @@ returns-then-gate-eq1 g c = record {
   sent = c.read_at.ensures.sent ∙ c.length.ensures.sent;
   crash = λ image left. c.length.ensures.crash image (c.read_at.ensures.crash image left);
   cause =
-      record { later = subst (λ (n : ℕ). n ≤ g.B.Bench.faults c.read_at.new.self)
-      (c.in_ok-length.ensures.cause.steady) c.read_at.ensures.cause.later; failed = tt; steady = c.in_ok-read_at.ensures.cause.steady
-      ∙ c.in_ok-length.ensures.cause.steady };
+      record {
+        later = subst (λ (n : ℕ). n ≤ g.B.Bench.faults c.read_at.new.self)
+            (c.in_ok-length.ensures.cause.steady) c.read_at.ensures.cause.later;
+        failed = tt;
+        steady = c.in_ok-read_at.ensures.cause.steady
+            ∙ c.in_ok-length.ensures.cause.steady;
+      };
   last_call = tt;
 }
 
@@ -122,8 +126,12 @@ returns-else-gate-eq1 g c = record {
   sent = c.read_at.ensures.sent ∙ c.length.ensures.sent;
   crash = λ image left. c.length.ensures.crash image (c.read_at.ensures.crash image left);
   cause =
-      record { later = subst (λ (n : ℕ). n ≤ g.B.Bench.faults c.read_at.new.self)
-      (c.in_ok-length.ensures.cause.steady) c.read_at.ensures.cause.later; failed = tt; steady = c.in_ok-read_at.ensures.cause.steady
-      ∙ c.in_ok-length.ensures.cause.steady };
+      record {
+        later = subst (λ (n : ℕ). n ≤ g.B.Bench.faults c.read_at.new.self)
+            (c.in_ok-length.ensures.cause.steady) c.read_at.ensures.cause.later;
+        failed = tt;
+        steady = c.in_ok-read_at.ensures.cause.steady
+            ∙ c.in_ok-length.ensures.cause.steady;
+      };
   last_call = tt;
 }

@@ -7,13 +7,15 @@ pub returns-in_err-send_reply-clause-moments : goal.returns-in_err-send_reply-cl
 returns-in_err-send_reply-clause-moments g c =
     let e = c.in_err-send_reply.ensures in
     next_moments c.args.replies.now c.loop-reply.reply-index _ c.loop-reply-test.true
-    (get_or_default c.args.replies.now c.loop-reply.reply-index _ _ c.loop-reply-test.true) g.B.Bench c.args.bench.now c.loop-reply.bench c.send_reply.new.bench c.loop-reply.invariant e.file e.crash e.time
+    (get_or_default c.args.replies.now c.loop-reply.reply-index _ _ c.loop-reply-test.true) g.B.Bench c.args.bench.now c.loop-reply.bench c.send_reply.new.bench
+    c.loop-reply.invariant e.file e.crash e.time
 
 pub loop-reply-preserved : goal.loop-reply-preserved
 loop-reply-preserved g c =
     let e = c.in_ok-send_reply.ensures in
     next_sent c.args.replies.now c.loop-reply.reply-index _ c.loop-reply-test.true
-    (get_or_default c.args.replies.now c.loop-reply.reply-index _ _ c.loop-reply-test.true) g.B.Bench c.args.bench.now c.loop-reply.bench c.send_reply.new.bench c.loop-reply.invariant e.file e.crash e.time e.all e.ticks e.cause.steady
+    (get_or_default c.args.replies.now c.loop-reply.reply-index _ _ c.loop-reply-test.true) g.B.Bench c.args.bench.now c.loop-reply.bench c.send_reply.new.bench
+    c.loop-reply.invariant e.file e.crash e.time e.all e.ticks e.cause.steady
 
 pub returns-in_err-send_reply-clause-file : goal.returns-in_err-send_reply-clause-file
 returns-in_err-send_reply-clause-file g c = c.send_reply.ensures.file ∙ c.loop-reply.invariant.file

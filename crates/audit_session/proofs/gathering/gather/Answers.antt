@@ -47,8 +47,15 @@ pub loop-alloc-smaller : goal.loop-alloc-smaller
 loop-alloc-smaller g c =
     let room = c.has_room.ensures.room c.loop-alloc-test.true in
     let many : vec_len c.add.new.self.plans ≡ length c.add.new.self.plans.items = search rules in
-    omega (arith, room, many, c.loop-alloc.invariant.many, ap
-    (λ (l : List Plan). length l) c.in_ok-add-in-Some.ensures.plans, length-append c.loop-alloc.group.plans.items (c.in-Some.plan ∷ []))
+    omega (
+      arith,
+      room,
+      many,
+      c.loop-alloc.invariant.many,
+      ap
+          (λ (l : List Plan). length l) c.in_ok-add-in-Some.ensures.plans,
+      length-append c.loop-alloc.group.plans.items (c.in-Some.plan ∷ []),
+    )
 
 pub next_plan-requires-clause-same : goal.next_plan-requires-clause-same
 next_plan-requires-clause-same g c = c.loop-alloc.invariant.gathering.same
@@ -88,10 +95,12 @@ returns-in_err-plan g c =
       same = c.next_plan.ensures.same;
       taken = λ t. c.next_plan.ensures.taken t ∙ c.loop-alloc.invariant.gathering.taken t;
       within = c.next_plan.ensures.within;
-      once = λ ended.
-          ((c.next_plan.ensures.once (c.loop-alloc.invariant.gathering.once ended)).1, λ is.
-          (c.in_err-plan.ensures.once (c.loop-alloc.invariant.gathering.once ended)).2
-          (same_fault {X = Bool} {Y = Option Plan} c.in_err-plan.field-0.0 end.Input (sym same ∙ is)));
+      once = λ ended. (
+        (c.next_plan.ensures.once (c.loop-alloc.invariant.gathering.once ended)).1,
+        λ is.
+            (c.in_err-plan.ensures.once (c.loop-alloc.invariant.gathering.once ended)).2
+            (same_fault {X = Bool} {Y = Option Plan} c.in_err-plan.field-0.0 end.Input (sym same ∙ is)),
+      );
       later = still_later _ _ _ c.loop-alloc.invariant.gathering.steady c.next_plan.ensures.later;
       steady = λ other.
           c.in_err-plan.ensures.steady (λ is. other (same ∙ same_fault {X = Option Plan} {Y = Bool} c.in_err-plan.field-0.0 end.Input is))
@@ -159,9 +168,11 @@ returns-in_err-add-in-Some g c =
       same = c.next_plan.ensures.same;
       taken = λ t. c.next_plan.ensures.taken t ∙ c.loop-alloc.invariant.gathering.taken t;
       within = c.next_plan.ensures.within;
-      once = λ ended.
-          ((c.next_plan.ensures.once (c.loop-alloc.invariant.gathering.once ended)).1, λ is. absurd
-          (memory_no_input c.from_residual-in_err-add-in-Some.result same is));
+      once = λ ended. (
+        (c.next_plan.ensures.once (c.loop-alloc.invariant.gathering.once ended)).1,
+        λ is. absurd
+            (memory_no_input c.from_residual-in_err-add-in-Some.result same is),
+      );
       later = still_later _ _ _ c.loop-alloc.invariant.gathering.steady c.next_plan.ensures.later;
       steady = λ other. c.in_ok-plan.ensures.steady (λ is. no_refusal _ _ is) ∙ c.loop-alloc.invariant.gathering.steady;
       failed = λ is. absurd (memory_no_input c.from_residual-in_err-add-in-Some.result same is);

@@ -27,9 +27,11 @@ returns-in_ok-plan_line-in-Ok-Line g c = record {
         c.in_ok-plan_line-in-Ok-Line.ensures.served,
         record {
           lines = text new.text ∷ [];
-          planned =
-              (subst (λ (shown : List ℕ). IsPlan c.args.schema.now.columns c.args.index.now
-              (text shown) c.in_ok-plan_line-in-Ok-Line.field-0) c.text.ensures c.in_ok-plan_line-in-Ok-Line.ensures.planned, tt);
+          planned = (
+            subst (λ (shown : List ℕ). IsPlan c.args.schema.now.columns c.args.index.now
+                (text shown) c.in_ok-plan_line-in-Ok-Line.field-0) c.text.ensures c.in_ok-plan_line-in-Ok-Line.ensures.planned,
+            tt,
+          );
           reads =
               λ t. reads_one rest (new.pending ++ left) new.ended (text new.text)
               (takes_text given rest new left (c.in-Ok-Line.ensures.answer t) c.in-Ok-Line.field-0-is)
@@ -64,7 +66,7 @@ returns-in-Ok-Long g c = record {
           lines = long ∷ [];
           planned = (refl, tt);
           reads = λ t. reads_one rest (new.pending ++ left) new.ended long
-          (takes_long given rest new left (c.in-Ok-Long.ensures.answer t) c.in-Ok-Long.field-0-is)
+              (takes_long given rest new left (c.in-Ok-Long.ensures.answer t) c.in-Ok-Long.field-0-is)
               (counts_long given (counted_lines rest) new.text (counted_lines (new.pending ++ left)) (c.in-Ok-Long.ensures.counted t) c.in-Ok-Long.field-0-is);
         },
       );

@@ -127,12 +127,16 @@ returns-in_err-more g c =
           subst (λ (n : ℕ). Rose n (g.P.Source.faults c.gather.new.source)) c.loop-more.invariant.served.source_steady
           (e.failed (same_fault {X = Unit {0}} {Y = Bool} fault end.Input (sym same ∙ is)));
       bench = λ is. absurd (e.others (same_fault {X = Unit {0}} {Y = Bool} fault end.Bench (sym same ∙ is)));
-      last_call =
-          (λ is. e.last_call (same_fault {X = Unit {0}} {Y = Bool} fault end.Input (sym same ∙ is)), λ is. absurd
-          (e.others (same_fault {X = Unit {0}} {Y = Bool} fault end.Bench (sym same ∙ is))));
-      steady =
-          (λ other. e.steady (λ is. other (same ∙ same_fault {X = Bool} {Y = Unit {0}} fault end.Input is))
-          ∙ c.loop-more.invariant.served.source_steady, λ other. c.loop-more.invariant.served.bench_steady);
+      last_call = (
+        λ is. e.last_call (same_fault {X = Unit {0}} {Y = Bool} fault end.Input (sym same ∙ is)),
+        λ is. absurd
+            (e.others (same_fault {X = Unit {0}} {Y = Bool} fault end.Bench (sym same ∙ is))),
+      );
+      steady = (
+        λ other. e.steady (λ is. other (same ∙ same_fault {X = Bool} {Y = Unit {0}} fault end.Input is))
+            ∙ c.loop-more.invariant.served.source_steady,
+        λ other. c.loop-more.invariant.served.bench_steady,
+      );
     }
 
 pub returns-in_err-answer : goal.returns-in_err-answer
@@ -185,15 +189,19 @@ returns-in_err-answer g c =
           (whole_or_last {E = EndFault} g.P.Source.told c.args.batch c.in_ok-more.more plans rest e.whole e.last) u quiet
           (c.in_err-answer.ensures.moments u (c.loop-more.invariant.served.quiet u quiet));
       kept = (c.answer.ensures.secret ∙ c.loop-more.invariant.served.secret, c.answer.ensures.is);
-      later =
-          (still_later _ _ _ c.loop-more.invariant.served.source_steady c.gather.ensures.later, still_later _ _ _ c.loop-more.invariant.served.bench_steady
-          c.answer.ensures.later);
+      later = (
+        still_later _ _ _ c.loop-more.invariant.served.source_steady c.gather.ensures.later,
+        still_later _ _ _ c.loop-more.invariant.served.bench_steady
+            c.answer.ensures.later,
+      );
       input = λ is. absurd (e.others.0 (sym same ∙ is));
       bench = λ is. subst (λ (n : ℕ). Rose n (g.B.Bench.faults c.answer.new.bench)) c.loop-more.invariant.served.bench_steady (e.failed (sym same ∙ is));
       last_call = (λ is. absurd (e.others.0 (sym same ∙ is)), λ is. e.last_call (sym same ∙ is));
-      steady =
-          (λ other. c.in_ok-more.ensures.steady (λ is. no_refusal _ _ is) ∙ c.loop-more.invariant.served.source_steady, λ other. e.steady
-          (λ is. other (same ∙ is)) ∙ c.loop-more.invariant.served.bench_steady);
+      steady = (
+        λ other. c.in_ok-more.ensures.steady (λ is. no_refusal _ _ is) ∙ c.loop-more.invariant.served.source_steady,
+        λ other. e.steady
+            (λ is. other (same ∙ is)) ∙ c.loop-more.invariant.served.bench_steady,
+      );
     }
 
 pub returns-then-not-more : goal.returns-then-not-more
@@ -235,13 +243,17 @@ returns-then-not-more g c =
           (whole_or_last {E = EndFault} g.P.Source.told c.args.batch c.in_ok-more.more plans rest e.whole e.last) u quiet
           (c.in_ok-answer.ensures.moments u (c.loop-more.invariant.served.quiet u quiet));
       kept = (c.in_ok-answer.ensures.secret ∙ c.loop-more.invariant.served.secret, c.in_ok-answer.ensures.is);
-      later =
-          (still_later _ _ _ c.loop-more.invariant.served.source_steady c.gather.ensures.later, still_later _ _ _ c.loop-more.invariant.served.bench_steady
-          c.answer.ensures.later);
+      later = (
+        still_later _ _ _ c.loop-more.invariant.served.source_steady c.gather.ensures.later,
+        still_later _ _ _ c.loop-more.invariant.served.bench_steady
+            c.answer.ensures.later,
+      );
       input = λ is. no_refusal _ _ is;
       bench = λ is. no_refusal _ _ is;
       last_call = (λ is. no_refusal _ _ is, λ is. no_refusal _ _ is);
-      steady =
-          (λ no. c.in_ok-more.ensures.steady (λ is. no_refusal _ _ is) ∙ c.loop-more.invariant.served.source_steady, λ no. c.in_ok-answer.ensures.steady
-          (λ is. no_refusal _ _ is) ∙ c.loop-more.invariant.served.bench_steady);
+      steady = (
+        λ no. c.in_ok-more.ensures.steady (λ is. no_refusal _ _ is) ∙ c.loop-more.invariant.served.source_steady,
+        λ no. c.in_ok-answer.ensures.steady
+            (λ is. no_refusal _ _ is) ∙ c.loop-more.invariant.served.bench_steady,
+      );
     }

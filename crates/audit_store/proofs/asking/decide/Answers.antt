@@ -18,7 +18,11 @@ returns-in_ok-take-in-Answer-clause-legal c =
     let r : Answered = record { column = asked.column; rows = asked.rows; answer = to_z w64 (of_z w64 c.in-Answer.answer) } in
     let outcome = subst (λ (o : Outcome). IsOutcome table history asked o) c.in-Answer.is c.in_ok-answer.ensures.outcome in
     let grown = ap (λ (a : Audited). a.history) c.in_ok-take-in-Answer.ensures.ok ∙ ap (λ (a : Audited). a.history ++ r ∷ []) c.in_ok-answer.ensures.same in
-    let more = c.released_records.ensures table history r c.requires.legal outcome.0 (record { fits = c.requires.fits; true_answer = to_z-of_z in_range ∙ outcome.2; released = outcome.1 }) in
+    let more = c.released_records.ensures table history r c.requires.legal outcome.0 (record {
+      fits = c.requires.fits;
+      true_answer = to_z-of_z in_range ∙ outcome.2;
+      released = outcome.1;
+    }) in
     subst (λ (h : List Answered). IsLegal table h) (sym grown) more
 
 pub returns-in-Full-clause-outcome : goal.returns-in-Full-clause-outcome
@@ -31,13 +35,15 @@ returns-in-Full-clause-history c = ap (λ (a : Audited). a.history) c.in_ok-answ
 -- ---- no record is made
 
 pub returns-in-Denied-clause-outcome : goal.returns-in-Denied-clause-outcome
-returns-in-Denied-clause-outcome c = subst (λ (o : Outcome). IsOutcome (secret_table c.args.secret.now) c.args.core.now.history c.args.asked.now o) c.in-Denied.is c.in_ok-answer.ensures.outcome
+returns-in-Denied-clause-outcome c = subst (λ (o : Outcome). IsOutcome
+    (secret_table c.args.secret.now) c.args.core.now.history c.args.asked.now o) c.in-Denied.is c.in_ok-answer.ensures.outcome
 
 pub returns-in-Denied-clause-history : goal.returns-in-Denied-clause-history
 returns-in-Denied-clause-history c = ap (λ (a : Audited). a.history) c.in_ok-answer.ensures.same ∙ sym (append-nil c.args.core.now.history)
 
 pub returns-in-Denied-clause-legal : goal.returns-in-Denied-clause-legal
-returns-in-Denied-clause-legal c = subst (λ (h : List Answered). IsLegal (secret_table c.args.secret.now) h) (sym (ap (λ (a : Audited). a.history) c.in_ok-answer.ensures.same)) c.requires.legal
+returns-in-Denied-clause-legal c = subst (λ (h : List Answered). IsLegal (secret_table c.args.secret.now) h)
+    (sym (ap (λ (a : Audited). a.history) c.in_ok-answer.ensures.same)) c.requires.legal
 
 pub returns-in-Denied-clause-kept : goal.returns-in-Denied-clause-kept
 returns-in-Denied-clause-kept c = tt
@@ -46,7 +52,8 @@ pub returns-in-Denied-clause-setting : goal.returns-in-Denied-clause-setting
 returns-in-Denied-clause-setting c = ap (λ (a : Audited). a.setting) c.in_ok-answer.ensures.same
 
 pub returns-in-Full-clause-legal : goal.returns-in-Full-clause-legal
-returns-in-Full-clause-legal c = subst (λ (h : List Answered). IsLegal (secret_table c.args.secret.now) h) (sym (ap (λ (a : Audited). a.history) c.in_ok-answer.ensures.same)) c.requires.legal
+returns-in-Full-clause-legal c = subst (λ (h : List Answered). IsLegal (secret_table c.args.secret.now) h)
+    (sym (ap (λ (a : Audited). a.history) c.in_ok-answer.ensures.same)) c.requires.legal
 
 pub returns-in-Full-clause-kept : goal.returns-in-Full-clause-kept
 returns-in-Full-clause-kept c = tt

@@ -25,7 +25,8 @@ loop-question-preserved c =
     record {
       same_setting = c.in_ok-outcome.ensures.setting ∙ i.same_setting;
       so_far =
-          rw (take_more c.args.asked.now place asked c.loop-question-test.true, ← c.question-item.is, c.push_reserved.ensures.items) (outcomes_more table history questions outcomes asked outcome i.so_far decided);
+          rw (take_more c.args.asked.now place asked c.loop-question-test.true, ← c.question-item.is, c.push_reserved.ensures.items)
+          (outcomes_more table history questions outcomes asked outcome i.so_far decided);
       history = rw (take_more c.args.asked.now place asked c.loop-question-test.true, ← c.question-item.is, c.push_reserved.ensures.items)
           (c.in_ok-outcome.ensures.history ∙ ap (λ t. t ++ first) i.history ∙ append_assoc history made first ∙ ap (λ t. history ++ t) (sym more));
       legal = c.in_ok-outcome.ensures.legal;
@@ -51,21 +52,25 @@ returns-in_err-outcome-clause-within c =
 
 pub returns-clause-outcomes : goal.returns-clause-outcomes
 returns-clause-outcomes c =
-    let all : take c.loop-question.question-index c.args.asked.now ≡ c.args.asked.now = take_all c.loop-question.question-index c.args.asked.now (omega (arith, c.loop-question-test.false)) in
+    let all : take c.loop-question.question-index c.args.asked.now ≡ c.args.asked.now =
+    take_all c.loop-question.question-index c.args.asked.now (omega (arith, c.loop-question-test.false)) in
     subst (λ (questions : List Asked). AreOutcomes (secret_table c.args.secret.now) c.args.core.now.history questions c.loop-question.outcomes.items) all
     c.loop-question.invariant.so_far
 
 pub returns-clause-history : goal.returns-clause-history
 returns-clause-history c =
-    let all : take c.loop-question.question-index c.args.asked.now ≡ c.args.asked.now = take_all c.loop-question.question-index c.args.asked.now (omega (arith, c.loop-question-test.false)) in
+    let all : take c.loop-question.question-index c.args.asked.now ≡ c.args.asked.now =
+    take_all c.loop-question.question-index c.args.asked.now (omega (arith, c.loop-question-test.false)) in
     c.loop-question.invariant.history ∙ ap (λ (questions : List Asked). c.args.core.now.history ++ records_made questions c.loop-question.outcomes.items) all
 
 pub returns-clause-begins : goal.returns-clause-begins
 returns-clause-begins c =
-    grown_begins c.args.core.now.history (records_made (take c.loop-question.question-index c.args.asked.now) c.loop-question.outcomes.items) c.loop-question.core.history
+    grown_begins c.args.core.now.history (records_made (take c.loop-question.question-index c.args.asked.now) c.loop-question.outcomes.items)
+    c.loop-question.core.history
     c.loop-question.invariant.history
 
 pub returns-clause-within : goal.returns-clause-within
 returns-clause-within c =
-    grown_within c.args.core.now.history (records_made (take c.loop-question.question-index c.args.asked.now) c.loop-question.outcomes.items) c.loop-question.core.history
+    grown_within c.args.core.now.history (records_made (take c.loop-question.question-index c.args.asked.now) c.loop-question.outcomes.items)
+    c.loop-question.core.history
     c.loop-question.invariant.history

@@ -25,7 +25,8 @@ returns-in-Ok-false-clause-err c =
     let list = c.args.list.now in
     let r = c.index-list-place.result in
     let table = secret_table c.args.secret.now in
-    let denied : IsReleasedAfter table (take c.loop-place.place list) r → ⊥ = rw (i.same_setting, i.so_far) at (c.in-Ok-false.ensures.no (ap said c.in-Ok-false.field-0-test)) in (
+    let denied : IsReleasedAfter table (take c.loop-place.place list) r →
+    ⊥ = rw (i.same_setting, i.so_far) at (c.in-Ok-false.ensures.no (ap said c.in-Ok-false.field-0-test)) in (
       refl,
       record {
         all_true = c.requires.are_true;
@@ -43,11 +44,13 @@ loop-place-preserved c =
     let place = c.loop-place.place in
     let r = c.index-list-place.result in
     let table = secret_table c.args.secret.now in
-    let released : IsReleasedAfter table (take place list) r = rw (i.same_setting, i.so_far) at (c.in-Ok-true.ensures.yes (ap said c.in-Ok-true.field-0-test)) in
+    let released : IsReleasedAfter table (take place list) r =
+    rw (i.same_setting, i.so_far) at (c.in-Ok-true.ensures.yes (ap said c.in-Ok-true.field-0-test)) in
     let inside = c.loop-place-test.true in
     let here : get_or list place r ≡ r = sym c.index-list-place.is in
     let is_true : IsTrue table r = c.requires.are_true place r (slice_get_read list _ place r refl inside c.index-list-place.is) in
-    let fits : FitsShape c.args.secret.now.shape r.column r.rows = subst (λ (x : Answered). FitsShape c.args.secret.now.shape x.column x.rows) here (c.requires.fit place r inside) in
+    let fits : FitsShape c.args.secret.now.shape r.column r.rows =
+    subst (λ (x : Answered). FitsShape c.args.secret.now.shape x.column x.rows) here (c.requires.fit place r inside) in
     record {
       same_setting = ap (λ (a : Audited). a.setting) c.in-Ok-take.ensures.ok ∙ ap (λ (a : Audited). a.setting) c.is_released.ensures.same ∙ i.same_setting;
       so_far =

@@ -15,7 +15,7 @@ invariant_of-result c =
     let shape : c.args.journal.shape ≡ c.args.secret.shape = search rules in
     let all = all_released c.args.secret c.in-Ok.core list c.count-released.result ok.0 (c.count-released.ensures.count ∙ sym c.requires.counted) in (
       subst (λ (h : List Answered). IsStore (store_of c.args.secret h c.args.journal)) (sym all.0)
-      (is_store c.args.secret list c.args.journal c.shape-now.ensures.is ok.1 c.requires.usable shape c.requires.counted),
+          (is_store c.args.secret list c.args.journal c.shape-now.ensures.is ok.1 c.requires.usable shape c.requires.counted),
       all.1,
     )
 

@@ -55,7 +55,9 @@ returns-in-Err g c = record {
       subst (λ (status : Status). FileCause status command.Audit (g.B.Bench.file c.args.bench.now) base.secret) (sym c.from.ensures)
       ((unopened c.in-Err.fault).journal command.Audit (g.B.Bench.file c.args.bench.now) base.secret);
   faults = λ input spare.
-      subst (λ (status : Status). FaultCause status (counts (g.P.Source.faults c.args.schema.now) (g.P.Source.faults c.args.table.now) input (g.B.Bench.faults c.args.bench.now) spare) (counts (g.P.Source.faults c.open_table.new.schema) (g.P.Source.faults c.open_table.new.table) input (g.B.Bench.faults c.args.bench.now) spare)) (sym c.from.ensures)
+      subst (λ (status : Status). FaultCause status (counts (g.P.Source.faults c.args.schema.now) (g.P.Source.faults c.args.table.now) input
+      (g.B.Bench.faults c.args.bench.now) spare) (counts (g.P.Source.faults c.open_table.new.schema) (g.P.Source.faults c.open_table.new.table) input
+      (g.B.Bench.faults c.args.bench.now) spare)) (sym c.from.ensures)
       (c.in-Err.ensures.faults input (g.B.Bench.faults c.args.bench.now) spare);
   schema_last = λ is.
       c.in-Err.ensures.schema_last (ap unopened_by ((unopened c.in-Err.fault).schema (sym c.from.ensures ∙ is)));
@@ -83,7 +85,8 @@ returns-in-Err g c = record {
       let before = counts (g.P.Source.faults c.args.schema.now) (g.P.Source.faults c.args.table.now) input bench spare in
       let after = counts (g.P.Source.faults c.open_table.new.schema) (g.P.Source.faults c.open_table.new.table) input bench spare in
       subst (λ (status : Status). IsDoneOrWants status) (sym c.from.ensures)
-      (unopened_wants c.in-Err.fault base.columns (record { public = base.public; secret = base.secret }) before after schema table (c.in-Err.ensures.faults input bench spare) none);
+      (unopened_wants c.in-Err.fault base.columns (record { public = base.public; secret = base.secret }) before after schema table
+      (c.in-Err.ensures.faults input bench spare) none);
   calls = λ ptold told done base files.
       absurd ((unopened c.in-Err.fault).undone (sym c.from.ensures ∙ done));
   nothing_began = λ ptold told quiet none.
@@ -110,7 +113,9 @@ returns-in-Err-start g c = record {
       subst (SchemaCause c.from-in-Err-start.result) (sym (c.in-Ok.ensures.schema_is ptold)) (past.schema c.in-Ok.opened.schema.columns);
   table_cause = λ ptold columns is.
       let past : PastFiles c.from-in-Err-start.result = subst PastFiles (sym c.from-in-Err-start.ensures) (started_past c.in-Err-start.fault) in
-      table_read (λ (cs : List Column). table_of cs (g.P.Source.left c.args.table.now)) c.from-in-Err-start.result (g.P.Source.left c.args.schema.now) c.in-Ok.opened.schema.columns columns (table_view c.in-Ok.opened.table) past (c.in-Ok.ensures.schema_is ptold) (c.in-Ok.ensures.table_is ptold) is;
+      table_read (λ (cs : List Column). table_of cs (g.P.Source.left c.args.table.now)) c.from-in-Err-start.result
+      (g.P.Source.left c.args.schema.now) c.in-Ok.opened.schema.columns columns (table_view c.in-Ok.opened.table) past (c.in-Ok.ensures.schema_is ptold)
+      (c.in-Ok.ensures.table_is ptold) is;
   own_schema_fault = λ is.
       let past : PastFiles c.from-in-Err-start.result = subst PastFiles (sym c.from-in-Err-start.ensures) (started_past c.in-Err-start.fault) in
       past.own_schema is;
@@ -135,7 +140,8 @@ returns-in-Err-start g c = record {
       let before = counts (g.P.Source.faults c.args.schema.now) (g.P.Source.faults c.args.table.now) input (g.B.Bench.faults c.args.bench.now) spare in
       let later = g.B.Bench.faults c.start.new.bench in
       moved c.from-in-Err-start.result before _ _ _ _ input later spare c.in-Ok.ensures.steady.0 c.in-Ok.ensures.steady.1
-      (subst (λ (status : Status). FaultCause status before (record before { bench = later })) (sym c.from-in-Err-start.ensures) (unstarted_faults c.in-Err-start.fault before later c.in-Err-start.ensures.failed c.in-Err-start.ensures.steady));
+      (subst (λ (status : Status). FaultCause status before (record before { bench = later })) (sym c.from-in-Err-start.ensures)
+      (unstarted_faults c.in-Err-start.fault before later c.in-Err-start.ensures.failed c.in-Err-start.ensures.steady));
   schema_last = λ is.
       let past : PastFiles c.from-in-Err-start.result = subst PastFiles (sym c.from-in-Err-start.ensures) (started_past c.in-Err-start.fault) in
       absurd (past.no_schema is);
@@ -148,27 +154,35 @@ returns-in-Err-start g c = record {
   ends = λ ptold told base history over.
       let opened = c.in-Ok.opened in
       let file = g.B.Bench.file c.args.bench.now in
-      let same = same_base _ _ opened.schema.columns (table_view opened.table) base (c.in-Ok.ensures.schema_is ptold) (c.in-Ok.ensures.table_is ptold) over.files in
+      let same = same_base _ _ opened.schema.columns (table_view opened.table) base (c.in-Ok.ensures.schema_is ptold)
+      (c.in-Ok.ensures.table_is ptold) over.files in
       let secret : base.secret ≡ c.secret_of.result = ap (λ (b : Database). b.secret) same ∙ sym c.secret_of.ensures in
-      let opens = c.in-Err-start.ensures.opens history told (subst (λ (s : SecretView). StandsFor file s.shape history) secret over.stands) (subst (λ (s : SecretView). IsLegal (secret_table s) history) secret over.legal) in
+      let opens = c.in-Err-start.ensures.opens history told (subst (λ (s : SecretView). StandsFor file s.shape history) secret over.stands)
+      (subst (λ (s : SecretView). IsLegal (secret_table s) history) secret over.legal) in
       let before = g.B.Bench.sent c.args.bench.now in
       let after = g.B.Bench.sent c.start.new.bench in
       subst (λ (status : Status). AuditEnds status base history before after) (sym c.from-in-Err-start.ensures)
       (unstarted_report c.in-Err-start.fault base history before after opens c.start.ensures.sent);
   any_moment = λ ptold told quiet base history over.
       weakens g.B.Bench c.args.bench.now c.start.new.bench (IsUntouched (g.B.Bench.file c.args.bench.now) (g.B.Bench.sent c.args.bench.now)) _
-      (λ image sent same. untouched_report (audit_over base history) (subjects base.secret.shape) (g.B.Bench.file c.args.bench.now) (g.B.Bench.sent c.args.bench.now) image sent same)
+      (λ image sent same. untouched_report (audit_over base history) (subjects base.secret.shape) (g.B.Bench.file c.args.bench.now)
+      (g.B.Bench.sent c.args.bench.now) image sent same)
       (c.start.ensures.untouched told quiet);
   complete = λ ptold told base history over input spare none.
       let opened = c.in-Ok.opened in
       let file = g.B.Bench.file c.args.bench.now in
-      let same = same_base _ _ opened.schema.columns (table_view opened.table) base (c.in-Ok.ensures.schema_is ptold) (c.in-Ok.ensures.table_is ptold) over.files in
+      let same = same_base _ _ opened.schema.columns (table_view opened.table) base (c.in-Ok.ensures.schema_is ptold)
+      (c.in-Ok.ensures.table_is ptold) over.files in
       let secret : base.secret ≡ c.secret_of.result = ap (λ (b : Database). b.secret) same ∙ sym c.secret_of.ensures in
-      let opens = c.in-Err-start.ensures.opens history told (subst (λ (s : SecretView). StandsFor file s.shape history) secret over.stands) (subst (λ (s : SecretView). IsLegal (secret_table s) history) secret over.legal) in
+      let opens = c.in-Err-start.ensures.opens history told (subst (λ (s : SecretView). StandsFor file s.shape history) secret over.stands)
+      (subst (λ (s : SecretView). IsLegal (secret_table s) history) secret over.legal) in
       let before = counts (g.P.Source.faults c.args.schema.now) (g.P.Source.faults c.args.table.now) input (g.B.Bench.faults c.args.bench.now) spare in
-      let after = counts (g.P.Source.faults c.open_table.new.schema) (g.P.Source.faults c.open_table.new.table) input (g.B.Bench.faults c.start.new.bench) spare in
+      let after = counts (g.P.Source.faults c.open_table.new.schema) (g.P.Source.faults c.open_table.new.table) input
+      (g.B.Bench.faults c.start.new.bench) spare in
       let later = g.B.Bench.faults c.start.new.bench in
-      let faults : FaultCause (start_status c.in-Err-start.fault) before after = moved (start_status c.in-Err-start.fault) before _ _ _ _ input later spare c.in-Ok.ensures.steady.0 c.in-Ok.ensures.steady.1 (unstarted_faults c.in-Err-start.fault before later c.in-Err-start.ensures.failed c.in-Err-start.ensures.steady) in
+      let faults : FaultCause (start_status c.in-Err-start.fault) before after =
+      moved (start_status c.in-Err-start.fault) before _ _ _ _ input later spare c.in-Ok.ensures.steady.0 c.in-Ok.ensures.steady.1
+      (unstarted_faults c.in-Err-start.fault before later c.in-Err-start.ensures.failed c.in-Err-start.ensures.steady) in
       subst (λ (status : Status). IsDoneOrWants status) (sym c.from-in-Err-start.ensures) (unstarted_wants c.in-Err-start.fault before after opens faults none);
   calls = λ ptold told done base files.
       absurd (start_undone c.in-Err-start.fault (sym c.from-in-Err-start.ensures ∙ done));
@@ -194,7 +208,9 @@ returns g c = record {
       subst (SchemaCause c.ended.result) (sym (c.in-Ok.ensures.schema_is ptold)) (past.schema c.in-Ok.opened.schema.columns);
   table_cause = λ ptold columns is.
       let past : PastFiles c.ended.result = subst PastFiles (sym c.ended.ensures) (reported c.audit.result) in
-      table_read (λ (cs : List Column). table_of cs (g.P.Source.left c.args.table.now)) c.ended.result (g.P.Source.left c.args.schema.now) c.in-Ok.opened.schema.columns columns (table_view c.in-Ok.opened.table) past (c.in-Ok.ensures.schema_is ptold) (c.in-Ok.ensures.table_is ptold) is;
+      table_read (λ (cs : List Column). table_of cs (g.P.Source.left c.args.table.now)) c.ended.result
+      (g.P.Source.left c.args.schema.now) c.in-Ok.opened.schema.columns columns (table_view c.in-Ok.opened.table) past (c.in-Ok.ensures.schema_is ptold)
+      (c.in-Ok.ensures.table_is ptold) is;
   own_schema_fault = λ is.
       let past : PastFiles c.ended.result = subst PastFiles (sym c.ended.ensures) (reported c.audit.result) in
       past.own_schema is;
@@ -222,7 +238,8 @@ returns g c = record {
       let bench : g.B.Bench.faults c.start.new.bench ≡ g.B.Bench.faults c.args.bench.now = c.in-Ok-start.ensures.steady (not_both _ _) in
       moved c.ended.result before _ _ _ _ input later spare c.in-Ok.ensures.steady.0 c.in-Ok.ensures.steady.1
       (subst (λ (status : Status). FaultCause status before (record before { bench = later })) (sym c.ended.ensures)
-      (report_faults c.audit.result before later (λ is. subst (λ (n : ℕ). Rose n later) bench (c.audit.ensures.failed is)) (λ other. c.audit.ensures.steady other ∙ bench)));
+      (report_faults c.audit.result before later (λ is. subst (λ (n : ℕ). Rose n later) bench (c.audit.ensures.failed is))
+      (λ other. c.audit.ensures.steady other ∙ bench)));
   schema_last = λ is.
       let past : PastFiles c.ended.result = subst PastFiles (sym c.ended.ensures) (reported c.audit.result) in
       absurd (past.no_schema is);
@@ -231,51 +248,75 @@ returns g c = record {
       absurd (past.no_table is);
   bench_last = λ is.
       c.audit.ensures.last_call (report_bench c.audit.result (sym c.ended.ensures ∙ is));
-  later = λ input spare. record { schema = c.in-Ok.ensures.later.0; table = c.in-Ok.ensures.later.1; input = stays _; bench = later_still _ _ _ c.start.ensures.later c.audit.ensures.later };
+  later = λ input spare. record {
+    schema = c.in-Ok.ensures.later.0;
+    table = c.in-Ok.ensures.later.1;
+    input = stays _;
+    bench = later_still _ _ _ c.start.ensures.later c.audit.ensures.later;
+  };
   ends = λ ptold told base history over.
       let opened = c.in-Ok.opened in
       let now = c.in-Ok-start.store in
       let file = g.B.Bench.file c.args.bench.now in
       let before = g.B.Bench.sent c.args.bench.now in
-      let same = same_base _ _ opened.schema.columns (table_view opened.table) base (c.in-Ok.ensures.schema_is ptold) (c.in-Ok.ensures.table_is ptold) over.files in
-      let past : now.history ≡ history = (c.one_reading.ensures file now.secret.shape base.secret.shape now.history history now.journal.gate over.stands.0 (c.in-Ok-start.ensures.stands told) over.stands.1).1 in
+      let same = same_base _ _ opened.schema.columns (table_view opened.table) base (c.in-Ok.ensures.schema_is ptold)
+      (c.in-Ok.ensures.table_is ptold) over.files in
+      let past : now.history ≡ history = (c.one_reading.ensures file now.secret.shape base.secret.shape now.history history now.journal.gate over.stands.0
+      (c.in-Ok-start.ensures.stands told) over.stands.1).1 in
       let columns : opened.schema.columns ≡ base.columns = sym (ap (λ (b : Database). b.columns) same) in
       let secret : now.secret ≡ base.secret = c.in-Ok-start.ensures.store.0 ∙ c.secret_of.ensures ∙ sym (ap (λ (b : Database). b.secret) same) in
-      let seen : audit_of opened.schema.columns now ≡ audit_over base history = same_audit opened.schema.columns base.columns now.secret base.secret now.history history columns secret past in
+      let seen : audit_of opened.schema.columns now ≡ audit_over base history =
+      same_audit opened.schema.columns base.columns now.secret base.secret now.history history columns secret past in
       let after = g.B.Bench.sent c.audit.new.bench in
       subst (λ (status : Status). AuditEnds status base history before after) (sym c.ended.ensures)
       (report_ends c.audit.result base history before after
-      (subst (λ (a : Audit). OnOk c.audit.result (Reports a before after)) seen (subst (λ (sent : List ℕ). OnOk c.audit.result (Reports (audit_of opened.schema.columns now) sent after)) c.start.ensures.sent (c.audit.ensures.report told)))
-      (subst (λ (a : Audit). OnErr c.audit.result (ReportsFront a before after)) seen (subst (λ (sent : List ℕ). OnErr c.audit.result (ReportsFront (audit_of opened.schema.columns now) sent after)) c.start.ensures.sent (c.audit.ensures.part told))));
+      (subst (λ (a : Audit). OnOk c.audit.result (Reports a before after)) seen
+      (subst (λ (sent : List ℕ). OnOk c.audit.result (Reports (audit_of opened.schema.columns now) sent after)) c.start.ensures.sent
+      (c.audit.ensures.report told)))
+      (subst (λ (a : Audit). OnErr c.audit.result (ReportsFront a before after)) seen
+      (subst (λ (sent : List ℕ). OnErr c.audit.result (ReportsFront (audit_of opened.schema.columns now) sent after)) c.start.ensures.sent
+      (c.audit.ensures.part told))));
   any_moment = λ ptold told quiet base history over.
       let opened = c.in-Ok.opened in
       let now = c.in-Ok-start.store in
       let file = g.B.Bench.file c.args.bench.now in
       let before = g.B.Bench.sent c.args.bench.now in
-      let same = same_base _ _ opened.schema.columns (table_view opened.table) base (c.in-Ok.ensures.schema_is ptold) (c.in-Ok.ensures.table_is ptold) over.files in
-      let past : now.history ≡ history = (c.one_reading.ensures file now.secret.shape base.secret.shape now.history history now.journal.gate over.stands.0 (c.in-Ok-start.ensures.stands told) over.stands.1).1 in
+      let same = same_base _ _ opened.schema.columns (table_view opened.table) base (c.in-Ok.ensures.schema_is ptold)
+      (c.in-Ok.ensures.table_is ptold) over.files in
+      let past : now.history ≡ history = (c.one_reading.ensures file now.secret.shape base.secret.shape now.history history now.journal.gate over.stands.0
+      (c.in-Ok-start.ensures.stands told) over.stands.1).1 in
       let columns : opened.schema.columns ≡ base.columns = sym (ap (λ (b : Database). b.columns) same) in
       let secret : now.secret ≡ base.secret = c.in-Ok-start.ensures.store.0 ∙ c.secret_of.ensures ∙ sym (ap (λ (b : Database). b.secret) same) in
-      let seen : audit_of opened.schema.columns now ≡ audit_over base history = same_audit opened.schema.columns base.columns now.secret base.secret now.history history columns secret past in
+      let seen : audit_of opened.schema.columns now ≡ audit_over base history =
+      same_audit opened.schema.columns base.columns now.secret base.secret now.history history columns secret past in
       let still : IsQuiet g.B.Bench c.start.new.bench = λ image left. quiet image (c.start.ensures.crash image left) ∙ sym c.start.ensures.file in
       let sending = c.audit.ensures.any_moment told still in
       joins g.B.Bench c.args.bench.now c.start.new.bench c.audit.new.bench (SendsMeanwhile (audit_over base history) (subjects base.secret.shape) file before)
-      (weakens g.B.Bench c.args.bench.now c.start.new.bench (IsUntouched file before) _ (λ image sent same. untouched_report (audit_over base history) (subjects base.secret.shape) file before image sent same) (c.start.ensures.untouched told quiet))
+      (weakens g.B.Bench c.args.bench.now c.start.new.bench (IsUntouched file before) _
+      (λ image sent same. untouched_report (audit_over base history) (subjects base.secret.shape) file before image sent same)
+      (c.start.ensures.untouched told quiet))
       (subst (λ (a : Audit). LeavesOnly g.B.Bench c.start.new.bench c.audit.new.bench (SendsMeanwhile a (subjects a.shape) file before)) seen
-      (subst (λ (f : List ℕ). LeavesOnly g.B.Bench c.start.new.bench c.audit.new.bench (SendsMeanwhile (audit_of opened.schema.columns now) (subjects now.secret.shape) f before)) c.start.ensures.file
-      (subst (λ (sent : List ℕ). LeavesOnly g.B.Bench c.start.new.bench c.audit.new.bench (SendsMeanwhile (audit_of opened.schema.columns now) (subjects now.secret.shape) (g.B.Bench.file c.start.new.bench) sent)) c.start.ensures.sent sending)));
+      (subst (λ (f : List ℕ). LeavesOnly g.B.Bench c.start.new.bench c.audit.new.bench
+      (SendsMeanwhile (audit_of opened.schema.columns now) (subjects now.secret.shape) f before)) c.start.ensures.file
+      (subst (λ (sent : List ℕ). LeavesOnly g.B.Bench c.start.new.bench c.audit.new.bench
+      (SendsMeanwhile (audit_of opened.schema.columns now) (subjects now.secret.shape)
+      (g.B.Bench.file c.start.new.bench) sent)) c.start.ensures.sent sending)));
   complete = λ ptold told base history over input spare none.
       let before = counts (g.P.Source.faults c.args.schema.now) (g.P.Source.faults c.args.table.now) input (g.B.Bench.faults c.args.bench.now) spare in
-      let after = counts (g.P.Source.faults c.open_table.new.schema) (g.P.Source.faults c.open_table.new.table) input (g.B.Bench.faults c.audit.new.bench) spare in
+      let after = counts (g.P.Source.faults c.open_table.new.schema) (g.P.Source.faults c.open_table.new.table) input
+      (g.B.Bench.faults c.audit.new.bench) spare in
       let later = g.B.Bench.faults c.audit.new.bench in
       let bench : g.B.Bench.faults c.start.new.bench ≡ g.B.Bench.faults c.args.bench.now = c.in-Ok-start.ensures.steady (not_both _ _) in
-      let faults : FaultCause (audit_status c.audit.result) before after = moved (audit_status c.audit.result) before _ _ _ _ input later spare c.in-Ok.ensures.steady.0 c.in-Ok.ensures.steady.1
-      (report_faults c.audit.result before later (λ is. subst (λ (n : ℕ). Rose n later) bench (c.audit.ensures.failed is)) (λ other. c.audit.ensures.steady other ∙ bench)) in
+      let faults : FaultCause (audit_status c.audit.result) before after =
+      moved (audit_status c.audit.result) before _ _ _ _ input later spare c.in-Ok.ensures.steady.0 c.in-Ok.ensures.steady.1
+      (report_faults c.audit.result before later (λ is. subst (λ (n : ℕ). Rose n later) bench (c.audit.ensures.failed is))
+      (λ other. c.audit.ensures.steady other ∙ bench)) in
       subst (λ (status : Status). IsDoneOrWants status) (sym c.ended.ensures) (report_wants c.audit.result before after faults none);
   calls = λ ptold told done base files.
       let opened = c.in-Ok.opened in
       let same = same_base _ _ opened.schema.columns (table_view opened.table) base (c.in-Ok.ensures.schema_is ptold) (c.in-Ok.ensures.table_is ptold) files in
-      let secret : c.in-Ok-start.store.secret ≡ base.secret = c.in-Ok-start.ensures.store.0 ∙ c.secret_of.ensures ∙ sym (ap (λ (b : Database). b.secret) same) in
+      let secret : c.in-Ok-start.store.secret ≡ base.secret = c.in-Ok-start.ensures.store.0 ∙ c.secret_of.ensures
+      ∙ sym (ap (λ (b : Database). b.secret) same) in
       report_done c.audit.result (sym c.ended.ensures ∙ done) (c.audit.ensures.ticks told)
       ∙ ap (λ (n : ℕ). n + length (subjects c.in-Ok-start.store.secret.shape)) (c.in-Ok-start.ensures.ticks told)
       ∙ ap (λ (s : SecretView). g.B.Bench.moment c.args.bench.now + 2 + length (subjects s.shape)) secret;
@@ -296,6 +337,7 @@ returns g c = record {
       past.before_table (c.open_table.new.table ≡ c.args.table.now);
   before_bench = let past : PastFiles c.ended.result = subst PastFiles (sym c.ended.ensures) (reported c.audit.result) in
       past.before_bench (c.audit.new.bench ≡ c.args.bench.now);
-  before_lines = subst (λ (status : Status). Before reading_lines status (g.B.Bench.sent c.audit.new.bench ≡ g.B.Bench.sent c.args.bench.now)) (sym c.ended.ensures)
+  before_lines = subst (λ (status : Status). Before reading_lines status (g.B.Bench.sent c.audit.new.bench ≡ g.B.Bench.sent c.args.bench.now))
+      (sym c.ended.ensures)
       (report_at_lines (g.B.Bench.sent c.audit.new.bench ≡ g.B.Bench.sent c.args.bench.now) c.audit.result);
 }

@@ -10,7 +10,8 @@ pub returns-in-Ok : goal.returns-in-Ok
 returns-in-Ok g c = record {
   means = λ told.
       let columns = c.args.schema.now.columns in
-      subst (GivesPublic c.index_in.result) (ap (public_of columns) c.deref.ensures.value ∙ same_public columns _ _ c.in-Ok.bytes.items (c.in-Ok.ensures.bytes told)) c.index_in.ensures.means;
+      subst (GivesPublic c.index_in.result) (ap (public_of columns) c.deref.ensures.value
+      ∙ same_public columns _ _ c.in-Ok.bytes.items (c.in-Ok.ensures.bytes told)) c.index_in.ensures.means;
   fits = c.index_in.ensures.fits;
   own = c.index_in.ensures.own;
   within = λ told is. absurd (c.index_in.ensures.all_read is);

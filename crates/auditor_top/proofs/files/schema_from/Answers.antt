@@ -9,7 +9,8 @@ use Rattle.auditor_top.proofs.files.schema_from.Goals as goal
 pub returns-in-Ok : goal.returns-in-Ok
 returns-in-Ok g c = record {
   means = λ told.
-      subst (GivesSchema c.schema_in.result) (ap schema_of c.deref.ensures.value ∙ same_schema _ _ c.in-Ok.bytes.items (c.in-Ok.ensures.bytes told)) c.schema_in.ensures.means;
+      subst (GivesSchema c.schema_in.result) (ap schema_of c.deref.ensures.value
+      ∙ same_schema _ _ c.in-Ok.bytes.items (c.in-Ok.ensures.bytes told)) c.schema_in.ensures.means;
   own = c.schema_in.ensures.own;
   within = λ told is. absurd (c.schema_in.ensures.all_read is);
   later = c.in-Ok.ensures.later;

@@ -10,7 +10,8 @@ pub returns-in-Ok : goal.returns-in-Ok
 returns-in-Ok g c = record {
   means = λ told.
       let columns = c.args.schema.now.columns in
-      subst (GivesTable c.table_in.result) (ap (table_of columns) c.deref.ensures.value ∙ same_table columns _ _ c.in-Ok.bytes.items (c.in-Ok.ensures.bytes told)) c.table_in.ensures.means;
+      subst (GivesTable c.table_in.result) (ap (table_of columns) c.deref.ensures.value
+      ∙ same_table columns _ _ c.in-Ok.bytes.items (c.in-Ok.ensures.bytes told)) c.table_in.ensures.means;
   fits = c.table_in.ensures.fits;
   shape = c.table_in.ensures.shape;
   own = c.table_in.ensures.own;

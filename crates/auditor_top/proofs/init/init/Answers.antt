@@ -50,7 +50,9 @@ returns-in-Err g c = record {
       subst (λ (status : Status). FileCause status Init (g.B.Bench.file c.args.bench.now) base.secret) (sym c.from.ensures)
       ((unopened c.in-Err.fault).journal Init (g.B.Bench.file c.args.bench.now) base.secret);
   faults = λ input spare.
-      subst (λ (status : Status). FaultCause status (counts (g.P.Source.faults c.args.schema.now) (g.P.Source.faults c.args.table.now) input (g.B.Bench.faults c.args.bench.now) spare) (counts (g.P.Source.faults c.open_table.new.schema) (g.P.Source.faults c.open_table.new.table) input (g.B.Bench.faults c.args.bench.now) spare)) (sym c.from.ensures)
+      subst (λ (status : Status). FaultCause status (counts (g.P.Source.faults c.args.schema.now) (g.P.Source.faults c.args.table.now) input
+      (g.B.Bench.faults c.args.bench.now) spare) (counts (g.P.Source.faults c.open_table.new.schema) (g.P.Source.faults c.open_table.new.table) input
+      (g.B.Bench.faults c.args.bench.now) spare)) (sym c.from.ensures)
       (c.in-Err.ensures.faults input (g.B.Bench.faults c.args.bench.now) spare);
   schema_last = λ is.
       c.in-Err.ensures.schema_last (ap unopened_by ((unopened c.in-Err.fault).schema (sym c.from.ensures ∙ is)));
@@ -66,9 +68,11 @@ returns-in-Err g c = record {
       let schema = subst (SchemaCause (open_status fault)) files.schema_is (c.in-Err.ensures.schema_cause ptold) in
       let table = subst (TableCause (open_status fault)) files.table_is (c.in-Err.ensures.table_cause ptold base.columns files.schema_is) in
       let before = counts (g.P.Source.faults c.args.schema.now) (g.P.Source.faults c.args.table.now) input (g.B.Bench.faults c.args.bench.now) spare in
-      let after = counts (g.P.Source.faults c.open_table.new.schema) (g.P.Source.faults c.open_table.new.table) input (g.B.Bench.faults c.args.bench.now) spare in
+      let after = counts (g.P.Source.faults c.open_table.new.schema) (g.P.Source.faults c.open_table.new.table) input
+      (g.B.Bench.faults c.args.bench.now) spare in
       subst (λ (status : Status). IsDoneOrWants status) (sym c.from.ensures)
-      (unopened_wants fault base.columns (record { public = base.public; secret = base.secret }) before after schema table (c.in-Err.ensures.faults input (g.B.Bench.faults c.args.bench.now) spare) none);
+      (unopened_wants fault base.columns (record { public = base.public; secret = base.secret }) before after schema table
+      (c.in-Err.ensures.faults input (g.B.Bench.faults c.args.bench.now) spare) none);
   quiet = λ told quiet fine. quiet;
   kept = λ told undone fine. refl;
   sent = refl;
@@ -101,7 +105,9 @@ returns g c = record {
       subst (SchemaCause c.ended.result) (sym (c.in-Ok.ensures.schema_is ptold)) (past.schema c.in-Ok.opened.schema.columns);
   table_cause = λ ptold columns is.
       let past : PastFiles c.ended.result = subst PastFiles (sym c.ended.ensures) (made c.make.result) in
-      table_read (λ (cs : List Column). table_of cs (g.P.Source.left c.args.table.now)) c.ended.result (g.P.Source.left c.args.schema.now) c.in-Ok.opened.schema.columns columns (table_view c.in-Ok.opened.table) past (c.in-Ok.ensures.schema_is ptold) (c.in-Ok.ensures.table_is ptold) is;
+      table_read (λ (cs : List Column). table_of cs (g.P.Source.left c.args.table.now)) c.ended.result
+      (g.P.Source.left c.args.schema.now) c.in-Ok.opened.schema.columns columns (table_view c.in-Ok.opened.table) past (c.in-Ok.ensures.schema_is ptold)
+      (c.in-Ok.ensures.table_is ptold) is;
   own_schema_fault = λ is.
       let past : PastFiles c.ended.result = subst PastFiles (sym c.ended.ensures) (made c.make.result) in
       past.own_schema is;
@@ -121,7 +127,8 @@ returns g c = record {
       let before = counts (g.P.Source.faults c.args.schema.now) (g.P.Source.faults c.args.table.now) input (g.B.Bench.faults c.args.bench.now) spare in
       let later = g.B.Bench.faults c.make.new.bench in
       moved c.ended.result before _ _ _ _ input later spare c.in-Ok.ensures.steady.0 c.in-Ok.ensures.steady.1
-      (subst (λ (status : Status). FaultCause status before (record before { bench = later })) (sym c.ended.ensures) (making_faults c.make.result before later c.make.ensures.failed c.make.ensures.steady));
+      (subst (λ (status : Status). FaultCause status before (record before { bench = later })) (sym c.ended.ensures)
+      (making_faults c.make.result before later c.make.ensures.failed c.make.ensures.steady));
   schema_last = λ is.
       let past : PastFiles c.ended.result = subst PastFiles (sym c.ended.ensures) (made c.make.result) in
       absurd (past.no_schema is);
@@ -138,9 +145,12 @@ returns g c = record {
       (20, making_done c.make.result (sym c.ended.ensures ∙ done) (c.make.ensures.done told));
   complete = λ ptold told base files absent input spare none.
       let before = counts (g.P.Source.faults c.args.schema.now) (g.P.Source.faults c.args.table.now) input (g.B.Bench.faults c.args.bench.now) spare in
-      let after = counts (g.P.Source.faults c.open_table.new.schema) (g.P.Source.faults c.open_table.new.table) input (g.B.Bench.faults c.make.new.bench) spare in
+      let after = counts (g.P.Source.faults c.open_table.new.schema) (g.P.Source.faults c.open_table.new.table) input
+      (g.B.Bench.faults c.make.new.bench) spare in
       let later = g.B.Bench.faults c.make.new.bench in
-      let faults : FaultCause (making_status c.make.result) before after = moved (making_status c.make.result) before _ _ _ _ input later spare c.in-Ok.ensures.steady.0 c.in-Ok.ensures.steady.1 (making_faults c.make.result before later c.make.ensures.failed c.make.ensures.steady) in
+      let faults : FaultCause (making_status c.make.result) before after =
+      moved (making_status c.make.result) before _ _ _ _ input later spare c.in-Ok.ensures.steady.0 c.in-Ok.ensures.steady.1
+      (making_faults c.make.result before later c.make.ensures.failed c.make.ensures.steady) in
       subst (λ (status : Status). IsDoneOrWants status) (sym c.ended.ensures)
       (making_wants c.make.result before after (λ there. absent (c.make.ensures.already told there).0) faults none);
   quiet = λ told quiet fine.
@@ -148,7 +158,8 @@ returns g c = record {
       (λ there image left.
       let already = c.make.ensures.already told there in
       let moments = c.make.ensures.untouched told already.0 quiet in
-      (moments.each image (g.B.Bench.sent c.make.new.bench) (g.met.B.Bench.counts_now c.make.new.bench (g.B.Bench.moment c.args.bench.now) image moments.later left)).1
+      (moments.each image (g.B.Bench.sent c.make.new.bench) (g.met.B.Bench.counts_now c.make.new.bench
+      (g.B.Bench.moment c.args.bench.now) image moments.later left)).1
       ∙ sym already.1);
   kept = λ told undone fine.
       (c.make.ensures.already told (there_is c.make.result (λ is. undone (c.ended.ensures ∙ is)) (λ is. fine (c.ended.ensures ∙ is)))).1;

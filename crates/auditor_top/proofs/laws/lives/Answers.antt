@@ -11,7 +11,11 @@ returns-clause-keep c = λ schema table base runs last files life.
     let numbers = c.secrets_of_a_table.ensures.secret base.columns table meant columns files.table_is in
     let is : IsDatabase base = record { schema = columns; shape = c.secrets_of_a_table.ensures.shape base.columns table meant files.table_is } in
     let legal = stays_legal c.one_reading.ensures base c.answered_lines.ensures is [] runs last (nothing_is_legal (secret_table base.secret)) life in
-    record { legal = legal; undisclosed = c.legal_histories.ensures (secret_table base.secret) last (c.lists_of_secrets.ensures base.secret numbers) legal; kept = all_kept c.one_reading.ensures base [] runs last life }
+    record {
+      legal = legal;
+      undisclosed = c.legal_histories.ensures (secret_table base.secret) last (c.lists_of_secrets.ensures base.secret numbers) legal;
+      kept = all_kept c.one_reading.ensures base [] runs last life;
+    }
 
 pub returns-clause-go_on : goal.returns-clause-go_on
 returns-clause-go_on c = λ schema table image base runs last files life stands.

@@ -7,5 +7,11 @@ returns-clause-made c = λ schema table image base files stands. record { files 
 
 pub returns-clause-left : goal.returns-clause-left
 returns-clause-left c = λ schema table file image before sent base batch history lines over stops.
-    let stands = stops.2.stands_for in
-    (_, record { files = over.files; stands = stands; legal = (c.stops_are_legal.ensures schema table before image sent base batch history _ lines over.files over.legal stops stands).0 })
+    let stands = stops.2.stands_for in (
+      _,
+      record {
+        files = over.files;
+        stands = stands;
+        legal = (c.stops_are_legal.ensures schema table before image sent base batch history _ lines over.files over.legal stops stands).0;
+      },
+    )

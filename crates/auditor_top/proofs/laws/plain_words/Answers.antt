@@ -3,4 +3,12 @@ use Rattle.auditor_top.proofs.laws.plain_words.Goals as goal
 
 pub returns : goal.returns
 returns c =
-    record { init = init_is; serve = serve_is; audit = audit_is; simulate = simulate_is; batch = batch_is; batch_in_one_word = batch_in_one_is; drill = drill_is }
+    record {
+      init = init_is;
+      serve = serve_is;
+      audit = audit_is;
+      simulate = simulate_is;
+      batch = batch_is;
+      batch_in_one_word = batch_in_one_is;
+      drill = drill_is;
+    }

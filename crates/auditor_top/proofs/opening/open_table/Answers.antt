@@ -44,13 +44,15 @@ returns-in-Err-table_from g c =
       shape = tt;
       schema_cause = λ told. past_schema fault _ _ (c.in-Ok.ensures.means told);
       table_cause = λ told columns is.
-          table_says fault _ (subst (λ (cs : List Column). IsFaultOf fault (table_of cs bytes)) (same_ok _ _ _ (c.in-Ok.ensures.means told) is) (c.in-Err-table_from.ensures.means told));
+          table_says fault _ (subst (λ (cs : List Column). IsFaultOf fault (table_of cs bytes)) (same_ok _ _ _ (c.in-Ok.ensures.means told) is)
+          (c.in-Err-table_from.ensures.means told));
       own_schema_fault = not_schema _ _;
       own_table_fault = λ is. c.in-Err-table_from.ensures.own (same_table_fault _ _ is);
       schema_within = λ told is. absurd (not_schema _ _ is);
       table_within = λ told is. c.in-Err-table_from.ensures.within told (same_table_fault _ _ is);
       faults = λ input bench spare.
-          table_faults fault _ _ _ _ input bench spare (c.in-Ok.ensures.steady (not_both _ _)) c.in-Err-table_from.ensures.failed c.in-Err-table_from.ensures.steady;
+          table_faults fault _ _ _ _ input bench spare (c.in-Ok.ensures.steady
+          (not_both _ _)) c.in-Err-table_from.ensures.failed c.in-Err-table_from.ensures.steady;
       schema_last = λ is. absurd (not_schema _ _ is);
       table_last = λ is. c.in-Err-table_from.ensures.last_call (same_table_fault _ _ is);
       steady = tt;

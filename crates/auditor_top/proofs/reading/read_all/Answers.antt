@@ -9,7 +9,8 @@ pub returns-in-Err : goal.returns-in-Err
 returns-in-Err g c = record {
   bytes = λ told. tt;
   within = λ told is.
-      read_within c.args.most (g.P.Source.left c.args.source.now) c.loop-piece.bytes.items (g.P.Source.left c.loop-piece.source) (g.P.Source.left c.read.new.self)
+      read_within c.args.most (g.P.Source.left c.args.source.now) c.loop-piece.bytes.items (g.P.Source.left c.loop-piece.source)
+      (g.P.Source.left c.read.new.self)
       (c.loop-piece.invariant.bytes told) (c.in-Err.ensures.bytes told) (search rules);
   later = subst (λ (n : ℕ). n ≤ g.P.Source.faults c.read.new.self) c.loop-piece.invariant.steady c.in-Err.ensures.cause.later;
   failed = λ is. subst (λ (n : ℕ). Rose n (g.P.Source.faults c.read.new.self)) c.loop-piece.invariant.steady c.in-Err.ensures.cause.failed;

@@ -119,14 +119,17 @@ returns-in-Err-NoMemory g c = record {
   undisclosed = λ ptold told batch asked quiet base history over image sent now was stands.
       let here = g.met.B.Bench.only_now c.args.bench.now image sent was in
       c.stops_are_legal.ensures _ _ _ image sent base batch history now [] over.files over.legal
-      (untouched_stops base batch history [] (g.B.Bench.file c.args.bench.now) (g.B.Bench.sent c.args.bench.now) image sent over.stands (here.1, quiet image here.0)) stands;
+      (untouched_stops base batch history [] (g.B.Bench.file c.args.bench.now) (g.B.Bench.sent c.args.bench.now) image sent over.stands
+      (here.1, quiet image here.0)) stands;
   lives = λ ptold itold told batch asked quiet base history over runs life image sent now was stands.
       let input = g.I.Source.left c.args.input.now in
       let before = g.B.Bench.sent c.args.bench.now in
-      let stops : StopsOver base batch history (counted_lines input) before image (before ++ sent) = (started g.B.Bench c.args.bench.now (StopsOver base batch history (counted_lines input) before)
+      let stops : StopsOver base batch history (counted_lines input) before image (before ++ sent) =
+      (started g.B.Bench c.args.bench.now (StopsOver base batch history (counted_lines input) before)
       (λ image sent was.
       let now = g.met.B.Bench.only_now c.args.bench.now image sent was in
-      untouched_stops base batch history (counted_lines input) (g.B.Bench.file c.args.bench.now) before image sent over.stands (now.1, quiet image now.0))).each image (before ++ sent) was in
+      untouched_stops base batch history (counted_lines input) (g.B.Bench.file c.args.bench.now) before image sent over.stands
+      (now.1, quiet image now.0))).each image (before ++ sent) was in
       let same : stops.0 ≡ sent = sym (append_cancel_left before sent stops.0 stops.1) in
       c.lives.ensures.longer (g.P.Source.left c.args.schema.now) (g.P.Source.left c.args.table.now) image base runs history
       (record { batch = batch; input = input; last = now; sent = sent }) over.files life
@@ -271,7 +274,8 @@ returns-in-Ok-Serve g c = record {
   own_schema_fault = c.serve.ensures.own_schema_fault;
   own_table_fault = c.serve.ensures.own_table_fault;
   file = λ ptold told command asked base files.
-      let is = one_command _ (Serve c.in-Ok-Serve.batch) command (c.in-Ok-Serve.ensures.command ∙ ap (λ (k : Command). Some k) c.in-Ok-Serve.field-0-is) asked in
+      let is = one_command _ (Serve c.in-Ok-Serve.batch) command
+      (c.in-Ok-Serve.ensures.command ∙ ap (λ (k : Command). Some k) c.in-Ok-Serve.field-0-is) asked in
       subst (λ (named : Command). FileCause c.serve.result named (g.B.Bench.file c.args.bench.now) base.secret) is
       (c.serve.ensures.file_cause ptold told base files);
   input = λ itold command asked reads. c.serve.ensures.input_cause itold;
@@ -297,7 +301,8 @@ returns-in-Ok-Serve g c = record {
   lives = λ ptold itold told batch asked quiet base history over runs life image sent now was stands.
       let input = g.I.Source.left c.args.input.now in
       let before = g.B.Bench.sent c.args.bench.now in
-      let stops : StopsOver base batch history (counted_lines input) before image (before ++ sent) = (subst (λ (n : ℕ). LeavesOnly g.B.Bench c.args.bench.now c.serve.new.bench (StopsOver base n history (counted_lines input) before))
+      let stops : StopsOver base batch history (counted_lines input) before image (before ++ sent) =
+      (subst (λ (n : ℕ). LeavesOnly g.B.Bench c.args.bench.now c.serve.new.bench (StopsOver base n history (counted_lines input) before))
       (one_batch _ c.in-Ok-Serve.batch batch (c.in-Ok-Serve.ensures.command ∙ ap (λ (k : Command). Some k) c.in-Ok-Serve.field-0-is) asked)
       (c.serve.ensures.any_moment ptold itold told quiet base history over)).each image (before ++ sent) was in
       let same : stops.0 ≡ sent = sym (append_cancel_left before sent stops.0 stops.1) in
@@ -508,7 +513,8 @@ returns-in-Ok-Drill g c = record {
   own_schema_fault = c.drill.ensures.own_schema_fault;
   own_table_fault = c.drill.ensures.own_table_fault;
   file = λ ptold told command asked base files.
-      let is = one_command _ (Drill c.in-Ok-Drill.number) command (c.in-Ok-Drill.ensures.command ∙ ap (λ (k : Command). Some k) c.in-Ok-Drill.field-0-is) asked in
+      let is = one_command _ (Drill c.in-Ok-Drill.number) command
+      (c.in-Ok-Drill.ensures.command ∙ ap (λ (k : Command). Some k) c.in-Ok-Drill.field-0-is) asked in
       subst (λ (named : Command). FileCause c.drill.result named (g.B.Bench.file c.args.bench.now) base.secret) is
       (c.drill.ensures.file_cause (g.B.Bench.file c.args.bench.now) base.secret);
   input = λ itold command asked reads.

@@ -50,7 +50,8 @@ returns-in_err-store g c =
       store = IfOk-from_err _ _ refuses;
       stands = λ told. IfOk-from_err _ _ refuses;
       cause = λ told.
-          subst (λ (r : Result (PublicView × StoreContents) StartFault). IfErr r (λ f. StartCause f (g.B.Bench.file c.args.bench.now) c.args.table.secret)) (sym same)
+          subst (λ (r : Result (PublicView × StoreContents) StartFault). IfErr r (λ f. StartCause f (g.B.Bench.file c.args.bench.now) c.args.table.secret))
+          (sym same)
           (c.start.ensures.cause fault told (search rules));
       opens = λ history told stands legal.
           subst (λ (r : Result (PublicView × StoreContents) StartFault). IfErr r GivesUp) (sym same) (c.in_err-store.ensures.opens history told stands legal);

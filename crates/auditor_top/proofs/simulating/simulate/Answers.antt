@@ -52,7 +52,10 @@ returns-in-Err g c = record {
       subst (λ (status : Status). InputCause status (g.I.Source.left c.args.input.now) (g.I.Source.left c.args.input.now)) (sym c.from.ensures)
       ((unopened c.in-Err.fault).input (g.I.Source.left c.args.input.now));
   faults = λ spare.
-      subst (λ (status : Status). FaultCause status (counts (g.P.Source.faults c.args.schema.now) (g.P.Source.faults c.args.table.now) (g.I.Source.faults c.args.input.now) (g.B.Bench.faults c.args.bench.now) spare) (counts (g.P.Source.faults c.open_public.new.schema) (g.P.Source.faults c.open_public.new.table) (g.I.Source.faults c.args.input.now) (g.B.Bench.faults c.args.bench.now) spare)) (sym c.from.ensures)
+      subst (λ (status : Status). FaultCause status (counts (g.P.Source.faults c.args.schema.now) (g.P.Source.faults c.args.table.now)
+      (g.I.Source.faults c.args.input.now) (g.B.Bench.faults c.args.bench.now) spare)
+      (counts (g.P.Source.faults c.open_public.new.schema) (g.P.Source.faults c.open_public.new.table) (g.I.Source.faults c.args.input.now)
+      (g.B.Bench.faults c.args.bench.now) spare)) (sym c.from.ensures)
       (c.in-Err.ensures.faults (g.I.Source.faults c.args.input.now) (g.B.Bench.faults c.args.bench.now) spare);
   schema_last = λ is.
       c.in-Err.ensures.schema_last (ap unopened_by ((unopened c.in-Err.fault).schema (sym c.from.ensures ∙ is)));
@@ -70,7 +73,8 @@ returns-in-Err g c = record {
       let schema = subst (SchemaCause (open_status fault)) files.schema_is (c.in-Err.ensures.schema_cause ptold) in
       let table = subst (TableCause (open_status fault)) files.public_is (c.in-Err.ensures.public_cause ptold columns files.schema_is) in (
         [],
-        subst (λ (status : Status). SimulateEnds status columns public input input []) (sym c.from.ensures) (unopened_verdicts fault columns public input input schema table),
+        subst (λ (status : Status). SimulateEnds status columns public input input []) (sym c.from.ensures)
+            (unopened_verdicts fault columns public input input schema table),
         λ told. subst (λ (status : Status). SimulateSends status [] sent sent) (sym c.from.ensures) (unopened_sends fault sent),
       );
   any_moment = λ ptold told quiet columns public files.
@@ -107,7 +111,9 @@ returns g c = record {
       subst (SchemaCause c.ended.result) (sym (c.in-Ok.ensures.schema_is ptold)) (past.schema c.in-Ok.opened.schema.columns);
   public_cause = λ ptold columns is.
       let past : PastFiles c.ended.result = subst PastFiles (sym c.ended.ensures) (simulated c.simulate.result) in
-      table_read (λ (cs : List Column). public_of cs (g.P.Source.left c.args.table.now)) c.ended.result (g.P.Source.left c.args.schema.now) c.in-Ok.opened.schema.columns columns c.in-Ok.opened.index past (c.in-Ok.ensures.schema_is ptold) (c.in-Ok.ensures.public_is ptold) is;
+      table_read (λ (cs : List Column). public_of cs (g.P.Source.left c.args.table.now)) c.ended.result
+      (g.P.Source.left c.args.schema.now) c.in-Ok.opened.schema.columns columns c.in-Ok.opened.index past (c.in-Ok.ensures.schema_is ptold)
+      (c.in-Ok.ensures.public_is ptold) is;
   own_schema_fault = λ is.
       let past : PastFiles c.ended.result = subst PastFiles (sym c.ended.ensures) (simulated c.simulate.result) in
       past.own_schema is;
@@ -127,12 +133,14 @@ returns g c = record {
       subst (λ (status : Status). InputCause status (g.I.Source.left c.args.input.now) (g.I.Source.left c.simulate.new.source)) (sym c.ended.ensures)
       (simulation_reads c.simulate.result _ _ (c.simulate.ensures.reads itold));
   faults = λ spare.
-      let before = counts (g.P.Source.faults c.args.schema.now) (g.P.Source.faults c.args.table.now) (g.I.Source.faults c.args.input.now) (g.B.Bench.faults c.args.bench.now) spare in
+      let before = counts (g.P.Source.faults c.args.schema.now) (g.P.Source.faults c.args.table.now) (g.I.Source.faults c.args.input.now)
+      (g.B.Bench.faults c.args.bench.now) spare in
       let read = g.I.Source.faults c.simulate.new.source in
       let later = g.B.Bench.faults c.simulate.new.bench in
       moved c.ended.result before _ _ _ _ read later spare c.in-Ok.ensures.steady.0 c.in-Ok.ensures.steady.1
       (subst (λ (status : Status). FaultCause status before (record before { input = read; bench = later })) (sym c.ended.ensures)
-      (simulation_faults c.simulate.result before read later c.simulate.ensures.input c.simulate.ensures.steady.0 c.simulate.ensures.bench c.simulate.ensures.steady.1));
+      (simulation_faults c.simulate.result before read later c.simulate.ensures.input c.simulate.ensures.steady.0 c.simulate.ensures.bench
+      c.simulate.ensures.steady.1));
   schema_last = λ is.
       let past : PastFiles c.ended.result = subst PastFiles (sym c.ended.ensures) (simulated c.simulate.result) in
       absurd (past.no_schema is);
@@ -143,7 +151,12 @@ returns g c = record {
       c.simulate.ensures.last_call.0 (simulation_input c.simulate.result (sym c.ended.ensures ∙ is));
   bench_last = λ is.
       c.simulate.ensures.last_call.1 (simulation_bench c.simulate.result (sym c.ended.ensures ∙ is));
-  later = λ spare. record { schema = c.in-Ok.ensures.later.0; table = c.in-Ok.ensures.later.1; input = c.simulate.ensures.later.0; bench = c.simulate.ensures.later.1 };
+  later = λ spare. record {
+    schema = c.in-Ok.ensures.later.0;
+    table = c.in-Ok.ensures.later.1;
+    input = c.simulate.ensures.later.0;
+    bench = c.simulate.ensures.later.1;
+  };
   verdicts = λ ptold itold columns public files.
       let opened = c.in-Ok.opened in
       let input = g.I.Source.left c.args.input.now in
@@ -151,12 +164,16 @@ returns g c = record {
       let before = g.B.Bench.sent c.args.bench.now in
       let after = g.B.Bench.sent c.simulate.new.bench in
       let one = same_columns _ _ opened.schema.columns columns public (c.in-Ok.ensures.schema_is ptold) files in
-      let two = same_public_part _ _ opened.schema.columns columns opened.index public (c.in-Ok.ensures.schema_is ptold) (c.in-Ok.ensures.public_is ptold) files in
+      let two = same_public_part _ _ opened.schema.columns columns opened.index public (c.in-Ok.ensures.schema_is ptold)
+      (c.in-Ok.ensures.public_is ptold) files in
       let all = c.simulate.ensures.verdicts itold in
-      let are = subst (λ (p : PublicView). EndVerdicts c.simulate.result columns p input left all.0) two (subst (λ (cs : List Column). EndVerdicts c.simulate.result cs c.in-Ok.opened.index input left all.0) one all.1) in (
+      let are = subst (λ (p : PublicView). EndVerdicts c.simulate.result columns p input left all.0) two
+      (subst (λ (cs : List Column). EndVerdicts c.simulate.result cs c.in-Ok.opened.index input left all.0) one all.1) in (
         all.0,
-        subst (λ (status : Status). SimulateEnds status columns public input left all.0) (sym c.ended.ensures) (simulation_ends c.simulate.result columns public input left all.0 are),
-        λ told. subst (λ (status : Status). SimulateSends status all.0 before after) (sym c.ended.ensures) (simulation_sends c.simulate.result all.0 before after (all.2 told)),
+        subst (λ (status : Status). SimulateEnds status columns public input left all.0) (sym c.ended.ensures)
+            (simulation_ends c.simulate.result columns public input left all.0 are),
+        λ told. subst (λ (status : Status). SimulateSends status all.0 before after) (sym c.ended.ensures)
+            (simulation_sends c.simulate.result all.0 before after (all.2 told)),
       );
   any_moment = λ ptold told quiet columns public files.
       let opened = c.in-Ok.opened in
@@ -164,25 +181,35 @@ returns g c = record {
       let file = g.B.Bench.file c.args.bench.now in
       let before = g.B.Bench.sent c.args.bench.now in
       let one = same_columns _ _ opened.schema.columns columns public (c.in-Ok.ensures.schema_is ptold) files in
-      let two = same_public_part _ _ opened.schema.columns columns opened.index public (c.in-Ok.ensures.schema_is ptold) (c.in-Ok.ensures.public_is ptold) files in
-      subst (λ (p : PublicView). LeavesOnly g.B.Bench c.args.bench.now c.simulate.new.bench (SimulatesMeanwhile g.I.Source.told columns p lines file before)) two
-      (subst (λ (cs : List Column). LeavesOnly g.B.Bench c.args.bench.now c.simulate.new.bench (SimulatesMeanwhile g.I.Source.told cs c.in-Ok.opened.index lines file before)) one (c.simulate.ensures.any_moment told quiet));
+      let two = same_public_part _ _ opened.schema.columns columns opened.index public (c.in-Ok.ensures.schema_is ptold)
+      (c.in-Ok.ensures.public_is ptold) files in
+      subst (λ (p : PublicView). LeavesOnly g.B.Bench c.args.bench.now c.simulate.new.bench
+      (SimulatesMeanwhile g.I.Source.told columns p lines file before)) two
+      (subst (λ (cs : List Column). LeavesOnly g.B.Bench c.args.bench.now c.simulate.new.bench
+      (SimulatesMeanwhile g.I.Source.told cs c.in-Ok.opened.index lines file before)) one (c.simulate.ensures.any_moment told quiet));
   complete = λ ptold itold columns public files verdicts agree within spare none.
       let opened = c.in-Ok.opened in
       let input = g.I.Source.left c.args.input.now in
       let left = g.I.Source.left c.simulate.new.source in
-      let before = counts (g.P.Source.faults c.args.schema.now) (g.P.Source.faults c.args.table.now) (g.I.Source.faults c.args.input.now) (g.B.Bench.faults c.args.bench.now) spare in
-      let after = counts (g.P.Source.faults c.open_public.new.schema) (g.P.Source.faults c.open_public.new.table) (g.I.Source.faults c.simulate.new.source) (g.B.Bench.faults c.simulate.new.bench) spare in
+      let before = counts (g.P.Source.faults c.args.schema.now) (g.P.Source.faults c.args.table.now) (g.I.Source.faults c.args.input.now)
+      (g.B.Bench.faults c.args.bench.now) spare in
+      let after = counts (g.P.Source.faults c.open_public.new.schema) (g.P.Source.faults c.open_public.new.table) (g.I.Source.faults c.simulate.new.source)
+      (g.B.Bench.faults c.simulate.new.bench) spare in
       let one = same_columns _ _ opened.schema.columns columns public (c.in-Ok.ensures.schema_is ptold) files in
-      let two = same_public_part _ _ opened.schema.columns columns opened.index public (c.in-Ok.ensures.schema_is ptold) (c.in-Ok.ensures.public_is ptold) files in
+      let two = same_public_part _ _ opened.schema.columns columns opened.index public (c.in-Ok.ensures.schema_is ptold)
+      (c.in-Ok.ensures.public_is ptold) files in
       let all = c.simulate.ensures.verdicts itold in
-      let are = subst (λ (p : PublicView). EndVerdicts c.simulate.result columns p input left all.0) two (subst (λ (cs : List Column). EndVerdicts c.simulate.result cs c.in-Ok.opened.index input left all.0) one all.1) in
+      let are = subst (λ (p : PublicView). EndVerdicts c.simulate.result columns p input left all.0) two
+      (subst (λ (cs : List Column). EndVerdicts c.simulate.result cs c.in-Ok.opened.index input left all.0) one all.1) in
       let read = g.I.Source.faults c.simulate.new.source in
       let later = g.B.Bench.faults c.simulate.new.bench in
-      let faults : FaultCause (simulation_status c.simulate.result) before after = moved (simulation_status c.simulate.result) before _ _ _ _ read later spare c.in-Ok.ensures.steady.0 c.in-Ok.ensures.steady.1
-      (simulation_faults c.simulate.result before read later c.simulate.ensures.input c.simulate.ensures.steady.0 c.simulate.ensures.bench c.simulate.ensures.steady.1) in
+      let faults : FaultCause (simulation_status c.simulate.result) before after =
+      moved (simulation_status c.simulate.result) before _ _ _ _ read later spare c.in-Ok.ensures.steady.0 c.in-Ok.ensures.steady.1
+      (simulation_faults c.simulate.result before read later c.simulate.ensures.input c.simulate.ensures.steady.0 c.simulate.ensures.bench
+      c.simulate.ensures.steady.1) in
       subst (λ (status : Status). IsDoneOrWants status) (sym c.ended.ensures)
-      (simulation_wants c.one_verdict.ensures.first c.simulate.result columns public input left all.0 verdicts before after are (c.simulate.ensures.reads itold) agree within faults none);
+      (simulation_wants c.one_verdict.ensures.first c.simulate.result columns public input left all.0 verdicts before after are
+      (c.simulate.ensures.reads itold) agree within faults none);
   calls = λ itold told done. simulation_done c.simulate.result (sym c.ended.ensures ∙ done) (c.simulate.ensures.calls itold told);
   file = c.simulate.ensures.file;
   untouched = λ told quiet.
@@ -190,6 +217,7 @@ returns g c = record {
   quiet = λ quiet image left. quiet image (c.simulate.ensures.crash image left) ∙ sym c.simulate.ensures.file;
   before_table = let past : PastFiles c.ended.result = subst PastFiles (sym c.ended.ensures) (simulated c.simulate.result) in
       past.before_table (c.open_public.new.table ≡ c.args.table.now);
-  before_lines = subst (λ (status : Status). Before reading_lines status ((c.simulate.new.source ≡ c.args.input.now) × (c.simulate.new.bench ≡ c.args.bench.now))) (sym c.ended.ensures)
+  before_lines = subst (λ (status : Status). Before reading_lines status
+      ((c.simulate.new.source ≡ c.args.input.now) × (c.simulate.new.bench ≡ c.args.bench.now))) (sym c.ended.ensures)
       (simulation_at_lines ((c.simulate.new.source ≡ c.args.input.now) × (c.simulate.new.bench ≡ c.args.bench.now)) c.simulate.result);
 }

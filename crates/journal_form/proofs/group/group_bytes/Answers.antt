@@ -14,7 +14,8 @@ loop-answered-preserved c =
       records = so_far.records ++ put.0;
       behind_count = put.1 ∙ ap (λ front. front ++ put.0) so_far.behind_count;
       so_far =
-          rw (take_more list c.loop-answered.answered-index r c.loop-answered-test.true, ← c.answered-item.is) (records_push c.args.shape.now so_far.records put.0 (take c.loop-answered.answered-index list) r so_far.so_far put.2);
+          rw (take_more list c.loop-answered.answered-index r c.loop-answered-test.true, ← c.answered-item.is)
+          (records_push c.args.shape.now so_far.records put.0 (take c.loop-answered.answered-index list) r so_far.so_far put.2);
     }
 
 pub returns : goal.returns

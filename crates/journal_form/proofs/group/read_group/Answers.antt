@@ -38,4 +38,5 @@ returns-in_err-size-clause-breaks c = λ at is.
     let some : 0 < length bytes = search rules in
     let fault = same_error p.0 (Breaks at) (sym p.1 ∙ is) in
     inr
-    (subst (λ (b : List ℕ). BreaksInRecord c.args.shape.now c.args.left b at) (count_and_rest bytes some) (c.in_err-size.ensures.breaks c.args.left at good (ap (λ fault. Err fault) (sym p.2 ∙ fault))))
+    (subst (λ (b : List ℕ). BreaksInRecord c.args.shape.now c.args.left b at) (count_and_rest bytes some)
+    (c.in_err-size.ensures.breaks c.args.left at good (ap (λ fault. Err fault) (sym p.2 ∙ fault))))

@@ -24,8 +24,11 @@ returns-in-Ok-clause-ok c =
     let shape = c.args.shape.now in
     let fits : FitsSigned w64 c.number_of-answer.result = search rules in
     let ok = rw (take_rest bytes 9) at c.in-Ok.ensures.ok in
-    let long : record_size shape ≤ length bytes = omega (arith, ok.0, c.if-bytes-lt9.false, length-drop 9 bytes) in
-    (long, record_read shape bytes _ long refl (omega (arith, c.if-bytes-columns.false, c.columns.ensures)) (to_z-of_z fits ∙ c.number_of-answer.ensures) ok.1 ok.2 ok.3)
+    let long : record_size shape ≤ length bytes = omega (arith, ok.0, c.if-bytes-lt9.false, length-drop 9 bytes) in (
+      long,
+      record_read shape bytes _ long refl (omega (arith, c.if-bytes-columns.false, c.columns.ensures))
+          (to_z-of_z fits ∙ c.number_of-answer.ensures) ok.1 ok.2 ok.3,
+    )
 
 pub returns-then-bytes-lt9-clause-err : goal.returns-then-bytes-lt9-clause-err
 returns-then-bytes-lt9-clause-err c =

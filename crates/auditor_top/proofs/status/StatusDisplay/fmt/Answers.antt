@@ -8,26 +8,36 @@ use Rattle.auditor_top.proofs.status.StatusDisplay.fmt.Goals as goal
 
 pub returns-in-Damaged-clause-writes : goal.returns-in-Damaged-clause-writes
 returns-in-Damaged-clause-writes g c = λ plain ok.
-    let wrote : HasWritten g.W.Write.write_str_gives c.args.f.now (codes "journal damaged at byte " ++ decimal c.in-Damaged.at) c.write-in-Damaged.new.self = c.write-in-Damaged.ensures.writes plain ok in
+    let wrote : HasWritten g.W.Write.write_str_gives c.args.f.now (codes "journal damaged at byte " ++ decimal c.in-Damaged.at) c.write-in-Damaged.new.self =
+    c.write-in-Damaged.ensures.writes plain ok in
     subst (λ (s : Status). HasWritten g.W.Write.write_str_gives c.args.f.now (status_text s) c.write-in-Damaged.new.self) (sym c.in-Damaged.is) wrote
 
 pub returns-in-Untrue-clause-writes : goal.returns-in-Untrue-clause-writes
 returns-in-Untrue-clause-writes g c = λ plain ok.
-    let wrote : HasWritten g.W.Write.write_str_gives c.args.f.now (codes "record " ++ (decimal c.in-Untrue.place ++ (codes " holds " ++ (signed_decimal c.in-Untrue.kept ++ (codes ", table gives " ++ signed_decimal c.in-Untrue.now))))) c.write-in-Untrue.new.self = c.write-in-Untrue.ensures.writes plain ok in
+    let wrote : HasWritten g.W.Write.write_str_gives c.args.f.now
+    (codes "record " ++ (decimal c.in-Untrue.place ++ (codes " holds " ++
+    (signed_decimal c.in-Untrue.kept ++ (codes ", table gives " ++ signed_decimal c.in-Untrue.now))))) c.write-in-Untrue.new.self =
+    c.write-in-Untrue.ensures.writes plain ok in
     subst (λ (s : Status). HasWritten g.W.Write.write_str_gives c.args.f.now (status_text s) c.write-in-Untrue.new.self) (sym c.in-Untrue.is) wrote
 
 pub returns-in-Illegal-clause-writes : goal.returns-in-Illegal-clause-writes
 returns-in-Illegal-clause-writes g c = λ plain ok.
-    let wrote : HasWritten g.W.Write.write_str_gives c.args.f.now (codes "record " ++ (decimal c.in-Illegal.place ++ codes " should not have been released")) c.write-in-Illegal.new.self = c.write-in-Illegal.ensures.writes plain ok in
+    let wrote : HasWritten g.W.Write.write_str_gives c.args.f.now
+    (codes "record " ++ (decimal c.in-Illegal.place ++ codes " should not have been released")) c.write-in-Illegal.new.self =
+    c.write-in-Illegal.ensures.writes plain ok in
     subst (λ (s : Status). HasWritten g.W.Write.write_str_gives c.args.f.now (status_text s) c.write-in-Illegal.new.self) (sym c.in-Illegal.is) wrote
 
 pub returns-in-Disagrees-clause-writes : goal.returns-in-Disagrees-clause-writes
 returns-in-Disagrees-clause-writes g c = λ plain ok.
-    let wrote : HasWritten g.W.Write.write_str_gives c.args.f.now (codes "line " ++ (decimal c.in-Disagrees.line ++ (codes " disagrees, due " ++ word_of c.in-Disagrees.due))) c.write-in-Disagrees.new.self = c.write-in-Disagrees.ensures.writes plain ok in
+    let wrote : HasWritten g.W.Write.write_str_gives c.args.f.now
+    (codes "line " ++ (decimal c.in-Disagrees.line ++ (codes " disagrees, due " ++ word_of c.in-Disagrees.due))) c.write-in-Disagrees.new.self =
+    c.write-in-Disagrees.ensures.writes plain ok in
     subst (λ (s : Status). HasWritten g.W.Write.write_str_gives c.args.f.now (status_text s) c.write-in-Disagrees.new.self) (sym c.in-Disagrees.is) wrote
 
 pub returns-in_default-clause-writes : goal.returns-in_default-clause-writes
 returns-in_default-clause-writes g c = λ plain ok.
     let status = c.args.self.now in
-    let words = tells_no_number status c.in_default.not-BadSchema c.in_default.not-BadTable c.in_default.not-Damaged c.in_default.not-OtherShape c.in_default.not-Untrue c.in_default.not-Illegal c.in_default.not-Disagrees in
-    subst (λ (text : List ℕ). HasWritten g.W.Write.write_str_gives c.args.f.now text c.write_str.new.self) (c.words_of.ensures ∙ words) (c.write_str.ensures.writes plain ok)
+    let words = tells_no_number status c.in_default.not-BadSchema c.in_default.not-BadTable c.in_default.not-Damaged c.in_default.not-OtherShape
+    c.in_default.not-Untrue c.in_default.not-Illegal c.in_default.not-Disagrees in
+    subst (λ (text : List ℕ). HasWritten g.W.Write.write_str_gives c.args.f.now text c.write_str.new.self) (c.words_of.ensures ∙ words)
+    (c.write_str.ensures.writes plain ok)

@@ -15,13 +15,35 @@ returns c =
     let from_is : c.len-from.result ≡ length inside.sent.items = search rules in
     let pushed : c.keep.new.past.items ≡ inside.past.items ++ Sent c.len-from.result (length piece) ∷ [] = c.keep.ensures.items in
     let calls : map (call_of inside.pieces.items c.extend_from_slice.new.self.items) c.keep.new.past.items ≡ c.args.self.now.calls ++ sending piece ∷ [] =
-    rw (pushed, from_is, extended) (sent_grows inside.pieces.items inside.sent.items piece inside.past.items kept ∙ ap (λ log. log.calls ++ sending piece ∷ []) c.self.view_is) in
+    rw (pushed, from_is, extended) (sent_grows inside.pieces.items inside.sent.items piece inside.past.items kept
+    ∙ ap (λ log. log.calls ++ sending piece ∷ []) c.self.view_is) in
     ap
-    (λ k. record { calls = k; written = length inside.pieces.items; sent = c.extend_from_slice.new.self.items; most_calls = inside.most_calls; most_written = inside.most_written; most_sent = inside.most_sent }) calls
+    (λ k. record {
+      calls = k;
+      written = length inside.pieces.items;
+      sent = c.extend_from_slice.new.self.items;
+      most_calls = inside.most_calls;
+      most_written = inside.most_written;
+      most_sent = inside.most_sent;
+    }) calls
     ∙ ap
-    (λ s. record { calls = c.args.self.now.calls ++ sending piece ∷ []; written = length inside.pieces.items; sent = s; most_calls = inside.most_calls; most_written = inside.most_written; most_sent = inside.most_sent }) extended
+    (λ s. record {
+      calls = c.args.self.now.calls ++ sending piece ∷ [];
+      written = length inside.pieces.items;
+      sent = s;
+      most_calls = inside.most_calls;
+      most_written = inside.most_written;
+      most_sent = inside.most_sent;
+    }) extended
     ∙ ap
-    (λ (log : LogContents). record { calls = c.args.self.now.calls ++ sending piece ∷ []; written = log.written; sent = log.sent ++ piece; most_calls = log.most_calls; most_written = log.most_written; most_sent = log.most_sent }) c.self.view_is
+    (λ (log : LogContents). record {
+      calls = c.args.self.now.calls ++ sending piece ∷ [];
+      written = log.written;
+      sent = log.sent ++ piece;
+      most_calls = log.most_calls;
+      most_written = log.most_written;
+      most_sent = log.most_sent;
+    }) c.self.view_is
 
 pub invariant_of-self : goal.invariant_of-self
 invariant_of-self c =
@@ -30,9 +52,11 @@ invariant_of-self c =
     let piece = c.args.piece.now in
     let extended : c.extend_from_slice.new.self.items ≡ inside.sent.items ++ piece = search rules in
     let from_is : c.len-from.result ≡ length inside.sent.items = search rules in
-    let longer : length c.extend_from_slice.new.self.items ≡ length inside.sent.items + length piece = ap length extended ∙ length-append inside.sent.items piece in (
+    let longer : length c.extend_from_slice.new.self.items ≡ length inside.sent.items + length piece = ap length extended
+    ∙ length-append inside.sent.items piece in (
       omega (arith, kept.0, c.keep.ensures.capacity),
       kept.1,
       search rules,
-      rw c.keep.ensures.items (all_kept _ _ _ _ _ (Sent c.len-from.result (length c.args.piece.now)) (omega arith) (omega (arith, longer)) kept.3 (omega (arith, longer, from_is))),
+      rw c.keep.ensures.items (all_kept _ _ _ _ _ (Sent c.len-from.result (length c.args.piece.now)) (omega arith) (omega (arith, longer)) kept.3
+          (omega (arith, longer, from_is))),
     )

@@ -16,17 +16,20 @@ with_file-requires-in-2 c =
 pub returns-in-1-clause-image : goal.returns-in-1-clause-image
 returns-in-1-clause-image c =
     IfOk-weaker c.with_file.result _ _
-    (λ bench made. subst (λ (f : List ℕ). may_leave c.args.self.now f) (sym (made.0 ∙ c.stable.ensures)) (stable_image c.args.self.now)) c.with_file.ensures.file
+    (λ bench made. subst (λ (f : List ℕ). may_leave c.args.self.now f) (sym (made.0 ∙ c.stable.ensures))
+    (stable_image c.args.self.now)) c.with_file.ensures.file
 
 pub returns-in_ok-torn-in-2-clause-image : goal.returns-in_ok-torn-in-2-clause-image
 returns-in_ok-torn-in-2-clause-image c =
     IfOk-weaker c.with_file-in-2.result _ _
-    (λ bench made. subst (λ (f : List ℕ). may_leave c.args.self.now f) (sym (made.0 ∙ c.deref.ensures.value)) (torn_image c.args.self.now c.in_ok-torn-in-2.torn.items c.in_ok-torn-in-2.ensures)) c.with_file-in-2.ensures.file
+    (λ bench made. subst (λ (f : List ℕ). may_leave c.args.self.now f) (sym (made.0 ∙ c.deref.ensures.value))
+    (torn_image c.args.self.now c.in_ok-torn-in-2.torn.items c.in_ok-torn-in-2.ensures)) c.with_file-in-2.ensures.file
 
 pub returns-in_default-clause-image : goal.returns-in_default-clause-image
 returns-in_default-clause-image c =
     IfOk-weaker c.with_file-in_default.result _ _
-    (λ bench made. subst (λ (f : List ℕ). may_leave c.args.self.now f) (sym (made.0 ∙ c.file-file.ensures.file)) (reads_itself c.args.self.now)) c.with_file-in_default.ensures.file
+    (λ bench made. subst (λ (f : List ℕ). may_leave c.args.self.now f) (sym (made.0 ∙ c.file-file.ensures.file))
+    (reads_itself c.args.self.now)) c.with_file-in_default.ensures.file
 
 pub returns-in-1-clause-torn : goal.returns-in-1-clause-torn
 returns-in-1-clause-torn c = λ is. absurd (omega (arith, is, c.in-1.is))

@@ -16,7 +16,8 @@ invariant_of-self c =
       file = c.touch-2.ensures.same.0 ∙ tied.file;
       stable = c.touch-2.ensures.same.1 ∙ tied.stable;
       dirty =
-          λ place lt. c.touch-2.ensures.touched place (omega (arith, lt, tied.flags)) ∙ ap (λ flag. flag || in_range c.args.at c.args.count place) (tied.dirty place lt);
+          λ place lt. c.touch-2.ensures.touched place (omega (arith, lt, tied.flags))
+          ∙ ap (λ flag. flag || in_range c.args.at c.args.count place) (tied.dirty place lt);
       flags = c.touch-2.ensures.flags;
       room = c.touch-2.ensures.same.2;
       inside = omega (arith, ap length c.touch-2.ensures.same.0, tied.inside);

@@ -20,11 +20,19 @@ invariant_of-self c =
       file = c.write-2.ensures.written ∙ ap (λ file. written file c.args.at c.args.piece.now) tied.file;
       stable = c.write-2.ensures.same.0 ∙ tied.stable;
       dirty =
-          λ place lt. c.write-2.ensures.touched place (omega (arith, lt, tied.flags)) ∙ ap (λ flag. flag || in_range c.args.at (length c.args.piece.now) place) (tied.dirty place lt);
+          λ place lt. c.write-2.ensures.touched place (omega (arith, lt, tied.flags))
+          ∙ ap (λ flag. flag || in_range c.args.at (length c.args.piece.now) place) (tied.dirty place lt);
       flags = c.write-2.ensures.flags;
       room = c.write-2.ensures.same.1;
       inside =
-          omega (arith, ap length c.write-2.ensures.written, length-written b.disk.file c.args.at c.args.piece.now at_inside, c.requires.file, room_is, tied.inside);
+          omega (
+            arith,
+            ap length c.write-2.ensures.written,
+            length-written b.disk.file c.args.at c.args.piece.now at_inside,
+            c.requires.file,
+            room_is,
+            tied.inside,
+          );
       sent = ap (λ (l : LogContents). l.sent) log ∙ tied.sent;
       sent_inside = omega (arith, same_sent, tied.sent_inside);
       most_calls = ap (λ (l : LogContents). l.most_calls) log;
