@@ -1,5 +1,5 @@
 //! Which call of each object fails, and a bench of which it does.
-use crate::script::{Keys, Kind};
+use crate::script::{Keys, ValueKind};
 use crate::telling::no_memory;
 use anyhow::Result;
 use bench_core::{MemoryBench, Room};
@@ -24,12 +24,12 @@ pub struct Failures {
 }
 
 impl Failures {
-    pub const KEYS: [(&'static str, Kind); 5] = [
-        ("schema", Kind::Count),
-        ("table", Kind::Count),
-        ("input", Kind::Count),
-        ("bench", Kind::Count),
-        ("stop", Kind::Count),
+    pub const KEYS: [(&'static str, ValueKind); 5] = [
+        ("schema", ValueKind::Count),
+        ("table", ValueKind::Count),
+        ("input", ValueKind::Count),
+        ("bench", ValueKind::Count),
+        ("stop", ValueKind::Count),
     ];
 
     pub fn of(keys: Keys) -> Failures {

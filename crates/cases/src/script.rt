@@ -5,24 +5,24 @@ mod content;
 mod each;
 mod fault;
 mod keys;
-mod kind;
 mod run;
+mod value_kind;
 
 use anyhow::{Context, Result};
 pub use content::{Content, add_pieces, bytes_of};
 pub use each::Each;
 pub use fault::Fault;
 pub use keys::Keys;
-pub use kind::Kind;
 pub use run::{Crash, Run};
 use toml::{Table, Value};
+pub use value_kind::ValueKind;
 
-const KEYS: [(&str, Kind); 5] = [
-    ("words", Kind::List),
-    ("schema", Kind::Contents),
-    ("table", Kind::Contents),
-    ("journal", Kind::Contents),
-    ("run", Kind::List),
+const KEYS: [(&str, ValueKind); 5] = [
+    ("words", ValueKind::List),
+    ("schema", ValueKind::Contents),
+    ("table", ValueKind::Contents),
+    ("journal", ValueKind::Contents),
+    ("run", ValueKind::List),
 ];
 
 /// A script. Each of its runs is a case.

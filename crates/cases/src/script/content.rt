@@ -1,7 +1,7 @@
 //! Bytes as a script says them: a file of `sources/`, a text, or hex, as it is or changed.
 use crate::pieces::{Piece, whole};
 use crate::script::keys::Keys;
-use crate::script::kind::{Kind, byte_of, place_of};
+use crate::script::value_kind::{ValueKind, byte_of, place_of};
 use anyhow::{Context, Error, Result};
 use std::alloc::Global;
 use std::{fs, io, slice};
@@ -63,13 +63,13 @@ fn set_byte(bytes: &mut [u8], values: &[Value]) -> Option<()> {
     Some(())
 }
 
-const KEYS: [(&str, Kind); 6] = [
-    ("file", Kind::Text),
-    ("text", Kind::Text),
-    ("hex", Kind::Text),
-    ("cut", Kind::Count),
-    ("set", Kind::List),
-    ("times", Kind::Count),
+const KEYS: [(&str, ValueKind); 6] = [
+    ("file", ValueKind::Text),
+    ("text", ValueKind::Text),
+    ("hex", ValueKind::Text),
+    ("cut", ValueKind::Count),
+    ("set", ValueKind::List),
+    ("times", ValueKind::Count),
 ];
 
 impl<'a> Part<'a> {

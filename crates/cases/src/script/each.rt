@@ -2,7 +2,7 @@
 use crate::history::History;
 use crate::script::fault::Fault;
 use crate::script::keys::Keys;
-use crate::script::kind::Kind;
+use crate::script::value_kind::ValueKind;
 use anyhow::{Context, Result};
 use toml::Value;
 
@@ -13,10 +13,10 @@ pub struct Each<'a> {
 }
 
 impl<'a> Each<'a> {
-    pub const KEYS: [(&'static str, Kind); 3] = [
-        ("fault", Kind::Text),
-        ("histories", Kind::List),
-        ("then", Kind::Text),
+    pub const KEYS: [(&'static str, ValueKind); 3] = [
+        ("fault", ValueKind::Text),
+        ("histories", ValueKind::List),
+        ("then", ValueKind::Text),
     ];
 
     pub fn of(keys: Keys<'a>) -> Each<'a> {
@@ -44,7 +44,10 @@ impl<'a> Each<'a> {
 }
 
 fn history_of(rt: &HostRuntime, value: &Value) -> Result<History> {
-    let keys = Keys::of_value(value, &[("records", Kind::Count), ("file", Kind::Contents)])?;
+    let keys = Keys::of_value(
+        value,
+        &[("records", ValueKind::Count), ("file", ValueKind::Contents)],
+    )?;
     let content = keys.content("file").context("a history has a file")?;
     Ok(History {
         records: keys.count("records"),

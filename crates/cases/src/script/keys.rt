@@ -1,6 +1,6 @@
 //! A table of a script, of which each key is read by its name.
 use crate::script::content::Content;
-use crate::script::kind::{Kind, count_of};
+use crate::script::value_kind::{ValueKind, count_of};
 use anyhow::{Result, bail};
 use toml::{Table, Value};
 
@@ -11,7 +11,7 @@ pub struct Keys<'a> {
 }
 
 impl<'a> Keys<'a> {
-    pub fn of(table: &'a Table, known: &[(&str, Kind)]) -> Result<Keys<'a>> {
+    pub fn of(table: &'a Table, known: &[(&str, ValueKind)]) -> Result<Keys<'a>> {
         for (key, value) in table {
             if !is_known(key.as_str(), value, known) {
                 bail!("{key} is an unknown key, or its value is of another kind");
@@ -20,7 +20,7 @@ impl<'a> Keys<'a> {
         Ok(Keys { table })
     }
 
-    pub fn of_value(value: &'a Value, known: &[(&str, Kind)]) -> Result<Keys<'a>> {
+    pub fn of_value(value: &'a Value, known: &[(&str, ValueKind)]) -> Result<Keys<'a>> {
         match value {
             Value::Table(table) => Keys::of(table, known),
             _ => bail!("a table is due"),
@@ -35,7 +35,7 @@ impl<'a> Keys<'a> {
         self.value(key).map(Content::of)
     }
 
-    pub fn table(self, key: &str, known: &[(&str, Kind)]) -> Result<Option<Keys<'a>>> {
+    pub fn table(self, key: &str, known: &[(&str, ValueKind)]) -> Result<Option<Keys<'a>>> {
         match self.value(key) {
             Some(value) => Keys::of_value(value, known).map(Some),
             None => Ok(None),
@@ -62,7 +62,7 @@ impl<'a> Keys<'a> {
     }
 }
 
-fn is_known(key: &str, value: &Value, known: &[(&str, Kind)]) -> bool {
+fn is_known(key: &str, value: &Value, known: &[(&str, ValueKind)]) -> bool {
     for (name, kind) in known {
         if *name == key {
             return kind.has(value);

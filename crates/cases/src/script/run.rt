@@ -5,32 +5,35 @@ use crate::pieces::Piece;
 use crate::script::content::{Content, add_pieces, bytes_of};
 use crate::script::each::Each;
 use crate::script::keys::Keys;
-use crate::script::kind::{Kind, byte_of};
+use crate::script::value_kind::{ValueKind, byte_of};
 use anyhow::{Context, Result, bail};
 use std::alloc::Global;
 use toml::Value;
 
-const KEYS: [(&str, Kind); 17] = [
-    ("shows", Kind::Text),
-    ("words", Kind::List),
-    ("schema", Kind::Contents),
-    ("table", Kind::Contents),
-    ("journal", Kind::Contents),
-    ("over", Kind::Text),
-    ("terminal", Kind::Text),
-    ("input", Kind::Contents),
-    ("sent", Kind::Contents),
-    ("piece", Kind::Count),
-    ("fails", Kind::Table),
-    ("ends", Kind::List),
-    ("file", Kind::Contents),
-    ("crash", Kind::Table),
-    ("calls", Kind::Count),
-    ("each", Kind::Table),
-    ("differs", Kind::Flag),
+const KEYS: [(&str, ValueKind); 17] = [
+    ("shows", ValueKind::Text),
+    ("words", ValueKind::List),
+    ("schema", ValueKind::Contents),
+    ("table", ValueKind::Contents),
+    ("journal", ValueKind::Contents),
+    ("over", ValueKind::Text),
+    ("terminal", ValueKind::Text),
+    ("input", ValueKind::Contents),
+    ("sent", ValueKind::Contents),
+    ("piece", ValueKind::Count),
+    ("fails", ValueKind::Table),
+    ("ends", ValueKind::List),
+    ("file", ValueKind::Contents),
+    ("crash", ValueKind::Table),
+    ("calls", ValueKind::Count),
+    ("each", ValueKind::Table),
+    ("differs", ValueKind::Flag),
 ];
 
-const CRASH_KEYS: [(&str, Kind); 2] = [("synced", Kind::Contents), ("torn", Kind::Contents)];
+const CRASH_KEYS: [(&str, ValueKind); 2] = [
+    ("synced", ValueKind::Contents),
+    ("torn", ValueKind::Contents),
+];
 
 const BESIDE_NO_EACH: [&str; 6] = ["input", "sent", "ends", "file", "crash", "calls"];
 

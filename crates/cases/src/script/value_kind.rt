@@ -3,7 +3,7 @@ use toml::Value;
 
 /// What may stand at a key.
 #[derive(Clone, Copy)]
-pub enum Kind {
+pub enum ValueKind {
     Text,
     /// A number from 0.
     Count,
@@ -14,16 +14,16 @@ pub enum Kind {
     Contents,
 }
 
-impl Kind {
+impl ValueKind {
     /// Whether a value is one of the kind.
     pub fn has(self, value: &Value) -> bool {
         match self {
-            Kind::Text => value.is_str(),
-            Kind::Count => count_of(value).is_some(),
-            Kind::Flag => value.is_bool(),
-            Kind::List => value.is_array(),
-            Kind::Table => value.is_table(),
-            Kind::Contents => true,
+            ValueKind::Text => value.is_str(),
+            ValueKind::Count => count_of(value).is_some(),
+            ValueKind::Flag => value.is_bool(),
+            ValueKind::List => value.is_array(),
+            ValueKind::Table => value.is_table(),
+            ValueKind::Contents => true,
         }
     }
 }
