@@ -23,14 +23,11 @@ LegalGrows =
 -- a legal history pins no row of a column of sums
 abbrev pub LegalPinsNothing : Type 0
 LegalPinsNothing =
-    (table : Table) (history : List Answered) (column row : ℕ) → AreSecrets table.setting.shape table.secrets → IsLegal table history →
-    column < columns table.setting.shape →
+    (table : Table) (history : List Answered) (column row : ℕ) → AreSecrets table.setting.shape table.secrets → IsLegal table history → column < columns table.setting.shape →
     kind_at table.setting.shape column ≡ Sum → ¬ (IsPinned table.setting.shape.rows (map (λ a. a.rows) (answers_of column history)) row)
 
 -- it leaves each answer of a column of maxima an extreme row, and none a lone one
 abbrev pub LegalLeavesNoLoneRow : Type 0
 LegalLeavesNoLoneRow =
-    (table : Table) (history : List Answered) (column : ℕ) → AreSecrets table.setting.shape table.secrets → IsLegal table history →
-    column < columns table.setting.shape →
-    kind_at table.setting.shape column ≡ Max → IsConsistent (answers_of column history) ×
-    ((row : ℕ) → row < table.setting.shape.rows → ¬ (IsLone (answers_of column history) row))
+    (table : Table) (history : List Answered) (column : ℕ) → AreSecrets table.setting.shape table.secrets → IsLegal table history → column < columns table.setting.shape →
+    kind_at table.setting.shape column ≡ Max → IsConsistent (answers_of column history) × ((row : ℕ) → row < table.setting.shape.rows → ¬ (IsLone (answers_of column history) row))

@@ -20,10 +20,8 @@ true_answer table column rows = truth (kind_at table.setting.shape column) (list
 -- is a denial, else answered truly
 abbrev pub IsOutcome : Table → List Answered → Asked → Outcome → Type 0
 IsOutcome table history asked Full = most_records ≤ length history
-IsOutcome table history asked (Denied verdict) = (length history < most_records) × (verdict ≢ Released) ×
-    IsDecisionAfter table.setting history asked.column asked.rows.list verdict
-IsOutcome table history asked (Answer answer) = (length history < most_records) × IsDecisionAfter table.setting history asked.column asked.rows.list Released ×
-    (answer ≡ true_answer table asked.column asked.rows)
+IsOutcome table history asked (Denied verdict) = (length history < most_records) × (verdict ≢ Released) × IsDecisionAfter table.setting history asked.column asked.rows.list verdict
+IsOutcome table history asked (Answer answer) = (length history < most_records) × IsDecisionAfter table.setting history asked.column asked.rows.list Released × (answer ≡ true_answer table asked.column asked.rows)
 
 -- the record that an outcome makes: an answer makes one
 abbrev pub record_of : Asked → Outcome → Option Answered
@@ -42,5 +40,4 @@ abbrev pub AreOutcomes : Table → List Answered → List Asked → List Outcome
 AreOutcomes table history [] [] = Unit {0}
 AreOutcomes table history [] (outcome ∷ outcomes) = ⊥
 AreOutcomes table history (asked ∷ questions) [] = ⊥
-AreOutcomes table history (asked ∷ questions) (outcome ∷ outcomes) =
-    IsOutcome table history asked outcome × AreOutcomes table (history ++ option_to_list (record_of asked outcome)) questions outcomes
+AreOutcomes table history (asked ∷ questions) (outcome ∷ outcomes) = IsOutcome table history asked outcome × AreOutcomes table (history ++ option_to_list (record_of asked outcome)) questions outcomes

@@ -24,8 +24,7 @@ pub record Serves (base : Database) (history : List Answered) (lines : List Coun
   pub sent_is : after ≡ before ++ bytes_of replies
 
 -- the whole groups of lines whose last line feed stands among the bytes that were read were answered, and no other
-pub record ServesWhole (base : Database) (history : List Answered) (batch : ℕ) (input left : List ℕ) (now : List Answered)
-    (before after : List ℕ) : Type 0 where
+pub record ServesWhole (base : Database) (history : List Answered) (batch : ℕ) (input left : List ℕ) (now : List Answered) (before after : List ℕ) : Type 0 where
   pub read : List ℕ
   pub split : input ≡ read ++ left
   pub count : ℕ
@@ -34,8 +33,7 @@ pub record ServesWhole (base : Database) (history : List Answered) (batch : ℕ)
   pub serves : Serves base history (groups batch count (whole_lines read)) now before after
 
 -- some groups of lines were answered
-pub record ServesSome (base : Database) (history : List Answered) (batch : ℕ) (lines : List CountedLine) (now : List Answered)
-    (before after : List ℕ) : Type 0 where
+pub record ServesSome (base : Database) (history : List Answered) (batch : ℕ) (lines : List CountedLine) (now : List Answered) (before after : List ℕ) : Type 0 where
   pub count : ℕ
   pub serves : Serves base history (groups batch count lines) now before after
 

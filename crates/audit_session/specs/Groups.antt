@@ -49,8 +49,7 @@ pub record Gathers (told : Type 0) (columns : List Column) (public : PublicView)
 
 -- what comes next: a line and its plan, or nothing is left
 abbrev pub GivesNext : Type 0 → List Column → PublicView → List ℕ → List ℕ → Bool → Option Plan → Type 0
-GivesNext told columns public rest left ended (Some plan) = CanBeServed (shape_of columns public.rows) plan ×
-    Gathers told columns public rest left ended (plan ∷ [])
+GivesNext told columns public rest left ended (Some plan) = CanBeServed (shape_of columns public.rows) plan × Gathers told columns public rest left ended (plan ∷ [])
 GivesNext told columns public rest left ended None = told → (left ≡ []) × (counted_lines rest ≡ [])
 
 -- a line took a byte at least
@@ -75,8 +74,7 @@ CanAllBeTold [] [] = Unit {0}
 CanAllBeTold [] (outcome ∷ outcomes) = ⊥
 CanAllBeTold (Ready answer ∷ plans) outcomes = IsInRange answer × CanAllBeTold plans outcomes
 CanAllBeTold (Ask take asked ∷ plans) [] = ⊥
-CanAllBeTold (Ask take asked ∷ plans) (outcome ∷ outcomes) =
-    (0 < length asked.rows.list) × (length asked.rows.list ≤ most_rows) × CanBeTold take outcome × CanAllBeTold plans outcomes
+CanAllBeTold (Ask take asked ∷ plans) (outcome ∷ outcomes) = (0 < length asked.rows.list) × (length asked.rows.list ≤ most_rows) × CanBeTold take outcome × CanAllBeTold plans outcomes
 
 -- one reply for each plan: that of a question tells its outcome
 abbrev pub AreTold : List Plan → List Outcome → List Reply → Type 0
@@ -86,12 +84,10 @@ AreTold [] (outcome ∷ outcomes) replies = ⊥
 AreTold (plan ∷ plans) outcomes [] = ⊥
 AreTold (Ready answer ∷ plans) outcomes (reply ∷ replies) = (reply ≡ answer) × AreTold plans outcomes replies
 AreTold (Ask take asked ∷ plans) [] (reply ∷ replies) = ⊥
-AreTold (Ask take asked ∷ plans) (outcome ∷ outcomes) (reply ∷ replies) =
-    TellsOutcome take (length asked.rows.list) outcome reply × AreTold plans outcomes replies
+AreTold (Ask take asked ∷ plans) (outcome ∷ outcomes) (reply ∷ replies) = TellsOutcome take (length asked.rows.list) outcome reply × AreTold plans outcomes replies
 
 -- the replies of a group, as they are told, and the history with their records
-pub record DecidesGroup {B : Type 0} (bench : Ghosts B) (old new : B) (table : Table) (history now : List Answered) (plans : List Plan)
-    (told : List Reply) : Type 0 where
+pub record DecidesGroup {B : Type 0} (bench : Ghosts B) (old new : B) (table : Table) (history now : List Answered) (plans : List Plan) (told : List Reply) : Type 0 where
   pub replies : List (Replied Answered)
   pub due : AreReplies (IsReplyOf table) history plans replies
   pub history_is : now ≡ history ++ records_of replies
@@ -115,8 +111,7 @@ stands_of secret image history = StandsFor image secret.shape history
 -- for that with the records of the group's replies, and a front of these was sent
 abbrev pub InGroup : {R L : Type 0} → (List R → L → Replied R → Type 0) → (List ℕ → List R → Type 0) → List R → List L → List ℕ → List ℕ → List ℕ → Type 0
 InGroup {R} rule stands history lines before image sent =
-    ((sent ≡ before) × stands image history) ⊎ ((replies : List (Replied R)) × AreReplies rule history lines replies ×
-    stands image (history ++ records_of replies) × AppendsFront before (bytes_of replies) sent)
+    ((sent ≡ before) × stands image history) ⊎ ((replies : List (Replied R)) × AreReplies rule history lines replies × stands image (history ++ records_of replies) × AppendsFront before (bytes_of replies) sent)
 
 -- the replies of a group were sent, one call for each and four for its records, and the history has these
 pub record AnswersGroup {B : Type 0} (bench : Ghosts B) (old new : B) (table : Table) (history now : List Answered) (plans : List Plan) : Type 0 where

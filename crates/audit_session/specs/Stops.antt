@@ -20,8 +20,7 @@ pub record IsFront {X : Type 0} (front whole : List X) : Type 0 where
 
 -- the image stands for the history with the records of some groups of lines, and their replies were sent, those of the
 -- last group maybe in part
-pub record Stop {R L : Type 0} (rule : List R → L → Replied R → Type 0) (stands : List ℕ → List R → Type 0) (batch : ℕ) (history : List R) (lines : List L)
-    (image sent : List ℕ) : Type 0 where
+pub record Stop {R L : Type 0} (rule : List R → L → Replied R → Type 0) (stands : List ℕ → List R → Type 0) (batch : ℕ) (history : List R) (lines : List L) (image sent : List ℕ) : Type 0 where
   pub count : ℕ
   pub replies : List (Replied R)
   pub due : AreReplies rule history (groups batch count lines) replies
@@ -35,10 +34,8 @@ stands_over base image history = StandsFor image base.secret.shape history
 
 -- a stop of a session over a table, of a bench that had sent something before
 abbrev pub StopsOver : Database → ℕ → List Answered → List CountedLine → List ℕ → List ℕ → List ℕ → Type 0
-StopsOver base batch history lines before image sent = (new : List ℕ) × (sent ≡ before ++ new) ×
-    Stop (IsDue base) (stands_over base) batch history lines image new
+StopsOver base batch history lines before image sent = (new : List ℕ) × (sent ≡ before ++ new) × Stop (IsDue base) (stands_over base) batch history lines image new
 
 -- every history for which the image stands is legal for the table of these secrets, and discloses none of them
 abbrev pub IsHarmless : SecretView → List ℕ → Type 0
-IsHarmless secret image = (history : List Answered) → StandsFor image secret.shape history →
-    IsLegal (secret_table secret) history × IsUndisclosed (secret_table secret) history
+IsHarmless secret image = (history : List Answered) → StandsFor image secret.shape history → IsLegal (secret_table secret) history × IsUndisclosed (secret_table secret) history

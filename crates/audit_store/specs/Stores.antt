@@ -54,8 +54,7 @@ HasGroup shape (r ∷ records) gate old new = AppendsGroup shape (r ∷ records)
 
 -- what a crash finds while a group of questions is decided and kept: nothing was sent, and the image stands for the
 -- history before the group or for that with the group's records
-pub record Keeps {D : Type 0} (bench : Ghosts D) (before after : D) (secret : SecretView) (history : List Answered) (questions : List Asked)
-    (sent : List ℕ) : Type 0 where
+pub record Keeps {D : Type 0} (bench : Ghosts D) (before after : D) (secret : SecretView) (history : List Answered) (questions : List Asked) (sent : List ℕ) : Type 0 where
   pub outcomes : List Outcome
   pub due : AreOutcomes (secret_table secret) history questions outcomes
   pub moments : LeavesOnly bench before after (IsBeforeOrAfter secret.shape history (records_made questions outcomes) sent)

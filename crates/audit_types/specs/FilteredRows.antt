@@ -18,8 +18,7 @@ from_lower low m n (r ∷ rows) l h = (omega (arith, h.0), h.1, h.2)
 has_here : (b : Bool) (x r : ℕ) (rest : List ℕ) (p : ℕ → Bool) (later : Bool) → p x ≡ b → has_row rest r ≡ (later && p r) → (x == r) ≡ true → x ≡ r →
     has_row (cond b (x ∷ rest) rest) r ≡ (((x == r) || later) && p r)
 has_here true x r rest p later e h test same = rw (test, ← same, e) refl
-has_here false x r rest p later e h test same = let gone : p r ≡ false = sym (ap p same) ∙ e in
-    h ∙ rw (test, gone) (elim later as (λ l. (l && false) ≡ false) [ true ↦ refl | false ↦ refl ])
+has_here false x r rest p later e h test same = let gone : p r ≡ false = sym (ap p same) ∙ e in h ∙ rw (test, gone) (elim later as (λ l. (l && false) ≡ false) [ true ↦ refl | false ↦ refl ])
 
 -- another row is as before
 has_there : (b : Bool) (x r : ℕ) (rest : List ℕ) (p : ℕ → Bool) (later : Bool) → has_row rest r ≡ (later && p r) → (x == r) ≡ false →

@@ -17,8 +17,7 @@ lengths_of_form n (row ∷ form) h = (h.0.one_each, lengths_of_form n form h.1)
 pub pivot_below : (n : ℕ) (row : List ℤ) → IsPrimitive n row → pivot row < n
 pivot_below n row primitive = elim (cases_lt (pivot row) n) [
   | inl inside ↦ inside
-  | inr outside ↦ let all = primitive.one_each in absurd (positive_not_zero (pivot_entry row) primitive.leading
-      (get_or_past row (pivot row) (pos 0) (omega arith)))
+  | inr outside ↦ let all = primitive.one_each in absurd (positive_not_zero (pivot_entry row) primitive.leading (get_or_past row (pivot row) (pos 0) (omega arith)))
 ]
 
 -- what is said of each pivot holds at each column that is one
@@ -30,14 +29,12 @@ at_pivot P (row ∷ rows) j h e = elim (or_cases (pivot row == j) (is_pivot rows
 ]
 
 -- the rows after a row are 0 at its pivot
-pub later_zero : (row : List ℤ) (rows : List (List ℤ)) → AllByRecursion (StandsBefore row) rows →
-    AllByRecursion (λ later. number_at later (pivot row) ≡ pos 0) rows
+pub later_zero : (row : List ℤ) (rows : List (List ℤ)) → AllByRecursion (StandsBefore row) rows → AllByRecursion (λ later. number_at later (pivot row) ≡ pos 0) rows
 later_zero row [] h = tt
 later_zero row (later ∷ rows) h = (h.0.2, later_zero row rows h.1)
 
 -- and the row is 0 at their pivots
-pub zero_later : (row : List ℤ) (rows : List (List ℤ)) → AllByRecursion (StandsBefore row) rows →
-    AllByRecursion (λ later. number_at row (pivot later) ≡ pos 0) rows
+pub zero_later : (row : List ℤ) (rows : List (List ℤ)) → AllByRecursion (StandsBefore row) rows → AllByRecursion (λ later. number_at row (pivot later) ≡ pos 0) rows
 zero_later row [] h = tt
 zero_later row (later ∷ rows) h = (h.0.1, zero_later row rows h.1)
 
@@ -46,8 +43,7 @@ abbrev pub IsZeroAtOthers : List (List ℤ) → List ℤ → Type 0
 IsZeroAtOthers form row = (j : ℕ) → is_pivot form j ≡ true → j ≢ pivot row → number_at row j ≡ pos 0
 
 -- rows that are 0 at the pivots of others are 0 at that of the row before them too
-with_first : (row : List ℤ) (rows some : List (List ℤ)) → AllByRecursion (StandsBefore row) some → AllByRecursion (IsZeroAtOthers rows) some →
-    AllByRecursion (IsZeroAtOthers (row ∷ rows)) some
+with_first : (row : List ℤ) (rows some : List (List ℤ)) → AllByRecursion (StandsBefore row) some → AllByRecursion (IsZeroAtOthers rows) some → AllByRecursion (IsZeroAtOthers (row ∷ rows)) some
 with_first row rows [] before zeros = tt
 with_first row rows (r ∷ some) before zeros = (
   λ j e other. elim (or_cases (pivot row == j) (is_pivot rows j) e) [

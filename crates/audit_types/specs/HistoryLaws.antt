@@ -24,8 +24,7 @@ module _ (P : Answer → Type 0) (column : ℕ) where
       go false rest h = h
 
   -- what holds of all answers of a column holds of that of each of its records
-  pub own_answer : (history : List Answered) (i : ℕ) (r : Answered) → i < length history → r ≡ get_or history i r → r.column ≡ column →
-      AllByRecursion P (answers_of column history) → P (answer_in r)
+  pub own_answer : (history : List Answered) (i : ℕ) (r : Answered) → i < length history → r ≡ get_or history i r → r.column ≡ column → AllByRecursion P (answers_of column history) → P (answer_in r)
   own_answer [] i r within is own all = absurd (omega arith)
   own_answer (x ∷ history) zero r within is own all =
       let same : (x.column == column) ≡ true = eq-eqb x.column column (ap (λ (y : Answered). y.column) (sym is) ∙ own) in

@@ -35,12 +35,8 @@ scaled_gcd k p (suc n) a b h =
       | inl e ↦ (a, IsGcd-from_zero a b e, IsGcd-from_zero (k * a) (k * b) (rw e (omega arith)))
       | inr more ↦
           let smaller : a % b < b = mod_below a b (omega arith) in
-          let rest = scaled_gcd k p n b (a % b) (omega arith) in (
-            rest.0,
-            IsGcd-from_mod a b rest.0 rest.1,
-            IsGcd-from_mod (k * a) (k * b) (k * rest.0)
-                (subst (λ m. IsGcd (k * b) m (k * rest.0)) (sym (mod_scaled k a b p (omega arith))) rest.2),
-          )
+          let rest = scaled_gcd k p n b (a % b) (omega arith) in
+          (rest.0, IsGcd-from_mod a b rest.0 rest.1, IsGcd-from_mod (k * a) (k * b) (k * rest.0) (subst (λ m. IsGcd (k * b) m (k * rest.0)) (sym (mod_scaled k a b p (omega arith))) rest.2))
     ]
 
 -- the content of a list with one number more
@@ -52,11 +48,7 @@ IsContent-cons x xs g h content common = record {
 
 -- the content of a row, and of its multiple
 pub scaled_content : (k : ℤ) → 0 < unsigned_abs k → (row : List ℤ) → (g : ℕ) × IsContent row g × IsContent (times k row) (unsigned_abs k * g)
-scaled_content k p [] = (
-  0,
-  record { divides = tt; greatest = λ d h. dvd-zero d },
-  record { divides = tt; greatest = λ d h. subst (λ m. d ∣ m) (omega arith) (dvd-zero d) },
-)
+scaled_content k p [] = (0, record { divides = tt; greatest = λ d h. dvd-zero d }, record { divides = tt; greatest = λ d h. subst (λ m. d ∣ m) (omega arith) (dvd-zero d) })
 scaled_content k p (x ∷ row) =
     let rest = scaled_content k p row in
     let here = scaled_gcd (unsigned_abs k) p (suc rest.0) (unsigned_abs x) rest.0 (omega arith) in (
@@ -104,12 +96,10 @@ number_at-times k (x ∷ f) zero = refl
 number_at-times k (x ∷ f) (suc j) = number_at-times k f j
 
 -- two primitive lists on one line, in one direction, are one
-pub one_primitive : (x y : ℤ) (f g : List ℤ) → pos 0 <ℤ x → pos 0 <ℤ y → length f ≡ length g → IsContent f 1 → IsContent g 1 →
-    ((j : ℕ) → x *ℤ number_at f j ≡ y *ℤ number_at g j) → f ≡ g
+pub one_primitive : (x y : ℤ) (f g : List ℤ) → pos 0 <ℤ x → pos 0 <ℤ y → length f ≡ length g → IsContent f 1 → IsContent g 1 → ((j : ℕ) → x *ℤ number_at f j ≡ y *ℤ number_at g j) → f ≡ g
 one_primitive x y f g p q l one two h =
     let lists : times x f ≡ times y g = same_rows (times x f) (times y g) (length-map f (λ z. x *ℤ z) ∙ l ∙ sym (length-map g (λ z. y *ℤ z)))
     (λ j. number_at-times x f j ∙ h j ∙ sym (number_at-times y g j)) in
-    let sizes = content_unique (times y g) (unsigned_abs x) (unsigned_abs y)
-    (subst (λ r. IsContent r (unsigned_abs x)) lists (content_times x f (size_positive x p) one)) (content_times y g (size_positive y q) two) in
+    let sizes = content_unique (times y g) (unsigned_abs x) (unsigned_abs y) (subst (λ r. IsContent r (unsigned_abs x)) lists (content_times x f (size_positive x p) one)) (content_times y g (size_positive y q) two) in
     let same = same_size x y p q sizes in
     same_rows f g l (λ j. cancelled x (number_at f j) (number_at g j) p (h j ∙ ap (λ z. z *ℤ number_at g j) (sym same)))

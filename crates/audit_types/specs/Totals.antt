@@ -89,12 +89,10 @@ below_next r j e = let same = eqb-true r j e in omega arith
 over_rows : (d : List ℤ) (n low : ℕ) (rows : List ℕ) → AscendsFrom low n rows → total (λ j. cond (has_row rows j) (number_at d j) (pos 0)) n ≡ sum_over d rows
 over_rows d n low [] h = total-zero _ n (λ j l. refl)
 over_rows d n low (r ∷ rows) h =
-    let split = total-agree (λ j. cond ((r == j) || has_row rows j) (number_at d j) (pos 0))
-    (λ j. cond (r == j) (number_at d j) (pos 0) +ℤ cond (has_row rows j) (number_at d j) (pos 0)) n
+    let split = total-agree (λ j. cond ((r == j) || has_row rows j) (number_at d j) (pos 0)) (λ j. cond (r == j) (number_at d j) (pos 0) +ℤ cond (has_row rows j) (number_at d j) (pos 0)) n
     (λ j l. one_or_rest (r == j) (has_row rows j) (number_at d j) (λ e. ascends_more (r + 1) n rows h.2 j (below_next r j e))) in
     let apart = total-add (λ j. cond (r == j) (number_at d j) (pos 0)) (λ j. cond (has_row rows j) (number_at d j) (pos 0)) n in
-    let first = total-single (λ j. cond (r == j) (number_at d j) (pos 0)) n r h.1
-    (λ j l other. left_out (r == j) (number_at d j) (ne_eqb r j (λ e. other (sym e)))) in
+    let first = total-single (λ j. cond (r == j) (number_at d j) (pos 0)) n r h.1 (λ j l other. left_out (r == j) (number_at d j) (ne_eqb r j (λ e. other (sym e)))) in
     let own = picked (r == r) (number_at d r) (eq-eqb r r refl) in
     let rest = over_rows d n (r + 1) rows h.2 in
     omega (arith, ints)
@@ -107,8 +105,7 @@ product-set_row d n rows h =
     ∙ over_rows d n 0 rows h
 
 -- rows whose products are 0 combine to a row whose product is 0
-pub product-combined : (x : ℕ → ℤ) (n : ℕ) (cs : List ℤ) (rows : List (List ℤ)) → AllByRecursion (λ row. product row x n ≡ pos 0) rows →
-    total (λ j. combined cs rows j *ℤ x j) n ≡ pos 0
+pub product-combined : (x : ℕ → ℤ) (n : ℕ) (cs : List ℤ) (rows : List (List ℤ)) → AllByRecursion (λ row. product row x n ≡ pos 0) rows → total (λ j. combined cs rows j *ℤ x j) n ≡ pos 0
 product-combined x n [] rows h = total-zero _ n (λ j l. zero-*ℤ (x j))
 product-combined x n (c ∷ cs) [] h = total-zero _ n (λ j l. zero-*ℤ (x j))
 product-combined x n (c ∷ cs) (row ∷ rows) h =
@@ -120,13 +117,11 @@ product-combined x n (c ∷ cs) (row ∷ rows) h =
     omega (arith, ints)
 
 -- and so does each row of their span
-pub product-span : (x : ℕ → ℤ) (n : ℕ) (rows : List (List ℤ)) (row : List ℤ) → AllByRecursion (λ r. product r x n ≡ pos 0) rows → InSpan rows row →
-    product row x n ≡ pos 0
+pub product-span : (x : ℕ → ℤ) (n : ℕ) (rows : List (List ℤ)) (row : List ℤ) → AllByRecursion (λ r. product r x n ≡ pos 0) rows → InSpan rows row → product row x n ≡ pos 0
 product-span x n rows row h span =
     let whole = total-agree (λ j. pos span.multiple *ℤ (number_at row j *ℤ x j)) (λ j. combined span.coefficients rows j *ℤ x j) n
     (λ j l. sym (times_assoc (pos span.multiple) (number_at row j) (x j)) ∙ ap (λ z. z *ℤ x j) (span.is j)) in
-    let none : pos span.multiple *ℤ product row x n ≡ pos 0 = sym (total-times (pos span.multiple) (λ j. number_at row j *ℤ x j) n) ∙ whole
-    ∙ product-combined x n span.coefficients rows h in
+    let none : pos span.multiple *ℤ product row x n ≡ pos 0 = sym (total-times (pos span.multiple) (λ j. number_at row j *ℤ x j) n) ∙ whole ∙ product-combined x n span.coefficients rows h in
     let some = span.positive in
     zero_factor (product row x n) (pos span.multiple) (*ℤ_comm (product row x n) (pos span.multiple) ∙ none) (omega (arith, ints))
 
@@ -143,8 +138,7 @@ products_from_sums n d [] are zeros = tt
 products_from_sums n d (s ∷ sets) are zeros = (product-set_row d n s are.0 ∙ zeros.0, products_from_sums n d sets are.1 zeros.1)
 
 -- and back
-pub sums_from_products : (n : ℕ) (d : List ℤ) (sets : List (List ℕ)) → AllByRecursion (AreRows n) sets →
-    AllByRecursion (λ row. product row (number_at d) n ≡ pos 0) (map (set_row n) sets) →
+pub sums_from_products : (n : ℕ) (d : List ℤ) (sets : List (List ℕ)) → AllByRecursion (AreRows n) sets → AllByRecursion (λ row. product row (number_at d) n ≡ pos 0) (map (set_row n) sets) →
     AllByRecursion (λ s. sum_over d s ≡ pos 0) sets
 sums_from_products n d [] are zeros = tt
 sums_from_products n d (s ∷ sets) are zeros = (sym (product-set_row d n s are.0) ∙ zeros.0, sums_from_products n d sets are.1 zeros.1)

@@ -61,8 +61,7 @@ same_place words k i l =
 word-at : (n : ℕ) (words : List ℕ) → AreWords n words → (k : ℕ) → word_of (rows_that (has_bit words) n) k ≡ get_or words k 0
 word-at n words h k =
     let range : get_or words k 0 < 2 ^ 64 = h.ranges k in
-    bits_that_agree _ (λ i. bit_at (get_or words k 0) i == 1) 64 (λ i l. has-view n words h (64 * k + i) ∙ same_place words k i l)
-    ∙ bits-number (get_or words k 0) 64 ∙ omega arith
+    bits_that_agree _ (λ i. bit_at (get_or words k 0) i == 1) 64 (λ i l. has-view n words h (64 * k + i) ∙ same_place words k i l) ∙ bits-number (get_or words k 0) 64 ∙ omega arith
 
 -- the words are those of their rows
 pub words-words_of : (n : ℕ) (words : List ℕ) → AreWords n words → words_of (rows_that (has_bit words) n) ≡ words
@@ -143,28 +142,23 @@ pub has_bit-set : (words : List ℕ) (row r : ℕ) → row / 64 < length words �
 has_bit-set words row r l =
     elim (cases_eq (r / 64) (row / 64)) [
       | inl word ↦
-          let read : get_or (set words (row / 64) (bit_or (get_or words (row / 64) 0) (1 * 2 ^ (row % 64) % 2 ^ 64))) (r / 64) 0 ≡ bit_or
-          (get_or words (row / 64) 0) (1 * 2 ^ (row % 64) % 2 ^ 64) =
-          ap (λ m. get_or (set words (row / 64) (bit_or (get_or words (row / 64) 0) (1 * 2 ^ (row % 64) % 2 ^ 64))) m 0) word
-          ∙ get_or-set_same words (row / 64) _ 0 l in
+          let read : get_or (set words (row / 64) (bit_or (get_or words (row / 64) 0) (1 * 2 ^ (row % 64) % 2 ^ 64))) (r / 64) 0 ≡ bit_or (get_or words (row / 64) 0) (1 * 2 ^ (row % 64) % 2 ^ 64) =
+          ap (λ m. get_or (set words (row / 64) (bit_or (get_or words (row / 64) 0) (1 * 2 ^ (row % 64) % 2 ^ 64))) m 0) word ∙ get_or-set_same words (row / 64) _ 0 l in
           elim (cases_eq (r % 64) (row % 64)) [
             | inl bit ↦
                 let one : bit_at (bit_or (get_or words (row / 64) 0) (1 * 2 ^ (row % 64) % 2 ^ 64)) (r % 64) ≡ 1 =
-                ap (bit_at (bit_or (get_or words (row / 64) 0) (1 * 2 ^ (row % 64) % 2 ^ 64))) bit
-                ∙ bit_at_set_same w64 (get_or words (row / 64) 0) (row % 64) (omega arith) in
+                ap (bit_at (bit_or (get_or words (row / 64) 0) (1 * 2 ^ (row % 64) % 2 ^ 64))) bit ∙ bit_at_set_same w64 (get_or words (row / 64) 0) (row % 64) (omega arith) in
                 let same : (r == row) ≡ true = eq-eqb r row (omega arith) in
                 ap (λ x. bit_at x (r % 64) == 1) read ∙ ap (λ x. x == 1) one ∙ sym (ap (λ b. has_bit words r || b) same ∙ or_right (has_bit words r) true refl)
             | inr bit ↦
                 let kept : bit_at (bit_or (get_or words (row / 64) 0) (1 * 2 ^ (row % 64) % 2 ^ 64)) (r % 64) ≡ bit_at (get_or words (row / 64) 0) (r % 64) =
                 bit_at_set_other w64 (get_or words (row / 64) 0) (row % 64) (omega arith) (r % 64) bit in
                 let other : (r == row) ≡ false = ne_eqb r row (λ e. bit (ap (λ m. m % 64) e)) in
-                ap (λ x. bit_at x (r % 64) == 1) read ∙ ap (λ x. x == 1) kept ∙ ap (λ m. bit_at (get_or words m 0) (r % 64) == 1) (sym word)
-                ∙ sym (ap (λ b. has_bit words r || b) other ∙ or_false (has_bit words r))
+                ap (λ x. bit_at x (r % 64) == 1) read ∙ ap (λ x. x == 1) kept ∙ ap (λ m. bit_at (get_or words m 0) (r % 64) == 1) (sym word) ∙ sym (ap (λ b. has_bit words r || b) other ∙ or_false (has_bit words r))
           ]
       | inr word ↦
           let other : (r == row) ≡ false = ne_eqb r row (λ e. word (ap (λ m. m / 64) e)) in
-          ap (λ x. bit_at x (r % 64) == 1) (get_or-set_other words (row / 64) (r / 64) _ 0 word)
-          ∙ sym (ap (λ b. has_bit words r || b) other ∙ or_false (has_bit words r))
+          ap (λ x. bit_at x (r % 64) == 1) (get_or-set_other words (row / 64) (r / 64) _ 0 word) ∙ sym (ap (λ b. has_bit words r || b) other ∙ or_false (has_bit words r))
     ]
 
 -- sixteen words of 64 bits, by the code's facts on them
@@ -248,14 +242,12 @@ module _ (a b words : List ℕ) (n : ℕ) (p : AreWords n a) (q : AreWords n b) 
   pub rows-and : ((k : ℕ) → k < 16 → get_or words k 0 ≡ bit_and (get_or a k 0) (get_or b k 0)) →
       rows_that (has_bit words) n ≡ intersection n (rows_that (has_bit a) n) (rows_that (has_bit b) n)
   rows-and h =
-      rows_that_agree _ _ n (λ r m. bit-and (all_and h) r ∙ sym
-      (ap (λ x. x && has_row (rows_that (has_bit b) n) r) (has-view n a p r) ∙ ap (λ x. has_bit a r && x) (has-view n b q r)))
+      rows_that_agree _ _ n (λ r m. bit-and (all_and h) r ∙ sym (ap (λ x. x && has_row (rows_that (has_bit b) n) r) (has-view n a p r) ∙ ap (λ x. has_bit a r && x) (has-view n b q r)))
 
   pub rows-or : ((k : ℕ) → k < 16 → get_or words k 0 ≡ bit_or (get_or a k 0) (get_or b k 0)) →
       rows_that (has_bit words) n ≡ union n (rows_that (has_bit a) n) (rows_that (has_bit b) n)
   rows-or h =
-      rows_that_agree _ _ n (λ r m. bit-or (all_or h) r ∙ sym
-      (ap (λ x. x || has_row (rows_that (has_bit b) n) r) (has-view n a p r) ∙ ap (λ x. has_bit a r || x) (has-view n b q r)))
+      rows_that_agree _ _ n (λ r m. bit-or (all_or h) r ∙ sym (ap (λ x. x || has_row (rows_that (has_bit b) n) r) (has-view n a p r) ∙ ap (λ x. has_bit a r || x) (has-view n b q r)))
 
 -- a set is its words and its number
 pub same_inside : (a b : Inside) → a.words ≡ b.words → a.n ≡ b.n → a ≡ b
@@ -300,8 +292,7 @@ module _ (a words : List ℕ) (n : ℕ) (p : AreWords n a) (l : length words ≡
   bit-flip r small =
       let bit : r % 64 < 64 = omega arith in
       let place : 64 * (r / 64) + r % 64 ≡ r = omega arith in
-      let not_bit : bit_at (bit_not w64 (get_or a (r / 64) 0)) (r % 64) ≡ 1 - bit_at (get_or a (r / 64) 0) (r % 64) =
-      bit_at_not w64 (get_or a (r / 64) 0) (r % 64) (p.ranges (r / 64)) bit in
+      let not_bit : bit_at (bit_not w64 (get_or a (r / 64) 0)) (r % 64) ≡ 1 - bit_at (get_or a (r / 64) 0) (r % 64) = bit_at_not w64 (get_or a (r / 64) 0) (r % 64) (p.ranges (r / 64)) bit in
       ap (λ x. bit_at x (r % 64) == 1) (flipped (r / 64) (omega arith))
       ∙ ap (λ x. x == 1) (bit_at_and (bit_not w64 (get_or a (r / 64) 0)) (row_mask n (r / 64)) (r % 64))
       ∙ ap (λ x. min x (bit_at (row_mask n (r / 64)) (r % 64)) == 1) not_bit

@@ -36,16 +36,12 @@ StandsForWhat file base P = (now : List Answered) × P now × stands_over base f
 -- which lines were answered, and that the file stands for the history with their records. Files without fault and a
 -- legal journal are never refused. Where the bench failed, the clause on every moment says what was left.
 abbrev pub ServeEnds : ℕ → Status → Database → List Answered → Outside → Outside → Type 0
-ServeEnds batch Done base history before after = StandsForWhat after.file base
-    (λ now. Serves base history (counted_lines before.input) now before.sent after.sent)
-ServeEnds batch (SourceFault Input) base history before after =
-    StandsForWhat after.file base (λ now. ServesWhole base history batch before.input after.input now before.sent after.sent)
+ServeEnds batch Done base history before after = StandsForWhat after.file base (λ now. Serves base history (counted_lines before.input) now before.sent after.sent)
+ServeEnds batch (SourceFault Input) base history before after = StandsForWhat after.file base (λ now. ServesWhole base history batch before.input after.input now before.sent after.sent)
 ServeEnds batch (SourceFault which) base history before after = (after.sent ≡ before.sent) × (after.file ≡ before.file)
 ServeEnds batch BenchFault base history before after = Unit {0}
-ServeEnds batch InputLimit base history before after = StandsForWhat after.file base
-    (λ now. ServesLimited base history batch before.input now before.sent after.sent)
-ServeEnds batch NoMemory base history before after = StandsForWhat after.file base
-    (λ now. ServesSome base history batch (counted_lines before.input) now before.sent after.sent)
+ServeEnds batch InputLimit base history before after = StandsForWhat after.file base (λ now. ServesLimited base history batch before.input now before.sent after.sent)
+ServeEnds batch NoMemory base history before after = StandsForWhat after.file base (λ now. ServesSome base history batch (counted_lines before.input) now before.sent after.sent)
 ServeEnds batch status base history before after = ⊥
 
 -- what there is to audit

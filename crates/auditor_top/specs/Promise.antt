@@ -20,8 +20,7 @@ use Rattle.auditor_top.specs.Commands.{AreFilesOf, ServesOver}
 -- to the next line both give one reply, or each the true answer of its own table
 abbrev pub DecidesAlike : Database → List Run → List Answered → Type 0
 DecidesAlike base runs last =
-    (twin : Database) (others : List Run) (final : List Answered) (line : CountedLine) (a b : Replied Answered) → AreTwins base twin →
-    IsLife twin others final → AreAlike runs others →
+    (twin : Database) (others : List Run) (final : List Answered) (line : CountedLine) (a b : Replied Answered) → AreTwins base twin → IsLife twin others final → AreAlike runs others →
     IsDue base last line a → IsDue twin final line b → (a ≡ b) ⊎ AreAnswersAlike (secret_table base.secret) (secret_table twin.secret) a b
 
 -- a life with one run more is a life, keeps the promise, and decides as every life like it
@@ -37,25 +36,21 @@ MadeIsTaken = (schema table image : List ℕ) (base : Database) → AreFilesOf s
 -- what a stop of `serve` at any moment left is taken, whatever the lines were
 abbrev pub StopsAreTaken : Type 0
 StopsAreTaken =
-    (schema table file image before sent : List ℕ) (base : Database) (batch : ℕ) (history : List Answered) (lines : List CountedLine) →
-    ServesOver schema table file base history →
+    (schema table file image before sent : List ℕ) (base : Database) (batch : ℕ) (history : List Answered) (lines : List CountedLine) → ServesOver schema table file base history →
     StopsOver base batch history lines before image sent → (now : List Answered) × ServesOver schema table image base now
 
 -- every life over the table of two files keeps the promise
 abbrev pub LivesKeepPromise : Type 0
-LivesKeepPromise = (schema table : List ℕ) (base : Database) (runs : List Run) (last : List Answered) → AreFilesOf schema table base → IsLife base runs last →
-    KeepsPromise base runs last
+LivesKeepPromise = (schema table : List ℕ) (base : Database) (runs : List Run) (last : List Answered) → AreFilesOf schema table base → IsLife base runs last → KeepsPromise base runs last
 
 -- the next run of a life is given what a run has to be given, whatever image the last one left
 abbrev pub LivesGoOn : Type 0
 LivesGoOn =
-    (schema table image : List ℕ) (base : Database) (runs : List Run) (last : List Answered) → AreFilesOf schema table base → IsLife base runs last →
-    stands_over base image last →
+    (schema table image : List ℕ) (base : Database) (runs : List Run) (last : List Answered) → AreFilesOf schema table base → IsLife base runs last → stands_over base image last →
     ServesOver schema table image base last
 
 -- a stop after a life makes it one run longer
 abbrev pub StopsMakeLives : Type 0
 StopsMakeLives =
-    (schema table image : List ℕ) (base : Database) (runs : List Run) (history : List Answered) (run : Run) → AreFilesOf schema table base →
-    IsLife base runs history → IsBatch run.batch →
+    (schema table image : List ℕ) (base : Database) (runs : List Run) (history : List Answered) (run : Run) → AreFilesOf schema table base → IsLife base runs history → IsBatch run.batch →
     stands_over base image run.last → Stop (IsDue base) (stands_over base) run.batch history (counted_lines run.input) image run.sent → GoesOn base runs run

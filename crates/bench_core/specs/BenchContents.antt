@@ -69,8 +69,7 @@ failed bench = record bench { calls = next_count bench.calls; faults = next_coun
 
 -- a write fails: where there was room for a call, its range was touched
 abbrev pub failed_write : BenchContents → ℕ → ℕ → BenchContents
-failed_write bench at count = if nat_lt bench.calls bench.room.calls then record (failed bench) { past = bench.past ++ unwritten at count ∷ [] }
-    else failed bench
+failed_write bench at count = if nat_lt bench.calls bench.room.calls then record (failed bench) { past = bench.past ++ unwritten at count ∷ [] } else failed bench
 
 -- a send fails: a front of its piece was sent, if there is any
 abbrev pub failed_send : BenchContents → List ℕ → BenchContents

@@ -6,19 +6,16 @@ use Rattle.bench_core.specs.Calls.{LeavesOnly}
 
 module _ {D : Type 0} (bench : Ghosts D) where
   -- before the first call
-  pub started : (old : D) (P : List ℕ → List ℕ → Type 0) → ((image sent : List ℕ) → bench.since old (bench.moment old) image sent → P image sent) →
-      LeavesOnly bench old old P
+  pub started : (old : D) (P : List ℕ → List ℕ → Type 0) → ((image sent : List ℕ) → bench.since old (bench.moment old) image sent → P image sent) → LeavesOnly bench old old P
   started old P here = record { later = omega arith; each = here; before = λ t image sent le was. inl was }
 
   -- one call more, within which a crash finds what has P
-  pub goes_on : (old mid new : D) (P within : List ℕ → List ℕ → Type 0) → LeavesOnly bench old mid P →
-      Elapses (bench.moment mid) (bench.moment new) (bench.since mid) (bench.since new) within
+  pub goes_on : (old mid new : D) (P within : List ℕ → List ℕ → Type 0) → LeavesOnly bench old mid P → Elapses (bench.moment mid) (bench.moment new) (bench.since mid) (bench.since new) within
       → ((image sent : List ℕ) → within image sent → P image sent) → LeavesOnly bench old new P
   goes_on old mid new P within so_far time here = record {
     later = omega (arith, so_far.later, time.later);
     each = λ image sent was. ⊎_elim (so_far.each image sent) (here image sent) (time.nothing_else (bench.moment old) image sent so_far.later was);
-    before = λ t image sent le was. ⊎_elim (so_far.before t image sent le) (λ now. inr (here image sent now))
-        (time.nothing_else t image sent (omega (arith, le, so_far.later)) was);
+    before = λ t image sent le was. ⊎_elim (so_far.before t image sent le) (λ now. inr (here image sent now)) (time.nothing_else t image sent (omega (arith, le, so_far.later)) was);
   }
 
   -- two parts of a call, one after the other
@@ -30,8 +27,7 @@ module _ {D : Type 0} (bench : Ghosts D) where
   }
 
   -- what has P has Q
-  pub weakens : (old new : D) (P Q : List ℕ → List ℕ → Type 0) → ((image sent : List ℕ) → P image sent → Q image sent) → LeavesOnly bench old new P →
-      LeavesOnly bench old new Q
+  pub weakens : (old new : D) (P Q : List ℕ → List ℕ → Type 0) → ((image sent : List ℕ) → P image sent → Q image sent) → LeavesOnly bench old new P → LeavesOnly bench old new Q
   weakens old new P Q to only = record {
     later = only.later;
     each = λ image sent was. to image sent (only.each image sent was);

@@ -82,6 +82,5 @@ IsReplyText bytes = (r : Reply) × (bytes ≡ reply_bytes r)
 -- the line that tells a tally over so many rows
 abbrev pub summary_line : ℕ → Tally → List ℕ
 summary_line rows tally =
-    codes "{\"rows\":" ++ decimal rows ++ codes ",\"asked\":" ++ decimal tally.asked ++ codes ",\"released\":" ++ decimal tally.released ++
-    codes ",\"unsafe\":" ++ decimal tally.denied_unsafe
+    codes "{\"rows\":" ++ decimal rows ++ codes ",\"asked\":" ++ decimal tally.asked ++ codes ",\"released\":" ++ decimal tally.released ++ codes ",\"unsafe\":" ++ decimal tally.denied_unsafe
     ++ codes ",\"wide\":" ++ decimal tally.denied_wide ++ codes ",\"refused\":" ++ decimal tally.refused ++ codes "}\n"

@@ -46,8 +46,7 @@ pub record IsPartlyDivided (old row : List ℤ) (d : ℤ) (i : ℕ) : Type 0 whe
   pub done : (k : ℕ) → k < i → get_or old k (pos 0) ≡ d *ℤ get_or row k (pos 0)
   pub left : (k : ℕ) → i ≤ k → get_or row k (pos 0) ≡ get_or old k (pos 0)
 
-pub one_more : (old row : List ℤ) (d v : ℤ) (i : ℕ) → i < length row → IsPartlyDivided old row d i → get_or row i (pos 0) ≡ d *ℤ v →
-    IsPartlyDivided old (set row i v) d (i + 1)
+pub one_more : (old row : List ℤ) (d v : ℤ) (i : ℕ) → i < length row → IsPartlyDivided old row d i → get_or row i (pos 0) ≡ d *ℤ v → IsPartlyDivided old (set row i v) d (i + 1)
 one_more old row d v i inside so_far is = record {
   done = λ k h. elim (cases_eq k i) [
     | inl e ↦ rw e (sym (so_far.left i (omega arith)) ∙ is ∙ ap (λ x. d *ℤ x) (sym (get_or-set_same row i v (pos 0) inside)))

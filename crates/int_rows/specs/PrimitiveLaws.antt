@@ -37,8 +37,7 @@ all_zero_times c (x ∷ xs) n = ap (λ b. b && list_all is_zero (map (λ y. c *�
 pivot_times : (c : ℤ) (xs : List ℤ) → c ≢ pos 0 → pivot (map (λ x. c *ℤ x) xs) ≡ pivot xs
 pivot_times c [] n = refl
 pivot_times c (x ∷ xs) n =
-    ap (λ b. cond (not (not b)) (1 + pivot (map (λ y. c *ℤ y) xs)) 0) (is_zero-times c x n)
-    ∙ ap (λ m. cond (not (not (is_zero x))) (1 + m) 0) (pivot_times c xs n)
+    ap (λ b. cond (not (not b)) (1 + pivot (map (λ y. c *ℤ y) xs)) 0) (is_zero-times c x n) ∙ ap (λ m. cond (not (not (is_zero x))) (1 + m) 0) (pivot_times c xs n)
 
 all_zeros : (xs : List ℤ) → list_all is_zero xs ≡ true → AllByRecursion (λ x. 0 ∣ unsigned_abs x) xs
 all_zeros [] h = tt
@@ -60,13 +59,9 @@ at_most_one zero k p h = absurd (let none : (k * 0) ≡ 0 = omega arith in let e
 at_most_one (suc zero) k p h = dvd_refl 1
 at_most_one (suc (suc d)) k p h = let most = le_of_dvd p h in let wide : k + k ≤ k * suc (suc d) = omega arith in absurd (omega arith)
 
-scaled_divisor : (c : ℤ) (d : ℕ) (xs : List ℤ) → AllByRecursion (λ x. d ∣ unsigned_abs x) xs →
-    AllByRecursion (λ x. (unsigned_abs c * d) ∣ unsigned_abs x) (map (λ x. c *ℤ x) xs)
+scaled_divisor : (c : ℤ) (d : ℕ) (xs : List ℤ) → AllByRecursion (λ x. d ∣ unsigned_abs x) xs → AllByRecursion (λ x. (unsigned_abs c * d) ∣ unsigned_abs x) (map (λ x. c *ℤ x) xs)
 scaled_divisor c d [] h = tt
-scaled_divisor c d (x ∷ xs) h = (
-  subst (λ m. (unsigned_abs c * d) ∣ m) (sym (unsigned_abs-mul c x)) (mul-dvd-mul_left d (unsigned_abs c) h.0),
-  scaled_divisor c d xs h.1,
-)
+scaled_divisor c d (x ∷ xs) h = (subst (λ m. (unsigned_abs c * d) ∣ m) (sym (unsigned_abs-mul c x)) (mul-dvd-mul_left d (unsigned_abs c) h.0), scaled_divisor c d xs h.1)
 
 pub content_one : (c : ℤ) (xs : List ℤ) → c ≢ pos 0 → IsContent (map (λ x. c *ℤ x) xs) (unsigned_abs c) → IsContent xs 1
 content_one c xs n content = record {

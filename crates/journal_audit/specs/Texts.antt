@@ -23,8 +23,7 @@ moved_rows row (x ∷ xs) = if is_zero x then moved_rows (row + 1) xs else at_ro
 
 -- the line on a row of a column of sums
 unfoldable pub direction_line : List ℕ → ℕ → List ℤ → List ℕ
-direction_line name row d = codes "{\"column\":\"" ++ name ++ codes "\",\"row\":" ++ decimal row ++ codes ",\"direction\":[" ++ with_commas
-    (moved_rows 0 d) ++ codes "]}\n"
+direction_line name row d = codes "{\"column\":\"" ++ name ++ codes "\",\"row\":" ++ decimal row ++ codes ",\"direction\":[" ++ with_commas (moved_rows 0 d) ++ codes "]}\n"
 
 -- the line on a column of maxima
 unfoldable pub high_line : List ℕ → List ℤ → List ℕ
@@ -32,5 +31,4 @@ high_line name high = codes "{\"column\":\"" ++ name ++ codes "\",\"high\":[" ++
 
 -- the last line
 unfoldable pub total_line : ℕ → ℕ → ℕ → List ℕ
-total_line records columns rows = codes "{\"audited\":" ++ decimal records ++ codes ",\"columns\":" ++ decimal columns ++ codes ",\"rows\":" ++ decimal rows ++
-    codes "}\n"
+total_line records columns rows = codes "{\"audited\":" ++ decimal records ++ codes ",\"columns\":" ++ decimal columns ++ codes ",\"rows\":" ++ decimal rows ++ codes "}\n"

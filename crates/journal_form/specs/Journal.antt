@@ -63,8 +63,7 @@ pub record BreaksBehind (file : List ℕ) (at : ℕ) : Type 0 where
   pub behind : List ℕ
   pub begins : Begins file shape groups behind
   pub breaks : ((behind ≡ []) × (at ≡ gate_behind groups))
-      ⊎ ((group : List ℕ) × (place : ℕ) × (behind ≡ 1 ∷ group) × GroupBreaks shape (most_records - length (records groups)) group place ×
-      (at ≡ gate_behind groups + 1 + place))
+      ⊎ ((group : List ℕ) × (place : ℕ) × (behind ≡ 1 ∷ group) × GroupBreaks shape (most_records - length (records groups)) group place × (at ≡ gate_behind groups + 1 + place))
 
 -- the place of the first byte that breaks the grammar of journals, or the file's length where it ends too early
 abbrev pub BreaksAt : List ℕ → ℕ → Type 0

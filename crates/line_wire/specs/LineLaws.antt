@@ -41,10 +41,8 @@ regroup skipped piece behind = simp append_assoc
 -- a line that isn't counted joins what was passed over
 pub passed-more : (skipped piece : List ℕ) → IsPassedOver skipped → IsFeedless piece → line_of piece ≡ [] → IsPassedOver (skipped ++ (piece ++ 10 ∷ []))
 passed-more skipped piece passed feedless none = record {
-  counted = λ behind. ap counted_lines (regroup skipped piece behind) ∙ passed.counted (piece ++ 10 ∷ behind) ∙ counted-piece piece behind feedless
-      ∙ ap (λ (ls : List CountedLine). ls ++ counted_lines behind) none;
-  whole = λ behind. ap whole_lines (regroup skipped piece behind) ∙ passed.whole (piece ++ 10 ∷ behind) ∙ whole-piece piece behind feedless
-      ∙ ap (λ (ls : List CountedLine). ls ++ whole_lines behind) none;
+  counted = λ behind. ap counted_lines (regroup skipped piece behind) ∙ passed.counted (piece ++ 10 ∷ behind) ∙ counted-piece piece behind feedless ∙ ap (λ (ls : List CountedLine). ls ++ counted_lines behind) none;
+  whole = λ behind. ap whole_lines (regroup skipped piece behind) ∙ passed.whole (piece ++ 10 ∷ behind) ∙ whole-piece piece behind feedless ∙ ap (λ (ls : List CountedLine). ls ++ whole_lines behind) none;
 }
 
 -- more than 8,192 bytes count as a long line

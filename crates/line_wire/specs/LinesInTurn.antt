@@ -15,24 +15,17 @@ reads_one rest left ended line takes counts = by takes.ends
   where
     read_fed : IsRead (takes.skipped ++ (takes.piece ++ 10 ∷ [])) (line ∷ [])
     read_fed more =
-        ap whole_lines regroup ∙ takes.passed.whole (takes.piece ++ 10 ∷ more) ∙ whole-piece takes.piece more takes.feedless
-        ∙ ap (λ (ls : List CountedLine). ls ++ whole_lines more) takes.counted
+        ap whole_lines regroup ∙ takes.passed.whole (takes.piece ++ 10 ∷ more) ∙ whole-piece takes.piece more takes.feedless ∙ ap (λ (ls : List CountedLine). ls ++ whole_lines more) takes.counted
       where
         regroup : (takes.skipped ++ (takes.piece ++ 10 ∷ [])) ++ more ≡ takes.skipped ++ (takes.piece ++ 10 ∷ more)
         regroup = simp append_assoc
 
-    by : (rest ≡ takes.skipped ++ (takes.piece ++ 10 ∷ left)) ⊎ ((rest ≡ takes.skipped ++ takes.piece) × (left ≡ []) × (ended ≡ true)) →
-        ReadsLines rest left ended (line ∷ [])
+    by : (rest ≡ takes.skipped ++ (takes.piece ++ 10 ∷ left)) ⊎ ((rest ≡ takes.skipped ++ takes.piece) × (left ≡ []) × (ended ≡ true)) → ReadsLines rest left ended (line ∷ [])
     by (inl fed) = record { read = takes.skipped ++ (takes.piece ++ 10 ∷ []); split = fed ∙ regroup; counted = counts; whole = inl read_fed }
       where
         regroup : takes.skipped ++ (takes.piece ++ 10 ∷ left) ≡ (takes.skipped ++ (takes.piece ++ 10 ∷ [])) ++ left
         regroup = simp append_assoc
-    by (inr last) = record {
-      read = rest;
-      split = sym (append-nil rest) ∙ ap (λ (l : List ℕ). rest ++ l) (sym last.1);
-      counted = counts;
-      whole = inr (last.2, last.1);
-    }
+    by (inr last) = record { read = rest; split = sym (append-nil rest) ∙ ap (λ (l : List ℕ). rest ++ l) (sym last.1); counted = counts; whole = inr (last.2, last.1) }
 
 -- where two parts are nothing, so is each
 nil_parts : (a b : List ℕ) → [] ≡ a ++ b → (a ≡ []) × (b ≡ [])
@@ -48,10 +41,8 @@ reads_more input rest left ended ended_now lines more first second still = recor
   whole = by first.whole second.whole;
 }
   where
-    by : IsRead first.read lines ⊎ ((ended ≡ true) × (rest ≡ [])) → IsRead second.read more ⊎ ((ended_now ≡ true) × (left ≡ [])) →
-        IsRead (first.read ++ second.read) (lines ++ more) ⊎ ((ended_now ≡ true) × (left ≡ []))
+    by : IsRead first.read lines ⊎ ((ended ≡ true) × (rest ≡ [])) → IsRead second.read more ⊎ ((ended_now ≡ true) × (left ≡ [])) → IsRead (first.read ++ second.read) (lines ++ more) ⊎ ((ended_now ≡ true) × (left ≡ []))
     by (inl one) (inl two) = inl (λ behind.
-        ap whole_lines (append_assoc first.read second.read behind) ∙ one (second.read ++ behind) ∙ ap (λ (ls : List CountedLine). lines ++ ls) (two behind)
-        ∙ sym (append_assoc lines more (whole_lines behind)))
+        ap whole_lines (append_assoc first.read second.read behind) ∙ one (second.read ++ behind) ∙ ap (λ (ls : List CountedLine). lines ++ ls) (two behind) ∙ sym (append_assoc lines more (whole_lines behind)))
     by (inl one) (inr over) = inr over
     by (inr over) two = inr (still over.0, (nil_parts second.read left (sym over.1 ∙ second.split)).1)

@@ -23,9 +23,7 @@ text_of (taken take column text) = text
 
 -- what a word asks for
 abbrev pub ask_of : List ℕ → Option Ask
-ask_of word = if bytes_eq word (codes "count") then Some Count
-    else (if bytes_eq word (codes "sum") then Some (Of Sum) else
-    (if bytes_eq word (codes "avg") then Some (Of Avg) else (if bytes_eq word (codes "max") then Some (Of Max) else None)))
+ask_of word = if bytes_eq word (codes "count") then Some Count else (if bytes_eq word (codes "sum") then Some (Of Sum) else (if bytes_eq word (codes "avg") then Some (Of Avg) else (if bytes_eq word (codes "max") then Some (Of Max) else None)))
 
 -- one of the four keys
 abbrev pub is_key : List ℕ → Bool
@@ -58,8 +56,7 @@ asked_with text ask column = None
 unfoldable pub question_in : Data → Option Written
 question_in d =
     if has_known_keys (as_object d) && may_be_text (get (codes "user") d)
-    then asked_with (option_and_then as_str (get (codes "where") d)) (option_and_then ask_of (option_and_then as_str (get (codes "ask") d)))
-    (get (codes "column") d)
+    then asked_with (option_and_then as_str (get (codes "where") d)) (option_and_then ask_of (option_and_then as_str (get (codes "ask") d))) (get (codes "column") d)
     else None
 
 -- the question that a line writes, if it writes one

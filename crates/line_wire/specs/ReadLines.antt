@@ -22,12 +22,10 @@ NoLineIsRead = (rest : List ℕ) (ended : Bool) → ReadsLines rest rest ended [
 
 -- the line that a call of the cutter takes is one that was read
 abbrev pub OneLineIsRead : Type 0
-OneLineIsRead = (rest left : List ℕ) (ended : Bool) (line : CountedLine) → TakesLine rest ended line left → counted_lines rest ≡ line ∷ counted_lines left →
-    ReadsLines rest left ended (line ∷ [])
+OneLineIsRead = (rest left : List ℕ) (ended : Bool) (line : CountedLine) → TakesLine rest ended line left → counted_lines rest ≡ line ∷ counted_lines left → ReadsLines rest left ended (line ∷ [])
 
 -- lines that were read, and then others, are all lines that were read
 abbrev pub MoreLinesAreRead : Type 0
 MoreLinesAreRead =
-    (input rest left : List ℕ) (ended ended_now : Bool) (lines more : List CountedLine) → ReadsLines input rest ended lines →
-    ReadsLines rest left ended_now more → (ended ≡ true → ended_now ≡ true) →
+    (input rest left : List ℕ) (ended ended_now : Bool) (lines more : List CountedLine) → ReadsLines input rest ended lines → ReadsLines rest left ended_now more → (ended ≡ true → ended_now ≡ true) →
     ReadsLines input left ended_now (lines ++ more)

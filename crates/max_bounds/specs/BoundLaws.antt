@@ -33,15 +33,13 @@ bound_step true (Some c) value h = (int_min value c, refl, omega (arith, ints, c
 bound_step false o value h = absurd cc
 
 -- and stays below what it was below
-later_step : (has : Bool) (o : Option ℤ) (value top : ℤ) → (b : ℤ) × (o ≡ Some b) × (b ≤ℤ top) →
-    (b : ℤ) × (cond has (Some (least_of value o)) o ≡ Some b) × (b ≤ℤ top)
+later_step : (has : Bool) (o : Option ℤ) (value top : ℤ) → (b : ℤ) × (o ≡ Some b) × (b ≤ℤ top) → (b : ℤ) × (cond has (Some (least_of value o)) o ≡ Some b) × (b ≤ℤ top)
 later_step true None value top (b, e, l) = absurd cc
 later_step true (Some c) value top (b, e, l) = let same : c ≡ b = cc in (int_min value c, refl, omega (arith, ints, clamps))
 later_step false o value top h = h
 
 -- the bound of a row is at most the value of each answer that holds it
-pub bound_below : (answers : List Answer) (a : Answer) (q : ℕ) → IsOneOf a answers → has_row a.rows q ≡ true →
-    (b : ℤ) × (upper_bound answers q ≡ Some b) × (b ≤ℤ a.value)
+pub bound_below : (answers : List Answer) (a : Answer) (q : ℕ) → IsOneOf a answers → has_row a.rows q ≡ true → (b : ℤ) × (upper_bound answers q ≡ Some b) × (b ≤ℤ a.value)
 bound_below [] a q one there = absurd one
 bound_below (x ∷ answers) a q (inl e) there =
     subst (λ (y : Answer). (b : ℤ) × (upper_bound (x ∷ answers) q ≡ Some b) × (b ≤ℤ y.value)) e
@@ -57,8 +55,7 @@ least_is_one true value b (Some c) e =
 least_is_one false value b o e = inr e
 
 -- and it is the value of an answer that holds it
-pub bound_reached : (answers : List Answer) (q : ℕ) (b : ℤ) → upper_bound answers q ≡ Some b →
-    (a : Answer) × IsOneOf a answers × (has_row a.rows q ≡ true) × (a.value ≡ b)
+pub bound_reached : (answers : List Answer) (q : ℕ) (b : ℤ) → upper_bound answers q ≡ Some b → (a : Answer) × IsOneOf a answers × (has_row a.rows q ≡ true) × (a.value ≡ b)
 bound_reached [] q b e = absurd cc
 bound_reached (x ∷ answers) q b e = elim (least_is_one (has_row x.rows q) x.value b (upper_bound answers q) e) [
   | inl (there, is) ↦ (x, inl refl, there, is)

@@ -118,8 +118,7 @@ pub record IsPlaceOf (answer : ℤ) (least : List AnsweredMax) (place : ℕ) : T
 -- sets that stand for the extreme rows of all answers: each is those of an answer, and each answer has such a set of its value, with no other row
 pub record AreLeast (extreme_rows : Answer → List ℕ) (answers sets : List Answer) : Type 0 where
   pub each : (e : Answer) → IsOneOf e sets → (a : Answer) × IsOneOf a answers × (a.value ≡ e.value) × (extreme_rows a ≡ e.rows)
-  pub covered : (a : Answer) → IsOneOf a answers → (e : Answer) × IsOneOf e sets × (e.value ≡ a.value) ×
-      ((r : ℕ) → has_row e.rows r ≡ true → has_row (extreme_rows a) r ≡ true)
+  pub covered : (a : Answer) → IsOneOf a answers → (e : Answer) × IsOneOf e sets × (e.value ≡ a.value) × ((r : ℕ) → has_row e.rows r ≡ true → has_row (extreme_rows a) r ≡ true)
 
 -- the counts, the least of them, and the least sets tell of the extreme rows of these answers
 pub record TellsExtremes (extreme_rows : Answer → List ℕ) (answers : List Answer) (counts : List ℕ) (fewest : ℕ) (sets : List Answer) : Type 0 where

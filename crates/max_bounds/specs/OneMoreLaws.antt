@@ -87,14 +87,11 @@ module _ (answers : List Answer) (rows : List ℕ) (x : ℤ) where
   with_asked = answers ++ asked ∷ []
 
   -- an answer whose rows in the new set have no bound above the new answer keeps its extreme rows
-  pub keeps_extremes : (p : Answer) → IsOneOf p answers → ((r : ℕ) (b : ℤ) → has_row p.rows r ≡ true → has_row rows r ≡ true → upper_bound answers r ≡ Some b →
-      b ≤ℤ x) →
+  pub keeps_extremes : (p : Answer) → IsOneOf p answers → ((r : ℕ) (b : ℤ) → has_row p.rows r ≡ true → has_row rows r ≡ true → upper_bound answers r ≡ Some b → b ≤ℤ x) →
       extremes with_asked p ≡ extremes answers p
-  keeps_extremes p one low = filters_agree_on (λ r. is_bound (upper_bound with_asked r) p.value) (λ r. is_bound (upper_bound answers r) p.value) p.rows
-      (λ r there.
+  keeps_extremes p one low = filters_agree_on (λ r. is_bound (upper_bound with_asked r) p.value) (λ r. is_bound (upper_bound answers r) p.value) p.rows (λ r there.
       let b = bound_below answers p r one there in
-      ap (λ o. is_bound o p.value) (upper_bound-push answers asked r
-      ∙ stays (has_row rows r) (upper_bound answers r) b.0 x b.1 (λ in_set. low r b.0 there in_set b.1)))
+      ap (λ o. is_bound o p.value) (upper_bound-push answers asked r ∙ stays (has_row rows r) (upper_bound answers r) b.0 x b.1 (λ in_set. low r b.0 there in_set b.1)))
 
   -- so does one that is not above it
   pub lower_keeps : (p : Answer) → IsOneOf p answers → p.value ≤ℤ x → extremes with_asked p ≡ extremes answers p
@@ -108,8 +105,7 @@ module _ (answers : List Answer) (rows : List ℕ) (x : ℤ) where
   -- and a higher one those outside the new set
   pub higher_loses : (p : Answer) → IsOneOf p answers → x <ℤ p.value → extremes with_asked p ≡ outside rows (extremes answers p)
   higher_loses p one less =
-      filters_agree_on (λ r. is_bound (upper_bound with_asked r) p.value) (λ r. not (has_row rows r) && is_bound (upper_bound answers r) p.value) p.rows
-      (λ r there.
+      filters_agree_on (λ r. is_bound (upper_bound with_asked r) p.value) (λ r. not (has_row rows r) && is_bound (upper_bound answers r) p.value) p.rows (λ r there.
       ap (λ o. is_bound o p.value) (upper_bound-push answers asked r) ∙ higher_test (has_row rows r) (upper_bound answers r) p.value x less)
       ∙ sym (filter_twice (λ r. not (has_row rows r)) (λ r. is_bound (upper_bound answers r) p.value) p.rows)
 
@@ -119,8 +115,7 @@ module _ (answers : List Answer) (rows : List ℕ) (x : ℤ) where
 
   -- a row of the new set with no bound below the new answer is extreme for it
   pub asked_has : (r : ℕ) → has_row rows r ≡ true → IsAtLeast x (upper_bound answers r) → has_row (extremes with_asked asked) r ≡ true
-  asked_has r there high = has-filter (λ q. is_bound (upper_bound with_asked q) x) rows r there
-      (ap (λ o. is_bound o x) (bound_in_set r there) ∙ reaches (upper_bound answers r) x high)
+  asked_has r there high = has-filter (λ q. is_bound (upper_bound with_asked q) x) rows r there (ap (λ o. is_bound o x) (bound_in_set r there) ∙ reaches (upper_bound answers r) x high)
 
   -- and no other is
   pub has_asked : (r : ℕ) → has_row (extremes with_asked asked) r ≡ true → (has_row rows r ≡ true) × IsAtLeast x (upper_bound answers r)

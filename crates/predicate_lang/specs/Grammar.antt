@@ -17,26 +17,20 @@ mutual
   -- conj { "or" conj }
   pub data Disjunction (columns : List Column) : ℕ → List Token → Tree → Type 0 where
     conj : {room : ℕ} {ts : List Token} {p : Tree} → Conjunction columns room ts p → Disjunction columns room ts p
-    or_conj : {room : ℕ} {ts us : List Token} {p q : Tree} → Disjunction columns room ts p → Conjunction columns room us q →
-        Disjunction columns room (ts ++ or_word ∷ us) (either p q)
+    or_conj : {room : ℕ} {ts us : List Token} {p q : Tree} → Disjunction columns room ts p → Conjunction columns room us q → Disjunction columns room (ts ++ or_word ∷ us) (either p q)
 
   -- unit { "and" unit }
   pub data Conjunction (columns : List Column) : ℕ → List Token → Tree → Type 0 where
     unit : {room : ℕ} {ts : List Token} {p : Tree} → Operand columns room ts p → Conjunction columns room ts p
-    and_unit : {room : ℕ} {ts us : List Token} {p q : Tree} → Conjunction columns room ts p → Operand columns room us q →
-        Conjunction columns room (ts ++ and_word ∷ us) (both p q)
+    and_unit : {room : ℕ} {ts us : List Token} {p q : Tree} → Conjunction columns room ts p → Operand columns room us q → Conjunction columns room (ts ++ and_word ∷ us) (both p q)
 
   -- a name is that of a column, and a literal what its role takes
   pub data Operand (columns : List Column) : ℕ → List Token → Tree → Type 0 where
     all : {room : ℕ} → Operand columns room (all_word ∷ []) all_rows
     not_unit : {room : ℕ} {ts : List Token} {p : Tree} → Operand columns room ts p → Operand columns (suc room) (not_word ∷ ts) (negation p)
-    in_brackets : {room : ℕ} {ts : List Token} {p : Tree} → Disjunction columns room ts p →
-        Operand columns (suc room) (open_bracket ∷ (ts ++ close_bracket ∷ [])) p
-    compare : {room c : ℕ} {n : List ℕ} {o : Op} {l : Literal} → place_of n columns ≡ Some c → has_operator (role_at columns c) o ≡ true →
-        is_of_role (role_at columns c) l ≡ true → Operand columns room (name n ∷ operator o ∷ value l ∷ []) (compared c o l)
-    one_of : {room c : ℕ} {n : List ℕ} {l : Literal} {ls : List Literal} → place_of n columns ≡ Some c →
-        list_all (is_of_role (role_at columns c)) (l ∷ ls) ≡ true →
-        Operand columns room (name n ∷ in_word ∷ open_bracket ∷ value l ∷ more_literals ls) (among c (l ∷ ls))
+    in_brackets : {room : ℕ} {ts : List Token} {p : Tree} → Disjunction columns room ts p → Operand columns (suc room) (open_bracket ∷ (ts ++ close_bracket ∷ [])) p
+    compare : {room c : ℕ} {n : List ℕ} {o : Op} {l : Literal} → place_of n columns ≡ Some c → has_operator (role_at columns c) o ≡ true → is_of_role (role_at columns c) l ≡ true → Operand columns room (name n ∷ operator o ∷ value l ∷ []) (compared c o l)
+    one_of : {room c : ℕ} {n : List ℕ} {l : Literal} {ls : List Literal} → place_of n columns ≡ Some c → list_all (is_of_role (role_at columns c)) (l ∷ ls) ≡ true → Operand columns room (name n ∷ in_word ∷ open_bracket ∷ value l ∷ more_literals ls) (among c (l ∷ ls))
 
 abbrev pub most_depth : ℕ
 most_depth = 64

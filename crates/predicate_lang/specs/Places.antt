@@ -23,8 +23,7 @@ pub record Means (columns : List Column) (text : List ℕ) (t : Tree) : Type 0 w
 -- an offset at which a text is refused
 pub data Refuses (columns : List Column) (text : List ℕ) : ℕ → Type 0 where
   -- that of a token up to which the tokens begin no predicate
-  unfit : (k : ℕ) (p : Placed) → slice_get (lexed text).tokens k ≡ Some p → ¬ (BeginPredicate columns (tokens_of (take (k + 1) (lexed text).tokens))) →
-      Refuses columns text p.at
+  unfit : (k : ℕ) (p : Placed) → slice_get (lexed text).tokens k ≡ Some p → ¬ (BeginPredicate columns (tokens_of (take (k + 1) (lexed text).tokens))) → Refuses columns text p.at
   -- that of the first token that is too many
   too_many : (p : Placed) → slice_get (lexed text).tokens most_tokens ≡ Some p → Refuses columns text p.at
   -- where no token begins

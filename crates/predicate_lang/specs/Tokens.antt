@@ -88,8 +88,7 @@ mark_front b bytes =
     if b == 61 then taking 0 (Some (operator op.Eq)) else (if b == 33 then (if is_equals_next bytes then taking 1 (Some (operator op.Ne)) else None)
     else (if b == 60 then (if is_equals_next bytes then taking 1 (Some (operator op.Le)) else taking 0 (Some (operator op.Lt)))
     else (if b == 62 then (if is_equals_next bytes then taking 1 (Some (operator op.Ge)) else taking 0 (Some (operator op.Gt)))
-    else (if b == 40 then taking 0 (Some open_bracket) else (if b == 41 then taking 0 (Some close_bracket)
-    else (if b == 44 then taking 0 (Some comma) else None))))))
+    else (if b == 40 then taking 0 (Some open_bracket) else (if b == 41 then taking 0 (Some close_bracket) else (if b == 44 then taking 0 (Some comma) else None))))))
 
 -- a keyword or a name
 abbrev pub word_front : ℕ → List ℕ → Option Front

@@ -25,8 +25,7 @@ module _ {R L : Type 0} (rule : List R → L → Replied R → Type 0) where
   length-replies history (line ∷ lines) (reply ∷ replies) are = omega (arith, length-replies (history ++ option_to_list reply.added) lines replies are.1)
 
   -- some lines, and then others
-  pub replies-append : (history : List R) (lines more : List L) (replies behind : List (Replied R)) → AreReplies rule history lines replies →
-      AreReplies rule (history ++ records_of replies) more behind → AreReplies rule history (lines ++ more) (replies ++ behind)
+  pub replies-append : (history : List R) (lines more : List L) (replies behind : List (Replied R)) → AreReplies rule history lines replies → AreReplies rule (history ++ records_of replies) more behind → AreReplies rule history (lines ++ more) (replies ++ behind)
   replies-append history [] more [] behind are later = subst (λ (h : List R). AreReplies rule h more behind) (append-nil history) later
   replies-append history [] more (reply ∷ replies) behind are later = absurd are
   replies-append history (line ∷ lines) more [] behind are later = absurd are
@@ -38,8 +37,7 @@ module _ {R L : Type 0} (rule : List R → L → Replied R → Type 0) where
 
   module _ (one : MakesOneDue rule) where
     -- lines have one list of replies
-    pub same_replies : (history : List R) (lines : List L) (replies others : List (Replied R)) → AreReplies rule history lines replies →
-        AreReplies rule history lines others → replies ≡ others
+    pub same_replies : (history : List R) (lines : List L) (replies others : List (Replied R)) → AreReplies rule history lines replies → AreReplies rule history lines others → replies ≡ others
     same_replies history [] [] [] are those = refl
     same_replies history [] [] (b ∷ others) are those = absurd those
     same_replies history [] (a ∷ replies) others are those = absurd are
@@ -52,8 +50,7 @@ module _ {R L : Type 0} (rule : List R → L → Replied R → Type 0) where
         ap (λ (rs : List (Replied R)). a ∷ rs) rest ∙ ap (λ (r : Replied R). r ∷ others) e
 
     -- where no reply is due to the line after them, lines with that one have no replies
-    pub none_behind : (history : List R) (lines : List L) (next : L) (replies : List (Replied R)) → AreReplies rule history lines replies →
-        ((reply : Replied R) → rule (history ++ records_of replies) next reply → ⊥)
+    pub none_behind : (history : List R) (lines : List L) (next : L) (replies : List (Replied R)) → AreReplies rule history lines replies → ((reply : Replied R) → rule (history ++ records_of replies) next reply → ⊥)
         → (all : List (Replied R)) → AreReplies rule history (lines ++ next ∷ []) all → ⊥
     none_behind history [] next [] are none [] those = those
     none_behind history [] next [] are none (b ∷ others) those = none b (subst (λ (h : List R). rule h next b) (sym (append-nil history)) those.0)

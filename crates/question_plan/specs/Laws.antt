@@ -21,8 +21,7 @@ use Rattle.question_plan.specs.Plans.{IsAskable, CanBeTold}
 -- answering lines keeps a history legal
 abbrev pub RepliesKeepLegal : Type 0
 RepliesKeepLegal =
-    (base : Database) (history : List Answered) (lines : List CountedLine) (replies : List (Replied Answered)) → IsDatabase base →
-    IsLegal (secret_table base.secret) history →
+    (base : Database) (history : List Answered) (lines : List CountedLine) (replies : List (Replied Answered)) → IsDatabase base → IsLegal (secret_table base.secret) history →
     AreReplies (IsDue base) history lines replies → IsLegal (secret_table base.secret) (history ++ records_of replies)
 
 -- ---- outcomes are told
@@ -41,8 +40,7 @@ SomeReplyTells = (take : Take) (size : ℕ) (outcome : Outcome) → 0 < size →
 
 -- one reply is due to a line after a history
 abbrev pub OneReplyIsDue : Type 0
-OneReplyIsDue = (base : Database) (history : List Answered) (line : CountedLine) (a b : Replied Answered) → IsDue base history line a →
-    IsDue base history line b → a ≡ b
+OneReplyIsDue = (base : Database) (history : List Answered) (line : CountedLine) (a b : Replied Answered) → IsDue base history line a → IsDue base history line b → a ≡ b
 
 -- the reply tells the true answer to a question, and its record is added
 pub record IsAnswerTo (table : Table) (take : Take) (asked : Asked) (replied : Replied Answered) : Type 0 where
@@ -68,20 +66,17 @@ DecidedAlike =
 
 -- and where the answers are equal, so are the replies and their records
 abbrev pub EqualAnswersEqualReplies : Type 0
-EqualAnswersEqualReplies = (table twin : Table) (a b : Replied Answered) → (alike : AreAnswersAlike table twin a b) → alike.first.answer ≡ alike.second.answer →
-    a ≡ b
+EqualAnswersEqualReplies = (table twin : Table) (a b : Replied Answered) → (alike : AreAnswersAlike table twin a b) → alike.first.answer ≡ alike.second.answer → a ≡ b
 
 -- ---- what is decided is one
 
 -- a line comes to one plan
 abbrev pub OnePlanIsMade : Type 0
-OnePlanIsMade = (columns : List Column) (public : PublicView) (line : CountedLine) (a b : Plan) → IsPlan columns public line a → IsPlan columns public line b →
-    a ≡ b
+OnePlanIsMade = (columns : List Column) (public : PublicView) (line : CountedLine) (a b : Plan) → IsPlan columns public line a → IsPlan columns public line b → a ≡ b
 
 -- a question is judged in one way after a history
 abbrev pub OneJudgementIsMade : Type 0
-OneJudgementIsMade = (setting : Setting) (history : List Answered) (column : ℕ) (rows : List ℕ) (v w : Verdict) →
-    IsJudgementAfter setting history column rows v → IsJudgementAfter setting history column rows w → v ≡ w
+OneJudgementIsMade = (setting : Setting) (history : List Answered) (column : ℕ) (rows : List ℕ) (v w : Verdict) → IsJudgementAfter setting history column rows v → IsJudgementAfter setting history column rows w → v ≡ w
 
 -- a reply tells one answer to a question
 abbrev pub OneAnswerIsTold : Type 0

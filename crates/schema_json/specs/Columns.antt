@@ -32,8 +32,7 @@ is_name_byte b = is_ascii_alphanumeric b || (b == 95)
 
 -- a word that the conditions of questions keep for themselves
 abbrev pub is_keyword : List ℕ → Bool
-is_keyword name = bytes_eq name (codes "and") || bytes_eq name (codes "or") || bytes_eq name (codes "not") || bytes_eq name (codes "all") || bytes_eq name
-    (codes "in")
+is_keyword name = bytes_eq name (codes "and") || bytes_eq name (codes "or") || bytes_eq name (codes "not") || bytes_eq name (codes "all") || bytes_eq name (codes "in")
 
 -- 1 to 32 letters, digits and underscores of ASCII, a letter first, and no keyword of the conditions
 abbrev pub is_good_name : List ℕ → Bool

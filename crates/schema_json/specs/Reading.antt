@@ -27,9 +27,7 @@ key_count d = unwrap_or (option_map members_len (as_object d)) 0
 
 -- the role that a word names
 abbrev pub role_of : List ℕ → Option Role
-role_of word = if bytes_eq word (codes "text") then Some role.Text
-    else (if bytes_eq word (codes "number") then Some role.Number
-    else (if bytes_eq word (codes "sum") then Some role.Sum else (if bytes_eq word (codes "max") then Some role.Max else None)))
+role_of word = if bytes_eq word (codes "text") then Some role.Text else (if bytes_eq word (codes "number") then Some role.Number else (if bytes_eq word (codes "sum") then Some role.Sum else (if bytes_eq word (codes "max") then Some role.Max else None)))
 
 -- a name and a role as a column, where both are there
 abbrev pub column_with : Option (List ℕ) → Option Role → Option Column
@@ -38,8 +36,7 @@ column_with name role = None
 
 -- an object of the two keys `name` and `is`
 unfoldable pub column_of : Data → Option Column
-column_of d = if key_count d == 2 then column_with (option_and_then as_str (get (codes "name") d))
-    (option_and_then role_of (option_and_then as_str (get (codes "is") d))) else None
+column_of d = if key_count d == 2 then column_with (option_and_then as_str (get (codes "name") d)) (option_and_then role_of (option_and_then as_str (get (codes "is") d))) else None
 
 -- each of the values as a column
 abbrev pub columns_in : Items → Option (List Column)
@@ -69,8 +66,7 @@ most_schema = 65536
 -- the first fault of the columns that are listed, and else these columns
 abbrev pub checked : Option (List Column) → Result (List Column) SchemaFault
 checked None = Err Shape
-checked (Some columns) = if not (has_good_names columns) then Err BadName
-    else (if repeats columns then Err Repeated else (if too_many columns then Err TooMany else Ok columns))
+checked (Some columns) = if not (has_good_names columns) then Err BadName else (if repeats columns then Err Repeated else (if too_many columns then Err TooMany else Ok columns))
 
 -- the columns that bytes mean, or their first fault
 abbrev pub schema_of : List ℕ → Result (List Column) SchemaFault

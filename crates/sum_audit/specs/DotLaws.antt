@@ -8,8 +8,7 @@ use Rattle.audit_types.specs.Totals.{total-single}
 use Rattle.sum_audit.specs.Dot.{dot}
 
 -- all columns but two give nothing
-pub dot_two : (n : ℕ) (f : ℕ → ℤ) (d : List ℤ) (a b : ℕ) → a < n → b < n → a ≢ b → ((j : ℕ) → j ≢ a → j ≢ b → f j *ℤ number_at d j ≡ pos 0) →
-    dot n f d ≡ f a *ℤ number_at d a +ℤ f b *ℤ number_at d b
+pub dot_two : (n : ℕ) (f : ℕ → ℤ) (d : List ℤ) (a b : ℕ) → a < n → b < n → a ≢ b → ((j : ℕ) → j ≢ a → j ≢ b → f j *ℤ number_at d j ≡ pos 0) → dot n f d ≡ f a *ℤ number_at d a +ℤ f b *ℤ number_at d b
 dot_two zero f d a b l m apart h = absurd (omega arith)
 dot_two (suc n) f d a b l m apart h = elim (cases_eq a n) [
   | inl e ↦

@@ -17,8 +17,7 @@ SpanKeepsForm = (n : ℕ) (rows form : List (List ℤ)) (row : List ℤ) → IsR
 
 -- the form of the form's rows with the row of one set more is that of the sets with it
 abbrev pub OneMoreSet : Type 0
-OneMoreSet = (n : ℕ) (sets : List (List ℕ)) (rows : List ℕ) (form new : List (List ℤ)) → Reduced n sets form →
-    IsReducedForm n (form ++ set_row n rows ∷ []) new → Reduced n (sets ++ rows ∷ []) new
+OneMoreSet = (n : ℕ) (sets : List (List ℕ)) (rows : List ℕ) (form new : List (List ℤ)) → Reduced n sets form → IsReducedForm n (form ++ set_row n rows ∷ []) new → Reduced n (sets ++ rows ∷ []) new
 
 -- the form of any sets is narrow or wide, and not both
 abbrev pub NarrowOrWide : Type 0

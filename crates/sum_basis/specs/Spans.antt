@@ -46,8 +46,7 @@ abbrev pub ZeroAtPivots : (ℕ → ℤ) → List (List ℤ) → Type 0
 ZeroAtPivots f rows = AllByRecursion (λ row. f (pivot row) ≡ pos 0) rows
 
 -- the first row is left out where its coefficient is 0
-without_first : (c : ℤ) (row : List ℤ) (cs : List ℤ) (rows others : List (List ℤ)) → c ≡ pos 0 →
-    ZeroAtPivots (λ j. c *ℤ number_at row j +ℤ combined cs rows j) others → ZeroAtPivots (λ j. combined cs rows j) others
+without_first : (c : ℤ) (row : List ℤ) (cs : List ℤ) (rows others : List (List ℤ)) → c ≡ pos 0 → ZeroAtPivots (λ j. c *ℤ number_at row j +ℤ combined cs rows j) others → ZeroAtPivots (λ j. combined cs rows j) others
 without_first c row cs rows [] none h = tt
 without_first c row cs rows (other ∷ others) none h =
     let first = ap (λ z. z *ℤ number_at row (pivot other)) none ∙ zero-*ℤ (number_at row (pivot other)) in
@@ -55,8 +54,7 @@ without_first c row cs rows (other ∷ others) none h =
     (omega (arith, ints), without_first c row cs rows others none h.1)
 
 -- a combination of a form that is 0 at all its pivots is 0
-pub combination_zero : (cs : List ℤ) (rows : List (List ℤ)) → IsEchelon rows → AllByRecursion (λ row. pos 0 <ℤ pivot_entry row) rows →
-    ZeroAtPivots (combined cs rows) rows → (j : ℕ) → combined cs rows j ≡ pos 0
+pub combination_zero : (cs : List ℤ) (rows : List (List ℤ)) → IsEchelon rows → AllByRecursion (λ row. pos 0 <ℤ pivot_entry row) rows → ZeroAtPivots (combined cs rows) rows → (j : ℕ) → combined cs rows j ≡ pos 0
 combination_zero [] rows echelon leading zeros j = refl
 combination_zero (c ∷ cs) [] echelon leading zeros j = refl
 combination_zero (c ∷ cs) (row ∷ rows) echelon leading zeros j =
@@ -86,12 +84,7 @@ in_span_from rows row h = record { multiple = h.multiple; positive = h.positive;
 module _ (rows : List (List ℤ)) where
   -- equal functions lie in the same spans
   pub spans_same : (f g : ℕ → ℤ) → ((j : ℕ) → f j ≡ g j) → Spans rows f → Spans rows g
-  spans_same f g e h = record {
-    multiple = h.multiple;
-    positive = h.positive;
-    coefficients = h.coefficients;
-    is = λ j. ap (λ z. pos h.multiple *ℤ z) (sym (e j)) ∙ h.is j;
-  }
+  spans_same f g e h = record { multiple = h.multiple; positive = h.positive; coefficients = h.coefficients; is = λ j. ap (λ z. pos h.multiple *ℤ z) (sym (e j)) ∙ h.is j }
 
   -- zeros lie in each span
   pub spans_zero : Spans rows (λ j. pos 0)
@@ -114,10 +107,8 @@ module _ (rows : List (List ℤ)) where
     positive = mul-pos p.positive q.positive;
     coefficients = both (times (pos q.multiple) p.coefficients) (times (pos p.multiple) q.coefficients);
     is = λ j.
-        let left = ap (λ z. z *ℤ f j) (*ℤ_comm (pos p.multiple) (pos q.multiple)) ∙ times_assoc (pos q.multiple) (pos p.multiple) (f j)
-        ∙ ap (λ z. pos q.multiple *ℤ z) (p.is j) ∙ sym (combined-times (pos q.multiple) p.coefficients rows j) in
-        let right = times_assoc (pos p.multiple) (pos q.multiple) (g j) ∙ ap (λ z. pos p.multiple *ℤ z) (q.is j)
-        ∙ sym (combined-times (pos p.multiple) q.coefficients rows j) in
+        let left = ap (λ z. z *ℤ f j) (*ℤ_comm (pos p.multiple) (pos q.multiple)) ∙ times_assoc (pos q.multiple) (pos p.multiple) (f j) ∙ ap (λ z. pos q.multiple *ℤ z) (p.is j) ∙ sym (combined-times (pos q.multiple) p.coefficients rows j) in
+        let right = times_assoc (pos p.multiple) (pos q.multiple) (g j) ∙ ap (λ z. pos p.multiple *ℤ z) (q.is j) ∙ sym (combined-times (pos p.multiple) q.coefficients rows j) in
         times-add (pos (p.multiple * q.multiple)) (f j) (g j)
         ∙ ap (λ z. z +ℤ pos (p.multiple * q.multiple) *ℤ g j) left ∙ ap (λ z. combined (times (pos q.multiple) p.coefficients) rows j +ℤ z) right
         ∙ sym (combined-both (times (pos q.multiple) p.coefficients) (times (pos p.multiple) q.coefficients) rows j);
@@ -143,12 +134,10 @@ module _ (rows : List (List ℤ)) where
 pub span_trans : (rows others : List (List ℤ)) (row : List ℤ) → AllByRecursion (InSpan rows) others → InSpan others row → InSpan rows row
 span_trans rows others row h span =
     in_span_from rows row (spans_down rows span.multiple (number_at row) span.positive
-    (spans_same rows (combined span.coefficients others) (λ j. pos span.multiple *ℤ number_at row j) (λ j. sym (span.is j))
-    (spans_combined rows span.coefficients others h)))
+    (spans_same rows (combined span.coefficients others) (λ j. pos span.multiple *ℤ number_at row j) (λ j. sym (span.is j)) (spans_combined rows span.coefficients others h)))
 
 -- of all rows too
-pub span_trans_all : (rows others more : List (List ℤ)) → AllByRecursion (InSpan rows) others → AllByRecursion (InSpan others) more →
-    AllByRecursion (InSpan rows) more
+pub span_trans_all : (rows others more : List (List ℤ)) → AllByRecursion (InSpan rows) others → AllByRecursion (InSpan others) more → AllByRecursion (InSpan rows) more
 span_trans_all rows others [] h k = tt
 span_trans_all rows others (row ∷ more) h k = (span_trans rows others row h k.0, span_trans_all rows others more h k.1)
 
@@ -158,9 +147,7 @@ zeros_of m f g [] is h = tt
 zeros_of m f g (row ∷ rows) is h = (sym (is (pivot row)) ∙ ap (λ z. m *ℤ z) h.0 ∙ *ℤ-zero m, zeros_of m f g rows is h.1)
 
 -- what lies in the span and is 0 at all pivots is 0
-pub span_zero : (rows : List (List ℤ)) (f : ℕ → ℤ) → IsEchelon rows → AllByRecursion (λ r. pos 0 <ℤ pivot_entry r) rows → Spans rows f → ZeroAtPivots f rows →
-    (j : ℕ) → f j ≡ pos 0
+pub span_zero : (rows : List (List ℤ)) (f : ℕ → ℤ) → IsEchelon rows → AllByRecursion (λ r. pos 0 <ℤ pivot_entry r) rows → Spans rows f → ZeroAtPivots f rows → (j : ℕ) → f j ≡ pos 0
 span_zero rows f echelon leading span zeros j =
-    let none = combination_zero span.coefficients rows echelon leading
-    (zeros_of (pos span.multiple) f (combined span.coefficients rows) rows span.is zeros) j in
+    let none = combination_zero span.coefficients rows echelon leading (zeros_of (pos span.multiple) f (combined span.coefficients rows) rows span.is zeros) j in
     zero_factor (f j) (pos span.multiple) (*ℤ_comm (f j) (pos span.multiple) ∙ span.is j ∙ none) (let some = span.positive in omega (arith, ints))

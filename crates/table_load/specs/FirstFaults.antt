@@ -18,5 +18,4 @@ pub record IsFirstField (roles : List Role) (line : ℕ) (fields : Fields) (colu
   pub role_is : slice_get roles column ≡ Some role
   pub stands : slice_get fields column ≡ Some field
   pub fault_is : cell_fault role line column field ≡ Some fault
-  pub before : (k : ℕ) (other : Role) (earlier : List ℕ) → k < column → slice_get roles k ≡ Some other → slice_get fields k ≡ Some earlier →
-      cell_fault other line k earlier ≡ None
+  pub before : (k : ℕ) (other : Role) (earlier : List ℕ) → k < column → slice_get roles k ≡ Some other → slice_get fields k ≡ Some earlier → cell_fault other line k earlier ≡ None

@@ -46,5 +46,4 @@ AreBlocks kind n list blocks = (block : ℕ) → 64 * block + 64 ≤ n → slice
 pub record IsKeptSecret (a : secret.Inside) : Type 0 where
   pub is : IsSecret (secret_view a)
   pub few : columns a.shape ≤ 8
-  pub blocks : (column : ℕ) → column < columns a.shape → AreBlocks (kind_at a.shape column) a.shape.rows (list_of (secret_view a).lists column)
-      (slice_index_or a.blocks column [])
+  pub blocks : (column : ℕ) → column < columns a.shape → AreBlocks (kind_at a.shape column) a.shape.rows (list_of (secret_view a).lists column) (slice_index_or a.blocks column [])

@@ -31,8 +31,7 @@ option_sign minus size = option_map (signed minus) size
 -- the number after the spaces at the front
 abbrev pub signed_number : List ℕ → Option ℤ
 signed_number [] = None
-signed_number (b ∷ bytes) = cond (b == 45) (option_sign true (digits_number bytes))
-    (cond (b == 43) (option_sign false (digits_number bytes)) (option_sign false (digits_number (b ∷ bytes))))
+signed_number (b ∷ bytes) = cond (b == 45) (option_sign true (digits_number bytes)) (cond (b == 43) (option_sign false (digits_number bytes)) (option_sign false (digits_number (b ∷ bytes))))
 
 -- the number that a field spells, if it spells one; `spells` says the same in the words of `IsNumeral`
 unfoldable pub number_in : List ℕ → Option ℤ

@@ -6,8 +6,4 @@ use Rattle.table_load.specs.Cells.{SecretView, IsSecret, AreNumbers}
 
 -- the secrets of a table are a list for each column, with a number for each row
 pub are_secrets : (s : SecretView) → IsSecret s → AreSecrets s.shape s.lists
-are_secrets s is = record {
-  one_each = is.one_each;
-  numbers =
-      all-weaker (AreNumbers s.shape.rows) (λ w. length w ≡ s.shape.rows) (λ w are. are.one_each) s.lists is.numbers;
-}
+are_secrets s is = record { one_each = is.one_each; numbers = all-weaker (AreNumbers s.shape.rows) (λ w. length w ≡ s.shape.rows) (λ w are. are.one_each) s.lists is.numbers }

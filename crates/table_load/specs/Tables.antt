@@ -73,8 +73,7 @@ secret_in columns rows = record { shape = shape_of columns (length rows); lists 
 
 -- the table that bytes mean, or their first fault
 abbrev pub table_of : List Column → List ℕ → Result TableView TableFault
-table_of columns bytes = unless_fault (file_fault (file_columns All columns) bytes)
-    (record { public = public_in All columns (data_of bytes); secret = secret_in columns (data_of bytes) })
+table_of columns bytes = unless_fault (file_fault (file_columns All columns) bytes) (record { public = public_in All columns (data_of bytes); secret = secret_in columns (data_of bytes) })
 
 -- the public part that bytes mean whose file has the public columns alone, or their first fault
 abbrev pub public_of : List Column → List ℕ → Result PublicView TableFault

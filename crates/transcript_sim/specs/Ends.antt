@@ -38,8 +38,7 @@ pub record LimitedVerdicts (columns : List Column) (public : PublicView) (input 
 
 -- line number `line`, from 1, is the first reply that doesn't agree: the lines before it have these verdicts, the last of
 -- them `due` on the question that it was shown to, and with it they have none
-pub record DisagreesAt (columns : List Column) (public : PublicView) (lines : List CountedLine) (line : ℕ) (due : Due)
-    (verdicts : List (Replied Answered)) : Type 0 where
+pub record DisagreesAt (columns : List Column) (public : PublicView) (lines : List CountedLine) (line : ℕ) (due : Due) (verdicts : List (Replied Answered)) : Type 0 where
   pub within : line ≤ length lines
   pub is_reply : line ≡ 2 * length verdicts
   pub are : AreVerdicts columns public (take (line - 1) lines) verdicts
@@ -69,8 +68,7 @@ EndSends (Err fault.NoMemory) verdicts before after = after ≡ before ++ bytes_
 
 -- a front of the verdicts on some first lines was sent
 abbrev pub SendsVerdicts : List Column → PublicView → List CountedLine → List ℕ → List ℕ → Type 0
-SendsVerdicts columns public lines before sent = (verdicts : List (Replied Answered)) × BeginVerdicts columns public lines verdicts ×
-    AppendsFront before (bytes_of verdicts) sent
+SendsVerdicts columns public lines before sent = (verdicts : List (Replied Answered)) × BeginVerdicts columns public lines verdicts × AppendsFront before (bytes_of verdicts) sent
 
 -- what a crash finds meanwhile: the file as it was, and such a front, where the source tells its lines
 abbrev pub SimulatesMeanwhile : Type 0 → List Column → PublicView → List CountedLine → List ℕ → List ℕ → List ℕ → List ℕ → Type 0
@@ -98,14 +96,11 @@ EndReads (Err fault.NoMemory) input left = Unit {0}
 -- ---- all of it
 
 -- how reading a transcript ended so
-pub record Simulates {P B : Type 0} (source : SourceGhosts P) (bench : Ghosts B) (columns : List Column) (public : PublicView) (first from : P) (old at : B)
-    (result : Result (Unit {0}) SimulationFault) : Type 0 where
-  pub verdicts : source.told → (verdicts : List (Replied Answered)) × EndVerdicts result columns public (source.left first) (source.left from) verdicts ×
-      (bench.told → EndSends result verdicts (bench.sent old) (bench.sent at))
+pub record Simulates {P B : Type 0} (source : SourceGhosts P) (bench : Ghosts B) (columns : List Column) (public : PublicView) (first from : P) (old at : B) (result : Result (Unit {0}) SimulationFault) : Type 0 where
+  pub verdicts : source.told → (verdicts : List (Replied Answered)) × EndVerdicts result columns public (source.left first) (source.left from) verdicts × (bench.told → EndSends result verdicts (bench.sent old) (bench.sent at))
   pub calls : source.told → bench.told → OnOk result (bench.moment at ≡ bench.moment old + length (exchanges (counted_lines (source.left first))))
   pub reads : source.told → EndReads result (source.left first) (source.left from)
-  pub moments : bench.told → IsQuiet bench old → LeavesOnly bench old at
-      (SimulatesMeanwhile source.told columns public (counted_lines (source.left first)) (bench.file old) (bench.sent old))
+  pub moments : bench.told → IsQuiet bench old → LeavesOnly bench old at (SimulatesMeanwhile source.told columns public (counted_lines (source.left first)) (bench.file old) (bench.sent old))
   pub file : bench.file at ≡ bench.file old
   pub crash : (image : List ℕ) → bench.leaves at image → bench.leaves old image
   pub source_later : source.faults first ≤ source.faults from

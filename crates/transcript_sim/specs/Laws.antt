@@ -12,8 +12,7 @@ use Rattle.transcript_sim.specs.Verdicts.{Expects, IsVerdict, AreVerdicts}
 -- a question calls for one reply after the answers that were shown before it
 abbrev pub OneReplyIsCalledFor : Type 0
 OneReplyIsCalledFor =
-    (columns : List Column) (public : PublicView) (history : List Answered) (line : CountedLine) (a b : Expected) → Expects columns public history line a →
-    Expects columns public history line b → a ≡ b
+    (columns : List Column) (public : PublicView) (history : List Answered) (line : CountedLine) (a b : Expected) → Expects columns public history line a → Expects columns public history line b → a ≡ b
 
 -- an exchange has one verdict, and its reply makes one record
 abbrev pub OneVerdictIsDue : Type 0
@@ -21,12 +20,10 @@ OneVerdictIsDue = (columns : List Column) (public : PublicView) → MakesOneDue 
 
 -- a transcript has at most one list of verdicts
 abbrev pub VerdictsAreOne : Type 0
-VerdictsAreOne = (columns : List Column) (public : PublicView) (lines : List CountedLine) (verdicts others : List (Replied Answered)) →
-    AreVerdicts columns public lines verdicts → AreVerdicts columns public lines others → verdicts ≡ others
+VerdictsAreOne = (columns : List Column) (public : PublicView) (lines : List CountedLine) (verdicts others : List (Replied Answered)) → AreVerdicts columns public lines verdicts → AreVerdicts columns public lines others → verdicts ≡ others
 
 -- where a transcript has verdicts, so have its first lines, however many
 abbrev pub FirstLinesHaveVerdicts : Type 0
 FirstLinesHaveVerdicts =
-    (columns : List Column) (public : PublicView) (lines : List CountedLine) (verdicts : List (Replied Answered)) (count : ℕ) →
-    AreVerdicts columns public lines verdicts →
+    (columns : List Column) (public : PublicView) (lines : List CountedLine) (verdicts : List (Replied Answered)) (count : ℕ) → AreVerdicts columns public lines verdicts →
     (first : List (Replied Answered)) × AreVerdicts columns public (take count lines) first

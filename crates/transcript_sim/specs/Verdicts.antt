@@ -43,8 +43,7 @@ pub record IsJudged (setting : Setting) (history : List Answered) (take : Take) 
 -- what a plan calls for: its reply, or that of its question
 abbrev pub CallsFor : Setting → List Answered → Plan → Expected → Type 0
 CallsFor setting history (Ready answer) expected = expected ≡ Only answer
-CallsFor setting history (Ask take asked) expected = ((most_records ≤ length history) × (expected ≡ Only reply.Full)) ⊎
-    IsJudged setting history take asked expected
+CallsFor setting history (Ask take asked) expected = ((most_records ≤ length history) × (expected ≡ Only reply.Full)) ⊎ IsJudged setting history take asked expected
 
 -- what a line calls for that is a question, after the answers that were shown before it
 pub record Expects (columns : List Column) (public : PublicView) (history : List Answered) (line : CountedLine) (expected : Expected) : Type 0 where
