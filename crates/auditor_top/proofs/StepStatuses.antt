@@ -58,6 +58,7 @@ earlier_than_lines (to reading_lines) so holds = tt
 earlier_than_lines (to ending) so holds = tt
 earlier_than_lines (from stage) so holds = tt
 
+-- so what is asked of a run that ends before the lines is asked of one that ends before the journal
 pub before_journal : {P Q : Type 0} (status : Status) → (P → Q) → Before reading_lines status P → Before opening_journal status Q
 before_journal status so holds = earlier_than_lines (reached status) so holds
 

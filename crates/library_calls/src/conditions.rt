@@ -46,6 +46,6 @@ fn are_read_again(rt: &impl Abort, alloc: Global, schema: &Schema) {
 
 #[test]
 fn a_condition_is_printed_and_read_again(rt: HostRuntime) {
-    let schema = read_schema(rt.alloc(), STAFF).expect(&rt, "a schema");
+    let schema = read_schema(rt.alloc(), STAFF).ok().expect(&rt, "a schema");
     are_read_again(&rt, rt.alloc(), &schema);
 }

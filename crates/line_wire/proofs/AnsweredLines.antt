@@ -35,6 +35,7 @@ taken_is columns k name text c t r is found = absurd is
 pub counted_is : (columns : List Column) (text : List ℕ) (p : Pred) → ReadsCondition columns text (Ok p) → Answers columns (counted text) (Ok (request.Count p))
 counted_is columns text p read = record { tree = tree_of p; good = refl; means = read; is = refl }
 
+-- and a fault of it answers the count so
 pub counted_fault : (columns : List Column) (text : List ℕ) (f : LineFault) → ReadsCondition columns text (Err f) → Answers columns (counted text) (Err f)
 counted_fault columns text fault.Line read = read
 counted_fault columns text fault.Column read = absurd read
@@ -48,6 +49,7 @@ pub taken_answers : (columns : List Column) (k : Take) (name text : List ℕ) (c
 taken_answers columns k name text c p r found read is =
     record { tree = tree_of p; good = found.0; means = read; is = taken_is columns k name text c (tree_of p) r is found.1 }
 
+-- where the column was found, a fault of the condition answers so
 pub taken_fault : (columns : List Column) (k : Take) (name text : List ℕ) (c : ℕ) (f : LineFault) → FindsColumn columns k name (Ok c)
     → ReadsCondition columns text (Err f) → Answers columns (taken k name text) (Err f)
 taken_fault columns k name text c fault.Line found read = read
