@@ -6,7 +6,7 @@ use Rattle.audit_types.specs.RowLaws.{AreRows-rows_that, length-rows}
 use Rattle.schema_json.specs.Columns.{Column}
 use Rattle.schema_json.specs.SecretShape.{HasSecret, shape_of}
 use Rattle.table_load.specs.Cells.{PublicView}
-use Rattle.predicate_lang.specs.Trees.{tree_of, fits}
+use Rattle.predicate_lang.specs.Trees.{tree_of}
 use Rattle.set_index.specs.Asked.{meaning}
 use Rattle.line_wire.specs.Requests.{CanBeAsked, kind_for}
 use Rattle.line_wire.specs.declared.question.Take.{Take}
