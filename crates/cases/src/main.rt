@@ -1,29 +1,22 @@
 //! Runs scripts of cases through the program's top call, over files in memory, and prints each difference.
 //!
-//! Standard input names the scripts, a line each. README.md has their format.
+//! Standard input names the scripts, a line each. README.md has their format, and `case_script` reads them.
 #![tactic(auto)]
 
 mod due;
-mod exchange;
-mod failures;
-mod history;
-mod law;
 mod leaving;
-mod over;
-mod pieces;
+mod left;
 mod playing;
-mod script;
 mod stage;
 mod stopping;
 mod tally;
 mod telling;
-mod terminal;
 
+use crate::playing::play;
 use crate::tally::Tally;
-use anyhow::{Context, Error, Result};
-use std::fs;
+use anyhow::{Context, Result, bail};
+use case_script::read_script;
 use std::process::ExitCode;
-use toml::Table;
 
 fn main(rt: HostRuntime) -> ExitCode {
     match run_listed(&rt) {
@@ -48,11 +41,8 @@ fn run_listed(rt: &HostRuntime) -> Result<Tally> {
 }
 
 fn run_script(rt: &HostRuntime, path: &str, tally: &mut Tally) -> Result<()> {
-    let table = read_table(rt, path)?;
-    playing::play(rt, path, &table, tally)
-}
-
-fn read_table(rt: &HostRuntime, path: &str) -> Result<Table> {
-    let text = fs::read_to_string(rt, path)?;
-    toml::table_from_str(rt.alloc(), text.as_str()).map_err(Error::from)
+    match read_script(rt, path) {
+        Ok(runs) => play(rt, path, &runs, tally),
+        Err(fault) => bail!("{fault}"),
+    }
 }

@@ -1,6 +1,7 @@
 //! How a difference is told.
 use anyhow::{Error, Result, anyhow};
 use audit_types::NoMemory;
+use case_script::Run;
 use std::{fmt, io};
 
 /// Want of memory, as the program tells it.
@@ -8,23 +9,23 @@ pub fn no_memory(_: NoMemory) -> Error {
     anyhow!("out of memory")
 }
 
-/// A case, by its script and what it shows.
+/// A case, by its script and its run.
 #[derive(Clone, Copy)]
 pub struct Case<'a> {
     pub script: &'a str,
-    pub shows: &'a str,
+    pub run: &'a Run,
 }
 
 impl Case<'_> {
     /// Prints what is wrong.
-    pub fn tell<W: fmt::Display + Drop>(&self, rt: &HostRuntime, what: W) -> io::Result<()> {
-        let Case { script, shows } = self;
-        println!(rt; "{script}: {shows}\n  {what}")
+    pub fn tell<W: fmt::Display + Drop>(self, rt: &HostRuntime, what: W) -> io::Result<()> {
+        let Case { script, run } = self;
+        println!(rt; "{script}: {}\n  {what}", run.shows)
     }
 
     /// Whether what came is what was due; a difference is printed.
     pub fn agrees<T: PartialEq + fmt::Display>(
-        &self,
+        self,
         rt: &HostRuntime,
         what: &str,
         due: &T,

@@ -1,6 +1,6 @@
 //! What befalls an object at a call.
 use crate::failures::Failures;
-use auditor_top::{Status, Which};
+use crate::keys::Keys;
 
 /// What befalls an object at a call.
 #[derive(Clone, Copy)]
@@ -18,8 +18,8 @@ pub enum Fault {
 }
 
 impl Fault {
-    pub fn of(word: &str) -> Option<Fault> {
-        match word {
+    pub(crate) fn of(each: Keys) -> Option<Fault> {
+        match each.text("fault")? {
             "stop" => Some(Fault::Stop),
             "fail" => Some(Fault::Fail),
             "schema" => Some(Fault::Schema),
@@ -41,15 +41,5 @@ impl Fault {
         };
         *failing = Some(call);
         failures
-    }
-
-    /// How a run ends that it befalls.
-    pub fn status(self) -> Status {
-        match self {
-            Fault::Stop | Fault::Fail => Status::BenchFault,
-            Fault::Schema => Status::SourceFault(Which::Schema),
-            Fault::Table => Status::SourceFault(Which::Table),
-            Fault::Input => Status::SourceFault(Which::Input),
-        }
     }
 }

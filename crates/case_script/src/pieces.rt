@@ -13,12 +13,12 @@ pub struct Piece {
 }
 
 impl Piece {
-    pub fn once(bytes: Vec<u8>) -> Piece {
+    pub(crate) fn once(bytes: Vec<u8>) -> Piece {
         Piece { bytes, times: 1 }
     }
 
-    /// Whether it gives no byte.
-    pub fn is_empty(&self) -> bool {
+    // Whether it gives no byte.
+    pub(crate) fn is_empty(&self) -> bool {
         self.times == 0 || self.bytes.is_empty()
     }
 
@@ -31,7 +31,7 @@ impl Piece {
 }
 
 /// All the bytes, one piece after another.
-pub fn whole(alloc: Global, pieces: &[Piece]) -> Result<Vec<u8>, AllocError> {
+pub(crate) fn whole(alloc: Global, pieces: &[Piece]) -> Result<Vec<u8>, AllocError> {
     let mut bytes = Vec::new(alloc);
     for piece in pieces {
         piece.append_to(&mut bytes)?;
@@ -56,6 +56,7 @@ pub struct Pieces<'a> {
 }
 
 impl<'a> Pieces<'a> {
+    /// A source of these pieces.
     pub fn new(pieces: &'a [Piece], most: usize, failing: Option<u64>) -> Self {
         Pieces {
             pieces,

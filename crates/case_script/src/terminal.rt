@@ -2,7 +2,7 @@
 use std::alloc::AllocError;
 
 /// Adds what is typed and what is shown in reply, up to the first line that ends past so many typed bytes.
-pub fn read_screen(
+pub(crate) fn read_screen(
     screen: &str,
     most: usize,
     typed: &mut Vec<u8>,

@@ -3,7 +3,7 @@ use toml::Value;
 
 /// What may stand at a key.
 #[derive(Clone, Copy)]
-pub enum ValueKind {
+pub(crate) enum ValueKind {
     Text,
     /// A number from 0.
     Count,
@@ -16,7 +16,7 @@ pub enum ValueKind {
 
 impl ValueKind {
     /// Whether a value is one of the kind.
-    pub fn has(self, value: &Value) -> bool {
+    pub(crate) fn has(self, value: &Value) -> bool {
         match self {
             ValueKind::Text => value.is_str(),
             ValueKind::Count => count_of(value).is_some(),
@@ -29,16 +29,16 @@ impl ValueKind {
 }
 
 /// The number that a value is, from 0.
-pub fn count_of(value: &Value) -> Option<u64> {
+pub(crate) fn count_of(value: &Value) -> Option<u64> {
     u64::try_from(value.as_integer()?).ok()
 }
 
 /// The number that a value is, where it may be the place of a byte.
-pub fn place_of(value: &Value) -> Option<usize> {
+pub(crate) fn place_of(value: &Value) -> Option<usize> {
     usize::try_from(value.as_integer()?).ok()
 }
 
 /// The number that a value is, where it is one of a byte.
-pub fn byte_of(value: &Value) -> Option<u8> {
+pub(crate) fn byte_of(value: &Value) -> Option<u8> {
     u8::try_from(value.as_integer()?).ok()
 }
