@@ -69,7 +69,7 @@ of_itself : (n : ℕ) (form : List (List ℤ)) → IsSmallForm n form → IsRedu
 of_itself n form f = record { primitive = f.primitive; echelon = f.echelon; within = own form; spans = own form }
 
 -- a row in the span doesn't make a narrow form wide
-never_wide : (old : Echelon) (row : List ℤ) → IsSmallForm old.n old.rows → IsNarrow old.rows → InSpan old.rows row → ¬ (GrowsWide old row)
+pub never_wide : (old : Echelon) (row : List ℤ) → IsSmallForm old.n old.rows → IsNarrow old.rows → InSpan old.rows row → ¬ (GrowsWide old row)
 never_wide old row f narrow p w =
     let kept = span_keeps_form old.n old.rows old.rows row (of_itself old.n old.rows f) p in
     w.2 (subst IsNarrow (forms_are_unique old.n (old.rows ++ row ∷ []) old.rows w.0 kept w.1) narrow)

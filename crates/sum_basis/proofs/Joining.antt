@@ -10,7 +10,7 @@ use Rattle.sum_basis.specs.declared.Prospect.{Prospect}
 use Rattle.sum_basis.specs.declared.Prospect.TheVariants.{Wide, Fixing, Open}
 use Rattle.sum_basis.specs.Basis.{Echelon, IsForm}
 use Rattle.sum_basis.specs.Elimination.{IsSmall, IsSmallForm, IsZeroAtPivots}
-use Rattle.sum_basis.specs.Growth.{Foresees, GrowsTo, GrowsWide, IsNewRow, IsAsItIs}
+use Rattle.sum_basis.specs.Growth.{Foresees, GrowsTo, GrowsWide, IsNewRow, IsAsItIs, LeavesNoList}
 use Rattle.sum_basis.specs.Sparse.{row_of, rows_of, IsListed, IsKept, IsNew}
 use Rattle.sum_basis.proofs.FormsAreUnique.{own, forms_are_unique}
 use Rattle.sum_basis.proofs.NarrowOrWide.{narrow_or_not}
@@ -136,15 +136,6 @@ not_grown_wide old v p h other wide =
     let same = forms_are_unique old.n (old.rows ++ v ∷ []) grown.0.rows wide.0 grown.1.reduced wide.1 in
     wide.2 (subst IsNarrow same grown.1.narrow)
 
--- what is told of the list, for the form as it is seen
-pub told_of_list : (seen : Echelon) (n : ℕ) (rows items : List SparseRow) (new list : List FreeEntry) (p : Prospect)
-    → record { n = n; rows = rows_of n items } ≡ seen → rows ≡ items → new ≡ list
-    → Foresees (record { n = n; rows = rows_of n rows }) (row_of n new) p → Foresees seen (row_of seen.n list) p
-told_of_list seen n rows items new list p view e f h =
-    let here = subst (λ (r : List SparseRow). Foresees (record { n = n; rows = rows_of n r }) (row_of n new) p) e h in
-    let there = subst (λ (l : List FreeEntry). Foresees (record { n = n; rows = rows_of n items }) (row_of n l) p) f here in
-    subst (λ (s : Echelon). Foresees s (row_of s.n list) p) view there
-
 -- the rows once the row has joined
 pub after_growth : (seen : Echelon) (n : ℕ) (items before grown : List SparseRow) (list : List FreeEntry) → record { n = n; rows = rows_of n items } ≡ seen
     → before ≡ items
@@ -162,11 +153,6 @@ grown_rows seen n items before grown list view g reduced =
     subst (λ (s : Echelon). IsReducedForm s.n (s.rows ++ row_of s.n list ∷ []) (rows_of n grown)) view
     (subst (λ (r : List SparseRow). IsReducedForm n (rows_of n r ++ row_of n list ∷ []) (rows_of n grown)) g reduced)
 
--- the form with the row, once its list has joined
-pub grown_to : (old new : Echelon) (list : List FreeEntry) (v : List ℤ) → new.n ≡ old.n → IsNarrow new.rows → IsNewRow old v (row_of old.n list) →
-    IsReducedForm old.n (old.rows ++ row_of old.n list ∷ []) new.rows → GrowsTo old v new
-grown_to old new list v n narrow row reduced = grows_to old new v (row_of old.n list) row (record { n = n; reduced = reduced; narrow = narrow })
-
 -- a row with which the form is not wide has a primitive row with which it is not
 pub not_wide_with : (old : Echelon) (v made : List ℤ) → IsNewRow old v made → ¬ (GrowsWide old v) → ¬ (GrowsWide old made)
 not_wide_with old v made row other wide = other (grows_wide old v made row wide)
@@ -180,3 +166,27 @@ same_form old v f p =
 pub grown_with : (old : Echelon) (rows : List (List ℤ)) (list : List FreeEntry) (v : List ℤ) → IsNewRow old v (row_of old.n list) →
     IsReducedForm old.n (old.rows ++ row_of old.n list ∷ []) rows → IsReducedForm old.n (old.rows ++ v ∷ []) rows
 grown_with old rows list v row reduced = other_row old.n old.rows rows (row_of old.n list) v row.there row.back reduced
+
+-- no list is left of a row of the span
+pub no_list : (form : Echelon) (v : List ℤ) (p : Prospect) → InSpan form.rows v → IsAsItIs form p → LeavesNoList form v p
+no_list form v Wide span is = absurd is
+no_list form v Fixing span is = span
+no_list form v Open span is = span
+
+-- a row without a list with which the form is narrow lies in the span
+pub without_list : (form : Echelon) (v : List ℤ) (p : Prospect) → ¬ (p ≡ Wide) → LeavesNoList form v p → InSpan form.rows v
+without_list form v Wide other left = absurd (other refl)
+without_list form v Fixing other left = left
+without_list form v Open other left = left
+
+-- the form with the row, once its list has joined, where it was told not to be wide
+pub grown_to : (old new : Echelon) (list : List FreeEntry) (v : List ℤ) (p : Prospect) → Foresees old v p → ¬ (p ≡ Wide) → new.n ≡ old.n
+    → IsNewRow old v (row_of old.n list) → IsReducedForm old.n (old.rows ++ row_of old.n list ∷ []) new.rows → GrowsTo old v new
+grown_to old new list v p told other n row reduced =
+    let grown = not_wide old v p told other in
+    let form = grown_with old new.rows list v row reduced in
+    record {
+      n = n;
+      reduced = form;
+      narrow = subst IsNarrow (forms_are_unique old.n (old.rows ++ v ∷ []) grown.0.rows new.rows grown.1.reduced form) grown.1.narrow;
+    }

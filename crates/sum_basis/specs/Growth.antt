@@ -51,6 +51,12 @@ IsAsItIs form prospect.Wide = ⊥
 IsAsItIs form prospect.Fixing = HasUnitRow form
 IsAsItIs form prospect.Open = ¬ (HasUnitRow form)
 
+-- no list is left of a row where it lies in the span, and none is kept where the form with it isn't narrow
+abbrev pub LeavesNoList : Echelon → List ℤ → Prospect → Type 0
+LeavesNoList form row prospect.Wide = GrowsWide form row
+LeavesNoList form row prospect.Fixing = InSpan form.rows row
+LeavesNoList form row prospect.Open = InSpan form.rows row
+
 -- the same as for sets, said of rows that the form stands for
 abbrev pub GrowsForRows : List (List ℤ) → List ℤ → Echelon → Grown → Echelon → Type 0
 GrowsForRows rows row old Same new = IsReducedForm new.n (rows ++ row ∷ []) new.rows

@@ -1,5 +1,5 @@
 //! The reduced form of rows of whole numbers, kept as long as it is narrow.
-ghost use Rattle.std.specs.Prelude.{◌≡◌, ◌↔◌, ℕ, ◌<◌, ◌≤◌, ◌++◌, ◌^◌, ℤ, List, pos, [], ◌∷◌, length, map, IfOk, OnOk, OnErr, IfSome, IsTrue, MatchOption, slice_index_or, unsigned_abs};
+ghost use Rattle.std.specs.Prelude.{◌≡◌, ◌↔◌, ℕ, ◌<◌, ◌≤◌, ◌++◌, ◌^◌, ℤ, List, pos, [], ◌∷◌, length, map, IfOk, OnOk, OnErr, IfSome, IfNone, IsTrue, MatchOption, slice_index_or, unsigned_abs};
 ghost use Rattle.std.specs.List.{AllByRecursion};
 ghost use Rattle.audit_types.specs.Form.{InSpan, IsNarrow, IsReducedForm, pivot, pivot_entries, IsLeastCommonMultiple};
 ghost use Rattle.audit_types.specs.Truth.{number_at};
@@ -8,7 +8,7 @@ ghost use Rattle.audit_types.specs.PrimitiveLines.{times};
 ghost use Rattle.sum_basis.specs.Elimination.{IsSmallForm, IsRemainder, IsZeroAtPivots};
 ghost use Rattle.std.specs.Vec.{vec_capacity};
 ghost use Rattle.sum_basis.specs.Sparse.{row_of, IsNew};
-ghost use Rattle.sum_basis.specs.Growth.{Grows, GrowsForRows, GrowsWide, Foresees, IsLeft, IsAsItIs};
+ghost use Rattle.sum_basis.specs.Growth.{Grows, GrowsForRows, GrowsWide, Foresees, IsLeft, IsAsItIs, LeavesNoList};
 ghost use Rattle.sum_basis.specs.declared.Grown.TheVariants.{Same, Wide};
 ghost use Rattle.sum_basis.specs.declared.form.Left.TheVariants.{Entries};
 
@@ -121,6 +121,11 @@ impl Form {
         requires bits { (j : ℕ) → unsigned_abs (number_at row.old j) ≤ 1 }
         ensures foresees { IfOk result (λ weighed. Foresees self.now row.old weighed.prospect) }
         ensures left { IfOk result (λ weighed. IfSome weighed.list (λ list. IsLeft self.now row.old (Entries list))) }
+        ensures nothing { IfOk result (λ weighed. IfNone weighed.list (LeavesNoList self.now row.old weighed.prospect)) }
+
+        // What is true of every form.
+        ensures form { IsSmallForm self.now.n self.now.rows }
+        ensures narrow { IsNarrow self.now.rows }
     {
         match self.settle(row)? {
             Left::Nothing => Ok(Weighed {
@@ -170,16 +175,14 @@ impl Form {
         ensures n { self.new.n ≡ self.old.n }
         ensures err { OnErr result (self.new ≡ self.old) }
     {
-        let new = match self.settle(row)? {
-            Left::Nothing => return Ok(Grown::Same),
-            Left::Large => return Ok(Grown::Wide),
-            Left::Entries(new) => new,
-        };
-        let mut room = Vec::with_capacity(self.alloc, self.columns as usize)?;
-        if let Prospect::Wide = look_ahead(&self.rows, self.columns, self.common, &new, &mut room) {
+        let Weighed { prospect, list } = self.weigh(row)?;
+        if let Prospect::Wide = prospect {
             return Ok(Grown::Wide);
         }
-        self.grow(new, &mut room)?;
+        let Some(new) = list else {
+            return Ok(Grown::Same);
+        };
+        self.insert_list(new)?;
         Ok(Grown::Added)
     }
 
@@ -211,25 +214,9 @@ impl Form {
         ensures n { self.new.n ≡ self.old.n }
         ensures err { OnErr result (self.new ≡ self.old) }
     {
-        let mut room = Vec::with_capacity(self.alloc, self.columns as usize)?;
-        self.grow(new, &mut room)?;
-        Ok(())
-    }
-
-    // Adds the list of a new row with which the form is narrow.
-    fn grow(&mut self, new: Vec<FreeEntry>, room: &mut Vec<FreeEntry>) -> Result<(), NoMemory>
-        requires new { IsNew self.old.n new.items }
-        requires new_room { self.old.n ≤ vec_capacity new }
-        requires room { self.old.n ≤ vec_capacity room.old }
-        requires zero { IsZeroAtPivots self.old.rows (row_of self.old.n new.items) }
-        requires narrow { ¬ (GrowsWide self.old (row_of self.old.n new.items)) }
-        ensures reduced { OnOk result (IsReducedForm self.old.n (self.old.rows ++ row_of self.old.n new.items ∷ []) self.new.rows) }
-        ensures narrow { OnOk result (IsNarrow self.new.rows) }
-        ensures n { self.new.n ≡ self.old.n }
-        ensures err { OnErr result (self.new ≡ self.old) }
-    {
         self.rows.reserve(1)?;
-        grow_rows(&mut self.rows, self.columns, new, room);
+        let mut room = Vec::with_capacity(self.alloc, self.columns as usize)?;
+        grow_rows(&mut self.rows, self.columns, new, &mut room);
         match common_multiple(&self.rows) {
             Some(common) => self.common = common,
             None => unreachable!(),

@@ -6,7 +6,7 @@ use Rattle.std.proofs.lemmas.Int.{to_z-of_z}
 use Rattle.sum_basis.specs.Basis.{Echelon}
 use Rattle.sum_basis.specs.Elimination.{IsSmallForm}
 use Rattle.sum_basis.specs.Sparse.{rows_of, IsKept, IsNew}
-use Rattle.sum_basis.proofs.Joining.{zeros_of_list, told, foresees_same}
+use Rattle.sum_basis.proofs.Joining.{zeros_of_list, told, foresees_same, no_list}
 use Rattle.sum_basis.proofs.form.Form.weigh.Goals as goal
 
 pub look_ahead-prospect-requires-clause-kept : goal.look_ahead-prospect-requires-clause-kept
@@ -59,3 +59,11 @@ look_ahead-prospect-requires-clause-zero c =
     let left = rw c.in-Entries.is at c.in_ok-settle.ensures.left in
     zeros_of_list c.args.self.now c.self.inside.columns c.deref.result.now c.self.inside.rows.items c.deref-in-Entries.result.now c.in-Entries.new.items
     c.self.view_is c.deref.ensures.value c.deref-in-Entries.ensures.value left.1.zeros
+
+pub returns-in-Nothing-clause-nothing : goal.returns-in-Nothing-clause-nothing
+returns-in-Nothing-clause-nothing c =
+    let left = rw c.in-Nothing.is at c.in_ok-settle.ensures.left in
+    no_list c.args.self.now c.args.row.now c.as_it_is.result left c.as_it_is.ensures
+
+pub returns-in-Large-clause-nothing : goal.returns-in-Large-clause-nothing
+returns-in-Large-clause-nothing c = let left = rw c.in-Large.is at c.in_ok-settle.ensures.left in left.1

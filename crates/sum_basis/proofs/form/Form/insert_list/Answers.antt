@@ -8,7 +8,7 @@ use Rattle.sum_basis.specs.declared.sparse.SparseRow.{SparseRow}
 use Rattle.sum_basis.specs.Basis.{Echelon}
 use Rattle.sum_basis.proofs.LeastMultiples.{heads}
 use Rattle.sum_basis.proofs.Joining.{after_growth, grown_rows, within_limit, joined_form}
-use Rattle.sum_basis.proofs.form.Form.grow.Goals as goal
+use Rattle.sum_basis.proofs.form.Form.insert_list.Goals as goal
 
 pub common_multiple-requires : goal.common_multiple-requires
 common_multiple-requires c =
@@ -42,7 +42,6 @@ returns c =
       reduced =
           grown_rows c.args.self.now c.self.inside.columns c.self.inside.rows.items c.reserve.new.self.items c.grow_rows.new.rows.items c.args.new.items
           c.self.view_is c.reserve.ensures.items c.grow_rows.ensures.reduced;
-      narrow = j.narrow;
       n = ap (λ (e : Echelon). e.n) c.self.view_is;
       err = tt;
     }
