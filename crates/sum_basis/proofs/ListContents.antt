@@ -1,6 +1,6 @@
 -- The content of a list of entries, and the list over a divisor.
 use Rattle.std.proofs.Math.IntN.{*ℤ-zero}
-use Rattle.std.proofs.Common.{◌≡◌, ℕ, zero, suc, ◌+◌, ◌<◌, ◌≤◌, ◌^◌, Bool, true, false, cond, nat_eq, ℤ, pos, List, [], ◌∷◌, length, map, take, get_or, set, refl, sym, ap, ◌∙◌, subst, arith, inl, inr}
+use Rattle.std.proofs.Common.{◌≡◌, ◌≢◌, ℕ, zero, suc, ◌+◌, ◌<◌, ◌≤◌, ◌^◌, Bool, true, false, cond, nat_eq, ℤ, pos, List, [], ◌∷◌, length, map, take, get_or, set, refl, sym, ap, ◌∙◌, subst, arith, inl, inr}
 use Rattle.std.specs.Prelude.{◌*ℤ◌, ◌<ℤ◌, unsigned_abs}
 use Rattle.std.specs.Int.{◌∣◌, IsGcd}
 use Rattle.std.specs.List.{AllByRecursion}
@@ -130,3 +130,8 @@ over_content by old_head head old es p content e f = record {
       content_one by (head ∷ values es) (positive_not_zero by p)
       (subst (λ l. IsContent l (unsigned_abs by)) (ap (λ x. x ∷ values old) e ∙ ap (λ l. (by *ℤ head) ∷ l) (ap values f ∙ values-scaled by es)) content);
 }
+
+-- the first of listed entries is not 0
+pub first_some : (n : ℕ) (list : List FreeEntry) → IsListed 0 n list → 0 < length list → (get_or list 0 none).value ≢ pos 0
+first_some n [] h some = absurd (omega arith)
+first_some n (e ∷ list) h some = h.2

@@ -8,7 +8,7 @@ use Rattle.sum_basis.specs.declared.sparse.FreeEntry.{FreeEntry}
 use Rattle.sum_basis.specs.Sparse.{entry_at, entries_of, IsNew}
 use Rattle.sum_basis.proofs.Sizes.{product_small}
 use Rattle.sum_basis.proofs.SparseRows.{small_values, listed_from}
-use Rattle.sum_basis.proofs.ListContents.{none}
+use Rattle.sum_basis.proofs.ListContents.{none, first_some}
 use Rattle.sum_basis.proofs.ClearedLists.{is_led, entry_small, head_small, combined_small, positive_times}
 use Rattle.sum_basis.proofs.cleared_list.combine_at_pivot.Goals as goal
 use Rattle.sum_basis.proofs.Wide.{product_of}
@@ -95,3 +95,11 @@ returns-clause-leading c =
           (by_positive c.args.columns c.args.new.now c.requires.new) c.requires.kept.leading,
       omega arith,
     ))
+
+pub combine_into-requires-clause-by_some : goal.combine_into-requires-clause-by_some
+combine_into-requires-clause-by_some c =
+    let by : FitsSigned w128 (get_or c.args.new.now 0 none).value = search rules in
+    rw (to_z-of_z w128 (get_or c.args.new.now 0 none).value by) (first_some c.args.columns c.args.new.now c.requires.new.listed c.requires.new.some)
+
+pub combine_into-requires-clause-second : goal.combine_into-requires-clause-second
+combine_into-requires-clause-second c = c.requires.new.listed

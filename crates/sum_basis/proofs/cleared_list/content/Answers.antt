@@ -1,9 +1,11 @@
-use Rattle.std.proofs.Common.{◌∷◌, ℤ, pos, get_or, take, map, ap, ◌∙◌, subst, rules}
+use Rattle.std.proofs.Common.{◌≤◌, ◌^◌, ◌∷◌, ℤ, pos, List, get_or, take, map, ap, ◌∙◌, subst, rules, take_all}
 use Rattle.std.specs.Prelude.{FitsSigned, unsigned_abs}
 use Rattle.std.specs.Int.{w128, IsGcd}
 use mir.Val.{to_z, of_z}
 use Rattle.std.proofs.lemmas.Int.{to_z-of_z}
 use Rattle.audit_types.specs.Form.{IsContent}
+use Rattle.audit_types.specs.ListLaws.{all-get_or}
+use Rattle.sum_basis.specs.declared.sparse.FreeEntry.{FreeEntry}
 use Rattle.audit_types.specs.Numbers.{size_positive}
 use Rattle.std.proofs.Math.Nat.{pos_of_dvd_of_pos}
 use Rattle.sum_basis.proofs.ListContents.{content_of_one, one_more_value, stays_one}
@@ -38,3 +40,26 @@ loop-e-preserved c =
           common;
       positive = pos_of_dvd_of_pos common.0 c.loop-e.invariant.positive;
     }
+
+pub new-divisor-requires : goal.new-divisor-requires
+new-divisor-requires c = rw (to_z-of_z w128 c.args.head c.ranges.head) c.requires.head.1
+
+pub with-divisor-requires : goal.with-divisor-requires
+with-divisor-requires c =
+    let value : FitsSigned w128 (get_or c.args.entries.now c.loop-e.e-index (record { place = 0; value = pos 0 })).value = search rules in
+    rw (to_z-of_z w128 (get_or c.args.entries.now c.loop-e.e-index (record { place = 0; value = pos 0 })).value value)
+    (all-get_or (λ (e : FreeEntry). unsigned_abs e.value ≤ 2 ^ 126) c.args.entries.now c.loop-e.e-index (record { place = 0; value = pos 0 })
+    c.requires.entries c.loop-e-test.true)
+
+pub returns-then-is_one-clause-positive : goal.returns-then-is_one-clause-positive
+returns-then-is_one-clause-positive c = c.loop-e.invariant.positive
+
+pub returns-clause-content : goal.returns-clause-content
+returns-clause-content c =
+    subst (λ (l : List FreeEntry). IsContent (c.args.head ∷ map (λ e. e.value) l) c.loop-e.divisor)
+    (take_all c.loop-e.e-index c.args.entries.now c.loop-e-test.false)
+    (subst (λ (h : ℤ). IsContent (h ∷ map (λ e. e.value) (take c.loop-e.e-index c.args.entries.now)) c.loop-e.divisor)
+    (to_z-of_z w128 c.args.head c.ranges.head) c.loop-e.invariant.content)
+
+pub returns-clause-positive : goal.returns-clause-positive
+returns-clause-positive c = c.loop-e.invariant.positive

@@ -27,3 +27,17 @@ clear_into-row-requires-clause-times c = to_z-of_z w128 c.args.times c.ranges.ti
 
 pub clear_into-row-requires-clause-some : goal.clear_into-row-requires-clause-some
 clear_into-row-requires-clause-some c = rw (to_z-of_z w128 c.args.times c.ranges.times) c.requires.some
+
+pub returns-clause-cleared : goal.returns-clause-cleared
+returns-clause-cleared c =
+    let head : FitsSigned w128 c.clear_into-row.result = search rules in
+    rw (to_z-of_z w128 c.clear_into-row.result head, ap (λ v. v.items) c.swap.ensures.x_after) c.clear_into-row.ensures.cleared
+
+pub returns-clause-room : goal.returns-clause-room
+returns-clause-room c = rw (ap vec_capacity c.swap.ensures.y_after) c.requires.kept.room
+
+pub clear_into-row-requires-clause-before : goal.clear_into-row-requires-clause-before
+clear_into-row-requires-clause-before c = c.requires.before
+
+pub clear_into-row-requires-clause-empty : goal.clear_into-row-requires-clause-empty
+clear_into-row-requires-clause-empty c = c.clear.ensures.items

@@ -53,3 +53,18 @@ loop-row-preserved c =
     let positive = least_positive _ _ both.0 (size_positive _ c.loop-row.invariant.positive) (size_positive c.row-item.result.head leading.0) least in
     let is = after c.in_ok-common.common _ both.0 (to_z-of_z w128 c.in_ok-common.common kept) both.2.0 both.2.1 positive in
     record { multiple = rw is.is first; positive = is.positive; within = is.small }
+
+-- a positive number within the limit
+at_most : (x : ℤ) → pos 0 <ℤ x → unsigned_abs x ≤ 2 ^ 56 → x ≤ℤ pos (2 ^ 56)
+at_most x positive small = omega (arith, ints)
+
+pub lcm_within-requires-clause-a : goal.lcm_within-requires-clause-a
+lcm_within-requires-clause-a c =
+    (c.loop-row.invariant.positive, at_most (to_z w128 c.loop-row.common-bits) c.loop-row.invariant.positive c.loop-row.invariant.within)
+
+pub lcm_within-requires-clause-b : goal.lcm_within-requires-clause-b
+lcm_within-requires-clause-b c =
+    let head : FitsSigned w128 c.row-item.result.head = search rules in
+    let leading = of_row (λ r. (pos 0 <ℤ r.head) ×
+    (unsigned_abs r.head ≤ 2 ^ 56)) c.args.rows.now c.loop-row.row-index c.row-item.result c.loop-row-test.true c.row-item.is c.requires in
+    rw (to_z-of_z w128 c.row-item.result.head head) (leading.0, at_most c.row-item.result.head leading.0 leading.1)

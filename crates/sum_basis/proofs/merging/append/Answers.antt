@@ -1,13 +1,33 @@
-use Rattle.std.proofs.Common.{◌≡◌, ℕ, ◌+◌, ◌<◌, ℤ, List, [], ◌∷◌, ◌++◌, length, map, take, get_or, sym, ap, ◌∙◌, rules, append_assoc, take_all}
+use Rattle.std.proofs.Common.{◌≡◌, ℕ, ◌+◌, ◌<◌, ℤ, List, [], ◌∷◌, ◌++◌, length, map, take, get_or, refl, sym, ap, ◌∙◌, arith, rules, append_assoc, take_all}
 use Rattle.std.specs.Prelude.{FitsSigned, ◌*ℤ◌}
 use Rattle.std.specs.Int.{w128}
 use mir.Val.{to_z, of_z}
 use Rattle.std.proofs.lemmas.Int.{to_z-of_z}
-use Rattle.std.proofs.lemmas.List.{take_more, map-append}
+use Rattle.std.proofs.lemmas.List.{take_more, map-append, append-nil, length-append, length-map, length-take-le}
 use Rattle.sum_basis.specs.declared.sparse.FreeEntry.{FreeEntry}
 use Rattle.sum_basis.specs.Sparse.{scaled}
 use Rattle.sum_basis.proofs.ListContents.{none, value_small}
 use Rattle.sum_basis.proofs.merging.append.Goals as goal
+
+pub loop-e-init : goal.loop-e-init
+loop-e-init c = record { items = sym (append-nil c.args.out.now.items); capacity = refl }
+
+-- how many entries stand there by now
+filled : (by : ℤ) (before rest : List FreeEntry) (k : ℕ) → k < length rest → length (before ++ map (scaled by) (take k rest)) ≡ length before + k
+filled by before rest k l =
+    length-append before (map (scaled by) (take k rest))
+    ∙ ap (λ n. length before + n) (length-map (take k rest) (scaled by) ∙ length-take-le k rest (omega arith))
+
+pub push_reserved-requires : goal.push_reserved-requires
+push_reserved-requires c =
+    let items = ap length c.loop-e.invariant.items
+    ∙ filled (to_z w128 (of_z w128 c.args.by)) c.args.out.now.items c.args.rest.now c.loop-e.e-index c.loop-e-test.true in
+    let len = c.loop-e.out.ok.0 in
+    let before = c.args.out.now.ok.0 in
+    let capacity = c.loop-e.invariant.capacity in
+    let room = c.requires.room in
+    let more = c.loop-e-test.true in
+    omega arith
 
 pub product-value-requires-clause-x : goal.product-value-requires-clause-x
 product-value-requires-clause-x c = rw (to_z-of_z w128 c.args.by c.ranges.by) c.requires.by

@@ -241,3 +241,12 @@ returns-clause-combined c = λ k.
     (some_by c.args.by c.ranges.by c.requires.by_some) (some_by c.args.times c.ranges.times c.requires.times_some) k
     ∙ ap (λ z. z *ℤ entry_at c.args.first.now k -ℤ to_z w128 (of_z w128 c.args.times) *ℤ entry_at c.args.second.now k) (to_z-of_z w128 c.args.by c.ranges.by)
     ∙ ap (λ z. c.args.by *ℤ entry_at c.args.first.now k -ℤ z *ℤ entry_at c.args.second.now k) (to_z-of_z w128 c.args.times c.ranges.times)
+
+pub loop-i-smaller-then-one-other : goal.loop-i-smaller-then-one-other
+loop-i-smaller-then-one-other c = omega arith
+
+pub loop-i-smaller-then-other-one : goal.loop-i-smaller-then-other-one
+loop-i-smaller-then-other-one c = omega arith
+
+pub loop-i-smaller : goal.loop-i-smaller
+loop-i-smaller c = omega arith

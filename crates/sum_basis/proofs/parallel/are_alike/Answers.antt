@@ -1,4 +1,6 @@
+use Rattle.std.proofs.Common.{rules}
 use Rattle.std.proofs.lemmas.Int.{to_z-of_z}
+use Rattle.std.specs.Prelude.{FitsSigned}
 use Rattle.std.specs.Int.{w128}
 use Rattle.sum_basis.proofs.parallel.are_alike.Goals as goal
 
@@ -7,3 +9,13 @@ product-requires-clause-x c = rw (to_z-of_z w128 c.args.by c.ranges.by) c.requir
 
 pub product-requires-then-first-second-clause-x : goal.product-requires-then-first-second-clause-x
 product-requires-then-first-second-clause-x c = rw (to_z-of_z w128 c.args.times c.ranges.times) c.requires.times
+
+pub product-requires-clause-y : goal.product-requires-clause-y
+product-requires-clause-y c =
+    let value : FitsSigned w128 c.args.first.value = search rules in
+    rw (to_z-of_z w128 c.args.first.value value) c.requires.first
+
+pub product-requires-then-first-second-clause-y : goal.product-requires-then-first-second-clause-y
+product-requires-then-first-second-clause-y c =
+    let value : FitsSigned w128 c.args.second.value = search rules in
+    rw (to_z-of_z w128 c.args.second.value value) c.requires.second

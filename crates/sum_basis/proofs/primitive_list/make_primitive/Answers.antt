@@ -1,9 +1,11 @@
-use Rattle.std.proofs.Common.{◌≢◌, zero, suc, ◌<◌, ◌^◌, ℤ, pos, negsuc, length, get_or, refl, sym, ap, ◌∙◌, arith, rules}
+use Rattle.std.proofs.Common.{◌≢◌, zero, suc, ◌<◌, ◌^◌, ℤ, pos, negsuc, ◌≤◌, length, get_or, refl, sym, ap, ◌∙◌, subst, arith, rules}
 use Rattle.std.specs.Prelude.{FitsSigned, unsigned_abs, ◌<ℤ◌, ◌≤ℤ◌}
 use Rattle.std.specs.Int.{w128}
 use Rattle.std.proofs.lemmas.Int.{ints, to_z-of_z}
 use Rattle.sum_basis.proofs.ListContents.{none, entry_is}
 use Rattle.sum_basis.proofs.PrimitiveLists.{no_greater, made_as_it_is, made_turned}
+use Rattle.audit_types.specs.ListLaws.{all-get_or}
+use Rattle.sum_basis.specs.declared.sparse.FreeEntry.{FreeEntry}
 use Rattle.sum_basis.proofs.primitive_list.make_primitive.Goals as goal
 use Rattle.audit_types.specs.Numbers.{positive_not_zero}
 
@@ -42,3 +44,14 @@ returns-else-first-lt0-clause-made c =
     made_as_it_is c.args.entries.now.items c.over_content.new.entries.items _ _ c.over_content.ensures.over some
     (to_z-of_z w128 c.size_of.result size ∙ c.size_of.ensures ∙ ap (λ z. pos (unsigned_abs z)) (is ∙ sym here))
     (above_zero (get_or c.args.entries.now.items 0 none).value c.requires.first (rw here high))
+
+pub index-requires : goal.index-requires
+index-requires c = let len = c.args.entries.now.ok.0 in let some = c.requires.some in omega arith
+
+pub size_of-requires : goal.size_of-requires
+size_of-requires c =
+    let some : 0 < length c.args.entries.now.items = let len = c.args.entries.now.ok.0 in let some = c.requires.some in omega arith in
+    let first : FitsSigned w128 c.index.result.now.value = search rules in
+    rw (to_z-of_z w128 c.index.result.now.value first)
+    (subst (λ (e : FreeEntry). unsigned_abs e.value ≤ 2 ^ 126) (entry_is c.args.entries.now.items 0 c.index.result.now some c.index.ensures)
+    (all-get_or (λ (e : FreeEntry). unsigned_abs e.value ≤ 2 ^ 126) c.args.entries.now.items 0 none c.requires.size some))

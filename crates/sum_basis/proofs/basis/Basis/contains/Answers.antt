@@ -1,7 +1,8 @@
-use Rattle.std.proofs.Common.{◌≡◌, ℕ, ℤ, pos, List, ap, ◌∙◌, subst}
+use Rattle.std.proofs.Common.{◌≡◌, ℕ, ℤ, pos, List, length, sym, ap, ◌∙◌, subst, arith}
+use Rattle.std.proofs.lemmas.List.{length-take-le}
 use Rattle.audit_types.specs.Form.{set_row}
 use Rattle.audit_types.specs.PrimitiveLines.{times}
-use Rattle.audit_types.specs.RowNumbers.{all_by_number}
+use Rattle.audit_types.specs.RowNumbers.{length-set_row, all_by_number}
 use Rattle.sum_basis.specs.Basis.{Echelon}
 use Rattle.sum_basis.specs.Elimination.{IsRemainder, IsSmallForm}
 use Rattle.sum_basis.proofs.FormsAreUnique.{leads_from}
@@ -9,6 +10,21 @@ use Rattle.sum_basis.proofs.SetRows.{set_bits}
 use Rattle.sum_basis.proofs.UnitRows.{no_pivot}
 use Rattle.sum_basis.proofs.Remainders.{in_span, nothing_left, pivot_of_zeros}
 use Rattle.sum_basis.proofs.basis.Basis.contains.Goals as goal
+
+pub slice_bounds-room-end : goal.slice_bounds-room-end
+slice_bounds-room-end c = omega (arith, c.columns.ensures.columns, c.self.invariant.0)
+
+pub slice_bounds-row-end : goal.slice_bounds-row-end
+slice_bounds-row-end c = sym (length-take-le c.columns.result _ (omega (arith, c.columns.ensures.columns, c.self.invariant.0)))
+
+pub write_set-requires : goal.write_set-requires
+write_set-requires c =
+    length-take-le c.columns.result _ (omega (arith, c.columns.ensures.columns, c.self.invariant.0)) ∙ c.columns.ensures.columns
+    ∙ ap (λ (e : Echelon). e.n) c.self.view_is ∙ sym c.requires
+
+pub remainder-requires-clause-length : goal.remainder-requires-clause-length
+remainder-requires-clause-length c =
+    ap length c.write_set.ensures ∙ length-set_row c.args.rows.now.n c.args.rows.now.list ∙ c.requires ∙ sym (ap (λ (e : Echelon). e.n) c.self.view_is)
 
 pub remainder-requires-clause-bits : goal.remainder-requires-clause-bits
 remainder-requires-clause-bits c = set_bits c.args.rows.now.n c.args.rows.now.list c.write_set.new.row c.write_set.ensures

@@ -1,4 +1,6 @@
-use Rattle.std.proofs.Common.{◌≡◌, ℕ, ℤ, List, [], ◌∷◌, ◌++◌, refl, sym, ap, ◌∙◌, subst}
+use Rattle.std.proofs.Common.{◌≡◌, ℕ, ℤ, List, [], ◌∷◌, ◌++◌, refl, sym, ap, ◌∙◌, subst, length, arith}
+use Rattle.std.proofs.lemmas.List.{length-take-le}
+use Rattle.audit_types.specs.RowNumbers.{length-set_row}
 use Rattle.std.specs.Prelude.{Option, Some}
 use Rattle.audit_types.specs.Form.{set_row, IsReducedForm}
 use Rattle.sum_basis.specs.Basis.{Echelon}
@@ -93,3 +95,24 @@ insert_list-requires-clause-zero c =
     (left c.self.inside.form c.args.self.now c.self.inside.held c.args.rows.now.n c.args.rows.now.list
     (record { rows = c.args.rows.now; list = c.in-Some.list }) c.self.view_is c.self.invariant.1
     (sym c.take-held.ensures.value ∙ is) refl c.requires.n).1.zeros
+
+pub slice_bounds-room-end : goal.slice_bounds-room-end
+slice_bounds-room-end c = omega (arith, c.columns.ensures.columns, c.self.invariant.0)
+
+pub slice_bounds-row-end : goal.slice_bounds-row-end
+slice_bounds-row-end c = sym (length-take-le c.columns.result _ (omega (arith, c.columns.ensures.columns, c.self.invariant.0)))
+
+pub write_set-requires : goal.write_set-requires
+write_set-requires c =
+    length-take-le c.columns.result _ (omega (arith, c.columns.ensures.columns, c.self.invariant.0)) ∙ c.columns.ensures.columns
+    ∙ ap (λ (e : Echelon). e.n) c.self.view_is ∙ sym c.requires.n
+
+pub insert-requires-clause-length : goal.insert-requires-clause-length
+insert-requires-clause-length c =
+    ap length c.write_set.ensures ∙ length-set_row c.args.rows.now.n c.args.rows.now.list ∙ c.requires.n ∙ sym (ap (λ (e : Echelon). e.n) c.self.view_is)
+
+pub invariant_of-self-in-Some : goal.invariant_of-self-in-Some
+invariant_of-self-in-Some c = (omega (arith, c.in_ok-insert_list.ensures.n, c.self.invariant.0), rw c.take-held.ensures.after tt)
+
+pub invariant_of-self-2 : goal.invariant_of-self-2
+invariant_of-self-2 c = (omega (arith, c.in_ok-insert.ensures.n, c.self.invariant.0), rw c.take-held.ensures.after tt)

@@ -1,12 +1,12 @@
-use Rattle.std.proofs.Common.{◌≡◌, ◌≢◌, ℕ, ◌<◌, ◌≤◌, ◌^◌, Bool, true, false, nat_eq, ℤ, pos, List, [], ◌∷◌, length, get_or, sym, ◌∙◌, subst, arith}
+use Rattle.std.proofs.Common.{◌≡◌, ℕ, ◌<◌, ◌≤◌, ◌^◌, Bool, true, false, nat_eq, ℤ, pos, List, [], ◌∷◌, length, sym, ◌∙◌, subst, arith}
 use Rattle.std.specs.Prelude.{unsigned_abs}
 use Rattle.std.specs.List.{AllByRecursion}
 use Rattle.std.proofs.lemmas.Bool.{true≢false, eqb-true, eq-eqb}
 use Rattle.audit_types.specs.Truth.{number_at}
 use Rattle.audit_types.specs.ListLaws.{all-unmap}
 use Rattle.sum_basis.specs.declared.sparse.FreeEntry.{FreeEntry}
-use Rattle.sum_basis.specs.Sparse.{entry_at, IsListed}
-use Rattle.sum_basis.proofs.ListContents.{none}
+use Rattle.sum_basis.specs.Sparse.{entry_at}
+use Rattle.sum_basis.proofs.ListContents.{first_some}
 use Rattle.sum_basis.proofs.ClearedLists.{values_from}
 use Rattle.sum_basis.proofs.SparseRows.{small_row, small_values}
 use Rattle.sum_basis.proofs.WideForms.{new_too_large}
@@ -33,10 +33,6 @@ returns-then-is_empty-clause-left c =
     (none_listed c.in_ok-list.list.items c.remainder.new.row
     (empty c.in_ok-list.list.len c.in_ok-list.list.items c.is_empty.result c.in_ok-list.list.ok.0 c.is_empty.ensures c.if-is_empty.true)
     c.in_ok-list.ensures.is)
-
-first_some : (n : ℕ) (list : List FreeEntry) → IsListed 0 n list → 0 < length list → (get_or list 0 none).value ≢ pos 0
-first_some n [] h some = absurd (omega arith)
-first_some n (e ∷ list) h some = h.2
 
 pub make_primitive-requires-clause-some : goal.make_primitive-requires-clause-some
 make_primitive-requires-clause-some c =
