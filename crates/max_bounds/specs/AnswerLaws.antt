@@ -1,9 +1,9 @@
 -- Laws of what holds of each answer of a list.
-use Rattle.std.proofs.Common.{◌≡◌, List, [], ◌∷◌, ◌++◌, refl, subst, inl, inr, ◌⊎◌, ℕ, zero, suc, ◌<◌, length, get_or, ℤ, SFits, to_z, of_z, sym, ap, arith}
+use Rattle.std.proofs.Common.{◌≡◌, List, [], ◌∷◌, ◌++◌, refl, subst, inl, inr, ◌⊎◌, ℕ, zero, suc, ◌<◌, length, get_or, ℤ, SFits, to_z, of_z, sym, ap, ◌∙◌, arith}
 use Rattle.std.specs.List.{AllByRecursion}
 use Rattle.audit_types.specs.Column.{Answer, IsOneOf}
 use Rattle.std.specs.Int.{w64, w128}
-use Rattle.std.proofs.lemmas.Int.{ints}
+use Rattle.std.proofs.lemmas.Int.{ints, to_z-of_z}
 use Rattle.max_bounds.specs.declared.answered.AnsweredMax.{AnsweredMax}
 use Rattle.max_bounds.specs.Maxima.{answer_of, answers_of}
 
@@ -57,4 +57,5 @@ one_here (y ∷ pairs) (suc i) x within is = inr (one_here pairs i x (omega arit
 
 -- an answer of 64 bits, as one of 128
 pub widened : (a : ℤ) → SFits w64 a → to_z w128 (of_z w128 (to_z w64 (of_z w64 a))) ≡ a
-widened a fits = omega (arith, ints)
+widened a fits =
+    ap (λ z. to_z w128 (of_z w128 z)) (to_z-of_z w64 a fits) ∙ to_z-of_z w128 a (let wide : SFits w128 a = omega (arith, ints) in wide)

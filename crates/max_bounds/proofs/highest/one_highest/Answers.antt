@@ -1,4 +1,4 @@
-use Rattle.std.proofs.Common.{◌∷◌, arith, sym, ◌∙◌, subst, List, ℕ}
+use Rattle.std.proofs.Common.{◌∷◌, arith, sym, ◌∙◌, subst, List, ℕ, []}
 use Rattle.std.proofs.lemmas.Grind.{common_steps}
 use Rattle.std.proofs.lemmas.Bool.{true≢false}
 use Rattle.audit_types.specs.RowLaws.{walk_row, walk_more}
@@ -76,3 +76,9 @@ returns c =
     let all = walk_ends seen c.loop-row.row-iterator c.args.rows.now.list c.loop-row.invariant.together c.in-None.ensures.steps.0 in
     highest_ends (bound_at c.args.upper.now) c.args.rows.now.list c.loop-row.highest c.loop-row.alone
     (subst (λ l. IsHighest (bound_at c.args.upper.now) l c.loop-row.highest c.loop-row.alone) all c.loop-row.invariant.highest)
+
+pub bounds-upper-first : goal.bounds-upper-first
+bounds-upper-first c =
+    let below = walk_row c.args.rows.now.n [] c.iter-left.result c.next.new.self c.args.rows.now.list c.in-Some.first
+    c.n.ensures.are_rows c.iter-left.ensures c.in-Some.ensures.steps in
+    omega arith

@@ -6,6 +6,7 @@ use Rattle.audit_types.specs.RowLaws.{walk_row, walk_more}
 use Rattle.max_bounds.specs.Reaching.{bound_at}
 use Rattle.max_bounds.specs.Kept.{AreSettled}
 use Rattle.max_bounds.proofs.Walks.{has-push, equal_bounds, walk_ends}
+use Rattle.std.proofs.lemmas.Bool.{true≢false}
 use Rattle.max_bounds.proofs.reach.are_settled.Goals as goal
 
 not_false : (b : Bool) → not b ≡ false → b ≡ true
@@ -37,3 +38,12 @@ returns c = λ yes.
     let all = walk_ends c.loop-row.yielded c.loop-row.row-iterator c.args.rows.now.list c.loop-row.invariant.together c.in-None.ensures.steps.0 in
     subst (AreSettled (bound_at c.args.upper.now) c.args.answer) all
     (subst (λ a. AreSettled (bound_at c.args.upper.now) a c.loop-row.yielded) same c.loop-row.invariant.settled)
+
+pub loop-row-init : goal.loop-row-init
+loop-row-init c = record {
+  together = c.into_iter-row-iterator.ensures.into_iter_gives ∙ c.iter-row-items.ensures;
+  settled = λ r there. absurd (true≢false (sym there));
+}
+
+pub returns-then-ne : goal.returns-then-ne
+returns-then-ne c = λ yes. absurd (true≢false (sym yes))

@@ -72,3 +72,17 @@ returns-then-are_settled-clause-falling c =
     c.new.ensures.empty
     ∙ none_above (bound_at c.args.upper.now) c.args.answer c.args.rows.now.list
     (subst (λ a. AreSettled (bound_at c.args.upper.now) a c.args.rows.now.list) same (c.are_settled.ensures c.if-are_settled.true))
+
+pub returns-then-are_settled-clause-settled : goal.returns-then-are_settled-clause-settled
+returns-then-are_settled-clause-settled c = λ yes.
+    subst (λ a. AreSettled (bound_at c.args.upper.now) a c.args.rows.now.list) (to_z-of_z w64 c.args.answer c.ranges.answer)
+    (c.are_settled.ensures c.if-are_settled.true)
+
+pub loop-row-init : goal.loop-row-init
+loop-row-init c = record {
+  together = c.into_iter-row-iterator.ensures.into_iter_gives ∙ c.iter-row-items.ensures;
+  extremes_n = c.new-extremes.ensures.n ∙ c.n-n.ensures.n;
+  falling_n = c.new-falling.ensures.n ∙ c.n-n.ensures.n;
+  extremes = c.new-extremes.ensures.empty;
+  falling = c.new-falling.ensures.empty;
+}

@@ -7,6 +7,8 @@ use Rattle.audit_types.specs.Rows.{complement}
 use Rattle.max_bounds.specs.Maxima.{answer_of, answers_of}
 use Rattle.max_bounds.specs.Outside.{IsWithin, HasWithin}
 use Rattle.max_bounds.proofs.LostSets.{within-push}
+use Rattle.audit_types.specs.ListLaws.{all-get_or}
+use Rattle.max_bounds.specs.declared.answered.AnsweredMax.{AnsweredMax}
 use Rattle.max_bounds.proofs.stranding.has_within.Goals as goal
 use Rattle.max_bounds.specs.AnswerLaws.{one_here}
 
@@ -34,3 +36,12 @@ loop-set-preserved c =
     λ found. within-push seen x c.args.rows.now.list (to_z w64 (of_z w64 c.args.answer)) c.loop-set.invariant
     (λ is. true≢false (sym ((c.is_within.ensures c.args.rows.now.list others).1 is) ∙ c.if-is_within.false))
     (subst (λ l. HasWithin l c.args.rows.now.list (to_z w64 (of_z w64 c.args.answer))) more found)
+
+pub is_within-requires : goal.is_within-requires
+is_within-requires c = record {
+  same_n =
+      subst (λ (p : AnsweredMax). p.rows.n ≡ c.args.rows.now.n) (sym c.set-item.is)
+      (all-get_or (λ (p : AnsweredMax). p.rows.n ≡ c.args.rows.now.n) c.args.least.now c.loop-set.set-index c.set-item.result c.requires.same_n
+      c.loop-set-test.true)
+      ∙ sym c.flip.ensures.n;
+}
