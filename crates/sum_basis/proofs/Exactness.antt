@@ -1,6 +1,8 @@
 -- One form of one space, whatever rows it is the space of: what the answers of `extend` say of the sets.
 use Rattle.std.proofs.Common.{◌≡◌, ◌↔◌, ℕ, ℤ, List, [], ◌∷◌, ◌++◌, map, refl, sym, ap, ◌∙◌, subst}
+use Rattle.std.specs.Prelude.{Result, IfOk}
 use Rattle.std.specs.List.{AllByRecursion}
+use Rattle.std.proofs.lemmas.Result.{IfOk-weaker}
 use Rattle.std.proofs.lemmas.List.{map-append}
 use Rattle.audit_types.specs.Form.{set_row, InSpan, IsReducedForm, IsNarrow, Reduced}
 use Rattle.audit_types.specs.ListLaws.{all-push, all-front}
@@ -93,6 +95,18 @@ pub grows_at : (inside seen : Echelon) (row : List ℤ) (m : ℕ) (list : List �
     m ≡ seen.n → Grows inside row grown new → Grows seen (set_row seen.n list) grown new
 grows_at inside seen row m list grown new e f same g =
     subst (λ (s : Echelon). Grows s (set_row seen.n list) grown new) e (subst (λ (r : List ℤ). Grows inside r grown new) (f ∙ ap (λ k. set_row k list) same) g)
+
+-- what is told of a row, said of a result that may be an error
+module _ {E : Type 0} (r : Result Grown E) (old new : Echelon) (row : List ℤ) (grows : IfOk r (λ grown. Grows old row grown new)) where
+  pub same_told : IfOk r (λ grown. (grown ≡ Same) ↔ InSpan old.rows row)
+  same_told =
+      IfOk-weaker r (λ grown. Grows old row grown new) (λ grown. (grown ≡ Same) ↔ InSpan old.rows row)
+      (λ grown g. same_exactly old new row grown g) grows
+
+  pub wide_told : IsSmallForm old.n old.rows → IsNarrow old.rows → IfOk r (λ grown. (grown ≡ Wide) ↔ GrowsWide old row)
+  wide_told f narrow =
+      IfOk-weaker r (λ grown. Grows old row grown new) (λ grown. (grown ≡ Wide) ↔ GrowsWide old row)
+      (λ grown g. wide_exactly old new row grown f narrow g) grows
 
 -- the form stands for each list of rows that it stood for, with this row
 pub stands_for_rows : (old new : Echelon) (v : List ℤ) (grown : Grown) → Grows old v grown new → (rows : List (List ℤ)) → IsReducedForm old.n rows old.rows →

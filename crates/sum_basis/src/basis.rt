@@ -78,8 +78,7 @@ impl Basis {
         let mut room = [0; 1024];
         let row = &mut room[..self.form.columns() as usize];
         write_set(row, rows);
-        let grown = self.form.join(row)?;
-        Ok(grown)
+        self.form.join(row)
     }
 
     /// Adds the row of a set with which the form is narrow. It does not look ahead, so it takes less time than `extend`, and
@@ -94,14 +93,12 @@ impl Basis {
     {
         let held = self.held.take();
         if let Some(list) = list_of_set(held, rows) {
-            self.form.insert_list(list)?;
-            return Ok(());
+            return self.form.insert_list(list);
         }
         let mut room = [0; 1024];
         let row = &mut room[..self.form.columns() as usize];
         write_set(row, rows);
-        self.form.insert(row)?;
-        Ok(())
+        self.form.insert(row)
     }
 
     /// Tells what the form would become with the row of a set.
@@ -112,8 +109,7 @@ impl Basis {
         let mut room = [0; 1024];
         let row = &mut room[..self.form.columns() as usize];
         write_set(row, rows);
-        let prospect = self.form.prospect(row)?;
-        Ok(prospect)
+        self.form.prospect(row)
     }
 
     /// Tells what the form would become with the row of a set, as `prospect` does, and keeps what it found of the set, so that

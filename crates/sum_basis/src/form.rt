@@ -200,8 +200,7 @@ impl Form {
             Left::Large => unreachable!(),
             Left::Entries(new) => new,
         };
-        self.insert_list(new)?;
-        Ok(())
+        self.insert_list(new)
     }
 
     /// Adds the list of a new row with which the form is narrow.
@@ -240,8 +239,7 @@ impl Form {
         let mut room = [0; 2048];
         let whole = &mut room[..self.columns() as usize];
         write_bits(whole, row);
-        let grown = self.join(whole)?;
-        Ok(grown)
+        self.join(whole)
     }
 
     /// The least column whose unit row lies in the span.

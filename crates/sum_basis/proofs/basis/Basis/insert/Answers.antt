@@ -12,6 +12,7 @@ use Rattle.sum_basis.specs.declared.form.Left.TheVariants.{Entries}
 use Rattle.sum_basis.proofs.Joining.{not_wide_with, grown_with}
 use Rattle.sum_basis.proofs.SetRows.{set_bits}
 use Rattle.sum_basis.proofs.Exactness.{not_wide_at, reduced_at, stands_with}
+use Rattle.std.proofs.lemmas.Result.{on_ok_weaker, on_err_weaker}
 use Rattle.sum_basis.proofs.basis.Basis.insert.Goals as goal
 
 pub insert-requires-clause-bits : goal.insert-requires-clause-bits
@@ -21,17 +22,6 @@ pub insert-requires-clause-narrow : goal.insert-requires-clause-narrow
 insert-requires-clause-narrow c =
     not_wide_at c.self.inside.form c.args.self.now c.write_set.new.row c.args.rows.now.n c.args.rows.now.list c.self.view_is c.write_set.ensures c.requires.n
     c.requires.narrow
-
-pub returns-clause-reduced : goal.returns-clause-reduced
-returns-clause-reduced c =
-    reduced_at c.self.inside.form c.args.self.now c.insert.new.self.rows c.write_set.new.row c.args.rows.now.n c.args.rows.now.list c.self.view_is
-    c.write_set.ensures c.requires.n c.in_ok-insert.ensures.reduced
-
-pub returns-clause-stands : goal.returns-clause-stands
-returns-clause-stands c =
-    stands_with c.args.self.now c.insert.new.self c.args.rows.now.list
-    (reduced_at c.self.inside.form c.args.self.now c.insert.new.self.rows c.write_set.new.row c.args.rows.now.n c.args.rows.now.list c.self.view_is
-    c.write_set.ensures c.requires.n c.in_ok-insert.ensures.reduced)
 
 -- the held list is that of the set
 module _ (form seen : Echelon) (held : Option Held) (m : ℕ) (list : List ℕ) (new : Held) (view : form ≡ seen) (is_held : IsHeld form held)
@@ -57,23 +47,6 @@ insert_list-requires-clause-narrow c =
     list_not_wide c.self.inside.form c.args.self.now c.self.inside.held c.args.rows.now.n c.args.rows.now.list
     (record { rows = c.args.rows.now; list = c.in-Some.list }) c.self.view_is c.self.invariant.1
     (sym c.take-held.ensures.value ∙ is) refl c.requires.n c.requires.narrow
-
-pub returns-in-Some-clause-reduced : goal.returns-in-Some-clause-reduced
-returns-in-Some-clause-reduced c =
-    let is = rw c.in-Some.is at c.list_of_set.ensures in
-    with_list c.self.inside.form c.args.self.now c.self.inside.held c.args.rows.now.n c.args.rows.now.list
-    (record { rows = c.args.rows.now; list = c.in-Some.list }) c.self.view_is c.self.invariant.1
-    (sym c.take-held.ensures.value ∙ is) refl c.requires.n c.insert_list.new.self.rows
-    c.in_ok-insert_list.ensures.reduced
-
-pub returns-in-Some-clause-stands : goal.returns-in-Some-clause-stands
-returns-in-Some-clause-stands c =
-    let is = rw c.in-Some.is at c.list_of_set.ensures in
-    stands_with c.args.self.now c.insert_list.new.self c.args.rows.now.list
-    (with_list c.self.inside.form c.args.self.now c.self.inside.held c.args.rows.now.n c.args.rows.now.list
-    (record { rows = c.args.rows.now; list = c.in-Some.list }) c.self.view_is c.self.invariant.1
-    (sym c.take-held.ensures.value ∙ is) refl c.requires.n c.insert_list.new.self.rows
-    c.in_ok-insert_list.ensures.reduced)
 
 pub insert_list-requires-clause-new : goal.insert_list-requires-clause-new
 insert_list-requires-clause-new c =
@@ -111,8 +84,38 @@ pub insert-requires-clause-length : goal.insert-requires-clause-length
 insert-requires-clause-length c =
     ap length c.write_set.ensures ∙ length-set_row c.args.rows.now.n c.args.rows.now.list ∙ c.requires.n ∙ sym (ap (λ (e : Echelon). e.n) c.self.view_is)
 
-pub invariant_of-self-in-Some : goal.invariant_of-self-in-Some
-invariant_of-self-in-Some c = (omega (arith, c.in_ok-insert_list.ensures.n, c.self.invariant.0), rw c.take-held.ensures.after tt)
+pub invariant_of-self : goal.invariant_of-self
+invariant_of-self c = (omega (arith, c.insert_list.ensures.n, c.self.invariant.0), rw c.take-held.ensures.after tt)
 
 pub invariant_of-self-2 : goal.invariant_of-self-2
-invariant_of-self-2 c = (omega (arith, c.in_ok-insert.ensures.n, c.self.invariant.0), rw c.take-held.ensures.after tt)
+invariant_of-self-2 c = (omega (arith, c.insert.ensures.n, c.self.invariant.0), rw c.take-held.ensures.after tt)
+
+pub returns-in-Some : goal.returns-in-Some
+returns-in-Some c =
+    let is = rw c.in-Some.is at c.list_of_set.ensures in
+    let reduced =
+    on_ok_weaker c.insert_list.result
+    (with_list c.self.inside.form c.args.self.now c.self.inside.held c.args.rows.now.n c.args.rows.now.list
+    (record { rows = c.args.rows.now; list = c.in-Some.list }) c.self.view_is c.self.invariant.1
+    (sym c.take-held.ensures.value ∙ is) refl c.requires.n c.insert_list.new.self.rows)
+    c.insert_list.ensures.reduced in
+    record {
+      reduced = reduced;
+      stands = on_ok_weaker c.insert_list.result (stands_with c.args.self.now c.insert_list.new.self c.args.rows.now.list) reduced;
+      n = c.insert_list.ensures.n ∙ ap (λ (e : Echelon). e.n) c.self.view_is;
+      err = on_err_weaker c.insert_list.result (λ same. same ∙ c.self.view_is) c.insert_list.ensures.err;
+    }
+
+pub returns : goal.returns
+returns c =
+    let reduced =
+    on_ok_weaker c.insert.result
+    (reduced_at c.self.inside.form c.args.self.now c.insert.new.self.rows c.write_set.new.row c.args.rows.now.n c.args.rows.now.list c.self.view_is
+    c.write_set.ensures c.requires.n)
+    c.insert.ensures.reduced in
+    record {
+      reduced = reduced;
+      stands = on_ok_weaker c.insert.result (stands_with c.args.self.now c.insert.new.self c.args.rows.now.list) reduced;
+      n = c.insert.ensures.n ∙ ap (λ (e : Echelon). e.n) c.self.view_is;
+      err = on_err_weaker c.insert.result (λ same. same ∙ c.self.view_is) c.insert.ensures.err;
+    }

@@ -5,16 +5,11 @@ use Rattle.audit_types.specs.Form.{set_row}
 use Rattle.sum_basis.specs.Basis.{Echelon}
 use Rattle.sum_basis.specs.Growth.{Foresees}
 use Rattle.sum_basis.proofs.SetRows.{set_bits}
+use Rattle.std.proofs.lemmas.Result.{IfOk-weaker}
 use Rattle.sum_basis.proofs.basis.Basis.prospect.Goals as goal
 
 pub prospect-requires-clause-bits : goal.prospect-requires-clause-bits
 prospect-requires-clause-bits c = set_bits c.args.rows.now.n c.args.rows.now.list c.write_set.new.row c.write_set.ensures
-
-pub returns : goal.returns
-returns c =
-    subst (λ (s : Echelon). Foresees s (set_row c.args.self.now.n c.args.rows.now.list) c.in_ok-prospect.prospect) c.self.view_is
-    (subst (λ (row : List ℤ). Foresees c.self.inside.form row c.in_ok-prospect.prospect)
-    (c.write_set.ensures ∙ ap (λ (k : ℕ). set_row k c.args.rows.now.list) c.requires) c.in_ok-prospect.ensures)
 
 pub slice_bounds-room-end : goal.slice_bounds-room-end
 slice_bounds-room-end c = omega (arith, c.columns.ensures.columns, c.self.invariant.0)
@@ -30,3 +25,11 @@ write_set-requires c =
 pub prospect-requires-clause-length : goal.prospect-requires-clause-length
 prospect-requires-clause-length c =
     ap length c.write_set.ensures ∙ length-set_row c.args.rows.now.n c.args.rows.now.list ∙ c.requires ∙ sym (ap (λ (e : Echelon). e.n) c.self.view_is)
+
+pub returns : goal.returns
+returns c =
+    IfOk-weaker c.prospect.result (λ told. Foresees c.self.inside.form c.write_set.new.row told)
+    (λ told. Foresees c.args.self.now (set_row c.args.self.now.n c.args.rows.now.list) told)
+    (λ told h. subst (λ (s : Echelon). Foresees s (set_row c.args.self.now.n c.args.rows.now.list) told) c.self.view_is
+    (subst (λ (row : List ℤ). Foresees c.self.inside.form row told)
+    (c.write_set.ensures ∙ ap (λ (k : ℕ). set_row k c.args.rows.now.list) c.requires) h)) c.prospect.ensures

@@ -1,13 +1,16 @@
-use Rattle.std.proofs.Common.{pos, List, sym, ap, ◌∙◌, subst, rules}
+use Rattle.std.proofs.Common.{pos, List, sym, ap, ◌∙◌, subst, rules, arith}
 use Rattle.std.specs.Prelude.{FitsSigned, unsigned_abs, ◌<ℤ◌, ◌≤◌, ◌^◌}
 use Rattle.std.specs.Int.{w128}
 use Rattle.std.specs.List.{AllByRecursion}
 use Rattle.std.proofs.lemmas.Int.{to_z-of_z}
 use Rattle.audit_types.specs.Form.{IsLeastCommonMultiple}
 use Rattle.sum_basis.specs.declared.sparse.SparseRow.{SparseRow}
-use Rattle.sum_basis.specs.Basis.{Echelon}
+use Rattle.sum_basis.specs.Basis.{Echelon, IsForm}
 use Rattle.sum_basis.proofs.LeastMultiples.{heads}
 use Rattle.sum_basis.proofs.Joining.{after_growth, grown_rows, within_limit, joined_form}
+use Rattle.std.specs.Vec.{vec_capacity}
+use Rattle.sum_basis.specs.Elimination.{IsSmallForm}
+use Rattle.sum_basis.specs.Sparse.{rows_of, IsKept, IsNew}
 use Rattle.sum_basis.proofs.form.Form.insert_list.Goals as goal
 
 pub common_multiple-requires : goal.common_multiple-requires
@@ -45,3 +48,28 @@ returns c =
       n = ap (λ (e : Echelon). e.n) c.self.view_is;
       err = tt;
     }
+
+pub invariant_of-self : goal.invariant_of-self
+invariant_of-self c = subst (IsForm c.self.inside.columns c.self.inside.common) (sym c.reserve.ensures.items) c.self.invariant
+
+pub invariant_of-self-in_err-room : goal.invariant_of-self-in_err-room
+invariant_of-self-in_err-room c = subst (IsForm c.self.inside.columns c.self.inside.common) (sym c.reserve.ensures.items) c.self.invariant
+
+pub grow_rows-requires-clause-space : goal.grow_rows-requires-clause-space
+grow_rows-requires-clause-space c = omega (arith, c.in_ok-reserve.ensures)
+
+pub grow_rows-requires-clause-room : goal.grow_rows-requires-clause-room
+grow_rows-requires-clause-room c = omega (arith, c.in_ok-room.ensures.exact)
+
+pub grow_rows-requires-clause-new_room : goal.grow_rows-requires-clause-new_room
+grow_rows-requires-clause-new_room c = subst (λ n. n ≤ vec_capacity c.args.new) (sym (ap (λ (e : Echelon). e.n) c.self.view_is)) c.requires.new_room
+
+pub grow_rows-requires-clause-kept : goal.grow_rows-requires-clause-kept
+grow_rows-requires-clause-kept c = subst (AllByRecursion (IsKept c.self.inside.columns)) (sym c.reserve.ensures.items) c.self.invariant.kept
+
+pub grow_rows-requires-clause-form : goal.grow_rows-requires-clause-form
+grow_rows-requires-clause-form c =
+    subst (λ (l : List SparseRow). IsSmallForm c.self.inside.columns (rows_of c.self.inside.columns l)) (sym c.reserve.ensures.items) c.self.invariant.form
+
+pub grow_rows-requires-clause-new : goal.grow_rows-requires-clause-new
+grow_rows-requires-clause-new c = subst (λ n. IsNew n c.args.new.items) (sym (ap (λ (e : Echelon). e.n) c.self.view_is)) c.requires.new
