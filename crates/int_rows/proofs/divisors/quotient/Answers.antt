@@ -1,8 +1,8 @@
-use Rattle.std.proofs.Common.{◌≡◌, ◌<◌, ◌^◌, ℤ, pos, true, Bool, sym, ap, ◌∙◌, subst, rules}
+use Rattle.std.proofs.Common.{◌≡◌, ◌<◌, ◌^◌, ℤ, pos, true, Bool, sym, ap, ◌∙◌, subst, arith, rules}
 use Rattle.std.specs.Prelude.{FitsSigned, unsigned_abs, IsTrue, ◌*ℤ◌}
 use Rattle.std.specs.Int.{w64, w128}
 use mir.Val.{to_z, of_z}
-use Rattle.std.proofs.lemmas.Int.{to_z-of_z}
+use Rattle.std.proofs.lemmas.Int.{to_z-of_z, fits_signed_from_abs}
 use Rattle.std.proofs.Math.IntN.{*ℤ-zero}
 use Rattle.int_rows.specs.Exact.{divided}
 use Rattle.int_rows.specs.PrimitiveLaws.{zero_from_bits, short_is}
@@ -46,3 +46,23 @@ returns-then-is_short-2 c =
 
 pub returns-else-is_short : goal.returns-else-is_short
 returns-else-is_short c = divided c.args.multiple c.args.of c.requires.not_zero c.ranges.multiple c.ranges.of c.requires.size c.requires.divides
+
+pub overflow_cast-multiple : goal.overflow_cast-multiple
+overflow_cast-multiple c =
+    let small = tested c.args.multiple c.is_short.result c.ranges.multiple c.if-is_short.true c.is_short.ensures.0 in
+    rw (to_z-of_z w128 c.args.multiple c.ranges.multiple) (fits_signed_from_abs w64 c.args.multiple (omega (arith, small)))
+
+pub overflow_cast-of : goal.overflow_cast-of
+overflow_cast-of c =
+    let small = tested c.args.of c.is_short-then-is_short.result c.ranges.of c.if-is_short-2.true c.is_short-then-is_short.ensures.0 in
+    rw (to_z-of_z w128 c.args.of c.ranges.of) (fits_signed_from_abs w64 c.args.of (omega (arith, small)))
+
+pub short_quotient-requires-clause-not_zero : goal.short_quotient-requires-clause-not_zero
+short_quotient-requires-clause-not_zero c =
+    let small = tested c.args.of c.is_short-then-is_short.result c.ranges.of c.if-is_short-2.true c.is_short-then-is_short.ensures.0 in
+    rw (short_is c.args.of c.ranges.of small) c.requires.not_zero
+
+pub short_quotient-requires-clause-size : goal.short_quotient-requires-clause-size
+short_quotient-requires-clause-size c =
+    let small = tested c.args.multiple c.is_short.result c.ranges.multiple c.if-is_short.true c.is_short.ensures.0 in
+    rw (short_is c.args.multiple c.ranges.multiple small) small
