@@ -1,5 +1,6 @@
 //! From bytes to a schema.
-ghost use Rattle.std.specs.Prelude.{◌≡◌, ℕ, Option, Some, None, option_map, List, map, length, not, ◌||◌, nat_lt, count_by, string_bytes, IfOk};
+ghost use Rattle.std.specs.Prelude.{◌≡◌, ℕ, Option, Some, None, option_map, List, map, length, not, ◌||◌, nat_lt, count_by, string_bytes};
+ghost use Rattle.std.specs.Str.{bytes_eq};
 ghost use Rattle.serde_json.specs.View.{view, items_view};
 ghost use Rattle.schema_json.specs.Columns.{Column, is_secret, is_good_name, repeats};
 ghost use Rattle.std.specs.List.{list_any, list_all};
@@ -10,8 +11,6 @@ use crate::faults::SchemaFault;
 use crate::names::is_good_name;
 use crate::roles::Role;
 use crate::schemas::Schema;
-use audit_types::NoMemory;
-use indexmap::IndexSet;
 use serde_json::Value;
 use std::alloc::Global;
 
@@ -110,7 +109,7 @@ fn schema_of_value(alloc: Global, value: &Value) -> Result<Schema, SchemaFault>
     ensures { ReadsColumns result (checked (columns_of (view value.now))) }
 {
     let list = list_of(value).ok_or(SchemaFault::Shape)?;
-    schema_of_columns(alloc, gather(alloc, list)?)
+    schema_of_columns(gather(alloc, list)?)
 }
 
 fn has_public(columns: &[(String, Role)]) -> bool
@@ -131,21 +130,29 @@ fn has_too_many(columns: &[(String, Role)]) -> bool
     columns.len() > 32 || columns.iter().filter(|column| column.1.is_secret()).count() > 8
 }
 
-// Whether two columns have one name.
-fn repeats_a_name(alloc: Global, columns: &[(String, Role)]) -> Result<bool, NoMemory>
-    ensures { IfOk result (λ again. again ≡ repeats (map column_of_entry columns.now)) }
+// Whether one of the columns has this name.
+fn has_name(columns: &[(String, Role)], name: &str) -> bool
+    ensures { result ≡ list_any (λ c. bytes_eq (string_bytes c.0) name.now) columns.now }
 {
-    let mut names = IndexSet::new(alloc);
-    for (name, _) in columns {
-        if !names.insert(name.as_str())? {
-            return Ok(true);
+    columns.iter().any(|column| column.0.as_str() == name)
+}
+
+// Whether two columns have one name.
+fn repeats_a_name(columns: &[(String, Role)]) -> bool
+    ensures { result ≡ repeats (map column_of_entry columns.now) }
+{
+    let mut left = columns;
+    'names: while let [column, later @ ..] = left {
+        if has_name(later, column.0.as_str()) {
+            return true;
         }
+        left = later;
     }
-    Ok(false)
+    false
 }
 
 #[tactic(auto, using(crate::proofs::FaultsOfColumns::checked_private, crate::proofs::FaultsOfColumns::checked_bad))]
-fn schema_of_columns(alloc: Global, columns: Vec<(String, Role)>) -> Result<Schema, SchemaFault>
+fn schema_of_columns(columns: Vec<(String, Role)>) -> Result<Schema, SchemaFault>
     ensures { ReadsColumns result (checked (with_public (map column_of_entry columns.items))) }
 {
     let list = columns.as_slice();
@@ -155,10 +162,7 @@ fn schema_of_columns(alloc: Global, columns: Vec<(String, Role)>) -> Result<Sche
     if !has_good_names(list) {
         return Err(SchemaFault::BadName);
     }
-    let Ok(is_repeated) = repeats_a_name(alloc, list) else {
-        return Err(SchemaFault::NoMemory);
-    };
-    if is_repeated {
+    if repeats_a_name(list) {
         return Err(SchemaFault::Repeated);
     }
     if has_too_many(list) {
