@@ -1,4 +1,5 @@
 pub mod Buffers
+pub mod NextBytes
 pub mod Writes
 pub mod TouchedPlaces
 pub mod KeptCalls

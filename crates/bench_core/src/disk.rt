@@ -63,6 +63,17 @@ fn clear(dirty: &mut [bool])
     }
 }
 
+// A buffer of the size of the room, with the file at its front.
+fn buffer(alloc: Global, file: &[u8], room: usize) -> Result<Vec<u8>, NoMemory>
+    requires { length file.now ≤ room }
+    ensures file { IfOk result (λ bytes. take (length file.now) bytes.items ≡ file.now) }
+    ensures room { IfOk result (λ bytes. length bytes.items ≡ room) }
+{
+    let mut bytes = vec![in alloc; 0; room]?;
+    put(&mut bytes, 0, file);
+    Ok(bytes)
+}
+
 impl Disk {
     /// A quiet file.
     pub fn new(alloc: Global, file: &[u8], room: usize) -> Result<Self, NoMemory>
@@ -71,11 +82,9 @@ impl Disk {
         ensures clear { IfOk result (λ d. (place : ℕ) → is_dirty d.dirty place ≡ false) }
         ensures room { IfOk result (λ d. (d.room ≡ room) × (length d.dirty ≡ room)) }
     {
-        let mut bytes = vec![in alloc; 0; room]?;
-        let mut stable = vec![in alloc; 0; room]?;
+        let bytes = buffer(alloc, file, room)?;
+        let stable = buffer(alloc, file, room)?;
         let dirty = vec![in alloc; false; room]?;
-        put(&mut bytes, 0, file);
-        put(&mut stable, 0, file);
         Ok(Disk {
             file: bytes,
             len: file.len(),
