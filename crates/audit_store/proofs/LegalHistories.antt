@@ -1,8 +1,9 @@
 -- Histories that are replayed record by record stay legal.
-use Rattle.std.proofs.Common.{◌≡◌, ℕ, ◌+◌, ◌<◌, ◌≤◌, List, [], ◌∷◌, ◌++◌, length, get_or, take, Some, sym, ap, subst, ◌∙◌, arith, length-take}
+use Rattle.std.proofs.Common.{◌≡◌, inl, inr, ℕ, ◌+◌, ◌<◌, ◌≤◌, List, [], ◌∷◌, ◌++◌, length, get_or, take, Some, sym, ap, subst, ◌∙◌, arith, length-take}
 use Rattle.std.specs.Prelude.{slice_get}
+use Rattle.std.proofs.lemmas.Bool.{cases_lt}
 use Rattle.std.proofs.lemmas.List.{take_more, take-take, get_or-take}
-use Rattle.std.proofs.lemmas.Option.{slice_get_within, get_or_from_slice_get, slice_get-get_or}
+use Rattle.std.proofs.lemmas.Option.{same_Some, slice_get_within, get_or_from_slice_get, slice_get-get_or}
 use Rattle.audit_types.specs.declared.records.Answered.{Answered}
 use Rattle.audit_types.specs.History.{Table, FitsShape, IsLegal, IsPossibleHistory}
 use Rattle.audit_types.specs.Laws.{LegalIsPossible}
@@ -33,3 +34,14 @@ module _ (table : Table) (list : List Answered) (k : ℕ) (legal : IsLegal table
       let there : slice_get (take k list) i ≡ Some r = slice_get-get_or (take k list) i r (omega (arith, lt, inside, length-take k list))
       ∙ ap (λ x. Some x) (get_or-take k list i r lt ∙ get_or_from_slice_get list i r r here) in
       subst (λ h. IsReleasedAfter table h r) (take-take i k list (omega (arith, lt))) (legal.each i r there).released
+
+-- the next record is true, as those before it are
+pub next_is_true : (table : Table) (list : List Answered) (place : ℕ) (at : Answered) → slice_get list place ≡ Some at → IsTrue table at
+    → ((i : ℕ) (r : Answered) → i < place → slice_get list i ≡ Some r → IsTrue table r)
+    → (i : ℕ) (r : Answered) → i < place + 1 → slice_get list i ≡ Some r → IsTrue table r
+next_is_true table list place at stands is before i r lt here = elim (cases_lt i place) [
+  | inl lower ↦ before i r lower here
+  | inr from ↦
+      let same : place ≡ i = omega (arith, lt, from) in
+      subst (IsTrue table) (same_Some at r (sym stands ∙ ap (slice_get list) same ∙ here)) is
+]
