@@ -1,6 +1,7 @@
 //! The command that takes a whole generated table through the program, in memory.
 ghost use Rattle.std.specs.Prelude.{◌≡◌, ◌≢◌, ◌≤◌, ◌+◌, [], List, ℕ, true, Some, length, take, IfOk, OnOk};
 ghost use Rattle.audit_types.specs.Shapes.{IsShape};
+ghost use Rattle.audit_types.specs.declared.records.Answered.{Answered};
 ghost use Rattle.schema_json.specs.SecretShape.{shape_of};
 ghost use Rattle.table_load.specs.Cells.{FitsSchema, SecretView};
 ghost use Rattle.table_load.specs.Database.{base_of};
@@ -55,25 +56,8 @@ fn make(bench: &mut MemoryBench, shape: &Shape) -> Result<(), NoMemory>
     }
 }
 
-// Starts the store of a table over its new journal.
-fn start(alloc: Global, secret: Secret, bench: &mut MemoryBench) -> Result<Store, NoMemory>
-    requires { StandsFor (file_of bench.old) secret.shape [] }
-    ensures store { IfOk result (λ store. (store.secret ≡ secret) × (store.usable ≡ true) × (store.history ≡ [])) }
-    ensures stands { IfOk result (λ store. IsAsLeft (file_of bench.new) store) }
-    ensures sent { sent_of bench.new ≡ sent_of bench.old }
-{
-    journal_form::laws::one_reading();
-    match Store::start(alloc, secret, bench) {
-        Ok(store) => Ok(store),
-        Err(fault) => match fault {
-            StartFault::Failed | StartFault::NoMemory => Err(NoMemory),
-            _ => unreachable!(),
-        },
-    }
-}
-
-// Answers the lines, each by itself.
-fn answer(
+// Answers the lines over a store, each by itself.
+fn answer_over(
     alloc: Global,
     schema: &Schema,
     index: &Index,
@@ -98,6 +82,31 @@ fn answer(
     }
 }
 
+// Starts the store of a table over its new journal, and answers the lines.
+fn answer(
+    alloc: Global,
+    schema: &Schema,
+    index: &Index,
+    secret: Secret,
+    lines: Vec<u8>,
+    bench: &mut MemoryBench,
+) -> Result<(), NoMemory>
+    requires fits { FitsSchema schema.now.columns index.now }
+    requires shape { secret.shape ≡ shape_of schema.now.columns index.now.rows }
+    requires stands { StandsFor (file_of bench.old) secret.shape [] }
+    requires short { length lines.items ≤ 60000 }
+    ensures { OnOk result ((last : List Answered) × Serves (base_of schema.now.columns index.now secret) [] (counted_lines lines.items) last (sent_of bench.old) (sent_of bench.new)) }
+{
+    journal_form::laws::one_reading();
+    match Store::start(alloc, secret, bench) {
+        Ok(mut store) => answer_over(alloc, schema, index, &mut store, lines, bench),
+        Err(fault) => match fault {
+            StartFault::Failed | StartFault::NoMemory => Err(NoMemory),
+            _ => unreachable!(),
+        },
+    }
+}
+
 // Answers the lines of a drill over its table, from a new journal on.
 fn answer_lines(
     alloc: Global,
@@ -117,9 +126,8 @@ fn answer_lines(
     ensures short { OnOk result (length (drill_text number) ≤ 60000) }
 {
     make(bench, &secret.shape())?;
-    let mut store = start(alloc, secret, bench)?;
     let lines = drill_lines(alloc, number)?;
-    answer(alloc, schema, index, &mut store, lines, bench)
+    answer(alloc, schema, index, secret, lines, bench)
 }
 
 // Answers the lines of a drill over this table, and says how many rows that has.

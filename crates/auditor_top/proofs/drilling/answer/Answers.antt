@@ -1,14 +1,44 @@
-use Rattle.std.proofs.Common.{rules}
+use Rattle.std.proofs.Common.{ℕ, List, [], Result, Ok, Err, OnOk, ap, sym, ◌∙◌, subst}
+use Rattle.audit_types.specs.declared.records.Answered.{Answered}
+use Rattle.table_load.specs.Cells.{SecretView}
+use Rattle.table_load.specs.Database.{base_of}
+use Rattle.bench_core.specs.BenchContents.{file_of, sent_of}
+use Rattle.audit_store.specs.Stores.{IsAsLeft}
+use Rattle.line_wire.specs.Lines.{counted_lines}
+use Rattle.audit_session.specs.Ends.{Serves}
 use Rattle.auditor_top.proofs.drilling.answer.Goals as goal
 
-pub serve-requires : goal.serve-requires
-serve-requires c = record {
-  usable = c.requires.usable;
+-- the lines were answered up to some history
+up_to_some : {T E : Type 0} (r : Result T E) (last : List Answered) (UpTo : List Answered → Type 0) → OnOk r (UpTo last)
+    → OnOk r ((last : List Answered) × UpTo last)
+up_to_some (Ok done) last UpTo is = (last, is)
+up_to_some (Err fault) last UpTo is = tt
+
+pub answer_over-requires : goal.answer_over-requires
+answer_over-requires c = record {
+  usable = c.in-Ok.ensures.store.1;
   fits = c.requires.fits;
-  shape = c.requires.shape;
-  stands = λ told. c.requires.stands;
-  batch = search rules;
+  shape = ap (λ (secret : SecretView). secret.shape) c.in-Ok.ensures.store.0 ∙ c.requires.shape;
+  stands = subst (λ (file : List ℕ). IsAsLeft file c.in-Ok.store) (sym c.start.ensures.file) (c.in-Ok.ensures.stands (tt {0}));
+  short = c.requires.short;
 }
 
-pub returns-in-Bench : goal.returns-in-Bench
-returns-in-Bench c = tt
+pub returns-in-Ok : goal.returns-in-Ok
+returns-in-Ok c =
+    let store = c.in-Ok.store in
+    let had = c.requires.stands in
+    let past = (c.one_reading.ensures (file_of c.args.bench.now) store.secret.shape c.args.secret.shape store.history [] store.journal.gate had.0
+    (c.in-Ok.ensures.stands (tt {0})) had.1).1 in
+    let result = c.answer_over.result in
+    let last = c.answer_over.new.store.history in
+    let before = sent_of c.args.bench.now in
+    let after = sent_of c.answer_over.new.bench in
+    let lines = counted_lines c.args.lines.items in
+    up_to_some result last
+    (λ (last : List Answered). Serves (base_of c.args.schema.now.columns c.args.index.now c.args.secret) [] lines last before after)
+    (subst (λ (history : List Answered). OnOk result (Serves (base_of c.args.schema.now.columns c.args.index.now c.args.secret) history lines last before after))
+    past
+    (subst (λ (secret : SecretView). OnOk result (Serves (base_of c.args.schema.now.columns c.args.index.now secret) store.history lines last before after))
+    c.in-Ok.ensures.store.0
+    (subst (λ (before : List ℕ). OnOk result (Serves (base_of c.args.schema.now.columns c.args.index.now store.secret) store.history lines last before after))
+    c.start.ensures.sent c.answer_over.ensures)))

@@ -9,14 +9,6 @@ returns-in_err-make c = record {
   short = IfOk-from_err _ _ c.from_residual.ensures.0;
 }
 
--- ---- the store was not started
-
-pub returns-in_err-store : goal.returns-in_err-store
-returns-in_err-store c = record {
-  replies = IfOk-from_err _ _ c.from_residual-in_err-store.ensures.0;
-  short = IfOk-from_err _ _ c.from_residual-in_err-store.ensures.0;
-}
-
 -- ---- no memory for the lines
 
 pub returns-in_err-lines : goal.returns-in_err-lines
