@@ -6,7 +6,9 @@ import unittest
 try:
     from selenium import webdriver
     from selenium.webdriver.chrome.service import Service
+    from selenium.webdriver.common.action_chains import ActionChains
     from selenium.webdriver.common.by import By
+    from selenium.webdriver.common.keys import Keys
     from selenium.webdriver.support.ui import WebDriverWait
 except ImportError:
     webdriver = None
@@ -36,8 +38,8 @@ class Browser:
     def open(self, url):
         """Opens the page afresh, with nothing kept from before, and waits until its first count is there."""
         self.driver.get(url + "/")
-        self.driver.execute_script("localStorage.clear()")
-        self.driver.refresh()
+        if self.run("const kept = localStorage.length; localStorage.clear(); return kept"):
+            self.driver.refresh()
         self.wait(lambda: self.text("holds"))
 
     def wait(self, holds, seconds=10):
@@ -74,6 +76,20 @@ class Browser:
         self.click("#" + button)
         self.wait(lambda: self.find("#ask").get_attribute("aria-disabled") == "false" and self.text("answer"))
         return self.text("answer")
+
+    def keys(self, *names):
+        """Presses keys, one after the other, wherever the focus is."""
+        named = {"ArrowLeft": Keys.LEFT, "ArrowRight": Keys.RIGHT, "ArrowDown": Keys.DOWN, "Enter": Keys.ENTER, "Tab": Keys.TAB}
+        for name in names:
+            ActionChains(self.driver).send_keys(named.get(name, name)).perform()
+
+    def tab_to(self, selector):
+        """Presses Tab until the first element of the selector, or another of its radio group, has the focus."""
+        for _ in range(100):
+            self.keys("Tab")
+            if self.run("return document.activeElement.matches(arguments[0])", selector):
+                return
+        raise AssertionError(f"Tab doesn't lead to {selector}")
 
     def screen(self, width, height=1000, dark=False):
         self.driver.execute_cdp_cmd("Emulation.setEmulatedMedia", {"features": [

@@ -5,11 +5,13 @@ that the test's own function returns. It decides nothing, so it shows nothing ab
 replies that the program seldom gives, and for doors and proxies that fail.
 """
 import base64
+import contextlib
 import hashlib
 import http.server
 import json
 import pathlib
 import re
+import socket
 import threading
 
 FRONT = pathlib.Path(__file__).resolve().parent.parent
@@ -60,6 +62,16 @@ class Handler(http.server.BaseHTTPRequestHandler):
 
 
 class Server(http.server.ThreadingHTTPServer):
+    """Knows its connections, so that it can end them."""
+
+    def __init__(self, *arguments):
+        super().__init__(*arguments)
+        self.connections = []
+
+    def process_request(self, request, address):
+        self.connections.append(request)
+        super().process_request(request, address)
+
     def handle_error(self, *_):
         """Says nothing: a browser that goes on to another page closes its connections."""
 
@@ -78,6 +90,9 @@ class ScriptedDoor:
 
     def close(self):
         self.server.shutdown()
+        for connection in self.server.connections:
+            with contextlib.suppress(OSError):
+                connection.shutdown(socket.SHUT_RDWR)
         self.server.server_close()
         self.thread.join()
 
