@@ -450,6 +450,7 @@ def main(arguments=None):
     parser.add_argument("url", nargs="?", default="http://127.0.0.1:8087", help="http://HOST:PORT, https://.. or unix:PATH")
     parser.add_argument("--table", default="", help="one table of several; without, all are asked as parts of one")
     parser.add_argument("--header", action="append", default=[], metavar="NAME:VALUE", help="sent with each request")
+    parser.add_argument("--patience", type=float, default=10, metavar="SECONDS", help="for a door that is busy or away; 10 by default")
     settings = parser.parse_args(arguments)
     if not all(":" in header for header in settings.header):
         parser.error("--header is NAME:VALUE")
@@ -457,7 +458,8 @@ def main(arguments=None):
     for stream in (sys.stdout, sys.stderr):
         stream.reconfigure(errors="backslashreplace")
     try:
-        asker = Table(settings.url, settings.table, headers) if settings.table else connect(settings.url, headers)
+        ask = {"headers": headers, "patience": settings.patience}
+        asker = Table(settings.url, settings.table, **ask) if settings.table else connect(settings.url, **ask)
     except (ValueError, ConnectionError) as fault:
         print(printable(str(fault)), file=sys.stderr)
         return 2

@@ -56,7 +56,8 @@ class Handler(http.server.BaseHTTPRequestHandler):
 
     def do_POST(self):
         door = self.server.door
-        question = json.loads(self.rfile.read(int(self.headers["Content-Length"])))
+        body = self.rfile.read(int(self.headers["Content-Length"]))
+        question = json.loads(body.decode("utf-8", "surrogatepass"))
         door.asked.append((self.path, question, dict(self.headers)))
         self.send(*door.reply(self.path, question))
 
