@@ -23,15 +23,18 @@ from doorway.runs import Child, Sockets
 from doorway.table import Table
 from doorway.transcript import Damaged, Unwritten
 
-PAGE = pathlib.Path(__file__).resolve().parent / "page.html"
+HERE = pathlib.Path(__file__).resolve().parent
 
 
 def make_table(name, places, settings):
     opener = Sockets(places.serve, places.audit) if places.serve else Child(settings.auditor, places.folder)
     groups = Groups(opener, settings.batch, settings.run_limit)
-    if settings.group_patience:
-        groups.patience = settings.group_patience
-    return Table(name, groups, places, settings.auditor, settings.report_every)
+    table = Table(name, groups, places, settings.auditor, settings.report_every)
+    # Tests are less patient.
+    groups.patience = settings.group_patience or groups.patience
+    table.patience = settings.asker_patience or table.patience
+    table.most_waiting = settings.waiting or table.most_waiting
+    return table
 
 
 def make_handlers(table, settings):
@@ -75,10 +78,10 @@ async def keep(table, alone):
 
 async def run(settings):
     tables = {name: make_table(name, places, settings) for name, places in settings.places.items()}
-    page = Page(PAGE) if PAGE.exists() else None
+    page = Page(HERE / "page.html") if (HERE / "page.html").exists() else None
     handlers = {name: make_handlers(table, settings) for name, table in tables.items()}
     port = settings.listen.rpartition(":")[2]
-    app = application(page, handlers, hosts_of(settings, port))
+    app = application(page, HERE / "words.json", handlers, hosts_of(settings, port))
     # Bodies come as they are sent: a small compressed one could be a large one.
     runner = web.AppRunner(app, access_log=None, auto_decompress=False)
     await runner.setup()

@@ -118,26 +118,25 @@ class TableHandlers:
 class RootHandlers:
     """The requests that are of no one table: the page, the list of tables, the health of all, a total."""
 
-    def __init__(self, page, tables):
-        self.page, self.tables = page, tables
+    def __init__(self, page, words, tables):
+        self.page, self.words, self.tables = page, words, tables
+        self.names = [name for name in tables if name]
 
     def routes(self):
-        named = {name: table for name, table in self.tables.items() if name}
-        routes = [web.get("/", self.start_page), web.get("/tables.json", self.list_tables)]
-        if not named:
-            return routes
-        routes += [web.get("/health", self.health), web.post("/total", self.total)]
-        routes += [web.get(f"/{name}/", self.start_page) for name in named]
-        return routes + [web.get(f"/{name}", redirect(f"{name}/")) for name in named]
+        words = sender(self.words, JSON)
+        routes = [web.get("/", self.start_page), web.get("/words.json", words), web.get("/tables.json", lister(self.names))]
+        if self.names:
+            routes += [web.get("/health", self.health), web.post("/total", self.total)]
+        for name in self.names:
+            routes += [web.get(f"/{name}", redirect(f"{name}/")), web.get(f"/{name}/", self.start_page),
+                       web.get(f"/{name}/words.json", words), web.get(f"/{name}/tables.json", lister([]))]
+        return routes
 
     async def start_page(self, _):
         if self.page is None:
             return error(404, "page.html isn't beside the door")
         return web.Response(body=self.page.text, content_type="text/html", charset="utf-8",
                             headers={"Content-Security-Policy": self.page.policy})
-
-    async def list_tables(self, _):
-        return web.json_response({"tables": [name for name in self.tables if name]})
 
     async def health(self, _):
         said = {name: table.table.health() for name, table in self.tables.items()}
@@ -158,16 +157,22 @@ def sender(path, kind):
     return send
 
 
+def lister(names):
+    async def send(_):
+        return web.json_response(names)
+    return send
+
+
 def redirect(to):
     async def send(_):
         raise web.HTTPMovedPermanently(to)
     return send
 
 
-def application(page, tables, hosts):
-    """`tables` are the handlers by the name of the table, the only one without a name at the root."""
+def application(page, words, tables, hosts):
+    """`words` is the path of the page's sentences. `tables` are the handlers by the name of the table, the only one without a name at the root."""
     app = web.Application(middlewares=[guard(hosts)], client_max_size=LONGEST + 2)
     for name, handlers in tables.items():
         app.add_routes(handlers.routes(f"/{name}" if name else ""))
-    app.add_routes(RootHandlers(page, tables).routes())
+    app.add_routes(RootHandlers(page, words, tables).routes())
     return app

@@ -25,7 +25,7 @@ async def ask_again(table, left):
             if simulation.gap:
                 table.say("the transcript has a gap, or the history is full: auditor simulate says which")
         while denied:
-            await _ask_first(table, denied, [])
+            await _ask_first(table, denied)
     finally:
         left.extend(denied)
 
@@ -37,18 +37,16 @@ async def _ask_those_due(table, simulation, left, denied):
             simulation.reply(DENIALS[verdict])
             denied.append(left.pop(0))
             continue
-        reply = await _ask_first(table, left, denied)
+        reply = await _ask_first(table, left)
         simulation.reply(reply)
         # A full history decides nothing any more, and `simulate` counts fewer records than the journal may have.
         simulation.gap = simulation.gap or reply == FULL
 
 
-async def _ask_first(table, left, later):
-    """Asks the first question alone. The list of the waiting has it first, in front of all that are still to be asked, so
-    that its pair is found after another stop."""
-    lines = [question.line for question in (*left, *later)]
-    await asyncio.to_thread(table.transcript.hold, lines)
-    reply, = await table.groups.ask(lines[:1])
-    await asyncio.to_thread(table.transcript.add, [(lines[0], reply)])
+async def _ask_first(table, left):
+    """Asks the first question alone. `waiting.jsonl` has had all of them since their group left, and keeps them until the
+    last is in the transcript: written anew, it could be torn while others are still to be asked."""
+    reply, = await table.groups.ask([left[0].line])
+    await asyncio.to_thread(table.transcript.add, [(left[0].line, reply)])
     left.pop(0).answer(reply)
     return reply

@@ -8,7 +8,7 @@ RUN = 2**30 - 2**20                 # bytes of input after which a run is ended,
 NAME = re.compile(r"[A-Za-z0-9_][A-Za-z0-9_.-]{0,63}")
 LISTEN = re.compile(r"unix:.+|[^:]+:\d{1,5}|\[[0-9A-Fa-f:.]+\]:\d{1,5}")
 TAKEN = {"ask", "would", "health", "total", "schema.json", "notes.json", "table.csv", "report.jsonl",
-         "transcript.jsonl", "tables.json"}
+         "transcript.jsonl", "tables.json", "words.json"}
 PLACE = "{table}"
 
 
@@ -41,6 +41,8 @@ def parser():
     add("--table", action="append", default=[], metavar="NAME", help="a table by name; repeated for several")
     add("--run-limit", type=int, default=RUN, help=argparse.SUPPRESS)
     add("--group-patience", type=float, help=argparse.SUPPRESS)
+    add("--asker-patience", type=float, help=argparse.SUPPRESS)
+    add("--waiting", type=int, help=argparse.SUPPRESS)
     return words
 
 

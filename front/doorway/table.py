@@ -14,7 +14,7 @@ from .runs import Ended
 from .simulation import verdict_on
 from .transcript import Transcript, check_table
 
-WAITING = 1024                      # questions that may wait
+WAITING = 1024                      # askers who may wait
 PATIENCE = 60                       # seconds that an asker waits
 VERDICTS = 16                       # askers who may wait for a verdict
 FIRST_PAUSE, QUIET, LONGEST_PAUSE = 0.02, 0.5, 10      # seconds between two starts; askers hear of it after the second
@@ -47,6 +47,7 @@ class Table:
         self.reports = Reports(self, places.keep, report_every)
         self.queue, self.pending = collections.deque(), {}
         self.wake, self.closing = asyncio.Event(), asyncio.Event()
+        self.most_waiting, self.patience = WAITING, PATIENCE
         self.state = "starting"
         self.asked = self.sent = self.repeats = self.restarts = self.waiting = 0
         self.verdicts, self.one_verdict = 0, asyncio.Lock()
@@ -61,11 +62,11 @@ class Table:
             return known
         if self.closing.is_set() or self.state.startswith("stopped"):
             raise Turned(503, self.state, again=True)
-        if self.waiting >= WAITING:
+        if self.waiting >= self.most_waiting:
             raise Turned(503, "too many questions wait", again=True)
         self.waiting += 1
         try:
-            async with asyncio.timeout(PATIENCE):
+            async with asyncio.timeout(self.patience):
                 return await asyncio.shield(self._put(line).reply)
         except TimeoutError:
             raise Turned(504, "no reply yet, and the question may be answered: ask again later")

@@ -82,15 +82,25 @@ class Transcript:
         return left
 
     def _match(self, tail, lines):
-        """Keeps the pairs of the last group that are whole, which stand in the order of its questions."""
-        parts = tail.split(b"\n")[:-1]
+        """Keeps the pairs of the last group that are whole, and gives the questions that have none.
+
+        The pairs stand in the order of the questions, but for those that were put off when they were asked again. So what
+        was passed over comes last.
+        """
+        passed, parts = [], tail.split(b"\n")[:-1]
         for line, reply in zip(parts[::2], parts[1::2]):
-            if line not in lines or not DECISION.fullmatch(reply):
+            if not DECISION.fullmatch(reply):
                 break
-            lines = lines[lines.index(line) + 1:]
+            if line in lines:
+                place = lines.index(line)
+                passed, lines = passed + lines[:place], lines[place + 1:]
+            elif line in passed:
+                passed.remove(line)
+            else:
+                break
             self._note(line, reply)
             self.size += len(line) + len(reply) + 2
-        return lines
+        return lines + passed
 
     def _read_waiting(self):
         head, _, body = self.waiting.read(self.waiting.size(), 0).partition(b"\n")
