@@ -37,6 +37,9 @@ class SyncedFile:
     def sync(self):
         os.fdatasync(self.number)
 
+    def close(self):
+        os.close(self.number)
+
 
 def sync_folder(path):
     """Makes the names in a folder safe."""

@@ -58,6 +58,10 @@ class Transcript:
         for line, reply in decided:
             self._note(line, reply)
 
+    def close(self):
+        self.file.close()
+        self.waiting.close()
+
     def _note(self, line, reply):
         if reply.startswith(RELEASED):
             self.records += 1
