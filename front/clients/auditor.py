@@ -367,10 +367,12 @@ def shown(asker, column, answer):
     """An answer as a line says it, in the unit of its column."""
     if isinstance(answer, Denied):
         return (f"not answered by {answer.table}: " if answer.table else "not answered: ") + answer.sentence
-    unit = asker.note(column).get("unit") if column else None
+    if column is None:
+        return str(answer)
+    unit = asker.note(column).get("unit")
     unit = f" {unit}" if isinstance(unit, str) and unit else ""
     if not isinstance(answer, fractions.Fraction):
-        return f"{asker.in_units(column, answer) if column else answer:f}{unit}"
+        return f"{asker.in_units(column, answer):f}{unit}"
     return shown_average(answer, asker.places(column), unit)
 
 

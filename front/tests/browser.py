@@ -98,7 +98,9 @@ class Browser:
             "width": width, "height": height, "deviceScaleFactor": 1, "mobile": width < 600})
 
     def faults(self):
-        """What the console says, but for files that a door need not have."""
-        missing = ("tables.json", "notes.json", "report.jsonl")
-        return [entry["message"] for entry in self.driver.get_log("browser")
-                if not ("404" in entry["message"] and any(name in entry["message"] for name in missing))]
+        """What the console says, but for files that a door need not have, and a door that is starting again after a report."""
+        known = ("/notes.json - Failed to load resource: the server responded with a status of 404",
+                 "/report.jsonl - Failed to load resource: the server responded with a status of 404",
+                 "/tables.json - Failed to load resource: the server responded with a status of 404",
+                 "/health - Failed to load resource: the server responded with a status of 503")
+        return [entry["message"] for entry in self.driver.get_log("browser") if not any(line in entry["message"] for line in known)]

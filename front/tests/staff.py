@@ -13,8 +13,9 @@ import tempfile
 import time
 import urllib.request
 
-DOOR = pathlib.Path(os.environ.get("DOOR", pathlib.Path(__file__).resolve().parent.parent / "door.py"))
-AUDITOR = os.environ.get("AUDITOR", "auditor")
+FRONT = pathlib.Path(__file__).resolve().parent.parent
+DOOR = pathlib.Path(os.environ.get("DOOR", FRONT / "door.py"))
+AUDITOR = os.environ.get("AUDITOR", str(FRONT.parent / "crates" / "auditor" / "out" / "auditor"))
 COLUMNS = {"team": "text", "site": "text", "age": "number", "height": "number", "salary": "sum", "balance": "sum", "bonus": "max"}
 PUBLIC = 4
 NOTES = {"title": "Staff of <i>the</i> office", "columns": {

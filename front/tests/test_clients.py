@@ -99,7 +99,7 @@ class OverTheProgram(unittest.TestCase):
                 wrong()
 
     def test_a_refusal_says_why_and_where(self):
-        for reason, at, ask in (("where", 21, lambda: self.table.sum("salary", "team = 'Zoë' or age< forty")), ("empty", None, lambda: self.table.sum("salary", "age > 99")),
+        for reason, at, ask in (("where", 22, lambda: self.table.sum("salary", "team = 'Zoë' or age< forty")), ("empty", None, lambda: self.table.sum("salary", "age > 99")),
                                 ("kind", None, lambda: self.table.max("salary")), ("column", None, lambda: self.table.sum("wage")),
                                 ("column", None, lambda: self.table.groups("salary", "bonus"))):
             with self.assertRaises(auditor.Refused) as raised:

@@ -84,13 +84,17 @@ class OverTheProgram(PageCase):
         self.browser.open(self.office.url)
 
     def records(self):
+        """How many answers were given."""
         return json.loads(self.office.get("health"))["records"]
 
+    def single(self):
+        """Somebody of the smallest team who alone in it has an age, and isn't of those below 20."""
+        ages = [row.age for row in self.rows if row.team.startswith("<b>")]
+        return next(row for row in self.rows if row.team.startswith("<b>") and ages.count(row.age) == 1 and row.age >= 20)
+
     def alone(self):
-        """A condition that one person satisfies, who isn't asked for anywhere else."""
-        of_team = [row for row in self.rows if row.team.startswith("<b>")]
-        person = next(row for row in of_team if [other.age for other in of_team].count(row.age) == 1)
-        return f"team = '{person.team}' and age = {person.age}"
+        """A condition that one person satisfies."""
+        return f"team = '{self.single().team}' and age = {self.single().age}"
 
     def test_a_total_is_built_from_lists(self):
         self.browser.click("#add")
@@ -191,10 +195,8 @@ class OverTheProgram(PageCase):
             shown = drawn[team][0].removeprefix("≈ ").removesuffix(" EUR").replace(",", "")
             self.assertAlmostEqual(float(shown), sum(pay) / len(pay) / 100, places=3)
             self.assertEqual(drawn[team][1], "bar")
-        # Without one more age of the small team its total less this one is a person's salary.
-        legal = sorted(row.age for row in self.rows if row.team.startswith("<b>"))
-        second = legal[1]
-        self.browser.write(f"age >= {second}")
+        # The smallest team's total without one person, less than the one just answered by that person's salary.
+        self.browser.write(f"age >= 20 and age != {self.single().age}")
         self.draw("sum salary", "team", 6)
         denied = [label for label, text, kind in self.bars() if kind == "hatched"]
         self.assertEqual([text for _, text, kind in self.bars() if kind == "hatched"], ["not answered"] * len(denied))
@@ -246,10 +248,10 @@ class OverTheProgram(PageCase):
     def reported(self):
         """Whether there is a report over all answers that were given."""
         try:
-            last = self.office.get("report.jsonl").splitlines()[-1]
+            last, records = self.office.get("report.jsonl").splitlines()[-1], self.records()
         except OSError:
             return False
-        return json.loads(last)["audited"] == self.records()
+        return json.loads(last)["audited"] == records
 
     def test_what_people_wrote_is_never_markup(self):
         self.assertEqual(self.browser.text("title"), "Staff of <i>the</i> office")
@@ -287,7 +289,7 @@ class OverTheProgram(PageCase):
     def test_by_keyboard_alone(self):
         keys = self.browser.keys
         self.browser.tab_to("#kinds input")
-        keys("ArrowLeft", "ArrowLeft", "ArrowRight")
+        keys("ArrowLeft", "ArrowRight")
         self.assertEqual(self.browser.run("return document.activeElement.value"), "sum")
         self.browser.tab_to("#add")
         keys("Enter", "s")
