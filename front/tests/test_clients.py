@@ -227,6 +227,8 @@ class SeveralTables(unittest.TestCase):
 
 class Scripted(unittest.TestCase):
     """Doors that fail, and what they may send."""
+    ROWS, BASE = "team,age\nBob's,100000\n", "age > 1 or age < 0"
+    WITHIN = ["(age > 1 or age < 0) and team = 'Bob''s'", "(age > 1 or age < 0) and age = 100000", "age = 100000"]
 
     def door(self, reply, rows="team,age\nA,30\n", **more):
         files = {"schema.json": json.dumps({"columns": [{"name": name, "is": kind} for name, kind in COLUMNS.items()]}), "table.csv": rows,
@@ -255,6 +257,20 @@ class Scripted(unittest.TestCase):
             with self.subTest(reply=reply):
                 self.assertEqual(typed(self.door(reply).url, f"{kind} pay"), ([due], "", 0))
         self.assertEqual(typed(self.door('{"num":5,"den":2}').url, "avg age")[0], ["2.5"])
+
+    def test_groups_are_asked_within_the_whole_condition(self):
+        door = self.door(lambda _, question: (200, json.dumps({question["ask"]: 5})), self.ROWS)
+        table = self.table(door)
+        for by, where in (("team", self.BASE), ("age", self.BASE), ("age", "all")):
+            self.assertEqual([group.answer for group in table.groups("pay", by, where=where)], [5])
+        self.assertEqual([question["where"] for question in door.questions("sum")], self.WITHIN)
+
+    @missing(not shutil.which("Rscript"), NO_R)
+    def test_r_asks_groups_within_the_whole_condition(self):
+        door = self.door(lambda _, question: (200, json.dumps({question["ask"]: 5})), self.ROWS)
+        in_r(f'''for (ask in list(c("team", "{self.BASE}"), c("age", "{self.BASE}"), c("age", "all")))
+            stopifnot(identical(auditor_totals("{door.url}", "pay", by = ask[1], where = ask[2])$sum, 5))''')
+        self.assertEqual([question["where"] for question in door.questions("sum")], self.WITHIN)
 
     def test_a_busy_door_is_asked_again_and_then_said_to_be(self):
         door = self.door(lambda *_: (503, '{"error":"too many wait"}') if len(door.asked) < 3 else (200, '{"sum":5}'))

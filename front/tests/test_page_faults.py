@@ -137,6 +137,12 @@ class Scripted(OneTable):
         self.browser.ask()
         self.answers("9")
 
+    def test_ranges_of_a_number_that_most_rows_share(self):
+        rows = "constructor,age\n" + "A,0\n" * 500 + "".join(f"A,{age}\n" for age in range(1, 14))
+        self.open('{"sum":500}', {"table.csv": rows})
+        self.draw("sum pay", "age", 2)
+        self.assertEqual([question["where"] for question in self.door.questions("sum")], ["age < 1", "age >= 1"])
+
     def test_a_spoilt_history_of_the_browser_is_passed_over(self):
         self.open('{"sum":500}')
         for text in ('{"a":', "7", '[null, {"question": {"ask": "drop", "where": ""}, "text": "x"}, {"question": {"ask": "sum", "where": 4}, "text": "x"}]'):
