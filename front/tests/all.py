@@ -31,7 +31,10 @@ def classes():
             else:
                 name = type(test).__module__ + "." + type(test).__qualname__
                 found[name] = found.get(name, 0) + 1
-    visit(unittest.defaultTestLoader.discover(str(HERE), top_level_dir=str(HERE)))
+    loader = unittest.TestLoader()
+    visit(loader.discover(str(HERE), top_level_dir=str(HERE)))
+    if loader.errors:
+        sys.exit("\n".join(loader.errors))
     return sorted(found, key=lambda name: (not name.startswith("test_door"), name))
 
 
