@@ -66,6 +66,7 @@ async def listen(runner, where):
 
 async def keep(table, alone):
     """Serves a table. If its journal is an older copy it stops, and the door with it if it has no other table."""
+    late = asyncio.ensure_future(table.turn_away_the_late())
     try:
         await table.serve()
     except OlderJournal as fault:
@@ -74,6 +75,8 @@ async def keep(table, alone):
             raise
         table.stop_for_good(fault)
         await table.closing.wait()
+    finally:
+        late.cancel()
 
 
 async def run(settings):
@@ -103,6 +106,8 @@ async def run(settings):
 
 def main():
     settings = arguments.read()
+    # A sync that has returned is to be seen soon, also while many requests are at work.
+    sys.setswitchinterval(0.0005)
     try:
         asyncio.run(run(settings))
     except (Damaged, OlderJournal, Unwritten, OSError) as fault:

@@ -48,5 +48,5 @@ async def _ask_first(table, left):
     last is in the transcript: written anew, it could be torn while others are still to be asked."""
     reply, = await table.groups.ask([left[0].line])
     await asyncio.to_thread(table.transcript.add, [(left[0].line, reply)])
-    left.pop(0).answer(reply)
+    table.answer(left.pop(0), reply)
     return reply

@@ -5,6 +5,7 @@ is written into the transcript and synced; the askers are told. So whoever was t
 """
 import asyncio
 import collections
+import math
 import sys
 
 from .lines import HISTORY, Turned
@@ -25,16 +26,26 @@ class Question:
 
     def __init__(self, line):
         self.line = line
-        self.reply = asyncio.get_running_loop().create_future()
+        self.askers = []                    # futures, with the time from which on they wait
+
+    def wait(self):
+        loop = asyncio.get_running_loop()
+        asker = loop.create_future()
+        self.askers.append((asker, loop.time()))
+        return asker
 
     def answer(self, reply):
-        if not self.reply.done():
-            self.reply.set_result(reply)
+        for asker, _ in self.askers:
+            if not asker.done():
+                asker.set_result(reply)
+        self.askers.clear()
 
-    def fail(self, text):
-        if not self.reply.done():
-            self.reply.set_exception(Turned(503, text, again=True))
-            self.reply.exception()          # nobody may be left to hear it
+    def fail(self, turned, since=math.inf):
+        """Turns away those who have waited since then or longer."""
+        for asker, began in self.askers:
+            if began <= since and not asker.done():
+                asker.set_exception(turned)
+        self.askers = [one for one in self.askers if not one[0].done()]
 
 
 class Table:
@@ -64,23 +75,16 @@ class Table:
             raise Turned(503, self.state, again=True)
         if self.waiting >= self.most_waiting:
             raise Turned(503, "too many questions wait", again=True)
-        self.waiting += 1
-        try:
-            async with asyncio.timeout(self.patience):
-                return await asyncio.shield(self._put(line).reply)
-        except TimeoutError:
-            raise Turned(504, "no reply yet, and the question may be answered: ask again later")
-        finally:
-            self.waiting -= 1
-
-    def _put(self, line):
         question = self.pending.get(line)
         if question is None:
             question = self.pending[line] = Question(line)
-            question.reply.add_done_callback(lambda _: self.pending.pop(line, None))
             self.queue.append(question)
             self.wake.set()
-        return question
+        self.waiting += 1
+        try:
+            return await question.wait()
+        finally:
+            self.waiting -= 1
 
     async def verdict(self, line):
         """What would be said of a question that isn't asked, as `simulate` has it."""
@@ -117,7 +121,7 @@ class Table:
                 await self.start([])
                 continue
             await self._take()
-        self._give_up("the door is closing", [])
+        self._give_up("the door is closing")
         await self.groups.close()
 
     async def _rest(self):
@@ -145,7 +149,11 @@ class Table:
         self.asked += len(group)
         self.sent += 1
         for question, reply in zip(group, replies):
-            question.answer(reply)
+            self.answer(question, reply)
+
+    def answer(self, question, reply):
+        self.pending.pop(question.line, None)
+        question.answer(reply)
 
     async def start(self, left):
         """Starts the program, as often as it takes, and asks again what was with it when it ended.
@@ -163,10 +171,34 @@ class Table:
                 self.say(f"program: {fault}")
                 self.groups.kill()
                 if pause > QUIET:
-                    self._give_up(fault, left)
+                    self._give_up(fault)
                 pause = min(pause * 2, LONGEST_PAUSE)
                 await self._sleep(pause)
-        self._give_up("the door is closing", left)
+        self._give_up("the door is closing")
+
+    async def _sleep(self, pause):
+        try:
+            await asyncio.wait_for(self.closing.wait(), pause)
+        except asyncio.TimeoutError:
+            pass
+
+    def _give_up(self, fault):
+        """Tells those who wait. What was with the program is asked again all the same."""
+        self.state = f"stopped: {fault}"
+        turned = Turned(503, f"{fault}. The question may be answered: ask again later", again=True)
+        for question in self.pending.values():
+            question.fail(turned)
+        self.pending.clear()
+        self.queue.clear()
+
+    async def turn_away_the_late(self):
+        """Tells those who have waited too long, again and again. Their questions are asked all the same."""
+        turned = Turned(504, "no reply yet, and the question may be answered: ask again later")
+        while True:
+            await asyncio.sleep(min(self.patience / 4, 1))
+            since = asyncio.get_running_loop().time() - self.patience
+            for question in self.pending.values():
+                question.fail(turned, since)
 
     async def _sleep(self, pause):
         try:
@@ -188,4 +220,4 @@ class Table:
     def stop_for_good(self, fault):
         """Ends the table, and not the door: other tables may be behind it."""
         self.groups.kill()
-        self._give_up(fault, [])
+        self._give_up(fault)

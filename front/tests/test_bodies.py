@@ -12,7 +12,7 @@ from kit import AUDITOR, SEED, ask, free_port, health, line_of
 
 GOOD = line_of("count", 0, 9)
 LINE = b'{"refused":"line"}\n'
-LONG = b'{"ask":"count","where":"' + b" " * 8165 + b'all"}'
+LONG = b'{"ask":"count","where":"' + b" " * 8163 + b'all"}'
 
 # Body, status, and the program's reply where the program was asked.
 BODIES = [
@@ -73,8 +73,7 @@ class Bodies(DoorCase):
                 async with session.get(path) as response:
                     self.assertEqual(response.status, 405)
                     self.assertIn("error", await response.json())
-            for path in ("/nothing", "/../table.csv", "/%2e%2e/table.csv", "/public/table.csv", "/answers.journal",
-                         "/waiting.jsonl", "/table.sha256"):
+            for path in ("/nothing", "/public/table.csv", "/answers.journal", "/waiting.jsonl", "/table.sha256"):
                 async with session.get(path) as response:
                     self.assertEqual(response.status, 404, path)
 
@@ -167,6 +166,16 @@ class Streams(DoorCase):
             await asyncio.gather(*(self.send(self.broken(chance), wait=0.05) for _ in range(10)))
             self.assertIn(b'{"count":10}', await self.count())
         self.assertIsNone(self.door.process.poll())
+
+    async def test_no_address_leads_out_of_the_public_files(self):
+        self.door.start()
+        await self.until_serving()
+        secret = (self.folder.path / "table.csv").read_bytes()
+        for path in ("/../table.csv", "/%2e%2e/table.csv", "//table.csv", "/./../answers.journal", "/table.csv/../../table.csv"):
+            got = await self.send(f"GET {path} HTTP/1.1\r\nHost: 127.0.0.1:{self.port}\r\nConnection: close\r\n\r\n".encode(), wait=5)
+            self.assertTrue(got.startswith(b"HTTP/1.1 "), path)
+            self.assertNotIn(secret[:200], got, path)
+            self.assertNotIn(b"SQAJRNL", got, path)
 
     async def test_requests_in_a_row_get_their_replies_in_order(self):
         self.door.start()

@@ -5,11 +5,8 @@ import os
 import resource
 import shutil
 import signal
-import subprocess
 import time
 import unittest
-
-import aiohttp
 
 from case import DoorCase
 from kit import AUDITOR, HERE, Door, ask, health, line_of
@@ -48,6 +45,21 @@ class Faults(DoorCase):
             self.door.start()
             await self.door.ready(session)
             await self.client(session, 1, 10)
+        self.assertEqual(self.door.stop(), 0)
+        self.check_all()
+
+    async def test_what_leaves_for_the_program_is_written_down_first(self):
+        async with self.door.session() as session:
+            await self.start(session)
+            for number in self.door.programs():
+                os.kill(number, signal.SIGSTOP)
+            line = line_of("sum", 0, 99)
+            asking = asyncio.create_task(self.ask(session, ("sum", 0, 99), line))
+            await asyncio.sleep(0.5)
+            self.assertIn(line, (self.folder.public / "waiting.jsonl").read_bytes().split(b"\n"))
+            for number in self.door.programs():
+                os.kill(number, signal.SIGCONT)
+            await asking
         self.assertEqual(self.door.stop(), 0)
         self.check_all()
 
@@ -233,6 +245,19 @@ class Known(DoorCase):
             self.assertEqual((await health(session))["repeats"], 1)
         self.assertEqual(self.door.stop(), 0)
         self.assertEqual(len(self.folder.journal()), 1)
+
+    async def test_many_kinds_of_lines_leave_only_decisions_in_the_transcript(self):
+        lines = [line_of("sum", 0, 99), line_of("count", 0, 0), b"x", line_of("sum", 0, 0), b'{"ask":"count","where":"("}',
+                 line_of("sum", 500, 600)]
+        self.door.start()
+        async with self.door.session() as session:
+            await self.door.ready(session)
+            replies = [(await ask(session, line))[1][:-1] for line in lines]
+        self.assertEqual(self.door.stop(), 0)
+        self.assertEqual(replies[1:], [b'{"count":1}', b'{"refused":"line"}', b'{"denied":"unsafe"}', b'{"refused":"where","at":1}',
+                                       b'{"refused":"empty"}'])
+        self.assertEqual(self.folder.transcript(), [(lines[0], replies[0]), (lines[3], replies[3])])
+        self.check_all()
 
     async def test_many_who_ask_the_same_at_once_make_one_record(self):
         self.door.start()

@@ -34,11 +34,9 @@ class Nginx:
         (self.folder / "users").write_text("ann:{PLAIN}secret\nbob:{PLAIN}secret\n")
         (self.folder / "tables.json").write_text('["north","south"]\n')
         changes = {"listen 443 ssl;": f"listen 127.0.0.1:{port};", "    ssl_certificate /etc/nginx/auditor.pem;\n": "",
-                   "    ssl_certificate_key /etc/nginx/auditor.key;\n": "", "/etc/nginx/auditor.users": f"{self.folder}/users",
-                   "/etc/nginx/auditor.tables.json": f"{self.folder}/tables.json", **changes}
+                   "    ssl_certificate_key /etc/nginx/auditor.key;\n": "", "/etc/nginx/auditor.": f"{self.folder}/", **changes}
         for old, new in changes.items():
-            if block == "nginx-parts.conf" or "tables" not in old:
-                assert old in text, old
+            assert old in text, old
             text = text.replace(old, new)
         (self.folder / "block.conf").write_text(text)
         (self.folder / "nginx.conf").write_text(SHELL.format(folder=self.folder))
