@@ -348,13 +348,15 @@ def connect(url, headers=None, timeout=90, patience=10):
 # -- the terminal ------------------------------------------------------------------------------------------------------
 
 HELP = """count [where CONDITION]                        how many rows
-sum COLUMN [by COLUMN] [where CONDITION]       a total; with by, one for each value of a public column
-avg COLUMN ..   max COLUMN ..                  an average, the greatest number
+sum COLUMN [where CONDITION]                   a total; avg for an average, max for the greatest number
+totals COLUMN by COLUMN [where CONDITION]      a total for each value of a public column; so avg .. by, count by
 would sum COLUMN [where CONDITION]             whether it would be answered; nothing is asked
 columns                                        what there is
 quit                                           so does the end of the input"""
 
-LINE = re.compile(r"(?P<would>would\s+)?(?P<kind>count|sum|avg|max)(?:\s+(?P<column>\w+))?(?:\s+by\s+(?P<by>\w+))?"
+KINDS = {"count": "count", "sum": "sum", "total": "sum", "totals": "sum", "avg": "avg", "average": "avg", "mean": "avg",
+         "max": "max", "maximum": "max", "greatest": "max"}
+LINE = re.compile(rf"(?P<would>would\s+)?(?P<kind>{'|'.join(KINDS)})(?:\s+(?!by\s)(?P<column>\w+))?(?:\s+by\s+(?P<by>\w+))?"
                   r"(?:\s+where\s+(?P<where>.*))?", re.DOTALL)
 
 
@@ -393,13 +395,13 @@ def answer_line(asker, line):
         return [f"{column['name']:32} {column['is']}" for column in asker.columns]
     match = LINE.fullmatch(line)
     if not match or (match["kind"] == "count") != (match["column"] is None) or match["would"] and match["by"]:
-        return HELP.split("\n")
-    kind, column, where = match["kind"], match["column"], match["where"] or "all"
+        return HELP.splitlines()
+    kind, column, where = KINDS[match["kind"]], match["column"], match["where"] or "all"
     if match["would"]:
         verdicts = asker.would(kind, column, where)
         return [f"{name}: {verdict}" for name, verdict in verdicts.items()] if isinstance(verdicts, dict) else [verdicts]
     if match["by"]:
-        return [f"{group.value}: {shown(asker, column, group.answer)} ({group.rows} rows)"
+        return [f"{group.value}: {shown(asker, column, group.answer)}" + ("" if kind == "count" else f" ({group.rows} rows)")
                 for group in asker.groups(column, match["by"], kind, where)]
     return [shown(asker, column, asker.ask(kind, column, where))]
 

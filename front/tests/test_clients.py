@@ -130,10 +130,11 @@ class OverTheProgram(unittest.TestCase):
         self.assertEqual((said[-1], status), ("200", 1))
 
     def test_the_terminal_has_a_line_for_each_group(self):
-        said, faults, status = typed(self.url, "sum balance by team")
-        self.assertEqual((faults, status), ("", 0))
         due = [f"{team}: {sum(row.balance for row in self.rows if row.team == team)} ({size} rows)" for team, size in sorted(staff.TEAMS.items())]
-        self.assertEqual(said, due)
+        for line in ("totals balance by team", "sum balance by team where all"):
+            self.assertEqual(typed(self.url, line), (due, "", 0))
+        counts = [f"{team}: {size}" for team, size in sorted(staff.TEAMS.items())]
+        self.assertEqual(typed(self.url, "count by team"), (counts, "", 0))
 
     @missing(not has_pandas(), NO_PANDAS)
     def test_totals_are_a_frame(self):
