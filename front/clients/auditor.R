@@ -4,7 +4,7 @@
 #   auditor_sum("http://127.0.0.1:8087", "salary", "age >= 41")
 #   auditor_totals("unix:/run/auditor/door.sock", "salary", by = "team")
 #
-# With several tables behind a door the table's name ends the address: "http://127.0.0.1:8087/north".
+# With several tables behind a door the table's name ends the address, "http://127.0.0.1:8087/north"; not that of a socket.
 # A denial is NA with its reason in attr(x, "denied"). Totals are exact, in the steps of the column: they stay below 2^53.
 # What comes back is what the door said. The door isn't proved; `auditor simulate` checks its transcript.
 

@@ -42,7 +42,7 @@ class Browser:
             self.driver.refresh()
         self.wait(lambda: self.text("holds"))
 
-    def wait(self, holds, seconds=10):
+    def wait(self, holds, seconds=20):
         WebDriverWait(self.driver, seconds, poll_frequency=0.05).until(lambda _: holds())
 
     def find(self, selector):

@@ -80,6 +80,15 @@ class Scripted(OneTable):
         self.assertEqual(self.bars(), [["A", "fewer than 5 rows", "hatched"], ['B, "x"', "7.00 EUR", "bar"]])
         self.browser.driver.get_log("browser")                  # the browser's own line on a status of 422
 
+    def test_a_count_has_no_column_and_each_kind_its_own(self):
+        self.open("")
+        shown = {}
+        for kind in ("count", "sum", "max"):
+            self.browser.run("document.querySelector(`#kinds input[value=${arguments[0]}]`).click()", kind)
+            shown[kind] = [one.text for one in self.browser.all("#column option")] if self.browser.find("#of").is_displayed() else None
+        self.assertEqual(shown, {"count": None, "sum": ["pay"], "max": ["best"]})
+        self.assertFalse(self.browser.find("#table-choice").is_displayed())
+
     def test_a_busy_door_is_asked_again(self):
         said = iter([(503, '{"error":"too many wait"}'), (503, '{"error":"too many wait"}')])
         self.open("")
