@@ -254,7 +254,12 @@ class Table(Asker):
     def _post(self, path, kind, column, where):
         question = {"ask": kind, "where": where} if column is None else {"ask": kind, "column": column, "where": where}
         line = json.dumps(question, ensure_ascii=False, separators=(",", ":")).encode("utf-8", "surrogatepass")
-        return parsed(self.door.request("POST", self.base + path, line))
+        try:
+            return parsed(self.door.request("POST", self.base + path, line))
+        except DoorFault as fault:
+            if not self.name:
+                raise
+            raise DoorFault(f"{self.name}: {fault}", fault.status) from None
 
     def ask(self, kind, column, where="all"):
         """The answer to `count`, `sum`, `avg` or `max`, or Denied; Refused is raised."""
@@ -282,7 +287,7 @@ class Table(Asker):
 
 
 class Parts(Asker):
-    """Tables as parts of one. A question is asked of all or of none: first each says whether it would be answered."""
+    """Tables as parts of one. A question is asked of all that have rows for it, or of none if one of them wouldn't answer."""
 
     def __init__(self, tables):
         self.tables = list(tables)
@@ -298,38 +303,33 @@ class Parts(Asker):
 
     def ask(self, kind, column, where="all"):
         """The answer over all parts. `table` of a Denied is the part that wouldn't answer."""
-        if kind != "count":
-            for name, verdict in self.would(kind, column, where).items():
-                if verdict in ("unsafe", "wide"):
-                    return Denied(verdict, self.sentence("denied", verdict), name)
-        answers, empty = [], None
-        for table in self.tables:
-            try:
-                answers.append((table, table.ask(kind, column, where)))
-            except Refused as refusal:
-                if refusal.reason != "empty":
-                    raise
-                empty = refusal
-        if not answers:
-            raise empty
-        return together(kind, answers, where)
+        counts = [(table, table.count(where)) for table in self.tables]
+        if kind == "count":
+            return sum(rows for _, rows in counts)
+        asked = [(table, rows) for table, rows in counts if rows]
+        if not asked:
+            raise Refused("empty", self.sentence("refused", "empty"))
+        for table, _ in asked:
+            verdict = table.would(kind, column, where)
+            if verdict in ("unsafe", "wide"):
+                return Denied(verdict, self.sentence("denied", verdict), table.name)
+        return together(kind, [(table.ask(kind, column, where), rows) for table, rows in asked])
 
     def public(self):
         """The public columns of all parts, a dict for each row."""
         return [row for table in self.tables for row in table.public()]
 
 
-def together(kind, answers, where):
-    """One answer of those of the parts, or the first that is denied."""
-    for table, answer in answers:
+def together(kind, answers):
+    """One answer of those of the parts, each with its rows, or the first that is denied."""
+    for answer, _ in answers:
         if isinstance(answer, Denied):
             return answer
     if kind == "max":
-        return max(answer for _, answer in answers)
-    if kind != "avg":
-        return sum(answer for _, answer in answers)
-    rows = [table.count(where) for table, _ in answers]
-    return sum(answer * number for (_, answer), number in zip(answers, rows)) / sum(rows)
+        return max(answer for answer, _ in answers)
+    if kind == "avg":
+        return sum(answer * rows for answer, rows in answers) / sum(rows for _, rows in answers)
+    return sum(answer for answer, _ in answers)
 
 
 def connect(url, headers=None, timeout=90, patience=10):

@@ -291,6 +291,21 @@ class Scripted(unittest.TestCase):
             self.assertIn(words, str(raised.exception))
             self.assertEqual(len(door.asked), 1)
 
+    def test_what_keeps_a_part_from_answering_is_said_with_its_name(self):
+        def reply(path, question):
+            return (422, '{"error":"fewer than 5 rows"}') if path == "/south/would" else (200, '{"count":3,"verdict":"released"}')
+        schema = json.dumps({"columns": [{"name": name, "is": kind} for name, kind in COLUMNS.items()]})
+        door = self.door(reply, **{"tables.json": '["north","south"]', "north/schema.json": schema, "south/schema.json": schema})
+        parts = auditor.connect(door.url)
+        for table in parts.tables:
+            self.addCleanup(table.door.close)
+        with self.assertRaisesRegex(auditor.DoorFault, "^south: fewer than 5 rows$"):
+            parts.sum("pay")
+        self.assertEqual([path for path, question, _ in door.asked if path.endswith("ask") and question["ask"] == "sum"], [])
+        other = self.door(reply, **{"tables.json": '["north","south"]', "north/schema.json": schema, "south/schema.json": '{"columns":[]}'})
+        with self.assertRaisesRegex(ValueError, "south has other columns than north"):
+            auditor.connect(other.url)
+
     def test_a_connection_that_ends_is_made_anew(self):
         door = self.door('{"sum":5}')
         table = self.table(door)

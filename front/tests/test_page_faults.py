@@ -249,14 +249,29 @@ class SeveralTables(PageCase):
         said = self.say()
         self.assertEqual(self.browser.find("#answer .verdict").text, "Not answered")
         self.assertIn("south: not answered", said)
+        self.assertIn("north: not asked", said)
         self.assertEqual(self.browser.all("#answer .number"), [])
         self.assertEqual(self.door.questions("sum"), [question for path, question, _ in self.door.asked if path.endswith("would")])
 
     def test_a_part_without_rows_adds_nothing(self):
         self.open({"north": {"would": {"verdict": "released"}, "count": {"count": 3}, "sum": {"sum": 600}},
-                   "south": {"would": {"verdict": "refused"}, "count": {"count": 0}, "sum": {"refused": "empty"}}})
+                   "south": {"count": {"count": 0}}})
         self.assertIn("south: no rows", self.say())
         self.answers("6.00 EUR")
+
+    def test_a_group_that_no_part_has_is_said_to_have_no_row(self):
+        self.open({"north": {"count": {"count": 0}}, "south": {"count": {"count": 0}}})
+        self.assertIn("No row satisfies the condition.", self.say("max"))
+        self.assertEqual(self.door.questions("max"), [])
+
+    def test_a_part_that_the_door_withholds_is_named(self):
+        self.open({"north": {"would": {"verdict": "released"}, "count": {"count": 3}},
+                   "south": {"would": {"error": "fewer than 5 rows"}, "count": {"count": 3}}})
+        self.door.reply = lambda path, question, ready=self.door.reply: (422 if path == "/south/would" else 200, ready(path, question)[1])
+        said = self.say()
+        self.assertIn("south: fewer than 5 rows", said)
+        self.assertEqual(self.browser.find("#answer .verdict").text, "Not asked")
+        self.browser.driver.get_log("browser")
 
     def test_one_table_is_asked_alone(self):
         self.open({"north": {"count": {"count": 3}}, "south": {"count": {"count": 3}, "sum": {"sum": 800}}})
