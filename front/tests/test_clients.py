@@ -94,14 +94,16 @@ class OverTheProgram(unittest.TestCase):
         self.assertFalse(denied)
         self.assertIn("without looking at the values", denied.sentence)
         self.assertIs(self.table.in_units("salary", denied), denied)
-        for wrong in (lambda: denied + 1, lambda: 1 + denied, lambda: sum([1, denied]), lambda: max(1, denied), lambda: float(denied), lambda: -denied):
+        for wrong in (lambda: denied + 1, lambda: 1 + denied, lambda: sum([1, denied]), lambda: max(1, denied), lambda: float(denied),
+                      lambda: -denied):
             with self.assertRaises(TypeError):
                 wrong()
 
     def test_a_refusal_says_why_and_where(self):
-        for reason, at, ask in (("where", 22, lambda: self.table.sum("salary", "team = 'Zoë' or age< forty")), ("empty", None, lambda: self.table.sum("salary", "age > 99")),
-                                ("kind", None, lambda: self.table.max("salary")), ("column", None, lambda: self.table.sum("wage")),
-                                ("column", None, lambda: self.table.groups("salary", "bonus"))):
+        cases = [("where", 22, lambda: self.table.sum("salary", "team = 'Zoë' or age< forty")),
+                 ("empty", None, lambda: self.table.sum("salary", "age > 99")), ("kind", None, lambda: self.table.max("salary")),
+                 ("column", None, lambda: self.table.sum("wage")), ("column", None, lambda: self.table.groups("salary", "bonus"))]
+        for reason, at, ask in cases:
             with self.assertRaises(auditor.Refused) as raised:
                 ask()
             self.assertEqual((raised.exception.reason, raised.exception.at), (reason, at))
@@ -253,7 +255,8 @@ class Scripted(unittest.TestCase):
     def test_numbers_are_shown_exactly_in_their_unit(self):
         cases = [("sum", '{"sum":-5}', "-0.05 EUR"), ("sum", '{"sum":1024000000000000}', "10240000000000.00 EUR"), ("sum", '{"sum":0}', "0.00 EUR"),
                  ("avg", '{"num":-7,"den":1}', "-0.07 EUR"), ("avg", '{"num":1,"den":2}', "0.005 EUR"),
-                 ("avg", '{"num":-1,"den":3}', "about -0.0033 EUR (exactly -0.01 / 3)"), ("avg", '{"num":1234567,"den":8}', "about 1543.2088 EUR (exactly 12345.67 / 8)")]
+                 ("avg", '{"num":-1,"den":3}', "about -0.0033 EUR (exactly -0.01 / 3)"),
+                 ("avg", '{"num":1234567,"den":8}', "about 1543.2088 EUR (exactly 12345.67 / 8)")]
         for kind, reply, due in cases:
             with self.subTest(reply=reply):
                 self.assertEqual(typed(self.door(reply).url, f"{kind} pay"), ([due], "", 0))
@@ -283,8 +286,9 @@ class Scripted(unittest.TestCase):
         self.assertEqual((str(raised.exception), raised.exception.status), ("journal damaged at byte 9", 503))
 
     def test_what_a_door_or_a_proxy_says_is_raised_at_once(self):
-        for status, text, words in ((422, '{"error":"fewer than 5 rows"}', "fewer than 5 rows"), (401, "<b>no</b>", "says 401"), (504, "{}", "says 504"),
-                                    (200, "<html>log in</html>", "isn't the reply of a door")):
+        cases = [(422, '{"error":"fewer than 5 rows"}', "fewer than 5 rows"), (401, "<b>no</b>", "says 401"), (504, "{}", "says 504"),
+                 (200, "<html>log in</html>", "isn't the reply of a door")]
+        for status, text, words in cases:
             door = self.door(lambda *_, status=status, text=text: (status, text))
             with self.subTest(status=status), self.assertRaises(auditor.DoorFault) as raised:
                 self.table(door).sum("pay")
@@ -342,8 +346,9 @@ class Scripted(unittest.TestCase):
 
     @missing(not shutil.which("Rscript"), NO_R)
     def test_r_says_what_a_door_or_a_proxy_says(self):
-        for status, text, words in ((422, '{"error":"fewer than 5 rows"}', "fewer than 5 rows"), (401, "<b>no</b>", "says 401"), (200, '{"sum":-7}', "-7"),
-                                    (200, '{"max":1000000000000}', "1000000000000"), (200, '{"num":-1,"den":4}', "-0.25"), (200, "{}", "isn't the reply of a door")):
+        cases = [(422, '{"error":"fewer than 5 rows"}', "fewer than 5 rows"), (401, "<b>no</b>", "says 401"), (200, '{"sum":-7}', "-7"),
+                 (200, '{"max":1000000000000}', "1000000000000"), (200, '{"num":-1,"den":4}', "-0.25"), (200, "{}", "isn't the reply of a door")]
+        for status, text, words in cases:
             door = self.door(lambda *_, status=status, text=text: (status, text))
             with self.subTest(text=text):
                 said = in_r(f'cat(tryCatch(sprintf("%.15g", auditor_sum("{door.url}", "pay")), error = conditionMessage))')

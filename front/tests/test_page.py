@@ -5,12 +5,10 @@ Start: AUDITOR=/path/of/the/program /usr/bin/python3 -m unittest -v test_page. S
 import base64
 import json
 import os
-import time
 import unittest
 
 import staff
 from browser import Browser
-from scripted_door import ScriptedDoor
 
 SHOTS = os.environ.get("SHOTS")
 CONTRAST = """
@@ -222,6 +220,12 @@ class OverTheProgram(PageCase):
         self.browser.wait(lambda: "groups were asked" in self.browser.text("chart-hint"))
         self.assertEqual(sum(int(text) for _, text, _ in self.bars()), 200)
 
+    def test_groups_are_within_the_whole_condition(self):
+        self.browser.write("age < 25 or age > 60")
+        self.draw("count", "site", 3)
+        due = {site: sum((row.age < 25 or row.age > 60) and row.site == site for row in self.rows) for site in ("Leeds", "York", "Hull")}
+        self.assertEqual({label: int(text) for label, text, _ in self.bars()}, due)
+
     def test_a_row_of_the_report_is_free_by_a_click(self):
         self.browser.ask()
         self.browser.wait(self.reported, 30)
@@ -242,7 +246,8 @@ class OverTheProgram(PageCase):
         self.assertIn("every total and average that was answered stays as it is", said)
         squares[417].click()
         high = next(line["high"][17] for line in lines if line.get("column") == "bonus" and "high" in line)
-        self.assertIn(f"{(high - 1) / 100:,.2f} EUR in place of {high / 100:,.2f} EUR", self.browser.find("#free details:nth-child(3) [role=status]").text)
+        said = self.browser.find("#free details:nth-child(3) [role=status]").text
+        self.assertIn(f"{(high - 1) / 100:,.2f} EUR in place of {high / 100:,.2f} EUR", said)
         self.picture("free")
 
     def reported(self):
@@ -276,7 +281,8 @@ class OverTheProgram(PageCase):
         self.assertIn(self.browser.find("#history td:nth-child(2)").text, said)
         self.browser.click("#history button")
         self.assertEqual(self.browser.find("#where").get_property("value"), "age >= 33")
-        self.assertEqual(self.browser.run("return document.querySelector('#kinds :checked').value + document.getElementById('column').value"), "avgbalance")
+        self.assertEqual(self.browser.find("#kinds input:checked").get_attribute("value"), "avg")
+        self.assertEqual(self.browser.find("#column").get_property("value"), "balance")
         self.browser.click("#forget")
         self.browser.driver.switch_to.alert.dismiss()
         self.assertIn("age >= 33", self.browser.text("history"))

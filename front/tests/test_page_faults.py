@@ -47,7 +47,8 @@ class Scripted(OneTable):
     def test_numbers_are_exact_to_the_last_digit(self):
         cases = [("sum", '{"sum":0}', "0.00 EUR"), ("sum", '{"sum":-5}', "-0.05 EUR"), ("sum", '{"sum":-123456}', "-1,234.56 EUR"),
                  ("sum", '{"sum":1024000000000000}', "10,240,000,000,000.00 EUR"), ("sum", '{"sum":-999999999999999}', "-9,999,999,999,999.99 EUR"),
-                 ("avg", '{"num":-7,"den":1}', "-0.07 EUR"), ("avg", '{"num":1,"den":2}', "0.005 EUR"), ("avg", '{"num":-1,"den":3}', "≈ -0.0033 EUR"),
+                 ("avg", '{"num":-7,"den":1}', "-0.07 EUR"), ("avg", '{"num":1,"den":2}', "0.005 EUR"),
+                 ("avg", '{"num":-1,"den":3}', "≈ -0.0033 EUR"),
                  ("avg", '{"num":1234567,"den":8}', "≈ 1,543.2088 EUR"), ("avg", '{"num":1001,"den":4}', "2.5025 EUR"),
                  ("max", '{"max":1000000000000}', "1,000,000,000,000"), ("max", '{"max":-1}', "-1")]
         self.open("")
@@ -154,7 +155,8 @@ class Scripted(OneTable):
 
     def test_a_spoilt_history_of_the_browser_is_passed_over(self):
         self.open('{"sum":500}')
-        for text in ('{"a":', "7", '[null, {"question": {"ask": "drop", "where": ""}, "text": "x"}, {"question": {"ask": "sum", "where": 4}, "text": "x"}]'):
+        entries = '[null, {"question": {"ask": "drop", "where": ""}, "text": "x"}, {"question": {"ask": "sum", "where": 4}, "text": "x"}]'
+        for text in ('{"a":', "7", entries):
             self.browser.run("localStorage.setItem('auditor: /', arguments[0])", text)
             self.browser.driver.refresh()
             self.browser.wait(lambda: "holds for 3" in self.browser.text("holds"))
