@@ -142,12 +142,12 @@ def error_of(response, text):
     return said if isinstance(said, str) else f"the door, or a proxy before it, says {response.status} {response.reason}"
 
 
-def parsed(text):
+def parsed(name, text):
     """A reply of JSON. A proxy's login page may come with status 200, too."""
     try:
         return json.loads(text)
     except ValueError:
-        raise DoorFault("what came isn't the reply of a door, but " + ascii(text[:60]), 200) from None
+        raise DoorFault(f"{name}: what came isn't the reply of a door, but {ascii(text[:60])}", 200) from None
 
 
 def within(where, part):
@@ -232,14 +232,14 @@ class Table(Asker):
     def __init__(self, url, name="", headers=None, timeout=90, patience=10):
         self.door, self.name = Door(url, headers, timeout, patience), name
         self.base = urllib.parse.quote(name, safe="") + "/" if name else ""
-        self.columns = parsed(self.door.request("GET", self.base + "schema.json"))["columns"]
+        self.columns = parsed("schema.json", self.door.request("GET", self.base + "schema.json"))["columns"]
         self.kinds = {column["name"]: column["is"] for column in self.columns}
         self.words, self.notes = self._optional("words.json"), self._optional(self.base + "notes.json")
 
     def _optional(self, path):
         """A file of JSON that a door need not have."""
         try:
-            found = parsed(self.door.request("GET", path))
+            found = parsed(path, self.door.request("GET", path))
         except DoorFault as fault:
             if fault.status != 404:
                 raise
@@ -255,7 +255,7 @@ class Table(Asker):
         question = {"ask": kind, "where": where} if column is None else {"ask": kind, "column": column, "where": where}
         line = json.dumps(question, ensure_ascii=False, separators=(",", ":")).encode("utf-8", "surrogatepass")
         try:
-            return parsed(self.door.request("POST", self.base + path, line))
+            return parsed(path, self.door.request("POST", self.base + path, line))
         except DoorFault as fault:
             if not self.name:
                 raise
@@ -335,7 +335,7 @@ def together(kind, answers):
 def connect(url, headers=None, timeout=90, patience=10):
     """The table behind a door, or its tables as parts of one. `headers` go with each request, as those of a login."""
     try:
-        names = parsed(Door(url, headers, timeout, patience).request("GET", "tables.json"))
+        names = parsed("tables.json", Door(url, headers, timeout, patience).request("GET", "tables.json"))
     except DoorFault as fault:
         if fault.status != 404:
             raise

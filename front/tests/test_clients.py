@@ -310,6 +310,10 @@ class Scripted(unittest.TestCase):
         with self.assertRaisesRegex(ValueError, "south has other columns than north"):
             auditor.connect(other.url)
 
+    def test_notes_that_cant_be_read_are_said_to_be(self):
+        with self.assertRaisesRegex(auditor.DoorFault, "^notes.json: what came isn't"):
+            auditor.connect(self.door("", **{"notes.json": '{"columns":'}).url)
+
     def test_a_connection_that_ends_is_made_anew(self):
         door = self.door('{"sum":5}')
         table = self.table(door)

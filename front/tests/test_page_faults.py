@@ -147,6 +147,12 @@ class Scripted(OneTable):
         self.browser.ask()
         self.answers("9")
 
+    def test_notes_that_cant_be_read_are_said_to_be(self):
+        self.door = ScriptedDoor({**files(), "notes.json": '{"columns":'}, self.each)
+        self.addCleanup(self.door.close)
+        self.browser.driver.get(self.door.url)
+        self.browser.wait(lambda: self.browser.text("state") == "notes.json isn't JSON.")
+
     def test_ranges_of_a_number_that_most_rows_share(self):
         rows = "constructor,age\n" + "A,0\n" * 500 + "".join(f"A,{age}\n" for age in range(1, 14))
         self.open('{"sum":500}', {"table.csv": rows})
