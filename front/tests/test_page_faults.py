@@ -188,7 +188,7 @@ class Reports(OneTable):
         text = "".join(json.dumps(line, separators=(",", ":")) + "\n" for line in lines)
         self.open('{"sum":500}', {"report.jsonl": text})
         self.browser.click("#report")
-        self.browser.wait(lambda: self.browser.all("#free summary") or "Choose" not in self.browser.text("free-summary"))
+        self.browser.wait(lambda: "leave it open" not in self.browser.text("free-summary"))
 
     def pay(self, *rows):
         return [{"column": "pay", "row": row, "direction": [[0, -self.LONG], [row, 1]]} for row in rows]
