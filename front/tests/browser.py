@@ -97,6 +97,12 @@ class Browser:
         self.driver.execute_cdp_cmd("Emulation.setDeviceMetricsOverride", {
             "width": width, "height": height, "deviceScaleFactor": 1, "mobile": width < 600})
 
+    def too_wide(self, width):
+        """What is cut at a width or makes the page wider. What scrolls within its own box isn't."""
+        return self.run("""return [...document.querySelectorAll('body *')].filter(node =>
+            !node.closest('.unseen, .scroll *, #chart *, script, noscript') && node.getBoundingClientRect().right > arguments[0])
+            .map(node => node.outerHTML.slice(0, 80)).concat(document.documentElement.scrollWidth > arguments[0] ? ["the page"] : [])""", width)
+
     def faults(self):
         """What the console says, but for files that a door need not have, and a door that is starting again after a report."""
         known = ("/notes.json - Failed to load resource: the server responded with a status of 404",

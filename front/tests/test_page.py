@@ -353,9 +353,7 @@ class OverTheProgram(PageCase):
                 self.draw("sum salary", "team", 6)
                 self.browser.write("age >= forty")
                 self.browser.wait(lambda: self.browser.all("#holds mark"))
-                self.assertLessEqual(self.browser.run("return document.documentElement.scrollWidth"), width)
-                self.assertEqual(self.browser.run("""return [...document.querySelectorAll('main *')].filter(node =>
-                    !node.closest('.unseen') && node.getBoundingClientRect().right > innerWidth).map(node => node.outerHTML.slice(0, 80))"""), [])
+                self.assertEqual(self.browser.too_wide(width), [])
                 self.assertEqual(self.browser.run(CONTRAST), [])
                 self.picture(f"{width}{'dark' if dark else 'light'}")
 

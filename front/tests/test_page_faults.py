@@ -159,6 +159,29 @@ class Scripted(OneTable):
         self.draw("sum pay", "age", 2)
         self.assertEqual([question["where"] for question in self.door.questions("sum")], ["age < 1", "age >= 1"])
 
+    def test_long_names_and_numbers_fit_360_pixels(self):
+        name, value = "a" * 32, "x" * 120
+        columns = [{"name": name, "is": "text"}, {"name": "pay", "is": "sum"}]
+        notes = {"title": "T" * 100, "columns": {"pay": {"title": "Very " * 20, "decimals": 2, "unit": "EUR per month"}}}
+        self.browser.screen(360)
+        self.open('{"sum":-1024000000000000}', {"schema.json": json.dumps({"columns": columns}), "notes.json": json.dumps(notes),
+                                                "table.csv": f"{name}\n{value}\n{value}y\n"})
+        self.browser.click("#add")
+        self.browser.choose("li select[aria-label=comparison]", "in")
+        self.browser.ask()
+        self.draw("sum pay", name, 2)
+        self.assertEqual(self.browser.too_wide(360), [])
+
+    def test_what_is_typed_keeps_its_sign_and_its_decimals(self):
+        self.open('{"sum":500}', {"notes.json": '{"columns":{"age":{"decimals":2}}}'})
+        self.browser.click("#add")
+        self.browser.choose("#parts select", "age")
+        field = self.browser.find("#parts input")
+        for typed, due in (("-1.5", "-150"), ("-0.05", "-5"), ("0.07", "7"), ("12", "1200"), ("-0", "0"), ("1.234", "1.234"), ("1,5", "1,5"), ("x", "x")):
+            field.clear()
+            field.send_keys(typed)
+            self.assertEqual(self.browser.find("#where").get_property("value"), "age = " + due)
+
     def test_a_spoilt_history_of_the_browser_is_passed_over(self):
         self.open('{"sum":500}')
         entries = '[null, {"question": {"ask": "drop", "where": ""}, "text": "x"}, {"question": {"ask": "sum", "where": 4}, "text": "x"}]'
