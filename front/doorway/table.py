@@ -200,19 +200,6 @@ class Table:
             for question in self.pending.values():
                 question.fail(turned, since)
 
-    async def _sleep(self, pause):
-        try:
-            await asyncio.wait_for(self.closing.wait(), pause)
-        except asyncio.TimeoutError:
-            pass
-
-    def _give_up(self, fault, left):
-        """Tells those who wait. The questions that are left are asked again all the same."""
-        self.state = f"stopped: {fault}"
-        for question in [*left, *self.queue]:
-            question.fail(f"{fault}. The question may be answered: ask again later")
-        self.queue.clear()
-
     def stop(self):
         self.closing.set()
         self.wake.set()
