@@ -85,6 +85,8 @@ class Door:
     def __init__(self, url, headers=None, timeout=90, patience=10):
         self.headers, self.patience, self.connection = dict(headers or {}), patience, None
         parts = urllib.parse.urlsplit(url)
+        if "@" in parts.netloc:
+            raise ValueError("a login goes into a header, as Authorization, and not into the address")
         if parts.scheme == "unix":
             path = url.removeprefix("unix:")
             self.base, self.open = "/", lambda: UnixConnection(path, timeout)
@@ -151,7 +153,7 @@ def parsed(name, text):
 
 
 def within(where, part):
-    """The condition that both hold."""
+    """The condition of a group within another, as the page writes it, too: the same question asked again makes no record."""
     return part if where.strip() == "all" else f"({where}) and {part}"
 
 

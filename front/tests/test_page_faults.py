@@ -77,8 +77,10 @@ class Scripted(OneTable):
 
     def test_what_the_door_withholds_is_hatched_and_the_others_go_on(self):
         self.open(lambda _, question: (422, '{"error":"fewer than 5 rows"}') if "= 'A'" in question["where"] else (200, '{"sum":700}'))
+        self.browser.write("age > 1 or age < 0")
         self.draw("sum pay", "constructor", 2)
         self.assertEqual(self.bars(), [["A", "fewer than 5 rows", "hatched"], ['B, "x"', "7.00 EUR", "bar"]])
+        self.assertEqual(self.door.questions("sum")[0]["where"], "(age > 1 or age < 0) and constructor = 'A'")
         self.browser.driver.get_log("browser")                  # the browser's own line on a status of 422
 
     def test_a_count_has_no_column_and_each_kind_its_own(self):
