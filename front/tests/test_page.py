@@ -244,6 +244,7 @@ class OverTheProgram(PageCase):
         for row, by in due[:12]:
             self.assertIn(f"row {row} {by:+,}", said)
         self.assertIn("every total and average that was answered stays as it is", said)
+        self.assertRegex(self.browser.text("free-summary"), r"after \d+ answers?, \d+ \w+ 20\d\d, \d\d:\d\d\.")
         squares[417].click()
         high = next(line["high"][17] for line in lines if line.get("column") == "bonus" and "high" in line)
         said = self.browser.find("#free details:nth-child(3) [role=status]").text

@@ -91,6 +91,7 @@ class Scripted(OneTable):
             shown[kind] = [one.text for one in self.browser.all("#column option")] if self.browser.find("#of").is_displayed() else None
         self.assertEqual(shown, {"count": None, "sum": ["pay"], "max": ["best"]})
         self.assertFalse(self.browser.find("#table-choice").is_displayed())
+        self.assertFalse(self.browser.find("#parts-note").is_displayed())
 
     def test_a_busy_door_is_asked_again(self):
         said = iter([(503, '{"error":"too many wait"}'), (503, '{"error":"too many wait"}')])
@@ -155,6 +156,13 @@ class Scripted(OneTable):
         self.browser.driver.get(self.door.url)
         self.browser.wait(lambda: self.browser.text("state") == "notes.json isn't JSON.")
 
+    def test_of_many_groups_the_largest_are_drawn_and_that_is_said(self):
+        rows = "constructor,age\nrare,0\n" + "".join(f"team {number},1\nteam {number},2\n" for number in range(39))
+        self.open('{"sum":500}', {"table.csv": rows})
+        self.assertEqual(self.browser.text("chart-hint"), "Draw asks 30 questions, one for each group (the 30 largest of 40 groups).")
+        self.draw("sum pay", "constructor", 30)
+        self.assertNotIn("rare", [label for label, _, _ in self.bars()])
+
     def test_ranges_of_a_number_that_most_rows_share(self):
         rows = "constructor,age\n" + "A,0\n" * 500 + "".join(f"A,{age}\n" for age in range(1, 14))
         self.open('{"sum":500}', {"table.csv": rows})
@@ -179,7 +187,8 @@ class Scripted(OneTable):
         self.browser.click("#add")
         self.browser.choose("#parts select", "age")
         field = self.browser.find("#parts input")
-        for typed, due in (("-1.5", "-150"), ("-0.05", "-5"), ("0.07", "7"), ("12", "1200"), ("-0", "0"), ("1.234", "1.234"), ("1,5", "1,5"), ("x", "x")):
+        cases = [("-1.5", "-150"), ("-0.05", "-5"), ("0.07", "7"), ("12", "1200"), ("-0", "0"), ("1.234", "1.234"), ("1,5", "1,5"), ("x", "x")]
+        for typed, due in cases:
             field.clear()
             field.send_keys(typed)
             self.assertEqual(self.browser.find("#where").get_property("value"), "age = " + due)
