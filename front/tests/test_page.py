@@ -382,5 +382,40 @@ class OverTheProgram(PageCase):
         self.browser.driver.get_log("browser")                  # the policy's own complaint
 
 
+class SeveralTables(PageCase):
+    """Two tables of one office, by site, behind one door, and the page at the address of one of them."""
+
+    @classmethod
+    def setUpClass(cls):
+        super().setUpClass()
+        cls.rows = staff.people()
+        cls.parts = {"north": [row for row in cls.rows if row.site != "York"], "york": [row for row in cls.rows if row.site == "York"]}
+        cls.office = staff.Office({name: (staff.COLUMNS, part, staff.PUBLIC, staff.NOTES) for name, part in cls.parts.items()})
+        cls.addClassCleanup(cls.office.close)
+        cls.office.ready(lambda: cls.office.get("health"))
+
+    def test_a_total_is_that_of_all_parts(self):
+        self.browser.open(self.office.url)
+        said = self.browser.ask()
+        self.answers(f"{sum(row.salary for row in self.rows) / 100:,.2f} EUR")
+        self.assertIn(f"york: {sum(row.salary for row in self.parts['york']) / 100:,.2f} EUR", said)
+
+    def test_the_part_that_wouldnt_answer_is_named_and_none_is_asked(self):
+        single = next(age for age in range(19, 66) if [row.age for row in self.parts["york"]].count(age) == 1)
+        self.browser.open(self.office.url)
+        before = [self.office.get(name + "/transcript.jsonl") for name in self.parts]
+        self.browser.write(f"age = {single} or site != 'York'")
+        self.assertIn("york: not answered", self.browser.ask())
+        self.assertEqual(self.browser.find("#answer .verdict").text, "Not answered")
+        self.assertEqual([self.office.get(name + "/transcript.jsonl") for name in self.parts], before)
+
+    def test_the_address_of_one_table_has_its_page(self):
+        self.browser.open(self.office.url + "/york")
+        self.assertIn(f"of {len(self.parts['york'])} rows", self.browser.text("holds"))
+        self.browser.click("#kinds label:nth-child(4)")
+        self.browser.ask()
+        self.answers(f"{max(row.bonus for row in self.parts['york']) / 100:,.2f} EUR")
+
+
 if __name__ == "__main__":
     unittest.main()
