@@ -182,7 +182,7 @@ def application(page, words, tables, hosts):
     for name, handlers in tables.items():
         routes |= handlers.routes(f"/{name}" if name else "")
     routes |= RootHandlers(page, words, tables).routes()
-    app = web.Application(client_max_size=LONGEST + 2)
+    app = web.Application(client_max_size=LONGEST + 3)      # a body as long as that is refused
     for (method, path), handler in routes.items():
         app.router.add_route(method, path, guarded(handler, hosts))
     app.router.add_route("*", "/{rest:.*}", guarded(unknown({path for _, path in routes}), hosts))

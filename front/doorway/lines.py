@@ -12,6 +12,7 @@ HISTORY = 65_536                    # records that a journal holds
 RELEASED = (b'{"sum"', b'{"num"', b'{"max"')
 DECIDED = RELEASED + (b'{"denied"',)
 DECISION = re.compile(rb'\{"(?:sum|max)":-?\d+\}|\{"num":-?\d+,"den":\d+\}|\{"denied":"(?:unsafe|wide)"\}')
+UNDECIDED = re.compile(rb'\{"count":\d+\}|\{"refused":"[a-z]+"(?:,"at":\d+)?\}')
 
 # Which questions a reply may belong to. A refusal may belong to any.
 ASKED_OF = {
@@ -62,7 +63,9 @@ def read_question(line):
 
 def fits(line, reply):
     """Whether a reply has the form of a reply to this question. That it is the right one can't be seen."""
-    form = reply[:max(reply.find(b":"), 0)]
+    if not DECISION.fullmatch(reply) and not UNDECIDED.fullmatch(reply):
+        return False
+    form = reply[:reply.find(b":")]
     if form == b'{"refused"':
         return True
     question = read_question(line)

@@ -17,7 +17,7 @@ HERE = pathlib.Path(__file__).resolve().parent
 AT_ONCE = max(2, min(4, os.cpu_count() or 2))
 PATIENCE = 300                      # seconds for a class
 # What may be missing; everything else must run.
-MAY_BE_MISSING = ("Chromium", "R ", "Rscript", "pandas")
+MAY_BE_MISSING = ("no Chromium", "no R ")
 
 
 def classes():

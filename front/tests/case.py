@@ -49,10 +49,10 @@ class DoorCase(unittest.IsolatedAsyncioTestCase):
         except (aiohttp.ClientError, OSError):
             return False
 
-    def check_told(self):
+    def check_told(self, torn=False):
         """Each reply is that of the asker's own question, by the rows; each that was decided is in the transcript, and
         each answer on a secret in the journal."""
-        pairs, journal = set(self.folder.transcript()), set(self.folder.journal())
+        pairs, journal = set(self.folder.transcript(torn)), set(self.folder.journal())
         for (kind, low, high), line, body in self.told:
             reply = json.loads(body)
             if kind == "count" or "denied" not in reply:

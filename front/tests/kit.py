@@ -95,10 +95,10 @@ class Folder:
             at += count * size
         return records
 
-    def transcript(self):
-        """The pairs, as bytes."""
+    def transcript(self, torn=False):
+        """The pairs, as bytes. Of a torn one, those that are whole."""
         lines = (self.public / "transcript.jsonl").read_bytes().split(b"\n")
-        assert lines.pop() == b"" and len(lines) % 2 == 0
+        assert lines.pop() == b"" and len(lines) % 2 == 0 or torn
         return list(zip(lines[::2], lines[1::2]))
 
     def simulate(self):

@@ -125,6 +125,9 @@ class OfAnotherUser(Doors):
             await self.door.ready(session)
             await self.client(session, 0, 5)
             owner = pathlib.Path(f"/proc/{self.door.process.pid}").stat().st_uid
+            end = time.monotonic() + 30
+            while not (self.folder.public / "report.jsonl").exists() and time.monotonic() < end:
+                await asyncio.sleep(0.05)
         self.assertEqual(owner, NOBODY)
         self.assertEqual(self.door.stop(), 0)
         self.assertTrue((self.folder.public / "report.jsonl").exists())

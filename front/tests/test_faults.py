@@ -41,7 +41,7 @@ class Faults(DoorCase):
                     break
             await self.ends()
             self.assertIn("transcript.jsonl: ", self.folder.said())
-            self.check_told()
+            self.check_told(torn=True)
             self.door.start()
             await self.door.ready(session)
             await self.client(session, 1, 10)
@@ -70,12 +70,12 @@ class Faults(DoorCase):
         self.assertEqual(self.door.stop(), 0)
         for name in ("table.csv", "schema.json"):
             path = self.folder.public / name
-            text = path.read_text()
-            path.write_text(text.replace("QA", "AQ") if name == "table.csv" else text + " ")
+            text = path.read_bytes()
+            path.write_bytes(text.replace(b"QA", b"AQ") if name == "table.csv" else text + b" ")
             self.door.start()
             await self.ends()
             self.assertIn("isn't the one that transcript.jsonl was made over", self.folder.said())
-            path.write_text(text)
+            path.write_bytes(text)
         self.door.start()
         async with self.door.session() as session:
             await self.door.ready(session)

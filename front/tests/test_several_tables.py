@@ -1,7 +1,6 @@
 """Several tables behind one door: each has its own program, its own journal and its own transcript."""
 import asyncio
 import json
-import os
 import pathlib
 import random
 import shutil
@@ -124,7 +123,7 @@ class Tables(unittest.IsolatedAsyncioTestCase):
                 self.assertEqual(response.status, 503)
             status, said = await self.total(session, line_of("sum", 0, 50))
             self.assertEqual((said["total"], said["without"]), (None, ["south"]))
-            os.remove(self.office.path / "south" / "answers.journal")
+            (self.office.path / "south" / "answers.journal").unlink(missing_ok=True)
             (self.office.path / "put-away").rename(self.office.path / "south" / "answers.journal")
             await self.door.ready(session)
         self.assertEqual(self.door.stop(), 0)
