@@ -93,6 +93,13 @@ class Scripted(OneTable):
         self.assertFalse(self.browser.find("#table-choice").is_displayed())
         self.assertFalse(self.browser.find("#parts-note").is_displayed())
 
+    def test_bars_are_as_long_as_their_numbers_on_either_side_of_zero(self):
+        pay = {"30": -100, "40": 300, "50": 0}
+        self.open(lambda _, question: (200, json.dumps({"sum": pay[question["where"][-2:]]})))
+        self.draw("sum pay", "age", 3)
+        places = self.browser.run("""return [...document.querySelectorAll('.bar')].map(bar => [bar.style.left, bar.style.width])""")
+        self.assertEqual(places, [["0%", "25%"], ["25%", "75%"], ["25%", "0%"]])
+
     def test_a_busy_door_is_asked_again(self):
         said = iter([(503, '{"error":"too many wait"}'), (503, '{"error":"too many wait"}')])
         self.open("")
