@@ -13,7 +13,7 @@ try:
 except ImportError:
     webdriver = None
 
-MISSING = "skipped: no Chromium here (apt-get install --no-install-recommends chromium chromium-driver python3-selenium)"
+MISSING = "no Chromium here (apt-get install --no-install-recommends chromium chromium-driver python3-selenium)"
 
 
 class Browser:
@@ -21,7 +21,7 @@ class Browser:
 
     def __init__(self):
         if webdriver is None or not shutil.which("chromedriver") or not shutil.which("chromium"):
-            print(MISSING, flush=True)
+            print("skipped:", MISSING, flush=True)
             raise unittest.SkipTest(MISSING)
         self.profile = tempfile.mkdtemp(prefix="page-browser-")
         options = webdriver.ChromeOptions()

@@ -20,15 +20,15 @@ CLIENTS = pathlib.Path(__file__).resolve().parent.parent / "clients"
 sys.path.insert(0, str(CLIENTS))
 import auditor                              # noqa: E402, it is found by the line above
 
-NO_R = "skipped: no R here (apt-get install --no-install-recommends r-base-core r-cran-jsonlite r-cran-curl)"
-NO_PANDAS = "skipped: no pandas here (apt-get install --no-install-recommends python3-pandas)"
+NO_R = "no R here (apt-get install --no-install-recommends r-base-core r-cran-jsonlite r-cran-curl)"
+NO_PANDAS = "no pandas here (apt-get install --no-install-recommends python3-pandas)"
 COLUMNS = {"team": "text", "age": "number", "pay": "sum", "best": "max"}
 
 
 def missing(condition, line):
     """A skip that says so where the whole run's output shows it."""
     if condition:
-        print(line, flush=True)
+        print("skipped:", line, flush=True)
     return unittest.skipIf(condition, line)
 
 
