@@ -85,13 +85,14 @@ class Folder:
         data = (self.path / "answers.journal").read_bytes()
         assert data[0] == 1 and data[1:8] == b"SQAJRNL" and data[8] == 1
         rows = int.from_bytes(data[9:11], "big")
-        size, at, records = 9 + (rows + 7) // 8, 20, []
+        size, at, records, sets = 9 + (rows + 7) // 8, 20, [], {}
         while data[at] == 1:
             count, at = data[at + 1], at + 2
             for record in (data[at + number * size:at + (number + 1) * size] for number in range(count)):
-                bits = int.from_bytes(record[9:], "little")
-                records.append((record[0], frozenset(row for row in range(rows) if bits >> row & 1),
-                                int.from_bytes(record[1:9], "big", signed=True)))
+                if record[9:] not in sets:
+                    bits = int.from_bytes(record[9:], "little")
+                    sets[record[9:]] = frozenset(row for row in range(rows) if bits >> row & 1)
+                records.append((record[0], sets[record[9:]], int.from_bytes(record[1:9], "big", signed=True)))
             at += count * size
         return records
 

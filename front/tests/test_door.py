@@ -14,7 +14,7 @@ from kit import AUDITOR, NOBODY, SEED, Door, health
 
 
 class Doors(DoorCase):
-    clients, questions, kills = 64, 30, 20
+    clients, questions, kills = 64, 30, 12
 
     async def test_each_asker_gets_its_own_reply(self):
         self.door.start()
@@ -66,23 +66,23 @@ class Doors(DoorCase):
 
 class ShortRuns(Doors):
     """The same, with an end of the program's input after each few groups."""
-    words, clients, questions, kills = ("--run-limit", 3000), 24, 16, 8
+    words, clients, questions, kills = ("--run-limit", 3000), 16, 12, 6
 
 
 class OneByOne(Doors):
     """The same, with a program that answers each line alone."""
-    words, clients, questions, kills = ("--batch", 1), 24, 16, 8
+    words, clients, questions, kills = ("--batch", 1), 16, 12, 6
 
 
 class WithReports(Doors):
     """The same, with a report in each rest."""
-    words, clients, questions, kills = ("--report-every", 0.005), 12, 16, 8
+    words, clients, questions, kills = ("--report-every", 0.01), 8, 12, 5
 
 
 @unittest.skipUnless(shutil.which("socat") and os.geteuid() == 0, "socat and root are wanted")
 class OfAnotherUser(Doors):
     """The same, with the program on the other side of sockets, and a door that may read neither table nor journal."""
-    clients, questions, kills = 24, 16, 8
+    clients, questions, kills = 16, 12, 6
 
     def make_door(self):
         for path in (self.folder.path, self.folder.public):

@@ -13,15 +13,15 @@ class Lies(DoorCase):
     def make_door(self):
         return Door(self.folder, "--group-patience", 2, auditor=str(HERE / "liar.py"))
 
-    async def lied_to(self, lie, every=4):
+    async def lied_to(self, lie, every=2):
         os.environ.update(LIE=lie, LIE_EVERY=str(every))
         self.door.start()
         async with self.door.session() as session:
             await self.door.ready(session)
-            await asyncio.gather(*(self.client(session, number, 8, patient=True) for number in range(24)))
+            await asyncio.gather(*(self.client(session, number, 5, patient=True) for number in range(16)))
             said = await health(session)
         self.assertGreater(said["restarts"], 0, lie)
-        self.assertEqual(len(self.told), 24 * 8)
+        self.assertEqual(len(self.told), 16 * 5)
         self.assertEqual(self.door.stop(), 0)
         self.check_all()
 

@@ -77,7 +77,7 @@ def parts_of(call):
     if call[0] == "truncate":
         return [call]
     _, text, at = call
-    fronts = [text[:size] for size in range(1, len(text), max(len(text) // 12, 1))]
+    fronts = [text[:size] for size in range(1, len(text), max(len(text) // 9, 1))]
     zeroed = [front + bytes(len(text) - len(front)) for front in fronts]
     backs = [bytes(len(front)) + text[len(front):] for front in fronts]
     holes = [front + b"\0" + text[len(front) + 1:] for front in fronts]
@@ -160,7 +160,7 @@ class PowerCuts(unittest.TestCase):
         for contents, told, sent in first.images():
             self.check(contents, told, sent)
             images += 1
-            if images % 60 == 0:
+            if images % 80 == 0:
                 images += self.cut_again(contents, told, first.number, chance)
         self.assertGreater(images, 1000)
         print(f"test_power: {images} images of the two files", file=sys.stderr)

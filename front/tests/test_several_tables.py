@@ -1,5 +1,7 @@
 """Several tables behind one door: each has its own program, its own journal and its own transcript."""
 import asyncio
+import contextlib
+import io
 import json
 import pathlib
 import random
@@ -10,7 +12,10 @@ import sys
 import tempfile
 import unittest
 
-from kit import AUDITOR, DOOR, SEED, Door, Folder, ask, health, line_of
+from kit import DOOR, FRONT, SEED, Door, Folder, ask, health, line_of
+
+sys.path.insert(0, str(FRONT))
+from doorway import settings  # noqa: E402
 
 NAMES = ("north", "south", "west")
 
@@ -151,9 +156,11 @@ class Arguments(unittest.TestCase):
     """Wrong arguments end with status 2 and say what is wrong, before anything is opened."""
 
     def refused(self, *words):
-        run = subprocess.run([sys.executable, str(DOOR), *words], capture_output=True, text=True)
-        self.assertEqual(run.returncode, 2, words)
-        return run.stderr.strip().rsplit("\n", 1)[-1]
+        said = io.StringIO()
+        with contextlib.redirect_stderr(said), self.assertRaises(SystemExit) as end:
+            settings.read(words)
+        self.assertEqual(end.exception.code, 2, words)
+        return said.getvalue().strip().rsplit("\n", 1)[-1]
 
     def test_wrong_arguments_are_named(self):
         for words, text in [
