@@ -108,6 +108,10 @@ def is_count(line):
     return reply_of(line).startswith(b'{"count"')
 
 
+def is_torn(text):
+    return b"\0" in text or not text.endswith(b"\n")
+
+
 class Play:
     """Questions through a transcript on a Disk, with what was told and what was with the program at each moment."""
 
@@ -155,12 +159,13 @@ class Play:
 class PowerCuts(unittest.TestCase):
     def test_what_was_told_is_there_after_a_power_cut_at_any_call(self):
         chance = random.Random(SEED)
-        first, images = Play({name: b"" for name in FILES}, 0), 0
+        first, images, torn = Play({name: b"" for name in FILES}, 0), 0, 0
         first.groups((1, 3, 2, 5, 1, 4), chance)
         for contents, told, sent in first.images():
             self.check(contents, told, sent)
             images += 1
-            if images % 80 == 0:
+            torn += is_torn(contents["transcript.jsonl"])
+            if torn % 10 == 1 and is_torn(contents["transcript.jsonl"]) or images % 200 == 0:
                 images += self.cut_again(contents, told, first.number, chance)
         self.assertGreater(images, 1000)
         print(f"test_power: {images} images of the two files", file=sys.stderr)
