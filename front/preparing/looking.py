@@ -1,0 +1,144 @@
+"""`look`: says what a CSV file has in it, and writes down what a person has to decide."""
+
+import collections
+import pathlib
+
+from . import choices as choosing
+from .cells import FORMS, forms_of, is_missing, unit_of, without_unit
+from .faults import Fault, counted, shown
+from .names import names_of
+from .reading import choose_layout, decode, encoding_of, load, read_rows, without_separator_line
+from .splitting import MOST_ROWS, say_splits
+
+
+
+
+def look(path, encoding=None, separator=None, untitled=None):
+    """Prints what the file is and each of its columns, and writes FILE.choices.json beside it."""
+    out = pathlib.Path(path).with_suffix(".choices.json")
+    if out.exists():
+        raise Fault(f"{out} is already there: go on with it, or remove it to look anew")
+    data = load(path)
+    found, said = encoding_of(data) if encoding is None else (encoding, f"{encoding}, as you say")
+    text, named = without_separator_line(decode(data, found))
+    layout = choose_layout(text, separator or named, untitled)
+    table = read_rows(text, layout)
+    print(f"encoding: {said}")
+    print(f"separator: {layout.separator}" + (", by the file's first line" if named else ""))
+    if layout.untitled != "none":
+        print(f"the header has a title fewer than a row has cells, as R's write.table does it: the {layout.untitled} column has none")
+    print(f"rows: {len(table.rows):,}" + (f"; {counted(table.empty, 'line')} with nothing in it passed over" if table.empty else ""))
+    columns = describe_all(table)
+    if len(table.rows) > MOST_ROWS:
+        say_splits([column["name"] for column in columns], list(zip(*(cells for _, cells in table.rows))))
+    choices = {"encoding": found, "separator": layout.separator, "untitled": layout.untitled, "split by": None, "wave": None,
+               "protect": choosing.OPEN, "columns": columns}
+    choosing.write(out, choices, fresh=True)
+    say_next(out, choices)
+
+
+def describe_all(table):
+    """The choices on each column, printed as they are made."""
+    columns = []
+    for place, (title, name) in enumerate(zip(table.titles, names_of(table.titles))):
+        column = describe(title, name, [cells[place].strip() for _, cells in table.rows])
+        columns.append(column)
+        print(f"  {shown(title)}" + (f", to be named {name}" if name != title else "") + f": {column['seen']}")
+    return columns
+
+
+def describe(title, name, cells):
+    """What one column could be. `is` is open, since whether a column is secret can't be seen in its cells."""
+    there = [cell for cell in cells if not is_missing(cell)]
+    column = {"from": title, "seen": "", "name": name, "is": choosing.OPEN, "written as": None, "unit": None, "decimals": None,
+              "rounded": None, "missing is": None, "missing": None}
+    if not there:
+        column["is"] = "leave out"
+        column["seen"] = "nothing stands in it, so it is left out"
+        return column
+    seen = [f"{len(set(there)):,} different"] + number_words(column, sorted(set(there))) + text_words(there)
+    gaps = collections.Counter(cell for cell in cells if is_missing(cell))
+    if gaps:
+        column["missing is"], column["missing"] = sorted(gaps), choosing.OPEN
+        seen.append("missing, or so it seems, where it says " + ", ".join(f"{shown(cell)} ({number:,})" for cell, number in sorted(gaps.items())))
+    if len(set(cells)) == len(cells) > 1:
+        seen.append("every row has its own value")
+    column["seen"] = "; ".join(seen)
+    return column
+
+
+def number_words(column, cells):
+    """Sets how the column's numbers are written, if most of its cells are numbers or dates, and says so."""
+    unit = unit_of(cells)
+    bare = [without_unit(cell, unit) for cell in cells]
+    names, others = forms_of_most(bare)
+    if not names:
+        return ["text"]
+    words = [f"{FORMS[names[0]].kind}s"] + ([f"but {counted(len(others), 'value')} not, as {shown(others[0])}"] if others else [])
+    column["unit"] = unit or None
+    if len(names) > 1:
+        column["written as"] = choosing.OPEN
+        example = next(cell for cell in bare if len({FORMS[name].read(cell) for name in names}) > 1)
+        ways = ", or ".join(f"{plain_number(FORMS[name].read(example))} (written as {name})" for name in names)
+        words.append(f"but {shown(example)} may be {ways}")
+    else:
+        column["written as"] = names[0]
+    set_decimals(column, [cell for cell in bare if cell not in others], names, words)
+    return words + [f"with the unit {unit}"] * bool(unit)
+
+
+def set_decimals(column, cells, names, words):
+    """Keeps as many decimals as the cells are written with; they are open as long as the form is."""
+    decimals = [max(FORMS[name].decimals(cell) for cell in cells) for name in names]
+    if max(decimals) == 0:
+        return
+    column["decimals"] = decimals[0] if len(names) == 1 else choosing.OPEN
+    if len(names) == 1:
+        words.append(f"with {counted(decimals[0], 'decimal')}, kept in steps of {step(decimals[0])}")
+    if max(decimals) > choosing.MOST_DECIMALS:
+        words.append(f"more decimals than the {choosing.MOST_DECIMALS} that can be kept")
+
+
+def forms_of_most(cells):
+    """The forms of all cells; or those of the cells that have one, if these are most, with the cells that have none."""
+    names = forms_of(cells)
+    if names:
+        return names, []
+    others = [cell for cell in cells if not any(form.read(cell) is not None for form in FORMS.values())]
+    if not others or len(others) * 2 >= len(cells):
+        return [], []
+    strange = set(others)
+    return forms_of([cell for cell in cells if cell not in strange]), others
+
+
+def text_words(cells):
+    """What a number would lose, and some examples."""
+    words = []
+    if any(len(cell) > 1 and cell[0] == "0" and cell.isdigit() for cell in cells):
+        words.append("zeros at the front, which text keeps and a number loses")
+    return words + ["such as " + ", ".join(shown(cell, 24) for cell in list(dict.fromkeys(cells))[:3])]
+
+
+def plain_number(number):
+    """A number of finitely many decimals, exactly."""
+    whole, decimals = number, 0
+    while whole.denominator != 1:
+        whole, decimals = whole * 10, decimals + 1
+    digits = str(abs(whole.numerator)).rjust(decimals + 1, "0")
+    sign = "-" if number < 0 else ""
+    return sign + (f"{digits[:-decimals]}.{digits[-decimals:]}" if decimals else digits)
+
+
+def step(decimals):
+    """The unit in which numbers of so many decimals are whole: 0.01 for two."""
+    return "1" if decimals == 0 else "0." + "0" * (decimals - 1) + "1"
+
+
+def say_next(out, choices):
+    """What is open, and how it is closed."""
+    print(f"written: {out}, with a ? for each choice that is yours: " + ", ".join(choosing.open_choices(choices)))
+    print(f"A column is one of: {', '.join(choosing.KINDS)}. text and number are public: anyone who asks can learn every cell.")
+    print("sum and max are secret whole numbers, to be asked for totals and averages, or for the greatest.")
+    print("\"missing\" is one of: drop the row; keep (text, as it stands); mark (number: 0, and a column of 0 and 1 beside it).")
+    print("\"protect\" names totals that must stay open, or none: choose protect=none, or protect=\"salary where dept = 'QA'\".")
+    print(f"Go on with an editor, or with: prepare.py choose {out} NAME=KIND .. others=\"leave out\"")
