@@ -59,12 +59,10 @@ def run(words):
     return 0
 
 
-def main():
-    """Runs the words; what can't be done ends with a sentence and status 1."""
-    for stream in (sys.stdout, sys.stderr):
-        stream.reconfigure(errors="backslashreplace")
+def main(words):
+    """Does what the words say; what can't be done ends with a sentence and status 1."""
     try:
-        return run(sys.argv[1:])
+        return run(words)
     except (Fault, OSError) as fault:
         print(f"prepare: {fault}", file=sys.stderr)
     except MemoryError:
@@ -75,4 +73,6 @@ def main():
 
 
 if __name__ == "__main__":
-    sys.exit(main())
+    for stream in (sys.stdout, sys.stderr):
+        stream.reconfigure(errors="backslashreplace")
+    sys.exit(main(sys.argv[1:]))

@@ -34,8 +34,10 @@ def name_by_steps(choices):
 
 
 def set_choice(choices, key, value):
-    """Sets one choice; those of every column that is still open are `others` and `missing`."""
-    if key == "others":
+    """Sets one choice; those of every column that is still open are `others` and `missing`. A column may be called as a choice is."""
+    if value in KINDS and any(column["name"] == key for column in choices["columns"]):
+        set_column(column_named(choices, key), "is", value)
+    elif key == "others":
         for column in choices["columns"]:
             if column["is"] == OPEN:
                 set_column(column, "is", value)
@@ -66,7 +68,7 @@ def set_column(column, key, value):
     if key not in COLUMN_KEYS or key in ("from", "seen"):
         raise Fault(f"{shown(key)} isn't a choice of a column: there are is, name, written as, unit, decimals, rounded, missing is, missing")
     if key in allowed and value not in allowed[key]:
-        raise Fault(f"{column['name']}.{key} can't be {shown(value)}: it is one of {', '.join(allowed[key])}")
+        raise Fault(f"{column['name']}{'' if key == 'is' else '.' + key} can't be {shown(value)}: it is one of {', '.join(allowed[key])}")
     column[key] = from_words(key, value, COLUMN_KEYS[key])
     if key == "written as" and column["decimals"] == OPEN:
         column["decimals"] = decimals_of(column)

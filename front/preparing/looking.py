@@ -56,7 +56,7 @@ def describe(title, name, cells):
         column["is"] = "leave out"
         column["seen"] = "nothing stands in it, so it is left out"
         return column
-    seen = [f"{len(set(there)):,} different"] + number_words(column, sorted(set(there))) + text_words(there)
+    seen = [f"{len(set(there)):,} different"] + number_words(column, collections.Counter(there)) + text_words(there)
     gaps = collections.Counter(cell for cell in cells if is_missing(cell))
     if gaps:
         column["missing is"], column["missing"] = sorted(gaps), choosing.OPEN
@@ -67,24 +67,28 @@ def describe(title, name, cells):
     return column
 
 
-def number_words(column, cells):
-    """Sets how the column's numbers are written, if most of its cells are numbers or dates, and says so."""
-    unit = unit_of(cells)
-    bare = [without_unit(cell, unit) for cell in cells]
+def number_words(column, numbers):
+    """Sets how the column's numbers are written, if most of its cells are numbers or dates, and says so. `numbers` counts each cell."""
+    unit = unit_of(list(numbers))
+    bare = collections.Counter()
+    for cell, number in sorted(numbers.items()):
+        bare[without_unit(cell, unit)] += number
     names, others = forms_of_most(bare)
     if not names:
         return ["text"]
     words = [f"{FORMS[names[0]].kind}s"] + ([f"but {counted(len(others), 'value')} not, as {shown(others[0])}"] if others else [])
     column["unit"] = unit or None
+    column["written as"] = names[0] if len(names) == 1 else choosing.OPEN
     if len(names) > 1:
-        column["written as"] = choosing.OPEN
-        example = next(cell for cell in bare if len({FORMS[name].read(cell) for name in names}) > 1)
-        ways = ", or ".join(f"{plain_number(FORMS[name].read(example))} (written as {name})" for name in names)
-        words.append(f"but {shown(example)} may be {ways}")
-    else:
-        column["written as"] = names[0]
+        words.append(reading_words(bare, names))
     set_decimals(column, [cell for cell in bare if cell not in others], names, words)
     return words + [f"with the unit {unit}"] * bool(unit)
+
+
+def reading_words(cells, names):
+    """A cell that is another number in another form, and what it would be in each."""
+    example = next(cell for cell in cells if len({FORMS[name].read(cell) for name in names}) > 1)
+    return f"but {shown(example)} may be " + ", or ".join(f"{plain_number(FORMS[name].read(example))} (written as {name})" for name in names)
 
 
 def set_decimals(column, cells, names, words):
@@ -99,16 +103,16 @@ def set_decimals(column, cells, names, words):
         words.append(f"more decimals than the {choosing.MOST_DECIMALS} that can be kept")
 
 
-def forms_of_most(cells):
+def forms_of_most(numbers):
     """The forms of all cells; or those of the cells that have one, if these are most, with the cells that have none."""
-    names = forms_of(cells)
+    names = forms_of(list(numbers))
     if names:
         return names, []
-    others = [cell for cell in cells if not any(form.read(cell) is not None for form in FORMS.values())]
-    if not others or len(others) * 2 >= len(cells):
+    others = [cell for cell in numbers if all(form.read(cell) is None for form in FORMS.values())]
+    if not others or sum(numbers[cell] for cell in others) * 2 >= sum(numbers.values()):
         return [], []
     strange = set(others)
-    return forms_of([cell for cell in cells if cell not in strange]), others
+    return forms_of([cell for cell in numbers if cell not in strange]), others
 
 
 def text_words(cells):
