@@ -21,7 +21,7 @@ import sys
 
 from asking.places import SECRET, Away, place
 from asking.questions import Unclear, parse
-from asking.words import answer_of, number_words, reply_words, verdict_words
+from asking.words import answer_of, number_words, reply_words, step, verdict_words
 
 MOST_GROUPS = 100
 
@@ -84,7 +84,7 @@ def say_columns(there):
         note = there.notes.get(name, {})
         title = note.get("title", name)
         words = [f"secret, to be asked for {'sum and avg' if kind == 'sum' else 'max'}" if kind in SECRET else f"public {kind}"]
-        words += [f"called {title!r}"] * (title != name) + [f"in steps of 0.{'0' * (note['decimals'] - 1)}1"] * bool(note.get("decimals"))
+        words += [f"called {title!r}"] * (title != name) + [f"in steps of {step(note)}"] * bool(note.get("decimals"))
         print(f"  {name:32} " + ", ".join(words + ([f"unit {note['unit']}"] if note.get("unit") else [])))
 
 

@@ -15,7 +15,7 @@ QUOTES = "\"“”„«»‘’`´"
 TOKEN = re.compile(
     r"""(?P<text>'(?:[^']|'')*')|(?P<quoted>["“„«][^"”“»]*["”“»]|[‘`´][^’`´]*[’`´])"""
     r"|(?P<between>[A-Za-z]\w*\s+between\s+(?:'(?:[^']|'')*'|-?\d+)\s+and\s+(?:'(?:[^']|'')*'|-?\d+))"
-    r"|(?P<spelling>==|<>|&&|\|\||=>|=<|[&|≥≤≠])|(?P<not>!(?!=))|(?P<word>[A-Za-z]\w*)|(?P<other>.)", re.IGNORECASE | re.DOTALL)
+    r"|(?P<notin>[A-Za-z]\w*\s+not\s+in\b)|(?P<spelling>==|<>|&&|\|\||=>|=<|[&|≥≤≠])|(?P<not>!(?!=))|(?P<word>[A-Za-z]\w*)|(?P<other>.)", re.IGNORECASE | re.DOTALL)
 
 
 def place_of(condition, at):
@@ -50,6 +50,8 @@ def mended_token(found):
     if found["between"]:
         name, low, high = re.fullmatch(r"(\w+)\s+between\s+(.+?)\s+and\s+(.+)", token, re.IGNORECASE | re.DOTALL).groups()
         return f"{name} >= {low} and {name} <= {high}"
+    if found["notin"]:
+        return f"not {token.split()[0]} in"
     if found["spelling"]:
         return SPELLINGS[token] if len(SPELLINGS[token]) <= 2 and SPELLINGS[token] != "or" else spaced(found, SPELLINGS[token])
     if found["not"]:
@@ -129,7 +131,7 @@ def word_words(before, rest, kinds, decimals):
     if lower in ("like", "is", "contains", "null"):
         return f"{lower} isn't known: a text is compared as a whole, by =, != or in, and no cell is empty"
     if lower == "not" and column:
-        return f"not stands before what it denies: write not {column} in (..), or {column} != .."
+        return f"not stands before what it denies: write not {column} in (..)"
     if lower in KEYWORDS and word != lower:
         return f"{lower} is written in small letters"
     if kinds.get(word) in SECRET:

@@ -62,7 +62,7 @@ def parse(text, kinds):
 
 def ask_named(word):
     if word in LEAST:
-        raise Unclear(f"{word} can't be asked: there are count, sum, avg and max. For the least, a column is kept as its negation, and asked for max")
+        raise Unclear(f"{word} can't be asked: there are count, sum, avg and max")
     if word not in ASKS:
         near = difflib.get_close_matches(word, ASKS, 1)
         raise Unclear(f"{word!r} isn't something to ask" + (f": did you mean {near[0]}?" if near else "; help shows what is"))

@@ -18,6 +18,11 @@ def decimal(number, places):
     return sign + (f"{digits[:-places]}.{digits[-places:]}" if places else digits)
 
 
+def step(note):
+    """The unit in which a column's numbers are whole: 0.01 for two decimals."""
+    return decimal(fractions.Fraction(1, 10 ** (note.get("decimals") or 0)), note.get("decimals") or 0)
+
+
 def number_words(number, note):
     """A number of steps as people read it: whole or with the decimals of its column; a fraction with six more, and exactly beside it."""
     places = note.get("decimals") or 0
@@ -42,17 +47,17 @@ def reply_words(question, reply, kinds, notes):
     if number is not None:
         return number_words(number, notes.get(question.column, {}) if question.ask != "count" else {})
     if "denied" in reply:
-        return "not answered. " + WORDS["denied"].get(reply["denied"], reply["denied"])
+        return "not answered: " + WORDS["denied"].get(reply["denied"], reply["denied"])
     if reply.get("refused") == "where":
         return condition_words(question.where, reply["at"], kinds, notes)
-    return "refused. " + WORDS["refused"].get(reply.get("refused"), f"The program says {json.dumps(reply)}.")
+    return "refused: " + WORDS["refused"].get(reply.get("refused"), f"The program says {json.dumps(reply)}.")
 
 
 def condition_words(condition, at, kinds, notes):
     """Where a condition goes wrong, why, and how it would be written, if that can be told."""
     decimals = {name: note.get("decimals") or 0 for name, note in notes.items()}
     why = hint(condition, at, kinds, decimals)
-    lines = [marked(condition, at), "refused. " + (why[0].upper() + why[1:] + "." if why else WORDS["refused"]["where"])]
+    lines = [marked(condition, at), "refused: " + (why + ("" if why.endswith(("?", ".")) else ".") if why else WORDS["refused"]["where"])]
     better = mended(condition)
     return "\n".join(lines + ([f"Write: {better}"] if better != condition else []))
 

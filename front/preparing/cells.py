@@ -9,6 +9,7 @@ import re
 import unicodedata
 
 LONGEST_NUMBER = 1000
+PLAIN = re.compile(r"[+-]?\d{1,1000}", re.ASCII)
 MISSING = {"", "na", "<na>", "n/a", "#n/a", "nan", "null", "none", "missing", "-", "--", ".", "?"}
 BLANKS = dict.fromkeys(map(ord, "\u00a0\u2007\u2009\u202f"), " ") | {0x2212: "-"}
 
@@ -90,12 +91,25 @@ def is_missing(cell):
 
 def forms_of(cells):
     """The forms that every cell has, one for each meaning: forms that read every cell alike count as their first."""
+    if cells and all(PLAIN.fullmatch(cell) for cell in cells):
+        return ["1234"]
     meanings = {}
     for name, form in FORMS.items():
-        numbers = tuple(map(form.read, cells))
-        if cells and None not in numbers:
+        numbers = read_all(form, cells)
+        if numbers:
             meanings.setdefault(numbers, name)
     return list(meanings.values())
+
+
+def read_all(form, cells):
+    """Every cell's number, or None from the first cell on that the form doesn't read."""
+    numbers = []
+    for cell in cells:
+        number = form.read(cell)
+        if number is None:
+            return None
+        numbers.append(number)
+    return tuple(numbers)
 
 
 def unit_parts(cell):

@@ -22,6 +22,7 @@ ROUNDINGS = ("no", "down", "nearest")
 TABLE_KEYS = {"encoding": str, "separator": str, "untitled": str, "split by": list, "wave": int, "protect": list, "columns": list}
 COLUMN_KEYS = {"from": str, "seen": str, "name": str, "is": str, "written as": str, "unit": str, "decimals": int, "rounded": str,
                "missing is": list, "missing": str}
+DECIDED_KEYS = ("is", "written as", "unit", "decimals", "rounded", "missing is", "missing")
 
 
 def read(path):
@@ -75,7 +76,7 @@ def open_choices(choices):
     """What is still to be chosen, as KEY or NAME.KEY, in the words that `choose` takes. A column left out asks no more."""
     found = [key for key in TABLE_KEYS if choices[key] == OPEN]
     for column in choices["columns"]:
-        keys = ("is",) if column["is"] in (OPEN, "leave out") else COLUMN_KEYS
+        keys = ("is",) if column["is"] in (OPEN, "leave out") else DECIDED_KEYS
         found += [column["name"] + ("" if key == "is" else f".{key}") for key in keys if column[key] == OPEN]
     return found
 

@@ -55,7 +55,8 @@ def set_choice(choices, key, value):
 
 
 def column_named(choices, name):
-    found = [column for column in choices["columns"] if name in (column["name"], column["from"])]
+    """The column of that name, or else the one of that title."""
+    found = [column for column in choices["columns"] if name == column["name"]] or [column for column in choices["columns"] if name == column["from"]]
     if len(found) != 1:
         names = ", ".join(column["name"] for column in choices["columns"][:40])
         raise Fault(f"{'no column is' if not found else 'two columns are'} called {shown(name)}; there are {names}")

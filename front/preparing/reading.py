@@ -4,7 +4,6 @@ The encoding and the separator are either given or found out. Where the bytes al
 chosen: a Fault says which ones there are and how to name one.
 """
 
-import collections
 import csv
 import dataclasses
 import io
@@ -14,6 +13,7 @@ from .faults import Fault, counted, listed, shown
 
 MOST_BYTES = 64 * 1024 * 1024
 MOST_COLUMNS = 1024
+LONGEST_TITLE = 1000
 SEPARATORS = {"comma": ",", "semicolon": ";", "tab": "\t", "bar": "|", "blank": " "}
 NAME_OF_MARK = {mark: name for name, mark in SEPARATORS.items()}
 
@@ -56,9 +56,19 @@ def encoding_of(data):
         return "utf-16", "UTF-16, by its first two bytes"
     try:
         data.decode("utf-8")
-    except UnicodeDecodeError:
+    except UnicodeDecodeError as error:
+        need_no_utf_8(data, error.start)
         return "cp1252", "not UTF-8; read as Windows-1252, which has Latin-1 in it. Look at the accents in what follows"
     return "utf-8", "UTF-8"
+
+
+def need_no_utf_8(data, place):
+    """A Fault for bytes that are UTF-8 more often than not: one wrong byte may not change the reading of all the others."""
+    letters = [letter for letter in data.decode("utf-8", errors="replace") if letter > "\x7f"]
+    wrong = letters.count("\ufffd")
+    if wrong * 2 < len(letters):
+        raise Fault(f"byte {place:,} of the file ({data[place]:02x}, hexadecimal) isn't UTF-8, though most letters of the file are: mend it, "
+                    f"or name the file's encoding, as in encoding=cp1252")
 
 
 def decode(data, encoding):
@@ -134,13 +144,15 @@ def layouts(text):
 def uneven_rows(text, separator):
     """A sentence for each row whose number of cells isn't that of the titles."""
     filled = ((number, cells) for number, cells in records(text, separator) if not is_empty(cells))
-    _, header = next(filled)
+    _, header = next(filled, (0, []))
     return [f"row {number:,} has {counted(len(cells), 'cell')} and the header has {len(header):,}"
             for number, cells in filled if len(cells) != len(header)]
 
 
 def why_none_fits(text, faults):
     """A Fault for a text that no separator makes a table of: what goes wrong with the likeliest one."""
+    if not text.strip("\ufeff\r\n \"" + "".join(SEPARATORS.values())):
+        return Fault("nothing stands in the file but separators")
     first_line = text.lstrip("\ufeff\r\n ").split("\n", 1)[0]
     likeliest = max(SEPARATORS, key=lambda name: (first_line.count(SEPARATORS[name]), name != "blank"))
     if SEPARATORS[likeliest] not in first_line:
@@ -161,7 +173,7 @@ def choose_layout(text, separator=None, untitled=None):
         ways = "; ".join(f"separator={layout.separator}" + (f" untitled={layout.untitled}" if layout.untitled != "none" else "") for layout in wanted)
         raise Fault(f"the file can be cut into cells in more than one way. Look again with one of: {ways}")
     if separator is not None:
-        why = faults.get(separator) or listed(uneven_rows(text, separator)) or "the header has one cell"
+        why = faults.get(separator) or listed(uneven_rows(text, separator)) or "there is no header of two cells or more"
         raise Fault(f"with the separator {separator}:\n{why}")
     raise why_none_fits(text, faults)
 
@@ -176,15 +188,23 @@ def read_rows(text, layout):
             header = cells
         else:
             rows.append((number, cells))
-    if header is None:
-        raise Fault("the file has no line with a title")
-    titles = {"none": header, "first": [""] + header, "last": header + [""]}[layout.untitled]
-    if len(titles) > MOST_COLUMNS:
-        raise Fault(f"the header has {len(titles):,} cells, and at most {MOST_COLUMNS:,} are read")
-    uneven = collections.deque(f"row {number:,} has {counted(len(cells), 'cell')} and the header has {len(titles):,}"
-                               for number, cells in rows if len(cells) != len(titles))
+    titles = titles_of(header or [], layout)
+    uneven = [f"row {number:,} has {counted(len(cells), 'cell')} and the header has {len(titles):,}"
+              for number, cells in rows if len(cells) != len(titles)]
     if uneven:
-        raise Fault(listed(list(uneven)))
+        raise Fault(listed(uneven))
     if not rows:
         raise Fault("the file has a header and no row")
-    return Table([title.strip().lstrip("\ufeff") for title in titles], rows, empty)
+    return Table(titles, rows, empty)
+
+
+def titles_of(header, layout):
+    """A title for each column, the empty text for one that has none. Too many, or one that is too long, is a Fault."""
+    titles = {"none": header, "first": [""] + header, "last": header + [""]}[layout.untitled]
+    if not 2 <= len(titles) <= MOST_COLUMNS:
+        raise Fault(f"the header has {counted(len(titles), 'cell')}, and 2 to {MOST_COLUMNS:,} are read")
+    titles = [title.strip().lstrip("\ufeff") for title in titles]
+    long = max(titles, key=len)
+    if len(long) > LONGEST_TITLE:
+        raise Fault(f"a title has {len(long):,} characters, and at most {LONGEST_TITLE:,} are read: {shown(long)}")
+    return titles

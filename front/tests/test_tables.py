@@ -67,7 +67,7 @@ class Round(TableTest):
         for line, reply, (kind, _, condition, number_of) in zip(lines, replies, questions):
             found = printed(reply)
             if found is None:
-                self.assertIn("not answered. Some answer to this question", reply, line)
+                self.assertIn("not answered: Some answer to this question", reply, line)
                 continue
             answered += 1
             numbers = [number_of(row) for row in rows if condition.holds(row)]
