@@ -65,7 +65,8 @@ def make(path, choices_path, folder, program):
     say_changes(choices, columns, table, changes)
     say_parts(tables)
     say_what_is_known(rows, public, secret)
-    print(f"written: {folder}, with the public columns alone in {'each of its folders, in ' if choices['split by'] else ''}public")
+    each = "each folder of " if choices["split by"] else ""
+    print(f"written: {each}{folder}, with the public columns alone in public. Next: auditor init in {each}{folder}, once; then ask.py with it")
 
 
 def read_as_chosen(path, choices):

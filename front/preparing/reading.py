@@ -17,8 +17,6 @@ LONGEST_TITLE = 1000
 SEPARATORS = {"comma": ",", "semicolon": ";", "tab": "\t", "bar": "|", "blank": " "}
 NAME_OF_MARK = {mark: name for name, mark in SEPARATORS.items()}
 
-csv.field_size_limit(MOST_BYTES)
-
 
 @dataclasses.dataclass(frozen=True)
 class Layout:
@@ -97,6 +95,7 @@ def without_separator_line(text):
 def records(text, separator):
     """Each record with its number, from 1. A quote that isn't closed, or closed in the middle of a cell, is a Fault."""
     number = 0
+    csv.field_size_limit(MOST_BYTES)
     reader = csv.reader(io.StringIO(text, newline=""), delimiter=SEPARATORS[separator], strict=True, skipinitialspace=separator != "blank")
     try:
         for number, cells in enumerate(reader, 1):

@@ -199,7 +199,7 @@ class Hostile(TableTest):
                 ("an open quote", b'a,b\n1,2\n3,"4\n5,6\n', "row 3: a quote is opened and never closed"),
                 ("a byte 0", b"a,b\n1,2\n3,\0\n", "line 3 has a byte 0"),
                 ("a title of 20 MB", b"a" * 20_000_000 + b",b\n1,2\n3,4\n", "a title has 20,000,000 characters"),
-                ("a wrong byte", "wörter,zahl\nä,1\nö,2\n".encode() + b"\xff,3\n", "byte 26 of the file (ff, hexadecimal) isn't UTF-8, though most letters"),
+                ("a wrong byte", "wörter,zahl\nä,1\nö,2\n".encode() + b"\xff,3\n", "byte 23 of the file (ff, hexadecimal) isn't UTF-8, though most letters"),
                 ("more than is read", dict(strange_sizes())["more than is read"], "more than 67,108,864 bytes")):
             with self.subTest(name):
                 for path in (self.choices, self.file):
