@@ -514,6 +514,17 @@ class Written(TableTest):
         self.assertIn("is already there", self.make()[1])
         self.assertEqual(list(self.out.iterdir()), [])
 
+    def test_a_folder_that_comes_while_it_writes_isnt_overwritten(self):
+        def comes(folder, program):
+            self.out.mkdir(exist_ok=True)
+            (self.out / "kept").write_text("mine")
+
+        self.look(STAFF)
+        self.choose(*STAFF_KINDS, "protect=none")
+        with mock.patch("preparing.writing.try_program", side_effect=comes):
+            self.assertIn("is already there", self.make()[1])
+        self.assertEqual(self.names(), ["out", "out/kept", "t.choices.json", "t.csv"])
+
     def test_blanks_around_a_text_go_and_are_counted(self):
         said = self.made("team,pay\n A ,5\nB,7\n", "team=text", "pay=sum")
         self.assertIn("1 cell without the blanks around it", said)
