@@ -11,8 +11,8 @@
     columns                                 what there is to ask about
     help                                    this
 
-Without questions they are read from the terminal until its end. The status is 0 if every question was answered, 1 if one wasn't, and 2
-if the arguments aren't these. Whatever is said here of a denial follows from the program's reply alone.
+Without questions they are read from the terminal until its end. The status is 0 if every question was answered, 1 if one
+wasn't, and 2 if the arguments aren't these. What is said of a denial follows from the program's reply alone.
 """
 
 import os
@@ -56,7 +56,9 @@ def answer_groups(there, question):
     """Asks a question for each value of a public column, and prints a line for each that some row has."""
     values = sorted({row[question.by] for row in there.rows()})
     if len(values) > MOST_GROUPS:
-        raise Unclear(f"{question.by} has {len(values):,} values, and at most {MOST_GROUPS} questions are asked at once")
+        raise Unclear(
+            f"{question.by} has {len(values):,} values, and at most {MOST_GROUPS} questions are asked at once"
+        )
     answered = True
     for value in values:
         reply = there.would(question.over(value)) if question.would else there.ask(question.over(value))
@@ -67,7 +69,11 @@ def answer_groups(there, question):
             reply["at"] = min(max(reply["at"] - 1, 0), len(question.where.encode()))
             print(reply_words(question, reply, there.columns, there.notes))
             return False
-        words = verdict_words(reply) if question.would else reply_words(question.over(value), reply, there.columns, there.notes)
+        words = (
+            verdict_words(reply)
+            if question.would
+            else reply_words(question.over(value), reply, there.columns, there.notes)
+        )
         print(f"{value_words(value, there.notes.get(question.by, {}))}: {words}")
         answered = answered and ("verdict" in reply or answer_of(reply) is not None)
     return answered
@@ -83,7 +89,13 @@ def say_columns(there):
     for name, kind in there.columns.items():
         note = there.notes.get(name, {})
         title = note.get("title", name)
-        words = [f"secret, to be asked for {'sum and avg' if kind == 'sum' else 'max'}" if kind in SECRET else f"public {kind}"]
+        words = [
+            (
+                f"secret, to be asked for {'sum and avg' if kind == 'sum' else 'max'}"
+                if kind in SECRET
+                else f"public {kind}"
+            )
+        ]
         words += [f"called {title!r}"] * (title != name) + [f"in steps of {step(note)}"] * bool(note.get("decimals"))
         print(f"  {name:32} " + ", ".join(words + ([f"unit {note['unit']}"] if note.get("unit") else [])))
 

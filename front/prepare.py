@@ -8,7 +8,7 @@
     prepare.py make FILE CHOICES FOLDER
         writes FOLDER with schema.json and table.csv, and FOLDER/public with the public columns alone, and says each change
 
-Nothing is guessed silently, nothing is rounded that is secret, nothing is overwritten, and what isn't made whole isn't there. The
+Nothing is guessed silently, nothing secret is rounded, nothing is overwritten, and what isn't made whole isn't there. The
 program itself, auditor in the path or the one that AUDITOR names, reads both folders before they are put into place.
 """
 

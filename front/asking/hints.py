@@ -1,7 +1,7 @@
 """Why a condition is refused at a byte, and how it is written rightly.
 
-The program says the byte. What stands there is looked at here, as people write it who know another language. Where nothing is
-recognised there is no sentence: the program's word stands alone.
+The program says the byte. What stands there is looked at here, as people write it who know another language. If nothing is
+recognised there is no sentence, and the program's word stands alone.
 """
 
 import re
@@ -10,12 +10,27 @@ import unicodedata
 from .questions import SECRET, no_column, public_names
 
 KEYWORDS = ("and", "or", "not", "in", "all")
-SPELLINGS = {"==": "=", "<>": "!=", "&&": "and", "&": "and", "||": "or", "|": "or", "=>": ">=", "=<": "<=", "≥": ">=", "≤": "<=", "≠": "!="}
-QUOTES = "\"“”„«»‘’`´"
+SPELLINGS = {
+    "==": "=",
+    "<>": "!=",
+    "&&": "and",
+    "&": "and",
+    "||": "or",
+    "|": "or",
+    "=>": ">=",
+    "=<": "<=",
+    "≥": ">=",
+    "≤": "<=",
+    "≠": "!=",
+}
+QUOTES = '"“”„«»‘’`´'
 TOKEN = re.compile(
     r"""(?P<text>'(?:[^']|'')*')|(?P<quoted>["“„«][^"”“»]*["”“»]|[‘`´][^’`´]*[’`´])"""
     r"|(?P<between>[A-Za-z]\w*\s+between\s+(?:'(?:[^']|'')*'|-?\d+)\s+and\s+(?:'(?:[^']|'')*'|-?\d+))"
-    r"|(?P<notin>[A-Za-z]\w*\s+not\s+in\b)|(?P<spelling>==|<>|&&|\|\||=>|=<|[&|≥≤≠])|(?P<not>!(?!=))|(?P<word>[A-Za-z]\w*)|(?P<other>.)", re.IGNORECASE | re.DOTALL)
+    r"|(?P<notin>[A-Za-z]\w*\s+not\s+in\b)|(?P<spelling>==|<>|&&|\|\||=>|=<|[&|≥≤≠])"
+    r"|(?P<not>!(?!=))|(?P<word>[A-Za-z]\w*)|(?P<other>.)",
+    re.IGNORECASE | re.DOTALL,
+)
 
 
 def place_of(condition, at):
@@ -44,16 +59,23 @@ def mended(condition):
 
 
 def mended_token(found):
+    """What a token of another language is written as here; any other token as it stands."""
     token = found[0]
     if found["quoted"]:
         return "'" + token[1:-1].replace("'", "''") + "'"
     if found["between"]:
-        name, low, high = re.fullmatch(r"(\w+)\s+between\s+(.+?)\s+and\s+(.+)", token, re.IGNORECASE | re.DOTALL).groups()
+        name, low, high = re.fullmatch(
+            r"(\w+)\s+between\s+(.+?)\s+and\s+(.+)", token, re.IGNORECASE | re.DOTALL
+        ).groups()
         return f"{name} >= {low} and {name} <= {high}"
     if found["notin"]:
         return f"not {token.split()[0]} in"
     if found["spelling"]:
-        return SPELLINGS[token] if len(SPELLINGS[token]) <= 2 and SPELLINGS[token] != "or" else spaced(found, SPELLINGS[token])
+        return (
+            SPELLINGS[token]
+            if len(SPELLINGS[token]) <= 2 and SPELLINGS[token] != "or"
+            else spaced(found, SPELLINGS[token])
+        )
     if found["not"]:
         return "not "
     if found["word"] and token.lower() in KEYWORDS:
@@ -64,7 +86,7 @@ def mended_token(found):
 def spaced(found, word):
     """A word in place of a mark, with blanks where the mark had none."""
     before = found.string[: found.start()][-1:]
-    after = found.string[found.end():][:1]
+    after = found.string[found.end() :][:1]
     return (" " if before.strip() else "") + word + (" " if after.strip() else "")
 
 
@@ -80,6 +102,7 @@ def hint(condition, at, kinds, decimals):
 
 
 def end_words(before, rest, kinds, decimals):
+    """A condition that ends too early or too late."""
     if not before and not rest.strip():
         return "the condition is empty: all means every row"
     if not rest.strip():
@@ -107,6 +130,7 @@ def mark_words(before, rest, kinds, decimals):
 
 
 def quote_words(before, rest, kinds, decimals):
+    """Quotes that aren't single, aren't closed, or stand around a number."""
     column = last_column(before, kinds)
     if rest[0] in QUOTES:
         return "a text stands in single quotes, '"
@@ -137,7 +161,11 @@ def word_words(before, rest, kinds, decimals):
     if kinds.get(word) in SECRET:
         return f"{word} is secret, and a condition is over public columns alone: {', '.join(public_names(kinds))}"
     if column and re.search(r"[=<>(,]$", before):
-        return f"{column} is compared with a text, which stands in single quotes: '{word}'" if kinds[column] == "text" else f"{column} is compared with a whole number"
+        return (
+            f"{column} is compared with a text, which stands in single quotes: '{word}'"
+            if kinds[column] == "text"
+            else f"{column} is compared with a whole number"
+        )
     if word not in kinds and lower not in KEYWORDS:
         return no_column(word, {name: kinds[name] for name in public_names(kinds)})
     return None
@@ -151,7 +179,10 @@ def number_words(before, rest, kinds, decimals):
     if part and whole and not (rest[0] == "," and len(part[1]) == 3):
         kept = decimals.get(column, 0)
         if kept >= len(part[1]):
-            return f"{column} is kept in steps of {'0.' + '0' * (kept - 1)}1: write {int(whole[1] + part[1].ljust(kept, '0'))}"
+            return (
+                f"{column} is kept in steps of {'0.' + '0' * (kept - 1)}1: write"
+                f" {int(whole[1] + part[1].ljust(kept, '0'))}"
+            )
         return "a number in a condition is whole, without a point"
     if part and whole:
         return f"a number is written without marks between thousands: {whole[1]}{part[1]}"

@@ -1,7 +1,7 @@
 """Where questions go: the program in a folder, or a front door by its address.
 
-Both have the schema's columns, notes for people, the public rows, `ask` and `would`. A place that can't be asked raises Away with
-a sentence.
+Both have the schema's columns, notes for people, the public rows, `ask` and `would`. A place that can't be asked raises Away
+with a sentence.
 """
 
 import csv
@@ -20,7 +20,8 @@ AFTERWARDS = {
     6: "another run has the journal open, or the journal can't be written",
     7: "there is no journal: run auditor init in the folder, once for the table",
     10: "the table has other rows or secret columns than when the journal was made: put the right one back",
-    11: "a number of the table was changed since it was answered: put the right table back"}
+    11: "a number of the table was changed since it was answered: put the right table back",
+}
 
 
 class Away(Exception):
@@ -50,7 +51,13 @@ class Folder:
     def ask(self, question):
         """The program's reply."""
         if self.child is None:
-            self.child = subprocess.Popen([self.program, "serve"], cwd=self.path, stdin=subprocess.PIPE, stdout=subprocess.PIPE, stderr=subprocess.PIPE)
+            self.child = subprocess.Popen(
+                [self.program, "serve"],
+                cwd=self.path,
+                stdin=subprocess.PIPE,
+                stdout=subprocess.PIPE,
+                stderr=subprocess.PIPE,
+            )
         try:
             self.child.stdin.write(line_of(question) + b"\n")
             self.child.stdin.flush()
@@ -90,7 +97,7 @@ class Door:
             connection = http.client.HTTPConnection("localhost", timeout=PATIENCE)
             connection.sock = socket.socket(socket.AF_UNIX)
             connection.sock.settimeout(PATIENCE)
-            connection.sock.connect(self.address[len("unix:"):])
+            connection.sock.connect(self.address[len("unix:") :])
             return connection, "/"
         parts = urllib.parse.urlsplit(self.address)
         kind = http.client.HTTPSConnection if parts.scheme == "https" else http.client.HTTPConnection
@@ -137,6 +144,7 @@ class Door:
 
 
 def error_words(text, response):
+    """A front door's own words, or the status of what isn't one."""
     try:
         return json.loads(text)["error"]
     except (ValueError, LookupError, TypeError):
@@ -181,7 +189,10 @@ def place(address, program):
     if address.startswith(("http://", "https://", "unix:")):
         return Door(address)
     if not os.path.isdir(address):
-        raise Away(f"there is no folder {address}: give one that has the table, or the address of a front door, as http://127.0.0.1:8087")
+        raise Away(
+            f"there is no folder {address}: give one that has the table, or the address of a front door, as"
+            " http://127.0.0.1:8087"
+        )
     if program is None:
         raise Away("there is no auditor in the path, nor does AUDITOR name one")
     return Folder(address, program)

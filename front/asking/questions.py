@@ -4,7 +4,17 @@ import dataclasses
 import difflib
 import re
 
-ASKS = {"count": "count", "sum": "sum", "total": "sum", "avg": "avg", "average": "avg", "mean": "avg", "max": "max", "maximum": "max", "greatest": "max"}
+ASKS = {
+    "count": "count",
+    "sum": "sum",
+    "total": "sum",
+    "avg": "avg",
+    "average": "avg",
+    "mean": "avg",
+    "max": "max",
+    "maximum": "max",
+    "greatest": "max",
+}
 LEAST = ("min", "minimum", "least", "median")
 SECRET = {"sum": ("sum", "avg"), "max": ("max",)}
 
@@ -15,7 +25,7 @@ class Unclear(Exception):
 
 @dataclasses.dataclass(frozen=True)
 class Question:
-    """What is asked, of which column (not for a count), of which rows, for each value of which column, and whether only for the verdict."""
+    """What is asked, of which column and rows, for each value of which column, and whether only for the verdict."""
 
     ask: str
     column: str = None
@@ -61,18 +71,24 @@ def parse(text, kinds):
 
 
 def ask_named(word):
+    """What a word asks for; another one is Unclear, with the nearest that is known."""
     if word in LEAST:
         raise Unclear(f"{word} can't be asked: there are count, sum, avg and max")
     if word not in ASKS:
         near = difflib.get_close_matches(word, ASKS, 1)
-        raise Unclear(f"{word!r} isn't something to ask" + (f": did you mean {near[0]}?" if near else "; help shows what is"))
+        raise Unclear(
+            f"{word!r} isn't something to ask" + (f": did you mean {near[0]}?" if near else "; help shows what is")
+        )
     return ASKS[word]
 
 
 def usage(ask, totals):
+    """How a question of this kind is written."""
     if totals:
         return "write it as: totals COLUMN by COLUMN where CONDITION"
-    return f"write it as: {ask}{'' if ask == 'count' else ' COLUMN'} where CONDITION" + ("; a count has no column" if ask == "count" else "")
+    return f"write it as: {ask}{'' if ask == 'count' else ' COLUMN'} where CONDITION" + (
+        "; a count has no column" if ask == "count" else ""
+    )
 
 
 def need_public(name, kinds):
@@ -88,15 +104,20 @@ def need_asked(ask, name, kinds):
     if name not in kinds:
         raise Unclear(no_column(name, kinds))
     if kinds[name] not in SECRET:
-        raise Unclear(f"{name} is public, and only secret columns are asked for numbers. Its values stand in the public table")
+        raise Unclear(
+            f"{name} is public, and only secret columns are asked for numbers. Its values stand in the public table"
+        )
     if ask not in SECRET[kinds[name]]:
         raise Unclear(f"{name} is kept for {' and '.join(SECRET[kinds[name]])}, so it can't be asked for {ask}")
 
 
 def no_column(name, kinds):
+    """That there is no such column, with the nearest one or all of them."""
     near = difflib.get_close_matches(name.lower(), [column.lower() for column in kinds], 1)
     meant = [column for column in kinds if near and column.lower() == near[0]]
-    return f"there is no column {name!r}" + (f": did you mean {meant[0]}?" if meant else f"; there are {', '.join(kinds)}")
+    return f"there is no column {name!r}" + (
+        f": did you mean {meant[0]}?" if meant else f"; there are {', '.join(kinds)}"
+    )
 
 
 def public_names(kinds):

@@ -24,7 +24,7 @@ def step(note):
 
 
 def number_words(number, note):
-    """A number of steps as people read it: whole or with the decimals of its column; a fraction with six more, and exactly beside it."""
+    """A number of steps as people read it, with its column's decimals; a fraction with six more, and exactly too."""
     places = note.get("decimals") or 0
     exact = fractions.Fraction(number) / 10**places
     unit = f" {note['unit']}" if note.get("unit") else ""
@@ -42,7 +42,7 @@ def answer_of(reply):
 
 
 def reply_words(question, reply, kinds, notes):
-    """A reply in one line, or several for a refused condition: the condition with a mark under the byte, and what to write."""
+    """A reply in a line, or for a refused condition in several: a mark under the byte, why, and what to write."""
     number = answer_of(reply)
     if number is not None:
         return number_words(number, notes.get(question.column, {}) if question.ask != "count" else {})
@@ -57,7 +57,10 @@ def condition_words(condition, at, kinds, notes):
     """Where a condition goes wrong, why, and how it would be written, if that can be told."""
     decimals = {name: note.get("decimals") or 0 for name, note in notes.items()}
     why = hint(condition, at, kinds, decimals)
-    lines = [marked(condition, at), "refused: " + (why + ("" if why.endswith(("?", ".")) else ".") if why else WORDS["refused"]["where"])]
+    lines = [
+        marked(condition, at),
+        "refused: " + (why + ("" if why.endswith(("?", ".")) else ".") if why else WORDS["refused"]["where"]),
+    ]
     better = mended(condition)
     return "\n".join(lines + ([f"Write: {better}"] if better != condition else []))
 

@@ -23,7 +23,9 @@ class NumberForm:
         self.name, self.decimal, self.thousands = name, decimal, thousands
         grouped = rf"[1-9]\d{{0,2}}(?:{re.escape(thousands)}\d{{3}})+|" if thousands else ""
         part = rf"(?:{re.escape(decimal)}(?P<part>\d+))?" if decimal else "(?P<part>(?!))?"
-        self.pattern = re.compile(rf"(?P<sign>[+-]?)(?P<whole>{grouped}\d+){part}(?:[eE](?P<exponent>[+-]?\d{{1,3}}))?", re.ASCII)
+        self.pattern = re.compile(
+            rf"(?P<sign>[+-]?)(?P<whole>{grouped}\d+){part}(?:[eE](?P<exponent>[+-]?\d{{1,3}}))?", re.ASCII
+        )
 
     def match(self, cell):
         return self.pattern.fullmatch(cell.translate(BLANKS)) if len(cell) <= LONGEST_NUMBER else None
@@ -35,7 +37,9 @@ class NumberForm:
             return None
         whole = found["whole"].replace(self.thousands, "") if self.thousands else found["whole"]
         part = found["part"] or ""
-        number = fractions.Fraction(int(whole + part)) * fractions.Fraction(10) ** (int(found["exponent"] or 0) - len(part))
+        number = fractions.Fraction(int(whole + part)) * fractions.Fraction(10) ** (
+            int(found["exponent"] or 0) - len(part)
+        )
         return -number if found["sign"] == "-" else number
 
     def decimals(self, cell):
@@ -76,11 +80,31 @@ def date_pattern(name):
 
 
 NUMBER_FORMS = [
-    NumberForm("1234"), NumberForm("1234.5", "."), NumberForm("1234,5", ","),
-    NumberForm("1,234", "", ","), NumberForm("1.234", "", "."), NumberForm("1 234", "", " "), NumberForm("1'234", "", "'"),
-    NumberForm("1,234.5", ".", ","), NumberForm("1.234,5", ",", "."), NumberForm("1 234.5", ".", " "),
-    NumberForm("1 234,5", ",", " "), NumberForm("1'234.5", ".", "'"), NumberForm("1'234,5", ",", "'")]
-DATE_NAMES = ["YYYY-MM-DD", "YYYY/MM/DD", "YYYY-MM-DD hh:mm:ss", "YYYY-MM-DDThh:mm:ss", "DD.MM.YYYY", "DD/MM/YYYY", "MM/DD/YYYY", "DD-MM-YYYY", "MM-DD-YYYY"]
+    NumberForm("1234"),
+    NumberForm("1234.5", "."),
+    NumberForm("1234,5", ","),
+    NumberForm("1,234", "", ","),
+    NumberForm("1.234", "", "."),
+    NumberForm("1 234", "", " "),
+    NumberForm("1'234", "", "'"),
+    NumberForm("1,234.5", ".", ","),
+    NumberForm("1.234,5", ",", "."),
+    NumberForm("1 234.5", ".", " "),
+    NumberForm("1 234,5", ",", " "),
+    NumberForm("1'234.5", ".", "'"),
+    NumberForm("1'234,5", ",", "'"),
+]
+DATE_NAMES = [
+    "YYYY-MM-DD",
+    "YYYY/MM/DD",
+    "YYYY-MM-DD hh:mm:ss",
+    "YYYY-MM-DDThh:mm:ss",
+    "DD.MM.YYYY",
+    "DD/MM/YYYY",
+    "MM/DD/YYYY",
+    "DD-MM-YYYY",
+    "MM-DD-YYYY",
+]
 FORMS = {form.name: form for form in NUMBER_FORMS + [DateForm(name, date_pattern(name)) for name in DATE_NAMES]}
 
 
@@ -115,14 +139,18 @@ def read_all(form, cells):
 def unit_parts(cell):
     """What stands before and after a number in a cell, if it looks like a unit: a currency, per cent, a short word."""
     cell = cell.translate(BLANKS)
-    found = re.fullmatch(r"(?P<sign>[+-]?)(?P<before>[^\d+\-.,'\s]{0,4}\s?)(?P<number>[+-]?\d.*?)(?P<after>\s?[^\d\s.,']{0,4})", cell, re.ASCII)
+    found = re.fullmatch(
+        r"(?P<sign>[+-]?)(?P<before>[^\d+\-.,'\s]{0,4}\s?)(?P<number>[+-]?\d.*?)(?P<after>\s?[^\d\s.,']{0,4})",
+        cell,
+        re.ASCII,
+    )
     if found is None or not is_unit(found["before"].strip(), "before") or not is_unit(found["after"].strip(), "after"):
         return None
     return found["before"].strip(), found["after"].strip()
 
 
 def is_unit(text, side):
-    """A sign for a currency or per cent, a currency's three capitals, or after a number a word of at most four letters."""
+    """A sign of a currency or per cent, a currency's three capitals, or after a number a short word."""
     if len(text) == 1 and (text == "%" or unicodedata.category(text) == "Sc"):
         return True
     return not text or re.fullmatch("[A-Z]{3}", text) is not None or (side == "after" and text.isalpha())
@@ -143,5 +171,5 @@ def without_unit(cell, unit):
         return cell
     cell = cell.translate(BLANKS)
     sign = cell[:1] if cell[:1] in ("+", "-") else ""
-    bare = cell[len(sign):].removeprefix(unit).removesuffix(unit).strip()
+    bare = cell[len(sign) :].removeprefix(unit).removesuffix(unit).strip()
     return sign + bare

@@ -19,9 +19,27 @@ SECRET, PUBLIC = ("sum", "max"), ("text", "number")
 KINDS = PUBLIC + SECRET + ("leave out",)
 MISSING = {"drop the row": KINDS, "keep": ("text",), "mark": ("number",)}
 ROUNDINGS = ("no", "down", "nearest")
-TABLE_KEYS = {"encoding": str, "separator": str, "untitled": str, "split by": list, "wave": int, "protect": list, "columns": list}
-COLUMN_KEYS = {"from": str, "seen": str, "name": str, "is": str, "written as": str, "unit": str, "decimals": int, "rounded": str,
-               "missing is": list, "missing": str}
+TABLE_KEYS = {
+    "encoding": str,
+    "separator": str,
+    "untitled": str,
+    "split by": list,
+    "wave": int,
+    "protect": list,
+    "columns": list,
+}
+COLUMN_KEYS = {
+    "from": str,
+    "seen": str,
+    "name": str,
+    "is": str,
+    "written as": str,
+    "unit": str,
+    "decimals": int,
+    "rounded": str,
+    "missing is": list,
+    "missing": str,
+}
 DECIDED_KEYS = ("is", "written as", "unit", "decimals", "rounded", "missing is", "missing")
 
 
@@ -73,7 +91,7 @@ def write(path, choices, fresh):
 
 
 def open_choices(choices):
-    """What is still to be chosen, as KEY or NAME.KEY, in the words that `choose` takes. A column left out asks no more."""
+    """What is still to be chosen, in the words that `choose` takes. A column that is left out asks no more."""
     found = [key for key in TABLE_KEYS if choices[key] == OPEN]
     for column in choices["columns"]:
         keys = ("is",) if column["is"] in (OPEN, "leave out") else DECIDED_KEYS
@@ -103,7 +121,11 @@ def table_faults(choices):
     if choices["wave"] not in (None, 1):
         faults.append(f"\"wave\" can't be {choices['wave']}: it is 1, or null for no such column")
     public = {column["name"] for column in choices["columns"] if column["is"] in PUBLIC}
-    faults += [f"\"split by\" can't be {shown(name)}: it has to be the name of a public column" for name in choices["split by"] or [] if name not in public]
+    faults += [
+        f'"split by" can\'t be {shown(name)}: it has to be the name of a public column'
+        for name in choices["split by"] or []
+        if name not in public
+    ]
     return faults + protect_faults(choices)
 
 
@@ -113,7 +135,7 @@ def protect_faults(choices):
     faults = []
     for place, group in enumerate(choices["protect"] or []):
         if not isinstance(group, dict) or set(group) != {"column", "where"}:
-            faults.append(f"total {place} to protect isn't an object with the keys \"column\" and \"where\"")
+            faults.append(f'total {place} to protect isn\'t an object with the keys "column" and "where"')
         elif group["column"] not in sums:
             faults.append(f"total {place} to protect: {shown(group['column'])} isn't the name of a column that is sum")
         elif not isinstance(group["where"], str) or not group["where"].strip() or len(group["where"].encode()) > 8192:
@@ -140,15 +162,20 @@ def column_faults(column):
         return [f"{title} can't be {shown(column['is'])}: it is one of {', '.join(KINDS)}"]
     faults = []
     if not is_name(column["name"]):
-        faults.append(f"{title}: {shown(column['name'])} can't be a name: a letter, then letters, digits and _, at most 32, and not and, or, not, all, in")
+        faults.append(
+            f"{title}: {shown(column['name'])} can't be a name: a letter, then letters, digits and _, at most 32, and"
+            " not and, or, not, all, in"
+        )
     if column["is"] != "text":
         faults += number_faults(column, title)
     allowed = MISSING.get(column["missing"], KINDS if column["missing"] is None else ())
     if column["is"] not in allowed:
         can = ", ".join(choice for choice, kinds in MISSING.items() if column["is"] in kinds)
-        faults.append(f"{title}: \"missing\" can't be {shown(column['missing'])} for {column['is']}, which takes: {can}")
+        faults.append(
+            f"{title}: \"missing\" can't be {shown(column['missing'])} for {column['is']}, which takes: {can}"
+        )
     if not all(isinstance(cell, str) for cell in column["missing is"] or []):
-        faults.append(f"{title}: \"missing is\" has to be a list of texts")
+        faults.append(f'{title}: "missing is" has to be a list of texts')
     return faults
 
 
@@ -156,18 +183,30 @@ def number_faults(column, title):
     """A sentence for each choice on how numbers are written that can't be followed."""
     form = FORMS.get(column["written as"])
     if form is None:
-        return [f"{title} can't be {column['is']}: its cells aren't numbers or dates in one of the forms {', '.join(FORMS)}"
-                if column["written as"] is None else f"{title}: \"written as\" can't be {shown(column['written as'])}: it is one of {', '.join(FORMS)}"]
+        return [
+            (
+                f"{title} can't be {column['is']}: its cells aren't numbers or dates in one of the forms"
+                f" {', '.join(FORMS)}"
+                if column["written as"] is None
+                else f"{title}: \"written as\" can't be {shown(column['written as'])}: it is one of {', '.join(FORMS)}"
+            )
+        ]
     faults = []
     if form.kind == "date" and column["is"] in SECRET:
         faults.append(f"{title} can't be {column['is']}: a date can be public, as number or text, or left out")
     if not 0 <= (column["decimals"] or 0) <= MOST_DECIMALS:
         faults.append(f"{title}: \"decimals\" can't be {column['decimals']}: it is 0 to {MOST_DECIMALS}")
     elif column["is"] == "number" and column["name"] != name_in_steps(column):
-        faults.append(f"{title}: public numbers times {10 ** column['decimals']:,} are to say so in their name, since a condition compares them as they are "
-                      f"kept: name it {name_in_steps(column)}; or lower \"decimals\" and say how it is \"rounded\"; or keep it as text")
+        faults.append(
+            f"{title}: public numbers times {10 ** column['decimals']:,} are to say so in their name, since a condition"
+            f' compares them as they are kept: name it {name_in_steps(column)}; or lower "decimals" and say how it is'
+            ' "rounded"; or keep it as text'
+        )
     if column["rounded"] not in (None,) + ROUNDINGS:
         faults.append(f"{title}: \"rounded\" can't be {shown(column['rounded'])}: it is one of {', '.join(ROUNDINGS)}")
     elif column["rounded"] not in (None, "no") and column["is"] in SECRET:
-        faults.append(f"{title}: a secret column isn't rounded: answers would be wrong without saying so. Raise \"decimals\" instead")
+        faults.append(
+            f'{title}: a secret column isn\'t rounded: answers would be wrong without saying so. Raise "decimals"'
+            " instead"
+        )
     return faults

@@ -9,7 +9,7 @@ LISTS = ("split by", "missing is")
 
 
 def choose(path, words):
-    """Follows each word in turn, KEY=VALUE, NAME=KIND or NAME.KEY=VALUE, writes the file once, and says what is still open."""
+    """Follows each word in turn, writes the file once, and says what is still open."""
     choices = choosing.read(path)
     for word in words:
         key, mark, value = word.partition("=")
@@ -29,12 +29,18 @@ def name_by_steps(choices):
     for column in choices["columns"]:
         name = choosing.name_in_steps(column)
         if column["is"] == "number" and column["name"] != name:
-            print(f"{column['name']} is named {name}: its numbers are kept times {10 ** column['decimals']:,}, and conditions compare them so")
+            print(
+                f"{column['name']} is named {name}: its numbers are kept times {10 ** column['decimals']:,}, and"
+                " conditions compare them so"
+            )
             column["name"] = name
 
 
 def set_choice(choices, key, value):
-    """Sets one choice; those of every column that is still open are `others` and `missing`. A column may be called as a choice is."""
+    """Sets one choice; `others` and `missing` are those of every column that is still open.
+
+    A column may be called as a choice is: NAME=KIND is the column then.
+    """
     if value in KINDS and any(column["name"] == key for column in choices["columns"]):
         set_column(column_named(choices, key), "is", value)
     elif key == "others":
@@ -56,7 +62,9 @@ def set_choice(choices, key, value):
 
 def column_named(choices, name):
     """The column of that name, or else the one of that title."""
-    found = [column for column in choices["columns"] if name == column["name"]] or [column for column in choices["columns"] if name == column["from"]]
+    found = [column for column in choices["columns"] if name == column["name"]] or [
+        column for column in choices["columns"] if name == column["from"]
+    ]
     if len(found) != 1:
         names = ", ".join(column["name"] for column in choices["columns"][:40])
         raise Fault(f"{'no column is' if not found else 'two columns are'} called {shown(name)}; there are {names}")
@@ -67,9 +75,15 @@ def set_column(column, key, value):
     """Sets one choice of a column, if it is one of those that the key takes."""
     allowed = {"is": KINDS, "missing": MISSING, "written as": FORMS, "rounded": ROUNDINGS}
     if key not in COLUMN_KEYS or key in ("from", "seen"):
-        raise Fault(f"{shown(key)} isn't a choice of a column: there are is, name, written as, unit, decimals, rounded, missing is, missing")
+        raise Fault(
+            f"{shown(key)} isn't a choice of a column: there are is, name, written as, unit, decimals, rounded, missing"
+            " is, missing"
+        )
     if key in allowed and value not in allowed[key]:
-        raise Fault(f"{column['name']}{'' if key == 'is' else '.' + key} can't be {shown(value)}: it is one of {', '.join(allowed[key])}")
+        raise Fault(
+            f"{column['name']}{'' if key == 'is' else '.' + key} can't be {shown(value)}: it is one of"
+            f" {', '.join(allowed[key])}"
+        )
     column[key] = from_words(key, value, COLUMN_KEYS[key])
     if key == "written as" and column["decimals"] == OPEN:
         column["decimals"] = decimals_of(column)
@@ -100,7 +114,7 @@ def add_protected(choices, value):
         return
     column, mark, where = value.partition(" where ")
     if not mark:
-        raise Fault(f"{shown(value)} isn't a total: write protect=\"COLUMN where CONDITION\", or protect=none")
+        raise Fault(f'{shown(value)} isn\'t a total: write protect="COLUMN where CONDITION", or protect=none')
     groups = choices["protect"] if isinstance(choices["protect"], list) else []
     choices["protect"] = groups + [{"column": column.strip(), "where": where.strip()}]
 
@@ -133,5 +147,9 @@ def question_about(choices, key):
     column = next((column for column in choices["columns"] if column["name"] == name), None)
     if column is None:
         return " (none, or COLUMN where CONDITION)" if key == "protect" else ""
-    answers = {"": KINDS, "missing": [choice for choice, kinds in MISSING.items() if column["is"] in kinds], "written as": FORMS}.get(part, ())
+    answers = {
+        "": KINDS,
+        "missing": [choice for choice, kinds in MISSING.items() if column["is"] in kinds],
+        "written as": FORMS,
+    }.get(part, ())
     return f" ({column['seen']}) [{', '.join(answers)}]" if answers else f" ({column['seen']})"

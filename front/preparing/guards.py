@@ -1,4 +1,4 @@
-"""What the table alone shows of what would break the promise, which is against those who know of secrets only that they are whole.
+"""What a table shows of what would break the promise: it is against those who know only that secrets are whole numbers.
 
 Two columns that follow from each other by a plain rule are refused. What may be known besides is pointed out.
 """
@@ -15,7 +15,7 @@ FEW_VALUES = 3
 
 
 def line_through(first, second):
-    """The factor and the rest with which second is first times factor plus rest in every row, or None. A factor of 0 is none.
+    """The factor, not 0, and the rest with which second is first times factor plus rest in every row, or None.
 
     A rest other than 0 takes three different values to tell: through two there is always such a line.
     """
@@ -73,7 +73,9 @@ def secrets_apart(rows, columns, texts):
     for first, second in itertools.combinations(secret, 2):
         why = related(first, secret[first], second, secret[second])
         if why:
-            faults.append(f"{why}: answers on one would tell of the other, and each is decided by itself. Leave one of them out")
+            faults.append(
+                f"{why}: answers on one would tell of the other, and each is decided by itself. Leave one of them out"
+            )
     for first, second in itertools.product(public, secret):
         why = related(first, public[first], second, secret[second])
         if why:
@@ -91,23 +93,36 @@ def say_what_is_known(rows, public, secret):
     say_sums(rows, secret)
     for name in public:
         if len(rows) > 1 and len({row[name] for row in rows}) == len(rows):
-            print(f"CAREFUL: every row has its own {name}, which is public: whoever knows it finds the row. Is it needed?")
+            print(
+                f"CAREFUL: every row has its own {name}, which is public: whoever knows it finds the row. Is it needed?"
+            )
     alone = collections.Counter(tuple(row[name] for name in public) for row in rows)
     single = sum(number == 1 for number in alone.values())
-    print(f"{single:,} of {counted(len(rows), 'row')} have public values that no other row has: whoever knows these finds the row, though not its secret numbers")
+    print(
+        f"{single:,} of {counted(len(rows), 'row')} have public values that no other row has: whoever knows these finds"
+        " the row, though not its secret numbers"
+    )
 
 
 def say_of_secret(name, rows, public):
+    """Points out a secret column with few values, and one that a public column fixes."""
     values = {row[name] for row in rows}
     if len(values) <= FEW_VALUES:
-        print(f"CAREFUL: {name} is always one of {', '.join(str(value) for value in sorted(values))}: whoever knows that can work numbers out of the answers")
+        print(
+            f"CAREFUL: {name} is always one of {', '.join(str(value) for value in sorted(values))}: whoever knows that"
+            " can work numbers out of the answers"
+        )
     for other in public:
         known = {row[other] for row in rows}
         if len(values) > 1 and len({(row[other], row[name]) for row in rows}) == len(known) <= len(rows) / 2:
-            print(f"CAREFUL: {other}, which is public, fixes {name} in this table: whoever knows the rule knows the numbers")
+            print(
+                f"CAREFUL: {other}, which is public, fixes {name} in this table: whoever knows the rule knows the"
+                " numbers"
+            )
 
 
 def say_of_pair(first, second, rows):
+    """Points out two secret columns that tell each other's numbers."""
     pairs = {(row[first], row[second]) for row in rows}
     lengths = {len(pairs), len({row[first] for row in rows}), len({row[second] for row in rows})}
     if len(lengths) == 1 and FEW_VALUES < len(pairs) < len(rows):
@@ -119,4 +134,7 @@ def say_sums(rows, secret):
     for total in secret:
         for first, second in itertools.combinations([name for name in secret if name != total], 2):
             if len(rows) > 2 and all(row[total] == row[first] + row[second] for row in rows):
-                print(f"CAREFUL: {total} is {first} plus {second} in every row: answers on two of them tell of the third. Leave one of them out")
+                print(
+                    f"CAREFUL: {total} is {first} plus {second} in every row: answers on two of them tell of the third."
+                    " Leave one of them out"
+                )

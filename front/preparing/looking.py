@@ -11,8 +11,6 @@ from .reading import choose_layout, decode, encoding_of, load, read_rows, withou
 from .splitting import MOST_ROWS, say_splits
 
 
-
-
 def look(path, encoding=None, separator=None, untitled=None):
     """Prints what the file is and each of its columns, and writes FILE.choices.json beside it."""
     out = pathlib.Path(path).with_suffix(".choices.json")
@@ -26,13 +24,26 @@ def look(path, encoding=None, separator=None, untitled=None):
     print(f"encoding: {said}")
     print(f"separator: {layout.separator}" + (", by the file's first line" if named else ""))
     if layout.untitled != "none":
-        print(f"the header has a title fewer than a row has cells, as R's write.table does it: the {layout.untitled} column has none")
-    print(f"rows: {len(table.rows):,}" + (f"; {counted(table.empty, 'line')} with nothing in it passed over" if table.empty else ""))
+        print(
+            "the header has a title fewer than a row has cells, as R's write.table does it: the"
+            f" {layout.untitled} column has none"
+        )
+    print(
+        f"rows: {len(table.rows):,}"
+        + (f"; {counted(table.empty, 'line')} with nothing in it passed over" if table.empty else "")
+    )
     columns = describe_all(table)
     if len(table.rows) > MOST_ROWS:
         say_splits([column["name"] for column in columns], list(zip(*(cells for _, cells in table.rows))))
-    choices = {"encoding": found, "separator": layout.separator, "untitled": layout.untitled, "split by": None, "wave": None,
-               "protect": choosing.OPEN, "columns": columns}
+    choices = {
+        "encoding": found,
+        "separator": layout.separator,
+        "untitled": layout.untitled,
+        "split by": None,
+        "wave": None,
+        "protect": choosing.OPEN,
+        "columns": columns,
+    }
     choosing.write(out, choices, fresh=True)
     say_next(out, choices)
 
@@ -50,8 +61,18 @@ def describe_all(table):
 def describe(title, name, cells):
     """What one column could be. `is` is open, since whether a column is secret can't be seen in its cells."""
     there = [cell for cell in cells if not is_missing(cell)]
-    column = {"from": title, "seen": "", "name": name, "is": choosing.OPEN, "written as": None, "unit": None, "decimals": None,
-              "rounded": None, "missing is": None, "missing": None}
+    column = {
+        "from": title,
+        "seen": "",
+        "name": name,
+        "is": choosing.OPEN,
+        "written as": None,
+        "unit": None,
+        "decimals": None,
+        "rounded": None,
+        "missing is": None,
+        "missing": None,
+    }
     if not there:
         column["is"] = "leave out"
         column["seen"] = "nothing stands in it, so it is left out"
@@ -60,7 +81,10 @@ def describe(title, name, cells):
     gaps = collections.Counter(cell for cell in cells if is_missing(cell))
     if gaps:
         column["missing is"], column["missing"] = sorted(gaps), choosing.OPEN
-        seen.append("missing, or so it seems, where it says " + ", ".join(f"{shown(cell)} ({number:,})" for cell, number in sorted(gaps.items())))
+        seen.append(
+            "missing, or so it seems, where it says "
+            + ", ".join(f"{shown(cell)} ({number:,})" for cell, number in sorted(gaps.items()))
+        )
     if len(set(cells)) == len(cells) > 1:
         seen.append("every row has its own value")
     column["seen"] = "; ".join(seen)
@@ -68,7 +92,7 @@ def describe(title, name, cells):
 
 
 def number_words(column, numbers):
-    """Sets how the column's numbers are written, if most of its cells are numbers or dates, and says so. `numbers` counts each cell."""
+    """Sets how numbers are written, if most cells are numbers or dates, and says so. `numbers` counts each cell."""
     unit = unit_of(list(numbers))
     bare = collections.Counter()
     for cell, number in sorted(numbers.items()):
@@ -76,7 +100,9 @@ def number_words(column, numbers):
     names, others = forms_of_most(bare)
     if not names:
         return ["text"]
-    words = [f"{FORMS[names[0]].kind}s"] + ([f"but {counted(len(others), 'value')} not, as {shown(others[0])}"] if others else [])
+    words = [f"{FORMS[names[0]].kind}s"] + (
+        [f"but {counted(len(others), 'value')} not, as {shown(others[0])}"] if others else []
+    )
     column["unit"] = unit or None
     column["written as"] = names[0] if len(names) == 1 else choosing.OPEN
     if len(names) > 1:
@@ -88,7 +114,9 @@ def number_words(column, numbers):
 def reading_words(cells, names):
     """A cell that is another number in another form, and what it would be in each."""
     example = next(cell for cell in cells if len({FORMS[name].read(cell) for name in names}) > 1)
-    return f"but {shown(example)} may be " + ", or ".join(f"{plain_number(FORMS[name].read(example))} (written as {name})" for name in names)
+    return f"but {shown(example)} may be " + ", or ".join(
+        f"{plain_number(FORMS[name].read(example))} (written as {name})" for name in names
+    )
 
 
 def set_decimals(column, cells, names, words):
@@ -141,8 +169,17 @@ def step(decimals):
 def say_next(out, choices):
     """What is open, and how it is closed."""
     print(f"written: {out}, with a ? for each choice that is yours: " + ", ".join(choosing.open_choices(choices)))
-    print(f"A column is one of: {', '.join(choosing.KINDS)}. text and number are public: anyone who asks can learn every cell.")
+    print(
+        f"A column is one of: {', '.join(choosing.KINDS)}. text and number are public: anyone who asks can learn every"
+        " cell."
+    )
     print("sum and max are secret whole numbers, to be asked for totals and averages, or for the greatest.")
-    print("\"missing\" is one of: drop the row; keep (text, as it stands); mark (number: 0, and a column of 0 and 1 beside it).")
-    print("\"protect\" names totals that must stay open, or none: choose protect=none, or protect=\"salary where dept = 'QA'\".")
-    print(f"Go on with an editor, or with: prepare.py choose {out} NAME=KIND .. others=\"leave out\"")
+    print(
+        '"missing" is one of: drop the row; keep (text, as it stands); mark (number: 0, and a column of 0 and 1 beside'
+        " it)."
+    )
+    print(
+        '"protect" names totals that must stay open, or none: choose protect=none, or protect="salary where dept ='
+        " 'QA'\"."
+    )
+    print(f'Go on with an editor, or with: prepare.py choose {out} NAME=KIND .. others="leave out"')

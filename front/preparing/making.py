@@ -40,7 +40,7 @@ class Change(enum.Enum):
 
 @dataclasses.dataclass
 class Changes:
-    """How often each change was made to a column of the rows that are kept, and the rows that were dropped, with the titles that they lack."""
+    """How often each change was made in the rows that are kept, and which rows were dropped, with what they lack."""
 
     made: collections.Counter = dataclasses.field(default_factory=collections.Counter)
     dropped: dict = dataclasses.field(default_factory=dict)
@@ -59,14 +59,19 @@ def make(path, choices_path, folder, program):
     rows = convert_all(table, columns, changes)
     public = [column.name for column in columns if column.kind in PUBLIC]
     secret = [column.name for column in columns if column.kind in SECRET]
-    secrets_apart(rows, columns, {column.name: texts_of(table, column, changes) for column in columns if column.kind == "text"})
+    secrets_apart(
+        rows, columns, {column.name: texts_of(table, column, changes) for column in columns if column.kind == "text"}
+    )
     tables = parts(rows, choices["split by"], public)
     write_folders(folder, columns, choices["protect"] or [], tables, program)
     say_changes(choices, columns, table, changes)
     say_parts(tables)
     say_what_is_known(rows, public, secret)
     each = "each folder of " if choices["split by"] else ""
-    print(f"written: {each}{folder}, with the public columns alone in public. Next: auditor init in {each}{folder}, once; then ask.py with it")
+    print(
+        f"written: {each}{folder}, with the public columns alone in public. Next: auditor init in {each}{folder}, once;"
+        " then ask.py with it"
+    )
 
 
 def read_as_chosen(path, choices):
@@ -75,19 +80,30 @@ def read_as_chosen(path, choices):
     table = read_rows(text, Layout(choices["separator"], choices["untitled"]))
     titles = [column["from"] for column in choices["columns"]]
     if table.titles != titles:
-        raise Fault(f"the titles of {path} aren't those that the choices were made for: {', '.join(shown(title) for title in table.titles[:40])}")
+        raise Fault(
+            f"the titles of {path} aren't those that the choices were made for:"
+            f" {', '.join(shown(title) for title in table.titles[:40])}"
+        )
     return table
 
 
 def columns_to_write(choices):
-    """The columns in the file's order, a column of 0 and 1 after a number with gaps that are marked, and wave as the last public one."""
+    """The columns in the file's order, a column of 0 and 1 after each number whose gaps are marked, and wave last."""
     columns = []
     for place, chosen in enumerate(choices["columns"]):
         if chosen["is"] == "leave out":
             continue
         columns.append(Column(chosen["name"], chosen["is"], place, chosen))
         if chosen["missing"] == "mark":
-            columns.append(Column(free(chosen["name"][:26] + "_known", [column["name"] for column in choices["columns"]]), "number", place, chosen, chosen["name"]))
+            columns.append(
+                Column(
+                    free(chosen["name"][:26] + "_known", [column["name"] for column in choices["columns"]]),
+                    "number",
+                    place,
+                    chosen,
+                    chosen["name"],
+                )
+            )
     if choices["wave"] is not None:
         columns.append(Column("wave", "number"))
     need_columns(columns)
@@ -102,8 +118,10 @@ def need_columns(columns):
         raise Fault("two columns would have one name: " + ", ".join(twice))
     secret = sum(column.kind in SECRET for column in columns)
     if len(columns) > MOST_COLUMNS or secret > MOST_SECRET or secret == len(columns):
-        raise Fault(f"a table has at most {MOST_COLUMNS} columns, at most {MOST_SECRET} of them secret and at least one public; "
-                    f"here it would have {len(columns):,}, {secret:,} of them secret")
+        raise Fault(
+            f"a table has at most {MOST_COLUMNS} columns, at most {MOST_SECRET} of them secret and at least one public;"
+            f" here it would have {len(columns):,}, {secret:,} of them secret"
+        )
 
 
 def convert_all(table, columns, changes):
@@ -164,7 +182,7 @@ def whole_number(cell, column, made):
     """The number of the cell in steps of its column's decimals: exactly, unless a public column is rounded by choice."""
     chosen = column.chosen
     if not cell:
-        raise Fault("nothing stands there. If that means that nothing is known, put \"\" into \"missing is\"")
+        raise Fault('nothing stands there. If that means that nothing is known, put "" into "missing is"')
     form = FORMS[chosen["written as"]]
     number = form.read(without_unit(cell, chosen["unit"]))
     if number is None:
@@ -175,7 +193,9 @@ def whole_number(cell, column, made):
         steps = rounded(cell, steps, chosen)
         made.append((chosen["from"], Change.ROUNDED))
     if abs(steps) > MOST_SIZE:
-        raise Fault(f"{shown(cell)} is beyond {MOST_SIZE:,}" + (f", counted in steps of {step(decimals)}" if decimals else ""))
+        raise Fault(
+            f"{shown(cell)} is beyond {MOST_SIZE:,}" + (f", counted in steps of {step(decimals)}" if decimals else "")
+        )
     return int(steps)
 
 
@@ -205,9 +225,14 @@ def say_changes(choices, columns, table, changes):
         print(f"passed over: {counted(table.empty, 'line')} with nothing in it")
     if changes.dropped:
         lacks = collections.Counter(title for titles in changes.dropped.values() for title in titles)
-        first = ", ".join(f"{number:,}" for number in list(changes.dropped)[:20]) + (", .." if len(changes.dropped) > 20 else "")
-        print(f"dropped {counted(len(changes.dropped), 'row')} of {len(table.rows):,}, for what they lack: "
-              + ", ".join(f"{shown(title)} {number:,}" for title, number in lacks.items()) + f". In the file, with the header as row 1: {first}")
+        first = ", ".join(f"{number:,}" for number in list(changes.dropped)[:20]) + (
+            ", .." if len(changes.dropped) > 20 else ""
+        )
+        print(
+            f"dropped {counted(len(changes.dropped), 'row')} of {len(table.rows):,}, for what they lack: "
+            + ", ".join(f"{shown(title)} {number:,}" for title, number in lacks.items())
+            + f". In the file, with the header as row 1: {first}"
+        )
 
 
 def column_words(chosen, columns, changes):
@@ -219,15 +244,26 @@ def column_words(chosen, columns, changes):
     if chosen["name"] != title:
         words.append(f"named {chosen['name']}")
     if numbers and FORMS[chosen["written as"]].kind == "date":
-        words.append("as a number, 20170131 for 31 January 2017" + (", without the time of day" if "hh" in chosen["written as"] else ""))
+        words.append(
+            "as a number, 20170131 for 31 January 2017"
+            + (", without the time of day" if "hh" in chosen["written as"] else "")
+        )
     if numbers and chosen["decimals"]:
         words.append(f"times {10 ** chosen['decimals']:,}, so in steps of {step(chosen['decimals'])}")
     if numbers and chosen["unit"]:
         words.append(f"without its unit {chosen['unit']}")
-    rounded_cells, trimmed, gaps = (changes.number(title, change) for change in (Change.ROUNDED, Change.TRIMMED, Change.GAP_KEPT))
+    rounded_cells, trimmed, gaps = (
+        changes.number(title, change) for change in (Change.ROUNDED, Change.TRIMMED, Change.GAP_KEPT)
+    )
     if rounded_cells:
-        words.append(f"{counted(rounded_cells, 'cell')} rounded " + ("down" if chosen["rounded"] == "down" else "to the nearest"))
+        words.append(
+            f"{counted(rounded_cells, 'cell')} rounded " + ("down" if chosen["rounded"] == "down" else "to the nearest")
+        )
     if trimmed:
         words.append(f"{counted(trimmed, 'cell')} without the blanks around it")
-    words += [f"{counted(gaps, 'gap')} kept as 0, with {column.name} beside it: 1 if the value is known, else 0" for column in columns if column.marks == chosen["name"]]
+    words += [
+        f"{counted(gaps, 'gap')} kept as 0, with {column.name} beside it: 1 if the value is known, else 0"
+        for column in columns
+        if column.marks == chosen["name"]
+    ]
     return ", ".join(words)

@@ -5,7 +5,7 @@ import unicodedata
 
 KEYWORDS = {"and", "or", "not", "all", "in"}
 LONGEST = 32
-SPELLED = str.maketrans({"ß": "ss", "æ": "ae", "Æ": "Ae", "ø": "o", "Ø": "O", "ł": "l", "Ł": "L", "œ": "oe", "Œ": "Oe"})
+SPELLED = str.maketrans({"ß": "ss", "æ": "ae", "Æ": "Ae", "œ": "oe", "Œ": "Oe", "ø": "o", "Ø": "O", "ł": "l", "Ł": "L"})
 
 
 def is_name(text):

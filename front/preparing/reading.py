@@ -61,12 +61,14 @@ def encoding_of(data):
 
 
 def need_no_utf_8(data, place):
-    """A Fault for bytes that are UTF-8 more often than not: one wrong byte may not change the reading of all the others."""
+    """A Fault for bytes of which most are UTF-8: one wrong byte may not change how all others are read."""
     letters = [letter for letter in data.decode("utf-8", errors="replace") if letter > "\x7f"]
     wrong = letters.count("\ufffd")
     if wrong * 2 < len(letters):
-        raise Fault(f"byte {place:,} of the file ({data[place]:02x}, hexadecimal) isn't UTF-8, though most letters of the file are: mend it, "
-                    f"or name the file's encoding, as in encoding=cp1252")
+        raise Fault(
+            f"byte {place:,} of the file ({data[place]:02x}, hexadecimal) isn't UTF-8, though most letters of the file"
+            " are: mend it, or name the file's encoding, as in encoding=cp1252"
+        )
 
 
 def decode(data, encoding):
@@ -74,34 +76,48 @@ def decode(data, encoding):
     try:
         text = data.decode(encoding)
     except UnicodeDecodeError as error:
-        raise Fault(f"byte {error.start:,} of the file ({data[error.start]:02x}, hexadecimal) isn't {encoding}: name the file's "
-                    f"encoding, as in encoding=cp850") from None
+        raise Fault(
+            f"byte {error.start:,} of the file ({data[error.start]:02x}, hexadecimal) isn't {encoding}: name the file's"
+            " encoding, as in encoding=cp850"
+        ) from None
     except (LookupError, UnicodeError):
         raise Fault(f"{shown(encoding)} isn't an encoding that is known here") from None
     if "\0" in text:
         line = text.count("\n", 0, text.index("\0")) + 1
-        raise Fault(f"line {line:,} has a byte 0 in it: the file isn't text, or is UTF-16 without a mark, which encoding=utf-16-le reads")
+        raise Fault(
+            f"line {line:,} has a byte 0 in it: the file isn't text, or is UTF-16 without a mark, which"
+            " encoding=utf-16-le reads"
+        )
     return text
 
 
 def without_separator_line(text):
-    """The text after a first line as a spreadsheet may write it, sep=;, and the separator that it names, if it is there."""
+    """The text after a spreadsheet's first line, sep=;, and the separator that it names, if it is there."""
     found = re.match(r"\ufeff?sep=([,;\t| ])\r?\n", text, re.IGNORECASE)
     if found is None:
         return text, None
-    return text[found.end():], NAME_OF_MARK[found[1]]
+    return text[found.end() :], NAME_OF_MARK[found[1]]
 
 
 def records(text, separator):
     """Each record with its number, from 1. A quote that isn't closed, or closed in the middle of a cell, is a Fault."""
     number = 0
     csv.field_size_limit(MOST_BYTES)
-    reader = csv.reader(io.StringIO(text, newline=""), delimiter=SEPARATORS[separator], strict=True, skipinitialspace=separator != "blank")
+    reader = csv.reader(
+        io.StringIO(text, newline=""),
+        delimiter=SEPARATORS[separator],
+        strict=True,
+        skipinitialspace=separator != "blank",
+    )
     try:
         for number, cells in enumerate(reader, 1):
             yield number, cells
     except csv.Error as error:
-        why = "a quote is opened and never closed" if "end of data" in str(error) else f"a quoted cell goes on after its quote ({error})"
+        why = (
+            "a quote is opened and never closed"
+            if "end of data" in str(error)
+            else f"a quoted cell goes on after its quote ({error})"
+        )
         raise Fault(f"row {number + 1:,}: {why}") from None
 
 
@@ -110,7 +126,7 @@ def is_empty(cells):
 
 
 def layout_with(text, separator):
-    """The layouts that this separator allows: each row has as many cells as there are titles, or one more in every row."""
+    """The layouts that this separator allows: every row has as many cells as the header, or one more."""
     header, lengths, last_cells = None, set(), False
     for _, cells in records(text, separator):
         if is_empty(cells):
@@ -144,18 +160,23 @@ def uneven_rows(text, separator):
     """A sentence for each row whose number of cells isn't that of the titles."""
     filled = ((number, cells) for number, cells in records(text, separator) if not is_empty(cells))
     _, header = next(filled, (0, []))
-    return [f"row {number:,} has {counted(len(cells), 'cell')} and the header has {len(header):,}"
-            for number, cells in filled if len(cells) != len(header)]
+    return [
+        f"row {number:,} has {counted(len(cells), 'cell')} and the header has {len(header):,}"
+        for number, cells in filled
+        if len(cells) != len(header)
+    ]
 
 
 def why_none_fits(text, faults):
     """A Fault for a text that no separator makes a table of: what goes wrong with the likeliest one."""
-    if not text.strip("\ufeff\r\n \"" + "".join(SEPARATORS.values())):
+    if not text.strip('\ufeff\r\n "' + "".join(SEPARATORS.values())):
         return Fault("nothing stands in the file but separators")
     first_line = text.lstrip("\ufeff\r\n ").split("\n", 1)[0]
     likeliest = max(SEPARATORS, key=lambda name: (first_line.count(SEPARATORS[name]), name != "blank"))
     if SEPARATORS[likeliest] not in first_line:
-        return Fault("the first line has one cell, whatever the separator: comma, semicolon, tab, bar and blank were tried")
+        return Fault(
+            "the first line has one cell, whatever the separator: comma, semicolon, tab, bar and blank were tried"
+        )
     why = faults.get(likeliest) or listed(uneven_rows(text, likeliest))
     return Fault(f"no separator gives every row as many cells as the header. With the likeliest, {likeliest}:\n{why}")
 
@@ -165,11 +186,16 @@ def choose_layout(text, separator=None, untitled=None):
     if separator is not None and separator not in SEPARATORS:
         raise Fault(f"{shown(separator)} isn't a separator: it is one of {', '.join(SEPARATORS)}")
     fits, faults = layouts(text)
-    wanted = [layout for layout in fits if separator in (None, layout.separator) and untitled in (None, layout.untitled)]
+    wanted = [
+        layout for layout in fits if separator in (None, layout.separator) and untitled in (None, layout.untitled)
+    ]
     if len(wanted) == 1:
         return wanted[0]
     if wanted:
-        ways = "; ".join(f"separator={layout.separator}" + (f" untitled={layout.untitled}" if layout.untitled != "none" else "") for layout in wanted)
+        ways = "; ".join(
+            f"separator={layout.separator}" + (f" untitled={layout.untitled}" if layout.untitled != "none" else "")
+            for layout in wanted
+        )
         raise Fault(f"the file can be cut into cells in more than one way. Look again with one of: {ways}")
     if separator is not None:
         why = faults.get(separator) or listed(uneven_rows(text, separator)) or "there is no header of two cells or more"
@@ -188,8 +214,11 @@ def read_rows(text, layout):
         else:
             rows.append((number, cells))
     titles = titles_of(header or [], layout)
-    uneven = [f"row {number:,} has {counted(len(cells), 'cell')} and the header has {len(titles):,}"
-              for number, cells in rows if len(cells) != len(titles)]
+    uneven = [
+        f"row {number:,} has {counted(len(cells), 'cell')} and the header has {len(titles):,}"
+        for number, cells in rows
+        if len(cells) != len(titles)
+    ]
     if uneven:
         raise Fault(listed(uneven))
     if not rows:

@@ -1,4 +1,7 @@
-"""Tables of more than 1,024 rows, cut into parts by public columns: no set of rows crosses a part, so each has a journal of its own."""
+"""Tables of more than 1,024 rows, cut into parts by public columns.
+
+No question goes over two parts, so each is a table with a journal of its own.
+"""
 
 import collections
 import itertools
@@ -36,25 +39,30 @@ def splits(names, columns):
 
 def say_splits(names, columns):
     """Prints by which columns a table that is too long can be cut."""
-    print(f"a table has at most {MOST_ROWS:,} rows: \"split by\" has to name a public column that cuts it. These would:")
+    print(f'a table has at most {MOST_ROWS:,} rows: "split by" has to name a public column that cuts it. These would:')
     found = splits(names, columns)
     for together, sizes in found:
-        print(f"  split by={','.join(together)}: {counted(len(sizes), 'part')} of {min(sizes.values()):,} to {max(sizes.values()):,} rows")
+        print(
+            f"  split by={','.join(together)}: {counted(len(sizes), 'part')} of {min(sizes.values()):,} to"
+            f" {max(sizes.values()):,} rows"
+        )
     if not found:
         print("  none, nor two together: leave out rows in the file itself")
 
 
 def parts(rows, by, public):
-    """The rows of each part with the name of its folder, in the order in which they come; one part without a name if `by` is empty."""
+    """Name of the folder, values in words, and rows of each part; one part without a name if `by` is empty."""
     if not by:
         if len(rows) > MOST_ROWS:
             say_splits(public, [[row[name] for row in rows] for name in public])
-            raise Fault(f"{len(rows):,} rows are left, and a table has at most {MOST_ROWS:,}: choose \"split by\"")
+            raise Fault(f'{len(rows):,} rows are left, and a table has at most {MOST_ROWS:,}: choose "split by"')
         return [("", "", rows)]
     tables = collections.defaultdict(list)
     for row in rows:
         tables[tuple(row[name] for name in by)].append(row)
-    long = [f"{values_words(by, values)}: {len(table):,} rows" for values, table in tables.items() if len(table) > MOST_ROWS]
+    long = [
+        f"{values_words(by, values)}: {len(table):,} rows" for values, table in tables.items() if len(table) > MOST_ROWS
+    ]
     if long:
         raise Fault(f"parts that still have more than {MOST_ROWS:,} rows:\n{listed(long)}")
     found, taken = [], {"public"}

@@ -1,4 +1,4 @@
-"""Writes the folders of a table all at once: beside the place first, then under their name, so that none is there in half."""
+"""Writes the folders of a table beside their place first and then under their name, so that none is there in half."""
 
 import csv
 import json
@@ -34,6 +34,7 @@ def write_folders(folder, columns, protect, tables, program):
 
 
 def need_free(folder):
+    """A Fault if something is there already, or if there is nowhere to put it."""
     if os.path.lexists(folder):
         raise Fault(f"{folder} is already there, and nothing is overwritten")
     if not folder.parent.is_dir():
@@ -48,7 +49,7 @@ def current_umask():
 
 
 def write_folder(folder, columns, protect, rows):
-    """schema.json, and table.csv for its owner alone; in public/ the same schema, the public columns, and notes for people."""
+    """schema.json, and table.csv for its owner alone; in public/ the schema, the public columns and notes."""
     public = folder / "public"
     public.mkdir(parents=True)
     schema = {"columns": [{"name": column.name, "is": column.kind} for column in columns]}
@@ -58,7 +59,9 @@ def write_folder(folder, columns, protect, rows):
         (where / "schema.json").write_text(json.dumps(schema, indent=1, ensure_ascii=False) + "\n", encoding="utf-8")
     write_table(folder / "table.csv", columns, rows, 0o600)
     write_table(public / "table.csv", [column for column in columns if column.kind in PUBLIC], rows, 0o666)
-    (public / "notes.json").write_text(json.dumps({"columns": notes(columns)}, indent=1, ensure_ascii=False) + "\n", encoding="utf-8")
+    (public / "notes.json").write_text(
+        json.dumps({"columns": notes(columns)}, indent=1, ensure_ascii=False) + "\n", encoding="utf-8"
+    )
 
 
 def write_table(path, columns, rows, mode):
@@ -77,7 +80,9 @@ def notes(columns):
     for column in columns:
         chosen = column.chosen or {"from": "wave"}
         title = f"{chosen['from']}: known" if column.marks else chosen["from"]
-        numbers = {key: chosen.get(key) for key in ("decimals", "unit")} if column.kind != "text" and not column.marks else {}
+        numbers = (
+            {key: chosen.get(key) for key in ("decimals", "unit")} if column.kind != "text" and not column.marks else {}
+        )
         found[column.name] = {key: value for key, value in {"title": title, **numbers}.items() if value}
     return found
 
@@ -90,10 +95,15 @@ def try_program(folder, program):
         with tempfile.TemporaryDirectory() as copy:
             for name in ("schema.json", "table.csv"):
                 shutil.copy(where / name, copy)
-            run = subprocess.run([program, command], cwd=copy, stdin=subprocess.DEVNULL, capture_output=True, text=True, errors="replace")
+            run = subprocess.run(
+                [program, command], cwd=copy, stdin=subprocess.DEVNULL, capture_output=True, text=True, errors="replace"
+            )
         if run.returncode:
-            raise Fault(f"auditor {command} doesn't take the files, so nothing is written: {run.stderr.strip() or f'status {run.returncode}'}"
-                        + protect_words(folder, run.returncode))
+            raise Fault(
+                f"auditor {command} doesn't take the files, so nothing is written:"
+                f" {run.stderr.strip() or f'status {run.returncode}'}"
+                + protect_words(folder, run.returncode)
+            )
 
 
 def protect_words(folder, status):

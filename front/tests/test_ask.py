@@ -21,8 +21,10 @@ from asking.questions import Question, Unclear, parse
 from asking.words import number_words
 
 KINDS = {"team": "text", "age": "number", "weight_x10": "number", "salary": "sum", "bonus": "max"}
-STAFF = ("team,age,weight,salary,bonus\n\"Support, Leeds\",30,70.5,480.50,3\n\"Support, Leeds\",41,80.5,515.00,6\n\"Tea \"\"&\"\" cake\",35,61,390.00,2\n"
-         "Ann's,52,55,640.00,9\nAnn's,35,90.5,570.25,4\nDesign,44,77.5,610.00,8\n")
+STAFF = (
+    'team,age,weight,salary,bonus\n"Support, Leeds",30,70.5,480.50,3\n"Support, Leeds",41,80.5,515.00,6\n"Tea ""&""'
+    " cake\",35,61,390.00,2\nAnn's,52,55,640.00,9\nAnn's,35,90.5,570.25,4\nDesign,44,77.5,610.00,8\n"
+)
 
 # What was typed, the byte at which it goes wrong, a part of the sentence, and what it says to write instead, if anything.
 WRONG = [
@@ -40,7 +42,7 @@ WRONG = [
     ('team = "Ann\'s"', 7, "single quotes", "team = 'Ann''s'"),
     ("team = ‘QA’", 7, "single quotes", "team = 'QA'"),
     ("age between 30 and 40", 4, "write age >= 30 and age <= 40", "age >= 30 and age <= 40"),
-    ("age == 1 && team == \"Q\"", 5, "= is written in place of ==", "age = 1 and team = 'Q'"),
+    ('age == 1 && team == "Q"', 5, "= is written in place of ==", "age = 1 and team = 'Q'"),
     ("team not in ('QA')", 5, "not stands before what it denies", "not team in ('QA')"),
     ("salary > 500", 0, "salary is secret, and a condition is over public columns alone: team, age, weight_x10", None),
     ("age > 3 and bonus = 9", 12, "bonus is secret", None),
@@ -62,32 +64,54 @@ WRONG = [
     ("age + 1 > 3", 4, "doesn't reckon", None),
     ("age > 3;", 7, "without a semicolon", None),
     ("age >", 5, "ends too early", None),
-    ("", 0, "all means every row", None)]
+    ("", 0, "all means every row", None),
+]
 
 
 class Lines(unittest.TestCase):
     def test_lines_become_questions(self):
         for text, due in (
-                ("count", Question("count")), ("sum salary where age >= 41", Question("sum", "salary", "age >= 41")),
-                ("avg salary", Question("avg", "salary")), ("average salary WHERE age = 3", Question("avg", "salary", "age = 3")),
-                ("max bonus where team = ' where '", Question("max", "bonus", "team = ' where '")),
-                ("totals salary by team", Question("sum", "salary", by="team")),
-                ("avg salary by team where age > 3", Question("avg", "salary", "age > 3", "team")),
-                ("count by age", Question("count", by="age")), ("would sum salary where age = 3", Question("sum", "salary", "age = 3", would=True))):
+            ("count", Question("count")),
+            ("sum salary where age >= 41", Question("sum", "salary", "age >= 41")),
+            ("avg salary", Question("avg", "salary")),
+            ("average salary WHERE age = 3", Question("avg", "salary", "age = 3")),
+            ("max bonus where team = ' where '", Question("max", "bonus", "team = ' where '")),
+            ("totals salary by team", Question("sum", "salary", by="team")),
+            ("avg salary by team where age > 3", Question("avg", "salary", "age > 3", "team")),
+            ("count by age", Question("count", by="age")),
+            ("would sum salary where age = 3", Question("sum", "salary", "age = 3", would=True)),
+        ):
             with self.subTest(text):
                 self.assertEqual(parse(text, KINDS), due)
 
     def test_lines_that_are_no_question_get_a_sentence(self):
-        for text, words in (("min salary", "min can't be asked"), ("summ salary", "did you mean sum?"), ("sum", "write it as: sum COLUMN"), ("count salary", "a count has no column"),
-                            ("sum salry", "did you mean salary?"), ("sum age", "age is public"), ("sum bonus", "bonus is kept for max"), ("max salary", "kept for sum and avg"),
-                            ("totals salary", "totals COLUMN by COLUMN"), ("totals salary by bonus", "bonus is secret"), ("sum salary by tem", "did you mean team?"), ("", "'' isn't something")):
+        for text, words in (
+            ("min salary", "min can't be asked"),
+            ("summ salary", "did you mean sum?"),
+            ("sum", "write it as: sum COLUMN"),
+            ("count salary", "a count has no column"),
+            ("sum salry", "did you mean salary?"),
+            ("sum age", "age is public"),
+            ("sum bonus", "bonus is kept for max"),
+            ("max salary", "kept for sum and avg"),
+            ("totals salary", "totals COLUMN by COLUMN"),
+            ("totals salary by bonus", "bonus is secret"),
+            ("sum salary by tem", "did you mean team?"),
+            ("", "'' isn't something"),
+        ):
             with self.subTest(text), self.assertRaises(Unclear) as found:
                 parse(text, KINDS)
             self.assertIn(words, str(found.exception))
 
     def test_a_question_is_asked_over_one_value(self):
-        self.assertEqual(Question("sum", "salary", by="team").over("Ann's").line(), {"ask": "sum", "column": "salary", "where": "team = 'Ann''s'"})
-        self.assertEqual(Question("count", where="a or b", by="age").over(-3).line(), {"ask": "count", "where": "(a or b) and age = -3"})
+        self.assertEqual(
+            Question("sum", "salary", by="team").over("Ann's").line(),
+            {"ask": "sum", "column": "salary", "where": "team = 'Ann''s'"},
+        )
+        self.assertEqual(
+            Question("count", where="a or b", by="age").over(-3).line(),
+            {"ask": "count", "where": "(a or b) and age = -3"},
+        )
 
 
 class Words(unittest.TestCase):
@@ -98,18 +122,34 @@ class Words(unittest.TestCase):
                 self.assertEqual(mended(condition), better or condition)
 
     def test_what_stands_in_quotes_isnt_mended(self):
-        for condition in ("team = 'a == b && \"c\" AND d'", "team = 'it''s <> x' and age != 3", "not (age >= -3) or all"):
+        for condition in (
+            "team = 'a == b && \"c\" AND d'",
+            "team = 'it''s <> x' and age != 3",
+            "not (age >= -3) or all",
+        ):
             self.assertEqual(mended(condition), condition)
 
     def test_the_mark_stands_under_the_byte(self):
-        for condition, at, before in (("age == 4", 5, 5), ("tëam == 4", 7, 6), ("team = '東京' == 4", 17, 15), ("a\n== 4", 3, 3)):
+        for condition, at, before in (
+            ("age == 4", 5, 5),
+            ("tëam == 4", 7, 6),
+            ("team = '東京' == 4", 17, 15),
+            ("a\n== 4", 3, 3),
+        ):
             line, mark = marked(condition, at, "").split("\n")
             self.assertEqual((mark, len(line)), (" " * before + "^", len(condition)))
 
     def test_decimals_and_units_are_set_back(self):
-        for number, note, due in ((48050, {"decimals": 2, "unit": "EUR"}, "480.50 EUR"), (-5, {"decimals": 1}, "-0.5"), (0, {"decimals": 2}, "0.00"), (7, {}, "7"),
-                                  (fractions.Fraction(7, 2), {}, "3.5"), (fractions.Fraction(1, 3), {}, "0.333333 (exactly 1/3)"),
-                                  (fractions.Fraction(200, 3), {"decimals": 2}, "0.66666667 (exactly 2/3)"), (fractions.Fraction(-1, 3), {"decimals": 1}, "-0.0333333 (exactly -1/30)")):
+        for number, note, due in (
+            (48050, {"decimals": 2, "unit": "EUR"}, "480.50 EUR"),
+            (-5, {"decimals": 1}, "-0.5"),
+            (0, {"decimals": 2}, "0.00"),
+            (7, {}, "7"),
+            (fractions.Fraction(7, 2), {}, "3.5"),
+            (fractions.Fraction(1, 3), {}, "0.333333 (exactly 1/3)"),
+            (fractions.Fraction(200, 3), {"decimals": 2}, "0.66666667 (exactly 2/3)"),
+            (fractions.Fraction(-1, 3), {"decimals": 1}, "-0.0333333 (exactly -1/30)"),
+        ):
             with self.subTest(due):
                 self.assertEqual(number_words(number, note), due)
 
@@ -128,7 +168,9 @@ class OverAFolder(TableTest):
     @needs_program
     def test_answers_have_their_decimals(self):
         self.journal()
-        status, said = self.ask("count where age >= 41", "sum salary where age >= 41", "avg salary where age >= 41", "max bonus")
+        status, said = self.ask(
+            "count where age >= 41", "sum salary where age >= 41", "avg salary where age >= 41", "max bonus"
+        )
         self.assertEqual((status, said.splitlines()), (0, ["3", "1765.00", "588.33333333 (exactly 1765/3)", "9"]))
 
     @needs_program
@@ -136,7 +178,13 @@ class OverAFolder(TableTest):
         self.journal()
         status, said = self.ask("sum salary where age >= 41", "sum salary where age >= 41 and not team = 'Design'")
         self.assertEqual(status, 1)
-        self.assertIn("1765.00\nnot answered: Some answer to this question, together with what was answered before, could give one person's value away", said)
+        self.assertIn(
+            (
+                "1765.00\nnot answered: Some answer to this question, together with what was answered before, could"
+                " give one person's value away"
+            ),
+            said,
+        )
 
     @needs_program
     def test_totals_are_a_line_for_each_value(self):
@@ -182,7 +230,9 @@ class OverAFolder(TableTest):
     def test_without_a_journal_it_says_what_to_do(self):
         status, said = self.ask("count")
         self.assertEqual(status, 1)
-        self.assertIn("auditor: no journal (there is no journal: run auditor init in the folder, once for the table)", said)
+        self.assertIn(
+            "auditor: no journal (there is no journal: run auditor init in the folder, once for the table)", said
+        )
 
     @needs_program
     def test_a_journal_in_use_is_said(self):
@@ -195,7 +245,12 @@ class OverAFolder(TableTest):
             held.stdin.close()
 
     def test_places_that_arent_one_get_a_sentence(self):
-        for words, due in (([self.folder / "nothing"], "there is no folder"), ([self.folder], "has no schema.json"), ([], "ask.py FOLDER"), (["--help"], "ask.py FOLDER")):
+        for words, due in (
+            ([self.folder / "nothing"], "there is no folder"),
+            ([self.folder], "has no schema.json"),
+            ([], "ask.py FOLDER"),
+            (["--help"], "ask.py FOLDER"),
+        ):
             with mock.patch.dict(os.environ, {"AUDITOR": "/bin/true"}):
                 status, said = said_by(ask.main, words)
             self.assertIn(due, said)
@@ -223,7 +278,11 @@ class ListedDoor(http.server.BaseHTTPRequestHandler):
         self.wfile.write(data)
 
     def do_GET(self):
-        self.reply(200, self.files[self.path]) if self.path in self.files else self.reply(404, '{"error":"there is no such file"}')
+        (
+            self.reply(200, self.files[self.path])
+            if self.path in self.files
+            else self.reply(404, '{"error":"there is no such file"}')
+        )
 
     def do_POST(self):
         body = self.rfile.read(int(self.headers["Content-Length"]))
@@ -236,9 +295,11 @@ class ListedDoor(http.server.BaseHTTPRequestHandler):
 
 class OverADoor(unittest.TestCase):
     def setUp(self):
-        ListedDoor.files = {"/t/schema.json": json.dumps({"columns": [{"name": name, "is": kind} for name, kind in KINDS.items()]}),
-                            "/t/notes.json": json.dumps({"columns": {"salary": {"title": "Lohn", "decimals": 2, "unit": "EUR"}}}),
-                            "/t/table.csv": "team,age,weight_x10\r\nQA,3,1\r\nOPS,4,2\r\nQA,5,3\r\n"}
+        ListedDoor.files = {
+            "/t/schema.json": json.dumps({"columns": [{"name": name, "is": kind} for name, kind in KINDS.items()]}),
+            "/t/notes.json": json.dumps({"columns": {"salary": {"title": "Lohn", "decimals": 2, "unit": "EUR"}}}),
+            "/t/table.csv": "team,age,weight_x10\r\nQA,3,1\r\nOPS,4,2\r\nQA,5,3\r\n",
+        }
         ListedDoor.replies, ListedDoor.asked = [], []
         self.server = http.server.ThreadingHTTPServer(("127.0.0.1", 0), ListedDoor)
         self.address = f"http://127.0.0.1:{self.server.server_address[1]}/t/"
@@ -253,11 +314,25 @@ class OverADoor(unittest.TestCase):
         return said_by(ask.main, [self.address, *questions])
 
     def test_questions_and_verdicts_go_where_they_belong(self):
-        status, said = self.ask(['{"sum":150}', '{"num":1,"den":3}', '{"verdict":"unsafe"}'], "sum salary where age = 3", "avg salary", "would sum salary")
-        self.assertEqual((status, said.splitlines()), (0, ["1.50 EUR", "0.00333333 EUR (exactly 1/300)", "It would not be answered."]))
+        status, said = self.ask(
+            ['{"sum":150}', '{"num":1,"den":3}', '{"verdict":"unsafe"}'],
+            "sum salary where age = 3",
+            "avg salary",
+            "would sum salary",
+        )
+        self.assertEqual(
+            (status, said.splitlines()),
+            (0, ["1.50 EUR", "0.00333333 EUR (exactly 1/300)", "It would not be answered."]),
+        )
         kind = "application/json"
-        self.assertEqual(ListedDoor.asked, [("/t/ask", kind, {"ask": "sum", "column": "salary", "where": "age = 3"}), ("/t/ask", kind, {"ask": "avg", "column": "salary", "where": "all"}),
-                                            ("/t/would", kind, {"ask": "sum", "column": "salary", "where": "all"})])
+        self.assertEqual(
+            ListedDoor.asked,
+            [
+                ("/t/ask", kind, {"ask": "sum", "column": "salary", "where": "age = 3"}),
+                ("/t/ask", kind, {"ask": "avg", "column": "salary", "where": "all"}),
+                ("/t/would", kind, {"ask": "sum", "column": "salary", "where": "all"}),
+            ],
+        )
 
     def test_groups_are_those_of_the_public_table(self):
         status, said = self.ask(['{"sum":1}', '{"denied":"wide"}'], "totals salary by team")
@@ -266,13 +341,22 @@ class OverADoor(unittest.TestCase):
         self.assertEqual([asked["where"] for _, _, asked in ListedDoor.asked], ["team = 'OPS'", "team = 'QA'"])
 
     def test_every_refusal_has_a_sentence(self):
-        for why, words in (("full", "history is full"), ("long", "longer than"), ("line", "isn't one that the program understands"), ("empty", "No row")):
+        for why, words in (
+            ("full", "history is full"),
+            ("long", "longer than"),
+            ("line", "isn't one that the program understands"),
+            ("empty", "No row"),
+        ):
             status, said = self.ask([json.dumps({"refused": why})], "sum salary")
             self.assertEqual(status, 1)
             self.assertIn(words, said)
 
     def test_the_doors_own_words_are_said(self):
-        for reply, words in (((503, '{"error":"too many wait"}'), "the front door says: too many wait"), ((500, "<html>"), "500"), ((200, "<html>"), "isn't a front door")):
+        for reply, words in (
+            ((503, '{"error":"too many wait"}'), "the front door says: too many wait"),
+            ((500, "<html>"), "500"),
+            ((200, "<html>"), "isn't a front door"),
+        ):
             status, said = self.ask([reply], "sum salary")
             self.assertEqual(status, 1)
             self.assertIn(words, said)
@@ -282,7 +366,9 @@ class OverADoor(unittest.TestCase):
         self.assertEqual(self.ask(['{"sum":150}'], "sum salary"), (0, "150\n"))
 
     def test_too_many_groups_arent_asked(self):
-        ListedDoor.files["/t/table.csv"] = "team,age,weight_x10\n" + "".join(f"t{number},3,1\n" for number in range(101))
+        ListedDoor.files["/t/table.csv"] = "team,age,weight_x10\n" + "".join(
+            f"t{number},3,1\n" for number in range(101)
+        )
         status, said = self.ask([], "totals salary by team")
         self.assertEqual((status, ListedDoor.asked), (1, []))
         self.assertIn("team has 101 values, and at most 100 questions are asked at once", said)

@@ -11,7 +11,9 @@ import unittest
 
 from table_kit import TableTest
 
-STAFF = "team,age,salary,bonus\n" + "".join(f"{('QA', 'DEV', 'Bob´s', 'Ops, North')[n % 4]!r},{20 + n % 40},{1000 + n * n % 977},{n % 7}\n" for n in range(60)).replace("'", '"')
+STAFF = "team,age,salary,bonus\n" + "".join(
+    f"{('QA', 'DEV', 'Bob´s', 'Ops, North')[n % 4]!r},{20 + n % 40},{1000 + n * n % 977},{n % 7}\n" for n in range(60)
+).replace("'", '"')
 
 
 def named():
@@ -67,10 +69,26 @@ def strange_quotes():
 
 def strange_headers():
     body = "1,2,3\n4,5,6\n7,8,1\n"
-    for name, header in (("two titles alike", "a,a,b"), ("two titles alike after renaming", "a.b,a b,a_b"), ("no titles", ",,"), ("keywords", "and,or,not"), ("numbers", "1,2,3"),
-                         ("a long title", "x" * 100000 + ",b,c"), ("long titles alike", ",".join("x" * 40 + str(k) for k in range(3))), ("signs", "!,?,%"), ("Greek", "α,β,γ"),
-                         ("combining signs", "a" + "\u0301" * 5000 + ",b,c"), ("formulas", "=1+1,@sum,+x"), ("quotes", '"""","""a""",b'), ("the names that are added", "wave,age_known,age"),
-                         ("a title with a line end", '"a\r\n",b,c'), ("titles too few", "a,b"), ("titles too many", "a,b,c,d"), ("a title too many by two", "a,b,c,d,e"), ("one title", "a")):
+    for name, header in (
+        ("two titles alike", "a,a,b"),
+        ("two titles alike after renaming", "a.b,a b,a_b"),
+        ("no titles", ",,"),
+        ("keywords", "and,or,not"),
+        ("numbers", "1,2,3"),
+        ("a long title", "x" * 100000 + ",b,c"),
+        ("long titles alike", ",".join("x" * 40 + str(k) for k in range(3))),
+        ("signs", "!,?,%"),
+        ("Greek", "α,β,γ"),
+        ("combining signs", "a" + "\u0301" * 5000 + ",b,c"),
+        ("formulas", "=1+1,@sum,+x"),
+        ("quotes", '"""","""a""",b'),
+        ("the names that are added", "wave,age_known,age"),
+        ("a title with a line end", '"a\r\n",b,c'),
+        ("titles too few", "a,b"),
+        ("titles too many", "a,b,c,d"),
+        ("a title too many by two", "a,b,c,d,e"),
+        ("one title", "a"),
+    ):
         yield f"header: {name}", (header + "\n" + body).encode()
     yield "a header alone", b"a,b,c\n"
     yield "a header twice", ("a,b,c\na,b,c\n" + body).encode()
@@ -82,21 +100,58 @@ def strange_headers():
 
 
 def strange_numbers():
-    for name, cells in (("400 digits", ["9" * 400]), ("5,000 digits", ["1" * 5000]), ("400 decimals", ["0." + "1" * 400]), ("a large power", ["1e999"]), ("a small power", ["1e-999"]),
-                        ("a power too long", ["1e9999"]), ("no power", ["1e"]), ("minus 0", ["-0"]), ("signs alone", ["+", "-"]), ("two signs", ["--1"]), ("infinity", ["inf", "-Infinity"]), ("not a number", ["nan", "NaN"]),
-                        ("hexadecimal", ["0x1F"]), ("strokes in it", ["1_000"]), ("Arabic digits", ["٣", "٤"]), ("wide digits", ["１２"]), ("raised digits", ["²"]), ("a fraction", ["1/2"]),
-                        ("points alone", [".", ".."]), ("two points", ["1.2.3"]), ("groups that aren't", ["1,2345,6"]), ("a blank within", ["1 0"]), ("thousands and points mixed", ["1,000.5", "1.000,5"]),
-                        ("two currencies", ["$5", "€5"]), ("a unit on both sides", ["$5%"]), ("truth", ["TRUE", "FALSE"]), ("a time", ["12:30"]), ("no such day", ["2024-02-31"]), ("the year 0", ["0000-01-01"]),
-                        ("the year 9999", ["9999-12-31"]), ("a month 13", ["2024-13-01"]), ("dates in two orders", ["31.01.2024", "2024-01-31"]), ("a date with two digits", ["1/2/24"]),
-                        ("ten to the twelfth and one", ["1000000000001"]), ("blanks", ["  5  ", "\t6"]), ("a fixed blank", ["\u00a05\u00a0"]), ("zeros", ["000000000000000000007"]), ("a minus sign of print", ["\u22125"])):
+    for name, cells in (
+        ("400 digits", ["9" * 400]),
+        ("5,000 digits", ["1" * 5000]),
+        ("400 decimals", ["0." + "1" * 400]),
+        ("a large power", ["1e999"]),
+        ("a small power", ["1e-999"]),
+        ("a power too long", ["1e9999"]),
+        ("no power", ["1e"]),
+        ("minus 0", ["-0"]),
+        ("signs alone", ["+", "-"]),
+        ("two signs", ["--1"]),
+        ("infinity", ["inf", "-Infinity"]),
+        ("not a number", ["nan", "NaN"]),
+        ("hexadecimal", ["0x1F"]),
+        ("strokes in it", ["1_000"]),
+        ("Arabic digits", ["٣", "٤"]),
+        ("wide digits", ["１２"]),
+        ("raised digits", ["²"]),
+        ("a fraction", ["1/2"]),
+        ("points alone", [".", ".."]),
+        ("two points", ["1.2.3"]),
+        ("groups that aren't", ["1,2345,6"]),
+        ("a blank within", ["1 0"]),
+        ("thousands and points mixed", ["1,000.5", "1.000,5"]),
+        ("two currencies", ["$5", "€5"]),
+        ("a unit on both sides", ["$5%"]),
+        ("truth", ["TRUE", "FALSE"]),
+        ("a time", ["12:30"]),
+        ("no such day", ["2024-02-31"]),
+        ("the year 0", ["0000-01-01"]),
+        ("the year 9999", ["9999-12-31"]),
+        ("a month 13", ["2024-13-01"]),
+        ("dates in two orders", ["31.01.2024", "2024-01-31"]),
+        ("a date with two digits", ["1/2/24"]),
+        ("ten to the twelfth and one", ["1000000000001"]),
+        ("blanks", ["  5  ", "\t6"]),
+        ("a fixed blank", ["\u00a05\u00a0"]),
+        ("zeros", ["000000000000000000007"]),
+        ("a minus sign of print", ["\u22125"]),
+    ):
         rows = [f"t{k};{cells[k % len(cells)] if k < 2 * len(cells) else k}" for k in range(9)]
         yield f"number: {name}", ("team;pay\n" + "\n".join(rows) + "\n").encode()
-        yield f"number, every one: {name}", ("team;pay\n" + "\n".join(f"t{k};{cells[k % len(cells)]}" for k in range(4)) + "\n").encode()
+        yield f"number, every one: {name}", (
+            "team;pay\n" + "\n".join(f"t{k};{cells[k % len(cells)]}" for k in range(4)) + "\n"
+        ).encode()
 
 
 def strange_sizes():
     yield "a million columns", b"a," * 10**6 + b"b\n" + b"1," * 10**6 + b"2\n"
-    yield "1,025 columns", (",".join(f"c{k}" for k in range(1025)) + "\n" + ",".join(map(str, range(1025))) + "\n").encode()
+    yield "1,025 columns", (
+        ",".join(f"c{k}" for k in range(1025)) + "\n" + ",".join(map(str, range(1025))) + "\n"
+    ).encode()
     yield "40 columns", (",".join(f"c{k}" for k in range(40)) + "\n" + ",".join(map(str, range(40))) + "\n").encode()
     yield "a cell of 20 MB", b"a,b\n" + b"x" * 20_000_000 + b",1\ny,2\n"
     yield "a quoted cell of a million line ends", b'a,b\n"' + b"\n" * 10**6 + b'",1\ny,2\n'
@@ -118,11 +173,13 @@ def spoilt(number):
         place = draw.randrange(len(data))
         kind = draw.randrange(5)
         if kind == 0:
-            data[place:place] = draw.choice([b'"', b",", b";", b"\n", b"\r", b"\t", b"\0", b"\xff", b"'", b"9" * 13, b"NA", b",,", b'""'])
+            data[place:place] = draw.choice(
+                [b'"', b",", b";", b"\n", b"\r", b"\t", b"\0", b"\xff", b"'", b"9" * 13, b"NA", b",,", b'""']
+            )
         elif kind == 1:
-            del data[place:place + draw.randint(1, 30)]
+            del data[place : place + draw.randint(1, 30)]
         elif kind == 2:
-            data[place:place] = data[place:place + draw.randint(1, 300)]
+            data[place:place] = data[place : place + draw.randint(1, 300)]
         elif kind == 3:
             old, new = draw.sample([b",", b";", b"\n", b'"', b"\t"], 2)
             data = bytearray(bytes(data).replace(old, new, draw.choice([1, 5, -1])))
@@ -154,7 +211,10 @@ class Hostile(TableTest):
         """A public text, a secret number, and the others left out, by what was seen of each."""
         columns = [column for column in self.chosen()["columns"] if column["is"] == "?"]
         secret = next((column for column in columns if "numbers" in column["seen"]), None)
-        words = [f"{column['name']}={'sum' if column is secret else 'text' if place < 4 else 'leave out'}" for place, column in enumerate(columns)]
+        words = [
+            f"{column['name']}={'sum' if column is secret else 'text' if place < 4 else 'leave out'}"
+            for place, column in enumerate(columns)
+        ]
         if secret and secret["written as"] == "?":
             words += [f"{secret['name']}.written as=1,234", f"{secret['name']}.decimals=0"]
         return words
@@ -163,7 +223,7 @@ class Hostile(TableTest):
         """The last words are a sentence of a length that can be read, and the folder has these names alone."""
         self.assertRegex(said, "(?m)^prepare: [^\n]{5,}")
         self.assertNotIn("Traceback", said)
-        self.assertLess(len(said[said.index("prepare: "):]), 6000)
+        self.assertLess(len(said[said.index("prepare: ") :]), 6000)
         self.assertEqual(self.names(), names)
 
     def need_whole(self):
@@ -175,7 +235,13 @@ class Hostile(TableTest):
         self.assertEqual(len(table), len(public))
         self.assertTrue(2 <= len(table) <= 1025)
         self.assertEqual(sorted(path.name for path in self.folder.iterdir()), ["out", "t.choices.json", "t.csv"])
-        for path in [*(self.out / "public").iterdir(), self.out / "public", self.out / "schema.json", self.out / "table.csv", self.out]:
+        for path in [
+            *(self.out / "public").iterdir(),
+            self.out / "public",
+            self.out / "schema.json",
+            self.out / "table.csv",
+            self.out,
+        ]:
             path.rmdir() if path.is_dir() else path.unlink()
 
     def test_strange_files_end_with_a_sentence_or_a_whole_folder(self):
@@ -193,14 +259,27 @@ class Hostile(TableTest):
 
     def test_what_each_of_the_worst_is_told(self):
         for name, data, words in (
-                ("a million columns", dict(strange_sizes())["a million columns"], "the header has 1,000,001 cells, and 2 to 1,024 are read"),
-                ("a cell of 20 MB", b"a,b\n" + b"x" * 20_000_000 + b",1\ny,2\n", "and at most 16,777,216 are read"),
-                ("a number of 400 digits", b"a;b\nx;" + b"9" * 400 + b"\ny;2\nz;5\n", "(400 characters) is beyond 1,000,000,000,000"),
-                ("an open quote", b'a,b\n1,2\n3,"4\n5,6\n', "row 3: a quote is opened and never closed"),
-                ("a byte 0", b"a,b\n1,2\n3,\0\n", "line 3 has a byte 0"),
-                ("a title of 20 MB", b"a" * 20_000_000 + b",b\n1,2\n3,4\n", "a title has 20,000,000 characters"),
-                ("a wrong byte", "wörter,zahl\nä,1\nö,2\n".encode() + b"\xff,3\n", "byte 23 of the file (ff, hexadecimal) isn't UTF-8, though most letters"),
-                ("more than is read", dict(strange_sizes())["more than is read"], "more than 67,108,864 bytes")):
+            (
+                "a million columns",
+                dict(strange_sizes())["a million columns"],
+                "the header has 1,000,001 cells, and 2 to 1,024 are read",
+            ),
+            ("a cell of 20 MB", b"a,b\n" + b"x" * 20_000_000 + b",1\ny,2\n", "and at most 16,777,216 are read"),
+            (
+                "a number of 400 digits",
+                b"a;b\nx;" + b"9" * 400 + b"\ny;2\nz;5\n",
+                "(400 characters) is beyond 1,000,000,000,000",
+            ),
+            ("an open quote", b'a,b\n1,2\n3,"4\n5,6\n', "row 3: a quote is opened and never closed"),
+            ("a byte 0", b"a,b\n1,2\n3,\0\n", "line 3 has a byte 0"),
+            ("a title of 20 MB", b"a" * 20_000_000 + b",b\n1,2\n3,4\n", "a title has 20,000,000 characters"),
+            (
+                "a wrong byte",
+                "wörter,zahl\nä,1\nö,2\n".encode() + b"\xff,3\n",
+                "byte 23 of the file (ff, hexadecimal) isn't UTF-8, though most letters",
+            ),
+            ("more than is read", dict(strange_sizes())["more than is read"], "more than 67,108,864 bytes"),
+        ):
             with self.subTest(name):
                 for path in (self.choices, self.file):
                     path.unlink(missing_ok=True)
@@ -213,7 +292,10 @@ class Hostile(TableTest):
 
     def test_titles_alike_after_renaming_are_told_apart(self):
         self.look("a.b,a b,pay\nx,y,1\nz,u,5\n")
-        said = self.prepare("choose", self.choices, "a_b=text", "a_b_2=text", "pay=sum", "protect=none")[1] + self.make()[1]
+        said = (
+            self.prepare("choose", self.choices, "a_b=text", "a_b_2=text", "pay=sum", "protect=none")[1]
+            + self.make()[1]
+        )
         self.assertIn("'a b': public text, named a_b_2", said)
         with open(self.out / "table.csv", newline="") as file:
             self.assertEqual(next(csv.reader(file)), ["a_b", "a_b_2", "pay"])

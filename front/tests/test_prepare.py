@@ -19,7 +19,9 @@ class Reading(TableTest):
             with self.subTest(encoding):
                 self.choices.unlink(missing_ok=True)
                 status, said = self.look(text, encoding=encoding)
-                self.assertEqual((status, [column["from"] for column in self.chosen()["columns"]]), (0, ["Größe", "Lohn"]), said)
+                self.assertEqual(
+                    (status, [column["from"] for column in self.chosen()["columns"]]), (0, ["Größe", "Lohn"]), said
+                )
                 self.assertIn("'mäßig'", said)
 
     def test_an_encoding_can_be_named(self):
@@ -77,8 +79,14 @@ class Reading(TableTest):
         self.assertIn("row 3: a quote is opened and never closed", said)
 
     def test_files_that_are_no_table_get_a_sentence(self):
-        for data, words in ((b"", "is empty"), (b" \n", "is empty"), (b"a,b\n", "a header and no row"), (b"a,b\n1,\0\n", "line 2 has a byte 0"),
-                            (b"a,b\n\x81,2\n", "byte 4"), (b"a\n1\n", "the first line has one cell")):
+        for data, words in (
+            (b"", "is empty"),
+            (b" \n", "is empty"),
+            (b"a,b\n", "a header and no row"),
+            (b"a,b\n1,\0\n", "line 2 has a byte 0"),
+            (b"a,b\n\x81,2\n", "byte 4"),
+            (b"a\n1\n", "the first line has one cell"),
+        ):
             with self.subTest(data):
                 status, said = self.look(data)
                 self.assertEqual((status, self.names()), (1, ["t.csv"]))
@@ -101,8 +109,20 @@ class Names(TableTest):
         titles = ["yrs.since.phd", "yrs since phd", "9 lives", "and", "Größe", "", "salary", "salary", "x" * 40]
         status, said = self.look(";".join(titles) + "\n" + ";".join("abcdefghi") + "\n")
         self.assertEqual(status, 0, said)
-        self.assertEqual([column["name"] for column in self.chosen()["columns"]],
-                         ["yrs_since_phd", "yrs_since_phd_2", "c_9_lives", "and_", "Grosse", "column_6", "salary", "salary_2", "x" * 32])
+        self.assertEqual(
+            [column["name"] for column in self.chosen()["columns"]],
+            [
+                "yrs_since_phd",
+                "yrs_since_phd_2",
+                "c_9_lives",
+                "and_",
+                "Grosse",
+                "column_6",
+                "salary",
+                "salary_2",
+                "x" * 32,
+            ],
+        )
         self.assertIn("'yrs since phd', to be named yrs_since_phd_2", said)
 
     def test_a_good_name_is_kept_though_a_title_before_it_would_take_it(self):
@@ -118,12 +138,19 @@ class Names(TableTest):
 class Numbers(TableTest):
     def pays(self, cells, *words):
         """The numbers of a secret column that has these cells."""
-        self.made("team;pay\n" + "".join(f"t{number};{cell}\n" for number, cell in enumerate(cells)), "team=text", "pay=sum", *words)
+        self.made(
+            "team;pay\n" + "".join(f"t{number};{cell}\n" for number, cell in enumerate(cells)),
+            "team=text",
+            "pay=sum",
+            *words,
+        )
         return [row[1] for row in self.table()[1:]]
 
     def test_decimals_are_scaled_exactly(self):
         self.assertEqual(self.pays(["0.1", "10.50", "-3", "99.99", "+7.05"]), ["10", "1050", "-300", "9999", "705"])
-        self.assertEqual(json.loads((self.out / "public/notes.json").read_text())["columns"]["pay"], {"title": "pay", "decimals": 2})
+        self.assertEqual(
+            json.loads((self.out / "public/notes.json").read_text())["columns"]["pay"], {"title": "pay", "decimals": 2}
+        )
 
     def test_what_a_double_would_miss_is_scaled_exactly(self):
         self.assertEqual(self.pays(["0.29", "1.15", "8.2", "1.005"]), ["290", "1150", "8200", "1005"])
@@ -149,7 +176,13 @@ class Numbers(TableTest):
             with self.subTest(how):
                 self.choices.unlink(missing_ok=True)
                 self.out = self.folder / how
-                said = self.made("age,pay\n1.25,5\n-1.5,7\n3.5,1\n5,9\n", "age=number", "age.decimals=0", f"age.rounded={how}", "pay=sum")
+                said = self.made(
+                    "age,pay\n1.25,5\n-1.5,7\n3.5,1\n5,9\n",
+                    "age=number",
+                    "age.decimals=0",
+                    f"age.rounded={how}",
+                    "pay=sum",
+                )
                 self.assertEqual([row[0] for row in self.table()[1:]], due)
                 self.assertIn("3 cells rounded", said)
 
@@ -252,37 +285,73 @@ class Missing(TableTest):
         self.assertIn("team.missing\nage.missing\npay.missing", self.make()[1])
 
     def test_rows_without_a_secret_are_dropped_and_counted(self):
-        said = self.made(self.GAPS, "team=text", "team.missing=keep", "age=number", "age.missing=mark", "pay=sum", "pay.missing=drop the row")
-        self.assertEqual(self.table(), [["team", "age", "age_known", "pay"], ["A", "30", "1", "5"], ["B", "0", "0", "7"], ["NA", "60", "1", "9"]])
-        self.assertIn("dropped 2 rows of 5, for what they lack: 'pay' 2. In the file, with the header as row 1: 4, 5", said)
+        said = self.made(
+            self.GAPS,
+            "team=text",
+            "team.missing=keep",
+            "age=number",
+            "age.missing=mark",
+            "pay=sum",
+            "pay.missing=drop the row",
+        )
+        self.assertEqual(
+            self.table(),
+            [["team", "age", "age_known", "pay"], ["A", "30", "1", "5"], ["B", "0", "0", "7"], ["NA", "60", "1", "9"]],
+        )
+        self.assertIn(
+            "dropped 2 rows of 5, for what they lack: 'pay' 2. In the file, with the header as row 1: 4, 5", said
+        )
         self.assertIn("1 gap kept as 0, with age_known beside it", said)
 
     def test_a_row_that_lacks_two_is_dropped_once(self):
-        said = self.made("team,age,pay\nA,30,5\nB,NA,NA\nC,NA,7\nD,2,9\n", "team=text", "age=number", "pay=sum", "missing=drop the row")
+        said = self.made(
+            "team,age,pay\nA,30,5\nB,NA,NA\nC,NA,7\nD,2,9\n",
+            "team=text",
+            "age=number",
+            "pay=sum",
+            "missing=drop the row",
+        )
         self.assertIn("dropped 2 rows of 4, for what they lack: 'age' 2, 'pay' 1.", said)
         self.assertEqual([row[0] for row in self.table()], ["team", "A", "D"])
 
     def test_gaps_of_dropped_rows_arent_counted_as_kept(self):
-        said = self.made("age,pay\nNA,5\nNA,NA\n3,8\n4,1\n", "age=number", "age.missing=mark", "pay=sum", "pay.missing=drop the row")
+        said = self.made(
+            "age,pay\nNA,5\nNA,NA\n3,8\n4,1\n", "age=number", "age.missing=mark", "pay=sum", "pay.missing=drop the row"
+        )
         self.assertIn("1 gap kept as 0", said)
 
     def test_a_secret_has_no_other_way_than_dropping(self):
         for way in ("mark", "keep"):
             with self.subTest(way):
                 self.choices.unlink(missing_ok=True)
-                said = self.refused(self.GAPS, "team=text", "team.missing=keep", "age=number", "age.missing=mark", "pay=sum", f"pay.missing={way}")
+                said = self.refused(
+                    self.GAPS,
+                    "team=text",
+                    "team.missing=keep",
+                    "age=number",
+                    "age.missing=mark",
+                    "pay=sum",
+                    f"pay.missing={way}",
+                )
                 self.assertIn(f"'pay': \"missing\" can't be '{way}' for sum, which takes: drop the row", said)
 
     def test_na_can_be_a_value(self):
         self.look("land,pay\nNA,5\nDE,7\nFR,2\n")
-        text = self.choices.read_text().replace('"missing is": [\n    "NA"\n   ]', '"missing is": []').replace('"missing": "?"', '"missing": null')
+        text = (
+            self.choices.read_text()
+            .replace('"missing is": [\n    "NA"\n   ]', '"missing is": []')
+            .replace('"missing": "?"', '"missing": null')
+        )
         self.choices.write_text(text)
         self.choose("land=text", "pay=sum", "protect=none")
         self.assertEqual(self.make()[0], 0)
         self.assertEqual(self.table()[1], ["NA", "5"])
 
     def test_no_row_that_is_left_is_refused(self):
-        self.assertIn("no row is left: 2 rows dropped", self.refused("a,pay,b\n1,,5\n2,7,\n", "a=text", "pay=sum", "b=sum", "missing=drop the row"))
+        self.assertIn(
+            "no row is left: 2 rows dropped",
+            self.refused("a,pay,b\n1,,5\n2,7,\n", "a=text", "pay=sum", "b=sum", "missing=drop the row"),
+        )
 
 
 class Guards(TableTest):
@@ -297,8 +366,14 @@ class Guards(TableTest):
 
     def test_two_secret_columns_that_follow_from_each_other_are_refused(self):
         numbers = [5, 0, 7, -6, 7]
-        for second, words in (([5, 0, 7, -6, 7], "b is equal to a"), ([10, 0, 14, -12, 14], "b is 2 times a"), ([-5, 0, -7, 6, -7], "b is the negation of a"),
-                              ([-15, 0, -21, 18, -21], "b is -3 times a"), ([7, 2, 9, -4, 9], "b is a plus 2"), ([95, 100, 93, 106, 93], "b is the negation of a plus 100")):
+        for second, words in (
+            ([5, 0, 7, -6, 7], "b is equal to a"),
+            ([10, 0, 14, -12, 14], "b is 2 times a"),
+            ([-5, 0, -7, 6, -7], "b is the negation of a"),
+            ([-15, 0, -21, 18, -21], "b is -3 times a"),
+            ([7, 2, 9, -4, 9], "b is a plus 2"),
+            ([95, 100, 93, 106, 93], "b is the negation of a plus 100"),
+        ):
             with self.subTest(words):
                 self.assertIn(words + " in every row: answers on one would tell", self.refusal(numbers, second))
 
@@ -312,13 +387,22 @@ class Guards(TableTest):
         self.assertIn("b is 10 times a", self.refusal(["5.1", "7.2", "6.3"], ["5.10", "7.20", "6.30"]))
 
     def test_a_secret_that_is_public_too_is_refused(self):
-        for kind, second, words in (("number", [5, 7, 6], "b is equal to a in every row, and a is public"), ("text", [5, 7, 6], "b is equal to a"),
-                                    ("number", [-5, -7, -6], "the negation of a"), ("number", [2019, 2017, 2018], "the negation of a plus 2024")):
+        for kind, second, words in (
+            ("number", [5, 7, 6], "b is equal to a in every row, and a is public"),
+            ("text", [5, 7, 6], "b is equal to a"),
+            ("number", [-5, -7, -6], "the negation of a"),
+            ("number", [2019, 2017, 2018], "the negation of a plus 2024"),
+        ):
             with self.subTest(f"{kind}, {words}"):
                 self.assertIn(words, self.refusal([5, 7, 6], second, (kind, "sum")))
 
     def test_columns_that_have_nothing_to_do_with_each_other_are_taken(self):
-        for first, second in (([5, 7, 6, 7], [5, 7, 6, 8]), ([0, 0, 0, 0], [5, 7, 6, 8]), ([1, 2, 1, 2], [3, 5, 3, 6]), ([0, 1, 2, 3], [5, 5, 5, 5])):
+        for first, second in (
+            ([5, 7, 6, 7], [5, 7, 6, 8]),
+            ([0, 0, 0, 0], [5, 7, 6, 8]),
+            ([1, 2, 1, 2], [3, 5, 3, 6]),
+            ([0, 1, 2, 3], [5, 5, 5, 5]),
+        ):
             with self.subTest(str((first, second))):
                 self.choices.unlink(missing_ok=True)
                 self.out = self.folder / f"out{first[0]}{second[3]}{first[3]}"
@@ -350,7 +434,9 @@ class Guards(TableTest):
 
 class Splits(TableTest):
     def long(self, rows, regions=3):
-        return "id,region,pay\n" + "".join(f"{number},{'r' + str(number % regions)},{number * number % 97}\n" for number in range(rows))
+        return "id,region,pay\n" + "".join(
+            f"{number},{'r' + str(number % regions)},{number * number % 97}\n" for number in range(rows)
+        )
 
     def test_1024_rows_are_one_table_and_1025_arent(self):
         self.made(self.long(1024), "id=number", "region=text", "pay=sum")
@@ -381,7 +467,10 @@ class Splits(TableTest):
         self.assertEqual(sorted(path.name for path in self.out.iterdir()), ["a_c", "a_d", "b_c", "b_d"])
 
     def test_a_table_is_split_by_public_columns_alone(self):
-        self.assertIn("has to be the name of a public column", self.refused(self.long(1300), "id=number", "region=text", "pay=sum", "split by=pay"))
+        self.assertIn(
+            "has to be the name of a public column",
+            self.refused(self.long(1300), "id=number", "region=text", "pay=sum", "split by=pay"),
+        )
 
     def test_parts_whose_names_would_be_alike_stay_apart(self):
         rows = "".join(f"{('a b', 'a-b')[number % 2]},{number}\n" for number in range(60))
@@ -406,13 +495,24 @@ class Choices(TableTest):
         with mock.patch("builtins.input", side_effect=["none", "text", "nmber", "number", "sum"]) as asked:
             said = self.choose()[1]
         self.assertIn("age can't be 'nmber'", said)
-        self.assertEqual([call.args[0].split(" ")[0].rstrip("?") for call in asked.call_args_list], ["protect", "team", "age", "age", "salary"])
+        self.assertEqual(
+            [call.args[0].split(" ")[0].rstrip("?") for call in asked.call_args_list],
+            ["protect", "team", "age", "age", "salary"],
+        )
         self.assertEqual(self.make()[0], 0)
 
     def test_words_that_choose_nothing_change_nothing(self):
         self.look(STAFF)
         before = self.choices.read_bytes()
-        for word in ("salary", "pay=sum", "salary=secret", "salary.decimals=-1", "salary.seen=x", "protect=salary", "wave=x"):
+        for word in (
+            "salary",
+            "pay=sum",
+            "salary=secret",
+            "salary.decimals=-1",
+            "salary.seen=x",
+            "protect=salary",
+            "wave=x",
+        ):
             with self.subTest(word):
                 self.assertEqual(self.choose("team=text", word)[0], 1)
                 self.assertEqual(self.choices.read_bytes(), before)
@@ -421,8 +521,16 @@ class Choices(TableTest):
         self.look(STAFF)
         self.choose(*STAFF_KINDS, "protect=none")
         good = self.chosen()
-        forms = [[], {**good, "more": 1}, {**good, "columns": [1]}, {**good, "columns": [{**good["columns"][0], "decimal": 2}]},
-                 {**good, "wave": True}, {**good, "split by": "team"}, {**good, "separator": 3}, {key: value for key, value in good.items() if key != "protect"}]
+        forms = [
+            [],
+            {**good, "more": 1},
+            {**good, "columns": [1]},
+            {**good, "columns": [{**good["columns"][0], "decimal": 2}]},
+            {**good, "wave": True},
+            {**good, "split by": "team"},
+            {**good, "separator": 3},
+            {key: value for key, value in good.items() if key != "protect"},
+        ]
         for form in forms + ["{", "[" * 100000]:
             with self.subTest(str(form)[:60]):
                 self.choices.write_text(form if isinstance(form, str) else json.dumps(form))
@@ -431,8 +539,13 @@ class Choices(TableTest):
                 self.assertIn(str(self.choices), said)
 
     def test_choices_that_cant_be_followed_are_refused(self):
-        for words, due in ((("team=sum",), "'team' can't be sum: its cells aren't numbers or dates"), (("age=sum", "salary=number", "team=sum"), "'team' can't be sum"),
-                           (("team=leave out", "age=leave out"), "at least one public"), (("salary.decimals=13",), "it is 0 to 12"), (("wave=2",), "it is 1, or null")):
+        for words, due in (
+            (("team=sum",), "'team' can't be sum: its cells aren't numbers or dates"),
+            (("age=sum", "salary=number", "team=sum"), "'team' can't be sum"),
+            (("team=leave out", "age=leave out"), "at least one public"),
+            (("salary.decimals=13",), "it is 0 to 12"),
+            (("wave=2",), "it is 1, or null"),
+        ):
             with self.subTest(str(words)):
                 self.choices.unlink(missing_ok=True)
                 self.assertIn(due, self.refused(STAFF, *STAFF_KINDS, *words))
@@ -444,7 +557,10 @@ class Choices(TableTest):
         many = ",".join(f"c{number}" for number in range(33)) + "\n" + ",".join(map(str, range(33))) + "\n"
         self.assertIn("here it would have 33, 0 of them secret", self.refused(many, "others=number"))
         self.choices.unlink()
-        self.assertIn("here it would have 10, 9 of them secret", self.refused(many, *(f"c{number}=sum" for number in range(9)), "c9=text", "others=leave out"))
+        self.assertIn(
+            "here it would have 10, 9 of them secret",
+            self.refused(many, *(f"c{number}=sum" for number in range(9)), "c9=text", "others=leave out"),
+        )
 
     def test_other_titles_than_those_that_were_looked_at_are_refused(self):
         self.look(STAFF)
@@ -461,21 +577,35 @@ class Written(TableTest):
     def test_the_table_is_its_owners_alone(self):
         os.umask(0o022)
         self.made(STAFF, *STAFF_KINDS)
-        modes = {name: stat.S_IMODE((self.out / name).stat().st_mode) for name in ("table.csv", "public/table.csv", "schema.json", "")}
+        modes = {
+            name: stat.S_IMODE((self.out / name).stat().st_mode)
+            for name in ("table.csv", "public/table.csv", "schema.json", "")
+        }
         self.assertEqual(modes, {"table.csv": 0o600, "public/table.csv": 0o644, "schema.json": 0o644, "": 0o755})
         self.assertEqual(stat.S_IMODE(self.choices.stat().st_mode), 0o600)
 
     def test_the_public_folder_has_the_public_columns_alone(self):
         self.made("team,age,salary\nQA,30,918273\nQA,41,564738\nDEV,41,192837\n", *STAFF_KINDS)
         self.assertEqual(self.table("public"), [["team", "age"], ["QA", "30"], ["QA", "41"], ["DEV", "41"]])
-        self.assertEqual(sorted(path.name for path in (self.out / "public").iterdir()), ["notes.json", "schema.json", "table.csv"])
+        self.assertEqual(
+            sorted(path.name for path in (self.out / "public").iterdir()), ["notes.json", "schema.json", "table.csv"]
+        )
         for path in (self.out / "public").iterdir():
             self.assertNotRegex(path.read_text(), "918273|564738|192837")
         self.assertEqual(self.schema("public"), self.schema())
 
     def test_the_schema_lists_the_columns(self):
         self.made(STAFF, *STAFF_KINDS)
-        self.assertEqual(self.schema(), {"columns": [{"name": "team", "is": "text"}, {"name": "age", "is": "number"}, {"name": "salary", "is": "sum"}]})
+        self.assertEqual(
+            self.schema(),
+            {
+                "columns": [
+                    {"name": "team", "is": "text"},
+                    {"name": "age", "is": "number"},
+                    {"name": "salary", "is": "sum"},
+                ]
+            },
+        )
 
     def test_totals_to_protect_stand_in_the_schema(self):
         with mock.patch.dict(os.environ, {"PATH": ""}):
@@ -498,14 +628,19 @@ class Written(TableTest):
         self.assertIn("wave: public number", said)
 
     def test_a_column_that_is_called_wave_already_is_said(self):
-        self.assertIn("two columns would have one name: wave", self.refused(STAFF.replace("age", "wave"), "team=text", "wave=number", "salary=sum", "wave=1"))
+        self.assertIn(
+            "two columns would have one name: wave",
+            self.refused(STAFF.replace("age", "wave"), "team=text", "wave=number", "salary=sum", "wave=1"),
+        )
 
     def test_nothing_is_overwritten(self):
         self.made(STAFF, *STAFF_KINDS)
         before = {name: (self.folder / name).read_bytes() for name in self.names() if (self.folder / name).is_file()}
         self.assertIn("is already there", self.look(STAFF)[1])
         self.assertIn("is already there, and nothing is overwritten", self.make()[1])
-        self.assertEqual({name: (self.folder / name).read_bytes() for name in self.names() if (self.folder / name).is_file()}, before)
+        self.assertEqual(
+            {name: (self.folder / name).read_bytes() for name in self.names() if (self.folder / name).is_file()}, before
+        )
 
     def test_an_empty_folder_isnt_overwritten_either(self):
         self.look(STAFF)
@@ -535,7 +670,10 @@ class Written(TableTest):
         program.write_text("#!/bin/sh\n[ $1 = init ] || { echo 'table: fault 2' >&2; exit 4; }\n")
         program.chmod(0o755)
         with mock.patch.dict(os.environ, {"AUDITOR": str(program)}):
-            self.assertIn("auditor simulate doesn't take the files, so nothing is written: table: fault 2", self.refused(STAFF, *STAFF_KINDS))
+            self.assertIn(
+                "auditor simulate doesn't take the files, so nothing is written: table: fault 2",
+                self.refused(STAFF, *STAFF_KINDS),
+            )
 
     def test_a_stop_while_it_writes_leaves_nothing(self):
         self.look(STAFF)
