@@ -40,7 +40,8 @@ COLUMN_KEYS = {
     "missing is": list,
     "missing": str,
 }
-DECIDED_KEYS = ("is", "written as", "unit", "decimals", "rounded", "missing is", "missing")
+TEXT_KEYS = ("is", "missing is", "missing")
+NUMBER_KEYS = TEXT_KEYS + ("written as", "unit", "decimals", "rounded")
 
 
 def read(path):
@@ -74,16 +75,14 @@ def key_faults(found, keys, what):
 
 
 def write(path, choices, fresh):
-    """Writes the choices for the owner alone. A fresh file must not be there yet; another one is replaced in one step."""
+    """Writes the choices for the owner alone, in one step. A fresh file must not be there yet."""
     text = json.dumps(choices, indent=1, ensure_ascii=False) + "\n"
-    if fresh:
-        with open(os.open(path, os.O_WRONLY | os.O_CREAT | os.O_EXCL, 0o600), "w", encoding="utf-8") as file:
-            file.write(text)
-        return
     handle, beside = tempfile.mkstemp(dir=os.path.dirname(os.path.abspath(path)), prefix=".choices-")
     try:
         with open(handle, "w", encoding="utf-8") as file:
             file.write(text)
+        if fresh and os.path.lexists(path):
+            raise Fault(f"{path} is already there, and nothing is overwritten")
         os.replace(beside, path)
     except BaseException:
         os.unlink(beside)
@@ -94,7 +93,7 @@ def open_choices(choices):
     """What is still to be chosen, in the words that `choose` takes. A column that is left out asks no more."""
     found = [key for key in TABLE_KEYS if choices[key] == OPEN]
     for column in choices["columns"]:
-        keys = ("is",) if column["is"] in (OPEN, "leave out") else DECIDED_KEYS
+        keys = {OPEN: ("is",), "leave out": (), "text": TEXT_KEYS}.get(column["is"], NUMBER_KEYS)
         found += [column["name"] + ("" if key == "is" else f".{key}") for key in keys if column[key] == OPEN]
     return found
 

@@ -10,13 +10,15 @@ from .names import names_of
 from .reading import choose_layout, decode, encoding_of, load, read_rows, without_separator_line
 from .splitting import MOST_ROWS, say_splits
 
+TOTALS = {"total", "totals", "grand total", "sum", "all", "summe", "gesamt", "insgesamt", "somme", "totale"}
+
 
 def look(path, encoding=None, separator=None, untitled=None):
     """Prints what the file is and each of its columns, and writes FILE.choices.json beside it."""
+    data = load(path)
     out = pathlib.Path(path).with_suffix(".choices.json")
     if out.exists():
         raise Fault(f"{out} is already there: go on with it, or remove it to look anew")
-    data = load(path)
     found, said = encoding_of(data) if encoding is None else (encoding, f"{encoding}, as you say")
     text, named = without_separator_line(decode(data, found))
     layout = choose_layout(text, separator or named, untitled)
@@ -32,6 +34,7 @@ def look(path, encoding=None, separator=None, untitled=None):
         f"rows: {len(table.rows):,}"
         + (f"; {counted(table.empty, 'line')} with nothing in it passed over" if table.empty else "")
     )
+    say_last_row(table)
     columns = describe_all(table)
     if len(table.rows) > MOST_ROWS:
         say_splits([column["name"] for column in columns], list(zip(*(cells for _, cells in table.rows))))
@@ -46,6 +49,17 @@ def look(path, encoding=None, separator=None, untitled=None):
     }
     choosing.write(out, choices, fresh=True)
     say_next(out, choices)
+
+
+def say_last_row(table):
+    """Points out a last row that may be a total, as spreadsheets have one."""
+    number, cells = table.rows[-1]
+    found = next((cell for cell in cells if cell.strip().rstrip(":").lower() in TOTALS), None)
+    if found is not None:
+        print(
+            f"CAREFUL: row {number:,}, the last, says {shown(found)}: a total isn't a row of the table. Take it out of"
+            " the file"
+        )
 
 
 def describe_all(table):

@@ -97,6 +97,11 @@ class Reading(TableTest):
         self.assertIn("passed over: 2 lines", said)
         self.assertEqual(len(self.table()), 3)
 
+    def test_a_last_row_of_totals_is_pointed_out(self):
+        self.assertIn("CAREFUL: row 4, the last, says 'Total:'", self.look("team,pay\nA,5\nB,7\nTotal:,12\n")[1])
+        self.choices.unlink()
+        self.assertNotIn("CAREFUL", self.look("team,pay\nTotal,5\nB,7\nA,12\n")[1])
+
     def test_a_cell_with_line_ends_commas_and_quotes_stays_whole(self):
         cell = 'a "b",\r\nc\rd\n\'e'
         self.made('note,pay\n"' + cell.replace('"', '""') + '",5\nx,7\n', "note=text", "pay=sum")
@@ -235,6 +240,10 @@ class Numbers(TableTest):
         said = self.look("day,pay\n01/02/2024,5\n02/02/2024,7\n")[1]
         self.assertIn("'01/02/2024' may be 20240201 (written as DD/MM/YYYY), or 20240102 (written as MM/DD/YYYY)", said)
         self.assertEqual(self.column("day")["written as"], "?")
+
+    def test_two_readings_dont_matter_for_a_text(self):
+        self.made("day,pay\n01/02/2024,5\n02/02/2024,7\n", "day=text", "pay=sum")
+        self.assertEqual(self.table()[1], ["01/02/2024", "5"])
 
     def test_a_date_that_shows_its_order_isnt_asked_about(self):
         self.look("day,pay\n01/02/2024,5\n13/02/2024,7\n")
@@ -641,6 +650,13 @@ class Written(TableTest):
         self.assertEqual(
             {name: (self.folder / name).read_bytes() for name in self.names() if (self.folder / name).is_file()}, before
         )
+
+    def test_a_folder_isnt_a_file_to_look_at(self):
+        for place in (".", "/", self.folder):
+            status, said = self.prepare("look", place)
+            self.assertEqual(status, 1)
+            self.assertIn("prepare: ", said)
+        self.assertEqual(self.names(), [])
 
     def test_an_empty_folder_isnt_overwritten_either(self):
         self.look(STAFF)
