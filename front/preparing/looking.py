@@ -113,7 +113,8 @@ def number_words(column, numbers):
         bare[without_unit(cell, unit)] += number
     names, others = forms_of_most(bare)
     if not names:
-        return ["text"]
+        few = sum(bare[cell] for cell in others) * 2 < sum(bare.values())
+        return ["text" + (", though most of it is numbers or dates, in no one form" if few else "")]
     words = [f"{FORMS[names[0]].kind}s"] + (
         [f"but {counted(len(others), 'value')} not, as {shown(others[0])}"] if others else []
     )
@@ -121,7 +122,7 @@ def number_words(column, numbers):
     column["written as"] = names[0] if len(names) == 1 else choosing.OPEN
     if len(names) > 1:
         words.append(reading_words(bare, names))
-    set_decimals(column, [cell for cell in bare if cell not in others], names, words)
+    set_decimals(column, bare.keys() - set(others), names, words)
     return words + [f"with the unit {unit}"] * bool(unit)
 
 
@@ -146,15 +147,14 @@ def set_decimals(column, cells, names, words):
 
 
 def forms_of_most(numbers):
-    """The forms of all cells; or those of the cells that have one, if these are most, with the cells that have none."""
+    """The forms of all cells; or those of the cells that have one, if these are most, and the cells that have none."""
     names = forms_of(list(numbers))
     if names:
         return names, []
     others = [cell for cell in numbers if all(form.read(cell) is None for form in FORMS.values())]
-    if not others or sum(numbers[cell] for cell in others) * 2 >= sum(numbers.values()):
-        return [], []
-    strange = set(others)
-    return forms_of([cell for cell in numbers if cell not in strange]), others
+    if sum(numbers[cell] for cell in others) * 2 >= sum(numbers.values()):
+        return [], others
+    return forms_of(sorted(numbers.keys() - set(others))), others
 
 
 def text_words(cells):

@@ -215,6 +215,12 @@ class Numbers(TableTest):
                 self.assertIn("pay.written as", self.make()[1])
                 self.assertFalse(self.out.exists())
 
+    def test_numbers_in_more_than_one_form_are_text_and_said(self):
+        said = self.look("team;pay\nA;1,000.5\nB;1.000,5\nC;7\n")[1]
+        self.assertIn("text, though most of it is numbers or dates, in no one form", said)
+        self.assertIsNone(self.column("pay")["written as"])
+        self.assertNotIn("'team': 3 different; text, though", said)
+
     def test_the_reading_that_is_chosen_is_followed(self):
         for form, due in (("1,234", ["1250", "7"]), ("1234,5", ["1250", "7000"])):
             with self.subTest(form):
