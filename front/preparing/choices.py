@@ -49,6 +49,8 @@ def read(path):
     try:
         with open(path, encoding="utf-8-sig") as file:
             choices = json.load(file)
+        # Half of a pair of surrogates, which JSON can spell, can't be written again.
+        json.dumps(choices, ensure_ascii=False).encode()
     except (ValueError, RecursionError) as error:
         raise Fault(f"{path} isn't JSON: {error}") from None
     faults = key_faults(choices, TABLE_KEYS, "the file of choices")
@@ -113,13 +115,15 @@ def need_decided(choices):
 def table_faults(choices):
     """A sentence for each choice on the whole table that can't be followed."""
     faults = []
+    if not choices["encoding"]:
+        faults.append('"encoding" has to be the name of one')
     if choices["separator"] not in SEPARATORS:
         faults.append(f"the separator can't be {shown(choices['separator'])}: it is one of {', '.join(SEPARATORS)}")
     if choices["untitled"] not in ("none", "first", "last"):
         faults.append(f"\"untitled\" can't be {shown(choices['untitled'])}: it is none, first or last")
     if choices["wave"] not in (None, 1):
         faults.append(f"\"wave\" can't be {choices['wave']}: it is 1, or null for no such column")
-    public = {column["name"] for column in choices["columns"] if column["is"] in PUBLIC}
+    public = [column["name"] for column in choices["columns"] if column["is"] in PUBLIC]
     faults += [
         f'"split by" can\'t be {shown(name)}: it has to be the name of a public column'
         for name in choices["split by"] or []
@@ -130,7 +134,7 @@ def table_faults(choices):
 
 def protect_faults(choices):
     """A sentence for each total to be protected that isn't one of a column of sums, under a condition."""
-    sums = {column["name"] for column in choices["columns"] if column["is"] == "sum"}
+    sums = [column["name"] for column in choices["columns"] if column["is"] == "sum"]
     faults = []
     for place, group in enumerate(choices["protect"] or []):
         if not isinstance(group, dict) or set(group) != {"column", "where"}:
@@ -181,15 +185,12 @@ def column_faults(column):
 def number_faults(column, title):
     """A sentence for each choice on how numbers are written that can't be followed."""
     form = FORMS.get(column["written as"])
-    if form is None:
+    if column["written as"] is None:
         return [
-            (
-                f"{title} can't be {column['is']}: its cells aren't numbers or dates in one of the forms"
-                f" {', '.join(FORMS)}"
-                if column["written as"] is None
-                else f"{title}: \"written as\" can't be {shown(column['written as'])}: it is one of {', '.join(FORMS)}"
-            )
+            f"{title} can't be {column['is']}: its cells aren't numbers or dates in one of the forms {', '.join(FORMS)}"
         ]
+    if form is None:
+        return [f"{title}: \"written as\" can't be {shown(column['written as'])}: it is one of {', '.join(FORMS)}"]
     faults = []
     if form.kind == "date" and column["is"] in SECRET:
         faults.append(f"{title} can't be {column['is']}: a date can be public, as number or text, or left out")
@@ -200,6 +201,10 @@ def number_faults(column, title):
             f"{title}: public numbers times {10 ** column['decimals']:,} are to say so in their name, since a condition"
             f' compares them as they are kept: name it {name_in_steps(column)}; or lower "decimals" and say how it is'
             ' "rounded"; or keep it as text'
+        )
+    if re.search(r"[\d+.,'-]", column["unit"] or ""):
+        faults.append(
+            f"{title}: {shown(column['unit'])} can't be a unit: it has a digit, a sign or a mark of a number in it"
         )
     if column["rounded"] not in (None,) + ROUNDINGS:
         faults.append(f"{title}: \"rounded\" can't be {shown(column['rounded'])}: it is one of {', '.join(ROUNDINGS)}")

@@ -80,7 +80,7 @@ def decode(data, encoding):
             f"byte {error.start:,} of the file ({data[error.start]:02x}, hexadecimal) isn't {encoding}: name the file's"
             " encoding, as in encoding=cp850"
         ) from None
-    except (LookupError, UnicodeError):
+    except (LookupError, ValueError):
         raise Fault(f"{shown(encoding)} isn't an encoding that is known here") from None
     if "\0" in text:
         line = text.count("\n", 0, text.index("\0")) + 1

@@ -6,8 +6,11 @@ of the file is what test_prepare and test_tables show. AUDITOR=.. /usr/bin/pytho
 
 import csv
 import json
+import os
 import random
+import shutil
 import unittest
+from unittest import mock
 
 from table_kit import TableTest
 
@@ -256,6 +259,61 @@ class Hostile(TableTest):
         for number in range(120):
             with self.subTest(number):
                 self.take(spoilt(number))
+
+    def test_no_choice_breaks_it(self):
+        """Each value of a file of choices is put in the place of others: what can't be followed is a sentence."""
+        self.look(STAFF)
+        self.choose("protect=none", "team=text", "age=number", "salary=sum", "bonus=max")
+        good, column = self.chosen(), self.chosen()["columns"][2]
+        strange = [
+            None,
+            "?",
+            "",
+            "x" * 300,
+            "none",
+            [],
+            {},
+            0,
+            -1,
+            13,
+            10**30,
+            True,
+            1.5,
+            "\ud800",
+            "a\0",
+            [[]],
+            [{}],
+            ["team"],
+            [1],
+            {"a": 1},
+        ]
+        strange += [
+            [{"column": [], "where": "x"}],
+            [{"column": "salary", "where": 5}],
+            [{"column": "salary", "where": ""}],
+            "hex",
+            "idna",
+            "1,234",
+            "mark",
+        ]
+        changed = [{**good, key: value} for key in good for value in strange]
+        changed += [
+            {**good, "columns": [*good["columns"][:2], {**column, key: value}, good["columns"][3]]}
+            for key in column
+            for value in strange
+        ]
+        with mock.patch.dict(os.environ, {"AUDITOR": ""}):
+            for choices in changed:
+                self.choices.write_text(json.dumps(choices))
+                with self.subTest(str(choices)[-300:]):
+                    status, said = self.make()
+                    if status == 0 and choices["split by"]:
+                        self.assertTrue(all((part / "public/notes.json").is_file() for part in self.out.iterdir()))
+                        shutil.rmtree(self.out)
+                    elif status == 0:
+                        self.need_whole()
+                    else:
+                        self.need_sentence(said, ["t.choices.json", "t.csv"])
 
     def test_what_each_of_the_worst_is_told(self):
         for name, data, words in (
