@@ -151,19 +151,15 @@ def strange_numbers():
 
 
 def strange_sizes():
-    yield "a million columns", b"a," * 10**6 + b"b\n" + b"1," * 10**6 + b"2\n"
     yield "1,025 columns", (
         ",".join(f"c{k}" for k in range(1025)) + "\n" + ",".join(map(str, range(1025))) + "\n"
     ).encode()
     yield "40 columns", (",".join(f"c{k}" for k in range(40)) + "\n" + ",".join(map(str, range(40))) + "\n").encode()
-    yield "a cell of 20 MB", b"a,b\n" + b"x" * 20_000_000 + b",1\ny,2\n"
     yield "a quoted cell of a million line ends", b'a,b\n"' + b"\n" * 10**6 + b'",1\ny,2\n'
-    yield "a title of 20 MB", b"a" * 20_000_000 + b",b\n1,2\n3,4\n"
     yield "a number of two million digits", b"a;b\nx;" + b"1" * 2_000_000 + b"\ny;2\n"
-    yield "30,000 rows", b"a,b\n" + b"".join(b"%d,%d\n" % (k % 50, k) for k in range(30000))
-    yield "30,000 parts", b"a,b\n" + b"".join(b"x%d,%d\n" % (k, k * k % 1009) for k in range(30000))
+    yield "8,000 rows", b"a,b\n" + b"".join(b"%d,%d\n" % (k % 50, k) for k in range(8000))
+    yield "8,000 parts", b"a,b\n" + b"".join(b"x%d,%d\n" % (k, k * k % 1009) for k in range(8000))
     yield "100,000 blank lines", b"a,b\n" + b"\n" * 100000 + b"1,2\n3,5\n"
-    yield "more than is read", b"a,b\n" + b"1,2\n" * (17 * 2**20)
     yield "one row", b"a,b\nx,1\n"
     yield "rows ever longer", b"\n".join(b"," * k for k in range(1, 400))
 
@@ -319,7 +315,7 @@ class Hostile(TableTest):
         for name, data, words in (
             (
                 "a million columns",
-                dict(strange_sizes())["a million columns"],
+                b"a," * 10**6 + b"b\n" + b"1," * 10**6 + b"2\n",
                 "the header has 1,000,001 cells, and 2 to 1,024 are read",
             ),
             ("a cell of 20 MB", b"a,b\n" + b"x" * 20_000_000 + b",1\ny,2\n", "and at most 16,777,216 are read"),
@@ -336,7 +332,7 @@ class Hostile(TableTest):
                 "wörter,zahl\nä,1\nö,2\n".encode() + b"\xff,3\n",
                 "byte 23 of the file (ff, hexadecimal) isn't UTF-8, though most letters",
             ),
-            ("more than is read", dict(strange_sizes())["more than is read"], "more than 67,108,864 bytes"),
+            ("more than is read", b"a,b\n" + b"1,2\n" * (17 * 2**20), "more than 67,108,864 bytes"),
         ):
             with self.subTest(name):
                 for path in (self.choices, self.file):
