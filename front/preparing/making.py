@@ -40,13 +40,10 @@ class Change(enum.Enum):
 
 @dataclasses.dataclass
 class Changes:
-    """How often each change was made in the rows that are kept, and which rows were dropped, with what they lack."""
+    """How often a column was changed in the rows that are kept, and the rows that were dropped, with what they lack."""
 
     made: collections.Counter = dataclasses.field(default_factory=collections.Counter)
     dropped: dict = dataclasses.field(default_factory=dict)
-
-    def number(self, title, change):
-        return self.made[title, change]
 
 
 def make(path, choices_path, folder, program):
@@ -95,15 +92,8 @@ def columns_to_write(choices):
             continue
         columns.append(Column(chosen["name"], chosen["is"], place, chosen))
         if chosen["missing"] == "mark":
-            columns.append(
-                Column(
-                    free(chosen["name"][:26] + "_known", [column["name"] for column in choices["columns"]]),
-                    "number",
-                    place,
-                    chosen,
-                    chosen["name"],
-                )
-            )
+            known = free(chosen["name"][:26] + "_known", [column["name"] for column in choices["columns"]])
+            columns.append(Column(known, "number", place, chosen, marks=chosen["name"]))
     if choices["wave"] is not None:
         columns.append(Column("wave", "number"))
     need_columns(columns)
@@ -163,17 +153,17 @@ def convert_row(number, cells, columns, changes, faults):
 
 def convert(cell, column, made):
     """A cell as it is written, DROPPED if its row goes, or a Fault; what was changed is added to what was made."""
-    bare, title = cell.strip(), column.chosen["from"]
+    bare = cell.strip()
     missing = bare in (column.chosen["missing is"] or [])
     if column.marks is not None:
         return 0 if missing else 1
     if missing and column.chosen["missing"] == "drop the row":
         return DROPPED
     if missing and column.chosen["missing"] == "mark":
-        made.append((title, Change.GAP_KEPT))
+        made.append((column.name, Change.GAP_KEPT))
         return 0
     if column.kind == "text":
-        made += [(title, Change.TRIMMED)] * (bare != cell)
+        made += [(column.name, Change.TRIMMED)] * (bare != cell)
         return bare
     return whole_number(bare, column, made)
 
@@ -191,7 +181,7 @@ def whole_number(cell, column, made):
     steps = number * 10**decimals
     if steps.denominator != 1:
         steps = rounded(cell, steps, chosen)
-        made.append((chosen["from"], Change.ROUNDED))
+        made.append((column.name, Change.ROUNDED))
     if abs(steps) > MOST_SIZE:
         raise Fault(
             f"{shown(cell)} is beyond {MOST_SIZE:,}" + (f", counted in steps of {step(decimals)}" if decimals else "")
@@ -239,31 +229,39 @@ def column_words(chosen, columns, changes):
     """What became of one column, in words."""
     if chosen["is"] == "leave out":
         return "left out"
-    title, numbers = chosen["from"], chosen["is"] != "text"
     words = [("secret " if chosen["is"] in SECRET else "public ") + chosen["is"]]
-    if chosen["name"] != title:
-        words.append(f"named {chosen['name']}")
-    if numbers and FORMS[chosen["written as"]].kind == "date":
-        words.append(
-            "as a number, 20170131 for 31 January 2017"
-            + (", without the time of day" if "hh" in chosen["written as"] else "")
-        )
-    if numbers and chosen["decimals"]:
+    words += [f"named {chosen['name']}"] * (chosen["name"] != chosen["from"])
+    if chosen["is"] != "text":
+        words += form_words(chosen)
+    words += cell_words(chosen, changes)
+    gaps = changes.made[chosen["name"], Change.GAP_KEPT]
+    beside = next((column.name for column in columns if column.marks == chosen["name"]), None)
+    if beside:
+        words.append(f"{counted(gaps, 'gap')} kept as 0, with {beside} beside it: 1 if the value is known, else 0")
+    return ", ".join(words)
+
+
+def form_words(chosen):
+    """How the numbers of a column are kept."""
+    words = []
+    if FORMS[chosen["written as"]].kind == "date":
+        time = ", without the time of day" if "hh" in chosen["written as"] else ""
+        words.append(f"as a number, 20170131 for 31 January 2017{time}")
+    if chosen["decimals"]:
         words.append(f"times {10 ** chosen['decimals']:,}, so in steps of {step(chosen['decimals'])}")
-    if numbers and chosen["unit"]:
+    if chosen["unit"]:
         words.append(f"without its unit {chosen['unit']}")
-    rounded_cells, trimmed, gaps = (
-        changes.number(title, change) for change in (Change.ROUNDED, Change.TRIMMED, Change.GAP_KEPT)
-    )
+    return words
+
+
+def cell_words(chosen, changes):
+    """How many cells of a column were changed."""
+    words = []
+    rounded_cells = changes.made[chosen["name"], Change.ROUNDED]
     if rounded_cells:
-        words.append(
-            f"{counted(rounded_cells, 'cell')} rounded " + ("down" if chosen["rounded"] == "down" else "to the nearest")
-        )
+        how = "down" if chosen["rounded"] == "down" else "to the nearest"
+        words.append(f"{counted(rounded_cells, 'cell')} rounded {how}")
+    trimmed = changes.made[chosen["name"], Change.TRIMMED]
     if trimmed:
         words.append(f"{counted(trimmed, 'cell')} without the blanks around it")
-    words += [
-        f"{counted(gaps, 'gap')} kept as 0, with {column.name} beside it: 1 if the value is known, else 0"
-        for column in columns
-        if column.marks == chosen["name"]
-    ]
-    return ", ".join(words)
+    return words

@@ -101,14 +101,11 @@ def without_separator_line(text):
 
 def records(text, separator):
     """Each record with its number, from 1. A quote that isn't closed, or closed in the middle of a cell, is a Fault."""
-    number = 0
+    number, mark = 0, SEPARATORS[separator]
     csv.field_size_limit(MOST_BYTES)
-    reader = csv.reader(
-        io.StringIO(text, newline=""),
-        delimiter=SEPARATORS[separator],
-        strict=True,
-        skipinitialspace=separator != "blank",
-    )
+    # Blanks between a separator and a quote would make the quote a part of the cell.
+    blanks = mark != " " and re.search(re.escape(mark) + ' +"', text) is not None
+    reader = csv.reader(io.StringIO(text, newline=""), delimiter=mark, strict=True, skipinitialspace=blanks)
     try:
         for number, cells in enumerate(reader, 1):
             yield number, cells

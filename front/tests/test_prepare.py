@@ -35,6 +35,12 @@ class Reading(TableTest):
                 self.assertEqual(self.look(STAFF.replace(",", mark))[0], 0)
                 self.assertEqual((self.chosen()["separator"], len(self.chosen()["columns"])), (name, 3))
 
+    def test_blanks_before_quotes_arent_part_of_a_cell(self):
+        self.look('team, pay\n"A, b", "5"\n"C", "7"\n', "separator=comma")
+        self.choose("team=text", "pay=sum", "protect=none")
+        self.assertEqual(self.make()[0], 0)
+        self.assertEqual(self.table(), [["team", "pay"], ["A, b", "5"], ["C", "7"]])
+
     def test_every_line_end_gives_the_same_table(self):
         for end in ("\n", "\r\n", "\r"):
             with self.subTest(repr(end)):
@@ -686,6 +692,11 @@ class Written(TableTest):
         said = self.made("team,pay\n A ,5\nB,7\n", "team=text", "pay=sum")
         self.assertIn("1 cell without the blanks around it", said)
         self.assertEqual(self.table("public")[1], ["A"])
+
+    def test_columns_of_one_title_are_counted_apart(self):
+        said = self.made("a,a,pay\n x,y,5\nz, u,7\nv, w,1\n", "a=text", "a_2=text", "pay=sum")
+        self.assertIn("'a': public text, 1 cell without the blanks around it", said)
+        self.assertIn("'a': public text, named a_2, 2 cells without the blanks around it", said)
 
     def test_what_the_program_refuses_isnt_left_there(self):
         program = self.folder / "auditor"
