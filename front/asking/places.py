@@ -16,6 +16,7 @@ import urllib.parse
 
 PATIENCE = 90
 SECRET = ("sum", "max")
+NUMBERS = ("den", "num", "count", "sum", "max", "at")
 AFTERWARDS = {
     6: "another run has the journal open, or the journal can't be written",
     7: "there is no journal: run auditor init in the folder, once for the table",
@@ -66,7 +67,7 @@ class Folder:
             line = b""
         if not line.endswith(b"\n"):
             raise Away(self._ended())
-        return json.loads(line)
+        return reply_of(line.decode(errors="replace"))
 
     def _ended(self):
         """Why the program ended, in its words and ours."""
@@ -123,11 +124,7 @@ class Door:
         return self._send("GET", path, otherwise=otherwise)
 
     def _post(self, path, question):
-        text = self._send("POST", path, line_of(question))
-        try:
-            return json.loads(text)
-        except ValueError:
-            raise Away(f"{self.address} isn't a front door: it says {text[:80]!r}") from None
+        return reply_of(self._send("POST", path, line_of(question)))
 
     def rows(self):
         """The public columns of each row."""
@@ -141,6 +138,18 @@ class Door:
 
     def close(self):
         """Nothing is held between two questions."""
+
+
+def reply_of(text):
+    """A reply as a dict, of which every number is whole and no average is over nothing."""
+    try:
+        reply = json.loads(text)
+    except ValueError:
+        reply = None
+    numbers = [reply.get(key, 1) for key in NUMBERS] if isinstance(reply, dict) else [None]
+    if not all(type(number) is int for number in numbers) or numbers[0] < 1:
+        raise Away(f"what comes back isn't a reply of auditor: {text[:80]!r}")
+    return reply
 
 
 def error_words(text, response):

@@ -355,11 +355,29 @@ class OverADoor(unittest.TestCase):
         for reply, words in (
             ((503, '{"error":"too many wait"}'), "the front door says: too many wait"),
             ((500, "<html>"), "500"),
-            ((200, "<html>"), "isn't a front door"),
+            ((200, "<html>"), "isn't a reply of auditor"),
         ):
             status, said = self.ask([reply], "sum salary")
             self.assertEqual(status, 1)
             self.assertIn(words, said)
+
+    def test_what_isnt_a_reply_is_said(self):
+        for reply in (
+            "[]",
+            "5",
+            "null",
+            '{"sum":"x"}',
+            '{"sum":1.5}',
+            '{"num":1,"den":0}',
+            '{"refused":"where","at":"x"}',
+            "{",
+            "NaN",
+            '{"sum":true}',
+        ):
+            with self.subTest(reply):
+                status, said = self.ask([reply], "sum salary")
+                self.assertEqual(status, 1)
+                self.assertIn("what comes back isn't a reply of auditor", said)
 
     def test_a_door_without_notes_is_asked_all_the_same(self):
         del ListedDoor.files["/t/notes.json"]
