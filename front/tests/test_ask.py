@@ -199,6 +199,12 @@ class OverAFolder(TableTest):
         self.assertEqual(status, 1)
 
     @needs_program
+    def test_a_value_that_no_row_has_left_has_no_line(self):
+        self.journal()
+        status, said = self.ask("max bonus by team where age >= 44 or team = 'Support, Leeds'")
+        self.assertEqual([line.split(": ")[0] for line in said.splitlines()], ["Ann's", "Design", "Support, Leeds"])
+
+    @needs_program
     def test_the_program_stops_where_the_table_of_wrong_conditions_says(self):
         self.journal()
         for condition, at, words, better in WRONG:
