@@ -59,7 +59,7 @@ def missing_rows(page, text):
             if name not in CLAUSES | CALLS | LAWS | WORDS:
                 yield f"clause {name}"
         for name in re.findall(r"`(\w+)`", cells[2]):
-            if name not in WORDS:
+            if name not in WORDS | CLAUSES:
                 yield f"word {name}"
         for name in re.findall(r"\b[a-z0-9]+(?:_[a-z0-9]+){2,}\b", cells[3]):
             if name not in EDITS and name not in CALLS:

@@ -12,7 +12,9 @@ from pathlib import Path
 
 TOP = Path(__file__).resolve().parent.parent
 RUN = TOP / "crates/auditor_top/src/running.rt"
-CLAUSES = ("lives", "served", "any_moment", "undisclosed")
+CLAUSE = "lives"
+RECORD = ("auditor_top.specs.Runs", "Serving")  # of its fields these carry the promise too
+FIELDS = ("served", "any_moment", "undisclosed")
 DISCLOSURE = ("audit_types.specs.History", ("IsLegal", "IsUndisclosed"))
 MOST = {"the promise": 1000, "of it disclosure": 200}
 
@@ -142,11 +144,15 @@ def all_below(found):
 
 
 def words_of_clauses():
+    """The words of the clause of `run`, and of the fields of the record that its clause on `serve` is: their own lines aren't counted, as a clause's aren't."""
     text = RUN.read_text()
-    module = Module("run", text)
-    for clause in CLAUSES:
-        body = re.search(rf"(?s)\n    ensures {clause} \{{(.*?)\}}\n", text)[1]
-        yield from words_of(module, [body.replace("\n", " ")])
+    body = re.search(rf"(?s)\n    ensures {CLAUSE} \{{(.*?)\}}\n", text)[1]
+    yield from words_of(Module("run", text), [body.replace("\n", " ")])
+    module = MODULES[RECORD[0]]
+    record = module.definitions[RECORD[1]]
+    for line in whole_lines(record.lines)[1:]:
+        if re.match(r" *pub (\w+) :", line)[1] in FIELDS:
+            yield from words_of(module, [line], place=record.place)
 
 
 def counted():

@@ -1,15 +1,24 @@
 -- What every life keeps.
 use Rattle.std.proofs.Common.{◌≡◌, ℕ, List, [], ◌∷◌, ◌++◌, refl, sym, ◌∙◌, ap, subst, append_assoc, arith}
-use Rattle.std.proofs.lemmas.List.{append-nil}
+use Rattle.std.proofs.lemmas.List.{append_cancel_left, append-nil}
 use Rattle.audit_types.specs.declared.shapes.Shape.{Shape}
 use Rattle.audit_types.specs.declared.records.Answered.{Answered}
 use Rattle.audit_types.specs.History.{Table, IsLegal}
-use Rattle.journal_form.specs.Journal.{StandsAt}
+use Rattle.bench_core.specs.declared.bench.Bench.{Ghosts}
+use Rattle.bench_core.specs.declared.source.Source as source
+use Rattle.bench_core.specs.Calls.{IsQuiet}
+use Rattle.journal_form.specs.Journal.{StandsFor, StandsAt}
 use Rattle.table_load.specs.Database.{Database, IsDatabase, secret_table}
 use Rattle.question_plan.specs.Session.{records_of}
-use Rattle.audit_session.specs.Stops.{IsFront}
+use Rattle.line_wire.specs.Lines.{counted_lines}
+use Rattle.question_plan.specs.Replies.{IsDue}
+use Rattle.audit_session.specs.Stops.{IsBatch, IsFront, Stop, StopsOver, stands_over}
 use Rattle.question_plan.specs.Laws.{RepliesKeepLegal}
-use Rattle.audit_session.specs.Lives.{Run, GoesFrom, Lead, KeepAll}
+use Rattle.audit_session.specs.Lives.{Run, IsLife, GoesFrom, Lead, KeepAll}
+use Rattle.auditor_top.specs.declared.status.Status.{Status}
+use Rattle.auditor_top.specs.Commands.{ServesOver}
+use Rattle.auditor_top.specs.Promise.{GoesOn, StopsMakeLives}
+use Rattle.auditor_top.specs.Runs.{Objects, Serving}
 
 -- one file has one history
 abbrev pub OneReading : Type 0
@@ -70,3 +79,19 @@ pub lead_push : (base : Database) (first : List Answered) (runs : List Run) (his
     GoesFrom base history run → Lead base first (runs ++ run ∷ []) run.last
 lead_push base first [] history run lead goes = (subst (λ (h : List Answered). GoesFrom base h run) lead goes, refl)
 lead_push base first (before ∷ runs) history run lead goes = (lead.0, lead_push base before.last runs history run lead.1 goes)
+
+-- whatever moment a run is stopped at, the life goes on with it
+pub with_this_run : {P I B : Type 0} (files : source.Ghosts P) (lines : source.Ghosts I) (bench : Ghosts B) (batch : ℕ) (status : Status) (old new : Objects P I B)
+    → StopsMakeLives → IsBatch batch → Serving files lines bench batch status old new
+    → files.told → lines.told → bench.told → IsQuiet bench old.bench → (base : Database) (history : List Answered)
+    → ServesOver (files.left old.schema) (files.left old.table) (bench.file old.bench) base history → (runs : List Run) → IsLife base runs history
+    → (image sent : List ℕ) (now : List Answered) → bench.since new.bench (bench.moment old.bench) image (bench.sent old.bench ++ sent)
+    → StandsFor image base.secret.shape now → GoesOn base runs (record { batch = batch; input = lines.left old.input; last = now; sent = sent })
+with_this_run files lines bench batch status old new longer is serving ptold itold told quiet base history over runs life image sent now was stands =
+    let input = lines.left old.input in
+    let before = bench.sent old.bench in
+    let stops : StopsOver base batch history (counted_lines input) before image (before ++ sent) =
+    (serving.any_moment ptold itold told quiet base history over).each image (before ++ sent) was in
+    let same : stops.0 ≡ sent = sym (append_cancel_left before sent stops.0 stops.1) in
+    longer (files.left old.schema) (files.left old.table) image base runs history (record { batch = batch; input = input; last = now; sent = sent }) over.files life
+    is stands (subst (λ (bytes : List ℕ). Stop (IsDue base) (stands_over base) batch history (counted_lines input) image bytes) same stops.2)

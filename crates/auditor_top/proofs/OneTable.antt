@@ -1,5 +1,5 @@
 -- What files mean is one table, and what a run leaves that answered nothing.
-use Rattle.std.proofs.Common.{◌≡◌, ℕ, ◌-◌, ◌*◌, List, [], ◌++◌, take, Result, Ok, refl, sym, ◌∙◌, ap, subst, unwrap_or}
+use Rattle.std.proofs.Common.{◌≡◌, ℕ, ◌-◌, ◌*◌, List, [], ◌++◌, take, Result, Ok, IsOk, refl, sym, ◌∙◌, ap, subst, unwrap_or}
 use Rattle.std.specs.Result.{result_ok}
 use Rattle.std.proofs.Math.Nat.{zero-mul}
 use Rattle.std.proofs.Math.Seq.{take-nil}
@@ -7,18 +7,20 @@ use Rattle.std.proofs.lemmas.List.{append-nil}
 use Rattle.audit_types.specs.declared.records.Answered.{Answered}
 use Rattle.schema_json.specs.Columns.{Column}
 use Rattle.schema_json.specs.Reading.{schema_of}
-use Rattle.table_load.specs.Cells.{PublicView, SecretView, TableView}
+use Rattle.schema_json.specs.declared.faults.SchemaFault.{SchemaFault}
+use Rattle.table_load.specs.Cells.{TableView}
 use Rattle.table_load.specs.Database.{Database, base_of}
 use Rattle.table_load.specs.Tables.{table_of}
-use Rattle.journal_form.specs.Journal.{StandsFor}
+use Rattle.journal_form.specs.Journal.{StandsFor, StandsAt}
 use Rattle.answer_journal.specs.Moments.{IsUntouched}
 use Rattle.line_wire.specs.Lines.{CountedLine, counted_lines}
 use Rattle.question_plan.specs.Session.{Replied, bytes_of, AreReplies, groups}
 use Rattle.question_plan.specs.Replies.{IsDue}
 use Rattle.audit_session.specs.Stops.{StopsOver}
 use Rattle.audit_session.specs.Ends.{ServesSome}
-use Rattle.auditor_top.specs.Commands.{AreFilesOf}
+use Rattle.auditor_top.specs.Commands.{AreFilesOf, ServesOver}
 use Rattle.auditor_top.specs.Ends.{StandsForWhat}
+use Rattle.auditor_top.proofs.KeptByEveryLife.{OneReading}
 
 -- a good answer holds one value
 pub same_ok : {X E : Type 0} (r : Result X E) (x y : X) → r ≡ Ok x → r ≡ Ok y → x ≡ y
@@ -34,11 +36,34 @@ same_base schema table columns meant base schema_is table_is files =
     (subst (λ (cs : List Column). table_of cs table ≡ Ok view) one files.table_is) table_is in
     ap (λ (cs : List Column). base_of cs base.public base.secret) one ∙ ap (λ (v : TableView). base_of columns v.public v.secret) two
 
--- the same, by parts that are equal
-pub same_parts : (base : Database) (columns : List Column) (public other : PublicView) (secret hidden : SecretView) → base ≡ base_of columns public secret →
-    other ≡ public → hidden ≡ secret → base ≡ base_of columns other hidden
-same_parts base columns public other secret hidden is same kept =
-    is ∙ ap (λ (p : PublicView). base_of columns p secret) (sym same) ∙ ap (λ (s : SecretView). base_of columns other s) (sym kept)
+-- so two tables that they are those of are one
+pub one_base : (schema table : List ℕ) (a b : Database) → AreFilesOf schema table a → AreFilesOf schema table b → a ≡ b
+one_base schema table a b first second =
+    same_base schema table b.columns (record { public = b.public; secret = b.secret }) a second.schema_is second.table_is first
+
+-- the file has a history with these secrets, so that is the one that is served
+pub same_given : OneReading → (schema table file : List ℕ) (seen base : Database) (kept history : List Answered) (gate : ℕ) → AreFilesOf schema table seen
+    → StandsAt file seen.secret.shape kept gate → ServesOver schema table file base history → (seen ≡ base) × (kept ≡ history)
+same_given one schema table file seen base kept history gate are stands over = (
+  one_base schema table seen base are over.files,
+  (one file seen.secret.shape base.secret.shape kept history gate over.stands.0 stands over.stands.1).1,
+)
+
+-- and what is said of the one is said of the other
+pub carried : (P : Database → List Answered → Type 0) (seen base : Database) (kept history : List Answered) → (seen ≡ base) × (kept ≡ history) → P seen kept
+    → P base history
+carried P seen base kept history same holds =
+    subst (λ (b : Database). P b history) same.0 (subst (λ (h : List Answered). P seen h) same.1 holds)
+
+-- the files were read
+pub schema_is_ok : (schema : List ℕ) (columns : List Column) → schema_of schema ≡ Ok columns → IsOk (schema_of schema)
+schema_is_ok schema columns is = subst (λ (r : Result (List Column) SchemaFault). IsOk r) (sym is) refl
+
+pub table_is_ok : {X E : Type 0} (meaning : List Column → Result X E) (schema : List ℕ) (read columns : List Column) (meant : X) → schema_of schema ≡ Ok read →
+    meaning read ≡ Ok meant → schema_of schema ≡ Ok columns → IsOk (meaning columns)
+table_is_ok {X} {E} meaning schema read columns meant is means asked =
+    subst (λ (cs : List Column). IsOk (meaning cs)) (same_ok (schema_of schema) read columns is asked)
+    (subst (λ (r : Result X E). IsOk r) (sym means) refl)
 
 -- no group of lines has no replies
 none_due : (base : Database) (batch : ℕ) (history : List Answered) (lines : List CountedLine) → AreReplies (IsDue base) history (groups batch 0 lines) []

@@ -1,0 +1,181 @@
+-- What `run` says of `init`.
+use Rattle.std.proofs.Common.{◌≡◌, ◌≤◌, ◌+◌, ℕ, true, false, List, [], length, Option, Some, Result, Ok, Err, IsErr, IsErrOf, OnOk, OnErr, refl, sym, ◌∙◌, ap, subst, inr, map, string_bytes}
+use Rattle.audit_types.specs.declared.records.Answered.{Answered}
+use Rattle.audit_types.specs.declared.shapes.Shape.{Shape}
+use Rattle.audit_types.specs.History.{IsLegal}
+use Rattle.std.proofs.lemmas.Bool.{false≢true}
+use Rattle.bench_core.specs.Causes.{Rose}
+use Rattle.bench_core.specs.Calls.{IsQuiet, LeavesOnly}
+use Rattle.bench_core.specs.Moments.{joins, weakens}
+use Rattle.schema_json.specs.Columns.{Column}
+use Rattle.table_load.specs.Cells.{PublicView, SecretView}
+use Rattle.table_load.specs.Database.{Database, base_of, secret_table}
+use Rattle.table_load.specs.Tables.{table_of, public_of}
+use Rattle.journal_form.specs.Journal.{StandsFor}
+use Rattle.answer_journal.specs.Make.{calls_to_make}
+use Rattle.answer_journal.specs.Moments.{IsAlready, IsUnmadeOrEmpty, IsUntouched}
+use Rattle.answer_journal.specs.declared.make.MakeFault.TheVariants as make
+use Rattle.audit_store.specs.Stores.{IsAsLeft}
+use Rattle.line_wire.specs.Lines.{counted_lines}
+use Rattle.question_plan.specs.Session.{Replied}
+use Rattle.audit_session.specs.Ends.{TakesCalls}
+use Rattle.audit_session.specs.Stops.{IsHarmless, StopsOver}
+use Rattle.journal_audit.specs.Reports.{audit_of, subjects, Reports, ReportsFront, SendsMeanwhile}
+use Rattle.transcript_sim.specs.Ends.{EndSends, EndVerdicts, SimulatesMeanwhile}
+use Rattle.transcript_sim.specs.Verdicts.{exchanges}
+use Rattle.auditor_top.specs.declared.words.Command.{Command}
+use Rattle.auditor_top.specs.declared.words.Command.TheVariants as command
+use Rattle.auditor_top.specs.declared.ready.Ready.{Ready}
+use Rattle.auditor_top.specs.declared.status.Status.{Status}
+use Rattle.auditor_top.specs.declared.status.Status.TheVariants.{NoMemory}
+use Rattle.auditor_top.specs.Words.{command_of, NamesCommand}
+use Rattle.auditor_top.specs.Commands.{AreFilesOf, ServesOver, opens_journal, reads_files, reads_secrets, reads_lines, writes}
+use Rattle.auditor_top.specs.Causes.{WordCause, FileCause, InputCause, FaultCause, HoldsLegal, counts}
+use Rattle.auditor_top.specs.Drills.{DrillEnds}
+use Rattle.auditor_top.specs.Ends.{ServeEnds, AuditEnds, SimulateEnds, SimulateSends, audit_over, outside}
+use Rattle.auditor_top.specs.Ready.{IsGiven, GivesUp, EndsEarly, IsReady, IsReadyOver, command_for}
+use Rattle.auditor_top.specs.Runs.{objects, faults_of, Making, Serving, Auditing, Simulating, Drilling}
+use Rattle.auditor_top.specs.Stages.{Before, reading_table, opening_journal, reading_lines}
+use Rattle.auditor_top.specs.Status.{making_status, session_status, audit_status, simulation_status}
+use Rattle.auditor_top.proofs.AuditEndings.{untouched_report, report_cause, report_ends, report_faults, report_wants}
+use Rattle.auditor_top.proofs.Calls.{making_done, session_done, report_done, simulation_done}
+use Rattle.auditor_top.proofs.KeptByEveryLife.{with_this_run}
+use Rattle.auditor_top.proofs.OneCommand.{one_command, one_batch, one_drill, same_command, asked_for, not_asked, none_asked, refused_words, takes_step, lacks_step}
+use Rattle.auditor_top.proofs.OneTable.{one_base, same_given, carried, schema_is_ok, table_is_ok}
+use Rattle.auditor_top.proofs.Openings.{stays, one_more, later_still}
+use Rattle.auditor_top.proofs.Refusals.{uncalled, as_quiet, refused}
+use Rattle.auditor_top.proofs.Sessions.{ends_so, stops_so, harmless_so, calls_so}
+use Rattle.auditor_top.proofs.SimulationEndings.{carried_public, simulation_ends, simulation_sends, simulation_reads, simulation_faults, simulation_wants}
+use Rattle.auditor_top.proofs.StepFaults.{moved, making_cause, making_failed, making_faults, making_wants, made_or_there, there_is, session_cause, session_ends, session_faults, session_reads, session_wants}
+use Rattle.auditor_top.proofs.StepStatuses.{always_before, at_lines, before_so, never_fall, bad_words_say, no_memory_says, reads_nothing, EndsLastStep, schema_read, table_read, past_table, past_journal, no_schema_fault, no_table_fault, schema_was_read, table_was_read, making_last, session_last, report_last, simulation_last, making_words, session_words, report_words, simulation_words, session_bench, session_input, report_bench, report_no_input, simulation_bench, simulation_input, simulation_file, making_no_input, making_wants_no_memory, making_at_lines, session_at_lines, report_at_lines, simulation_at_lines}
+use Rattle.auditor_top.proofs.running.run.Given.{Over}
+use Rattle.auditor_top.proofs.running.run.Goals as goal
+
+made_faults : (g : Over) (c : goal.After-made g) → FaultCause c.made.result
+    (faults_of g.P.Source g.I.Source g.B.Bench (objects c.args.schema.now c.args.table.now c.args.input.now c.args.bench.now c.args.spare.now))
+    (faults_of g.P.Source g.I.Source g.B.Bench (objects c.open.new.schema c.open.new.table c.args.input.now c.make.new.bench c.args.spare.now))
+made_faults g c =
+    let before = counts (g.P.Source.faults c.args.schema.now) (g.P.Source.faults c.args.table.now) (g.I.Source.faults c.args.input.now)
+    (g.B.Bench.faults c.args.bench.now) (g.B.Bench.faults c.args.spare.now) in
+    let later = g.B.Bench.faults c.make.new.bench in
+    let steady = c.in-Ok-Init.ensures.steady in
+    moved c.made.result before _ _ _ _ _ later _ steady.0 steady.1
+    (subst (λ (status : Status). FaultCause status before (record before { bench = later })) (sym c.made.ensures)
+    (making_faults c.make.result before later (λ is. subst (λ (n : ℕ). Rose n later) steady.2 (c.make.ensures.failed is))
+    (λ other. c.make.ensures.steady other ∙ steady.2)))
+
+making_it : (g : Over) (c : goal.After-made g) → NamesCommand c.args.words.now.items command.Init →
+    Making g.P.Source g.I.Source g.B.Bench c.made.result (objects c.args.schema.now c.args.table.now c.args.input.now c.args.bench.now c.args.spare.now)
+    (objects c.open.new.schema c.open.new.table c.args.input.now c.make.new.bench c.args.spare.now)
+making_it g c = λ asked.
+    let at = c.args.bench.now in
+    let later = c.make.new.bench in
+    let reads = c.open.ensures.reads in
+    let old = objects c.args.schema.now c.args.table.now c.args.input.now at c.args.spare.now in
+    let new = objects c.open.new.schema c.open.new.table c.args.input.now later c.args.spare.now in
+    let same : c.in-Ok.command ≡ command.Init = same_command _ _ _ c.in-Ok-Init.field-0-is c.in-Ok-Init.ensures.asked in
+    let unopened : c.open.new.bench ≡ at = c.open.ensures.unopened (ap opens_journal same) in
+    let are = λ (ptold : g.P.Source.told). subst (IsReadyOver (g.P.Source.left old.schema) (g.P.Source.left old.table)) c.in-Ok-Init.field-0-is (c.in-Ok-Init.ensures.over ptold) in
+    let shape : ((ptold : g.P.Source.told) → (base : Database) → AreFilesOf (g.P.Source.left old.schema) (g.P.Source.left old.table) base →
+    c.in-Ok-Init.shape ≡ base.secret.shape) =
+    λ ptold base files. (are ptold).2 ∙ ap (λ (b : Database). b.secret.shape) (one_base _ _ (are ptold).0 base (are ptold).1 files) in
+    let there = λ (told : g.B.Bench.told) (is : IsErrOf c.make.result make.AlreadyThere). subst (λ b. IsAlready (g.B.Bench.file b) × (g.B.Bench.file later ≡ g.B.Bench.file b)) unopened (c.make.ensures.already told is) in
+    subst (λ (s : Status). Making g.P.Source g.I.Source g.B.Bench s old new) (sym c.made.ensures) (record {
+      made = λ ptold told done base files.
+          subst (λ (s : Shape). StandsFor (g.B.Bench.file later) s []) (shape ptold base files) (20, making_done c.make.result done (c.make.ensures.done told));
+      kept = λ told undone fine. (there told (there_is c.make.result undone fine)).1;
+      unsent = c.make.ensures.sent ∙ reads.sent;
+      untouched = λ told. subst (λ b. IsAlready (g.B.Bench.file b) → IsQuiet g.B.Bench b → LeavesOnly g.B.Bench b later
+          (IsUntouched (g.B.Bench.file b) (g.B.Bench.sent b))) unopened (c.make.ensures.untouched told);
+      making = λ ptold told absent quiet base files.
+          subst (λ (s : Shape). LeavesOnly g.B.Bench at later (IsUnmadeOrEmpty s (g.B.Bench.sent at))) (shape ptold base files)
+          (subst (λ b. (IsAlready (g.B.Bench.file b) → ⊥) → IsQuiet g.B.Bench b → LeavesOnly g.B.Bench b later
+          (IsUnmadeOrEmpty c.in-Ok-Init.shape (g.B.Bench.sent b))) unopened (c.make.ensures.any_moment told) absent quiet);
+      unmade = λ is. absurd (making_wants_no_memory c.make.result is);
+      init_calls = λ told done. making_done c.make.result done (c.make.ensures.ticks told)
+          ∙ ap (λ b. g.B.Bench.moment b + calls_to_make (g.B.Bench.file b)) unopened;
+      makes = λ ptold told base files absent none.
+          making_wants c.make.result (faults_of g.P.Source g.I.Source g.B.Bench old) (faults_of g.P.Source g.I.Source g.B.Bench new)
+          (λ is. absent (there told is).0) (subst (λ (s : Status). FaultCause s (faults_of g.P.Source g.I.Source g.B.Bench old) (faults_of g.P.Source g.I.Source g.B.Bench new)) c.made.ensures (made_faults g c)) none;
+    })
+
+made_words : (g : Over) (c : goal.After-made g) → WordCause c.made.result (command_of (map string_bytes c.args.words.now.items))
+made_words g c =
+    subst (λ (asked : Option Command). WordCause c.made.result asked)
+    (sym (asked_for _ _ _ _ c.in-Ok.ensures.command c.in-Ok-Init.field-0-is c.in-Ok-Init.ensures.asked))
+    (subst (λ (s : Status). WordCause s (Some command.Init)) (sym c.made.ensures) (making_words c.make.result))
+
+made_file : (g : Over) (c : goal.After-made g) → g.P.Source.told → g.B.Bench.told → (asked : Command) → NamesCommand c.args.words.now.items asked → (base : Database) →
+    AreFilesOf (g.P.Source.left c.args.schema.now) (g.P.Source.left c.args.table.now) base →
+    FileCause c.made.result asked (g.B.Bench.file c.args.bench.now) base.secret
+made_file g c = λ ptold told other asked base files.
+    let status = c.made.result in
+    let reads = c.open.ensures.reads in
+    let file = g.B.Bench.file c.args.bench.now in
+    let is_named : command_of (map string_bytes c.args.words.now.items) ≡ Some command.Init =
+    asked_for _ _ _ _ c.in-Ok.ensures.command c.in-Ok-Init.field-0-is c.in-Ok-Init.ensures.asked in
+    subst (λ (k : Command). FileCause status k file base.secret) (one_command _ _ other is_named asked)
+    (subst (λ (s : Status). FileCause s command.Init file base.secret) (sym c.made.ensures)
+    (making_cause c.make.result file base.secret
+    (subst (λ (f : List ℕ). IsAlready f → IsErr c.make.result) reads.file (c.make.ensures.refused told))
+    (λ is. subst IsAlready reads.file (c.make.ensures.already told is).0)))
+
+pub init_ends : goal.returns-in-Ok-Init
+init_ends g c =
+    let status = c.made.result in
+    let reads = c.open.ensures.reads in
+    let file = g.B.Bench.file c.args.bench.now in
+    let are = λ (ptold : g.P.Source.told). subst (IsReadyOver (g.P.Source.left c.args.schema.now) (g.P.Source.left c.args.table.now)) c.in-Ok-Init.field-0-is
+    (c.in-Ok-Init.ensures.over ptold) in
+    let is_named : command_of (map string_bytes c.args.words.now.items) ≡ Some command.Init =
+    asked_for _ _ _ _ c.in-Ok.ensures.command c.in-Ok-Init.field-0-is c.in-Ok-Init.ensures.asked in
+    let last = subst EndsLastStep (sym c.made.ensures) (making_last c.make.result) in
+    record {
+      words = made_words g c;
+      schema = λ ptold command asked reads. schema_read status _ last (schema_is_ok _ _ (are ptold).1.schema_is);
+      table = λ ptold command asked reads columns is. table_read status _ last
+          (table_is_ok (λ (cs : List Column). table_of cs (g.P.Source.left c.args.table.now)) _ _ columns _ (are ptold).1.schema_is (are ptold).1.table_is is);
+      public = λ ptold asked. not_asked _ _ _ is_named asked refl;
+      own_schema_fault = no_schema_fault status last;
+      own_table_fault = no_table_fault status last;
+      file = made_file g c;
+      input = λ itold command asked reads. lacks_step reads_lines _ _ command is_named asked refl reads;
+      faults = made_faults g c;
+      schema_last = schema_was_read status last;
+      table_last = table_was_read status last;
+      input_last = λ is. absurd (making_no_input c.make.result (sym c.made.ensures ∙ is));
+      bench_last = λ is. c.make.ensures.last_call (making_failed c.make.result (sym c.made.ensures ∙ is));
+      later = record {
+        schema = c.open.ensures.later.0;
+        table = c.open.ensures.later.1;
+        input = stays _;
+        bench = later_still _ _ _ c.open.ensures.later.2 c.make.ensures.later;
+      };
+      schema_within = λ ptold. schema_was_read status last;
+      table_within = λ ptold. table_was_read status last;
+      lives = λ ptold itold told batch asked. not_asked _ _ _ is_named asked refl;
+      init = making_it g c;
+      serve = λ batch asked. not_asked _ _ _ is_named asked refl;
+      audit = λ asked. not_asked _ _ _ is_named asked refl;
+      simulate = λ asked. not_asked _ _ _ is_named asked refl;
+      drill = λ number asked. not_asked _ _ _ is_named asked refl;
+      nothing_began = λ ptold told command asked opens. lacks_step opens_journal _ _ command is_named asked refl opens;
+      quiet = λ told quiet fine.
+          made_or_there c.make.result (λ is. fine (c.made.ensures ∙ is)) (c.make.ensures.quiet told)
+          (λ there image left.
+          let still = as_quiet g.B.Bench _ _ reads quiet in
+          let already = c.make.ensures.already told there in
+          let moments = c.make.ensures.untouched told already.0 still in
+          (moments.each image (g.B.Bench.sent c.make.new.bench) (g.met.B.Bench.counts_now c.make.new.bench
+          (g.B.Bench.moment c.open.new.bench) image moments.later left)).1 ∙ sym already.1);
+      before_table = past_table _ status last;
+      before_bench = past_journal _ status last;
+      before_lines = always_before reading_lines status (refl, c.make.ensures.sent ∙ reads.sent);
+      unwritten = λ told. at_lines _ _ _ c.made.ensures
+          (making_at_lines c.make.result (λ there. (c.make.ensures.already told there).1 ∙ reads.file));
+      unread = λ none. none_asked _ _ none is_named;
+      no_files = λ command asked none. takes_step reads_files _ _ _ is_named asked refl none;
+      no_lines = λ command asked none. refl;
+      never_written = λ told command asked none. takes_step writes _ _ _ is_named asked refl none;
+      spare = refl;
+    }
