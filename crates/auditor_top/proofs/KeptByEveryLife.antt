@@ -33,13 +33,13 @@ nothing_is_legal table = record { few = omega arith; each = λ i r is. cc }
 all_front : {X : Type 0} (whole : List X) → IsFront whole whole
 all_front whole = record { rest = []; is = sym (append-nil whole) }
 
-front_front : {X : Type 0} (a b c : List X) → IsFront a b → IsFront b c → IsFront a c
+pub front_front : {X : Type 0} (a b c : List X) → IsFront a b → IsFront b c → IsFront a c
 front_front a b c first second =
     record { rest = first.rest ++ second.rest; is = second.is ∙ ap (λ l. l ++ second.rest) first.is ∙ append_assoc a first.rest second.rest }
 
 module _ (one : OneReading) (base : Database) where
   -- the history that a run left is the one before it with the records of its replies
-  left_is : (first : List Answered) (run : Run) (goes : GoesFrom base first run) → run.last ≡ first ++ records_of goes.stop.replies
+  pub left_is : (first : List Answered) (run : Run) (goes : GoesFrom base first run) → run.last ≡ first ++ records_of goes.stop.replies
   left_is first run goes =
       (one goes.image base.secret.shape base.secret.shape run.last
       (first ++ records_of goes.stop.replies) goes.stands.0 goes.stop.stands_for.0 goes.stands.1 goes.stop.stands_for.1).1

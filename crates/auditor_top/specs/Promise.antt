@@ -3,10 +3,14 @@
 --
 -- A life is runs of `serve` one after another, each ended or stopped at any moment (IsLife of audit_session). What it keeps
 -- is KeepsPromise there: the last history is legal and undisclosed (audit_types), and of each run the bytes that it sent are
--- a front of the replies due to its lines (IsDue of question_plan), whose records are all in the last history. The clause
+-- a front of the replies due to its lines (IsDue of question_plan), whose records are all in the last history. What it
+-- hides is HidesAll: of each number of the secrets another table, with another number there, leads to the very same bytes. The clause
 -- `lives` of `run` is GoesOn: whatever moment a run over a life is stopped at, the life with that run keeps the promise.
-use Rattle.std.specs.Prelude.{◌≡◌, ◌⊎◌, List, ℕ, [], ◌∷◌, ◌++◌}
+use Rattle.std.specs.Prelude.{◌≡◌, ◌≢◌, ◌<◌, ◌⊎◌, List, ℕ, [], ◌∷◌, ◌++◌}
 use Rattle.audit_types.specs.declared.records.Answered.{Answered}
+use Rattle.audit_types.specs.Shapes.{columns}
+use Rattle.audit_types.specs.Truth.{number_at}
+use Rattle.audit_types.specs.History.{list_of}
 use Rattle.table_load.specs.Database.{Database, AreTwins, secret_table}
 use Rattle.line_wire.specs.Lines.{CountedLine, counted_lines}
 use Rattle.question_plan.specs.Laws.{AreAnswersAlike}
@@ -23,10 +27,23 @@ DecidesAlike base runs last =
     (twin : Database) (others : List Run) (final : List Answered) (line : CountedLine) (a b : Replied Answered) → AreTwins base twin → IsLife twin others final → AreAlike runs others →
     IsDue base last line a → IsDue twin final line b → (a ≡ b) ⊎ AreAnswersAlike (secret_table base.secret) (secret_table twin.secret) a b
 
--- a life with one run more is a life, keeps the promise, and decides as every life like it
+-- another table with the same public part has another number at this place, and leads the same life: every byte that was sent,
+-- denials and refusals among them, is due over it too
+pub record HasTwinLife (base : Database) (runs : List Run) (last : List Answered) (column row : ℕ) : Type 0 where
+  pub twin : Database
+  pub twins : AreTwins base twin
+  pub differs : number_at (list_of twin.secret.lists column) row ≢ number_at (list_of base.secret.lists column) row
+  pub life : IsLife twin runs last
+
+-- a life hides each number of the secrets
+abbrev pub HidesAll : Database → List Run → List Answered → Type 0
+HidesAll base runs last = (column row : ℕ) → column < columns base.secret.shape → row < base.secret.shape.rows → HasTwinLife base runs last column row
+
+-- a life with one run more is a life, keeps the promise, hides each number, and decides as every life like it
 pub record GoesOn (base : Database) (runs : List Run) (run : Run) : Type 0 where
   pub life : IsLife base (runs ++ run ∷ []) run.last
   pub keeps : KeepsPromise base (runs ++ run ∷ []) run.last
+  pub hides : HidesAll base (runs ++ run ∷ []) run.last
   pub alike : DecidesAlike base (runs ++ run ∷ []) run.last
 
 -- what `init` made over the files of a table is taken by `serve` and by `audit`
@@ -42,6 +59,10 @@ StopsAreTaken =
 -- every life over the table of two files keeps the promise
 abbrev pub LivesKeepPromise : Type 0
 LivesKeepPromise = (schema table : List ℕ) (base : Database) (runs : List Run) (last : List Answered) → AreFilesOf schema table base → IsLife base runs last → KeepsPromise base runs last
+
+-- and hides each number of the secrets
+abbrev pub LivesHide : Type 0
+LivesHide = (schema table : List ℕ) (base : Database) (runs : List Run) (last : List Answered) → AreFilesOf schema table base → IsLife base runs last → HidesAll base runs last
 
 -- the next run of a life is given what a run has to be given, whatever image the last one left
 abbrev pub LivesGoOn : Type 0

@@ -9,7 +9,7 @@ ghost use Rattle.audit_session.specs.Stops.{StopsOver, IsBatch};
 ghost use Rattle.auditor_top.specs.Commands.{AreFilesOf};
 ghost use Rattle.auditor_top.specs.declared.words.Command.TheVariants.{Init, Serve, Audit, Simulate, Drill};
 ghost use Rattle.auditor_top.specs.Words.{command_of, number_of};
-ghost use Rattle.auditor_top.specs.Promise.{LivesKeepPromise, LivesGoOn, MadeIsTaken, StopsAreTaken, StopsMakeLives};
+ghost use Rattle.auditor_top.specs.Promise.{LivesHide, LivesKeepPromise, LivesGoOn, MadeIsTaken, StopsAreTaken, StopsMakeLives};
 
 /// Every history for which a stop over a legal history of a table leaves an image is a legal history of it, and discloses no
 /// secret.
@@ -24,11 +24,13 @@ pub fn stops_are_legal()
     audit_session::laws::stops();
 }
 
-/// In every life over one table the last history is legal, discloses no secret, and keeps all that was sent. A stop makes the
+/// In every life over one table the last history is legal, discloses no secret, and keeps all that was sent; and each number is
+/// hidden: another table, with another number there, leads the same life, byte for byte. A stop makes the
 /// life one run longer, and decided as over every table that differs in its secrets alone; the next run is given what a run
 /// has to be given.
 pub fn lives()
     ensures keep { LivesKeepPromise }
+    ensures hide { LivesHide }
     ensures go_on { LivesGoOn }
     ensures longer { StopsMakeLives }
 {

@@ -1,6 +1,7 @@
-use Rattle.std.proofs.Common.{[]}
+use Rattle.std.proofs.Common.{[], refl}
 use Rattle.table_load.specs.Cells.{TableView}
 use Rattle.table_load.specs.Database.{IsDatabase, secret_table}
+use Rattle.auditor_top.proofs.HiddenLives.{with_secrets, lead_there}
 use Rattle.auditor_top.proofs.KeptByEveryLife.{nothing_is_legal, all_kept, stays_legal, lead_push}
 use Rattle.auditor_top.proofs.laws.lives.Goals as goal
 
@@ -17,6 +18,17 @@ returns-clause-keep c = λ schema table base runs last files life.
       kept = all_kept c.one_reading.ensures base [] runs last life;
     }
 
+pub returns-clause-hide : goal.returns-clause-hide
+returns-clause-hide c = λ schema table base runs last files life column row below inside.
+    let keeps = returns-clause-keep c schema table base runs last files life in
+    let found = keeps.undisclosed column row below inside in
+    record {
+      twin = with_secrets base found.twin;
+      twins = record { columns = refl; public = refl; shape = refl };
+      differs = found.differs;
+      life = lead_there base found.twin last keeps.legal found.agree c.one_reading.ensures [] runs life;
+    }
+
 pub returns-clause-go_on : goal.returns-clause-go_on
 returns-clause-go_on c = λ schema table image base runs last files life stands.
     record { files = files; stands = stands; legal = (returns-clause-keep c schema table base runs last files life).legal }
@@ -27,5 +39,6 @@ returns-clause-longer c = λ schema table image base runs history run files life
     record {
       life = longer;
       keeps = returns-clause-keep c schema table base _ run.last files longer;
+      hides = returns-clause-hide c schema table base _ run.last files longer;
       alike = λ twin others final line a b twins other are. c.two_worlds.ensures.lives base twin _ others run.last final line a b twins longer other are;
     }
