@@ -313,6 +313,9 @@ class Known(DoorCase):
                     self.assertEqual(await response.read(), (self.folder.public / name).read_bytes(), name)
                     self.assertEqual(response.content_type, kind)
                     self.assertEqual(response.headers["X-Content-Type-Options"], "nosniff", name)
+                async with session.head("/" + name) as response:
+                    self.assertEqual((response.status, await response.read()), (200, b""), name)
+                    self.assertEqual(response.content_length, (self.folder.public / name).stat().st_size, name)
             async with session.get("/tables.json") as response:
                 self.assertEqual(await response.json(), [])
         self.assertEqual(self.door.stop(), 0)
