@@ -150,7 +150,7 @@ class Door:
         return aiohttp.ClientSession("http://door", connector=aiohttp.UnixConnector(self.socket, limit=0),
                                      timeout=aiohttp.ClientTimeout(120))
 
-    async def ready(self, session, state="serving", patience=30, path="/health"):
+    async def ready(self, session, state="serving", patience=120, path="/health"):
         end = time.monotonic() + patience
         while time.monotonic() < end:
             try:

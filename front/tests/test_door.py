@@ -106,7 +106,7 @@ class OfAnotherUser(Doors):
         process = subprocess.Popen(
             ["socat", f"UNIX-LISTEN:{path},fork,max-children=1,user={NOBODY},unlink-early", f'EXEC:{AUDITOR} {command}'],
             cwd=self.folder.path, stderr=subprocess.DEVNULL, start_new_session=True)
-        end = time.monotonic() + 10
+        end = time.monotonic() + 120
         while not pathlib.Path(path).exists() and time.monotonic() < end:
             time.sleep(0.01)
         return process
@@ -126,7 +126,7 @@ class OfAnotherUser(Doors):
             await self.door.ready(session)
             await self.client(session, 0, 5)
             owner = pathlib.Path(f"/proc/{self.door.process.pid}").stat().st_uid
-            end = time.monotonic() + 30
+            end = time.monotonic() + 120
             while not (self.folder.public / "report.jsonl").exists() and time.monotonic() < end:
                 await asyncio.sleep(0.05)
         self.assertEqual(owner, NOBODY)

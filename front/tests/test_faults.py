@@ -24,7 +24,7 @@ class Faults(DoorCase):
 
     async def ends(self, status=1):
         """The door's own end."""
-        code = await asyncio.to_thread(self.door.process.wait, 30)
+        code = await asyncio.to_thread(self.door.process.wait, 120)
         self.assertEqual(code, status, self.folder.said())
 
     async def test_a_full_disk_of_the_transcript_loses_nothing(self):
@@ -110,7 +110,7 @@ class Faults(DoorCase):
             await self.start(session)
             second = Door(self.folder)
             second.start()
-            self.assertEqual(await asyncio.to_thread(second.process.wait, 30), 1)
+            self.assertEqual(await asyncio.to_thread(second.process.wait, 120), 1)
             self.assertIn("another door keeps", self.folder.said())
             await self.client(session, 0, 5)
         self.assertEqual(self.door.stop(), 0)
@@ -122,7 +122,7 @@ class Faults(DoorCase):
         async with self.door.session() as session:
             await self.start(session)
             await self.ask(session, *question("sum", 0, 99))
-            end = time.monotonic() + 20
+            end = time.monotonic() + 120
             while not (self.folder.public / "report.jsonl.new").exists() and time.monotonic() < end:
                 await asyncio.sleep(0.02)
             began = time.monotonic()
@@ -135,7 +135,7 @@ class Faults(DoorCase):
         self.door = Door(self.folder, "--report-every", 0.1)
         async with self.door.session() as session:
             await self.start(session)
-            end = time.monotonic() + 20
+            end = time.monotonic() + 120
             while not (self.folder.public / "report.jsonl").exists() and time.monotonic() < end:
                 await asyncio.sleep(0.02)
             async with session.get("/report.jsonl") as response:
