@@ -137,6 +137,7 @@ class Door:
         if self.process and self.process.poll() is None:
             self.process.kill()
             self.process.wait()
+            self.kill_programs()            # a test may have left them stopped
 
     def start(self):
         with open(self.folder.path / "door.err", "ab") as errors:
@@ -149,7 +150,7 @@ class Door:
         return aiohttp.ClientSession("http://door", connector=aiohttp.UnixConnector(self.socket, limit=0),
                                      timeout=aiohttp.ClientTimeout(120))
 
-    async def ready(self, session, state="serving", patience=30, path="/health"):
+    async def ready(self, session, state="serving", patience=120, path="/health"):
         end = time.monotonic() + patience
         while time.monotonic() < end:
             try:
@@ -172,12 +173,15 @@ class Door:
                 pass
         return found
 
-    def kill_programs(self):
+    def signal_programs(self, how):
         for number in self.programs():
             try:
-                os.kill(number, signal.SIGKILL)
+                os.kill(number, how)
             except ProcessLookupError:
                 pass
+
+    def kill_programs(self):
+        self.signal_programs(signal.SIGKILL)
 
     def stop(self, how=signal.SIGTERM):
         self.process.send_signal(how)

@@ -47,7 +47,7 @@ class Nginx:
         (self.folder / "block.conf").write_text(text)
         (self.folder / "nginx.conf").write_text(SHELL.format(folder=self.folder))
         self.process = subprocess.Popen([NGINX, "-c", self.folder / "nginx.conf", "-e", self.folder / "nginx.err"])
-        end = time.monotonic() + 30
+        end = time.monotonic() + 120
         while not listens(port) and time.monotonic() < end:
             time.sleep(0.05)
 
@@ -85,7 +85,7 @@ class TwoDoors(unittest.IsolatedAsyncioTestCase):
                                      auth=aiohttp.BasicAuth(user, "secret") if user else None)
 
     async def ready(self, session, name, status=200):
-        end = time.monotonic() + 30
+        end = time.monotonic() + 120
         while time.monotonic() < end:
             try:
                 async with session.get(f"/{name}/health") as response:
