@@ -1,6 +1,5 @@
 -- What a refusal says: the files weren't opened, or the journal wasn't.
-use Rattle.std.proofs.Common.{rules, ◌≡◌, ◌≢◌, ◌≤◌, ◌+◌, ℕ, true, List, length, Some, Result, Ok, Err, IsOk, IsErrOf, OnOk, refl, subst}
-use Rattle.bench_core.specs.Causes.{Rose}
+use Rattle.std.proofs.Common.{◌≡◌, ◌≢◌, ◌≤◌, ◌+◌, ℕ, true, List, length, Some, Result, Ok, refl, subst}
 use Rattle.bench_core.specs.declared.bench.Bench.{Ghosts}
 use Rattle.bench_core.specs.declared.source.Source as source
 use Rattle.schema_json.specs.Columns.{Column}
@@ -13,10 +12,6 @@ use Rattle.table_load.specs.Reading.{most_table}
 use Rattle.table_load.specs.Tables.{table_of, public_of}
 use Rattle.table_load.specs.declared.faults.TableFault.{TableFault}
 use Rattle.table_load.specs.declared.faults.TableFault.TheVariants as table_fault
-use Rattle.audit_store.specs.Starting.{StartCause}
-use Rattle.audit_store.specs.Starting as starting
-use Rattle.audit_store.specs.declared.starting.StartFault.{StartFault}
-use Rattle.audit_store.specs.declared.starting.StartFault.TheVariants as start
 use Rattle.auditor_top.specs.declared.files.FileFault.{FileFault}
 use Rattle.auditor_top.specs.declared.files.FileFault.TheVariants as file
 use Rattle.auditor_top.specs.declared.opening.OpenFault.{OpenFault}
@@ -24,14 +19,13 @@ use Rattle.auditor_top.specs.declared.opening.OpenFault.TheVariants as opening
 use Rattle.auditor_top.specs.declared.words.Command.{Command}
 use Rattle.auditor_top.specs.declared.words.Command.TheVariants as command
 use Rattle.auditor_top.specs.declared.status.Which.TheVariants.{Schema, Table}
-use Rattle.auditor_top.specs.declared.status.Status.{Status}
-use Rattle.auditor_top.specs.declared.status.Status.TheVariants.{BadSchema, BadTable, SourceFault, BenchFault, NotMade, Damaged, OtherShape, Untrue, Illegal, NoMemory}
-use Rattle.auditor_top.specs.Status.{open_status, start_status}
-use Rattle.auditor_top.specs.Causes.{FaultCounts, FaultCause, WordCause, SchemaCause, TableCause, FileCause, counts}
-use Rattle.auditor_top.specs.Commands.{AreFilesOf, ArePublicFilesOf, opens_journal, reads_files, reads_secrets}
+use Rattle.auditor_top.specs.declared.status.Status.TheVariants.{BadSchema, BadTable, SourceFault, BenchFault}
+use Rattle.auditor_top.specs.Status.{open_status}
+use Rattle.auditor_top.specs.Causes.{FaultCause, WordCause, SchemaCause, TableCause, FileCause, counts}
+use Rattle.auditor_top.specs.Commands.{AreFilesOf, ArePublicFilesOf, reads_files, reads_secrets}
 use Rattle.auditor_top.specs.Ready.{EndsEarly, GivesUp, IsGiven, Refuses}
 use Rattle.auditor_top.specs.Stages.{Before, reading_table, opening_journal}
-use Rattle.auditor_top.proofs.StepFaults.{not_both, same_counts}
+use Rattle.auditor_top.proofs.StepFaults.{not_both}
 use Rattle.auditor_top.proofs.StepStatuses.{always_before}
 
 -- ---- the files weren't opened

@@ -1,53 +1,33 @@
 -- What `run` says of `audit`.
-use Rattle.std.proofs.Common.{◌≡◌, ◌≤◌, ◌+◌, ℕ, true, false, List, [], length, Option, Some, Result, Ok, Err, IsErr, IsErrOf, OnOk, OnErr, refl, sym, ◌∙◌, ap, subst, inr, map, string_bytes}
+use Rattle.std.proofs.Common.{◌≡◌, ◌+◌, ℕ, List, length, Option, Some, OnOk, OnErr, refl, sym, ◌∙◌, ap, subst, map, string_bytes}
 use Rattle.audit_types.specs.declared.records.Answered.{Answered}
-use Rattle.audit_types.specs.declared.shapes.Shape.{Shape}
-use Rattle.audit_types.specs.History.{IsLegal}
-use Rattle.std.proofs.lemmas.Bool.{false≢true}
 use Rattle.bench_core.specs.Causes.{Rose}
-use Rattle.bench_core.specs.Calls.{IsQuiet, LeavesOnly}
+use Rattle.bench_core.specs.Calls.{LeavesOnly}
 use Rattle.bench_core.specs.Moments.{joins, weakens}
 use Rattle.schema_json.specs.Columns.{Column}
-use Rattle.table_load.specs.Cells.{PublicView, SecretView}
-use Rattle.table_load.specs.Database.{Database, base_of, secret_table}
-use Rattle.table_load.specs.Tables.{table_of, public_of}
-use Rattle.journal_form.specs.Journal.{StandsFor}
-use Rattle.answer_journal.specs.Make.{calls_to_make}
-use Rattle.answer_journal.specs.Moments.{IsAlready, IsUnmadeOrEmpty, IsUntouched}
-use Rattle.answer_journal.specs.declared.make.MakeFault.TheVariants as make
+use Rattle.table_load.specs.Database.{Database, base_of}
+use Rattle.table_load.specs.Tables.{table_of}
+use Rattle.answer_journal.specs.Moments.{IsUntouched}
 use Rattle.audit_store.specs.Stores.{IsAsLeft}
-use Rattle.line_wire.specs.Lines.{counted_lines}
-use Rattle.question_plan.specs.Session.{Replied}
-use Rattle.audit_session.specs.Ends.{TakesCalls}
-use Rattle.audit_session.specs.Stops.{IsHarmless, StopsOver}
 use Rattle.journal_audit.specs.Reports.{audit_of, subjects, Reports, ReportsFront, SendsMeanwhile}
-use Rattle.transcript_sim.specs.Ends.{EndSends, EndVerdicts, SimulatesMeanwhile}
-use Rattle.transcript_sim.specs.Verdicts.{exchanges}
 use Rattle.auditor_top.specs.declared.words.Command.{Command}
 use Rattle.auditor_top.specs.declared.words.Command.TheVariants as command
-use Rattle.auditor_top.specs.declared.ready.Ready.{Ready}
 use Rattle.auditor_top.specs.declared.status.Status.{Status}
-use Rattle.auditor_top.specs.declared.status.Status.TheVariants.{NoMemory}
 use Rattle.auditor_top.specs.Words.{command_of, NamesCommand}
-use Rattle.auditor_top.specs.Commands.{AreFilesOf, ServesOver, opens_journal, reads_files, reads_secrets, reads_lines, writes}
-use Rattle.auditor_top.specs.Causes.{WordCause, FileCause, InputCause, FaultCause, HoldsLegal, counts}
-use Rattle.auditor_top.specs.Drills.{DrillEnds}
-use Rattle.auditor_top.specs.Ends.{ServeEnds, AuditEnds, SimulateEnds, SimulateSends, audit_over, outside}
-use Rattle.auditor_top.specs.Ready.{IsGiven, GivesUp, EndsEarly, IsReady, IsReadyOver, command_for}
-use Rattle.auditor_top.specs.Runs.{objects, faults_of, Making, Serving, Auditing, Simulating, Drilling}
-use Rattle.auditor_top.specs.Stages.{Before, reading_table, opening_journal, reading_lines}
-use Rattle.auditor_top.specs.Status.{making_status, session_status, audit_status, simulation_status}
+use Rattle.auditor_top.specs.Commands.{AreFilesOf, ServesOver, opens_journal, reads_files, reads_lines}
+use Rattle.auditor_top.specs.Causes.{WordCause, FileCause, FaultCause, HoldsLegal, counts}
+use Rattle.auditor_top.specs.Ends.{AuditEnds, audit_over}
+use Rattle.auditor_top.specs.Ready.{IsReady, IsReadyOver}
+use Rattle.auditor_top.specs.Runs.{objects, faults_of, Auditing}
+use Rattle.auditor_top.specs.Status.{audit_status}
 use Rattle.auditor_top.proofs.AuditEndings.{untouched_report, report_cause, report_ends, report_faults, report_wants}
-use Rattle.auditor_top.proofs.Calls.{making_done, session_done, report_done, simulation_done}
-use Rattle.auditor_top.proofs.KeptByEveryLife.{with_this_run}
-use Rattle.auditor_top.proofs.OneCommand.{one_command, one_batch, one_drill, same_command, asked_for, not_asked, none_asked, refused_words, takes_step, lacks_step}
+use Rattle.auditor_top.proofs.Calls.{report_done}
+use Rattle.auditor_top.proofs.OneCommand.{one_command, same_command, asked_for, not_asked, none_asked, takes_step, lacks_step}
 use Rattle.auditor_top.proofs.OneTable.{one_base, same_given, carried, schema_is_ok, table_is_ok}
-use Rattle.auditor_top.proofs.Openings.{stays, one_more, later_still}
-use Rattle.auditor_top.proofs.Refusals.{uncalled, as_quiet, refused}
-use Rattle.auditor_top.proofs.Sessions.{ends_so, stops_so, harmless_so, calls_so}
-use Rattle.auditor_top.proofs.SimulationEndings.{carried_public, simulation_ends, simulation_sends, simulation_reads, simulation_faults, simulation_wants}
-use Rattle.auditor_top.proofs.StepFaults.{moved, making_cause, making_failed, making_faults, making_wants, made_or_there, there_is, session_cause, session_ends, session_faults, session_reads, session_wants}
-use Rattle.auditor_top.proofs.StepStatuses.{always_before, at_lines, before_so, never_fall, bad_words_say, no_memory_says, reads_nothing, EndsLastStep, schema_read, table_read, past_table, past_journal, no_schema_fault, no_table_fault, schema_was_read, table_was_read, making_last, session_last, report_last, simulation_last, making_words, session_words, report_words, simulation_words, session_bench, session_input, report_bench, report_no_input, simulation_bench, simulation_input, simulation_file, making_no_input, making_wants_no_memory, making_at_lines, session_at_lines, report_at_lines, simulation_at_lines}
+use Rattle.auditor_top.proofs.Openings.{stays, later_still}
+use Rattle.auditor_top.proofs.Refusals.{as_quiet}
+use Rattle.auditor_top.proofs.StepFaults.{moved}
+use Rattle.auditor_top.proofs.StepStatuses.{at_lines, EndsLastStep, schema_read, table_read, past_table, past_journal, no_schema_fault, no_table_fault, schema_was_read, table_was_read, report_last, report_words, report_bench, report_no_input, report_at_lines}
 use Rattle.auditor_top.proofs.running.run.Given.{Over}
 use Rattle.auditor_top.proofs.running.run.Goals as goal
 
