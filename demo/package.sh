@@ -1,7 +1,7 @@
 #!/bin/sh
-# Makes what is handed to those who have no kit: a folder and a tarball with the built program, its manual page, the pages on
-# formats and operations, and the demo; then unpacks the tarball in a fresh folder, and runs the demo out of it. Build the
-# program first: demo/run.sh does.
+# Makes what is handed to those who have no kit: a folder and a tarball with the built program, its manual page, the pages for
+# users, and the demo; then unpacks the tarball in a fresh folder, and runs the demo out of it. Its name has the version, the
+# newest of CHANGELOG.md. Build the program first: demo/run.sh does.
 #
 #   demo/package.sh [FOLDER]        the folder to make them in; the current one where none is given
 set -u
@@ -25,13 +25,21 @@ if [ "$needed" != libc.so.6 ]; then
     exit 1
 fi
 
-name=auditor-$(uname -m)-linux
+version=$(sed -n 's/^## \([0-9][0-9.]*\) (.*/\1/p' "$top/CHANGELOG.md" | head -n 1)
+if [ -z "$version" ]; then
+    echo "package: CHANGELOG.md names no version" >&2
+    exit 1
+fi
+name=auditor-$version-$(uname -m)-linux
 cd "${1:-.}" || exit 1
 rm -rf "$name" "$name.tar.gz"
 mkdir -p "$name/bin" "$name/share/man/man1" "$name/share/doc/auditor/demo" || exit 1
 cp "$program" "$name/bin/auditor" || exit 1
 cp "$top/docs/auditor.1" "$name/share/man/man1/" || exit 1
-cp "$top/docs/FORMATS.md" "$top/docs/OPERATIONS.md" "$name/share/doc/auditor/" || exit 1
+for page in PROMISES THREATS FORMATS OPERATIONS; do
+    cp "$top/docs/$page.md" "$name/share/doc/auditor/" || exit 1
+done
+cp "$top/CHANGELOG.md" "$name/share/doc/auditor/" || exit 1
 for file in run.sh edges.sh check_report.py drill.py schema.json table.csv public.csv questions.jsonl replies.jsonl; do
     cp "$demo/$file" "$name/share/doc/auditor/demo/" || exit 1
 done
