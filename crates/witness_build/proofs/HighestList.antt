@@ -33,7 +33,7 @@ highest_step answers k list after number h pushed is near = record {
 
 -- what is known of a column of maxima
 is_max : (known : Known) → known.kind ≡ Max → known_max known.n known.answers ≡ known
-is_max known e = ap (λ kind. record { kind = kind; n = known.n; answers = known.answers }) (sym e)
+is_max known e = ap (λ kind. record { kind = kind; n = known.n; answers = known.answers; groups = known.groups }) (sym e)
 
 -- where no row is lone, both lists agree, by the laws of maxima
 pub both_agree : HighestAgrees → LoneOrLowered → (known : Known) (row : ℕ) → known.kind ≡ Max → IsWellFormed known → IsConsistent known.answers →

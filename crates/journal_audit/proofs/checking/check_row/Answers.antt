@@ -22,7 +22,7 @@ unreachable-requires c =
     let pair = c.in_ok-pair.ensures in
     let n_is : known.n ≡ c.n-n.result = sym (c.n-n.ensures.exact ∙ ap (λ b. b.n) c.bounds.ensures.exact) in
     let known_is : known ≡ known_max c.n-n.result (answers_of c.args.column c.args.list.now) =
-    λ i. record { kind = c.bounds.ensures.maxima i; n = n_is i; answers = c.requires.answers i } in
+    λ i. record { kind = c.bounds.ensures.maxima i; n = n_is i; answers = c.requires.answers i; groups = [] } in
     let here : ShowsFree known c.args.row c.in_ok-pair.pair.lo.items c.in_ok-pair.pair.hi.items =
     record { lo_agrees = pair.agree.0; hi_agrees = pair.agree.1; some = c.bounds.ensures.well_formed.some; differ = pair.differ } in
     let lo = subst (λ (l : List ℤ). ShowsFree known c.args.row l c.in_ok-pair.pair.hi.items) (sym c.deref.ensures.value) here in
