@@ -1,5 +1,5 @@
 //! Whether numbers agree with what a history answers of a column.
-ghost use Rattle.std.specs.Prelude.{◌≡◌, ◌↔◌, length, IsTrue};
+ghost use Rattle.std.specs.Prelude.{◌≡◌, ◌↔◌, [], length, IsTrue};
 ghost use Rattle.audit_types.specs.Column.{Agrees};
 ghost use Rattle.audit_types.specs.History.{answers_of};
 ghost use Rattle.oracles.specs.Ranges.{AreInRange, AreOver};
