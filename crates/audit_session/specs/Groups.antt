@@ -8,7 +8,8 @@ use Rattle.audit_types.specs.History.{Table}
 use Rattle.audit_core.specs.declared.outcome.Outcome.{Outcome}
 use Rattle.schema_json.specs.Columns.{Column}
 use Rattle.schema_json.specs.SecretShape.{shape_of}
-use Rattle.table_load.specs.Cells.{PublicView, SecretView}
+use Rattle.audit_types.specs.declared.shapes.Shape.{Shape}
+use Rattle.table_load.specs.Cells.{PublicView}
 use Rattle.table_load.specs.Database.{Database}
 use Rattle.journal_form.specs.Journal.{StandsFor}
 use Rattle.bench_core.specs.declared.bench.Bench.{Ghosts}
@@ -101,9 +102,9 @@ pub record StandsOn {B : Type 0} (bench : Ghosts B) (old new : B) (store : Store
   pub as_left : bench.told → IsAsLeft (bench.file new) store
   pub quiet : bench.told → IsQuiet bench old → IsQuiet bench new
 
--- the image stands for this history of the secrets' table
-abbrev pub stands_of : SecretView → List ℕ → List Answered → Type 0
-stands_of secret image history = StandsFor image secret.shape history
+-- the image stands for this history of a table of the shape
+abbrev pub stands_of : Shape → List ℕ → List Answered → Type 0
+stands_of shape image history = StandsFor image shape history
 
 -- ---- answering
 

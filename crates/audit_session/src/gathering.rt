@@ -94,8 +94,8 @@ fn next_plan<P: Source>(
     scratch: &mut Scratch,
 ) -> Result<Option<Plan>, EndFault>
     requires same { P.told → lines.old.ended ≡ true → P.left source.old ≡ [] }
-    requires fits { FitsSchema schema.now.columns index.now }
-    ensures next { IfOk result (GivesNext P.told schema.now.columns index.now (lines.old.pending ++ P.left source.old) (lines.new.pending ++ P.left source.new) lines.new.ended) }
+    requires fits { FitsSchema schema.now.columns index.now.public }
+    ensures next { IfOk result (GivesNext P.told schema.now.columns index.now.public (lines.old.pending ++ P.left source.old) (lines.new.pending ++ P.left source.new) lines.new.ended) }
     ensures takes { IfOk result (TakesByte (lines.old.taken + length lines.new.pending) (lines.new.taken + length lines.old.pending)) }
     ensures input { P.told → result ≡ Err EndFault.Input → StopsAt (lines.old.pending ++ P.left source.old) (P.left source.new) }
     ensures limit { P.told → result ≡ Err EndFault.Limit → StopsAt (lines.old.pending ++ P.left source.old) (lines.new.pending ++ P.left source.new) }
@@ -131,13 +131,13 @@ pub(crate) fn gather<P: Source>(
 ) -> Result<bool, EndFault>
     requires same { P.told → lines.old.ended ≡ true → P.left source.old ≡ [] }
     requires within { lines.old.taken ≤ most_input + length lines.old.pending }
-    requires fits { FitsSchema schema.now.columns index.now }
+    requires fits { FitsSchema schema.now.columns index.now.public }
     requires some { 0 < batch }
 
     // The lines, what they come to, and how many there are.
-    ensures gathers { IfOk result (λ more. Gathers P.told schema.now.columns index.now (lines.old.pending ++ P.left source.old) (lines.new.pending ++ P.left source.new) (not more || lines.new.ended) group.new.plans.items) }
+    ensures gathers { IfOk result (λ more. Gathers P.told schema.now.columns index.now.public (lines.old.pending ++ P.left source.old) (lines.new.pending ++ P.left source.new) (not more || lines.new.ended) group.new.plans.items) }
     ensures questions { OnOk result (group.new.asked.items ≡ questions_of group.new.plans.items) }
-    ensures served { OnOk result (All (CanBeServed (shape_of schema.now.columns index.now.rows)) group.new.plans.items) }
+    ensures served { OnOk result (All (CanBeServed (shape_of schema.now.columns index.now.public.rows)) group.new.plans.items) }
     ensures most { OnOk result (length group.new.plans.items ≤ batch) }
     ensures whole { result ≡ Ok true → length group.new.plans.items ≡ batch }
     ensures last { P.told → result ≡ Ok false → lines.new.pending ++ P.left source.new ≡ [] }

@@ -25,16 +25,16 @@ loop-alloc-preserved g c =
     let added = c.in_ok-add-in-Some.ensures in
     let room : length group.plans.items < c.args.batch = omega (arith, c.has_room.ensures.room c.loop-alloc-test.true, c.loop-alloc.invariant.many) in
     let next =
-    subst (λ (o : Option Plan). GivesNext g.P.Source.told c.args.schema.now.columns c.args.index.now
+    subst (λ (o : Option Plan). GivesNext g.P.Source.told c.args.schema.now.columns c.args.index.now.public
     (c.loop-alloc.lines.pending ++ g.P.Source.left c.loop-alloc.source) (now.pending ++ g.P.Source.left from) now.ended o) c.in-Some.is e.next in
     let takes =
     subst (λ (o : Option Plan). TakesByte (c.loop-alloc.lines.taken + length now.pending)
     (now.taken + length c.loop-alloc.lines.pending) o) c.in-Some.is e.takes in
-    let one = one_gathered g.P.Source c.args.schema.now.columns c.args.index.now c.args.batch c.args.lines.now c.loop-alloc.lines c.args.source.now
+    let one = one_gathered g.P.Source c.args.schema.now.columns c.args.index.now.public c.args.batch c.args.lines.now c.loop-alloc.lines c.args.source.now
     c.loop-alloc.source group.plans.items group.asked.items c.loop-alloc.invariant.gathering
     now from plan next room takes e.same e.taken e.within (λ ended. (e.once ended).1) (e.steady (search rules)) in
     let AllGathered : List Plan → List Asked → Type 0 =
-    λ plans asked. Gathering g.P.Source c.args.schema.now.columns c.args.index.now c.args.batch c.args.lines.now now c.args.source.now from plans asked in
+    λ plans asked. Gathering g.P.Source c.args.schema.now.columns c.args.index.now.public c.args.batch c.args.lines.now now c.args.source.now from plans asked in
     record {
       gathering =
           subst (λ (asked : List Asked). AllGathered c.add.new.self.plans.items asked) (sym added.asked)
@@ -77,14 +77,14 @@ returns-in_err-plan g c =
       room = c.loop-alloc.invariant.room;
       input = λ t is.
           let here = same_fault {X = Bool} {Y = Option Plan} c.in_err-plan.field-0.0 end.Input (sym same ∙ is) in
-          cut_short g.P.Source c.args.schema.now.columns c.args.index.now c.args.batch c.args.lines.now c.loop-alloc.lines c.args.source.now c.loop-alloc.source
+          cut_short g.P.Source c.args.schema.now.columns c.args.index.now.public c.args.batch c.args.lines.now c.loop-alloc.lines c.args.source.now c.loop-alloc.source
           group.plans.items group.asked.items c.loop-alloc.invariant.gathering
           (g.P.Source.left c.next_plan.new.source) t (λ ended none. (e.once ended).2 here) room (e.input t here);
       limit = λ t is.
           let here = same_fault {X = Bool} {Y = Option Plan} c.in_err-plan.field-0.0 end.Limit (sym same ∙ is) in
           let now = c.next_plan.new.lines in
           let left = g.P.Source.left c.next_plan.new.source in
-          cut_short g.P.Source c.args.schema.now.columns c.args.index.now c.args.batch c.args.lines.now c.loop-alloc.lines c.args.source.now c.loop-alloc.source
+          cut_short g.P.Source c.args.schema.now.columns c.args.index.now.public c.args.batch c.args.lines.now c.loop-alloc.lines c.args.source.now c.loop-alloc.source
           group.plans.items group.asked.items c.loop-alloc.invariant.gathering
           (now.pending ++ left) t
           (λ ended none. not_over (c.loop-alloc.lines.pending ++ g.P.Source.left c.loop-alloc.source) now.pending left (e.limit t here)
@@ -119,17 +119,17 @@ returns-in-None g c =
     let left = now.pending ++ g.P.Source.left c.next_plan.new.source in
     record {
       gathers =
-          gathers_last g.P.Source.told c.args.schema.now.columns c.args.index.now
+          gathers_last g.P.Source.told c.args.schema.now.columns c.args.index.now.public
           (c.args.lines.now.pending ++ g.P.Source.left c.args.source.now) rest left c.loop-alloc.lines.ended c.loop-alloc.group.plans.items
           c.loop-alloc.invariant.gathering.gathers
-          (subst (λ (o : Option Plan). GivesNext g.P.Source.told c.args.schema.now.columns c.args.index.now rest left now.ended o) c.in-None.is
+          (subst (λ (o : Option Plan). GivesNext g.P.Source.told c.args.schema.now.columns c.args.index.now.public rest left now.ended o) c.in-None.is
           c.in_ok-plan.ensures.next);
       questions = c.loop-alloc.invariant.gathering.questions;
       served = c.loop-alloc.invariant.gathering.served;
       most = c.loop-alloc.invariant.gathering.most;
       whole = λ is. no_more is;
       last = λ t is.
-          (subst (λ (o : Option Plan). GivesNext g.P.Source.told c.args.schema.now.columns c.args.index.now rest left now.ended o) c.in-None.is
+          (subst (λ (o : Option Plan). GivesNext g.P.Source.told c.args.schema.now.columns c.args.index.now.public rest left now.ended o) c.in-None.is
           c.in_ok-plan.ensures.next t).0;
       takes = λ is. no_more is;
       room = c.loop-alloc.invariant.room;

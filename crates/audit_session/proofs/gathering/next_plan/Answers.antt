@@ -28,7 +28,7 @@ returns-in_ok-plan_line-in-Ok-Line g c = record {
         record {
           lines = text new.text ∷ [];
           planned = (
-            subst (λ (shown : List ℕ). IsPlan c.args.schema.now.columns c.args.index.now
+            subst (λ (shown : List ℕ). IsPlan c.args.schema.now.columns c.args.index.now.public
                 (text shown) c.in_ok-plan_line-in-Ok-Line.field-0) c.text.ensures c.in_ok-plan_line-in-Ok-Line.ensures.planned,
             tt,
           );

@@ -27,7 +27,7 @@ given more = Ok more
 pub loop-more-init : goal.loop-more-init
 loop-more-init g c = record {
   served =
-      nothing_served g.P.Source g.B.Bench c.args.schema.now.columns c.args.index.now c.args.batch c.args.lines.now c.args.store.now c.args.source.now
+      nothing_served g.P.Source g.B.Bench c.args.schema.now.columns c.args.index.now.public c.args.batch c.args.lines.now c.args.store.now c.args.source.now
       c.args.bench.now c.requires.fresh c.requires.usable c.requires.is c.requires.stands
       (λ image bytes was. g.met.B.Bench.only_now c.args.bench.now image bytes was);
   room = c.requires.room;
@@ -41,15 +41,15 @@ loop-more-preserved g c =
     let plans = c.gather.new.group.plans.items in
     let more_is : c.in_ok-more.more ≡ true = search rules in
     let steady = e.steady (search rules) in
-    let bench_steady = a.steady (search rules) in
+    let bench_steady = a.fault.steady (search rules) in
     record {
       served =
-          next_turn g.P.Source g.B.Bench c.args.schema.now.columns c.args.index.now c.args.batch c.loop-more.lines c.args.store.now c.loop-more.store
+          next_turn g.P.Source g.B.Bench c.args.schema.now.columns c.args.index.now.public c.args.batch c.loop-more.lines c.args.store.now c.loop-more.store
           c.args.source.now c.loop-more.source c.args.bench.now c.loop-more.bench c.loop-more.invariant.served
           now (not c.in_ok-more.more || now.ended) c.gather.new.source plans e.gathers e.most c.requires.batch.0
           (λ ended. still_ended c.in_ok-more.more now.ended (e.once ended).0) c.answer.new.store.history c.answer.new.bench a.answers
           c.answer.new.store refl (ap (λ (b : Bool). not b || now.ended) more_is)
-          (e.whole (ap given more_is)) e.same e.taken e.within steady a.stands a.secret a.is bench_steady a.moments;
+          (e.whole (ap given more_is)) e.same e.taken e.within steady a.stands a.table a.is bench_steady a.moments;
       room = a.room ∙ e.room ∙ c.loop-more.invariant.room;
     }
 
@@ -92,7 +92,7 @@ returns-in_err-more g c =
     let left = g.P.Source.left c.gather.new.source in
     record {
       ends = λ t u.
-          let base = base_of c.args.schema.now.columns c.args.index.now c.args.store.now.secret in
+          let base = base_of c.args.schema.now.columns c.args.index.now.public c.args.store.now.protected c.args.store.now.secret in
           let before = g.B.Bench.sent c.args.bench.now in
           let after = g.B.Bench.sent c.loop-more.bench in
           let s = c.loop-more.invariant.served in
@@ -101,14 +101,14 @@ returns-in_err-more g c =
           subst (λ (r : Result (Unit {0}) EndFault). Ends c.args.batch r base c.args.store.now.history input left c.loop-more.store.history before after)
           (sym same)
           (ends_by {X = Bool} c.args.batch base c.args.store.now.history input left c.loop-more.store.history before after fault
-          (λ is. served_whole g.P.Source g.B.Bench c.args.schema.now.columns c.args.index.now c.args.batch c.loop-more.lines c.args.store.now c.loop-more.store
+          (λ is. served_whole g.P.Source g.B.Bench c.args.schema.now.columns c.args.index.now.public c.args.batch c.loop-more.lines c.args.store.now c.loop-more.store
           c.args.source.now c.loop-more.source c.args.bench.now c.loop-more.bench s t u left
           (λ ended none. (e.once ended).1 is) (e.input t is))
-          (λ is. served_limited g.P.Source g.B.Bench c.args.schema.now.columns c.args.index.now c.args.batch c.loop-more.lines c.args.store.now
+          (λ is. served_limited g.P.Source g.B.Bench c.args.schema.now.columns c.args.index.now.public c.args.batch c.loop-more.lines c.args.store.now
           c.loop-more.store c.args.source.now c.loop-more.source c.args.bench.now c.loop-more.bench s t u (now.pending ++ left)
           (λ ended none. cut_not_over c.args.batch rest now.pending left (e.limit t is) (e.over is).1 none) (e.limit t is) now.pending left now.taken refl
           (e.over is).0 (e.taken t ∙ s.taken t))
-          (λ is. some_served g.P.Source g.B.Bench c.args.schema.now.columns c.args.index.now c.args.batch c.loop-more.lines c.args.store.now c.loop-more.store
+          (λ is. some_served g.P.Source g.B.Bench c.args.schema.now.columns c.args.index.now.public c.args.batch c.loop-more.lines c.args.store.now c.loop-more.store
           c.args.source.now c.loop-more.source c.args.bench.now c.loop-more.bench s t u));
       reads = λ t.
           subst (λ (r : Result (Unit {0}) EndFault). Reads r input left) (sym same)
@@ -121,22 +121,20 @@ returns-in_err-more g c =
       left = λ u usable. c.loop-more.invariant.served.as_left u;
       calls = λ t u. IfOk-from_err _ _ c.from_residual.ensures.0;
       moments = c.loop-more.invariant.served.moments;
-      kept = (c.loop-more.invariant.served.secret, c.loop-more.invariant.served.is);
-      later = (still_later _ _ _ c.loop-more.invariant.served.source_steady c.gather.ensures.later, omega (arith, c.loop-more.invariant.served.bench_steady));
+      table = (c.loop-more.invariant.served.secret, c.loop-more.invariant.served.protected);
+      is = c.loop-more.invariant.served.is;
+      later = still_later _ _ _ c.loop-more.invariant.served.source_steady c.gather.ensures.later;
       input = λ is.
           subst (λ (n : ℕ). Rose n (g.P.Source.faults c.gather.new.source)) c.loop-more.invariant.served.source_steady
           (e.failed (same_fault {X = Unit {0}} {Y = Bool} fault end.Input (sym same ∙ is)));
-      bench = λ is. absurd (e.others (same_fault {X = Unit {0}} {Y = Bool} fault end.Bench (sym same ∙ is)));
-      last_call = (
-        λ is. e.last_call (same_fault {X = Unit {0}} {Y = Bool} fault end.Input (sym same ∙ is)),
-        λ is. absurd
-            (e.others (same_fault {X = Unit {0}} {Y = Bool} fault end.Bench (sym same ∙ is))),
-      );
-      steady = (
-        λ other. e.steady (λ is. other (same ∙ same_fault {X = Bool} {Y = Unit {0}} fault end.Input is))
-            ∙ c.loop-more.invariant.served.source_steady,
-        λ other. c.loop-more.invariant.served.bench_steady,
-      );
+      last_read = λ is. e.last_call (same_fault {X = Unit {0}} {Y = Bool} fault end.Input (sym same ∙ is));
+      steady = λ other. e.steady (λ is. other (same ∙ same_fault {X = Bool} {Y = Unit {0}} fault end.Input is)) ∙ c.loop-more.invariant.served.source_steady;
+      fault = record {
+        later = omega (arith, c.loop-more.invariant.served.bench_steady);
+        failed = λ is. absurd (e.others (same_fault {X = Unit {0}} {Y = Bool} fault end.Bench (sym same ∙ is)));
+        last_call = λ is. absurd (e.others (same_fault {X = Unit {0}} {Y = Bool} fault end.Bench (sym same ∙ is)));
+        steady = λ other. c.loop-more.invariant.served.bench_steady;
+      };
     }
 
 pub returns-in_err-answer : goal.returns-in_err-answer
@@ -146,12 +144,12 @@ returns-in_err-answer g c =
     let same : c.from_residual-in_err-answer.result ≡ ended_by fault = search rules in
     record {
       ends = λ t u.
-          let base = base_of c.args.schema.now.columns c.args.index.now c.args.store.now.secret in
+          let base = base_of c.args.schema.now.columns c.args.index.now.public c.args.store.now.protected c.args.store.now.secret in
           let input = g.P.Source.left c.args.source.now in
           let left = g.P.Source.left c.gather.new.source in
           let before = g.B.Bench.sent c.args.bench.now in
           let some =
-          some_served g.P.Source g.B.Bench c.args.schema.now.columns c.args.index.now c.args.batch c.loop-more.lines c.args.store.now c.loop-more.store
+          some_served g.P.Source g.B.Bench c.args.schema.now.columns c.args.index.now.public c.args.batch c.loop-more.lines c.args.store.now c.loop-more.store
           c.args.source.now c.loop-more.source c.args.bench.now c.loop-more.bench c.loop-more.invariant.served t u in
           subst
           (λ (r : Result (Unit {0}) EndFault). Ends c.args.batch r base c.args.store.now.history input left c.answer.new.store.history before
@@ -172,7 +170,7 @@ returns-in_err-answer g c =
           let served = c.loop-more.invariant.served in
           rests_by {X = Unit {0}} fault e.others.0 e.others.1
           (λ is. no (same ∙ is)) g.B.Bench c.args.bench.now c.loop-more.bench c.answer.new.bench c.loop-more.store c.answer.new.store
-          e.no_memory e.secret (record { stands = λ u. (c.loop-more.store.journal.gate, served.as_left u); quiet = served.quiet });
+          e.no_memory e.table.0 (record { stands = λ u. (c.loop-more.store.journal.gate, served.as_left u); quiet = served.quiet });
       again = IfOk-from_err _ _ c.from_residual-in_err-answer.ensures.0;
       usable = search rules;
       left = c.answer.ensures.left;
@@ -182,26 +180,24 @@ returns-in_err-answer g c =
           let now = c.gather.new.lines in
           let plans = c.gather.new.group.plans.items in
           let rest = now.pending ++ g.P.Source.left c.gather.new.source in
-          turn_moments g.P.Source g.B.Bench c.args.schema.now.columns c.args.index.now c.args.batch c.loop-more.lines c.args.store.now c.loop-more.store
+          turn_moments g.P.Source g.B.Bench c.args.schema.now.columns c.args.index.now.public c.args.batch c.loop-more.lines c.args.store.now c.loop-more.store
           c.args.source.now c.loop-more.source c.args.bench.now c.loop-more.bench c.loop-more.invariant.served
           now (not c.in_ok-more.more || now.ended) c.gather.new.source plans e.gathers e.most c.requires.batch.0
           (λ ended. still_ended c.in_ok-more.more now.ended (e.once ended).0) c.answer.new.bench
           (whole_or_last {E = EndFault} g.P.Source.told c.args.batch c.in_ok-more.more plans rest e.whole e.last) u quiet
           (c.in_err-answer.ensures.moments u (c.loop-more.invariant.served.quiet u quiet));
-      kept = (c.answer.ensures.secret ∙ c.loop-more.invariant.served.secret, c.answer.ensures.is);
-      later = (
-        still_later _ _ _ c.loop-more.invariant.served.source_steady c.gather.ensures.later,
-        still_later _ _ _ c.loop-more.invariant.served.bench_steady
-            c.answer.ensures.later,
-      );
+      table = (c.answer.ensures.table.0 ∙ c.loop-more.invariant.served.secret, c.answer.ensures.table.1 ∙ c.loop-more.invariant.served.protected);
+      is = c.answer.ensures.is;
+      later = still_later _ _ _ c.loop-more.invariant.served.source_steady c.gather.ensures.later;
       input = λ is. absurd (e.others.0 (sym same ∙ is));
-      bench = λ is. subst (λ (n : ℕ). Rose n (g.B.Bench.faults c.answer.new.bench)) c.loop-more.invariant.served.bench_steady (e.failed (sym same ∙ is));
-      last_call = (λ is. absurd (e.others.0 (sym same ∙ is)), λ is. e.last_call (sym same ∙ is));
-      steady = (
-        λ other. c.in_ok-more.ensures.steady (λ is. no_refusal _ _ is) ∙ c.loop-more.invariant.served.source_steady,
-        λ other. e.steady
-            (λ is. other (same ∙ is)) ∙ c.loop-more.invariant.served.bench_steady,
-      );
+      last_read = λ is. absurd (e.others.0 (sym same ∙ is));
+      steady = λ other. c.in_ok-more.ensures.steady (λ is. no_refusal _ _ is) ∙ c.loop-more.invariant.served.source_steady;
+      fault = record {
+        later = still_later _ _ _ c.loop-more.invariant.served.bench_steady c.answer.ensures.fault.later;
+        failed = λ is. subst (λ (n : ℕ). Rose n (g.B.Bench.faults c.answer.new.bench)) c.loop-more.invariant.served.bench_steady (e.fault.failed (sym same ∙ is));
+        last_call = λ is. e.fault.last_call (sym same ∙ is);
+        steady = λ other. e.fault.steady (λ is. other (same ∙ is)) ∙ c.loop-more.invariant.served.bench_steady;
+      };
     }
 
 pub returns-then-not-more : goal.returns-then-not-more
@@ -212,7 +208,7 @@ returns-then-not-more g c =
     let more_is : c.in_ok-more.more ≡ false = search rules in
     record {
       ends = λ t u.
-          all_served g.P.Source g.B.Bench c.args.schema.now.columns c.args.index.now c.args.batch c.loop-more.lines c.args.store.now c.loop-more.store
+          all_served g.P.Source g.B.Bench c.args.schema.now.columns c.args.index.now.public c.args.batch c.loop-more.lines c.args.store.now c.loop-more.store
           c.args.source.now c.loop-more.source c.args.bench.now c.loop-more.bench c.loop-more.invariant.served
           now (not c.in_ok-more.more || now.ended) c.gather.new.source plans e.gathers e.most c.requires.batch.0
           (λ ended. still_ended c.in_ok-more.more now.ended (e.once ended).0) c.answer.new.store.history c.answer.new.bench c.in_ok-answer.ensures.answers
@@ -229,31 +225,29 @@ returns-then-not-more g c =
       usable = λ bench memory. c.in_ok-answer.ensures.stands.usable;
       left = λ u usable. c.in_ok-answer.ensures.stands.as_left u;
       calls = λ t u.
-          all_calls g.P.Source g.B.Bench c.args.schema.now.columns c.args.index.now c.args.batch c.loop-more.lines c.args.store.now c.loop-more.store
+          all_calls g.P.Source g.B.Bench c.args.schema.now.columns c.args.index.now.public c.args.batch c.loop-more.lines c.args.store.now c.loop-more.store
           c.args.source.now c.loop-more.source c.args.bench.now c.loop-more.bench c.loop-more.invariant.served
           now (not c.in_ok-more.more || now.ended) c.gather.new.source plans e.gathers e.most c.requires.batch.0
           (λ ended. still_ended c.in_ok-more.more now.ended (e.once ended).0) c.answer.new.store.history c.answer.new.bench c.in_ok-answer.ensures.answers
           t u (ap counted_lines (e.last t (ap given more_is)));
       moments = λ u quiet.
           let rest = now.pending ++ g.P.Source.left c.gather.new.source in
-          turn_moments g.P.Source g.B.Bench c.args.schema.now.columns c.args.index.now c.args.batch c.loop-more.lines c.args.store.now c.loop-more.store
+          turn_moments g.P.Source g.B.Bench c.args.schema.now.columns c.args.index.now.public c.args.batch c.loop-more.lines c.args.store.now c.loop-more.store
           c.args.source.now c.loop-more.source c.args.bench.now c.loop-more.bench c.loop-more.invariant.served
           now (not c.in_ok-more.more || now.ended) c.gather.new.source plans e.gathers e.most c.requires.batch.0
           (λ ended. still_ended c.in_ok-more.more now.ended (e.once ended).0) c.answer.new.bench
           (whole_or_last {E = EndFault} g.P.Source.told c.args.batch c.in_ok-more.more plans rest e.whole e.last) u quiet
           (c.in_ok-answer.ensures.moments u (c.loop-more.invariant.served.quiet u quiet));
-      kept = (c.in_ok-answer.ensures.secret ∙ c.loop-more.invariant.served.secret, c.in_ok-answer.ensures.is);
-      later = (
-        still_later _ _ _ c.loop-more.invariant.served.source_steady c.gather.ensures.later,
-        still_later _ _ _ c.loop-more.invariant.served.bench_steady
-            c.answer.ensures.later,
-      );
+      table = (c.in_ok-answer.ensures.table.0 ∙ c.loop-more.invariant.served.secret, c.in_ok-answer.ensures.table.1 ∙ c.loop-more.invariant.served.protected);
+      is = c.in_ok-answer.ensures.is;
+      later = still_later _ _ _ c.loop-more.invariant.served.source_steady c.gather.ensures.later;
       input = λ is. no_refusal _ _ is;
-      bench = λ is. no_refusal _ _ is;
-      last_call = (λ is. no_refusal _ _ is, λ is. no_refusal _ _ is);
-      steady = (
-        λ no. c.in_ok-more.ensures.steady (λ is. no_refusal _ _ is) ∙ c.loop-more.invariant.served.source_steady,
-        λ no. c.in_ok-answer.ensures.steady
-            (λ is. no_refusal _ _ is) ∙ c.loop-more.invariant.served.bench_steady,
-      );
+      last_read = λ is. no_refusal _ _ is;
+      steady = λ no. c.in_ok-more.ensures.steady (λ is. no_refusal _ _ is) ∙ c.loop-more.invariant.served.source_steady;
+      fault = record {
+        later = still_later _ _ _ c.loop-more.invariant.served.bench_steady c.answer.ensures.fault.later;
+        failed = λ is. no_refusal _ _ is;
+        last_call = λ is. no_refusal _ _ is;
+        steady = λ no. c.in_ok-answer.ensures.fault.steady (λ is. no_refusal _ _ is) ∙ c.loop-more.invariant.served.bench_steady;
+      };
     }
