@@ -35,7 +35,7 @@ OneReading =
 all_front : {X : Type 0} (whole : List X) → IsFront whole whole
 all_front whole = record { rest = []; is = sym (append-nil whole) }
 
-front_front : {X : Type 0} (a b c : List X) → IsFront a b → IsFront b c → IsFront a c
+pub front_front : {X : Type 0} (a b c : List X) → IsFront a b → IsFront b c → IsFront a c
 front_front a b c first second =
     record { rest = first.rest ++ second.rest; is = second.is ∙ ap (λ l. l ++ second.rest) first.is ∙ append_assoc a first.rest second.rest }
 
@@ -44,7 +44,7 @@ widened_front n a more = record { rest = widened n more; is = widened-append n a
 
 -- ---- the first rows of a table
 
-take_first : (k m : ℕ) → k ≤ m → (lists : List (List ℤ)) → map (take k) (map (take m) lists) ≡ map (take k) lists
+pub take_first : (k m : ℕ) → k ≤ m → (lists : List (List ℤ)) → map (take k) (map (take m) lists) ≡ map (take k) lists
 take_first k m le [] = refl
 take_first k m le (w ∷ lists) = ap (λ v. v ∷ map (take k) (map (take m) lists)) (take-take k m w le) ∙ ap (λ vs. take k w ∷ vs) (take_first k m le lists)
 
@@ -59,7 +59,7 @@ all_cells_first k m le (c ∷ cells) =
     ap (λ d. d ∷ map (first_cells k) (map (first_cells m) cells)) (cells_first k m le c) ∙ ap (λ ds. first_cells k c ∷ ds) (all_cells_first k m le cells)
 
 -- a table of these rows and columns
-abbrev over_rows : ℕ → Database → List Cells → List Protected → Secrets → Database
+abbrev pub over_rows : ℕ → Database → List Cells → List Protected → Secrets → Database
 over_rows k base cells groups lists =
     base_of base.columns (record { rows = k; columns = cells }) groups (record { shape = over k base.secret.shape; lists = lists })
 
@@ -108,7 +108,7 @@ first_are_secrets m secret le are = record {
   numbers = as_many m secret.shape.rows secret.lists le are.numbers;
 }
 
-rows_of_secrets : (base : Database) → IsDatabase base → base.secret.shape.rows ≡ base.public.rows
+pub rows_of_secrets : (base : Database) → IsDatabase base → base.secret.shape.rows ≡ base.public.rows
 rows_of_secrets base is = ap (λ (s : Shape). s.rows) is.shape
 
 pub good_front : (base longer : Database) → IsGood longer → IsBegun base longer → IsGood base
