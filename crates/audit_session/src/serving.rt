@@ -10,7 +10,7 @@ ghost use Rattle.journal_form.specs.Journal.{StandsFor};
 ghost use Rattle.audit_store.specs.Stores.{IsAsLeft, IsStore, table_of};
 ghost use Rattle.line_wire.specs.Lines.{counted_lines, most_input};
 ghost use Rattle.audit_session.specs.Stops.{IsBatch, IsHarmless, StopsOver};
-ghost use Rattle.audit_session.specs.Ends.{Serves, ServesWhole, ServesSome, ServesLimited, TakesCalls, Ends, Reads, Rests, store_end, line_end};
+ghost use Rattle.audit_session.specs.Ends.{Serves, ServesWhole, ServesSome, ServesLimited, TakesCalls, Ends, Reads, Rests, store_end, plan_end};
 ghost use Rattle.audit_session.specs.Groups.{StopsAmong};
 
 use crate::answering::answer;
@@ -19,7 +19,7 @@ use crate::laws::stops;
 use audit_store::{Store, StoreFault};
 use audit_types::NoMemory;
 use bench_core::{Bench, Failed, Source};
-use line_wire::{LineStop, Lines};
+use question_plan::{PlanStop, Planner};
 use schema_json::Schema;
 use set_index::Index;
 use std::alloc::Global;
@@ -47,13 +47,14 @@ impl From<StoreFault> for EndFault {
     }
 }
 
-impl From<LineStop> for EndFault {
-    ghost from_gives = { λ stop e. e ≡ line_end stop };
+impl From<PlanStop> for EndFault {
+    ghost from_gives = { λ stop e. e ≡ plan_end stop };
 
-    fn from(stop: LineStop) -> EndFault {
+    fn from(stop: PlanStop) -> EndFault {
         match stop {
-            LineStop::Input => EndFault::Input,
-            LineStop::Limit => EndFault::Limit,
+            PlanStop::Input => EndFault::Input,
+            PlanStop::Limit => EndFault::Limit,
+            PlanStop::NoMemory => EndFault::NoMemory,
         }
     }
 }
@@ -81,7 +82,7 @@ impl From<NoMemory> for EndFault {
 // Answers the groups that are still to come.
 fn answer_groups<P: Source, B: Bench>(
     alloc: Global,
-    lines: &mut Lines,
+    planner: &mut Planner,
     group: &mut Group,
     schema: &Schema,
     index: &Index,
@@ -90,7 +91,7 @@ fn answer_groups<P: Source, B: Bench>(
     bench: &mut B,
     batch: u8,
 ) -> Result<(), EndFault>
-    requires fresh { (lines.old.taken ≡ 0) × (lines.old.pending ≡ []) × (lines.old.ended ≡ false) }
+    requires fresh { (planner.old.taken ≡ 0) × (planner.old.pending ≡ []) × (planner.old.ended ≡ false) }
     requires room { vec_capacity group.old.replies ≡ batch }
     requires batch { IsBatch batch }
     requires usable { store.old.usable ≡ true }
@@ -116,7 +117,7 @@ fn answer_groups<P: Source, B: Bench>(
     ensures fault { TellsFault B.Bench bench.old bench.new (result ≡ Err EndFault.Bench) }
 {
     loop {
-        let more = gather(alloc, lines, schema, index, source, batch, group)?;
+        let more = gather(alloc, planner, schema, index, source, batch, group)?;
         answer(store, bench, group)?;
         if !more {
             return Ok(());
@@ -124,14 +125,14 @@ fn answer_groups<P: Source, B: Bench>(
     }
 }
 
-// What an input is cut with, and room for a group.
-fn make_room(alloc: Global, batch: u8) -> Result<(Lines, Group), NoMemory>
+// What the lines of an input are planned with, and room for a group.
+fn make_room(alloc: Global, batch: u8) -> Result<(Planner, Group), NoMemory>
     ensures fresh { IfOk result (λ room. (room.0.taken ≡ 0) × (room.0.pending ≡ []) × (room.0.ended ≡ false)) }
     ensures room { IfOk result (λ room. vec_capacity room.1.replies ≡ batch) }
 {
-    let lines = Lines::new(alloc)?;
+    let planner = Planner::new(alloc)?;
     let group = Group::new(alloc, batch)?;
-    Ok((lines, group))
+    Ok((planner, group))
 }
 
 /// Answers the counted lines of the input in groups of `batch`; at the end of the input the last group may be shorter. The
@@ -197,8 +198,16 @@ pub fn serve<P: Source, B: Bench>(
     let _columns = schema.count();
     let _history = store.history();
     stops();
-    let (mut lines, mut group) = make_room(alloc, batch)?;
+    let (mut planner, mut group) = make_room(alloc, batch)?;
     answer_groups(
-        alloc, &mut lines, &mut group, schema, index, store, source, bench, batch,
+        alloc,
+        &mut planner,
+        &mut group,
+        schema,
+        index,
+        store,
+        source,
+        bench,
+        batch,
     )
 }

@@ -18,8 +18,8 @@ use Rattle.audit_session.proofs.serving.serve.Goals as goal
 abbrev refused : EndFault → Result (Unit {0}) EndFault
 refused fault = Err fault
 
-pub returns-in_err-lines : goal.returns-in_err-lines
-returns-in_err-lines g c =
+pub returns-in_err-planner : goal.returns-in_err-planner
+returns-in_err-planner g c =
     let same : c.from_residual.result ≡ refused end.NoMemory = refusal c.from_residual.result _ c.from_residual.ensures in
     record {
       done = λ t u. IfOk-from_err _ _ c.from_residual.ensures.0;
