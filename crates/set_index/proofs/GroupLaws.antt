@@ -1,25 +1,22 @@
 -- Laws of the entries of groups: they are one list, there is one where no group has a fault, and they fit the table.
-use Rattle.std.proofs.Common.{◌≡◌, ◌≢◌, ℕ, zero, suc, ◌+◌, ◌≤◌, List, [], ◌∷◌, ◌++◌, length, Option, Some, None, unwrap_or, refl, sym, ap, ◌∙◌, subst, arith}
-use Rattle.std.specs.Prelude.{slice_get, option_and_then, All}
+use Rattle.std.proofs.Common.{◌≡◌, ℕ, suc, ◌≤◌, List, [], ◌∷◌, ◌++◌, length, Option, Some, None, unwrap_or, refl, sym, ap, ◌∙◌, subst, arith}
+use Rattle.std.specs.Prelude.{option_and_then, All}
 use Rattle.std.proofs.lemmas.List.{length-append}
 use Rattle.std.proofs.lemmas.List.Elements.{All-append, All-nil, All-cons}
-use Rattle.audit_types.specs.Limits.{most_groups}
 use Rattle.audit_types.specs.Rows.{AreRows}
 use Rattle.audit_types.specs.RowLaws.{AreRows-rows_that}
-use Rattle.audit_types.specs.History.{IsProtected, AreProtected, FitsShape, entry_of}
-use Rattle.audit_types.specs.Shapes.{kind_at}
+use Rattle.audit_types.specs.History.{IsProtected, FitsShape, entry_of}
 use Rattle.audit_types.specs.declared.records.Protected.{Protected}
 use Rattle.audit_types.specs.declared.shapes.Kind.{Kind}
 use Rattle.audit_types.specs.declared.shapes.Kind.TheVariants as kind
 use Rattle.schema_json.specs.Columns.{Column, Group, AreColumns, place_of, role_at, secret_place}
 use Rattle.schema_json.specs.SecretShape.{IsSecretOf, PlacesAreColumns, role_of_kind, shape_of}
-use Rattle.schema_json.specs.declared.roles.Role.{Role}
-use Rattle.schema_json.specs.declared.roles.Role.TheVariants.{Sum, Max}
-use Rattle.table_load.specs.Cells.{PublicView, IsPublic}
+use Rattle.schema_json.specs.declared.roles.Role.TheVariants.{Sum}
+use Rattle.table_load.specs.Cells.{PublicView}
 use Rattle.predicate_lang.specs.Laws.{OneMeaning}
 use Rattle.predicate_lang.specs.Trees.{Tree}
 use Rattle.set_index.specs.Asked.{meaning}
-use Rattle.set_index.specs.Groups.{AreEntries, AreSound, HasNoFault, IsFirstBad, IsGroup}
+use Rattle.set_index.specs.Groups.{AreEntries, AreSound, HasNoFault, IsGroup}
 use Rattle.set_index.specs.Indexed.{EntriesFit, OneListOfEntries}
 use Rattle.set_index.proofs.Entries.{entries_sound}
 
