@@ -1,0 +1,479 @@
+#!/usr/bin/python3
+"""Asks a front door, from Python or in a terminal. This one file needs nothing but the standard library.
+
+    >>> import auditor
+    >>> table = auditor.connect("http://127.0.0.1:8087")        # or unix:PATH of the door's socket
+    >>> table.sum("salary", where="age >= 41")
+    176500
+    >>> table.sum("salary", where="age = 41")                   # not answered: a value that is no number
+    Denied('unsafe')
+    >>> table.totals("salary", by="team")                       # a DataFrame, if pandas is there
+
+Numbers are exact: whole numbers in the steps of the column, averages as fractions; `in_units` makes decimals of them.
+What comes back is what the door said. The door isn't proved: `auditor simulate` checks its transcript. One object is for
+one thread. In a terminal: auditor.py http://127.0.0.1:8087, and then lines as `sum salary where age >= 41`.
+"""
+import argparse
+import collections
+import csv
+import decimal
+import fractions
+import http.client
+import io
+import json
+import re
+import socket
+import sys
+import time
+import urllib.parse
+
+Group = collections.namedtuple("Group", "value rows answer")
+EXACT = decimal.Context(prec=60)
+
+
+class Denied:
+    """No answer, as was decided without looking at the values. It is false, and arithmetic with it fails."""
+
+    def __init__(self, reason, sentence="", table=""):
+        self.reason, self.sentence, self.table = reason, sentence or reason, table
+
+    def __repr__(self):
+        return f"Denied({self.reason!r})"
+
+    def __bool__(self):
+        return False
+
+    def __eq__(self, other):
+        return isinstance(other, Denied) and other.reason == self.reason
+
+    def __hash__(self):
+        return hash(("Denied", self.reason))
+
+
+class Refused(ValueError):
+    """No question of this table. `at` is the byte of the condition from which on it isn't understood, if that is why."""
+
+    def __init__(self, reason, sentence="", at=None):
+        super().__init__((sentence or reason) + ("" if at is None else f" (byte {at})"))
+        self.reason, self.sentence, self.at = reason, sentence or reason, at
+
+
+class DoorFault(ConnectionError):
+    """The door, or a proxy before it, gave no reply of the program: `status` is that of HTTP, 0 if none came."""
+
+    def __init__(self, text, status=0):
+        super().__init__(text)
+        self.status = status
+
+
+class UnixConnection(http.client.HTTPConnection):
+    """HTTP over a socket of the file system."""
+
+    def __init__(self, path, timeout):
+        super().__init__("localhost", timeout=timeout)
+        self.path = path
+
+    def connect(self):
+        self.sock = socket.socket(socket.AF_UNIX)
+        self.sock.settimeout(self.timeout)
+        self.sock.connect(self.path)
+
+
+class Door:
+    """The connection to a door. A door that is busy or away is asked again for `patience` seconds: no harm comes of it."""
+
+    def __init__(self, url, headers=None, timeout=90, patience=10):
+        self.headers, self.patience, self.connection = dict(headers or {}), patience, None
+        parts = urllib.parse.urlsplit(url)
+        if "@" in parts.netloc:
+            raise ValueError("a login goes into a header, as Authorization, and not into the address")
+        if parts.scheme == "unix":
+            path = url.removeprefix("unix:")
+            self.base, self.open = "/", lambda: UnixConnection(path, timeout)
+        elif parts.scheme in ("http", "https") and parts.netloc:
+            kind = http.client.HTTPSConnection if parts.scheme == "https" else http.client.HTTPConnection
+            self.base, self.open = parts.path.rstrip("/") + "/", lambda: kind(parts.netloc, timeout=timeout)
+        else:
+            raise ValueError(f"{url!r} is neither http://HOST:PORT, https://HOST nor unix:PATH")
+
+    def request(self, method, path, body=None):
+        """The text of a reply with status 200, or a DoorFault."""
+        deadline, wait = time.monotonic() + self.patience, 0.1
+        while True:
+            try:
+                status, text, later = self._once(method, path, body)
+            except TimeoutError:
+                self.close()
+                raise DoorFault("no reply in time; the question may be answered: ask again") from None
+            except (OSError, http.client.HTTPException) as fault:
+                self.close()
+                status, text, later = 0, f"the door can't be reached: {fault}", 0
+            if status == 200:
+                return text
+            pause = max(wait, later)
+            if status not in (0, 503) or time.monotonic() + pause > deadline:
+                raise DoorFault(text, status)
+            time.sleep(pause)
+            wait *= 2
+
+    def _once(self, method, path, body):
+        """Status, text, and the seconds after which a busy door wants to be asked again."""
+        if self.connection is None:
+            self.connection = self.open()
+        headers = {**self.headers, "Content-Type": "application/json"} if body else self.headers
+        self.connection.request(method, self.base + path, body, headers)
+        response = self.connection.getresponse()
+        text = response.read().decode("utf-8", "replace")
+        if response.status == 200:
+            return 200, text, 0
+        later = response.headers.get("Retry-After", "")
+        return response.status, error_of(response, text), int(later) if re.fullmatch("[0-9]{1,4}", later) else 0
+
+    def close(self):
+        if self.connection is not None:
+            self.connection.close()
+        self.connection = None
+
+
+def error_of(response, text):
+    """What a reply that isn't 200 says."""
+    try:
+        said = json.loads(text)["error"]
+    except (ValueError, KeyError, TypeError):
+        said = None
+    return said if isinstance(said, str) else f"the door, or a proxy before it, says {response.status} {response.reason}"
+
+
+def parsed(name, text):
+    """A reply of JSON. A proxy's login page may come with status 200, too."""
+    try:
+        return json.loads(text)
+    except ValueError:
+        raise DoorFault(f"{name}: what came isn't the reply of a door, but {ascii(text[:60])}", 200) from None
+
+
+def within(where, part):
+    """The condition of a group within another, as the page writes it, too: the same question asked again makes no record."""
+    return part if where.strip() == "all" else f"({where}) and {part}"
+
+
+def equals(column, value):
+    """The condition that a public column has a value."""
+    text = "'" + value.replace("'", "''") + "'" if isinstance(value, str) else str(int(value))
+    return f"{column} = {text}"
+
+
+class Asker:
+    """The questions that a table and tables as parts of one have in common."""
+
+    def count(self, where="all"):
+        """The number of rows for which the condition holds."""
+        return self.ask("count", None, where)
+
+    def sum(self, column, where="all"):
+        """The exact total, or Denied."""
+        return self.ask("sum", column, where)
+
+    def average(self, column, where="all"):
+        """The exact average as a fraction, or Denied."""
+        return self.ask("avg", column, where)
+
+    def max(self, column, where="all"):
+        """The greatest number, or Denied."""
+        return self.ask("max", column, where)
+
+    def groups(self, column, by, kind="sum", where="all"):
+        """A Group (value, rows, answer) for each value of a public column, in their order; a group of no rows isn't asked."""
+        if self.kinds.get(by) not in ("text", "number"):
+            raise Refused("column", f"{by}: there is no such public column.")
+        found = []
+        for value in sorted({row[by] for row in self.public()}):
+            condition = within(where, equals(by, value))
+            rows = self.count(condition)
+            if rows:
+                found.append(Group(value, rows, rows if kind == "count" else self.ask(kind, column, condition)))
+        return found
+
+    def totals(self, column, by, where="all"):
+        """The totals of groups as a pandas DataFrame: rows, sum (pandas.NA if denied), denied (the reason, or "")."""
+        try:
+            import pandas
+        except ImportError:
+            raise ImportError("totals makes a DataFrame and needs pandas; groups gives the same as a list") from None
+        groups = self.groups(column, by, "sum", where)
+        denied = [isinstance(group.answer, Denied) for group in groups]
+        sums = [pandas.NA if no else group.answer for group, no in zip(groups, denied)]
+        return pandas.DataFrame({
+            "rows": [group.rows for group in groups],
+            "sum": pandas.array(sums, dtype="Int64"),
+            "denied": [group.answer.reason if no else "" for group, no in zip(groups, denied)],
+        }, index=pandas.Index([group.value for group in groups], name=by))
+
+    def places(self, column):
+        """How many decimals of a column are in its whole numbers, by notes.json."""
+        places = self.note(column).get("decimals")
+        return places if isinstance(places, int) and 0 <= places <= 12 else 0
+
+    def note(self, column):
+        columns = self.notes.get("columns")
+        note = columns.get(column) if isinstance(columns, dict) else None
+        return note if isinstance(note, dict) else {}
+
+    def in_units(self, column, answer):
+        """An answer in the column's unit: a decimal of a total, a fraction of an average, and Denied as it is."""
+        if isinstance(answer, Denied):
+            return answer
+        if isinstance(answer, fractions.Fraction):
+            return answer / 10 ** self.places(column)
+        return decimal.Decimal(answer).scaleb(-self.places(column), EXACT)
+
+
+class Table(Asker):
+    """One table behind a door: the only one, or that of a name."""
+
+    def __init__(self, url, name="", headers=None, timeout=90, patience=10):
+        self.door, self.name = Door(url, headers, timeout, patience), name
+        self.base = urllib.parse.quote(name, safe="") + "/" if name else ""
+        self.columns = parsed("schema.json", self.door.request("GET", self.base + "schema.json"))["columns"]
+        self.kinds = {column["name"]: column["is"] for column in self.columns}
+        self.words, self.notes = self._optional("words.json"), self._optional(self.base + "notes.json")
+
+    def _optional(self, path):
+        """A file of JSON that a door need not have."""
+        try:
+            found = parsed(path, self.door.request("GET", path))
+        except DoorFault as fault:
+            if fault.status != 404:
+                raise
+            found = {}
+        return found if isinstance(found, dict) else {}
+
+    def sentence(self, group, reason):
+        """The sentence for a reason, by words.json; where there is none, the reason itself."""
+        known = self.words.get(group)
+        return known.get(reason, reason) if isinstance(known, dict) else reason
+
+    def _post(self, path, kind, column, where):
+        question = {"ask": kind, "where": where} if column is None else {"ask": kind, "column": column, "where": where}
+        line = json.dumps(question, ensure_ascii=False, separators=(",", ":")).encode("utf-8", "surrogatepass")
+        try:
+            return parsed(path, self.door.request("POST", self.base + path, line))
+        except DoorFault as fault:
+            if not self.name:
+                raise
+            raise DoorFault(f"{self.name}: {fault}", fault.status) from None
+
+    def ask(self, kind, column, where="all"):
+        """The answer to `count`, `sum`, `avg` or `max`, or Denied; Refused is raised."""
+        reply = self._post("ask", kind, column, where)
+        if "denied" in reply:
+            return Denied(reply["denied"], self.sentence("denied", reply["denied"]), self.name)
+        if "refused" in reply:
+            raise Refused(reply["refused"], self.sentence("refused", reply["refused"]), reply.get("at"))
+        return fractions.Fraction(reply["num"], reply["den"]) if kind == "avg" else reply[kind]
+
+    def would(self, kind, column, where="all"):
+        """What would be said now: released, unsafe, wide, refused or count. Nothing is asked and nothing is kept."""
+        return self._post("would", kind, column, where)["verdict"]
+
+    def public(self):
+        """The public columns, a dict for each row."""
+        text = self.door.request("GET", self.base + "table.csv").removeprefix("\ufeff")
+        return [{name: int(value) if self.kinds[name] == "number" else value for name, value in row.items()}
+                for row in csv.DictReader(io.StringIO(text, newline=""))]
+
+    def transcript(self):
+        """Everybody's questions on secret columns, each with its reply."""
+        lines = self.door.request("GET", self.base + "transcript.jsonl").split("\n")
+        return [(json.loads(question), json.loads(reply)) for question, reply in zip(lines[::2], lines[1::2])]
+
+
+class Parts(Asker):
+    """Tables as parts of one. A question is asked of all that have rows for it, or of none if one of them wouldn't answer."""
+
+    def __init__(self, tables):
+        self.tables = list(tables)
+        first = self.tables[0]
+        self.columns, self.kinds, self.notes, self.sentence = first.columns, first.kinds, first.notes, first.sentence
+        for table in self.tables:
+            if table.columns != first.columns:
+                raise ValueError(f"{table.name} has other columns than {first.name}: they aren't parts of one table")
+
+    def would(self, kind, column, where="all"):
+        """What each part would say now, by its name."""
+        return {table.name: table.would(kind, column, where) for table in self.tables}
+
+    def ask(self, kind, column, where="all"):
+        """The answer over all parts. `table` of a Denied is the part that wouldn't answer."""
+        counts = [(table, table.count(where)) for table in self.tables]
+        if kind == "count":
+            return sum(rows for _, rows in counts)
+        asked = [(table, rows) for table, rows in counts if rows]
+        if not asked:
+            raise Refused("empty", self.sentence("refused", "empty"))
+        for table, _ in asked:
+            verdict = table.would(kind, column, where)
+            if verdict in ("unsafe", "wide"):
+                return Denied(verdict, self.sentence("denied", verdict), table.name)
+        return together(kind, [(table.ask(kind, column, where), rows) for table, rows in asked])
+
+    def public(self):
+        """The public columns of all parts, a dict for each row."""
+        return [row for table in self.tables for row in table.public()]
+
+
+def together(kind, answers):
+    """One answer of those of the parts, each with its rows, or the first that is denied."""
+    for answer, _ in answers:
+        if isinstance(answer, Denied):
+            return answer
+    if kind == "max":
+        return max(answer for answer, _ in answers)
+    if kind == "avg":
+        return sum(answer * rows for answer, rows in answers) / sum(rows for _, rows in answers)
+    return sum(answer for answer, _ in answers)
+
+
+def connect(url, headers=None, timeout=90, patience=10):
+    """The table behind a door, or its tables as parts of one. `headers` go with each request, as those of a login."""
+    try:
+        names = parsed("tables.json", Door(url, headers, timeout, patience).request("GET", "tables.json"))
+    except DoorFault as fault:
+        if fault.status != 404:
+            raise
+        names = []
+    if not names:
+        return Table(url, "", headers, timeout, patience)
+    return Parts(Table(url, name, headers, timeout, patience) for name in names)
+
+
+# -- the terminal ------------------------------------------------------------------------------------------------------
+
+HELP = """count [where CONDITION]                        how many rows
+sum COLUMN [where CONDITION]                   a total; avg for an average, max for the greatest number
+totals COLUMN by COLUMN [where CONDITION]      a total for each value of a public column; so avg .. by, count by
+would sum COLUMN [where CONDITION]             whether it would be answered; nothing is asked
+columns                                        what there is
+quit                                           so does the end of the input"""
+
+KINDS = {"count": "count", "sum": "sum", "total": "sum", "totals": "sum", "avg": "avg", "average": "avg", "mean": "avg",
+         "max": "max", "maximum": "max", "greatest": "max"}
+LINE = re.compile(rf"(?P<would>would\s+)?(?P<kind>{'|'.join(KINDS)})(?:\s+(?!by\s)(?P<column>\w+))?(?:\s+by\s+(?P<by>\w+))?"
+                  r"(?:\s+where\s+(?P<where>.*))?", re.DOTALL)
+
+
+def printable(text):
+    """The text without what would steer a terminal: other people wrote it."""
+    return "".join(letter if letter.isprintable() else ascii(letter)[1:-1] for letter in text)
+
+
+def shown(asker, column, answer):
+    """An answer as a line says it, in the unit of its column."""
+    if isinstance(answer, Denied):
+        return (f"not answered by {answer.table}: " if answer.table else "not answered: ") + answer.sentence
+    if column is None:
+        return str(answer)
+    unit = asker.note(column).get("unit")
+    unit = f" {unit}" if isinstance(unit, str) and unit else ""
+    if not isinstance(answer, fractions.Fraction):
+        return f"{asker.in_units(column, answer):f}{unit}"
+    return shown_average(answer, asker.places(column), unit)
+
+
+def shown_average(average, places, unit):
+    """An average to two places more than its column has, the half away from zero, and exactly if that isn't all of it."""
+    size = (200 * abs(average.numerator) + average.denominator) // (2 * average.denominator)
+    steps = size if average >= 0 else -size
+    text = f"{decimal.Decimal(steps).scaleb(-places - 2, EXACT):f}"
+    if steps == average * 100:
+        return re.sub("0{1,2}$", "", text).removesuffix(".") + unit
+    total = decimal.Decimal(average.numerator).scaleb(-places, EXACT)
+    return f"about {text}{unit} (exactly {total:f} / {average.denominator})"
+
+
+def answer_line(asker, line):
+    """The lines that answer one typed line; Refused and DoorFault are raised."""
+    if line == "columns":
+        return [f"{column['name']:32} {column['is']}" for column in asker.columns]
+    match = LINE.fullmatch(line)
+    if not match or (match["kind"] == "count") != (match["column"] is None) or match["would"] and match["by"]:
+        return HELP.splitlines()
+    kind, column, where = KINDS[match["kind"]], match["column"], match["where"] or "all"
+    if match["would"]:
+        verdicts = asker.would(kind, column, where)
+        return [f"{name}: {verdict}" for name, verdict in verdicts.items()] if isinstance(verdicts, dict) else [verdicts]
+    if match["by"]:
+        return [f"{group.value}: {shown(asker, column, group.answer)}" + ("" if kind == "count" else f" ({group.rows} rows)")
+                for group in asker.groups(column, match["by"], kind, where)]
+    return [shown(asker, column, asker.ask(kind, column, where))]
+
+
+def caret(line, refusal):
+    """The condition with a mark below the byte from which on it isn't understood."""
+    where = re.search(r"\swhere\s+(.*)", line, re.DOTALL)[1] if refusal.at is not None and " where " in line else ""
+    if not where:
+        return []
+    before = where.encode("utf-8", "surrogatepass")[:refusal.at].decode("utf-8", "replace")
+    return ["  " + printable(where), "  " + " " * len(printable(before)) + "^"]
+
+
+def terminal(asker, lines):
+    """Answers line by line, and returns whether each was answered or denied."""
+    well = True
+    for line in lines:
+        line = line.strip()
+        if line in ("quit", "exit"):
+            break
+        try:
+            said, out = (answer_line(asker, line) if line else []), sys.stdout
+        except Refused as refusal:
+            said, out, well = [*caret(line, refusal), f"refused: {refusal}"], sys.stderr, False
+        except ConnectionError as fault:
+            said, out, well = [str(fault)], sys.stderr, False
+        for one in said:
+            print(printable(one), file=out, flush=True)
+    return well
+
+
+def typed():
+    """Lines as somebody types them, with the arrow keys where there are any."""
+    try:
+        import readline                     # noqa: F401, its import is what does it
+    except ImportError:
+        pass
+    while True:
+        try:
+            yield input("> ")
+        except (EOFError, KeyboardInterrupt):
+            print()
+            return
+
+
+def main(arguments=None):
+    """0 if each line was answered or denied, 1 if not, 2 if there is no such door."""
+    parser = argparse.ArgumentParser(description="Asks a front door: a line, an answer.", epilog=HELP,
+                                     formatter_class=argparse.RawDescriptionHelpFormatter)
+    parser.add_argument("url", nargs="?", default="http://127.0.0.1:8087", help="http://HOST:PORT, https://.. or unix:PATH")
+    parser.add_argument("--table", default="", help="one table of several; without, all are asked as parts of one")
+    parser.add_argument("--header", action="append", default=[], metavar="NAME:VALUE", help="sent with each request")
+    parser.add_argument("--patience", type=float, default=10, metavar="SECONDS", help="for a door that is busy or away; 10 by default")
+    settings = parser.parse_args(arguments)
+    if not all(":" in header for header in settings.header):
+        parser.error("--header is NAME:VALUE")
+    headers = dict(re.split(r":\s*", header, maxsplit=1) for header in settings.header)
+    for stream in (sys.stdout, sys.stderr):
+        stream.reconfigure(errors="backslashreplace")
+    try:
+        ask = {"headers": headers, "patience": settings.patience}
+        asker = Table(settings.url, settings.table, **ask) if settings.table else connect(settings.url, **ask)
+    except (ValueError, ConnectionError) as fault:
+        print(printable(str(fault)), file=sys.stderr)
+        return 2
+    if not sys.stdin.isatty():
+        return 0 if terminal(asker, sys.stdin) else 1
+    print(HELP)
+    return 0 if terminal(asker, typed()) else 1
+
+
+if __name__ == "__main__":
+    sys.exit(main())

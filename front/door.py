@@ -1,0 +1,118 @@
+#!/usr/bin/python3
+"""A front door for `auditor serve`: the questions of many people over HTTP, one run of the program for each table.
+
+Nothing here is proved, and no secret depends on it: it reads schema.json and the public columns, writes question lines
+into the program and reads reply lines out of it. Whatever it asks, in whatever order, the proof of the program holds.
+A fault of the door can hand a reply to the wrong asker, lose one, or leave a gap in the transcript.
+"""
+import asyncio
+import os
+import pathlib
+import signal
+import sys
+
+from aiohttp import web
+
+from doorway import settings as arguments
+from doorway.groups import Groups
+from doorway.handlers import TableHandlers, application
+from doorway.least import LeastSize
+from doorway.page import Page
+from doorway.report import OlderJournal
+from doorway.runs import Child, Sockets
+from doorway.table import Table
+from doorway.transcript import Damaged, Unwritten
+
+HERE = pathlib.Path(__file__).resolve().parent
+
+
+def make_table(name, places, settings):
+    opener = Sockets(places.serve, places.audit) if places.serve else Child(settings.auditor, places.folder)
+    groups = Groups(opener, settings.batch, settings.run_limit)
+    table = Table(name, groups, places, settings.auditor, settings.report_every)
+    # Tests are less patient.
+    groups.patience = settings.group_patience or groups.patience
+    table.patience = settings.asker_patience or table.patience
+    table.most_waiting = settings.waiting or table.most_waiting
+    return table
+
+
+def make_handlers(table, settings):
+    return TableHandlers(table, LeastSize(settings.fewest, table.ask) if settings.fewest else None)
+
+
+def hosts_of(settings, port):
+    """The names under which requests may come, all where a socket of the file system is listened on and none is given."""
+    hosts = set(settings.host)
+    if not settings.listen.startswith("unix:"):
+        address = settings.listen.rpartition(":")[0]
+        hosts |= {f"{address}:{port}", f"localhost:{port}"}
+    return hosts
+
+
+async def listen(runner, where):
+    """Starts to listen, and says where."""
+    if where.startswith("unix:"):
+        path = pathlib.Path(where[5:])
+        path.unlink(missing_ok=True)
+        mask = os.umask(0o117)
+        await web.UnixSite(runner, str(path)).start()
+        os.umask(mask)
+    else:
+        address, _, port = where.rpartition(":")
+        await web.TCPSite(runner, address.strip("[]"), int(port)).start()
+    print("listening on", where, file=sys.stderr, flush=True)
+
+
+async def keep(table, alone):
+    """Serves a table. If its journal is an older copy it stops, and the door with it if it has no other table."""
+    late = asyncio.ensure_future(table.turn_away_the_late())
+    try:
+        await table.serve()
+    except OlderJournal as fault:
+        table.say(fault)
+        if alone:
+            raise
+        table.stop_for_good(fault)
+        await table.closing.wait()
+    finally:
+        late.cancel()
+
+
+async def run(settings):
+    tables = {name: make_table(name, places, settings) for name, places in settings.places.items()}
+    page = Page(HERE / "page.html") if (HERE / "page.html").exists() else None
+    handlers = {name: make_handlers(table, settings) for name, table in tables.items()}
+    port = settings.listen.rpartition(":")[2]
+    app = application(page, HERE / "words.json", handlers, hosts_of(settings, port))
+    # Bodies come as they are sent: a small compressed one could be a large one.
+    runner = web.AppRunner(app, access_log=None, auto_decompress=False)
+    await runner.setup()
+    await listen(runner, settings.listen)
+
+    def stop():
+        for table in tables.values():
+            table.stop()
+    for name in (signal.SIGTERM, signal.SIGINT):
+        asyncio.get_running_loop().add_signal_handler(name, stop)
+    try:
+        await asyncio.gather(*(keep(table, len(tables) == 1) for table in tables.values()))
+        await asyncio.sleep(0.05)           # the last replies leave
+    finally:
+        for table in tables.values():
+            table.groups.kill()
+    await runner.cleanup()
+
+
+def main():
+    settings = arguments.read()
+    # A sync that has returned is to be seen soon, also while many requests are at work.
+    sys.setswitchinterval(0.0005)
+    try:
+        asyncio.run(run(settings))
+    except (Damaged, OlderJournal, Unwritten, OSError) as fault:
+        sys.exit(f"door: {fault}")
+
+
+if __name__ == "__main__":
+    main()

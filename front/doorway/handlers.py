@@ -1,0 +1,189 @@
+"""HTTP: what each request gets.
+
+200 means that the program spoke: the body is its reply, byte for byte. What the door itself says is {"error": ".."} with
+another status. No GET asks anything.
+"""
+import asyncio
+import contextlib
+import os
+
+from aiohttp import web
+
+from .lines import LONGEST, Turned, line_of
+from .totals import total
+
+BODY_PATIENCE = 30                  # seconds that a body may take
+PIECE = 1 << 20
+JSON, JSONL, CSV = "application/json", "application/jsonl", "text/csv; charset=utf-8"
+SAFE = {"X-Content-Type-Options": "nosniff", "Cache-Control": "no-store"}
+REPLY = {"Content-Type": JSON, **SAFE}
+
+
+def error(status, text, again=False):
+    return web.json_response({"error": text}, status=status, headers={**SAFE, **({"Retry-After": "1"} if again else {})})
+
+
+def said(value, status=200):
+    return web.json_response(value, status=status, headers=SAFE)
+
+
+def guarded(handler, hosts):
+    """Turns away what other names and other sites' pages send, and puts faults into words."""
+    async def around(request):
+        try:
+            if hosts and request.host not in hosts:
+                raise Turned(421, "unknown host")
+            if request.method == "POST" and request.headers.get("Sec-Fetch-Site", "none") not in ("same-origin", "none"):
+                raise Turned(403, "a question from another site's page")
+            return await handler(request)
+        except Turned as turned:
+            return error(turned.status, turned.text, turned.again)
+    return around
+
+
+async def question_of(request):
+    """The body as a question's line."""
+    kind = request.headers.get("Content-Type", "").partition(";")[0].strip().lower()
+    if kind != JSON or request.headers.get("Content-Encoding", "identity") != "identity":
+        raise Turned(415, "send the question as application/json, not compressed")
+    try:
+        if request.content.is_eof():
+            return line_of(await request.read())
+        async with asyncio.timeout(BODY_PATIENCE):
+            return line_of(await request.read())
+    except web.HTTPRequestEntityTooLarge:
+        raise Turned(413, f"a question has at most {LONGEST} bytes")
+    except TimeoutError:
+        raise Turned(408, "the question didn't come")
+
+
+def reply(line):
+    return web.Response(body=line + b"\n", headers=REPLY)
+
+
+class TableHandlers:
+    """The requests on one table."""
+
+    def __init__(self, table, least):
+        self.table, self.least = table, least
+
+    def routes(self, prefix):
+        public = self.table.places.public
+        return {
+            ("POST", prefix + "/ask"): self.ask_request,
+            ("POST", prefix + "/would"): self.would_request,
+            ("GET", prefix + "/health"): self.health,
+            ("GET", prefix + "/schema.json"): sender(public / "schema.json", JSON),
+            ("GET", prefix + "/notes.json"): sender(public / "notes.json", JSON),
+            ("GET", prefix + "/table.csv"): sender(public / "table.csv", CSV),
+            ("GET", prefix + "/report.jsonl"): sender(self.table.reports.path, JSONL),
+            ("GET", prefix + "/transcript.jsonl"): self.transcript}
+
+    async def ask(self, line):
+        if self.least and line not in self.table.transcript.known:
+            await self.least.check(line)
+        return await self.table.ask(line)
+
+    async def verdict(self, line):
+        if self.least and line not in self.table.transcript.known:
+            await self.least.check(line)
+        return await self.table.verdict(line)
+
+    async def ask_request(self, request):
+        return reply(await self.ask(await question_of(request)))
+
+    async def would_request(self, request):
+        return reply(await self.verdict(await question_of(request)))
+
+    async def health(self, _):
+        health = self.table.health()
+        return said(health, 200 if health["state"] == "serving" else 503)
+
+    async def transcript(self, request):
+        """As far as it is synced. What is being written isn't shown."""
+        transcript, at = self.table.transcript, 0
+        size = transcript.size
+        response = web.StreamResponse(headers={"Content-Type": JSONL, "Content-Length": str(size), **SAFE})
+        await response.prepare(request)
+        with contextlib.suppress(ConnectionError):
+            while at < size:
+                piece = transcript.file.read(min(size - at, PIECE), at)
+                at += len(piece)
+                await response.write(piece)
+        return response
+
+
+class RootHandlers:
+    """The requests that are of no one table: the page, the list of tables, the health of all, a total."""
+
+    def __init__(self, page, words, tables):
+        self.page, self.words, self.tables = page, words, tables
+        self.names = [name for name in tables if name]
+
+    def routes(self):
+        words = sender(self.words, JSON)
+        routes = {("GET", "/"): self.start_page, ("GET", "/words.json"): words, ("GET", "/tables.json"): lister(self.names)}
+        if self.names:
+            routes |= {("GET", "/health"): self.health, ("POST", "/total"): self.total}
+        for name in self.names:
+            routes |= {("GET", f"/{name}"): redirect(f"{name}/"), ("GET", f"/{name}/"): self.start_page,
+                       ("GET", f"/{name}/words.json"): words, ("GET", f"/{name}/tables.json"): lister([])}
+        return routes
+
+    async def start_page(self, _):
+        if self.page is None:
+            return error(404, "page.html isn't beside the door")
+        return web.Response(body=self.page.text, content_type="text/html", charset="utf-8",
+                            headers={"Content-Security-Policy": self.page.policy, **SAFE})
+
+    async def health(self, _):
+        health = {name: handlers.table.health() for name, handlers in self.tables.items()}
+        well = all(one["state"] == "serving" for one in health.values())
+        return said({"state": "serving" if well else "not all tables are served", "tables": health}, 200 if well else 503)
+
+    async def total(self, request):
+        return said(await total(self.tables, await question_of(request)))
+
+
+def sender(path, kind):
+    """Sends a file, if it is there."""
+    async def send(_):
+        if not os.path.isfile(path):
+            return error(404, "not made yet")
+        return web.FileResponse(path, headers={"Content-Type": kind, **SAFE})
+    return send
+
+
+def lister(names):
+    async def send(_):
+        return said(names)
+    return send
+
+
+def redirect(to):
+    async def send(_):
+        return web.Response(status=308, headers={"Location": to, **SAFE})
+    return send
+
+
+def unknown(paths):
+    """Whatever has no handler."""
+    async def send(request):
+        if request.path in paths:
+            return error(405, "this address takes another method")
+        return error(404, "there is no such address")
+    return send
+
+
+def application(page, words, tables, hosts):
+    """`words` is the path of the page's sentences. `tables` are the handlers by the name of the table, the only one without
+    a name at the root."""
+    routes = {}
+    for name, handlers in tables.items():
+        routes |= handlers.routes(f"/{name}" if name else "")
+    routes |= RootHandlers(page, words, tables).routes()
+    app = web.Application(client_max_size=LONGEST + 3)      # a body as long as that is refused
+    for (method, path), handler in routes.items():
+        app.router.add_route(method, path, guarded(handler, hosts))
+    app.router.add_route("*", "/{rest:.*}", guarded(unknown({path for _, path in routes}), hosts))
+    return app

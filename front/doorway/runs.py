@@ -1,0 +1,74 @@
+"""A run of the program: as a child, or as another user's process on the other side of a Unix socket.
+
+Through a socket the door needs no right to the table and the journal, and that is how it is meant to be run. A child is
+for trying it.
+"""
+import asyncio
+
+FAREWELL = 30                       # seconds that a run has to end by itself once its input has ended
+
+
+class Ended(Exception):
+    """The program ended, or said what it can't have said."""
+
+
+class Run:
+    """One run with its input and output. `process` is None where the run is another user's."""
+
+    def __init__(self, reader, writer, process=None):
+        self.reader, self.writer, self.process = reader, writer, process
+
+    async def why(self):
+        """What the run said on its standard error, or how it ended."""
+        if not self.process:
+            return "the program is gone"
+        said = (await self.process.stderr.read())[-200:].decode("utf-8", "replace").strip()
+        code = await self.process.wait()
+        if code < 0:
+            return said or f"the program was stopped by signal {-code}"
+        return said or f"the program ended with code {code}"
+
+    def kill(self):
+        if self.process and self.process.returncode is None:
+            self.process.kill()
+        self.writer.close()
+
+    async def finish(self):
+        """Ends the input. The program answers what it has and ends by itself."""
+        try:
+            if self.writer.can_write_eof():
+                self.writer.write_eof()
+            await asyncio.wait_for(self._drain(), FAREWELL)
+        except (asyncio.TimeoutError, OSError, RuntimeError):
+            self.kill()
+        if self.process:
+            await self.process.wait()
+        self.writer.close()
+
+    async def _drain(self):
+        while await self.reader.read(65536):
+            pass
+
+
+class Child:
+    """Starts runs as children in a folder."""
+
+    def __init__(self, auditor, folder):
+        self.auditor, self.folder = auditor, folder
+
+    async def open(self, *arguments):
+        process = await asyncio.create_subprocess_exec(
+            self.auditor, *arguments, cwd=self.folder, start_new_session=True, stdin=asyncio.subprocess.PIPE,
+            stdout=asyncio.subprocess.PIPE, stderr=asyncio.subprocess.PIPE)
+        return Run(process.stdout, process.stdin, process)
+
+
+class Sockets:
+    """Connects to sockets, one for each command, on whose other side another user starts the runs."""
+
+    def __init__(self, serve, audit):
+        self.paths = {"serve": serve, "audit": audit}
+
+    async def open(self, command, *_):
+        reader, writer = await asyncio.open_unix_connection(self.paths[command])
+        return Run(reader, writer)

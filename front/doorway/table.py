@@ -1,0 +1,210 @@
+"""One table behind the door: its queue of questions, and the one loop that talks with its program.
+
+Order for a group: its questions are written down and synced; it goes to the program; its replies come; what was decided
+is written into the transcript and synced; the askers are told. So whoever was told an answer finds it in the transcript.
+"""
+import asyncio
+import collections
+import math
+import sys
+
+from .lines import HISTORY, Turned
+from .recovery import ask_again
+from .report import Reports
+from .runs import Ended
+from .simulation import verdict_on
+from .transcript import Transcript, check_table
+
+WAITING = 1024                      # askers who may wait
+PATIENCE = 60                       # seconds that an asker waits
+VERDICTS = 16                       # askers who may wait for a verdict
+FIRST_PAUSE, QUIET, LONGEST_PAUSE = 0.02, 0.5, 10      # seconds between two starts; askers hear of it after the second
+
+
+class Question:
+    """A line that waits for its reply, for one asker or for several who asked the same."""
+
+    def __init__(self, line):
+        self.line = line
+        self.askers = []                    # futures, with the time from which on they wait
+
+    def wait(self):
+        loop = asyncio.get_running_loop()
+        asker = loop.create_future()
+        self.askers.append((asker, loop.time()))
+        return asker
+
+    def answer(self, reply):
+        for asker, _ in self.askers:
+            if not asker.done():
+                asker.set_result(reply)
+        self.askers.clear()
+
+    def fail(self, turned, since=math.inf):
+        """Turns away those who have waited since then or longer."""
+        for asker, began in self.askers:
+            if began <= since and not asker.done():
+                asker.set_exception(turned)
+        self.askers = [one for one in self.askers if not one[0].done()]
+
+
+class Table:
+    """What an HTTP handler may call is `ask`, `verdict`, `health` and `transcript`."""
+
+    def __init__(self, name, groups, places, auditor, report_every=0):
+        self.name, self.groups, self.places, self.auditor = name, groups, places, auditor
+        check_table(places.public, places.keep)
+        self.transcript = Transcript(places.keep)
+        self.reports = Reports(self, places.keep, report_every)
+        self.queue, self.pending = collections.deque(), {}
+        self.wake, self.closing = asyncio.Event(), asyncio.Event()
+        self.most_waiting, self.patience = WAITING, PATIENCE
+        self.state = "starting"
+        self.asked = self.sent = self.repeats = self.restarts = self.waiting = 0
+        self.verdicts, self.one_verdict = 0, asyncio.Lock()
+
+    # What a request does.
+
+    async def ask(self, line):
+        """The reply to a question. A released answer stays true, so the same question makes no second record."""
+        known = self.transcript.known.get(line)
+        if known:
+            self.repeats += 1
+            return known
+        if self.closing.is_set() or self.state.startswith("stopped"):
+            raise Turned(503, self.state, again=True)
+        if self.waiting >= self.most_waiting:
+            raise Turned(503, "too many questions wait", again=True)
+        question = self.pending.get(line)
+        if question is None:
+            question = self.pending[line] = Question(line)
+            self.queue.append(question)
+            self.wake.set()
+        self.waiting += 1
+        try:
+            return await question.wait()
+        finally:
+            self.waiting -= 1
+
+    async def verdict(self, line):
+        """What would be said of a question that isn't asked, as `simulate` has it."""
+        if line in self.transcript.known:
+            return b'{"verdict":"released"}'
+        if self.verdicts >= VERDICTS:
+            raise Turned(503, "too many verdicts are wanted", again=True)
+        self.verdicts += 1
+        try:
+            async with self.one_verdict:
+                return await verdict_on(self.auditor, self.places.public, self.transcript.text(), line)
+        finally:
+            self.verdicts -= 1
+
+    def health(self):
+        records = self.transcript.records
+        return {"state": self.state, "records": records, "room": max(HISTORY - records, 0), "asked": self.asked,
+                "groups": self.sent, "repeats": self.repeats, "restarts": self.restarts, "waiting": self.waiting}
+
+    def say(self, text):
+        print(f"{self.name}: {text}" if self.name else text, file=sys.stderr, flush=True)
+
+    # The loop.
+
+    async def serve(self):
+        """Takes questions from the queue in their order until `stop`."""
+        await self.start([Question(line) for line in self.transcript.left])
+        while not self.closing.is_set():
+            if not self.queue:
+                await self._rest()
+                continue
+            if self.groups.spent:
+                await self.groups.close()
+                await self.start([])
+                continue
+            await self._take()
+        self._give_up("the door is closing")
+        await self.groups.close()
+
+    async def _rest(self):
+        """Waits for a question. If none comes for a while the report is made."""
+        self.wake.clear()
+        try:
+            await asyncio.wait_for(self.wake.wait(), self.reports.every or None)
+        except asyncio.TimeoutError:
+            await self.reports.make()
+
+    async def _take(self):
+        group = [self.queue.popleft() for _ in range(min(len(self.queue), self.groups.most))]
+        try:
+            await self.ask_group(group)
+        except Ended as fault:
+            self.say(f"program: {fault}")
+            self.restarts += 1
+            await self.start(group)
+
+    async def ask_group(self, group):
+        lines = [question.line for question in group]
+        await asyncio.to_thread(self.transcript.hold, lines)
+        replies = await self.groups.ask(lines)
+        await asyncio.to_thread(self.transcript.add, list(zip(lines, replies)))
+        self.asked += len(group)
+        self.sent += 1
+        for question, reply in zip(group, replies):
+            self.answer(question, reply)
+
+    def answer(self, question, reply):
+        self.pending.pop(question.line, None)
+        question.answer(reply)
+
+    async def start(self, left):
+        """Starts the program, as often as it takes, and asks again what was with it when it ended.
+
+        Askers wait on. They are told when it doesn't come back soon.
+        """
+        pause, self.state = FIRST_PAUSE, "starting"
+        while not self.closing.is_set():
+            try:
+                await self.groups.start()
+                await ask_again(self, left)
+                self.state = "serving"
+                return
+            except (Ended, OSError) as fault:
+                self.say(f"program: {fault}")
+                self.groups.kill()
+                if pause > QUIET:
+                    self._give_up(fault)
+                pause = min(pause * 2, LONGEST_PAUSE)
+                await self._sleep(pause)
+        self._give_up("the door is closing")
+
+    async def _sleep(self, pause):
+        try:
+            await asyncio.wait_for(self.closing.wait(), pause)
+        except asyncio.TimeoutError:
+            pass
+
+    def _give_up(self, fault):
+        """Tells those who wait. What was with the program is asked again all the same."""
+        self.state = f"stopped: {fault}"
+        turned = Turned(503, f"{fault}. The question may be answered: ask again later", again=True)
+        for question in self.pending.values():
+            question.fail(turned)
+        self.pending.clear()
+        self.queue.clear()
+
+    async def turn_away_the_late(self):
+        """Tells those who have waited too long, again and again. Their questions are asked all the same."""
+        turned = Turned(504, "no reply yet, and the question may be answered: ask again later")
+        while True:
+            await asyncio.sleep(min(self.patience / 4, 1))
+            since = asyncio.get_running_loop().time() - self.patience
+            for question in self.pending.values():
+                question.fail(turned, since)
+
+    def stop(self):
+        self.closing.set()
+        self.wake.set()
+
+    def stop_for_good(self, fault):
+        """Ends the table, and not the door: other tables may be behind it."""
+        self.groups.kill()
+        self._give_up(fault)

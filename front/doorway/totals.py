@@ -1,0 +1,54 @@
+"""A total over all tables of a door, which are the parts of a larger one.
+
+It is the sum of the parts' answers if each part answers. Before anything is asked each part's verdict is had, so that no
+part's history is used for a total that can't be given. A part in which no row satisfies the condition adds nothing.
+"""
+import asyncio
+import json
+
+from .lines import Turned, read_question
+
+EMPTY = {"refused": "empty"}
+VERDICTS_DENIED = {"unsafe": {"denied": "unsafe"}, "wide": {"denied": "wide"}}
+
+
+async def total(parts, line):
+    """The total as a dict. `parts` are names with objects that have `ask` and `verdict`, as a door has them."""
+    question = read_question(line)
+    kind = question.get("ask") if question else None
+    if kind not in ("sum", "count"):
+        raise Turned(422, "a total is of sums or counts: ask each table for averages and maxima")
+    if kind == "sum":
+        refused = await _each(parts, _denial, line)
+        refused = {name: reply for name, reply in refused.items() if reply}
+        if refused:
+            return {"total": None, "without": list(refused), "parts": refused}
+    return _add_up(kind, await _each(parts, _reply, line))
+
+
+async def _each(parts, call, line):
+    replies = await asyncio.gather(*(call(part, line) for part in parts.values()))
+    return dict(zip(parts, replies))
+
+
+async def _denial(part, line):
+    """The denial or the door's own text that is due, or None if the question would be answered or refused."""
+    try:
+        return VERDICTS_DENIED.get(json.loads(await part.verdict(line))["verdict"])
+    except Turned as turned:
+        return {"error": turned.text}
+
+
+async def _reply(part, line):
+    try:
+        return json.loads(await part.ask(line))
+    except Turned as turned:
+        return {"error": turned.text}
+
+
+def _add_up(kind, replies):
+    without = [name for name, reply in replies.items() if kind not in reply and reply != EMPTY]
+    answers = [reply[kind] for reply in replies.values() if kind in reply]
+    if without:
+        return {"total": None, "without": without, "parts": replies}
+    return {"total": {kind: sum(answers)} if answers else EMPTY, "parts": replies}

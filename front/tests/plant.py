@@ -1,0 +1,145 @@
+"""Wrong bodies of the door: each is planted in a copy of front/, and the test that is named beside it has to fail.
+
+    AUDITOR=.. /usr/bin/python3 plant.py [NUMBER ..]
+
+Exit status 1 if a wrong body passes its test, or if what it replaces isn't there any more.
+"""
+import concurrent.futures
+import pathlib
+import shutil
+import subprocess
+import sys
+import tempfile
+
+from kit import FRONT
+
+AT_ONCE = 2
+PATIENCE = 120                      # seconds; a test that hangs has failed
+
+# What is wrong, the file, what stands there, what is put in its place, and the test that refuses it.
+PLANTS = [
+    ("askers are told before the transcript is written", "table.py",
+     """        await asyncio.to_thread(self.transcript.add, list(zip(lines, replies)))
+        self.asked += len(group)
+        self.sent += 1
+        for question, reply in zip(group, replies):
+            self.answer(question, reply)
+""",
+     """        for question, reply in zip(group, replies):
+            self.answer(question, reply)
+        await asyncio.sleep(0.01)
+        await asyncio.to_thread(self.transcript.add, list(zip(lines, replies)))
+        self.asked += len(group)
+        self.sent += 1
+""", "test_faults.Faults.test_a_full_disk_of_the_transcript_loses_nothing"),
+    ("a group leaves before it is written down", "table.py",
+     "        await asyncio.to_thread(self.transcript.hold, lines)\n        replies = await self.groups.ask(lines)\n",
+     "        replies = await self.groups.ask(lines)\n        await asyncio.to_thread(self.transcript.hold, lines)\n",
+     "test_faults.Faults.test_what_leaves_for_the_program_is_written_down_first"),
+    ("nothing is synced", "transcript.py", "        file.write(text, at)\n        file.sync()\n", "        file.write(text, at)\n",
+     "test_power.PowerCuts"),
+    ("the sum is over the questions alone", "transcript.py", 'hashlib.sha256(b"%d\\n" % at + body)', "hashlib.sha256(body)",
+     "test_power.PowerCuts"),
+    ("the list of the waiting has no sum", "transcript.py", 'and head["sum"] == _sum(at, body)', "", "test_power.PowerCuts"),
+    ("a torn reply counts", "transcript.py", "if not DECISION.fullmatch(reply):", "if not reply.startswith(DECIDED):",
+     "test_power.PowerCuts"),
+    ("the transcript's torn end stays", "transcript.py", "        self.file.truncate(self.size)\n", "", "test_power.PowerCuts"),
+    ("pairs of a lost group are thrown away", "transcript.py", "        return lines + passed\n", "        return lines\n",
+     "test_power.PowerCuts"),
+    ("counts are written down", "transcript.py", "if reply.startswith(DECIDED)]", "if True]",
+     "test_faults.Known.test_many_kinds_of_lines_leave_only_decisions_in_the_transcript"),
+    ("the fillers' replies aren't compared", "groups.py", "if replies[len(lines):] != due or not self._fit(lines, replies):",
+     "if not self._fit(lines, replies):", "test_liar.Lies.test_nobody_is_told_a_reply_that_is_doubled"),
+    ("a group has no number", "groups.py", "(self.number + 1) % NUMBERS", "5",
+     "test_groups.GroupsOfLines.test_the_last_reply_of_another_group_is_not_taken_for_this_ones"),
+    ("replies of another kind pass", "groups.py", "all(fits(line, reply) for line, reply in zip(lines, replies))", "True",
+     "test_liar.Lies.test_nobody_is_told_a_reply_that_is_exchanged_kinds"),
+    ("a lost reply is waited for without end", "groups.py", "LATE if ended else None", "None",
+     "test_groups.GroupsOfLines.test_a_lost_reply_is_seen_soon"),
+    ("a line end within a body passes", "lines.py", 'or b"\\n" in body', "", "test_bodies.Bodies.test_hostile_bodies_and_a_good_question_after_each"),
+    ("an empty body passes", "lines.py", "if not body or", "if", "test_bodies.Bodies.test_hostile_bodies_and_a_good_question_after_each"),
+    ("8,193 bytes pass", "lines.py", "if len(body) > LONGEST:", "if len(body) > LONGEST + 1:",
+     "test_bodies.Bodies.test_hostile_bodies_and_a_good_question_after_each"),
+    ("a body is trimmed", "lines.py", "    return body\n", "    return body.strip() or body\n", "test_bodies.Bodies.test_the_door_changes_no_line"),
+    ("a denial comes again from the transcript", "transcript.py",
+     "        if reply.startswith(RELEASED):\n            self.records += 1\n            self.known[line] = reply\n",
+     "        self.known[line] = reply\n        self.records += reply.startswith(RELEASED)\n",
+     "test_faults.Known.test_an_answer_comes_again_from_the_transcript_and_a_denial_is_asked_anew"),
+    ("an answer is asked anew", "table.py", "        if known:\n", "        if False:\n",
+     "test_faults.Known.test_an_answer_comes_again_from_the_transcript_and_a_denial_is_asked_anew"),
+    ("the same question at once is asked as often", "table.py", "question = self.pending.get(line)", "question = None",
+     "test_faults.Known.test_many_who_ask_the_same_at_once_make_one_record"),
+    ("a lost group is asked again in its order", "recovery.py", "        if verdict in DENIALS:\n", "        if False:\n",
+     "test_lost_group.LostGroup.test_a_denial_that_became_an_answer_is_asked_last"),
+    ("a lost group is forgotten", "table.py", "Question(line) for line in self.transcript.left", "Question(line) for line in []",
+     "test_lost_group.LostGroup.test_a_denial_that_became_an_answer_is_asked_last"),
+    ("a transcript of another table is taken", "transcript.py", "elif mark.read_text().strip() != now:", "elif False:",
+     "test_faults.Faults.test_another_table_is_not_served_with_this_transcript"),
+    ("an older journal is passed over", "report.py", "if counted < given:", "if counted < 0:",
+     "test_faults.Faults.test_an_older_journal_is_seen_at_the_next_report"),
+    ("a door that is started again forgets the older journal", "report.py", "        if self.stopped.exists():\n", "        if False:\n",
+     "test_faults.Faults.test_an_older_journal_is_seen_at_the_next_report"),
+    ("two doors keep one transcript", "transcript.py", "if not self.file.lock():", "if False:",
+     "test_faults.Faults.test_a_second_door_over_the_same_transcript_ends"),
+    ("as many wait as come", "table.py", "if self.waiting >= self.most_waiting:", "if False:",
+     "test_faults.Faults.test_askers_past_the_limit_are_turned_away_and_the_others_get_their_replies"),
+    ("a question doesn't end a report", "report.py", "return_when=asyncio.FIRST_COMPLETED", "return_when=asyncio.ALL_COMPLETED",
+     "test_faults.Faults.test_a_report_is_made_in_a_rest_and_ends_for_a_question"),
+    ("any host is taken", "handlers.py", "if hosts and request.host not in hosts:", "if False:",
+     "test_bodies.Streams.test_other_hosts_and_other_sites_are_turned_away"),
+    ("questions of other sites' pages are taken", "handlers.py", 'not in ("same-origin", "none")', 'in ("",)',
+     "test_bodies.Streams.test_other_hosts_and_other_sites_are_turned_away"),
+    ("other content is taken", "handlers.py", "if kind != JSON or", "if", "test_bodies.Bodies.test_other_content_is_turned_away"),
+    ("compressed bodies are taken", "handlers.py", 'request.headers.get("Content-Encoding", "identity") != "identity"', "False",
+     "test_bodies.Bodies.test_other_content_is_turned_away"),
+    ("few rows left out pass", "least.py", " or 0 < whole - inside < self.fewest", "",
+     "test_fewest.Fewest.test_questions_over_too_few_rows_are_not_handed_on"),
+    ("few rows pass if nothing is left out", "least.py", "inside < self.fewest or 0 <", "inside < self.fewest or 0 <=",
+     "test_fewest.Fewest.test_questions_over_too_few_rows_are_not_handed_on"),
+    ("what the door can't read is handed on", "least.py",
+     '            raise Turned(422, "this isn\'t a question: it wants ask, column and where")\n', "            return\n",
+     "test_fewest.Fewest.test_no_way_of_writing_a_question_gets_around_it"),
+    ("a total is asked before it is known to be answered", "totals.py", '    if kind == "sum":\n', "    if False:\n",
+     "test_several_tables.Tables.test_a_total_says_which_part_is_not_answered_and_asks_none"),
+    ("a total leaves out what isn't answered", "totals.py", "    if without:\n", "    if False:\n",
+     "test_several_tables.Tables.test_a_table_whose_program_is_away_holds_up_no_other"),
+    ("an empty part spoils a total", "totals.py", " and reply != EMPTY", "", "test_several_tables.Tables.test_a_total_is_the_sum_of_the_parts"),
+]
+
+
+def tried(number):
+    """A line on one wrong body, and whether it was refused."""
+    what, name, old, new, test = PLANTS[number]
+    with tempfile.TemporaryDirectory() as folder:
+        front = pathlib.Path(folder) / "front"
+        shutil.copytree(FRONT, front, ignore=shutil.ignore_patterns("__pycache__"))
+        path = front / "doorway" / name
+        text = path.read_text()
+        if text.count(old) != 1:
+            return False, f"{number}: {what}: it stands {text.count(old)} times in {name}"
+        path.write_text(text.replace(old, new))
+        try:
+            run = subprocess.run([sys.executable, "-W", "ignore", "-m", "unittest", test], cwd=front / "tests",
+                                 capture_output=True, text=True, timeout=PATIENCE)
+        except subprocess.TimeoutExpired:
+            return True, f"{number}: {what}: refused, by hanging: {test}"
+    if "Ran 0 tests" in run.stderr or "Ran " not in run.stderr or "has no attribute" in run.stderr.split("Traceback")[0]:
+        return False, f"{number}: {what}: {test} didn't run\n{run.stderr}"
+    refused = run.returncode != 0
+    return refused, f"{number}: {what}: {'refused' if refused else 'PASSED'} by {test}"
+
+
+def main(numbers):
+    with concurrent.futures.ThreadPoolExecutor(AT_ONCE) as pool:
+        outcomes = list(pool.map(lambda number: tell(*tried(number)), numbers))
+    print(f"plant: {len(outcomes)} wrong bodies, {sum(outcomes)} refused")
+    return 0 if all(outcomes) else 1
+
+
+def tell(refused, text):
+    print(text, flush=True)
+    return refused
+
+
+if __name__ == "__main__":
+    sys.exit(main([int(word) for word in sys.argv[1:]] or range(len(PLANTS))))

@@ -1,0 +1,40 @@
+"""A program that lies about a group: nobody is told a reply of it, and the questions are asked again."""
+import asyncio
+import os
+import unittest
+
+from case import DoorCase
+from kit import HERE, Door, health
+
+LIES = ("doubled", "lost", "last_lost", "exchanged_with_the_last", "exchanged_kinds", "invented", "endless", "silent")
+
+
+class Lies(DoorCase):
+    def make_door(self):
+        return Door(self.folder, "--group-patience", 2, auditor=str(HERE / "liar.py"))
+
+    async def lied_to(self, lie, every=4):
+        os.environ.update(LIE=lie, LIE_EVERY=str(every))
+        self.door.start()
+        async with self.door.session() as session:
+            await self.door.ready(session)
+            await asyncio.gather(*(self.client(session, number, 8, patient=True) for number in range(24)))
+            said = await health(session)
+        self.assertGreater(said["restarts"], 0, lie)
+        self.assertEqual(len(self.told), 24 * 8)
+        self.assertEqual(self.door.stop(), 0)
+        self.check_all()
+
+
+def add(lie):
+    async def test(self):
+        await self.lied_to(lie)
+    setattr(Lies, f"test_nobody_is_told_a_reply_that_is_{lie}", test)
+
+
+for one in LIES:
+    add(one)
+
+
+if __name__ == "__main__":
+    unittest.main()

@@ -1,0 +1,339 @@
+"""The page over a door that says what it is told to say: seldom replies, failing doors, several tables.
+
+Start: /usr/bin/python3 -m unittest -v test_page_faults. It needs no program.
+"""
+import json
+import threading
+import unittest
+
+from scripted_door import ScriptedDoor
+from test_page import PageCase
+
+COLUMNS = [{"name": "constructor", "is": "text"}, {"name": "age", "is": "number"},
+           {"name": "pay", "is": "sum"}, {"name": "best", "is": "max"}]
+ROWS = "constructor,age\r\nA,30\r\n\r\n\"B, \"\"x\"\"\",40\r\nA, +50\r\n"
+NOTES = {"title": 5, "columns": {"pay": {"decimals": 2, "unit": "EUR"}, "best": {"title": None, "decimals": "2", "unit": 7}}}
+
+
+def files(base="", rows=ROWS, notes=None):
+    return {base + "schema.json": json.dumps({"columns": COLUMNS}), base + "table.csv": rows,
+            base + "notes.json": json.dumps(NOTES if notes is None else notes), base + "health": '{"state":"serving","records":2,"room":65534}'}
+
+
+class OneTable(PageCase):
+    """A door that counts 3 rows of every condition, and says `reply` to all else."""
+
+    def open(self, reply, more=None):
+        self.reply = reply
+        self.door = ScriptedDoor({**files(), **(more or {})}, self.each)
+        self.addCleanup(self.door.close)
+        self.browser.open(self.door.url)
+
+    def each(self, path, question):
+        if question["ask"] == "count" and path.endswith("ask"):
+            return 200, '{"count":3}'
+        return self.reply(path, question) if callable(self.reply) else (200, self.reply)
+
+    def say(self, reply, kind="sum"):
+        """What the answer's box has for a reply."""
+        self.reply = reply
+        self.browser.run("document.querySelector(`#kinds input[value=${arguments[0]}]`).click()", kind)
+        return self.browser.ask()
+
+
+class Scripted(OneTable):
+    """Seldom replies, and doors that fail."""
+
+    def test_numbers_are_exact_to_the_last_digit(self):
+        cases = [("sum", '{"sum":0}', "0.00 EUR"), ("sum", '{"sum":-5}', "-0.05 EUR"), ("sum", '{"sum":-123456}', "-1,234.56 EUR"),
+                 ("sum", '{"sum":1024000000000000}', "10,240,000,000,000.00 EUR"), ("sum", '{"sum":-999999999999999}', "-9,999,999,999,999.99 EUR"),
+                 ("avg", '{"num":-7,"den":1}', "-0.07 EUR"), ("avg", '{"num":1,"den":2}', "0.005 EUR"),
+                 ("avg", '{"num":-1,"den":3}', "≈ -0.0033 EUR"),
+                 ("avg", '{"num":1234567,"den":8}', "≈ 1,543.2088 EUR"), ("avg", '{"num":1001,"den":4}', "2.5025 EUR"),
+                 ("max", '{"max":1000000000000}', "1,000,000,000,000"), ("max", '{"max":-1}', "-1")]
+        self.open("")
+        for kind, reply, due in cases:
+            with self.subTest(reply=reply):
+                self.say(reply, kind)
+                self.answers(due)
+
+    def test_an_average_that_is_rounded_is_said_exactly_too(self):
+        self.open("")
+        self.assertIn("exactly 12,345.67 / 8", self.say('{"num":1234567,"den":8}', "avg"))
+        self.assertNotIn("exactly", self.say('{"num":1001,"den":4}', "avg"))
+
+    def test_each_refusal_and_denial_has_its_sentence(self):
+        cases = [('{"denied":"wide"}', "Not answered", "larger numbers than it has"), ('{"denied":"unsafe"}', "Not answered", "one person's value"),
+                 ('{"refused":"empty"}', "Not asked", "No row satisfies"), ('{"refused":"full"}', "Not asked", "The history is full"),
+                 ('{"refused":"long"}', "Not asked", "8,192 bytes"), ('{"refused":"another"}', "Not asked", "another"),
+                 ('{"denied":"constructor"}', "Not answered", "constructor")]
+        self.open("")
+        for reply, verdict, words in cases:
+            with self.subTest(reply=reply):
+                said = self.say(reply)
+                self.assertEqual(self.browser.find("#answer .verdict").text, verdict)
+                self.assertIn(words, said)
+                self.assertEqual(self.browser.all("#answer .number"), [])
+
+    def test_what_the_door_withholds_is_hatched_and_the_others_go_on(self):
+        self.open(lambda _, question: (422, '{"error":"fewer than 5 rows"}') if "= 'A'" in question["where"] else (200, '{"sum":700}'))
+        self.browser.write("age > 1 or age < 0")
+        self.draw("sum pay", "constructor", 2)
+        self.assertEqual(self.bars(), [["A", "fewer than 5 rows", "hatched"], ['B, "x"', "7.00 EUR", "bar"]])
+        self.assertEqual(self.door.questions("sum")[0]["where"], "(age > 1 or age < 0) and constructor = 'A'")
+        self.browser.driver.get_log("browser")                  # the browser's own line on a status of 422
+
+    def test_a_count_has_no_column_and_each_kind_its_own(self):
+        self.open("")
+        shown = {}
+        for kind in ("count", "sum", "max"):
+            self.browser.run("document.querySelector(`#kinds input[value=${arguments[0]}]`).click()", kind)
+            shown[kind] = [one.text for one in self.browser.all("#column option")] if self.browser.find("#of").is_displayed() else None
+        self.assertEqual(shown, {"count": None, "sum": ["pay"], "max": ["best"]})
+        self.assertFalse(self.browser.find("#table-choice").is_displayed())
+        self.assertFalse(self.browser.find("#parts-note").is_displayed())
+
+    def test_bars_are_as_long_as_their_numbers_on_either_side_of_zero(self):
+        pay = {"30": -100, "40": 300, "50": 0}
+        self.open(lambda _, question: (200, json.dumps({"sum": pay[question["where"][-2:]]})))
+        self.draw("sum pay", "age", 3)
+        places = self.browser.run("""return [...document.querySelectorAll('.bar')].map(bar => [bar.style.left, bar.style.width])""")
+        self.assertEqual(places, [["0%", "25%"], ["25%", "75%"], ["25%", "0%"]])
+
+    def test_a_busy_door_is_asked_again(self):
+        said = iter([(503, '{"error":"too many wait"}'), (503, '{"error":"too many wait"}')])
+        self.open("")
+        self.assertIn("5.00 EUR", self.say(lambda *_: next(said, (200, '{"sum":500}'))))
+        self.assertEqual(len(self.door.questions("sum")), 3)
+        self.browser.driver.get_log("browser")
+
+    def test_what_the_door_or_a_proxy_says_is_shown_and_the_next_question_is_answered(self):
+        cases = [((503, '{"error":"journal damaged at byte 9"}'), "journal damaged at byte 9"), ((504, '{"error":"no reply yet"}'), "no reply yet"),
+                 ((502, "<b>Bad Gateway</b>"), "says 502"), ((200, "{}"), "isn't one that this page knows")]
+        self.open("")
+        for reply, words in cases:
+            with self.subTest(words=words):
+                said = self.say(lambda *_, reply=reply: reply)
+                self.assertEqual(self.browser.find("#answer .verdict").text, "No reply")
+                self.assertIn(words, said)
+                self.assertEqual(self.browser.text("history"), "Nothing yet.")
+        self.say('{"sum":500}')
+        self.answers("5.00 EUR")
+        self.browser.driver.get_log("browser")
+
+    def test_a_door_that_is_gone_is_said_to_be(self):
+        self.open('{"sum":500}')
+        self.door.close()
+        self.assertIn("The door can't be reached.", self.browser.ask())
+        self.browser.wait(lambda: "can't be reached" in self.browser.text("state"))
+        self.browser.driver.get_log("browser")
+
+    def test_a_second_click_asks_nothing_more(self):
+        told = threading.Event()
+        self.open(lambda *_: told.wait(5) and (200, '{"sum":500}'))
+        self.browser.run("for (let i = 0; i < 3; i++) document.getElementById('ask').click()")
+        told.set()
+        self.browser.wait(lambda: "5.00" in self.browser.text("answer"))
+        self.assertEqual(len(self.door.questions("sum")), 1)
+
+    def test_a_chart_can_be_stopped(self):
+        told = threading.Event()
+        self.addCleanup(told.set)
+        self.open(lambda *_: (200, '{"sum":500}') if len(self.door.questions("sum")) < 2 or told.wait(10) else (503, ""))
+        self.browser.choose("#by", "age")
+        self.browser.click("#draw")
+        self.browser.wait(lambda: "Asked 1 of 3" in self.browser.text("chart-hint"))
+        self.browser.click("#draw")
+        self.browser.wait(lambda: "Asked 1 of 3: stopped" in self.browser.text("chart-hint"))
+        self.assertEqual(len(self.bars()), 1)
+
+    def test_notes_of_other_kinds_and_names_of_the_language_do_no_harm(self):
+        self.open('{"max":9}')
+        self.assertEqual(self.browser.text("title"), "Ask the table")
+        self.assertIn("constructor", self.browser.text("columns"))
+        self.browser.click("#add")
+        self.assertEqual([one.text for one in self.browser.all("li select[aria-label=value] option")], ["A (2)", 'B, "x" (1)'])
+        self.browser.run("document.querySelector('#kinds input[value=max]').click()")
+        self.browser.ask()
+        self.answers("9")
+
+    def test_notes_that_cant_be_read_are_said_to_be(self):
+        self.door = ScriptedDoor({**files(), "notes.json": '{"columns":'}, self.each)
+        self.addCleanup(self.door.close)
+        self.browser.driver.get(self.door.url)
+        self.browser.wait(lambda: self.browser.text("state") == "notes.json isn't JSON.")
+
+    def test_of_many_groups_the_largest_are_drawn_and_that_is_said(self):
+        rows = "constructor,age\nrare,0\n" + "".join(f"team {number},1\nteam {number},2\n" for number in range(39))
+        self.open('{"sum":500}', {"table.csv": rows})
+        self.assertEqual(self.browser.text("chart-hint"), "Draw asks 30 questions, one for each group (the 30 largest of 40 groups).")
+        self.draw("sum pay", "constructor", 30)
+        self.assertNotIn("rare", [label for label, _, _ in self.bars()])
+
+    def test_ranges_of_a_number_that_most_rows_share(self):
+        rows = "constructor,age\n" + "A,0\n" * 500 + "".join(f"A,{age}\n" for age in range(1, 14))
+        self.open('{"sum":500}', {"table.csv": rows})
+        self.draw("sum pay", "age", 2)
+        self.assertEqual([question["where"] for question in self.door.questions("sum")], ["age < 1", "age >= 1"])
+
+    def test_long_names_and_numbers_fit_360_pixels(self):
+        name, value = "a" * 32, "x" * 120
+        columns = [{"name": name, "is": "text"}, {"name": "pay", "is": "sum"}]
+        notes = {"title": "T" * 100, "columns": {"pay": {"title": "Very " * 20, "decimals": 2, "unit": "EUR per month"}}}
+        self.browser.screen(360)
+        self.open('{"sum":-1024000000000000}', {"schema.json": json.dumps({"columns": columns}), "notes.json": json.dumps(notes),
+                                                "table.csv": f"{name}\n{value}\n{value}y\n"})
+        self.browser.click("#add")
+        self.browser.choose("li select[aria-label=comparison]", "in")
+        self.browser.ask()
+        self.draw("sum pay", name, 2)
+        self.assertEqual(self.browser.too_wide(360), [])
+
+    def test_what_is_typed_keeps_its_sign_and_its_decimals(self):
+        self.open('{"sum":500}', {"notes.json": '{"columns":{"age":{"decimals":2}}}'})
+        self.browser.click("#add")
+        self.browser.choose("#parts select", "age")
+        field = self.browser.find("#parts input")
+        cases = [("-1.5", "-150"), ("-0.05", "-5"), ("0.07", "7"), ("12", "1200"), ("-0", "0"), ("1.234", "1.234"), ("1,5", "1,5"), ("x", "x")]
+        for typed, due in cases:
+            field.clear()
+            field.send_keys(typed)
+            self.assertEqual(self.browser.find("#where").get_property("value"), "age = " + due)
+
+    def test_a_spoilt_history_of_the_browser_is_passed_over(self):
+        self.open('{"sum":500}')
+        entries = '[null, {"question": {"ask": "drop", "where": ""}, "text": "x"}, {"question": {"ask": "sum", "where": 4}, "text": "x"}]'
+        for text in ('{"a":', "7", entries):
+            self.browser.run("localStorage.setItem('auditor: /', arguments[0])", text)
+            self.browser.driver.refresh()
+            self.browser.wait(lambda: "holds for 3" in self.browser.text("holds"))
+            self.assertEqual(self.browser.text("history"), "Nothing yet.")
+
+    def test_only_the_last_typed_condition_is_counted(self):
+        def reply(_, question):
+            where = question["where"]
+            return 200, json.dumps({"count": {"age >= 2": 1, "age >= 30": 2}.get(where, 3)})
+        self.open('{"sum":500}')
+        self.door.reply = reply
+        self.browser.write("age >= 30")
+        self.browser.wait(lambda: "holds for 2 of 3" in self.browser.text("holds"))
+        self.assertLess(len(self.door.questions("count")), 8)
+
+
+class Reports(OneTable):
+    """What the page makes of reports."""
+
+    LONG = 9876543210987654321098765432109876
+
+    def report(self, *lines):
+        text = "".join(json.dumps(line, separators=(",", ":")) + "\n" for line in lines)
+        self.open('{"sum":500}', {"report.jsonl": text})
+        self.browser.click("#report")
+        self.browser.wait(lambda: "leave it open" not in self.browser.text("free-summary"))
+
+    def pay(self, *rows):
+        return [{"column": "pay", "row": row, "direction": [[0, -self.LONG], [row, 1]]} for row in rows]
+
+    def test_numbers_of_34_digits_keep_each_digit(self):
+        self.report(*self.pay(0, 1, 2), {"column": "best", "high": [9, 9, 9]}, {"audited": 2, "columns": 2, "rows": 3})
+        self.browser.click("#free summary")
+        self.browser.wait(lambda: self.browser.all(".square"))
+        self.browser.all(".square")[2].click()
+        self.assertIn(f"row 0 {-self.LONG:,}, row 2 +1", self.browser.find("#free [role=status]").text)
+        self.assertIn("Row 2: constructor A, age", self.browser.find("#free [role=status]").text)
+
+    def test_a_number_that_the_report_lacks_isnt_called_free(self):
+        self.report(*self.pay(0, 2), {"column": "best", "high": [9, 9]}, {"audited": 2, "columns": 2, "rows": 3})
+        self.assertEqual([one.text for one in self.browser.all("#free summary")],
+                         ["pay: 2 of 3 numbers are free", "best: 2 of 3 numbers are free"])
+        self.browser.click("#free summary")
+        self.browser.wait(lambda: self.browser.all(".square"))
+        self.browser.all(".square")[1].click()
+        self.assertIn("The report has nothing on this number", self.browser.find("#free [role=status]").text)
+
+    def test_lines_of_protected_totals_are_no_rows(self):
+        self.report(*self.pay(0, 1, 2), {"column": "pay", "group": 0, "direction": [[0, 1]]}, {"column": "best", "high": [9, 9, 9]},
+                    {"audited": 2, "columns": 2, "rows": 3})
+        self.assertEqual(self.browser.find("#free summary").text, "pay: 3 of 3 numbers are free")
+
+    def test_a_report_that_isnt_whole_is_said_to_be(self):
+        self.report(*self.pay(0, 1, 2))
+        self.assertEqual(self.browser.text("free-summary"), "The report isn't whole.")
+        self.open('{"sum":500}')
+        self.browser.click("#report")
+        self.browser.wait(lambda: self.browser.text("free-summary") == "No report has been made yet.")
+
+
+class SeveralTables(PageCase):
+    """Two tables behind one door, each with rows of its own."""
+
+    def open(self, replies, south=ROWS):
+        """`replies` are by table and kind."""
+        def reply(path, question):
+            table, place = path.strip("/").split("/")
+            return 200, json.dumps(replies[table][place if place == "would" else question["ask"]])
+        self.door = ScriptedDoor({**files("north/"), **files("south/", south), "tables.json": '["north","south"]'}, reply)
+        self.addCleanup(self.door.close)
+        self.browser.open(self.door.url)
+
+    def say(self, kind="sum"):
+        self.browser.run("document.querySelector(`#kinds input[value=${arguments[0]}]`).click()", kind)
+        return self.browser.ask()
+
+    def test_totals_add_up_averages_are_weighed_and_the_greatest_is_that_of_all(self):
+        released = {"verdict": "released"}
+        self.open({"north": {"would": released, "count": {"count": 3}, "sum": {"sum": 600}, "avg": {"num": 200, "den": 1}, "max": {"max": -4}},
+                   "south": {"would": released, "count": {"count": 1}, "sum": {"sum": -700}, "avg": {"num": -700, "den": 1}, "max": {"max": -2}}})
+        self.assertIn("holds for 4 of 6 rows", self.browser.text("holds"))
+        for kind, due in (("count", "4"), ("sum", "-1.00 EUR"), ("avg", "-0.25 EUR"), ("max", "-2")):
+            said = self.say(kind)
+            self.answers(due)
+            self.assertIn("north: ", said)
+        self.assertIn("answers given: 4, room for 131,068", self.browser.text("state"))
+        self.assertIn("rows of one person are in two tables", self.browser.text("parts-note"))
+
+    def test_where_a_part_would_deny_none_is_asked(self):
+        self.open({"north": {"would": {"verdict": "released"}, "count": {"count": 3}},
+                   "south": {"would": {"verdict": "unsafe"}, "count": {"count": 3}}})
+        said = self.say()
+        self.assertEqual(self.browser.find("#answer .verdict").text, "Not answered")
+        self.assertIn("south: not answered", said)
+        self.assertIn("north: not asked", said)
+        self.assertEqual(self.browser.all("#answer .number"), [])
+        self.assertEqual(self.door.questions("sum"), [question for path, question, _ in self.door.asked if path.endswith("would")])
+
+    def test_a_part_without_rows_adds_nothing(self):
+        self.open({"north": {"would": {"verdict": "released"}, "count": {"count": 3}, "sum": {"sum": 600}},
+                   "south": {"count": {"count": 0}}})
+        self.assertIn("south: no rows", self.say())
+        self.answers("6.00 EUR")
+
+    def test_a_group_that_no_part_has_is_said_to_have_no_row(self):
+        self.open({"north": {"count": {"count": 0}}, "south": {"count": {"count": 0}}})
+        self.assertIn("No row satisfies the condition.", self.say("max"))
+        self.assertEqual(self.door.questions("max"), [])
+
+    def test_a_part_that_the_door_withholds_is_named(self):
+        self.open({"north": {"would": {"verdict": "released"}, "count": {"count": 3}},
+                   "south": {"would": {"error": "fewer than 5 rows"}, "count": {"count": 3}}})
+        self.door.reply = lambda path, question, ready=self.door.reply: (422 if path == "/south/would" else 200, ready(path, question)[1])
+        said = self.say()
+        self.assertIn("south: fewer than 5 rows", said)
+        self.assertEqual(self.browser.find("#answer .verdict").text, "Not asked")
+        self.browser.driver.get_log("browser")
+
+    def test_one_table_is_asked_alone(self):
+        self.open({"north": {"count": {"count": 3}}, "south": {"count": {"count": 3}, "sum": {"sum": 800}}})
+        self.browser.wait(lambda: self.browser.all("#table option"))
+        self.browser.choose("#table", "south")
+        self.browser.wait(lambda: "holds for 3 of 3" in self.browser.text("holds"))
+        before = len(self.door.asked)
+        self.say()
+        self.answers("8.00 EUR")
+        self.assertEqual([path for path, _, _ in self.door.asked[before:]], ["/south/ask"])
+        self.assertEqual(self.browser.find("#files a").get_attribute("href"), self.door.url + "/south/transcript.jsonl")
+        self.assertIn("south: Total of pay, all rows", self.browser.text("history"))
+
+
+if __name__ == "__main__":
+    unittest.main()

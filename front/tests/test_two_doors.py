@@ -1,0 +1,175 @@
+"""The blocks for nginx, before a real nginx on loopback: two parts of a table on two doors, and one door with a login."""
+import asyncio
+import json
+import os
+import pathlib
+import random
+import shutil
+import signal
+import subprocess
+import tempfile
+import time
+import unittest
+
+import aiohttp
+
+from kit import FRONT, SEED, Door, Folder, ask, free_port, line_of
+
+NGINX = shutil.which("nginx") or shutil.which("/usr/sbin/nginx")
+NAME = "auditor.example.org"
+SHELL = """worker_processes 1; daemon off; pid {folder}/nginx.pid; error_log {folder}/nginx.err;
+events {{ worker_connections 512; }}
+http {{ access_log off; client_body_temp_path {folder}/body; proxy_temp_path {folder}/proxy; fastcgi_temp_path {folder}/f;
+uwsgi_temp_path {folder}/u; scgi_temp_path {folder}/s; include {folder}/block.conf; }}
+"""
+
+
+class Nginx:
+    """A real nginx over one of our blocks, with a port of loopback and plain HTTP in place of names and certificates."""
+
+    def __init__(self, block, port, changes):
+        self.folder = pathlib.Path(tempfile.mkdtemp(prefix="nginx-"))
+        self.folder.chmod(0o755)
+        text = (FRONT / "units" / block).read_text()
+        (self.folder / "users").write_text("ann:{PLAIN}secret\nbob:{PLAIN}secret\n")
+        (self.folder / "tables.json").write_text('["north","south"]\n')
+        changes = {"listen 443 ssl;": f"listen 127.0.0.1:{port};", "    ssl_certificate /etc/nginx/auditor.pem;\n": "",
+                   "    ssl_certificate_key /etc/nginx/auditor.key;\n": "", "/etc/nginx/auditor.": f"{self.folder}/", **changes}
+        for old, new in changes.items():
+            assert old in text, old
+            text = text.replace(old, new)
+        (self.folder / "block.conf").write_text(text)
+        (self.folder / "nginx.conf").write_text(SHELL.format(folder=self.folder))
+        self.process = subprocess.Popen([NGINX, "-c", self.folder / "nginx.conf", "-e", self.folder / "nginx.err"])
+
+    def close(self):
+        self.process.send_signal(signal.SIGTERM)
+        self.process.wait(20)
+        shutil.rmtree(self.folder)
+
+
+@unittest.skipUnless(NGINX, "nginx is wanted")
+class TwoDoors(unittest.IsolatedAsyncioTestCase):
+    def setUp(self):
+        self.port = free_port()
+        self.path = pathlib.Path(tempfile.mkdtemp(prefix="two-"))
+        self.parts, self.doors, places = {}, {}, {}
+        for place, name in enumerate(("north", "south")):
+            part = self.parts[name] = Folder(80 + 40 * place, SEED + place, self.path / name / "parts" / name)
+            part.path.parent.parent.chmod(0o755)
+            where = f"127.0.0.{place + 1}:{free_port()}"
+            places[f"10.0.0.1{place + 1}:8087"] = where
+            door = Door(part, "--table", name, "--folder", f"{part.path.parent}/{{table}}", "--host", NAME, plain=True)
+            door.words[door.words.index("--listen") + 1] = where
+            self.doors[name] = door.start()
+        # Two doors: that north has its answers, and south as well, is seen through one address alone.
+        self.nginx = Nginx("nginx-parts.conf", self.port, {**places, "rate=20r/s": "rate=2000r/s"})
+
+    def tearDown(self):
+        self.nginx.close()
+        for door in self.doors.values():
+            door.end()
+        shutil.rmtree(self.path, ignore_errors=True)
+
+    def session(self, user="ann"):
+        return aiohttp.ClientSession(f"http://127.0.0.1:{self.port}", headers={"Host": NAME},
+                                     auth=aiohttp.BasicAuth(user, "secret") if user else None)
+
+    async def ready(self, session, name, status=200):
+        end = time.monotonic() + 30
+        while time.monotonic() < end:
+            try:
+                async with session.get(f"/{name}/health") as response:
+                    if response.status == status:
+                        return
+            except (aiohttp.ClientError, OSError):
+                pass
+            await asyncio.sleep(0.05)
+        self.fail(self.parts[name].said())
+
+    async def client(self, session, number, count):
+        chance = random.Random(f"{SEED} {number}")
+        for _ in range(count):
+            name, part = chance.choice(list(self.parts.items()))
+            (kind, low, high), line = part.draw(chance)
+            status, body = await ask(session, line, f"/{name}/ask")
+            self.assertEqual(status, 200, body)
+            if b"denied" not in body:
+                self.assertEqual(json.loads(body), part.due(kind, low, high))
+
+    async def test_two_parts_on_two_doors_are_asked_at_one_address(self):
+        async with self.session(user=None) as session:
+            for path in ("/", "/tables.json", "/north/health", "/south/transcript.jsonl"):
+                async with session.get(path) as response:
+                    self.assertEqual(response.status, 401, path)
+        async with self.session() as session:
+            for name in self.parts:
+                await self.ready(session, name)
+            async with session.get("/tables.json") as response:
+                self.assertEqual(await response.json(), ["north", "south"])
+            await asyncio.gather(*(self.client(session, number, 10) for number in range(16)))
+            # A total over both machines is the sum of the two answers.
+            line = line_of("sum", 0, 79)
+            replies = [json.loads((await ask(session, line, f"/{name}/ask"))[1]) for name in self.parts]
+            self.assertEqual(sum(one["sum"] for one in replies), sum(part.due("sum", 0, 79)["sum"] for part in self.parts.values()))
+            # One machine is away: the other answers on, and the proxy says that this one doesn't.
+            self.doors["south"].stop(signal.SIGKILL)
+            self.assertEqual((await ask(session, line_of("count", 0, 9), "/north/ask"))[0], 200)
+            self.assertEqual((await ask(session, line_of("count", 0, 9), "/south/ask"))[0], 502)
+            self.doors["south"].start()
+            await self.ready(session, "south")
+            self.assertEqual((await ask(session, line_of("count", 0, 9), "/south/ask"))[0], 200)
+            self.assertEqual((await ask(session, b"x" * 9000, "/north/ask"))[0], 413)
+        for name, part in self.parts.items():
+            self.assertEqual(self.doors[name].stop(), 0)
+            self.assertEqual(part.simulate(), (0, ""))
+            self.assertEqual(part.replay(), [reply for _, reply in part.transcript()])
+
+    async def test_a_name_that_the_door_was_not_given_is_turned_away(self):
+        async with self.session() as session:
+            await self.ready(session, "north")
+            async with session.get("/north/health", headers={"Host": "evil.example"}) as response:
+                self.assertEqual(response.status, 421)
+
+
+@unittest.skipUnless(NGINX, "nginx is wanted")
+class OneDoor(unittest.IsolatedAsyncioTestCase):
+    async def test_login_and_the_limit_of_one_person_are_the_proxys(self):
+        folder = Folder(60)
+        folder.path.chmod(0o755)
+        port, socket = free_port(), f"{folder.path}/door.sock"
+        door = Door(folder, "--host", NAME).start()
+        nginx = Nginx("nginx.conf", port, {"/run/auditor-door/http.sock": socket})
+        try:
+            async with door.session() as session:
+                await self.wait(session)
+                os.chmod(socket, 0o666)
+            async with aiohttp.ClientSession(f"http://127.0.0.1:{port}", headers={"Host": NAME}) as session:
+                self.assertEqual((await ask(session, line_of("count", 0, 9)))[0], 401)
+                ann, bob = aiohttp.BasicAuth("ann", "secret"), aiohttp.BasicAuth("bob", "secret")
+                statuses = await asyncio.gather(*(self.count(session, ann) for _ in range(200)))
+                self.assertEqual(set(statuses), {200, 503})
+                self.assertGreaterEqual(statuses.count(200), 81)
+                self.assertEqual(await self.count(session, bob), 200)
+        finally:
+            nginx.close()
+            door.end()
+
+    async def wait(self, session):
+        for _ in range(300):
+            try:
+                async with session.get("/health", headers={"Host": NAME}) as response:
+                    if response.status == 200:
+                        return
+            except (aiohttp.ClientError, OSError):
+                pass
+            await asyncio.sleep(0.05)
+        self.fail("the door isn't serving")
+
+    async def count(self, session, who):
+        async with session.post("/ask", data=line_of("count", 0, 9), headers={"Content-Type": "application/json"}, auth=who) as response:
+            return response.status
+
+
+if __name__ == "__main__":
+    unittest.main()
