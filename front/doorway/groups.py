@@ -28,11 +28,12 @@ class Groups:
         self.run = None
         self.number = 0
         self.taken = 0                      # bytes that went into this run
+        self.sent, self.broken = ([], []), ""
 
     async def start(self):
         """Opens a run. A first group of no question shows that the journal is read and is this run's alone."""
         self.run = await self.opener.open("serve", "--batch", str(self.batch))
-        self.taken = 0
+        self.taken, self.broken = 0, ""
         await self.ask([])
 
     @property
@@ -42,18 +43,34 @@ class Groups:
 
     async def ask(self, lines):
         """The replies to some lines, at most `most` of them."""
+        self.send(lines)
+        return await self.receive()
+
+    def send(self, lines):
+        """Writes a group. It may wait for the program to read, and may be called in another thread."""
         if self.run is None:
             raise Ended("the program isn't started")
         fill, due = self._fillers(len(lines))
+        self.sent = lines, due
         text = b"\n".join([*lines, *fill]) + b"\n"
         self.taken += len(text)
         try:
-            self.run.writer.write(text)
-            replies = await asyncio.wait_for(self._replies(len(lines) + len(fill), due), self.patience)
+            self.run.write(text, self.patience)
+        except OSError as fault:
+            self.broken = str(fault)
+
+    async def receive(self):
+        """The replies to the group that was sent."""
+        lines, due = self.sent
+        count = len(lines) + (len(due) if due else 0)
+        try:
+            if self.broken:
+                raise Ended(await self._why() or self.broken)
+            replies = await asyncio.wait_for(self._replies(count, due), self.patience)
         except asyncio.TimeoutError:
             self.kill()
             raise Ended("the program didn't reply in time")
-        except (OSError, RuntimeError) as fault:
+        except OSError as fault:
             raise Ended(await self._why() or str(fault))
         if replies[len(lines):] != due or not self._fit(lines, replies):
             self.kill()

@@ -4,6 +4,8 @@ Through a socket the door needs no right to the table and the journal, and that 
 for trying it.
 """
 import asyncio
+import os
+import select
 
 FAREWELL = 30                       # seconds that a run has to end by itself once its input has ended
 
@@ -17,6 +19,17 @@ class Run:
 
     def __init__(self, reader, writer, process=None):
         self.reader, self.writer, self.process = reader, writer, process
+        self.input = (writer.get_extra_info("pipe") or writer.get_extra_info("socket")).fileno()
+
+    def write(self, text, patience):
+        """Writes all of a text, from whatever thread: the event loop may be busy just then. OSError if that fails."""
+        text = memoryview(text)
+        while text:
+            try:
+                text = text[os.write(self.input, text):]
+            except BlockingIOError:
+                if not select.select([], [self.input], [], patience)[1]:
+                    raise OSError("the program takes no more input")
 
     async def why(self):
         """What the run said on its standard error, or how it ended."""

@@ -143,13 +143,18 @@ class Table:
 
     async def ask_group(self, group):
         lines = [question.line for question in group]
-        await asyncio.to_thread(self.transcript.hold, lines)
-        replies = await self.groups.ask(lines)
+        await asyncio.to_thread(self._leave, lines)
+        replies = await self.groups.receive()
         await asyncio.to_thread(self.transcript.add, list(zip(lines, replies)))
         self.asked += len(group)
         self.sent += 1
         for question, reply in zip(group, replies):
             self.answer(question, reply)
+
+    def _leave(self, lines):
+        """Writes the group down, and sends it in the same thread: the loop has the last group's askers to answer."""
+        self.transcript.hold(lines)
+        self.groups.send(lines)
 
     def answer(self, question, reply):
         self.pending.pop(question.line, None)

@@ -167,6 +167,17 @@ class Streams(DoorCase):
             self.assertIn(b'{"count":10}', await self.count())
         self.assertIsNone(self.door.process.poll())
 
+    async def test_a_client_that_waits_to_be_told_to_go_on_is_told(self):
+        self.door.start()
+        await self.until_serving()
+        head, body = self.request(GOOD, last=True).replace(b"Host:", b"Expect: 100-continue\r\nHost:").split(b"\r\n\r\n")
+        reader, writer = await asyncio.open_connection("127.0.0.1", self.port)
+        writer.write(head + b"\r\n\r\n")
+        self.assertEqual(await asyncio.wait_for(reader.readline(), 10), b"HTTP/1.1 100 Continue\r\n")
+        writer.write(body)
+        self.assertIn(b'{"count":10}', await asyncio.wait_for(reader.read(), 10))
+        writer.close()
+
     async def test_no_address_leads_out_of_the_public_files(self):
         self.door.start()
         await self.until_serving()

@@ -97,7 +97,8 @@ class Faults(DoorCase):
         self.door.start()
         await self.ends()
         self.assertIn("the journal holds 1 answers and 3 were given: it is an older copy", self.folder.said())
-        # A door that is started again must not forget it.
+        # A door that is started again, and makes no reports, must not forget it.
+        self.door.words = self.door.words[:-2]
         self.door.start()
         await self.ends()
         self.assertIn("stopped.txt: ", self.folder.said().strip().rsplit("\n", 1)[-1])
@@ -259,11 +260,29 @@ class Known(DoorCase):
         self.assertEqual(self.folder.transcript(), [(lines[0], replies[0]), (lines[3], replies[3])])
         self.check_all()
 
+    async def test_a_line_is_kept_byte_for_byte(self):
+        lines = [b" \t" + line_of("sum", 0, 99) + b"  ", line_of("sum", 0, 99).replace(b"sum", b"\\u0073um")]
+        self.door.start()
+        async with self.door.session() as session:
+            await self.door.ready(session)
+            for line in lines:
+                self.assertEqual((await ask(session, line))[0], 200)
+        self.assertEqual(self.door.stop(), 0)
+        self.assertEqual([line for line, _ in self.folder.transcript()], lines)
+        self.check_all()
+
     async def test_many_who_ask_the_same_at_once_make_one_record(self):
         self.door.start()
         async with self.door.session() as session:
             await self.door.ready(session)
-            replies = await asyncio.gather(*(ask(session, line_of("sum", 0, 99)) for _ in range(100)))
+            for number in self.door.programs():
+                os.kill(number, signal.SIGSTOP)
+            asking = [asyncio.create_task(ask(session, line_of("sum", 0, 99))) for _ in range(100)]
+            while (await health(session))["waiting"] < 100:
+                await asyncio.sleep(0.02)
+            for number in self.door.programs():
+                os.kill(number, signal.SIGCONT)
+            replies = await asyncio.gather(*asking)
         self.assertEqual(self.door.stop(), 0)
         self.assertEqual(len(set(replies)), 1)
         self.assertEqual(json.loads(replies[0][1]), self.folder.due("sum", 0, 99))

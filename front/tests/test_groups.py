@@ -18,9 +18,8 @@ class ScriptedRun:
 
     def __init__(self, alter):
         self.alter, self.reader, self.lines, self.killed = alter, asyncio.StreamReader(), [], False
-        self.writer = self
 
-    def write(self, text):
+    def write(self, text, patience):
         self.lines += [line for line in text.split(b"\n") if line]     # blank lines are passed over
         if len(self.lines) == 64:
             replies = [self.reply(line) for line in self.lines]

@@ -73,14 +73,15 @@ def after(text, call):
 
 
 def parts_of(call):
-    """What may be left of a call that wasn't synced: all of it, a front of it, and zeros for what isn't there."""
+    """What may be left of a call that wasn't synced: all of it, a front, a back, or both, and zeros for what isn't there."""
     if call[0] == "truncate":
         return [call]
     _, text, at = call
     fronts = [text[:size] for size in range(1, len(text), max(len(text) // 12, 1))]
-    holes = [front + bytes(len(text) - len(front)) for front in fronts]
-    tails = [bytes(len(front)) + text[len(front):] for front in fronts]
-    return [("write", part, at) for part in (text, bytes(len(text)), *fronts, *holes, *tails)]
+    zeroed = [front + bytes(len(text) - len(front)) for front in fronts]
+    backs = [bytes(len(front)) + text[len(front):] for front in fronts]
+    holes = [front + b"\0" + text[len(front) + 1:] for front in fronts]
+    return [("write", part, at) for part in (text, bytes(len(text)), *fronts, *zeroed, *backs, *holes)]
 
 
 def left_of(safe, loose):
