@@ -1,8 +1,9 @@
 #!/bin/sh
 # Makes a journal beside copies of the demo's files in a fresh folder, asks the demo's questions, compares the replies with
 # those due, and has the report checked where there is a python3. Then, in a folder with the public columns alone, computes the decisions
-# of the transcript again: it agrees, and with one reply changed it doesn't. The exit status tells. Where none is given the program is
-# built first, which takes the source and the kit; in a package it is bin/auditor.
+# of the transcript again: it agrees, and with one reply changed it doesn't. At last it prepares the table anew from its CSV, as with a table
+# of your own, and asks about it in plain words. The exit status tells. Where none is given the program is built first, which takes the
+# source and the kit; in a package it is bin/auditor.
 #
 #   demo/run.sh [PROGRAM]
 set -u
@@ -46,3 +47,25 @@ sed '12s/.*/{"sum":112500}/' ../transcript.jsonl >changed.jsonl
 "$program" simulate <changed.jsonl 2>complaint >verdicts.jsonl
 [ $? = 14 ] && [ "$(cat complaint)" = "line 12 disagrees, due unsafe" ] || { echo "demo: a changed reply wasn't told" >&2; exit 1; }
 echo "with that denial made an answer: $(cat complaint)" >&2
+
+# From a CSV file to the first answer without an editor: the scripts in front/ need a python3 of 3.10 or later.
+front=$(dirname "$demo")/front
+if [ ! -f "$front/prepare.py" ] || ! python3 -c 'import sys; sys.exit(sys.version_info < (3, 10))' 2>/dev/null; then
+    echo "not shown: preparing a table and asking in words, which take front/ and a python3 of 3.10 or later" >&2
+    exit 0
+fi
+AUDITOR=$program
+export AUDITOR
+mkdir ../staff && cd ../staff && cp "$demo/table.csv" staff.csv || exit 1
+{
+    python3 "$front/prepare.py" look staff.csv &&
+    python3 "$front/prepare.py" choose staff.choices.json team=text age=number salary=sum bonus=max protect=none &&
+    python3 "$front/prepare.py" make staff.csv staff.choices.json table
+} >&2 || { echo "demo: the table wasn't prepared" >&2; exit 1; }
+(cd table && "$program" init) || exit 1
+python3 "$front/ask.py" table "count by team" "sum salary where age >= 41" "sum salary where age >= 41 and not team = 'Design'" \
+    "avg salary" "max bonus" "count where age == 41" >said
+[ $? = 1 ] || { echo "demo: ask.py ended with another status than 1, which a denial and a wrong condition give" >&2; exit 1; }
+cat said >&2
+# Why a question is denied is said in a sentence of front/words.json.
+sed 's/^not answered: .*/not answered/' said | cmp - "$demo/said.txt" || exit 1

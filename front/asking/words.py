@@ -1,0 +1,70 @@
+"""Replies in words: numbers with their decimals and units set back, denials and refusals as sentences of words.json."""
+
+import fractions
+import json
+import pathlib
+
+from .hints import hint, marked, mended
+
+WORDS = json.loads((pathlib.Path(__file__).resolve().parent.parent / "words.json").read_text(encoding="utf-8"))
+MOST_PLACES = 6
+
+
+def decimal(number, places):
+    """A number with so many decimals, rounded to the nearest, halves away from 0."""
+    scaled = abs(number) * 10**places
+    digits = str((2 * scaled.numerator + scaled.denominator) // (2 * scaled.denominator)).rjust(places + 1, "0")
+    sign = "-" if number < 0 and digits.strip("0") else ""
+    return sign + (f"{digits[:-places]}.{digits[-places:]}" if places else digits)
+
+
+def step(note):
+    """The unit in which a column's numbers are whole: 0.01 for two decimals."""
+    return decimal(fractions.Fraction(1, 10 ** (note.get("decimals") or 0)), note.get("decimals") or 0)
+
+
+def number_words(number, note):
+    """A number of steps as people read it, with its column's decimals; a fraction with six more, and exactly too."""
+    places = note.get("decimals") or 0
+    exact = fractions.Fraction(number) / 10**places
+    unit = f" {note['unit']}" if note.get("unit") else ""
+    for shown in range(places, places + MOST_PLACES + 1):
+        if (exact * 10**shown).denominator == 1:
+            return decimal(exact, shown) + unit
+    return f"{decimal(exact, places + MOST_PLACES)}{unit} (exactly {exact.numerator}/{exact.denominator})"
+
+
+def answer_of(reply):
+    """The number of a reply, an average divided, or None if it isn't an answer."""
+    if "num" in reply:
+        return fractions.Fraction(reply["num"], reply["den"])
+    return next((reply[key] for key in ("count", "sum", "max") if key in reply), None)
+
+
+def reply_words(question, reply, kinds, notes):
+    """A reply in a line, or for a refused condition in several: a mark under the byte, why, and what to write."""
+    number = answer_of(reply)
+    if number is not None:
+        return number_words(number, notes.get(question.column, {}) if question.ask != "count" else {})
+    if "denied" in reply:
+        return "not answered: " + WORDS["denied"].get(reply["denied"], reply["denied"])
+    if reply.get("refused") == "where":
+        return condition_words(question.where, reply["at"], kinds, notes)
+    return "refused: " + WORDS["refused"].get(reply.get("refused"), f"The program says {json.dumps(reply)}.")
+
+
+def condition_words(condition, at, kinds, notes):
+    """Where a condition goes wrong, why, and how it would be written, if that can be told."""
+    decimals = {name: note.get("decimals") or 0 for name, note in notes.items()}
+    why = hint(condition, at, kinds, decimals)
+    lines = [
+        marked(condition, at),
+        "refused: " + (why + ("" if why.endswith(("?", ".")) else ".") if why else WORDS["refused"]["where"]),
+    ]
+    better = mended(condition)
+    return "\n".join(lines + ([f"Write: {better}"] if better != condition else []))
+
+
+def verdict_words(reply):
+    """What would be said, in a sentence."""
+    return WORDS["verdict"].get(reply.get("verdict"), json.dumps(reply))

@@ -1,0 +1,78 @@
+#!/usr/bin/python3
+"""Makes the files that auditor reads of a CSV file as people have it.
+
+    prepare.py look FILE [encoding=NAME] [separator=NAME] [untitled=first]
+        says what the file has in it, and writes FILE.choices.json with a ? for each choice that is yours
+    prepare.py choose CHOICES [NAME=KIND | NAME.KEY=VALUE | KEY=VALUE | others=KIND | missing=WHAT ..]
+        fills in choices, as salary=sum others="leave out"; without any it asks for each that is open
+    prepare.py make FILE CHOICES FOLDER
+        writes FOLDER with schema.json and table.csv, and FOLDER/public with the public columns alone, and says each change
+
+Nothing is guessed silently, nothing secret is rounded, nothing is overwritten, and what isn't made whole isn't there. The
+program itself, auditor in the path or the one that AUDITOR names, reads both folders before they are put into place.
+"""
+
+import os
+import shutil
+import sys
+
+from preparing.choosing import choose
+from preparing.faults import Fault, shown
+from preparing.looking import look
+from preparing.making import make
+
+OPTIONS = ("encoding", "separator", "untitled")
+
+
+def options_of(words):
+    """The words KEY=VALUE after the file, by key."""
+    found = {}
+    for word in words:
+        key, mark, value = word.partition("=")
+        if not mark or key not in OPTIONS:
+            raise Fault(f"{shown(word)} isn't an option of look: there are {', '.join(key + '=' for key in OPTIONS)}")
+        found[key] = value
+    return found
+
+
+def program():
+    """The path of auditor, if there is one. A wrong AUDITOR is a Fault, and not passed over."""
+    named = os.environ.get("AUDITOR")
+    found = shutil.which(named or "auditor")
+    if named and not found:
+        raise Fault(f"AUDITOR names {shown(named)}, which isn't a program")
+    return os.path.abspath(found) if found else None
+
+
+def run(words):
+    """Does what the words say."""
+    match words:
+        case ["look", path, *options]:
+            look(path, **options_of(options))
+        case ["choose", path, *choices]:
+            choose(path, choices)
+        case ["make", path, choices, folder]:
+            make(path, choices, folder, program())
+        case _:
+            print(__doc__.strip(), file=sys.stderr)
+            return 2
+    return 0
+
+
+def main(words):
+    """Does what the words say; what can't be done ends with a sentence and status 1."""
+    try:
+        return run(words)
+    except (Fault, OSError) as fault:
+        print(f"prepare: {fault}", file=sys.stderr)
+    except MemoryError:
+        print("prepare: out of memory", file=sys.stderr)
+    except KeyboardInterrupt:
+        print("prepare: stopped", file=sys.stderr)
+    return 1
+
+
+if __name__ == "__main__":
+    for stream in (sys.stdout, sys.stderr):
+        stream.reconfigure(errors="backslashreplace")
+    sys.exit(main(sys.argv[1:]))

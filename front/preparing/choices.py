@@ -1,0 +1,216 @@
+"""The choices of a person about a table: a JSON file with a ? wherever one is still open.
+
+`look` writes it, `choose` or an editor fills it in, and `make` does what it says and nothing else.
+"""
+
+import json
+import os
+import re
+import tempfile
+
+from .cells import FORMS
+from .faults import Fault, listed, shown
+from .names import LONGEST, is_name
+from .reading import SEPARATORS
+
+OPEN = "?"
+MOST_DECIMALS = 12
+SECRET, PUBLIC = ("sum", "max"), ("text", "number")
+KINDS = PUBLIC + SECRET + ("leave out",)
+MISSING = {"drop the row": KINDS, "keep": ("text",), "mark": ("number",)}
+ROUNDINGS = ("no", "down", "nearest")
+TABLE_KEYS = {
+    "encoding": str,
+    "separator": str,
+    "untitled": str,
+    "split by": list,
+    "wave": int,
+    "protect": list,
+    "columns": list,
+}
+COLUMN_KEYS = {
+    "from": str,
+    "seen": str,
+    "name": str,
+    "is": str,
+    "written as": str,
+    "unit": str,
+    "decimals": int,
+    "rounded": str,
+    "missing is": list,
+    "missing": str,
+}
+TEXT_KEYS = ("is", "missing is", "missing")
+NUMBER_KEYS = TEXT_KEYS + ("written as", "unit", "decimals", "rounded")
+
+
+def read(path):
+    """The choices of a file, with keys and types as they have to be; what they say may still be open or wrong."""
+    try:
+        with open(path, encoding="utf-8-sig") as file:
+            choices = json.load(file)
+        # Half of a pair of surrogates, which JSON can spell, can't be written again.
+        json.dumps(choices, ensure_ascii=False).encode()
+    except (ValueError, RecursionError) as error:
+        raise Fault(f"{path} isn't JSON: {error}") from None
+    faults = key_faults(choices, TABLE_KEYS, "the file of choices")
+    if not faults:
+        for place, column in enumerate(choices["columns"], 1):
+            faults += key_faults(column, COLUMN_KEYS, f"column {place} of the choices")
+    if faults:
+        raise Fault(f"{path}: {listed(faults)}")
+    return choices
+
+
+def key_faults(found, keys, what):
+    """A sentence for each key that is missing, unknown or of another type than its own. Null and ? stand for any type."""
+    if not isinstance(found, dict):
+        return [f"{what} isn't an object"]
+    faults = [f"{what} has no key {key!r}" for key in keys if key not in found]
+    faults += [f"{what} has a key {shown(key)}, which means nothing" for key in found if key not in keys]
+    for key, kind in keys.items():
+        value = found.get(key)
+        fits = isinstance(value, kind) and not isinstance(value, bool)
+        if key in found and not fits and not (value in (None, OPEN) and key not in ("from", "name", "columns")):
+            faults.append(f"{what}: {key!r} can't be {shown(json.dumps(value))}")
+    return faults
+
+
+def write(path, choices, fresh):
+    """Writes the choices for the owner alone, in one step. A fresh file must not be there yet."""
+    text = json.dumps(choices, indent=1, ensure_ascii=False) + "\n"
+    handle, beside = tempfile.mkstemp(dir=os.path.dirname(os.path.abspath(path)), prefix=".choices-")
+    try:
+        with open(handle, "w", encoding="utf-8") as file:
+            file.write(text)
+        if fresh and os.path.lexists(path):
+            raise Fault(f"{path} is already there, and nothing is overwritten")
+        os.replace(beside, path)
+    except BaseException:
+        os.unlink(beside)
+        raise
+
+
+def open_choices(choices):
+    """What is still to be chosen, in the words that `choose` takes. A column that is left out asks no more."""
+    found = [key for key in TABLE_KEYS if choices[key] == OPEN]
+    for column in choices["columns"]:
+        keys = {OPEN: ("is",), "leave out": (), "text": TEXT_KEYS}.get(column["is"], NUMBER_KEYS)
+        found += [column["name"] + ("" if key == "is" else f".{key}") for key in keys if column[key] == OPEN]
+    return found
+
+
+def need_decided(choices):
+    """A Fault if anything is open or says what can't be done."""
+    still_open = open_choices(choices)
+    if still_open:
+        raise Fault("still to be chosen:\n" + listed(still_open))
+    faults = table_faults(choices)
+    for column in choices["columns"]:
+        faults += column_faults(column)
+    if faults:
+        raise Fault(listed(faults))
+
+
+def table_faults(choices):
+    """A sentence for each choice on the whole table that can't be followed."""
+    faults = []
+    if not choices["encoding"]:
+        faults.append('"encoding" has to be the name of one')
+    if choices["separator"] not in SEPARATORS:
+        faults.append(f"the separator can't be {shown(choices['separator'])}: it is one of {', '.join(SEPARATORS)}")
+    if choices["untitled"] not in ("none", "first", "last"):
+        faults.append(f"\"untitled\" can't be {shown(choices['untitled'])}: it is none, first or last")
+    if choices["wave"] not in (None, 1):
+        faults.append(f"\"wave\" can't be {choices['wave']}: it is 1, or null for no such column")
+    public = [column["name"] for column in choices["columns"] if column["is"] in PUBLIC]
+    faults += [
+        f'"split by" can\'t be {shown(name)}: it has to be the name of a public column'
+        for name in choices["split by"] or []
+        if name not in public
+    ]
+    return faults + protect_faults(choices)
+
+
+def protect_faults(choices):
+    """A sentence for each total to be protected that isn't one of a column of sums, under a condition."""
+    sums = [column["name"] for column in choices["columns"] if column["is"] == "sum"]
+    faults = []
+    for place, group in enumerate(choices["protect"] or []):
+        if not isinstance(group, dict) or set(group) != {"column", "where"}:
+            faults.append(f'total {place} to protect isn\'t an object with the keys "column" and "where"')
+        elif group["column"] not in sums:
+            faults.append(f"total {place} to protect: {shown(group['column'])} isn't the name of a column that is sum")
+        elif not isinstance(group["where"], str) or not group["where"].strip() or len(group["where"].encode()) > 8192:
+            faults.append(f"total {place} to protect: its condition has to be a text of 1 to 8,192 bytes")
+    if len(choices["protect"] or []) > 64:
+        faults.append("at most 64 totals can be protected")
+    return faults
+
+
+def name_in_steps(column):
+    """The column's name with the factor that its public numbers are multiplied by at its end, if there is one."""
+    if not column["decimals"] or column["decimals"] == OPEN:
+        return column["name"]
+    end = f"_x{10 ** column['decimals']}"
+    return re.sub("_x10+$", "", column["name"])[: LONGEST - len(end)] + end
+
+
+def column_faults(column):
+    """A sentence for each choice on one column that can't be followed."""
+    title = shown(column["from"])
+    if column["is"] == "leave out":
+        return []
+    if column["is"] not in KINDS:
+        return [f"{title} can't be {shown(column['is'])}: it is one of {', '.join(KINDS)}"]
+    faults = []
+    if not is_name(column["name"]):
+        faults.append(
+            f"{title}: {shown(column['name'])} can't be a name: a letter, then letters, digits and _, at most 32, and"
+            " not and, or, not, all, in"
+        )
+    if column["is"] != "text":
+        faults += number_faults(column, title)
+    allowed = MISSING.get(column["missing"], KINDS if column["missing"] is None else ())
+    if column["is"] not in allowed:
+        can = ", ".join(choice for choice, kinds in MISSING.items() if column["is"] in kinds)
+        faults.append(
+            f"{title}: \"missing\" can't be {shown(column['missing'])} for {column['is']}, which takes: {can}"
+        )
+    if not all(isinstance(cell, str) for cell in column["missing is"] or []):
+        faults.append(f'{title}: "missing is" has to be a list of texts')
+    return faults
+
+
+def number_faults(column, title):
+    """A sentence for each choice on how numbers are written that can't be followed."""
+    form = FORMS.get(column["written as"])
+    if column["written as"] is None:
+        return [
+            f"{title} can't be {column['is']}: its cells aren't numbers or dates in one of the forms {', '.join(FORMS)}"
+        ]
+    if form is None:
+        return [f"{title}: \"written as\" can't be {shown(column['written as'])}: it is one of {', '.join(FORMS)}"]
+    faults = []
+    if form.kind == "date" and column["is"] in SECRET:
+        faults.append(f"{title} can't be {column['is']}: a date can be public, as number or text, or left out")
+    if not 0 <= (column["decimals"] or 0) <= MOST_DECIMALS:
+        faults.append(f"{title}: \"decimals\" can't be {column['decimals']}: it is 0 to {MOST_DECIMALS}")
+    elif column["is"] == "number" and column["name"] != name_in_steps(column):
+        faults.append(
+            f"{title}: public numbers times {10 ** column['decimals']:,} are to say so in their name, since a condition"
+            f' compares them as they are kept: name it {name_in_steps(column)}; or lower "decimals" and say how it is'
+            ' "rounded"; or keep it as text'
+        )
+    if re.search(r"[\d+.,'-]", column["unit"] or ""):
+        faults.append(
+            f"{title}: {shown(column['unit'])} can't be a unit: it has a digit, a sign or a mark of a number in it"
+        )
+    if column["rounded"] not in (None,) + ROUNDINGS:
+        faults.append(f"{title}: \"rounded\" can't be {shown(column['rounded'])}: it is one of {', '.join(ROUNDINGS)}")
+    elif column["rounded"] not in (None, "no") and column["is"] in SECRET:
+        faults.append(
+            f'{title}: a secret column isn\'t rounded: answers would be wrong without saying so. Raise "decimals"'
+            " instead"
+        )
+    return faults

@@ -1,0 +1,155 @@
+"""`choose`: sets choices in their file from words, or asks for each open one at a terminal."""
+
+from . import choices as choosing
+from .choices import COLUMN_KEYS, KINDS, MISSING, OPEN, ROUNDINGS, TABLE_KEYS
+from .cells import FORMS
+from .faults import Fault, shown
+
+LISTS = ("split by", "missing is")
+
+
+def choose(path, words):
+    """Follows each word in turn, writes the file once, and says what is still open."""
+    choices = choosing.read(path)
+    for word in words:
+        key, mark, value = word.partition("=")
+        if not mark:
+            raise Fault(f"{shown(word)} sets nothing: write KEY=VALUE, NAME=KIND or NAME.KEY=VALUE")
+        set_choice(choices, key.strip(), value.strip())
+    if not words:
+        ask_each(choices)
+    name_by_steps(choices)
+    choosing.write(path, choices, fresh=False)
+    still_open = choosing.open_choices(choices)
+    print("still open: " + ", ".join(still_open) if still_open else "nothing is open any more: make can be run")
+
+
+def name_by_steps(choices):
+    """Names a public number for the factor that it is multiplied by, so that whoever writes a condition sees it."""
+    for column in choices["columns"]:
+        name = choosing.name_in_steps(column)
+        if column["is"] == "number" and column["name"] != name:
+            print(
+                f"{column['name']} is named {name}: its numbers are kept times {10 ** column['decimals']:,}, and"
+                " conditions compare them so"
+            )
+            column["name"] = name
+
+
+def set_choice(choices, key, value):
+    """Sets one choice; `others` and `missing` are those of every column that is still open.
+
+    A column may be called as a choice is: NAME=KIND is the column then.
+    """
+    if value in KINDS and any(column["name"] == key for column in choices["columns"]):
+        set_column(column_named(choices, key), "is", value)
+    elif key == "others":
+        for column in choices["columns"]:
+            if column["is"] == OPEN:
+                set_column(column, "is", value)
+    elif key == "missing":
+        for column in choices["columns"]:
+            if column["missing"] == OPEN:
+                set_column(column, "missing", value)
+    elif key == "protect":
+        add_protected(choices, value)
+    elif key in TABLE_KEYS and key != "columns":
+        choices[key] = from_words(key, value, TABLE_KEYS[key])
+    else:
+        name, _, part = key.partition(".")
+        set_column(column_named(choices, name), part or "is", value)
+
+
+def column_named(choices, name):
+    """The column of that name, or else the one of that title."""
+    found = [column for column in choices["columns"] if name == column["name"]] or [
+        column for column in choices["columns"] if name == column["from"]
+    ]
+    if len(found) != 1:
+        names = ", ".join(column["name"] for column in choices["columns"][:40])
+        raise Fault(f"{'no column is' if not found else 'two columns are'} called {shown(name)}; there are {names}")
+    return found[0]
+
+
+def set_column(column, key, value):
+    """Sets one choice of a column, if it is one of those that the key takes."""
+    allowed = {"is": KINDS, "missing": MISSING, "written as": FORMS, "rounded": ROUNDINGS}
+    if key not in COLUMN_KEYS or key in ("from", "seen"):
+        raise Fault(
+            f"{shown(key)} isn't a choice of a column: there are is, name, written as, unit, decimals, rounded, missing"
+            " is, missing"
+        )
+    if key in allowed and value not in allowed[key]:
+        raise Fault(
+            f"{column['name']}{'' if key == 'is' else '.' + key} can't be {shown(value)}: it is one of"
+            f" {', '.join(allowed[key])}"
+        )
+    column[key] = from_words(key, value, COLUMN_KEYS[key])
+    if key == "written as" and column["decimals"] == OPEN:
+        column["decimals"] = decimals_of(column)
+
+
+def decimals_of(column):
+    """Numbers without a decimal mark have no decimals; how many others are kept with stays open."""
+    return OPEN if getattr(FORMS[column["written as"]], "decimal", "") else 0
+
+
+def from_words(key, value, kind):
+    """The value that stands in the file: null for none, a number, a list at commas, or the text."""
+    if key not in ("name", "missing is") and value in ("none", "null") and key != "untitled":
+        return None
+    if kind is int:
+        if not value.isascii() or not value.isdigit() or len(value) > 9:
+            raise Fault(f"{key} can't be {shown(value)}: it is a number or none")
+        return int(value)
+    if key in LISTS:
+        return [part.strip() for part in value.split(",")]
+    return value
+
+
+def add_protected(choices, value):
+    """One more total that must stay open, as COLUMN where CONDITION; none sets the list to nothing."""
+    if value == "none":
+        choices["protect"] = []
+        return
+    column, mark, where = value.partition(" where ")
+    if not mark:
+        raise Fault(f'{shown(value)} isn\'t a total: write protect="COLUMN where CONDITION", or protect=none')
+    groups = choices["protect"] if isinstance(choices["protect"], list) else []
+    choices["protect"] = groups + [{"column": column.strip(), "where": where.strip()}]
+
+
+def ask_each(choices):
+    """Asks for each open choice until it is one that can be followed. The input's end leaves the others open."""
+    skipped = set()
+    while True:
+        still_open = [key for key in choosing.open_choices(choices) if key not in skipped]
+        if not still_open:
+            return
+        key = still_open[0]
+        try:
+            value = input(f"{key}{question_about(choices, key)}? ").strip()
+        except EOFError:
+            print()
+            return
+        if not value:
+            skipped.add(key)
+            continue
+        try:
+            set_choice(choices, key, value)
+        except Fault as fault:
+            print(fault)
+
+
+def question_about(choices, key):
+    """What was seen of the column, and what the answer may be."""
+    name, _, part = key.partition(".")
+    column = next((column for column in choices["columns"] if column["name"] == name), None)
+    if column is None:
+        return " (none, or COLUMN where CONDITION)" if key == "protect" else ""
+    answers = {
+        "": KINDS,
+        "missing": [choice for choice, kinds in MISSING.items() if column["is"] in kinds],
+        "written as": FORMS,
+    }.get(part, ())
+    return f" ({column['seen']}) [{', '.join(answers)}]" if answers else f" ({column['seen']})"

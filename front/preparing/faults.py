@@ -1,0 +1,28 @@
+"""Why something can't be done, as a sentence for the person who asked for it."""
+
+MOST_SHOWN = 20
+
+
+class Fault(Exception):
+    """One sentence or several lines: what is wrong, where, and what to do about it."""
+
+
+def shown(value, most=40):
+    """A cell or a title as it may be printed: quoted, control characters escaped, long ones cut with their length."""
+    text = str(value)
+    if len(text) <= most:
+        return repr(text)
+    return f"{text[:most]!r}.. ({len(text):,} characters)"
+
+
+def listed(sentences):
+    """The first twenty of many sentences, a line each, and how many more there are."""
+    lines = sentences[:MOST_SHOWN]
+    if len(sentences) > MOST_SHOWN:
+        lines = lines + [f"and {len(sentences) - MOST_SHOWN:,} more"]
+    return "\n".join(lines)
+
+
+def counted(number, noun):
+    """A number with its noun: 1 row, 1,309 rows."""
+    return f"{number:,} {noun}" + ("" if number == 1 else "s")

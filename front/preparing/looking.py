@@ -1,0 +1,199 @@
+"""`look`: says what a CSV file has in it, and writes down what a person has to decide."""
+
+import collections
+import pathlib
+
+from . import choices as choosing
+from .cells import FORMS, forms_of, is_missing, unit_of, without_unit
+from .faults import Fault, counted, shown
+from .names import names_of
+from .reading import choose_layout, decode, encoding_of, load, read_rows, without_separator_line
+from .splitting import MOST_ROWS, say_splits
+
+TOTALS = {"total", "totals", "grand total", "sum", "all", "summe", "gesamt", "insgesamt", "somme", "totale"}
+
+
+def look(path, encoding=None, separator=None, untitled=None):
+    """Prints what the file is and each of its columns, and writes FILE.choices.json beside it."""
+    data = load(path)
+    out = pathlib.Path(path).with_suffix(".choices.json")
+    if out.exists():
+        raise Fault(f"{out} is already there: go on with it, or remove it to look anew")
+    found, said = encoding_of(data) if encoding is None else (encoding, f"{encoding}, as you say")
+    text, named = without_separator_line(decode(data, found))
+    layout = choose_layout(text, separator or named, untitled)
+    table = read_rows(text, layout)
+    print(f"encoding: {said}")
+    print(f"separator: {layout.separator}" + (", by the file's first line" if named else ""))
+    if layout.untitled != "none":
+        print(
+            "the header has a title fewer than a row has cells, as R's write.table does it: the"
+            f" {layout.untitled} column has none"
+        )
+    print(
+        f"rows: {len(table.rows):,}"
+        + (f"; {counted(table.empty, 'line')} with nothing in it passed over" if table.empty else "")
+    )
+    say_last_row(table)
+    columns = describe_all(table)
+    if len(table.rows) > MOST_ROWS:
+        say_splits([column["name"] for column in columns], list(zip(*(cells for _, cells in table.rows))))
+    choices = {
+        "encoding": found,
+        "separator": layout.separator,
+        "untitled": layout.untitled,
+        "split by": None,
+        "wave": None,
+        "protect": choosing.OPEN,
+        "columns": columns,
+    }
+    choosing.write(out, choices, fresh=True)
+    say_next(out, choices)
+
+
+def say_last_row(table):
+    """Points out a last row that may be a total, as spreadsheets have one."""
+    number, cells = table.rows[-1]
+    found = next((cell for cell in cells if cell.strip().rstrip(":").lower() in TOTALS), None)
+    if found is not None:
+        print(
+            f"CAREFUL: row {number:,}, the last, says {shown(found)}: a total isn't a row of the table. Take it out of"
+            " the file"
+        )
+
+
+def describe_all(table):
+    """The choices on each column, printed as they are made."""
+    columns = []
+    for place, (title, name) in enumerate(zip(table.titles, names_of(table.titles))):
+        column = describe(title, name, [cells[place].strip() for _, cells in table.rows])
+        columns.append(column)
+        print(f"  {shown(title)}" + (f", to be named {name}" if name != title else "") + f": {column['seen']}")
+    return columns
+
+
+def describe(title, name, cells):
+    """What one column could be. `is` is open, since whether a column is secret can't be seen in its cells."""
+    there = [cell for cell in cells if not is_missing(cell)]
+    column = {
+        "from": title,
+        "seen": "",
+        "name": name,
+        "is": choosing.OPEN,
+        "written as": None,
+        "unit": None,
+        "decimals": None,
+        "rounded": None,
+        "missing is": None,
+        "missing": None,
+    }
+    if not there:
+        column["is"] = "leave out"
+        column["seen"] = "nothing stands in it, so it is left out"
+        return column
+    seen = [f"{len(set(there)):,} different"] + number_words(column, collections.Counter(there)) + text_words(there)
+    gaps = collections.Counter(cell for cell in cells if is_missing(cell))
+    if gaps:
+        column["missing is"], column["missing"] = sorted(gaps), choosing.OPEN
+        seen.append(
+            "missing, or so it seems, where it says "
+            + ", ".join(f"{shown(cell)} ({number:,})" for cell, number in sorted(gaps.items()))
+        )
+    if len(set(cells)) == len(cells) > 1:
+        seen.append("every row has its own value")
+    column["seen"] = "; ".join(seen)
+    return column
+
+
+def number_words(column, numbers):
+    """Sets how numbers are written, if most cells are numbers or dates, and says so. `numbers` counts each cell."""
+    unit = unit_of(list(numbers))
+    bare = collections.Counter()
+    for cell, number in sorted(numbers.items()):
+        bare[without_unit(cell, unit)] += number
+    names, others = forms_of_most(bare)
+    if not names:
+        few = sum(bare[cell] for cell in others) * 2 < sum(bare.values())
+        return ["text" + (", though most of it is numbers or dates, in no one form" if few else "")]
+    words = [f"{FORMS[names[0]].kind}s"] + (
+        [f"but {counted(len(others), 'value')} not, as {shown(others[0])}"] if others else []
+    )
+    column["unit"] = unit or None
+    column["written as"] = names[0] if len(names) == 1 else choosing.OPEN
+    if len(names) > 1:
+        words.append(reading_words(bare, names))
+    set_decimals(column, bare.keys() - set(others), names, words)
+    return words + [f"with the unit {unit}"] * bool(unit)
+
+
+def reading_words(cells, names):
+    """A cell that is another number in another form, and what it would be in each."""
+    example = next(cell for cell in cells if len({FORMS[name].read(cell) for name in names}) > 1)
+    return f"but {shown(example)} may be " + ", or ".join(
+        f"{plain_number(FORMS[name].read(example))} (written as {name})" for name in names
+    )
+
+
+def set_decimals(column, cells, names, words):
+    """Keeps as many decimals as the cells are written with; they are open as long as the form is."""
+    decimals = [max(FORMS[name].decimals(cell) for cell in cells) for name in names]
+    if max(decimals) == 0:
+        return
+    column["decimals"] = decimals[0] if len(names) == 1 else choosing.OPEN
+    if len(names) == 1:
+        words.append(f"with {counted(decimals[0], 'decimal')}, kept in steps of {step(decimals[0])}")
+    if max(decimals) > choosing.MOST_DECIMALS:
+        words.append(f"more decimals than the {choosing.MOST_DECIMALS} that can be kept")
+
+
+def forms_of_most(numbers):
+    """The forms of all cells; or those of the cells that have one, if these are most, and the cells that have none."""
+    names = forms_of(list(numbers))
+    if names:
+        return names, []
+    others = [cell for cell in numbers if all(form.read(cell) is None for form in FORMS.values())]
+    if sum(numbers[cell] for cell in others) * 2 >= sum(numbers.values()):
+        return [], others
+    return forms_of(sorted(numbers.keys() - set(others))), others
+
+
+def text_words(cells):
+    """What a number would lose, and some examples."""
+    words = []
+    if any(len(cell) > 1 and cell[0] == "0" and cell.isdigit() for cell in cells):
+        words.append("zeros at the front, which text keeps and a number loses")
+    return words + ["such as " + ", ".join(shown(cell, 24) for cell in list(dict.fromkeys(cells))[:3])]
+
+
+def plain_number(number):
+    """A number of finitely many decimals, exactly."""
+    whole, decimals = number, 0
+    while whole.denominator != 1:
+        whole, decimals = whole * 10, decimals + 1
+    digits = str(abs(whole.numerator)).rjust(decimals + 1, "0")
+    sign = "-" if number < 0 else ""
+    return sign + (f"{digits[:-decimals]}.{digits[-decimals:]}" if decimals else digits)
+
+
+def step(decimals):
+    """The unit in which numbers of so many decimals are whole: 0.01 for two."""
+    return "1" if decimals == 0 else "0." + "0" * (decimals - 1) + "1"
+
+
+def say_next(out, choices):
+    """What is open, and how it is closed."""
+    print(f"written: {out}, with a ? for each choice that is yours: " + ", ".join(choosing.open_choices(choices)))
+    print(
+        f"A column is one of: {', '.join(choosing.KINDS)}. text and number are public: anyone who asks can learn every"
+        " cell."
+    )
+    print("sum and max are secret whole numbers, to be asked for totals and averages, or for the greatest.")
+    print(
+        '"missing" is one of: drop the row; keep (text, as it stands); mark (number: 0, and a column of 0 and 1 beside'
+        " it)."
+    )
+    print(
+        '"protect" names totals that must stay open, or none: choose protect=none, or protect="salary where dept ='
+        " 'QA'\"."
+    )
+    print(f'Go on with an editor, or with: prepare.py choose {out} NAME=KIND .. others="leave out"')

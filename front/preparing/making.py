@@ -1,0 +1,267 @@
+"""`make`: does what the choices say and nothing else, and says each change that it made."""
+
+import collections
+import dataclasses
+import enum
+
+from . import choices as choosing
+from .cells import FORMS, without_unit
+from .choices import PUBLIC, SECRET
+from .faults import Fault, counted, listed, shown
+from .guards import say_what_is_known, secrets_apart
+from .looking import step
+from .names import free
+from .reading import Layout, decode, load, read_rows, without_separator_line
+from .splitting import parts, say_parts
+from .writing import write_folders
+
+MOST_COLUMNS, MOST_SECRET, MOST_SIZE = 32, 8, 10**12
+DROPPED = object()
+
+
+@dataclasses.dataclass
+class Column:
+    """A column as it is written: its name and kind, and from which place and choices of the file its numbers come."""
+
+    name: str
+    kind: str
+    place: int = None
+    chosen: dict = None
+    marks: str = None
+
+
+class Change(enum.Enum):
+    """What may be done to a cell."""
+
+    TRIMMED = enum.auto()
+    ROUNDED = enum.auto()
+    GAP_KEPT = enum.auto()
+
+
+@dataclasses.dataclass
+class Changes:
+    """How often a column was changed in the rows that are kept, and the rows that were dropped, with what they lack."""
+
+    made: collections.Counter = dataclasses.field(default_factory=collections.Counter)
+    dropped: dict = dataclasses.field(default_factory=dict)
+
+
+def make(path, choices_path, folder, program):
+    """Writes the folders of the table, or raises a Fault and leaves nothing behind."""
+    choices = choosing.read(choices_path)
+    choosing.need_decided(choices)
+    table = read_as_chosen(path, choices)
+    columns = columns_to_write(choices)
+    changes = Changes()
+    rows = convert_all(table, columns, changes)
+    public = [column.name for column in columns if column.kind in PUBLIC]
+    secret = [column.name for column in columns if column.kind in SECRET]
+    secrets_apart(
+        rows, columns, {column.name: texts_of(table, column, changes) for column in columns if column.kind == "text"}
+    )
+    tables = parts(rows, choices["split by"], public)
+    write_folders(folder, columns, choices["protect"] or [], tables, program)
+    say_changes(choices, columns, table, changes)
+    say_parts(tables)
+    say_what_is_known(rows, public, secret)
+    each = "each folder of " if choices["split by"] else ""
+    print(
+        f"written: {each}{folder}, with the public columns alone in public. Next: auditor init in {each}{folder}, once;"
+        " then ask.py with it"
+    )
+
+
+def read_as_chosen(path, choices):
+    """The table of the file, by the choices' encoding and separator; its titles have to be those that were looked at."""
+    text, _ = without_separator_line(decode(load(path), choices["encoding"]))
+    table = read_rows(text, Layout(choices["separator"], choices["untitled"]))
+    titles = [column["from"] for column in choices["columns"]]
+    if table.titles != titles:
+        raise Fault(
+            f"the titles of {path} aren't those that the choices were made for:"
+            f" {', '.join(shown(title) for title in table.titles[:40])}"
+        )
+    return table
+
+
+def columns_to_write(choices):
+    """The columns in the file's order, a column of 0 and 1 after each number whose gaps are marked, and wave last."""
+    columns = []
+    for place, chosen in enumerate(choices["columns"]):
+        if chosen["is"] == "leave out":
+            continue
+        columns.append(Column(chosen["name"], chosen["is"], place, chosen))
+        if chosen["missing"] == "mark":
+            known = free(chosen["name"][:26] + "_known", [column["name"] for column in choices["columns"]])
+            columns.append(Column(known, "number", place, chosen, marks=chosen["name"]))
+    if choices["wave"] is not None:
+        columns.append(Column("wave", "number"))
+    need_columns(columns)
+    return columns
+
+
+def need_columns(columns):
+    """A Fault if there are too many columns, none that is public, or two of one name."""
+    names = collections.Counter(column.name for column in columns)
+    twice = [name for name, number in names.items() if number > 1]
+    if twice:
+        raise Fault("two columns would have one name: " + ", ".join(twice))
+    secret = sum(column.kind in SECRET for column in columns)
+    if len(columns) > MOST_COLUMNS or secret > MOST_SECRET or secret == len(columns):
+        raise Fault(
+            f"a table has at most {MOST_COLUMNS} columns, at most {MOST_SECRET} of them secret and at least one public;"
+            f" here it would have {len(columns):,}, {secret:,} of them secret"
+        )
+
+
+def convert_all(table, columns, changes):
+    """Every row that is kept, as a value for each name. Cells that can't be followed are one Fault together."""
+    rows, faults = [], []
+    for number, cells in table.rows:
+        row = convert_row(number, cells, columns, changes, faults)
+        if row is not None:
+            rows.append(row)
+    if faults:
+        raise Fault(listed(faults) + "\nRows are counted as in a spreadsheet: the header is row 1")
+    if not rows:
+        raise Fault(f"no row is left: {counted(len(changes.dropped), 'row')} dropped for what is missing")
+    return rows
+
+
+def convert_row(number, cells, columns, changes, faults):
+    """The row's values by name, or None if it is dropped or has a fault, which is then noted."""
+    row, made, lacking, known = {}, [], [], len(faults)
+    for column in columns:
+        if column.place is None:
+            row[column.name] = 1
+            continue
+        try:
+            value = convert(cells[column.place], column, made)
+        except Fault as fault:
+            faults.append(f"row {number:,}, column {shown(column.chosen['from'])}: {fault}")
+            continue
+        if value is DROPPED:
+            lacking.append(column.chosen["from"])
+        row[column.name] = value
+    if lacking:
+        changes.dropped[number] = lacking
+    if lacking or len(faults) > known:
+        return None
+    changes.made.update(made)
+    return row
+
+
+def convert(cell, column, made):
+    """A cell as it is written, DROPPED if its row goes, or a Fault; what was changed is added to what was made."""
+    bare = cell.strip()
+    missing = bare in (column.chosen["missing is"] or [])
+    if column.marks is not None:
+        return 0 if missing else 1
+    if missing and column.chosen["missing"] == "drop the row":
+        return DROPPED
+    if missing and column.chosen["missing"] == "mark":
+        made.append((column.name, Change.GAP_KEPT))
+        return 0
+    if column.kind == "text":
+        made += [(column.name, Change.TRIMMED)] * (bare != cell)
+        return bare
+    return whole_number(bare, column, made)
+
+
+def whole_number(cell, column, made):
+    """The number of the cell in steps of its column's decimals: exactly, unless a public column is rounded by choice."""
+    chosen = column.chosen
+    if not cell:
+        raise Fault('nothing stands there. If that means that nothing is known, put "" into "missing is"')
+    form = FORMS[chosen["written as"]]
+    number = form.read(without_unit(cell, chosen["unit"]))
+    if number is None:
+        raise Fault(f"{shown(cell)} isn't a {form.kind} written as {form.name}")
+    decimals = chosen["decimals"] or 0
+    steps = number * 10**decimals
+    if steps.denominator != 1:
+        steps = rounded(cell, steps, chosen)
+        made.append((column.name, Change.ROUNDED))
+    if abs(steps) > MOST_SIZE:
+        raise Fault(
+            f"{shown(cell)} is beyond {MOST_SIZE:,}" + (f", counted in steps of {step(decimals)}" if decimals else "")
+        )
+    return int(steps)
+
+
+def rounded(cell, steps, chosen):
+    """The whole number below, or the nearest one, halves upwards; a Fault if nothing is to be rounded."""
+    if chosen["rounded"] == "down":
+        return steps.numerator // steps.denominator
+    if chosen["rounded"] == "nearest":
+        return (2 * steps.numerator + steps.denominator) // (2 * steps.denominator)
+    raise Fault(f"{shown(cell)} has more than {counted(chosen['decimals'] or 0, 'decimal')}, and nothing is rounded")
+
+
+def texts_of(table, column, changes):
+    """The texts of a column in the rows that are kept."""
+    return [cells[column.place].strip() for number, cells in table.rows if number not in changes.dropped]
+
+
+def say_changes(choices, columns, table, changes):
+    """A line for each column, and for the rows that aren't in the table any more."""
+    for chosen in choices["columns"]:
+        print(f"{shown(chosen['from'])}: {column_words(chosen, columns, changes)}")
+    if choices["wave"] is not None:
+        print("wave: public number, 1 in every row, for rows that may be added later")
+    for group in choices["protect"] or []:
+        print(f"protected: the total of {group['column']} where {group['where']}")
+    if table.empty:
+        print(f"passed over: {counted(table.empty, 'line')} with nothing in it")
+    if changes.dropped:
+        lacks = collections.Counter(title for titles in changes.dropped.values() for title in titles)
+        first = ", ".join(f"{number:,}" for number in list(changes.dropped)[:20]) + (
+            ", .." if len(changes.dropped) > 20 else ""
+        )
+        print(
+            f"dropped {counted(len(changes.dropped), 'row')} of {len(table.rows):,}, for what they lack: "
+            + ", ".join(f"{shown(title)} {number:,}" for title, number in lacks.items())
+            + f". In the file, with the header as row 1: {first}"
+        )
+
+
+def column_words(chosen, columns, changes):
+    """What became of one column, in words."""
+    if chosen["is"] == "leave out":
+        return "left out"
+    words = [("secret " if chosen["is"] in SECRET else "public ") + chosen["is"]]
+    words += [f"named {chosen['name']}"] * (chosen["name"] != chosen["from"])
+    if chosen["is"] != "text":
+        words += form_words(chosen)
+    words += cell_words(chosen, changes)
+    gaps = changes.made[chosen["name"], Change.GAP_KEPT]
+    beside = next((column.name for column in columns if column.marks == chosen["name"]), None)
+    if beside:
+        words.append(f"{counted(gaps, 'gap')} kept as 0, with {beside} beside it: 1 if the value is known, else 0")
+    return ", ".join(words)
+
+
+def form_words(chosen):
+    """How the numbers of a column are kept."""
+    words = []
+    if FORMS[chosen["written as"]].kind == "date":
+        time = ", without the time of day" if "hh" in chosen["written as"] else ""
+        words.append(f"as a number, 20170131 for 31 January 2017{time}")
+    if chosen["decimals"]:
+        words.append(f"times {10 ** chosen['decimals']:,}, so in steps of {step(chosen['decimals'])}")
+    if chosen["unit"]:
+        words.append(f"without its unit {chosen['unit']}")
+    return words
+
+
+def cell_words(chosen, changes):
+    """How many cells of a column were changed."""
+    words = []
+    rounded_cells = changes.made[chosen["name"], Change.ROUNDED]
+    if rounded_cells:
+        how = "down" if chosen["rounded"] == "down" else "to the nearest"
+        words.append(f"{counted(rounded_cells, 'cell')} rounded {how}")
+    trimmed = changes.made[chosen["name"], Change.TRIMMED]
+    if trimmed:
+        words.append(f"{counted(trimmed, 'cell')} without the blanks around it")
+    return words

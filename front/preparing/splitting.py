@@ -1,0 +1,85 @@
+"""Tables of more than 1,024 rows, cut into parts by public columns.
+
+No question goes over two parts, so each is a table with a journal of its own.
+"""
+
+import collections
+import itertools
+
+from .faults import Fault, counted, listed, shown
+from .names import free, plain
+
+MOST_ROWS = 1024
+FEWEST_ROWS_A_PART = 20
+SMALL_PART = 3
+MOST_TRIED = 30
+
+
+def sizes_by(columns):
+    """How many rows each value, or each pair of values, has; None if that isn't parts worth having."""
+    sizes = collections.Counter(zip(*columns))
+    if max(sizes.values()) > MOST_ROWS or len(sizes) * FEWEST_ROWS_A_PART > sum(sizes.values()):
+        return None
+    return sizes
+
+
+def splits(names, columns):
+    """The columns, or if none will do the pairs of columns, by which every part has at most 1,024 rows."""
+    coarse = [place for place, cells in enumerate(columns) if len(set(cells)) * FEWEST_ROWS_A_PART <= len(cells)]
+    for together in (1, 2):
+        found = []
+        for places in itertools.combinations(coarse[:MOST_TRIED], together):
+            sizes = sizes_by([columns[place] for place in places])
+            if sizes:
+                found.append(([names[place] for place in places], sizes))
+        if found:
+            return found
+    return []
+
+
+def say_splits(names, columns):
+    """Prints by which columns a table that is too long can be cut."""
+    print(f'a table has at most {MOST_ROWS:,} rows: "split by" has to name a public column that cuts it. These would:')
+    found = splits(names, columns)
+    for together, sizes in found:
+        print(
+            f"  split by={','.join(together)}: {counted(len(sizes), 'part')} of {min(sizes.values()):,} to"
+            f" {max(sizes.values()):,} rows"
+        )
+    if not found:
+        print("  none, nor two together: leave out rows in the file itself")
+
+
+def parts(rows, by, public):
+    """Name of the folder, values in words, and rows of each part; one part without a name if `by` is empty."""
+    if not by:
+        if len(rows) > MOST_ROWS:
+            say_splits(public, [[row[name] for row in rows] for name in public])
+            raise Fault(f'{len(rows):,} rows are left, and a table has at most {MOST_ROWS:,}: choose "split by"')
+        return [("", "", rows)]
+    tables = collections.defaultdict(list)
+    for row in rows:
+        tables[tuple(row[name] for name in by)].append(row)
+    long = [
+        f"{values_words(by, values)}: {len(table):,} rows" for values, table in tables.items() if len(table) > MOST_ROWS
+    ]
+    if long:
+        raise Fault(f"parts that still have more than {MOST_ROWS:,} rows:\n{listed(long)}")
+    found, taken = [], {"public"}
+    for values, table in tables.items():
+        name = free(plain("_".join(map(str, values)), "part"), taken)
+        taken.add(name)
+        found.append((name, values_words(by, values), table))
+    return found
+
+
+def values_words(by, values):
+    return " and ".join(f"{name} {shown(value)}" for name, value in zip(by, values))
+
+
+def say_parts(found):
+    """A line for each part: its folder, its rows, and whether there are too few to be asked about."""
+    for name, values, table in found:
+        if name:
+            few = ": so few that hardly a question will be answered" if len(table) <= SMALL_PART else ""
+            print(f"{name}: the {counted(len(table), 'row')} with {values}, a table with a journal of its own{few}")

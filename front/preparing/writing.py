@@ -1,0 +1,116 @@
+"""Writes the folders of a table beside their place first and then under their name, so that none is there in half."""
+
+import csv
+import json
+import os
+import pathlib
+import shutil
+import subprocess
+import tempfile
+
+from .choices import PUBLIC
+from .faults import Fault, shown
+
+MOST_BYTES = 16_777_216
+
+
+def write_folders(folder, columns, protect, tables, program):
+    """Writes a folder, or one for each part in it, has the program read them, and puts them into place."""
+    folder = pathlib.Path(folder)
+    need_free(folder)
+    beside = pathlib.Path(tempfile.mkdtemp(prefix=f".{folder.name[:100]}-", dir=folder.parent))
+    try:
+        beside.chmod(0o777 & ~current_umask())
+        for name, _, rows in tables:
+            write_folder(beside / name, columns, protect, rows)
+            try_program(beside / name, program)
+        need_free(folder)
+        os.rename(beside, folder)
+    except BaseException:
+        shutil.rmtree(beside, ignore_errors=True)
+        raise
+    if program is None:
+        print("not tried with the program: there is no auditor in the path, nor does AUDITOR name one")
+
+
+def need_free(folder):
+    """A Fault if something is there already, or if there is nowhere to put it."""
+    if os.path.lexists(folder):
+        raise Fault(f"{folder} is already there, and nothing is overwritten")
+    if not folder.parent.is_dir():
+        raise Fault(f"there is no folder {folder.parent} to put {folder.name} into")
+
+
+def current_umask():
+    """The mask of modes, which can only be read by setting it."""
+    mask = os.umask(0o077)
+    os.umask(mask)
+    return mask
+
+
+def write_folder(folder, columns, protect, rows):
+    """schema.json, and table.csv for its owner alone; in public/ the schema, the public columns and notes."""
+    public = folder / "public"
+    public.mkdir(parents=True)
+    schema = {"columns": [{"name": column.name, "is": column.kind} for column in columns]}
+    if protect:
+        schema["protect"] = protect
+    for where in (folder, public):
+        (where / "schema.json").write_text(json.dumps(schema, indent=1, ensure_ascii=False) + "\n", encoding="utf-8")
+    write_table(folder / "table.csv", columns, rows, 0o600)
+    write_table(public / "table.csv", [column for column in columns if column.kind in PUBLIC], rows, 0o666)
+    (public / "notes.json").write_text(
+        json.dumps({"columns": notes(columns)}, indent=1, ensure_ascii=False) + "\n", encoding="utf-8"
+    )
+
+
+def write_table(path, columns, rows, mode):
+    """The table as CSV, with the line ends of its standard, so that a line end within a cell is quoted too."""
+    with open(os.open(path, os.O_WRONLY | os.O_CREAT | os.O_EXCL, mode), "w", encoding="utf-8", newline="") as file:
+        writer = csv.writer(file)
+        writer.writerow([column.name for column in columns])
+        writer.writerows([row[column.name] for column in columns] for row in rows)
+    if path.stat().st_size > MOST_BYTES:
+        raise Fault(f"the table has {path.stat().st_size:,} bytes, and at most {MOST_BYTES:,} are read")
+
+
+def notes(columns):
+    """For each column what people want to read beside its numbers. The program never reads it."""
+    found = {}
+    for column in columns:
+        chosen = column.chosen or {"from": "wave"}
+        title = f"{chosen['from']}: known" if column.marks else chosen["from"]
+        numbers = (
+            {key: chosen.get(key) for key in ("decimals", "unit")} if column.kind != "text" and not column.marks else {}
+        )
+        found[column.name] = {key: value for key, value in {"title": title, **numbers}.items() if value}
+    return found
+
+
+def try_program(folder, program):
+    """Has the program itself read both folders, on copies: a Fault with its words if it doesn't take one."""
+    if program is None:
+        return
+    for where, command in ((folder, "init"), (folder / "public", "simulate")):
+        with tempfile.TemporaryDirectory() as copy:
+            for name in ("schema.json", "table.csv"):
+                shutil.copy(where / name, copy)
+            run = subprocess.run(
+                [program, command], cwd=copy, stdin=subprocess.DEVNULL, capture_output=True, text=True, errors="replace"
+            )
+        if run.returncode:
+            raise Fault(
+                f"auditor {command} doesn't take the files, so nothing is written:"
+                f" {run.stderr.strip() or f'status {run.returncode}'}"
+                + protect_words(folder, run.returncode)
+            )
+
+
+def protect_words(folder, status):
+    """What the program's complaint may mean if totals are to be protected."""
+    groups = json.loads((folder / "schema.json").read_text(encoding="utf-8")).get("protect")
+    if groups and status == 3:
+        return ". This auditor may be older than protected totals: choose protect=none, or take a newer one"
+    if groups and status == 16:
+        return ". The condition of that total isn't understood: " + "; ".join(shown(group["where"]) for group in groups)
+    return ""
