@@ -61,6 +61,14 @@ impl NewRow {
     pub fn value(&self, place: u16) -> i64 {
         self.values[at(place)]
     }
+
+    pub fn same(&self, other: &NewRow) -> bool {
+        self.places == other.places
+            && self
+                .places
+                .iter()
+                .all(|place| self.value(*place) == other.value(*place))
+    }
 }
 
 /// What clearing a row needs besides.
