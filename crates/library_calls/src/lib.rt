@@ -19,6 +19,10 @@ mod devices;
 #[cfg(test)]
 mod equality;
 #[cfg(test)]
+mod journal_calls;
+#[cfg(test)]
+mod journal_names;
+#[cfg(test)]
 mod journals;
 #[cfg(test)]
 mod sets;
