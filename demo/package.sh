@@ -32,7 +32,7 @@ mkdir -p "$name/bin" "$name/share/man/man1" "$name/share/doc/auditor/demo" || ex
 cp "$program" "$name/bin/auditor" || exit 1
 cp "$top/docs/auditor.1" "$name/share/man/man1/" || exit 1
 cp "$top/docs/FORMATS.md" "$top/docs/OPERATIONS.md" "$name/share/doc/auditor/" || exit 1
-for file in run.sh edges.sh check_report.py drill.py schema.json table.csv public.csv questions.jsonl replies.jsonl; do
+for file in run.sh ends.sh edges.sh attacks.sh statuses.sh check_report.py drill.py schema.json table.csv public.csv questions.jsonl replies.jsonl; do
     cp "$demo/$file" "$name/share/doc/auditor/demo/" || exit 1
 done
 # The modes are those that an install needs, whatever the umask is, here and where the source was fetched.

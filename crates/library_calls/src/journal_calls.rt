@@ -109,16 +109,20 @@ fn fail(rt: &HostRuntime, is_there: bool, refused: usize, first: usize, last: us
     answers(rt, &calls, is_there) == wanted
 }
 
-fn each_fails(rt: &HostRuntime, is_there: bool, steps: &[Step]) {
+// The first step that doesn't fail as it says, if any.
+fn other_step(rt: &HostRuntime, is_there: bool, steps: &[Step]) -> Option<usize> {
     for (refused, (_, first, last)) in steps.iter().enumerate() {
-        assert!(rt; fail(rt, is_there, refused, *first, *last), "{refused} refused");
+        if !fail(rt, is_there, refused, *first, *last) {
+            return Some(refused);
+        }
     }
+    None
 }
 
 #[test]
 fn a_refused_call_fails_at_once(rt: HostRuntime) {
-    each_fails(&rt, false, &MAKING);
-    each_fails(&rt, true, &FINDING);
+    assert_eq!(rt; other_step(&rt, false, &MAKING), None);
+    assert_eq!(rt; other_step(&rt, true, &FINDING), None);
 }
 
 // Whether these are the calls, in order, and all of the piece is sent.
