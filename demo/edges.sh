@@ -10,7 +10,7 @@
 set -u
 . "$(dirname "$0")/ends.sh"
 
-echo "  end                                                  status  text"
+echo "  end                                                          status  text"
 
 fresh
 "$program" serve <questions.jsonl >&- 2>said
@@ -95,20 +95,25 @@ tell 'no file may grow (SIGXFSZ)' 153 $?
 "$program" serve <questions.jsonl >replies 2>said
 tell 'a run after that' 0 $?
 
-# What is read and written doesn't wait where whoever made the pipe has said so.
-fresh
-sleep 60 | (python3 -c 'import os; os.set_blocking(0, False)' && "$program" serve >replies 2>said; echo $? >status) &
-await_lines 1 status
-kill $! 2>/dev/null
-tell_unwritten 'standard input is an empty pipe that waits for nothing' 5 "$(cat status)"
+# A pipe whose reading or writing end waits for nothing, as many programs leave those of their children.
+if command -v python3 >/dev/null; then
+    fresh
+    sleep 1 | {
+        python3 -c 'import os; os.set_blocking(0, False)'
+        "$program" serve >replies 2>said
+        echo $? >status
+    }
+    tell_unwritten 'standard input is an empty pipe that waits for nothing' 5 "$(cat status)"
 
-fresh
-yes '{"ask":"count","where":"all"}' | head -n 20000 >many.jsonl
-(
-    python3 -c 'import os; os.set_blocking(1, False)' && "$program" serve <many.jsonl 2>said
-    echo $? >status
-) | sleep 1
-tell 'standard output is a full pipe that waits for nothing' 6 "$(cat status)"
+    fresh
+    yes '{"ask":"count","where":"all"}' | head -n 20000 >many.jsonl
+    {
+        python3 -c 'import os; os.set_blocking(1, False)'
+        "$program" serve <many.jsonl 2>said
+        echo $? >status
+    } | sleep 1
+    tell_unwritten 'standard output is a full pipe that waits for nothing' 6 "$(cat status)"
+fi
 
 if can_be_nobody; then
     fresh

@@ -30,3 +30,5 @@ mod journals;
 mod maxima;
 #[cfg(test)]
 mod sets;
+#[cfg(test)]
+mod sums;
