@@ -57,7 +57,8 @@ fn foresees_three_sets(basis: &mut Basis) -> Result<bool, NoMemory>
     let second = basis.prospect(&ends())?;
     let is_open = |prospect: Prospect| matches!(prospect, Prospect::Open);
     let is_fixed = matches!(second, Prospect::Fixing) && basis.unit_row().is_none();
-    Ok(first.map(is_open) == [true; 3] && is_fixed && basis.rank() == 2)
+    let is_same = basis.form().rank() == 2 && basis.form().columns() == 3;
+    Ok(first.map(is_open) == [true; 3] && is_fixed && is_same)
 }
 
 // The rows k, k + 1 and k + 3 of 1,024.

@@ -1,4 +1,6 @@
 //! The system's files, over which each call is told, and one is refused.
+ghost use Rattle.std.specs.Prelude.{◌≤◌, length, IfOk};
+
 use file_adapters::TryLock;
 use std::alloc::{Allocator, Global};
 use std::cell::RefCell;
@@ -56,7 +58,9 @@ impl Calls {
     }
 
     // Takes a front of a piece, of at most two bytes.
-    fn send_some(&self, piece: &[u8]) -> io::Result<usize> {
+    fn send_some(&self, piece: &[u8]) -> io::Result<usize>
+        ensures { IfOk result (λ count. count ≤ length piece.now) }
+    {
         self.make(Call::Send)?;
         let front = &piece[..piece.len().min(2)];
         match self.sent.try_borrow_mut() {
