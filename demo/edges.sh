@@ -5,44 +5,12 @@
 #
 #   demo/edges.sh [PROGRAM]
 #
-# As root it also tries a full disk, by a small file system in memory, and folders that the program may not write.
+# As root it also tries a full disk and one that may only be read, by small file systems in memory, and folders that the program may
+# not write.
 set -u
-demo=$(cd "$(dirname "$0")" && pwd)
-built=${1:-$demo/../crates/auditor/out/auditor}
-if [ ! -f "$built" ] || [ ! -x "$built" ]; then
-    echo "edges: ${1:+there is no program $1; }give the program: edges.sh PROGRAM; in a package it is bin/auditor, in the source run.sh builds it" >&2
-    exit 1
-fi
+. "$(dirname "$0")/ends.sh"
 
-top=$(mktemp -d) || exit 1
-trap 'umount "$top/disk" 2>/dev/null; rm -rf "$top"' EXIT
-chmod 755 "$top"
-cp "$built" "$top/auditor" || exit 1
-program=$top/auditor
-wrong=0
-
-# Goes to a fresh folder with the demo's files, and makes its journal.
-fresh() {
-    cd "$top" && rm -rf run && mkdir run && cd run || exit 1
-    cp "$demo/schema.json" "$demo/table.csv" "$demo/questions.jsonl" . || exit 1
-    "$program" init || exit 1
-    cp answers.journal made.journal
-}
-
-# Prints a line for an end, with the status that is due, and the one that was seen with what was said.
-tell() {
-    mark=' '
-    [ "$2" = "$3" ] || { mark='!'; wrong=$((wrong + 1)); }
-    printf '%s %-52s %3s  %s\n' "$mark" "$1" "$3" "$(cat said 2>/dev/null)"
-}
-
-# Tells of an end, and that what the journal holds is as it was made.
-tell_unwritten() {
-    cmp -s answers.journal made.journal || { echo "! the journal was written: $1"; wrong=$((wrong + 1)); }
-    tell "$@"
-}
-
-echo "  end                                                  status  text"
+echo "  end                                                          status  text"
 
 fresh
 "$program" serve <questions.jsonl >&- 2>said
@@ -88,6 +56,9 @@ fresh
 rm answers.journal
 "$program" serve <questions.jsonl >replies 2>said
 tell 'there is no journal' 7 $?
+"$program" audit >report 2>said
+tell 'there is no journal, at audit' 7 $?
+[ ! -e answers.journal ] || complain 'a run that makes no journal made a file'
 
 fresh
 rm answers.journal && mkdir answers.journal
@@ -100,27 +71,51 @@ fresh
 rm answers.journal && mkfifo answers.journal
 "$program" serve <questions.jsonl >replies 2>said
 tell 'the journal is a named pipe' 6 $?
+"$program" audit >report 2>said
+tell 'the journal is a named pipe, at audit' 6 $?
 
 fresh
-mkfifo lines
-"$program" serve <lines >first 2>said &
-exec 4>lines
-head -n 3 questions.jsonl >&4
-while [ "$(wc -l <first)" -lt 3 ]; do sleep 0.1; done
+open_run
 cp answers.journal held.journal
-"$program" serve <questions.jsonl >second 2>said
-tell 'a second run, while the first is open' 6 $?
-cmp -s answers.journal held.journal && [ ! -s second ] || { echo '! the second run wrote or sent'; wrong=$((wrong + 1)); }
-"$program" init 2>said
-tell 'init, while a run is open' 6 $?
-kill -9 $!
-wait $! 2>/dev/null
+for command in serve init audit; do
+    "$program" "$command" <questions.jsonl >second 2>said
+    tell "$command, while another run is open" 6 $?
+    [ ! -s second ] || complain "$command sent something while another run was open"
+done
+cmp -s answers.journal held.journal || complain 'the second run wrote'
+kill -9 "$run"
+wait "$run" 2>/dev/null
 exec 4>&-
 "$program" serve <questions.jsonl >second 2>said
 tell 'a run after one that was killed' 0 $?
 
-if [ "$(id -u)" = 0 ] && setpriv --reuid=65534 --regid=65534 --clear-groups true 2>/dev/null; then
-    as_nobody() { setpriv --reuid=65534 --regid=65534 --clear-groups "$program" "$@"; }
+fresh
+(ulimit -f 0; exec "$program" serve <questions.jsonl >/dev/null 2>&1)
+tell 'no file may grow (SIGXFSZ)' 153 $?
+"$program" serve <questions.jsonl >replies 2>said
+tell 'a run after that' 0 $?
+
+# A pipe whose reading or writing end waits for nothing, as many programs leave those of their children.
+if command -v python3 >/dev/null; then
+    fresh
+    sleep 1 | {
+        python3 -c 'import os; os.set_blocking(0, False)'
+        "$program" serve >replies 2>said
+        echo $? >status
+    }
+    tell_unwritten 'standard input is an empty pipe that waits for nothing' 5 "$(cat status)"
+
+    fresh
+    yes '{"ask":"count","where":"all"}' | head -n 20000 >many.jsonl
+    {
+        python3 -c 'import os; os.set_blocking(1, False)'
+        "$program" serve <many.jsonl 2>said
+        echo $? >status
+    } | sleep 1
+    tell_unwritten 'standard output is a full pipe that waits for nothing' 6 "$(cat status)"
+fi
+
+if can_be_nobody; then
     fresh
     as_nobody serve <questions.jsonl >replies 2>said
     tell_unwritten "the journal is another user's" 6 $?
@@ -131,6 +126,16 @@ if [ "$(id -u)" = 0 ] && setpriv --reuid=65534 --regid=65534 --clear-groups true
     chmod 600 table.csv
     as_nobody serve <questions.jsonl >replies 2>said
     tell_unwritten 'the table may not be read' 5 $?
+
+    # The first question is a count, which needs no journal.
+    fresh
+    chmod 444 answers.journal
+    as_nobody serve <questions.jsonl >replies 2>said
+    tell_unwritten 'the journal may only be read, at serve' 6 $?
+    [ ! -s replies ] || complain 'serve sent a reply over a journal that may only be read'
+    as_nobody audit >report 2>said
+    tell_unwritten 'the journal may only be read, at audit' 0 $?
+    "$program" audit | cmp -s - report || complain 'that report is another one'
 
     # Two pages are left for the journal; the replies go elsewhere.
     fresh
@@ -145,8 +150,18 @@ if [ "$(id -u)" = 0 ] && setpriv --reuid=65534 --regid=65534 --clear-groups true
         rm "$top/disk/filler" && cd "$top/disk" && "$program" serve <"$top/run/questions.jsonl" >"$top/run/replies" 2>"$top/run/said"
         status=$?
         cd "$top/run" && tell 'the same, once it has room again' 0 $status
+        mount -o remount,ro "$top/disk" 2>/dev/null && cd "$top/disk" || exit 1
+        for command in serve init; do
+            "$program" "$command" <"$top/run/questions.jsonl" >"$top/run/replies" 2>"$top/run/said"
+            status=$?
+            (cd "$top/run" && tell "the journal's disk may only be read, at $command" 6 $status)
+            [ ! -s "$top/run/replies" ] || complain "$command sent a reply over a disk that may only be read"
+        done
+        "$program" audit >"$top/run/report" 2>"$top/run/said"
+        status=$?
+        cd "$top/run" && tell 'the same, at audit' 0 $status
+        umount "$top/disk"
     }
 fi
 
-[ "$wrong" = 0 ] || echo "$wrong of these are not what was due"
-[ "$wrong" = 0 ]
+conclude

@@ -40,7 +40,7 @@ for page in PROMISES THREATS FORMATS OPERATIONS; do
     cp "$top/docs/$page.md" "$name/share/doc/auditor/" || exit 1
 done
 cp "$top/CHANGELOG.md" "$name/share/doc/auditor/" || exit 1
-for file in run.sh edges.sh check_report.py drill.py schema.json table.csv public.csv questions.jsonl replies.jsonl; do
+for file in run.sh ends.sh edges.sh attacks.sh statuses.sh check_report.py drill.py schema.json table.csv public.csv questions.jsonl replies.jsonl; do
     cp "$demo/$file" "$name/share/doc/auditor/demo/" || exit 1
 done
 # The modes are those that an install needs, whatever the umask is, here and where the source was fetched.

@@ -2,11 +2,14 @@
 #![tactic(auto)]
 
 use auditor_top::{Status, run, status_code, status_text};
-use file_adapters::{FileBench, FileSource, InputSource};
+use file_adapters::{FileBench, FileSource, InputSource, hold_streams};
 use std::io;
 use std::process::ExitCode;
 
+const JOURNAL: &str = "answers.journal";
+
 fn main(rt: HostRuntime) -> ExitCode {
+    hold_streams(&rt);
     let status = match words_of(&rt) {
         Ok(words) => run_on_files(&rt, &words),
         Err(error) if error.kind() == io::ErrorKind::OutOfMemory => Status::NoMemory,
@@ -28,12 +31,21 @@ fn words_of(rt: &HostRuntime) -> io::Result<Vec<String>> {
     Ok(words)
 }
 
+// The journal. `audit` only reads it, so a copy will do that may only be read: no other command has this word.
+fn journal<'a>(rt: &'a HostRuntime, words: &Vec<String>) -> FileBench<'a, HostRuntime> {
+    if words.iter().any(|word| word.as_str() == "audit") {
+        FileBench::to_read(rt, JOURNAL)
+    } else {
+        FileBench::new(rt, JOURNAL)
+    }
+}
+
 // Runs over the files of the program's folder.
 fn run_on_files(rt: &HostRuntime, words: &Vec<String>) -> Status {
     let mut schema = FileSource::new(rt, "schema.json");
     let mut table = FileSource::new(rt, "table.csv");
     let mut input = InputSource::new(rt.stdin());
-    let mut bench = FileBench::new(rt, "answers.journal");
+    let mut bench = journal(rt, words);
     // No call of it is made, so there is no such file.
     let mut spare = FileBench::new(rt, "answers.spare");
     run(

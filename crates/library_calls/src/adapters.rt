@@ -1,73 +1,9 @@
-//! The adapters over real files, and over files that count their calls and refuse one of them.
-use crate::counted_files::{Call, Calls, CountedFiles};
+//! The adapters over real files.
 use bench_core::{Bench, Failed, Source};
 use file_adapters::{FileBench, FileSource, InputSource};
 use std::io::{ErrorKind, Read};
 use std::os::unix::fs::MetadataExt;
 use std::{fs, io};
-
-// The calls of the system that a bench makes in the five calls below, each with the number of that call. With the first it
-// opens, locks and syncs the file, and syncs its folder.
-const CALLS: [(Call, usize); 14] = [
-    (Call::Open, 0),
-    (Call::Lock, 0),
-    (Call::Sync, 0),
-    (Call::OpenFolder, 0),
-    (Call::Sync, 0),
-    (Call::Length, 0),
-    (Call::Write, 1),
-    (Call::Write, 1),
-    (Call::Sync, 2),
-    (Call::Seek, 3),
-    (Call::Read, 3),
-    (Call::Read, 3),
-    (Call::Read, 3),
-    (Call::Send, 4),
-];
-
-// Whether a call was done, and whether the refused one of the system's was the last by then.
-fn answer(calls: &Calls, is_done: bool) -> (bool, bool) {
-    (is_done, calls.ends_refused())
-}
-
-// The answers of five calls on a bench over an empty file.
-fn five_calls<B: Bench>(bench: &mut B, calls: &Calls) -> [(bool, bool); 5] {
-    [
-        answer(calls, bench.length().is_ok()),
-        answer(calls, bench.write_at(0, b"abc").is_ok()),
-        answer(calls, bench.sync().is_ok()),
-        answer(calls, bench.read_at(0, &mut [0; 8]).is_ok()),
-        answer(calls, bench.send(b"{}").is_ok()),
-    ]
-}
-
-// The same of a file at this path, which is made anew.
-fn answers(rt: &HostRuntime, calls: &Calls, path: &'static str) -> [(bool, bool); 5] {
-    let _ = fs::remove_file(rt, path);
-    let files = CountedFiles { rt, calls };
-    five_calls(&mut FileBench::new(&files, path), calls)
-}
-
-// Whether the one call fails, and at once, where this call of the system is refused.
-fn fails_alone(rt: &HostRuntime, refused: usize, fails: usize) -> bool {
-    let calls = Calls::new(rt.alloc(), refused);
-    let wanted = [0, 1, 2, 3, 4].map(|number| (number != fails, number == fails));
-    answers(rt, &calls, "refused.journal") == wanted
-}
-
-#[test]
-fn a_refused_call_fails_at_once_and_no_other_does(rt: HostRuntime) {
-    for (refused, (_, fails)) in CALLS.iter().enumerate() {
-        assert!(rt; fails_alone(&rt, refused, *fails), "{refused} refused");
-    }
-}
-
-#[test]
-fn each_call_of_the_system_is_made_in_order(rt: HostRuntime) {
-    let calls = Calls::new(rt.alloc(), CALLS.len());
-    assert!(rt; answers(&rt, &calls, "counted.journal") == [(true, false); 5]);
-    assert!(rt; calls.are(&CALLS.map(|(call, _)| call)));
-}
 
 // Writes over a part of what was written, and syncs: whether each call was done.
 fn writes(bench: &mut FileBench<'_, HostRuntime>) -> [bool; 3] {

@@ -1,31 +1,38 @@
 //! The system's files, over which each call is told, and one is refused.
+ghost use Rattle.std.specs.Prelude.{◌≤◌, length, IfOk};
+
 use file_adapters::TryLock;
 use std::alloc::{Allocator, Global};
 use std::cell::RefCell;
 use std::fmt::Display;
-use std::fs::{File, Files, Metadata, OpenFile, OpenOptions};
+use std::fs::{File, Files, Metadata, OpenFile, OpenOptions, Permissions};
 use std::io;
 use std::io::{ErrorKind, Read, Seek, SeekFrom, Write};
 use std::os::unix::fs::FileExt;
 
-/// A call of the system.
+/// A call of the system. `Name` asks what a path names, and `Look` what is known of an open file.
 #[derive(Clone, Copy, PartialEq, Eq)]
 pub(crate) enum Call {
+    Name,
     Open,
     OpenFolder,
     Lock,
-    Length,
+    LockShared,
+    Look,
     Seek,
     Read,
     Write,
     Sync,
+    SyncFolder,
+    Shut,
     Send,
 }
 
-/// The calls that were made, of which the one with this number is refused.
+/// The calls that were made, of which the one with this number is refused, and what was sent.
 #[derive(Drop)]
 pub(crate) struct Calls {
     made: RefCell<Vec<Call>>,
+    sent: RefCell<Vec<u8>>,
     refused: usize,
 }
 
@@ -33,6 +40,7 @@ impl Calls {
     pub(crate) fn new(alloc: Global, refused: usize) -> Calls {
         Calls {
             made: RefCell::new(Vec::new(alloc)),
+            sent: RefCell::new(Vec::new(alloc)),
             refused,
         }
     }
@@ -49,10 +57,35 @@ impl Calls {
         Ok(())
     }
 
-    /// Whether the refused call was the last one.
+    // Takes a front of a piece, of at most two bytes.
+    fn send_some(&self, piece: &[u8]) -> io::Result<usize>
+        ensures { IfOk result (λ count. count ≤ length piece.now) }
+    {
+        self.make(Call::Send)?;
+        let front = &piece[..piece.len().min(2)];
+        match self.sent.try_borrow_mut() {
+            Ok(mut sent) => sent.extend_from_slice(front)?,
+            Err(_) => return Err(io::Error::from(ErrorKind::ResourceBusy)),
+        }
+        Ok(front.len())
+    }
+
+    /// Whether the refused call was the last one, but for the shutting of a file after a refused sync.
     pub(crate) fn ends_refused(&self) -> bool {
-        let count = self.made.try_borrow().map_or(0, |made| made.len());
-        self.refused.checked_add(1) == Some(count)
+        self.made.try_borrow().map_or(false, |made| {
+            match made.as_slice().get(self.refused..) {
+                Some([Call::Sync, Call::Shut]) => true,
+                Some([call]) => *call != Call::Sync,
+                _ => false,
+            }
+        })
+    }
+
+    /// Whether this was sent.
+    pub(crate) fn have_sent(&self, bytes: &[u8]) -> bool {
+        self.sent
+            .try_borrow()
+            .map_or(false, |sent| sent.as_slice() == bytes)
     }
 
     /// Whether these calls were made, in this order.
@@ -63,17 +96,18 @@ impl Calls {
     }
 }
 
-/// The system's files. Each call of them is told to `calls`, and a read or write moves at most two bytes. Nothing is sent.
+/// The system's files. Each call of them is told to `calls`, and a read, a write or a send moves at most two bytes.
 #[derive(Drop)]
 pub(crate) struct CountedFiles<'a> {
     pub(crate) rt: &'a HostRuntime,
     pub(crate) calls: &'a Calls,
 }
 
-/// One of these files, open.
+/// One of these files, or the folder, open.
 #[derive(Drop)]
 pub(crate) struct CountedFile<'a> {
     file: File,
+    sync: Call,
     calls: &'a Calls,
 }
 
@@ -87,14 +121,15 @@ impl<'a> Files for CountedFiles<'a> {
     type Dir = File;
 
     fn open_file(&self, how: &OpenOptions, path: &str) -> io::Result<CountedFile<'a>> {
-        let call = if path == "." {
-            Call::OpenFolder
+        let (open, sync) = if path == "." {
+            (Call::OpenFolder, Call::SyncFolder)
         } else {
-            Call::Open
+            (Call::Open, Call::Sync)
         };
-        self.calls.make(call)?;
+        self.calls.make(open)?;
         Ok(CountedFile {
             file: self.rt.open_file(how, path)?,
+            sync,
             calls: self.calls,
         })
     }
@@ -107,8 +142,9 @@ impl<'a> Files for CountedFiles<'a> {
         unsupported()
     }
 
-    fn symlink_metadata(&self, _path: &str) -> io::Result<Metadata> {
-        unsupported()
+    fn symlink_metadata(&self, path: &str) -> io::Result<Metadata> {
+        self.calls.make(Call::Name)?;
+        self.rt.symlink_metadata(path)
     }
 
     fn copy(&self, _from: &str, _to: &str) -> io::Result<u64> {
@@ -145,8 +181,19 @@ impl Print for CountedFiles<'_> {
         unsupported()
     }
 
-    fn write_all(&self, _bytes: &[u8]) -> io::Result<()> {
-        self.calls.make(Call::Send)
+    fn write_all(&self, bytes: &[u8]) -> io::Result<()> {
+        let mut count = 0;
+        while count < bytes.len() {
+            match self.write_some(&bytes[count..])? {
+                0 => return Err(io::Error::from(ErrorKind::WriteZero)),
+                more => count += more,
+            }
+        }
+        Ok(())
+    }
+
+    fn write_some(&self, bytes: &[u8]) -> io::Result<usize> {
+        self.calls.send_some(bytes)
     }
 }
 
@@ -155,11 +202,16 @@ impl TryLock for CountedFile<'_> {
         self.calls.make(Call::Lock)?;
         TryLock::try_lock(&self.file)
     }
+
+    fn try_lock_shared(&self) -> io::Result<()> {
+        self.calls.make(Call::LockShared)?;
+        TryLock::try_lock_shared(&self.file)
+    }
 }
 
 impl OpenFile for CountedFile<'_> {
     fn metadata(&self) -> io::Result<Metadata> {
-        self.calls.make(Call::Length)?;
+        self.calls.make(Call::Look)?;
         self.file.metadata()
     }
 
@@ -168,12 +220,17 @@ impl OpenFile for CountedFile<'_> {
     }
 
     fn sync_all(&self) -> io::Result<()> {
-        self.calls.make(Call::Sync)?;
+        self.calls.make(self.sync)?;
         self.file.sync_all()
     }
 
     fn sync_data(&self) -> io::Result<()> {
         unsupported()
+    }
+
+    fn set_permissions(&self, permissions: Permissions) -> io::Result<()> {
+        self.calls.make(Call::Shut)?;
+        self.file.set_permissions(permissions)
     }
 }
 

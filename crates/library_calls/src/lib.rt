@@ -19,6 +19,16 @@ mod devices;
 #[cfg(test)]
 mod equality;
 #[cfg(test)]
+mod forms;
+#[cfg(test)]
+mod journal_calls;
+#[cfg(test)]
+mod journal_names;
+#[cfg(test)]
 mod journals;
 #[cfg(test)]
+mod maxima;
+#[cfg(test)]
 mod sets;
+#[cfg(test)]
+mod sums;

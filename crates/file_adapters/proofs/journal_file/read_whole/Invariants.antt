@@ -1,6 +1,6 @@
 -- So many bytes of the buffer are read, and those that are left go down.
 use Rattle.std.proofs.Common.{◌≤◌, ◌-◌, length}
-use Rattle.file_adapters.proofs.bench.read_whole.Given as goal
+use Rattle.file_adapters.proofs.journal_file.read_whole.Given as goal
 
 abbrev pub invariant-loop-count : goal.invariant-loop-count
 invariant-loop-count g l = l.count ≤ length l.buf

@@ -1,0 +1,130 @@
+//! How the journal is opened: alone, by its own name, and with all of it on the disk.
+use std::fs::{File, Files, Metadata, OpenFile, OpenOptions, Permissions};
+use std::io::ErrorKind;
+use std::os::unix::fs::{MetadataExt, OpenOptionsExt, PermissionsExt};
+use std::{fs, io};
+
+/// A file that one program at a time can have for itself, or several that only read it.
+pub trait TryLock {
+    /// Takes the lock, which ends with the program, or fails where another open of the file has it. It waits for nothing.
+    fn try_lock(&self) -> io::Result<()>;
+
+    /// The same beside others that only read.
+    fn try_lock_shared(&self) -> io::Result<()>;
+}
+
+impl TryLock for File {
+    fn try_lock(&self) -> io::Result<()> {
+        Ok(File::try_lock(self)?)
+    }
+
+    fn try_lock_shared(&self) -> io::Result<()> {
+        Ok(File::try_lock_shared(self)?)
+    }
+}
+
+// Where the journal stands.
+const FOLDER: &str = ".";
+
+// The owner alone may read a journal that is made, and write it.
+const OWN: u32 = 0o600;
+
+// The owner may read it, and nobody may write it.
+const SHUT: u32 = 0o400;
+
+// The owner's leave to write.
+const WRITABLE: u32 = 0o200;
+
+// What a path names, if anything. A link, a folder or a pipe is no journal.
+fn named<R: Files>(rt: &R, path: &str) -> io::Result<Option<Metadata>> {
+    match fs::symlink_metadata(rt, path) {
+        Ok(named) if named.is_file() => Ok(Some(named)),
+        Ok(_) => Err(io::Error::from(ErrorKind::InvalidInput)),
+        Err(error) if error.kind() == ErrorKind::NotFound => Ok(None),
+        Err(error) => Err(error),
+    }
+}
+
+/// What is known of an open file, if the path still names it. What is written to a file without a name is kept by nobody.
+pub(crate) fn still_named<R: Files>(rt: &R, path: &str, file: &R::File) -> io::Result<Metadata> {
+    let open = file.metadata()?;
+    match named(rt, path)? {
+        Some(named) if named.dev() == open.dev() && named.ino() == open.ino() => Ok(open),
+        _ => Err(io::Error::from(ErrorKind::NotFound)),
+    }
+}
+
+/// Leaves nothing of a file to a power cut. Some systems drop what they couldn't write, and say of the next sync that it
+/// succeeded: so after one that failed no run may write the file, until somebody gives leave again.
+pub(crate) fn sync_or_shut<F: OpenFile>(file: &F) -> io::Result<()> {
+    let done = file.sync_all();
+    if done.is_err() {
+        let _ = file.set_permissions(Permissions::from_mode(SHUT));
+    }
+    done
+}
+
+// Takes an open file for this run alone, as it stands on the disk, and answers its length.
+fn take<R: Files>(rt: &R, path: &str, file: &R::File) -> io::Result<u64>
+where
+    R::File: TryLock,
+{
+    // Before anything is read: who holds the lock may be writing.
+    file.try_lock()?;
+    let found = still_named(rt, path, file)?;
+    if found.mode() & WRITABLE == 0 {
+        return Err(io::Error::from(ErrorKind::PermissionDenied));
+    }
+    // A run that was killed may have left what it wrote without a sync.
+    sync_or_shut(file)?;
+    // That the journal is there at all is written in its folder, which has a sync of its own.
+    fs::open(rt, FOLDER)?.sync_all()?;
+    Ok(found.len())
+}
+
+/// Opens the journal to write it, if there is one, and answers its length too.
+pub(crate) fn open_to_write<R: Files>(rt: &R, path: &str) -> io::Result<Option<(R::File, u64)>>
+where
+    R::File: TryLock,
+{
+    if named(rt, path)?.is_none() {
+        return Ok(None);
+    }
+    let file = OpenOptions::new().read(true).write(true).open(rt, path)?;
+    let length = take(rt, path, &file)?;
+    Ok(Some((file, length)))
+}
+
+/// The same to read it alone, for which a copy will do that nobody may write.
+pub(crate) fn open_to_read<R: Files>(rt: &R, path: &str) -> io::Result<Option<(R::File, u64)>>
+where
+    R::File: TryLock,
+{
+    if named(rt, path)?.is_none() {
+        return Ok(None);
+    }
+    let file = fs::open(rt, path)?;
+    match file.try_lock_shared() {
+        // Somebody may be writing it.
+        Err(error) if error.kind() == ErrorKind::WouldBlock => return Err(error),
+        // A file system that is only read may have no locks.
+        _ => {}
+    }
+    let length = still_named(rt, path, &file)?.len();
+    Ok(Some((file, length)))
+}
+
+/// Makes the journal, if nothing has its name: a link that leads nowhere isn't followed.
+pub(crate) fn make<R: Files>(rt: &R, path: &str) -> io::Result<(R::File, u64)>
+where
+    R::File: TryLock,
+{
+    let file = OpenOptions::new()
+        .read(true)
+        .write(true)
+        .create_new(true)
+        .mode(OWN)
+        .open(rt, path)?;
+    let length = take(rt, path, &file)?;
+    Ok((file, length))
+}

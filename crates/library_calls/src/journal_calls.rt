@@ -1,0 +1,159 @@
+//! The calls of the system that a bench over a journal's file makes, in order, and with one of them refused.
+use crate::counted_files::{Call, Calls, CountedFiles};
+use bench_core::Bench;
+use file_adapters::FileBench;
+use std::fs;
+
+// A call of the system, the first of the five calls of the bench that fails where it is refused, and the last one.
+type Step = (Call, usize, usize);
+
+// Over a path that names nothing. The write makes the file, locks and syncs it, and syncs its folder. After a refused sync
+// nobody may write the file. After a write that was cut off its length isn't known.
+const MAKING: [Step; 22] = [
+    (Call::Name, 0, 0),
+    (Call::Name, 1, 1),
+    (Call::Open, 1, 1),
+    (Call::Lock, 1, 1),
+    (Call::Look, 1, 1),
+    (Call::Name, 1, 1),
+    (Call::Sync, 1, 3),
+    (Call::OpenFolder, 1, 1),
+    (Call::SyncFolder, 1, 1),
+    (Call::Look, 1, 1),
+    (Call::Write, 1, 1),
+    (Call::Write, 1, 2),
+    (Call::Sync, 2, 2),
+    (Call::Look, 2, 2),
+    (Call::Name, 2, 2),
+    (Call::Seek, 3, 3),
+    (Call::Read, 3, 3),
+    (Call::Read, 3, 3),
+    (Call::Read, 3, 3),
+    (Call::Send, 4, 4),
+    (Call::Send, 4, 4),
+    (Call::Send, 4, 4),
+];
+
+// Over a file of three bytes.
+const FINDING: [Step; 21] = [
+    (Call::Name, 0, 0),
+    (Call::Open, 0, 0),
+    (Call::Lock, 0, 0),
+    (Call::Look, 0, 0),
+    (Call::Name, 0, 0),
+    (Call::Sync, 0, 3),
+    (Call::OpenFolder, 0, 0),
+    (Call::SyncFolder, 0, 0),
+    (Call::Look, 1, 1),
+    (Call::Write, 1, 1),
+    (Call::Write, 1, 1),
+    (Call::Sync, 2, 2),
+    (Call::Look, 2, 2),
+    (Call::Name, 2, 2),
+    (Call::Seek, 3, 3),
+    (Call::Read, 3, 3),
+    (Call::Read, 3, 3),
+    (Call::Read, 3, 3),
+    (Call::Send, 4, 4),
+    (Call::Send, 4, 4),
+    (Call::Send, 4, 4),
+];
+
+// The calls of a bench that only reads, over the same file: its length, and its bytes. They are done also where the lock is
+// refused, as on a file system that has none.
+const READING: [Call; 9] = [
+    Call::Name,
+    Call::Open,
+    Call::LockShared,
+    Call::Look,
+    Call::Name,
+    Call::Seek,
+    Call::Read,
+    Call::Read,
+    Call::Read,
+];
+
+// Whether a call was done, and whether the refused one of the system's was the last by then.
+fn answer(calls: &Calls, is_done: bool) -> (bool, bool) {
+    (is_done, calls.ends_refused())
+}
+
+fn five_calls<B: Bench>(bench: &mut B, calls: &Calls) -> [(bool, bool); 5] {
+    [
+        answer(calls, bench.length().is_ok()),
+        answer(calls, bench.write_at(0, b"abc").is_ok()),
+        answer(calls, bench.sync().is_ok()),
+        answer(calls, bench.read_at(0, &mut [0; 8]).is_ok()),
+        answer(calls, bench.send(b"{...}").is_ok()),
+    ]
+}
+
+// The path names nothing, or a file of three bytes.
+fn prepare(rt: &HostRuntime, path: &str, is_there: bool) -> bool {
+    let _ = fs::remove_file(rt, path);
+    !is_there || fs::write(rt, path, b"xyz".as_slice()).is_ok()
+}
+
+fn answers(rt: &HostRuntime, calls: &Calls, is_there: bool) -> [(bool, bool); 5] {
+    if !prepare(rt, "calls.journal", is_there) {
+        return [(false, false); 5];
+    }
+    let files = CountedFiles { rt, calls };
+    five_calls(&mut FileBench::new(&files, "calls.journal"), calls)
+}
+
+// Whether these calls of the bench fail, and no others, the first of them at once, where this one of the system's is refused.
+fn fail(rt: &HostRuntime, is_there: bool, refused: usize, first: usize, last: usize) -> bool {
+    let calls = Calls::new(rt.alloc(), refused);
+    let wanted = [0, 1, 2, 3, 4].map(|call| (call < first || last < call, call == first));
+    answers(rt, &calls, is_there) == wanted
+}
+
+// The first step that doesn't fail as it says, if any.
+fn other_step(rt: &HostRuntime, is_there: bool, steps: &[Step]) -> Option<usize> {
+    for (refused, (_, first, last)) in steps.iter().enumerate() {
+        if !fail(rt, is_there, refused, *first, *last) {
+            return Some(refused);
+        }
+    }
+    None
+}
+
+#[test]
+fn a_refused_call_fails_at_once(rt: HostRuntime) {
+    assert_eq!(rt; other_step(&rt, false, &MAKING), None);
+    assert_eq!(rt; other_step(&rt, true, &FINDING), None);
+}
+
+// Whether these are the calls, in order, and all of the piece is sent.
+fn are_made(rt: &HostRuntime, is_there: bool, made: &[Call]) -> bool {
+    let calls = Calls::new(rt.alloc(), made.len());
+    let are_done = answers(rt, &calls, is_there) == [(true, false); 5];
+    are_done && calls.are(made) && calls.have_sent(b"{...}")
+}
+
+#[test]
+fn each_call_is_made_in_order(rt: HostRuntime) {
+    assert!(rt; are_made(&rt, false, &MAKING.map(|(call, _, _)| call)));
+    assert!(rt; are_made(&rt, true, &FINDING.map(|(call, _, _)| call)));
+}
+
+// Whether a bench that only reads gives what stands in the file, and writes nothing.
+fn reads<B: Bench>(bench: &mut B) -> bool {
+    let mut bytes = [0; 4];
+    let is_read = bench.length() == Ok(3) && bench.read_at(0, &mut bytes) == Ok(3);
+    is_read && bytes == *b"xyz\0" && bench.write_at(0, b"abc").is_err() && bench.sync().is_err()
+}
+
+fn reads_where(rt: &HostRuntime, refused: usize) -> bool {
+    let calls = Calls::new(rt.alloc(), refused);
+    let files = CountedFiles { rt, calls: &calls };
+    let mut bench = FileBench::to_read(&files, "calls.journal");
+    prepare(rt, "calls.journal", true) && reads(&mut bench) && calls.are(&READING)
+}
+
+#[test]
+fn a_file_is_read_alone_with_the_lock_or_without_one(rt: HostRuntime) {
+    assert!(rt; reads_where(&rt, READING.len()));
+    assert!(rt; reads_where(&rt, 2));
+}

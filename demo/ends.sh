@@ -1,0 +1,81 @@
+# Read by edges.sh, attacks.sh and statuses.sh, after `set -u` and with their arguments: finds the program, makes a folder that is
+# gone at the end, and has what they say of an end. Where no program is given it is the one that run.sh built in the source.
+demo=$(cd "$(dirname "$0")" && pwd)
+built=${1:-$demo/../crates/auditor/out/auditor}
+if [ ! -f "$built" ] || [ ! -x "$built" ]; then
+    echo "${1:+there is no program $1; }give the program; in a package it is bin/auditor, in the source run.sh builds it" >&2
+    exit 1
+fi
+
+top=$(mktemp -d) || exit 1
+trap 'umount "$top/disk" 2>/dev/null; rm -rf "$top"' EXIT
+chmod 755 "$top"
+cp "$built" "$top/auditor" || exit 1
+program=$top/auditor
+wrong=0
+
+# Goes to a fresh folder with the demo's files, and makes its journal.
+fresh() {
+    cd "$top" && rm -rf run && mkdir run && cd run || exit 1
+    cp "$demo/schema.json" "$demo/table.csv" "$demo/questions.jsonl" . || exit 1
+    "$program" init || exit 1
+    cp answers.journal made.journal
+}
+
+# Prints a line for an end, with the status that was seen and what was said, and a mark where another status was due.
+tell() {
+    mark=' '
+    [ "$2" = "$3" ] || { mark='!'; wrong=$((wrong + 1)); }
+    printf '%s %-60s %3s  %s\n' "$mark" "$1" "$3" "$(cat said 2>/dev/null)"
+}
+
+# Complains of an end.
+complain() {
+    echo "! $*"
+    wrong=$((wrong + 1))
+}
+
+# Tells of an end, and that what the journal holds is as it was made.
+tell_unwritten() {
+    cmp -s answers.journal made.journal || complain "the journal was written: $1"
+    tell "$@"
+}
+
+# Starts a run on a pipe, which is open as number 4, and waits for the replies to three lines of the demo.
+open_run() {
+    mkfifo lines
+    "$program" serve <lines >first 2>said &
+    run=$!
+    exec 4>lines
+    head -n 3 questions.jsonl >&4
+    await_lines 3 first
+}
+
+# Waits until a file has so many lines, for ten seconds at most.
+await_lines() {
+    turns=0
+    while [ "$(wc -l <"$2")" -lt "$1" ] && [ $((turns += 1)) -le 200 ]; do sleep 0.05; done
+}
+
+# Asks the open run for a sum more, ends its input, and sets `status` to what it ends with.
+end_run() {
+    echo '{"ask":"sum","column":"salary","where":"all"}' >&4
+    exec 4>&-
+    wait "$run"
+    status=$?
+}
+
+# Says how many ends were not those that were due, and ends with 1 where some weren't.
+conclude() {
+    [ "$wrong" = 0 ] || echo "$wrong of these are not what was due"
+    [ "$wrong" = 0 ]
+}
+
+# Whether the program can be run as a user who owns nothing here.
+can_be_nobody() {
+    [ "$(id -u)" = 0 ] && setpriv --reuid=65534 --regid=65534 --clear-groups true 2>/dev/null
+}
+
+as_nobody() {
+    setpriv --reuid=65534 --regid=65534 --clear-groups "$program" "$@"
+}

@@ -1,0 +1,112 @@
+#!/bin/sh
+# Brings the program to each of its exit codes, and compares the code, the text on standard error and what was sent to standard output
+# with those that OPERATIONS.md tells. Prints a line for each, and ends with 0 where all are as told.
+#
+#   demo/statuses.sh [PROGRAM]
+set -u
+. "$(dirname "$0")/ends.sh"
+
+# Compares the end of a run with what is due: `due CODE TEXT COMMAND..`. Its input is `asked`, and `replies` has what is to be sent.
+# Where `limit` is set, the run has so many KiB of memory.
+due() {
+    code=$1
+    text=$2
+    shift 2
+    (
+        [ -z "$limit" ] || ulimit -v "$limit"
+        exec "$program" "$@"
+    ) <asked >sent 2>said
+    tell "$*" "$code" $?
+    printf '%s' "${text:+$text
+}" | cmp -s - said || complain "the text of $code is not '$text'"
+    cmp -s replies sent || complain "what was sent at $code is not what was due"
+}
+
+# A fresh folder, with nothing to ask and nothing to reply.
+begin() {
+    fresh
+    limit=
+    : >asked
+    : >replies
+}
+
+echo "  command                                                      status  text"
+
+begin
+cp questions.jsonl asked
+cp "$demo/replies.jsonl" replies
+due 0 '' serve
+
+usage='usage: auditor init, serve [--batch N], audit, simulate, drill N'
+begin
+for words in '' help 'serve 3' '--batch 65 serve' 'audit --batch 2' drill 'drill x' 'drill 4294967296'; do
+    due 2 "$usage" $words
+done
+
+begin
+echo '{"columns":[{"name":"age","is":"secret"}]}' >schema.json
+due 3 'schema: fault 3' serve
+
+begin
+sed -i 's/35,39000/35,3900O/' table.csv
+due 4 'table: fault 5 at line 4 column 2' serve
+
+for file in schema table; do
+    begin
+    rm "$file".*
+    due 5 "cannot read $file" serve
+done
+begin
+rm asked && mkdir asked
+due 5 'cannot read input' serve
+
+begin
+rm answers.journal && mkdir answers.journal
+due 6 'journal or output failed' serve
+
+begin
+rm answers.journal
+due 7 'no journal' serve
+
+begin
+due 8 'journal is already there' init
+
+begin
+printf X | dd of=answers.journal bs=1 seek=3 conv=notrunc 2>/dev/null
+due 9 'journal damaged at byte 3' audit
+
+begin
+sed -i '$d' table.csv
+due 10 'journal is of another table: rows 6, now 5' serve
+
+begin
+echo '{"ask":"sum","column":"salary","where":"all"}' | "$program" serve >/dev/null
+sed -i 's/,48000,/,48001,/' table.csv
+due 11 'record 0 holds 320500, table gives 320501' serve
+
+# The second record, over three rows, is made one over the first row alone, which is 48000.
+begin
+{
+    echo '{"ask":"sum","column":"salary","where":"all"}'
+    echo '{"ask":"sum","column":"salary","where":"age > 40"}'
+} | "$program" serve >/dev/null
+printf '\0\0\0\0\0\0\273\200\001' | dd of=answers.journal bs=1 seek=35 conv=notrunc 2>/dev/null
+due 12 'record 1 should not have been released' serve
+
+begin
+rm asked && mkfifo asked
+head -c 1073741825 /dev/zero >asked &
+due 13 'input is too long' serve
+
+begin
+cp "$demo/public.csv" table.csv
+printf '%s\n' '{"ask":"sum","column":"salary","where":"age = 30"}' '{"sum":48000}' >asked
+echo '{"verdict":"unsafe"}' >replies
+due 14 'line 2 disagrees, due unsafe' simulate
+
+begin
+yes 'a,1,1,1' | head -c 16000000 >>table.csv
+limit=12000
+due 15 'out of memory' serve
+
+conclude
