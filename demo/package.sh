@@ -1,6 +1,6 @@
 #!/bin/sh
 # Makes what is handed to those who have no kit: a folder and a tarball with the built program, its manual page, the pages for
-# users, and the demo; then unpacks the tarball in a fresh folder, and runs the demo out of it. Its name has the version, the
+# users, the demo, and the scripts of the front; then unpacks the tarball in a fresh folder, and runs the demo out of it. Its name has the version, the
 # newest of CHANGELOG.md. Build the program first: demo/run.sh does.
 #
 #   demo/package.sh [FOLDER]        the folder to make them in; the current one where none is given
@@ -43,6 +43,9 @@ cp "$top/CHANGELOG.md" "$name/share/doc/auditor/" || exit 1
 for file in run.sh ends.sh edges.sh attacks.sh statuses.sh check_report.py drill.py schema.json table.csv public.csv questions.jsonl replies.jsonl; do
     cp "$demo/$file" "$name/share/doc/auditor/demo/" || exit 1
 done
+mkdir -p "$name/share/doc/auditor/front" || exit 1
+cp "$top/docs/FRONT.md" "$name/share/doc/auditor/" || exit 1
+(cd "$top/front" && tar --exclude=tests --exclude=check.sh --exclude=__pycache__ -cf - .) | tar -xf - -C "$name/share/doc/auditor/front" || exit 1
 # The modes are those that an install needs, whatever the umask is, here and where the source was fetched.
 chmod -R u=rwX,go=rX "$name" || exit 1
 tar --owner=0 --group=0 -czf "$name.tar.gz" "$name" || exit 1
