@@ -6,12 +6,14 @@ into the program and reads reply lines out of it. Whatever it asks, in whatever 
 A fault of the door can hand a reply to the wrong asker, lose one, or leave a gap in the transcript.
 """
 import asyncio
+import logging
 import os
 import pathlib
 import signal
 import sys
 
 from aiohttp import web
+from aiohttp.http_exceptions import HttpProcessingError
 
 from doorway import settings as arguments
 from doorway.groups import Groups
@@ -104,8 +106,14 @@ async def run(settings):
     await runner.cleanup()
 
 
+def is_ours(record):
+    """Whether a fault is to be logged: a stream that isn't HTTP is its sender's fault, and anybody could fill the log."""
+    return not (record.exc_info and isinstance(record.exc_info[1], HttpProcessingError))
+
+
 def main():
     settings = arguments.read()
+    logging.getLogger("aiohttp.server").addFilter(is_ours)
     # A sync that has returned is to be seen soon, also while many requests are at work.
     sys.setswitchinterval(0.0005)
     try:

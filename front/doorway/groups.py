@@ -32,6 +32,7 @@ class Groups:
 
     async def start(self):
         """Opens a run. A first group of no question shows that the journal is read and is this run's alone."""
+        self.kill()
         self.run = await self.opener.open("serve", "--batch", str(self.batch))
         self.taken, self.broken = 0, ""
         await self.ask([])

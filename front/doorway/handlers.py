@@ -8,6 +8,7 @@ import contextlib
 import os
 
 from aiohttp import web
+from aiohttp.http_exceptions import HttpProcessingError
 
 from .lines import LONGEST, Turned, line_of
 from .totals import total
@@ -55,6 +56,8 @@ async def question_of(request):
         raise Turned(413, f"a question has at most {LONGEST} bytes")
     except TimeoutError:
         raise Turned(408, "the question didn't come")
+    except (ConnectionError, HttpProcessingError, web.RequestPayloadError):
+        raise Turned(400, "the question broke off")
 
 
 def reply(line):

@@ -53,7 +53,9 @@ class Reports:
             return
         counted = await writing
         if counted is None:
-            raise Ended(await run.why())
+            fault = await run.why()
+            run.kill()
+            raise Ended(fault)
         await run.finish()
         self._compare(counted)
         self.fresh.replace(self.path)

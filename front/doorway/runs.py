@@ -7,6 +7,7 @@ import asyncio
 import os
 import select
 
+CLOSED = -1
 FAREWELL = 30                       # seconds that a run has to end by itself once its input has ended
 
 
@@ -19,7 +20,20 @@ class Run:
 
     def __init__(self, reader, writer, process=None):
         self.reader, self.writer, self.process = reader, writer, process
-        self.input = (writer.get_extra_info("pipe") or writer.get_extra_info("socket")).fileno()
+        self.input = self._own_input()
+
+    def _own_input(self):
+        """The number of the input, of our own: the loop closes its number once the run ends, and might give it to another
+        connection while a thread writes."""
+        try:
+            return os.dup((self.writer.get_extra_info("pipe") or self.writer.get_extra_info("socket")).fileno())
+        except (ValueError, OSError):
+            return CLOSED
+
+    def _close_input(self):
+        if self.input != CLOSED:
+            os.close(self.input)
+            self.input = CLOSED
 
     def write(self, text, patience):
         """Writes all of a text, from whatever thread: the event loop may be busy just then. OSError if that fails."""
@@ -42,12 +56,14 @@ class Run:
         return said or f"the program ended with code {code}"
 
     def kill(self):
+        self._close_input()
         if self.process and self.process.returncode is None:
             self.process.kill()
         self.writer.close()
 
     async def finish(self):
         """Ends the input. The program answers what it has and ends by itself."""
+        self._close_input()
         try:
             if self.writer.can_write_eof():
                 self.writer.write_eof()

@@ -166,6 +166,7 @@ class Streams(DoorCase):
             await asyncio.gather(*(self.send(self.broken(chance), wait=0.05) for _ in range(10)))
             self.assertIn(b'{"count":10}', await self.count())
         self.assertIsNone(self.door.process.poll())
+        self.assertEqual(self.folder.said().count("\n"), 1, self.folder.said()[:2000])     # where it listens
 
     async def test_a_client_that_waits_to_be_told_to_go_on_is_told(self):
         self.door.start()
