@@ -708,6 +708,21 @@ class Written(TableTest):
                 self.refused(STAFF, *STAFF_KINDS),
             )
 
+    def test_totals_that_the_program_doesnt_take_are_said(self):
+        program = self.folder / "auditor"
+        self.look(STAFF)
+        self.choose(*STAFF_KINDS, "protect=salary where team =")
+        for status, said, words in (
+            (3, "schema: fault 3", "may be older than protected totals"),
+            (16, "schema: group 0 is bad", "isn't understood: 'team ='"),
+        ):
+            program.write_text(f"#!/bin/sh\necho '{said}' >&2\nexit {status}\n")
+            program.chmod(0o755)
+            with self.subTest(said), mock.patch.dict(os.environ, {"AUDITOR": str(program)}):
+                status, found = self.make()
+                self.assertEqual((status, self.out.exists()), (1, False))
+                self.assertIn(words, found)
+
     def test_a_stop_while_it_writes_leaves_nothing(self):
         self.look(STAFF)
         self.choose(*STAFF_KINDS, "protect=none")
