@@ -1,9 +1,9 @@
-use Rattle.table_load.specs.Database.{secret_table}
+use Rattle.table_load.specs.Database.{table_in}
 use Rattle.auditor_top.proofs.KeptByEveryLife.{nothing_is_legal}
 use Rattle.auditor_top.proofs.laws.never_refused.Goals as goal
 
 pub returns-clause-made : goal.returns-clause-made
-returns-clause-made c = λ schema table image base files stands. record { files = files; stands = stands; legal = nothing_is_legal (secret_table base.secret) }
+returns-clause-made c = λ schema table image base files stands. record { files = files; stands = stands; legal = nothing_is_legal (table_in base) }
 
 pub returns-clause-left : goal.returns-clause-left
 returns-clause-left c = λ schema table file image before sent base batch history lines over stops.
