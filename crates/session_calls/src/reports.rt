@@ -1,0 +1,142 @@
+//! The lists of a report, read from its printed lines, and checked as anyone might check them.
+ghost use Rattle.std.specs.Prelude.{◌≡◌};
+
+use crate::staff::{TABLE, people, staff};
+use audit_store::Store;
+use audit_types::Answered;
+use bench_core::{MemoryBench, Room};
+use journal_audit::audit;
+use std::alloc::Global;
+use std::str;
+use table_load::load;
+use witness_check::{check_direction, check_pair};
+
+// The sums 300 over rows 0 and 1, 2100 over all, 1200 over rows 1, 3 and 5, and 700 over rows 2 and 3.
+const FOUR_SUMS: [u8; 69] = [
+    1, 83, 81, 65, 74, 82, 78, 76, 1, 0, 6, 2, 1, 2, 0, 0, 0, 0, 0, 0, //
+    1, 1, 0, 0, 0, 0, 0, 0, 0, 1, 44, 3, //
+    1, 1, 0, 0, 0, 0, 0, 0, 0, 8, 52, 63, //
+    1, 1, 0, 0, 0, 0, 0, 0, 0, 4, 176, 42, //
+    1, 1, 0, 0, 0, 0, 0, 0, 0, 2, 188, 12, //
+    0,
+];
+
+// The maximum 9 over all, over rows 0 and 1, and over the others.
+const THREE_MAXIMA: [u8; 57] = [
+    1, 83, 81, 65, 74, 82, 78, 76, 1, 0, 6, 2, 1, 2, 0, 0, 0, 0, 0, 0, //
+    1, 1, 1, 0, 0, 0, 0, 0, 0, 0, 9, 63, //
+    1, 1, 1, 0, 0, 0, 0, 0, 0, 0, 9, 3, //
+    1, 1, 1, 0, 0, 0, 0, 0, 0, 0, 9, 60, //
+    0,
+];
+
+const ROOM: Room = Room {
+    file: 100,
+    sent: 10_000,
+    calls: 100,
+    written: 0,
+};
+
+// The report of a journal of the table, as bytes on the bench.
+fn report(alloc: Global, journal: &[u8]) -> Option<MemoryBench> {
+    if journal.len() > 100 {
+        return None;
+    }
+    let schema = staff(alloc)?;
+    let table = load(alloc, &schema, TABLE).ok()?;
+    let mut bench = MemoryBench::new(alloc, journal, ROOM, Vec::new(alloc), None).ok()?;
+    let store = Store::start(alloc, table.secret, &mut bench).ok()?;
+    audit(alloc, &schema, &store, &mut bench).ok()?;
+    Some(bench)
+}
+
+// The row of a line of the salaries, whose direction is written to a list of zeros: a number for each of the six rows.
+fn read_direction(line: &str, direction: &mut [i128; 6]) -> Option<u16> {
+    let rest = line.strip_prefix("{\"column\":\"salary\",\"row\":")?;
+    let (row, rest) = rest.split_once(",\"direction\":[[")?;
+    for pair in rest.strip_suffix("]]}")?.split("],[") {
+        let (place, number) = pair.split_once(",")?;
+        let spot = direction.get_mut(place.parse::<usize>().ok()?)?;
+        *spot = number.parse::<i128>().ok()?;
+    }
+    row.parse::<u16>().ok()
+}
+
+// Whether the direction that a line has for its row moves that row, and no sum of the four.
+fn moves_its_row(line: &str) -> bool {
+    let mut direction = [0; 6];
+    let Some(row) = read_direction(line, &mut direction) else {
+        return false;
+    };
+    let (first, all) = (people(0b000011), people(0b111111));
+    let (second, third) = (people(0b101010), people(0b001100));
+    let sets = [first, all, second, third];
+    row < 6 && check_direction(6, &sets, &direction, row)
+}
+
+// Whether each of the first six lines has a direction for its row.
+fn have_directions(sent: &[u8]) -> bool {
+    let Ok(text) = str::from_utf8(sent) else {
+        return false;
+    };
+    text.lines()
+        .take(6)
+        .filter(|line| moves_its_row(line))
+        .count()
+        == 6
+}
+
+// Whether a line of the bonuses is read, whose list is written here: a number for each of the six rows.
+fn read_high(line: &str, high: &mut [i128; 6]) -> Option<()> {
+    let rest = line.strip_prefix("{\"column\":\"bonus\",\"high\":[")?;
+    let mut places = high.iter_mut();
+    for number in rest.strip_suffix("]}")?.split(",") {
+        *places.next()? = number.parse::<i128>().ok()?;
+    }
+    Some(())
+}
+
+fn nine(bits: u8) -> Answered
+    ensures { result.rows.n ≡ 6 }
+{
+    Answered {
+        column: 1,
+        rows: people(bits),
+        answer: 9,
+    }
+}
+
+// Whether the list, and the list with this row less by 1, give each of the three answers.
+fn frees(high: &[i128; 6], row: u16) -> bool {
+    let (all, first, others) = (nine(0b111111), nine(0b000011), nine(0b111100));
+    let answers = [all, first, others];
+    let mut low = *high;
+    let Some(number) = low.get_mut(row as usize) else {
+        return false;
+    };
+    *number = number.saturating_sub(1);
+    row < 6 && check_pair(6, 1, &answers, &low, high, row)
+}
+
+// Whether the line after those of the six salaries has a list that frees each row.
+fn has_a_list(sent: &[u8]) -> bool {
+    let Ok(text) = str::from_utf8(sent) else {
+        return false;
+    };
+    let mut high = [0; 6];
+    let Some(line) = text.lines().nth(6) else {
+        return false;
+    };
+    if read_high(line, &mut high).is_none() {
+        return false;
+    }
+    [0, 1, 2, 3, 4, 5].iter().all(|row| frees(&high, *row))
+}
+
+#[test]
+fn report_passes(rt: HostRuntime) {
+    let sums = report(rt.alloc(), &FOUR_SUMS).expect(&rt, "a report");
+    assert!(rt; have_directions(sums.sent()));
+    let maxima = report(rt.alloc(), &THREE_MAXIMA).expect(&rt, "a report");
+    assert!(rt; has_a_list(maxima.sent()));
+}
