@@ -69,3 +69,8 @@ class DoorCase(unittest.IsolatedAsyncioTestCase):
         self.check_told()
         self.assertEqual(self.folder.simulate(), (0, ""))
         self.assertEqual(self.folder.replay(), [reply for _, reply in self.folder.transcript()])
+
+    def end_and_check(self):
+        """The door ends with 0 if it is told to, and what it told was right."""
+        self.assertEqual(self.door.stop(), 0)
+        self.check_all()

@@ -25,8 +25,7 @@ class Doors(DoorCase):
             said = await health(session)
         self.assertEqual(len(self.told), self.clients * self.questions)
         self.assertEqual(said["restarts"], 0)
-        self.assertEqual(self.door.stop(), 0)
-        self.check_all()
+        self.end_and_check()
 
     async def under_kills(self, kill):
         """Patient askers, and a kill now and then until all have their replies."""
@@ -44,8 +43,7 @@ class Doors(DoorCase):
             await self.door.ready(session)
         self.assertGreaterEqual(kills, min(self.kills, 3))
         self.assertEqual(len(self.told), clients * questions)
-        self.assertEqual(self.door.stop(), 0)
-        self.check_all()
+        self.end_and_check()
 
     async def test_nothing_told_is_lost_when_the_program_is_killed(self):
         await self.under_kills(self.door.kill_programs)

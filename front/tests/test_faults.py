@@ -45,8 +45,7 @@ class Faults(DoorCase):
             self.door.start()
             await self.door.ready(session)
             await self.client(session, 1, 10)
-        self.assertEqual(self.door.stop(), 0)
-        self.check_all()
+        self.end_and_check()
 
     async def test_what_leaves_for_the_program_is_written_down_first(self):
         self.door = Door(self.folder, auditor=str(HERE / "watcher.py"))
@@ -74,8 +73,7 @@ class Faults(DoorCase):
         self.door.start()
         async with self.door.session() as session:
             await self.door.ready(session)
-        self.assertEqual(self.door.stop(), 0)
-        self.check_all()
+        self.end_and_check()
 
     async def test_an_older_journal_is_seen_at_the_next_report(self):
         journal = self.folder.path / "answers.journal"
@@ -102,8 +100,7 @@ class Faults(DoorCase):
         async with self.door.session() as session:
             await self.start(session)
             await self.ask(session, *question("count", 0, 99))
-        self.assertEqual(self.door.stop(), 0)
-        self.check_all()
+        self.end_and_check()
 
     async def test_a_second_door_over_the_same_transcript_ends(self):
         async with self.door.session() as session:
@@ -113,8 +110,7 @@ class Faults(DoorCase):
             self.assertEqual(await asyncio.to_thread(second.process.wait, 120), 1)
             self.assertIn("another door keeps", self.folder.said())
             await self.client(session, 0, 5)
-        self.assertEqual(self.door.stop(), 0)
-        self.check_all()
+        self.end_and_check()
 
     async def test_a_report_is_made_in_a_rest_and_ends_for_a_question(self):
         self.door = Door(self.folder, "--report-every", 0.1, auditor=str(HERE / "slow_audit.py"))
@@ -142,8 +138,7 @@ class Faults(DoorCase):
                 text = await response.text()
         last = json.loads(text.strip().rsplit("\n", 1)[-1])
         self.assertEqual(last, {"audited": 2, "columns": 2, "rows": 200})
-        self.assertEqual(self.door.stop(), 0)
-        self.check_all()
+        self.end_and_check()
 
     async def test_an_absent_program_is_named_and_the_door_goes_on_once_it_is_there(self):
         program = self.folder.path / "program"
@@ -157,8 +152,7 @@ class Faults(DoorCase):
             program.symlink_to(AUDITOR)
             await self.door.ready(session, "serving")
             await self.client(session, 0, 5)
-        self.assertEqual(self.door.stop(), 0)
-        self.check_all()
+        self.end_and_check()
 
     async def test_a_damaged_journal_is_named(self):
         journal = self.folder.path / "answers.journal"
@@ -173,8 +167,7 @@ class Faults(DoorCase):
             journal.write_bytes(whole)
             await self.door.ready(session, "serving")
             await self.client(session, 0, 5)
-        self.assertEqual(self.door.stop(), 0)
-        self.check_all()
+        self.end_and_check()
 
     async def test_askers_past_the_limit_are_turned_away_and_the_others_get_their_replies(self):
         async with self.door.session() as session:
@@ -200,8 +193,7 @@ class Faults(DoorCase):
             await asyncio.sleep(0.2)
             self.told.append((("sum", 0, 99), line, (await ask(session, line))[1]))
             self.assertEqual((await health(session))["repeats"], 1)
-        self.assertEqual(self.door.stop(), 0)
-        self.check_all()
+        self.end_and_check()
 
     async def test_a_question_is_asked_though_its_asker_went_away(self):
         async with self.door.session() as session:
@@ -308,8 +300,7 @@ class Known(DoorCase):
                     self.assertEqual(response.content_length, (self.folder.public / name).stat().st_size, name)
             async with session.get("/tables.json") as response:
                 self.assertEqual(await response.json(), [])
-        self.assertEqual(self.door.stop(), 0)
-        self.check_all()
+        self.end_and_check()
 
 
 if __name__ == "__main__":

@@ -29,8 +29,7 @@ class Lies(DoorCase):
             said = await health(session)
         self.assertGreater(said["restarts"], 0, lie)
         self.assertEqual(len(self.told), 12 * 2)
-        self.assertEqual(self.door.stop(), 0)
-        self.check_all()
+        self.end_and_check()
 
 
 def add(lie):

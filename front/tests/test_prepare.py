@@ -305,6 +305,7 @@ class Numbers(TableTest):
 
 class Missing(TableTest):
     GAPS = "team,age,pay\nA,30,5\nB,NA,7\nC,41,NA\nD,52,\nNA,60,9\n"
+    CHOSEN = ("team=text", "team.missing=keep", "age=number", "age.missing=mark", "pay=sum")
 
     def test_what_looks_missing_is_asked_about(self):
         said = self.look(self.GAPS)[1]
@@ -314,15 +315,7 @@ class Missing(TableTest):
         self.assertIn("team.missing\nage.missing\npay.missing", self.make()[1])
 
     def test_rows_without_a_secret_are_dropped_and_counted(self):
-        said = self.made(
-            self.GAPS,
-            "team=text",
-            "team.missing=keep",
-            "age=number",
-            "age.missing=mark",
-            "pay=sum",
-            "pay.missing=drop the row",
-        )
+        said = self.made(self.GAPS, *self.CHOSEN, "pay.missing=drop the row")
         self.assertEqual(
             self.table(),
             [["team", "age", "age_known", "pay"], ["A", "30", "1", "5"], ["B", "0", "0", "7"], ["NA", "60", "1", "9"]],
@@ -353,15 +346,7 @@ class Missing(TableTest):
         for way in ("mark", "keep"):
             with self.subTest(way):
                 self.choices.unlink(missing_ok=True)
-                said = self.refused(
-                    self.GAPS,
-                    "team=text",
-                    "team.missing=keep",
-                    "age=number",
-                    "age.missing=mark",
-                    "pay=sum",
-                    f"pay.missing={way}",
-                )
+                said = self.refused(self.GAPS, *self.CHOSEN, f"pay.missing={way}")
                 self.assertIn(f"'pay': \"missing\" can't be '{way}' for sum, which takes: drop the row", said)
 
     def test_na_can_be_a_value(self):
