@@ -11,11 +11,11 @@ use Rattle.journal_form.specs.Header.{header, named, IsWholeShape}
 use Rattle.journal_form.specs.Journal.{StandsAt}
 use Rattle.bench_core.specs.declared.bench.Bench.{Ghosts}
 use Rattle.bench_core.specs.Bench.{Holds}
-use Rattle.bench_core.specs.Calls.{LeavesOnly}
+use Rattle.bench_core.specs.Calls.{LeavesOnly, IsUntouched}
 use Rattle.bench_core.specs.Moments.{weakens}
 use Rattle.answer_journal.specs.Append.{Appending, Writing, appended}
 use Rattle.answer_journal.specs.Make.{empty_journal, calls_to_make}
-use Rattle.answer_journal.specs.Moments.{IsShort, IsAlready, IsFound, IsUntouched, IsUnmadeOrEmpty}
+use Rattle.answer_journal.specs.Moments.{IsShort, IsAlready, IsFound, IsUnmadeOrEmpty}
 use Rattle.answer_journal.specs.declared.make.Found.TheVariants.{Closed, Short}
 use Rattle.answer_journal.specs.declared.make.MakeFault.{MakeFault}
 use Rattle.answer_journal.specs.declared.make.MakeFault.TheVariants as fault
@@ -24,7 +24,7 @@ use Rattle.answer_journal.proofs.Histories.{stands_by}
 -- a header and a closed gate stand for the empty history
 pub fresh : (image : List ℕ) (shape : Shape) (rest : List ℕ) → IsWholeShape shape → image ≡ 1 ∷ ((named shape ++ 0 ∷ []) ++ rest) → StandsAt image shape [] 20
 fresh image shape rest shaped is =
-    stands_by image shape [] 20 [] (0 ∷ rest) shaped tt (omega arith) refl refl (record { gate = 0; rest = rest; bytes_are = refl; closed = λ e. cc })
+    stands_by image shape 20 [] (0 ∷ rest) shaped tt (omega arith) refl (record { gate = 0; rest = rest; bytes_are = refl; closed = λ e. cc })
     (is ∙ ap (λ t. 1 ∷ t) (append_assoc (named shape) (0 ∷ []) rest) ∙ ap (λ t. t ++ (0 ∷ rest)) (sym (append-nil (header shape))))
 
 module _ (file : List ℕ) (shape : Shape) (shaped : IsWholeShape shape) (some : 0 < length file) (closed : get_or file 0 0 ≢ 1) where

@@ -2,31 +2,34 @@
 use Rattle.std.proofs.Common.{◌≡◌, ◌≢◌, ℕ, ◌+◌, ◌-◌, ◌<◌, ◌≤◌, inl, inr, List, [], ◌∷◌, ◌++◌, length, get_or, take, drop, refl, sym, ap, subst, ◌∙◌, arith, append_assoc, append-nil, add-one, one-add, length-append, length-take, length-drop, take-add}
 use Rattle.std.proofs.Math.Seq.{drop-cons}
 use Rattle.std.proofs.lemmas.List.{take-append-drop, nil_from_length}
-use Rattle.std.proofs.lemmas.List.Concat.{flat_map-cons}
-use Rattle.std.proofs.lemmas.Grind.{flat_map-append}
 use Rattle.audit_types.specs.declared.shapes.Shape.{Shape}
 use Rattle.audit_types.specs.declared.records.Answered.{Answered}
 use Rattle.journal_form.specs.Header.{header, IsWholeShape}
-use Rattle.journal_form.specs.Group.{IsGroup, GroupBreaks}
-use Rattle.journal_form.specs.Journal.{Written, AreGroups, texts, records, gate_behind, Begins, StandsAt, BreaksBehind}
+use Rattle.std.specs.List.{All}
+use Rattle.audit_types.specs.Shapes.{IsShape}
+use Rattle.audit_types.specs.Widening.{over, widened}
+use Rattle.journal_form.specs.Group.{IsWritten, GroupBreaks}
+use Rattle.journal_form.specs.Journal.{Written, AreGroups, rows_after, texts, records, gate_behind, Begins, StandsAt, BreaksBehind}
 use Rattle.answer_journal.specs.declared.journal.BackFault.{BackFault}
 use Rattle.answer_journal.specs.declared.journal.BackFault.TheVariants.{NotMade, Damaged, Failed, NoMemory}
 use Rattle.answer_journal.specs.Moments.{IsMade}
 use Rattle.answer_journal.specs.Faults.{IsFaultOf, IsFaultBehind}
-use Rattle.answer_journal.proofs.Histories.{stands_by}
+use Rattle.answer_journal.proofs.Histories.{stands_by, groups_push, rows_push, texts_push, records_push}
+use Rattle.answer_journal.proofs.RecordsFit.{groups_below, after_groups}
 
--- the bytes before the gate are the header and whole groups of these records
-pub record IsReadSoFar (bytes : List ℕ) (shape : Shape) (list : List Answered) (gate : ℕ) : Type 0 where
+-- the bytes before the gate are the header and whole groups of these records, after which the shape is this one
+pub record IsReadSoFar (bytes : List ℕ) (first shape : Shape) (list : List Answered) (gate : ℕ) : Type 0 where
   pub groups : List Written
-  pub shaped : IsWholeShape shape
-  pub whole : AreGroups shape groups
-  pub front : take gate bytes ≡ header shape ++ texts groups
+  pub shaped : IsWholeShape first
+  pub whole : AreGroups first groups
+  pub front : take gate bytes ≡ header first ++ texts groups
   pub inside : gate ≤ length bytes
   pub gate_is : gate ≡ gate_behind groups
+  pub shape_is : shape ≡ over (rows_after first.rows groups) first
   pub list_is : list ≡ records groups
   pub few : length list ≤ 65536
 
-pub read_none : (bytes : List ℕ) (shape : Shape) → IsWholeShape shape → take 20 bytes ≡ header shape → IsReadSoFar bytes shape [] 20
+pub read_none : (bytes : List ℕ) (shape : Shape) → IsWholeShape shape → take 20 bytes ≡ header shape → IsReadSoFar bytes shape shape [] 20
 read_none bytes shape shaped is = record {
   groups = [];
   shaped = shaped;
@@ -34,36 +37,49 @@ read_none bytes shape shaped is = record {
   front = is ∙ sym (append-nil (header shape));
   inside = omega (arith, ap length is, length-take 20 bytes, shaped.eight);
   gate_is = refl;
+  shape_is = refl;
   list_is = refl;
   few = omega arith;
 }
 
-module _ (bytes : List ℕ) (shape : Shape) (list : List Answered) (gate : ℕ) (read : IsReadSoFar bytes shape list gate) where
-  parts : bytes ≡ (header shape ++ texts read.groups) ++ drop gate bytes
+module _ (bytes : List ℕ) (first shape : Shape) (list : List Answered) (gate : ℕ) (read : IsReadSoFar bytes first shape list gate) where
+  parts : bytes ≡ (header first ++ texts read.groups) ++ drop gate bytes
   parts = sym (take-append-drop gate bytes) ∙ ap (λ t. t ++ drop gate bytes) read.front
 
   at_gate : gate < length bytes → drop gate bytes ≡ get_or bytes gate 0 ∷ drop (gate + 1) bytes
   at_gate lt = rw add-one (drop-cons bytes gate 0 lt)
 
-  -- the gate isn't open
-  pub read_ends : gate < length bytes → get_or bytes gate 0 ≢ 1 → StandsAt bytes shape list gate
-  read_ends lt closed =
-      stands_by bytes shape list gate read.groups (drop gate bytes) read.shaped read.whole read.few read.list_is read.gate_is
-      (record { gate = get_or bytes gate 0; rest = drop (gate + 1) bytes; bytes_are = at_gate lt; closed = closed }) parts
+  -- the shape so far is a valid one
+  pub shaped_so_far : IsShape shape
+  shaped_so_far = subst IsShape (sym read.shape_is) (after_groups first read.groups read.shaped.valid read.whole)
 
-  begins : Begins bytes shape read.groups (drop gate bytes)
+  -- no record is over more rows than are in force
+  pub records_below : All (λ r. r.rows.n ≤ shape.rows) list
+  records_below =
+      subst (λ (l : List Answered). All (λ r. r.rows.n ≤ shape.rows) l) (sym read.list_is)
+      (subst (λ (s : Shape). All (λ r. r.rows.n ≤ s.rows) (records read.groups)) (sym read.shape_is) (groups_below first read.groups read.whole))
+
+  -- the gate isn't open
+  pub read_ends : gate < length bytes → get_or bytes gate 0 ≢ 1 → StandsAt bytes shape (widened shape.rows list) gate
+  read_ends lt closed =
+      subst (λ (l : List Answered). StandsAt bytes shape (widened shape.rows l) gate) (sym read.list_is)
+      (subst (λ (s : Shape). StandsAt bytes s (widened s.rows (records read.groups)) gate) (sym read.shape_is)
+      (stands_by bytes first gate read.groups (drop gate bytes) read.shaped read.whole (omega (arith, read.few, ap length read.list_is)) read.gate_is
+      (record { gate = get_or bytes gate 0; rest = drop (gate + 1) bytes; bytes_are = at_gate lt; closed = closed }) parts))
+
+  begins : Begins bytes first read.groups (drop gate bytes)
   begins =
       record {
         shaped = read.shaped;
         whole = read.whole;
-        file_is = parts ∙ append_assoc (header shape) (texts read.groups) (drop gate bytes);
+        file_is = parts ∙ append_assoc (header first) (texts read.groups) (drop gate bytes);
         few = omega (arith, read.few, ap length read.list_is);
       }
 
   -- the next gate isn't there
   pub breaks_at_end : length bytes ≤ gate → BreaksBehind bytes gate
   breaks_at_end le = record {
-    shape = shape;
+    shape = first;
     groups = read.groups;
     behind = drop gate bytes;
     begins = begins;
@@ -74,7 +90,7 @@ module _ (bytes : List ℕ) (shape : Shape) (list : List Answered) (gate : ℕ) 
   pub breaks_in_group : (at : ℕ) → gate < length bytes → get_or bytes gate 0 ≡ 1 → GroupBreaks shape (65536 - length list) (drop (gate + 1) bytes) at →
       BreaksBehind bytes (gate + 1 + at)
   breaks_in_group at lt open_gate breaks = record {
-    shape = shape;
+    shape = first;
     groups = read.groups;
     behind = drop gate bytes;
     begins = begins;
@@ -83,7 +99,8 @@ module _ (bytes : List ℕ) (shape : Shape) (list : List Answered) (gate : ℕ) 
           drop (gate + 1) bytes,
           at,
           at_gate lt ∙ ap (λ b. b ∷ drop (gate + 1) bytes) open_gate,
-          subst (λ (l : List Answered). GroupBreaks shape (65536 - length l) (drop (gate + 1) bytes) at) read.list_is breaks,
+          subst (λ (s : Shape). GroupBreaks s (65536 - length (records read.groups)) (drop (gate + 1) bytes) at) read.shape_is
+              (subst (λ (l : List Answered). GroupBreaks shape (65536 - length l) (drop (gate + 1) bytes) at) read.list_is breaks),
           ap (λ g. g + 1 + at) read.gate_is,
         );
   }
@@ -98,37 +115,32 @@ module _ (bytes : List ℕ) (shape : Shape) (list : List Answered) (gate : ℕ) 
   fault_behind lt open_gate made NoMemory is = tt
 
   -- one group more
-  pub read_more : (size : ℕ) (more : List Answered) → gate < length bytes → get_or bytes gate 0 ≡ 1 → size ≤ length (drop (gate + 1) bytes)
-      → length more ≤ 65536 - length list → IsGroup shape (take size (drop (gate + 1) bytes)) more
-      → IsReadSoFar bytes shape (list ++ more) (gate + (1 + size))
-  read_more size more lt open_gate inside few group =
+  pub read_more : (size : ℕ) (more : List Answered) (rows : ℕ) → gate < length bytes → get_or bytes gate 0 ≡ 1 → size ≤ length (drop (gate + 1) bytes)
+      → length more ≤ 65536 - length list → IsWritten shape (take size (drop (gate + 1) bytes)) more rows
+      → IsReadSoFar bytes first (over rows shape) (list ++ more) (gate + (1 + size))
+  read_more size more rows lt open_gate inside few group =
       let text = take size (drop (gate + 1) bytes) in
-      let added : Written = record { text = text; list = more } in
+      let added : Written = record { text = text; list = more; rows = rows } in
       let all : List Written = read.groups ++ added ∷ [] in
-      let texts_are : texts all ≡ texts read.groups ++ (1 ∷ text) = flat_map-append (λ (g : Written). 1 ∷ g.text) read.groups (added ∷ [])
-      ∙ ap (λ t. texts read.groups ++ t) (flat_map-cons (λ (g : Written). 1 ∷ g.text) added [] ∙ append-nil (1 ∷ text)) in
-      let records_are : records all ≡ records read.groups ++ more = flat_map-append (λ (g : Written). g.list) read.groups (added ∷ [])
-      ∙ ap (λ t. records read.groups ++ t) (flat_map-cons (λ (g : Written). g.list) added [] ∙ append-nil more) in
+      let texts_are : texts all ≡ texts read.groups ++ (1 ∷ text) = texts_push read.groups added in
+      let records_are : records all ≡ records read.groups ++ more = records_push read.groups added in
       let behind : take (1 + size) (drop gate bytes) ≡ 1 ∷ text = ap (take (1 + size)) (at_gate lt ∙ ap (λ b. b ∷ drop (gate + 1) bytes) open_gate)
       ∙ take-more size (drop (gate + 1) bytes) in
       record {
         groups = all;
         shaped = read.shaped;
-        whole = whole_more read.groups added read.whole group;
+        whole = groups_push first read.groups added read.whole (subst (λ (s : Shape). IsWritten s text more rows) read.shape_is group);
         front =
             take-add gate (1 + size) bytes ∙ ap (λ t. t ++ take (1 + size) (drop gate bytes)) read.front
-            ∙ ap (λ t. (header shape ++ texts read.groups) ++ t) behind ∙ append_assoc (header shape) (texts read.groups) (1 ∷ text)
-            ∙ ap (λ t. header shape ++ t) (sym texts_are);
+            ∙ ap (λ t. (header first ++ texts read.groups) ++ t) behind ∙ append_assoc (header first) (texts read.groups) (1 ∷ text)
+            ∙ ap (λ t. header first ++ t) (sym texts_are);
         inside = omega (arith, inside, lt, length-drop (gate + 1) bytes);
         gate_is =
             omega (arith, read.gate_is, ap length texts_are, length-append (texts read.groups) (1 ∷ text), length-take size (drop (gate + 1) bytes), inside);
+        shape_is = ap (over rows) read.shape_is ∙ ap (λ k. over k first) (sym (rows_push first.rows read.groups added));
         list_is = ap (λ l. l ++ more) read.list_is ∙ sym records_are;
         few = omega (arith, length-append list more, few, read.few);
       }
     where
       take-more : (n : ℕ) (rest : List ℕ) → take (1 + n) (1 ∷ rest) ≡ 1 ∷ take n rest
       take-more n rest = rw one-add refl
-
-      whole_more : (gs : List Written) (g : Written) → AreGroups shape gs → IsGroup shape g.text g.list → AreGroups shape (gs ++ g ∷ [])
-      whole_more [] g whole is = (is, tt)
-      whole_more (first ∷ gs) g whole is = (whole.0, whole_more gs g whole.1 is)

@@ -1,16 +1,18 @@
 -- The records that a file stands for fit the shape of its header.
-use Rattle.std.proofs.Common.{ℕ, List, [], ◌∷◌, sym, subst}
+use Rattle.std.proofs.Common.{◌≢◌, ℕ, ◌<◌, ◌≤◌, inl, inr, List, [], ◌∷◌, refl, sym, subst, arith}
 use Rattle.std.specs.List.{All}
-use Rattle.std.proofs.lemmas.List.Elements.{All-nil, All-cons, All-append}
+use Rattle.std.proofs.lemmas.List.Elements.{All-nil, All-cons, All-append, All-weaker, All-map}
 use Rattle.std.proofs.lemmas.List.Concat.{flat_map-cons}
 use Rattle.audit_types.specs.declared.shapes.Shape.{Shape}
 use Rattle.audit_types.specs.declared.records.Answered.{Answered}
 use Rattle.audit_types.specs.Rows.{AreRows}
-use Rattle.audit_types.specs.RowLaws.{AreRows-rows_that}
+use Rattle.audit_types.specs.RowLaws.{AreRows-rows_that, AscendsFrom-wider}
+use Rattle.audit_types.specs.Shapes.{IsShape, columns}
+use Rattle.audit_types.specs.Widening.{over, wider, widened}
 use Rattle.audit_types.specs.History.{FitsShape}
 use Rattle.journal_form.specs.Record.{IsRecord, holds_row, rows_in, set_in}
-use Rattle.journal_form.specs.Group.{AreRecords, IsGroup}
-use Rattle.journal_form.specs.Journal.{Written, AreGroups, records, StandsAt}
+use Rattle.journal_form.specs.Group.{AreRecords, IsGroup, IsWritten}
+use Rattle.journal_form.specs.Journal.{Written, AreGroups, rows_after, records, StandsAt}
 
 -- the record fits
 abbrev Fits : Shape → Answered → Type 0
@@ -37,14 +39,82 @@ group_fits : (shape : Shape) (text : List ℕ) (list : List Answered) → IsGrou
 group_fits shape [] list group = absurd group
 group_fits shape (count ∷ bytes) list group = records_fit shape bytes list group.3
 
-groups_fit : (shape : Shape) (groups : List Written) → AreGroups shape groups → All (Fits shape) (records groups)
-groups_fit shape [] whole = All-nil (Fits shape)
+-- a record that fits once its set is over the rows in force
+record FitsWider (shape : Shape) (r : Answered) : Type 0 where
+  column_below : r.column < columns shape
+  are_rows : AreRows r.rows.n r.rows.list
+  some : r.rows.list ≢ []
+  below : r.rows.n ≤ shape.rows
+
+-- a valid shape stays one over the rows that a group leaves, which are no fewer
+after_group : (shape : Shape) (text : List ℕ) (list : List Answered) (rows : ℕ) → IsShape shape → IsWritten shape text list rows →
+    IsShape (over rows shape) × (shape.rows ≤ rows)
+after_group shape text list rows shaped (inl group) = (
+  record { some_rows = omega (arith, group.1, shaped.some_rows); at_most = omega (arith, group.1, shaped.at_most); kinds = shaped.kinds },
+  omega (arith, group.1),
+)
+after_group shape text list rows shaped (inr growth) = (
+  record { some_rows = omega (arith, growth.0.0.0); at_most = growth.0.0.1; kinds = shaped.kinds },
+  omega (arith, growth.0.0.0),
+)
+
+pub after_groups : (shape : Shape) (gs : List Written) → IsShape shape → AreGroups shape gs → IsShape (over (rows_after shape.rows gs) shape)
+after_groups shape [] shaped whole = shaped
+after_groups shape (g ∷ gs) shaped whole = after_groups (over g.rows shape) gs (after_group shape g.text g.list g.rows shaped whole.0).0 whole.1
+
+no_fewer : (shape : Shape) (text : List ℕ) (list : List Answered) (rows : ℕ) → IsWritten shape text list rows → shape.rows ≤ rows
+no_fewer shape text list rows (inl group) = omega (arith, group.1)
+no_fewer shape text list rows (inr growth) = omega (arith, growth.0.0.0)
+
+rows_grow : (shape : Shape) (gs : List Written) → AreGroups shape gs → shape.rows ≤ rows_after shape.rows gs
+rows_grow shape [] whole = omega arith
+rows_grow shape (g ∷ gs) whole = omega (arith, no_fewer shape g.text g.list g.rows whole.0, rows_grow (over g.rows shape) gs whole.1)
+
+wider_fits : (shape : Shape) (rows : ℕ) → shape.rows ≤ rows → (r : Answered) → Fits shape r → FitsWider (over rows shape) r
+wider_fits shape rows le r fits =
+    record { column_below = fits.column_below; are_rows = fits.are_rows; some = fits.some; below = omega (arith, fits.same_n, le) }
+
+group_fits_wider : (shape : Shape) (text : List ℕ) (list : List Answered) (after rows : ℕ) → IsWritten shape text list after → after ≤ rows →
+    All (FitsWider (over rows shape)) list
+group_fits_wider shape text list after rows (inl group) le =
+    All-weaker (Fits shape) (FitsWider (over rows shape)) (wider_fits shape rows (omega (arith, group.1, le))) list (group_fits shape text list group.0)
+group_fits_wider shape text list after rows (inr growth) le =
+    subst (λ (l : List Answered). All (FitsWider (over rows shape)) l) (sym growth.1) (All-nil (FitsWider (over rows shape)))
+
+groups_fit : (shape : Shape) (groups : List Written) → AreGroups shape groups → All (FitsWider (over (rows_after shape.rows groups) shape)) (records groups)
+groups_fit shape [] whole = All-nil (FitsWider shape)
 groups_fit shape (group ∷ groups) whole =
-    subst (λ (list : List Answered). All (Fits shape) list) (sym (flat_map-cons (λ (g : Written). g.list) group groups))
-    (All-append (Fits shape) group.list (records groups) (group_fits shape group.text group.list whole.0) (groups_fit shape groups whole.1))
+    let P = FitsWider (over (rows_after group.rows groups) shape) in
+    subst (λ (list : List Answered). All P list) (sym (flat_map-cons (λ (g : Written). g.list) group groups))
+    (All-append P group.list (records groups)
+    (group_fits_wider shape group.text group.list group.rows (rows_after group.rows groups) whole.0 (rows_grow (over group.rows shape) groups whole.1))
+    (groups_fit (over group.rows shape) groups whole.1))
+
+-- no record is over more rows than are in force
+pub groups_below : (shape : Shape) (groups : List Written) → AreGroups shape groups → All (λ r. r.rows.n ≤ rows_after shape.rows groups) (records groups)
+groups_below shape groups whole =
+    All-weaker (FitsWider (over (rows_after shape.rows groups) shape)) (λ r. r.rows.n ≤ rows_after shape.rows groups) (λ r fits. fits.below) (records groups)
+    (groups_fit shape groups whole)
+
+widened_fits : (shape : Shape) (list : List Answered) → All (FitsWider shape) list → All (Fits shape) (widened shape.rows list)
+widened_fits shape list all =
+    All-map (Fits shape) (wider shape.rows) list (All-weaker (FitsWider shape) (λ r. Fits shape (wider shape.rows r)) (λ r fits. record {
+      column_below = fits.column_below;
+      same_n = refl;
+      are_rows = AscendsFrom-wider 0 r.rows.n shape.rows r.rows.list fits.below fits.are_rows;
+      some = fits.some;
+    }) list all)
 
 -- each record of the history fits
 pub history_fits : (file : List ℕ) (shape : Shape) (history : List Answered) (gate : ℕ) → StandsAt file shape history gate →
     All (λ r. FitsShape shape r.column r.rows) history
 history_fits file shape history gate stands =
-    subst (λ (list : List Answered). All (Fits shape) list) (sym stands.history_is) (groups_fit shape stands.groups stands.begins.whole)
+    subst (λ (list : List Answered). All (Fits shape) list) (sym stands.history_is)
+    (widened_fits shape (records stands.groups)
+    (subst (λ k. All (FitsWider (over k shape)) (records stands.groups)) (sym stands.rows_are)
+    (groups_fit (over stands.first shape) stands.groups stands.begins.whole)))
+
+-- and its shape is a valid one
+pub shape_is_valid : (file : List ℕ) (shape : Shape) (history : List Answered) (gate : ℕ) → StandsAt file shape history gate → IsShape shape
+shape_is_valid file shape history gate stands =
+    subst (λ k. IsShape (over k shape)) (sym stands.rows_are) (after_groups (over stands.first shape) stands.groups stands.begins.shaped.valid stands.begins.whole)

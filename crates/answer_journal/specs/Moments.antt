@@ -4,11 +4,16 @@ use Rattle.audit_types.specs.declared.shapes.Shape.{Shape}
 use Rattle.audit_types.specs.declared.records.Answered.{Answered}
 use Rattle.answer_journal.specs.declared.make.Found.{Found}
 use Rattle.answer_journal.specs.declared.make.Found.TheVariants.{Already, Closed, Short}
+use Rattle.audit_types.specs.Widening.{over, widened}
 use Rattle.journal_form.specs.Journal.{StandsFor}
 
 -- nothing was sent, and the image stands for the history before, or for that with the whole group
 abbrev pub IsBeforeOrAfter : Shape → List Answered → List Answered → List ℕ → List ℕ → List ℕ → Type 0
 IsBeforeOrAfter shape history list before image sent = (sent ≡ before) × (StandsFor image shape history ⊎ StandsFor image shape (history ++ list))
+
+-- nothing was sent, and the image stands for the history before, or for it over more rows
+abbrev pub IsBeforeOrGrown : Shape → List Answered → ℕ → List ℕ → List ℕ → List ℕ → Type 0
+IsBeforeOrGrown shape history rows before image sent = (sent ≡ before) × (StandsFor image shape history ⊎ StandsFor image (over rows shape) (widened rows history))
 
 -- the file is long enough for a journal and its header gate is open
 abbrev pub IsMade : List ℕ → Type 0
@@ -31,7 +36,3 @@ abbrev pub IsFound : Found → List ℕ → Type 0
 IsFound Already file = IsAlready file
 IsFound Closed file = (length file ≡ 21) × (slice_index file 0 ≢ 1)
 IsFound Short file = IsShort file
-
--- nothing was sent, and the image is this file
-abbrev pub IsUntouched : List ℕ → List ℕ → List ℕ → List ℕ → Type 0
-IsUntouched file before image sent = (sent ≡ before) × (image ≡ file)

@@ -4,38 +4,33 @@ ghost use Rattle.audit_types.specs.Limits.{most_records};
 ghost use Rattle.audit_types.specs.declared.shapes.Shape.{Shape};
 ghost use Rattle.audit_types.specs.declared.records.Answered.{Answered};
 ghost use Rattle.audit_types.specs.History.{FitsShape};
-ghost use Rattle.bench_core.specs.Causes.{Rose};
-ghost use Rattle.bench_core.specs.Calls.{IsQuiet, LeavesOnly};
+ghost use Rattle.bench_core.specs.Calls.{OnlyReads, TellsFault};
 ghost use Rattle.journal_form.specs.Journal.{StandsAt, BreaksAt, most_bytes};
 ghost use Rattle.answer_journal.specs.Contents.{IsJournal};
 ghost use Rattle.answer_journal.specs.Faults.{GaveUp, IsDueOrGaveUp, IsFaultOf};
-ghost use Rattle.answer_journal.specs.Moments.{IsMade, IsUntouched};
+ghost use Rattle.answer_journal.specs.Moments.{IsMade};
 
 use crate::journal::{BackFault, Journal};
 use crate::reading::{Contents, read_all};
-use audit_types::{Answered, MOST_RECORDS};
+use audit_types::{Answered, MOST_RECORDS, MOST_ROWS};
 use bench_core::Bench;
 use journal_form::laws::{
     bytes_of_records, no_break_in_a_journal, one_break, one_reading, the_front_tells,
 };
-use journal_form::{FRESH_SIZE, MOST_FOR_RECORD};
+use journal_form::{FRESH_SIZE, GROWTH_SIZE, MOST_FOR_RECORD};
 use std::alloc::Global;
 
-// The most bytes of a journal: each record may stand in a group of its own.
-const MOST_BYTES: u64 = (FRESH_SIZE + MOST_FOR_RECORD * MOST_RECORDS) as u64;
+// The most bytes of a journal: each record may stand in a group of its own, and each row but the first may have come alone.
+const MOST_BYTES: u64 = (FRESH_SIZE
+    + MOST_FOR_RECORD * MOST_RECORDS
+    + GROWTH_SIZE * (MOST_ROWS as usize - 1)) as u64;
 
 // The bytes of the bench's file, up to as many as a journal has at most.
 fn front_of<B: Bench>(alloc: Global, bench: &mut B) -> Result<Vec<u8>, BackFault>
     ensures bytes { B.told → IfOk result (λ bytes. bytes.items ≡ take most_bytes (B.file bench.old)) }
-    ensures file { B.file bench.new ≡ B.file bench.old }
-    ensures sent { B.sent bench.new ≡ B.sent bench.old }
-    ensures crash { (image : List ℕ) → B.leaves bench.new image → B.leaves bench.old image }
-    ensures untouched { B.told → IsQuiet B.Bench bench.old → LeavesOnly B.Bench bench.old bench.new (IsUntouched (B.file bench.old) (B.sent bench.old)) }
+    ensures reads { OnlyReads B.Bench bench.old bench.new }
     ensures ticks { B.told → OnOk result (B.moment bench.new ≡ B.moment bench.old + 2) }
-    ensures failed { IsErrOf result BackFault.Failed → Rose (B.faults bench.old) (B.faults bench.new) }
-    ensures last_call { IsErrOf result BackFault.Failed → B.last_failed bench.new ≡ true }
-    ensures steady { (IsErrOf result BackFault.Failed → ⊥) → B.faults bench.new ≡ B.faults bench.old }
-    ensures later { B.faults bench.old ≤ B.faults bench.new }
+    ensures fault { TellsFault B.Bench bench.old bench.new (IsErrOf result BackFault.Failed) }
     ensures err { IfErr result (λ fault. GaveUp fault) }
 {
     let length = bench.length()?;
@@ -50,15 +45,9 @@ fn contents_of<B: Bench>(alloc: Global, bench: &mut B) -> Result<Contents, BackF
     ensures ok { B.told → IfOk result (λ journal. StandsAt (B.file bench.old) journal.shape journal.list.items journal.gate) }
     ensures journal { IfOk result (λ journal. (file : List ℕ) × StandsAt file journal.shape journal.list.items journal.gate) }
     ensures err { B.told → IfErr result (λ fault. IsFaultOf (B.file bench.old) fault) }
-    ensures file { B.file bench.new ≡ B.file bench.old }
-    ensures sent { B.sent bench.new ≡ B.sent bench.old }
-    ensures crash { (image : List ℕ) → B.leaves bench.new image → B.leaves bench.old image }
-    ensures untouched { B.told → IsQuiet B.Bench bench.old → LeavesOnly B.Bench bench.old bench.new (IsUntouched (B.file bench.old) (B.sent bench.old)) }
+    ensures reads { OnlyReads B.Bench bench.old bench.new }
     ensures ticks { B.told → OnOk result (B.moment bench.new ≡ B.moment bench.old + 2) }
-    ensures failed { IsErrOf result BackFault.Failed → Rose (B.faults bench.old) (B.faults bench.new) }
-    ensures last_call { IsErrOf result BackFault.Failed → B.last_failed bench.new ≡ true }
-    ensures steady { (IsErrOf result BackFault.Failed → ⊥) → B.faults bench.new ≡ B.faults bench.old }
-    ensures later { B.faults bench.old ≤ B.faults bench.new }
+    ensures fault { TellsFault B.Bench bench.old bench.new (IsErrOf result BackFault.Failed) }
 {
     the_front_tells();
     let bytes = front_of(alloc, bench)?;
@@ -66,7 +55,7 @@ fn contents_of<B: Bench>(alloc: Global, bench: &mut B) -> Result<Contents, BackF
 }
 
 impl Journal {
-    /// Reads the journal of a bench back, with its records. It writes nothing.
+    /// Reads the journal of a bench back, with its records over the rows in force at its end. It writes nothing.
     pub fn read_back<B: Bench>(
         alloc: Global,
         bench: &mut B,
@@ -88,15 +77,9 @@ impl Journal {
         ensures whole { (shape : Shape) (history : List Answered) (gate : ℕ) → B.told → StandsAt (B.file bench.old) shape history gate
             → MatchResult result (λ r. (r.0.shape ≡ shape) × (r.1.items ≡ history) × (r.0.gate ≡ gate)) (λ fault. GaveUp fault) }
 
-        ensures file { B.file bench.new ≡ B.file bench.old }
-        ensures sent { B.sent bench.new ≡ B.sent bench.old }
-        ensures crash { (image : List ℕ) → B.leaves bench.new image → B.leaves bench.old image }
-        ensures untouched { B.told → IsQuiet B.Bench bench.old → LeavesOnly B.Bench bench.old bench.new (IsUntouched (B.file bench.old) (B.sent bench.old)) }
+        ensures reads { OnlyReads B.Bench bench.old bench.new }
         ensures ticks { B.told → OnOk result (B.moment bench.new ≡ B.moment bench.old + 2) }
-        ensures failed { IsErrOf result BackFault.Failed → Rose (B.faults bench.old) (B.faults bench.new) }
-        ensures last_call { IsErrOf result BackFault.Failed → B.last_failed bench.new ≡ true }
-        ensures steady { (IsErrOf result BackFault.Failed → ⊥) → B.faults bench.new ≡ B.faults bench.old }
-        ensures later { B.faults bench.old ≤ B.faults bench.new }
+        ensures fault { TellsFault B.Bench bench.old bench.new (IsErrOf result BackFault.Failed) }
     {
         one_reading();
         one_break();

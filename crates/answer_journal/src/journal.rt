@@ -3,18 +3,21 @@ ghost use Rattle.std.specs.Prelude.{◌≡◌, ◌<◌, ◌≤◌, ◌+◌, ◌+
 ghost use Rattle.audit_types.specs.Limits.{most_records};
 ghost use Rattle.audit_types.specs.declared.records.Answered.{Answered};
 ghost use Rattle.audit_types.specs.History.{FitsShape};
-ghost use Rattle.bench_core.specs.Causes.{HasCause, Rose};
-ghost use Rattle.bench_core.specs.Calls.{IsQuiet, LeavesOnly};
+ghost use Rattle.bench_core.specs.Causes.{HasCause};
+ghost use Rattle.bench_core.specs.Calls.{IsQuiet, LeavesOnly, TellsFault};
 ghost use Rattle.journal_form.specs.Journal.{StandsAt};
 ghost use Rattle.answer_journal.specs.Contents.{IsJournal, ReadyContents};
-ghost use Rattle.answer_journal.specs.Append.{AppendsGroup};
-ghost use Rattle.answer_journal.specs.Moments.{IsBeforeOrAfter};
+ghost use Rattle.answer_journal.specs.Append.{AppendsGroup, AppendsGrowth};
+ghost use Rattle.answer_journal.specs.Moments.{IsBeforeOrAfter, IsBeforeOrGrown};
+ghost use Rattle.audit_types.specs.Widening.{over, widened};
+ghost use Rattle.journal_form.specs.Group.{IsMoreRows};
 
 use crate::append::append_bytes;
 use crate::ready::Ready;
 use audit_types::{Answered, NoMemory, Shape};
 use bench_core::{Bench, Failed};
 use journal_form::laws::bytes_of_records;
+use journal_form::{GROWTH_SIZE, write_growth};
 use std::alloc::{AllocError, Global};
 use std::marker::Model;
 
@@ -121,7 +124,7 @@ impl Journal {
         self.usable
     }
 
-    /// The shape that the journal's header names.
+    /// The shape that the journal's header names, with the rows in force at its end.
     pub fn shape(&self) -> Shape
         ensures shape { result ≡ self.now.shape }
         ensures journal { IsJournal self.now }
@@ -182,6 +185,40 @@ impl Journal {
         Ok(())
     }
 
+    /// Appends a growth to more rows, in four calls of the bench. It takes no memory.
+    pub fn append_growth<B: Bench>(&mut self, bench: &mut B, rows: u16) -> Result<(), Failed>
+        requires usable { self.old.usable ≡ true }
+        requires more { IsMoreRows self.old.shape.rows rows }
+        requires stands { B.told → (history : List Answered) × StandsAt (B.file bench.old) self.old.shape history self.old.gate × (length history ≡ self.old.count) }
+
+        // A crash at any moment of the call leaves the history over the old rows, or over the new ones.
+        ensures any_moment { (history : List Answered) → B.told → StandsAt (B.file bench.old) self.old.shape history self.old.gate → IsQuiet B.Bench bench.old
+            → LeavesOnly B.Bench bench.old bench.new (IsBeforeOrGrown self.old.shape history rows (B.sent bench.old)) }
+
+        ensures done { (history : List Answered) → B.told → StandsAt (B.file bench.old) self.old.shape history self.old.gate
+            → OnOk result (StandsAt (B.file bench.new) self.new.shape (widened rows history) self.new.gate) }
+        ensures written { B.told → OnOk result (AppendsGrowth self.old.shape.rows rows self.old.gate (B.file bench.old) (B.file bench.new)) }
+        ensures quiet { B.told → OnOk result (IsQuiet B.Bench bench.new) }
+        ensures sent { B.sent bench.new ≡ B.sent bench.old }
+        ensures ticks { B.told → OnOk result (B.moment bench.new ≡ B.moment bench.old + 4) }
+        ensures cause { HasCause (B.faults bench.old) (B.faults bench.new) result }
+        ensures last_call { OnErr result (B.last_failed bench.new ≡ true) }
+
+        ensures shape { OnOk result (self.new.shape ≡ over rows self.old.shape) }
+        ensures counted { self.new.count ≡ self.old.count }
+        ensures usable { OnOk result (self.new.usable ≡ true) }
+        ensures unusable { OnErr result (self.new.usable ≡ false) }
+    {
+        self.usable = false;
+        let mut growth = [0; GROWTH_SIZE];
+        write_growth(rows, &mut growth);
+        append_bytes(bench, self.gate, &growth)?;
+        self.gate += GROWTH_SIZE as u64;
+        self.shape.rows = rows;
+        self.usable = true;
+        Ok(())
+    }
+
     /// Appends a group: makes it ready, and then appends it in four calls of the bench. All memory is taken before the
     /// first of them.
     pub fn append<B: Bench>(&mut self, bench: &mut B, list: &[Answered]) -> Result<(), AppendFault>
@@ -205,14 +242,12 @@ impl Journal {
 
         // Where memory is wanted nothing was called and nothing changed. It doesn't fail by itself.
         ensures no_memory { IsErrOf result AppendFault.NoMemory → (bench.new ≡ bench.old) × (self.new ≡ self.old) }
-        ensures failed { IsErrOf result AppendFault.Failed → Rose (B.faults bench.old) (B.faults bench.new) × (self.new.usable ≡ false) }
-        ensures last_call { IsErrOf result AppendFault.Failed → B.last_failed bench.new ≡ true }
-        ensures steady { (IsErrOf result AppendFault.Failed → ⊥) → B.faults bench.new ≡ B.faults bench.old }
-        ensures later { B.faults bench.old ≤ B.faults bench.new }
+        ensures fault { TellsFault B.Bench bench.old bench.new (IsErrOf result AppendFault.Failed) }
 
         ensures shape { self.new.shape ≡ self.old.shape }
         ensures counted { OnOk result (self.new.count ≡ self.old.count + length list.now) }
         ensures usable { OnOk result (self.new.usable ≡ true) }
+        ensures unusable { IsErrOf result AppendFault.Failed → self.new.usable ≡ false }
     {
         let ready = self.ready(list)?;
         self.append_ready(bench, &ready)?;

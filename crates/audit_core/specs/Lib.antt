@@ -2,3 +2,5 @@ pub mod Audited
 pub mod Columns
 pub mod Laws
 pub mod Outcomes
+pub mod WideningLaws
+pub mod FirstGroups

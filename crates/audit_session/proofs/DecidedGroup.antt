@@ -10,6 +10,7 @@ use Rattle.bench_core.specs.declared.bench.Bench.{Ghosts}
 use Rattle.bench_core.specs.Bench.{AppendsFront}
 use Rattle.bench_core.specs.Calls.{IsQuiet, LeavesOnly}
 use Rattle.bench_core.specs.Moments.{started, weakens, joins}
+use Rattle.audit_types.specs.declared.records.Protected.{Protected}
 use Rattle.table_load.specs.Cells.{SecretView, IsSecret}
 use Rattle.table_load.specs.Database.{secret_table}
 use Rattle.journal_form.specs.Journal.{StandsFor}
@@ -46,18 +47,18 @@ length-told (Ready answer ∷ plans) outcomes (reply ∷ told) tells = omega (ar
 length-told (Ask take asked ∷ plans) [] (reply ∷ told) tells = absurd tells
 length-told (Ask take asked ∷ plans) (outcome ∷ outcomes) (reply ∷ told) tells = omega (arith, length-told plans outcomes told tells.1)
 
-module _ {B : Type 0} (bench : Ghosts B) (old mid : B) (secret : SecretView) (history : List Answered) (plans : List Plan) where
+module _ {B : Type 0} (bench : Ghosts B) (old mid : B) (secret : SecretView) (protected : List Protected) (history : List Answered) (plans : List Plan) where
   -- the outcomes were told
-  pub told_group : (now : List Answered) (outcomes : List Outcome) (told : List Reply) → AreOutcomes (secret_table secret) history (questions_of plans) outcomes
+  pub told_group : (now : List Answered) (outcomes : List Outcome) (told : List Reply) → AreOutcomes (secret_table secret protected) history (questions_of plans) outcomes
       → AreTold plans outcomes told
       → now ≡ history ++ records_made (questions_of plans) outcomes →
       (bench.told → bench.moment mid ≡ bench.moment old + calls_for (records_made (questions_of plans) outcomes))
-      → DecidesGroup bench old mid (secret_table secret) history now plans told
+      → DecidesGroup bench old mid (secret_table secret protected) history now plans told
   told_group now outcomes told are tells history_is calls =
       let records = records_are plans outcomes told tells in
       record {
         replies = replies_to plans outcomes told;
-        due = replies_are (secret_table secret) history plans outcomes told are tells;
+        due = replies_are (secret_table secret protected) history plans outcomes told are tells;
         history_is = history_is ∙ ap (λ (l : List Answered). history ++ l) (sym records);
         bytes_are = bytes_are plans outcomes told tells;
         many = length-told plans outcomes told tells;
@@ -66,17 +67,17 @@ module _ {B : Type 0} (bench : Ghosts B) (old mid : B) (secret : SecretView) (hi
 
   -- while they are kept
   pub while_kept : OutcomesCanBeTold → SomeReplyTells → IsSecret secret → All (CanBeServed secret.shape) plans → (before : List ℕ)
-      → Keeps bench old mid secret history (questions_of plans) before
-      → LeavesOnly bench old mid (InGroup (IsReplyOf (secret_table secret)) (stands_of secret) history plans before)
+      → Keeps bench old mid (secret_table secret protected) history (questions_of plans) before
+      → LeavesOnly bench old mid (InGroup (IsReplyOf (secret_table secret protected)) (stands_of secret.shape) history plans before)
   while_kept can some is served before keeps =
-      let told = some_replies some plans keeps.outcomes (can_all can secret is history plans keeps.outcomes served keeps.due) in
+      let told = some_replies some plans keeps.outcomes (can_all can secret protected is history plans keeps.outcomes served keeps.due) in
       let replies = replies_to plans keeps.outcomes told.0 in
       weakens bench old mid _ _ (λ image bytes found.
       ⊎_elim (λ (stands : StandsFor image secret.shape history). inl (found.0, stands))
       (λ (stands : StandsFor image secret.shape (history ++ records_made (questions_of plans) keeps.outcomes)).
       inr (
         replies,
-        replies_are (secret_table secret) history plans keeps.outcomes told.0 keeps.due told.1,
+        replies_are (secret_table secret protected) history plans keeps.outcomes told.0 keeps.due told.1,
         subst (λ (l : List Answered). StandsFor image secret.shape (history ++ l)) (sym (records_are plans keeps.outcomes told.0 told.1)) stands,
         (0, found.0 ∙ sym (append-nil before)),
       ))
@@ -84,34 +85,34 @@ module _ {B : Type 0} (bench : Ghosts B) (old mid : B) (secret : SecretView) (hi
 
   -- where nothing was called
   pub nothing_called : mid ≡ old → ((image bytes : List ℕ) → bench.since old (bench.moment old) image bytes → bench.leaves old image × (bytes ≡ bench.sent old))
-      → IsQuiet bench old → stands_of secret (bench.file old) history
-      → LeavesOnly bench old mid (InGroup (IsReplyOf (secret_table secret)) (stands_of secret) history plans (bench.sent old))
+      → IsQuiet bench old → stands_of secret.shape (bench.file old) history
+      → LeavesOnly bench old mid (InGroup (IsReplyOf (secret_table secret protected)) (stands_of secret.shape) history plans (bench.sent old))
   nothing_called same only_now quiet stands =
-      subst (λ (b : B). LeavesOnly bench old b (InGroup (IsReplyOf (secret_table secret)) (stands_of secret) history plans (bench.sent old))) (sym same)
+      subst (λ (b : B). LeavesOnly bench old b (InGroup (IsReplyOf (secret_table secret protected)) (stands_of secret.shape) history plans (bench.sent old))) (sym same)
       (started bench old _ (λ image bytes was.
       let found = only_now image bytes was in
-      inl (found.1, subst (λ (i : List ℕ). stands_of secret i history) (sym (quiet image found.0)) stands)))
+      inl (found.1, subst (λ (i : List ℕ). stands_of secret.shape i history) (sym (quiet image found.0)) stands)))
 
   -- and then their replies are sent
-  module _ (now : List Answered) (told : List Reply) (decides : DecidesGroup bench old mid (secret_table secret) history now plans told)
+  module _ (now : List Answered) (told : List Reply) (decides : DecidesGroup bench old mid (secret_table secret protected) history now plans told)
       (nothing_sent : bench.sent mid ≡ bench.sent old) where
-    pub then_sent : (new : B) → stands_of secret (bench.file mid) now
-        → LeavesOnly bench old mid (InGroup (IsReplyOf (secret_table secret)) (stands_of secret) history plans (bench.sent old))
+    pub then_sent : (new : B) → stands_of secret.shape (bench.file mid) now
+        → LeavesOnly bench old mid (InGroup (IsReplyOf (secret_table secret protected)) (stands_of secret.shape) history plans (bench.sent old))
         → LeavesOnly bench mid new (SendsPart (bench.file mid) (bench.sent mid) (flat_map reply_bytes told)) →
-        LeavesOnly bench old new (InGroup (IsReplyOf (secret_table secret)) (stands_of secret) history plans (bench.sent old))
+        LeavesOnly bench old new (InGroup (IsReplyOf (secret_table secret protected)) (stands_of secret.shape) history plans (bench.sent old))
     then_sent new stands first sends =
         joins bench old mid new _ first (weakens bench mid new _ _ (λ image bytes found.
         inr (
           decides.replies,
           decides.due,
-          subst (λ (i : List ℕ). stands_of secret i (history ++ records_of decides.replies)) (sym found.0)
-              (subst (λ (h : List Answered). stands_of secret (bench.file mid) h) decides.history_is stands),
+          subst (λ (i : List ℕ). stands_of secret.shape i (history ++ records_of decides.replies)) (sym found.0)
+              (subst (λ (h : List Answered). stands_of secret.shape (bench.file mid) h) decides.history_is stands),
           subst (λ (l : List ℕ). AppendsFront (bench.sent old) l bytes) (sym decides.bytes_are)
               (subst (λ (l : List ℕ). AppendsFront l (flat_map reply_bytes told) bytes) nothing_sent found.1),
         )) sends)
 
     pub group_answered : (new : B) → (bench.told → bench.sent new ≡ bench.sent mid ++ flat_map reply_bytes told) →
-        (bench.told → bench.moment new ≡ bench.moment mid + length told) → AnswersGroup bench old new (secret_table secret) history now plans
+        (bench.told → bench.moment new ≡ bench.moment mid + length told) → AnswersGroup bench old new (secret_table secret protected) history now plans
     group_answered new all ticks = record {
       replies = decides.replies;
       due = decides.due;
@@ -123,5 +124,5 @@ module _ {B : Type 0} (bench : Ghosts B) (old mid : B) (secret : SecretView) (hi
 
 -- the file of a store that was left stands for its history
 pub left_stands : (file : List ℕ) (before after : StoreContents) → IsAsLeft file after → after.secret ≡ before.secret →
-    stands_of before.secret file after.history
-left_stands file before after left same = subst (λ (s : SecretView). stands_of s file after.history) same (after.journal.gate, left)
+    stands_of before.secret.shape file after.history
+left_stands file before after left same = subst (λ (s : SecretView). stands_of s.shape file after.history) same (after.journal.gate, left)

@@ -10,6 +10,7 @@ use Rattle.line_wire.specs.Lines.{CountedLine}
 use Rattle.question_plan.specs.Session.{AreReplies}
 use Rattle.question_plan.specs.Replies.{IsDue}
 use Rattle.audit_session.specs.Stops.{StopsOver, stands_over}
+use Rattle.audit_session.specs.Ends.{ServesSome}
 use Rattle.audit_session.proofs.StopsOfGroups.{stop_between}
 
 pub stops_first : {B : Type 0} (bench : Ghosts B) (at : B) (base : Database) (batch : ℕ) (history : List Answered) (lines : List CountedLine)
@@ -24,6 +25,21 @@ stops_first bench at base batch history lines only_now quiet stands = started be
           (subst (λ (h : List Answered). stands_over base image h) (sym (append-nil history))
           (subst (λ (f : List ℕ). stands_over base f history) (sym (quiet image found.0)) stands)) refl,
     ))
+  where
+    none : 0 ≡ 0 * batch
+    none = omega arith
+
+-- and no group was answered
+pub serves_none : (base : Database) (batch : ℕ) (history : List Answered) (lines : List CountedLine) (sent : List ℕ) → ServesSome base history batch lines history sent sent
+serves_none base batch history lines sent = record {
+  count = 0;
+  serves = record {
+    replies = [];
+    due = subst (λ (n : ℕ). AreReplies (IsDue base) history (take n lines) []) none tt;
+    history_is = sym (append-nil history);
+    sent_is = sym (append-nil sent);
+  };
+}
   where
     none : 0 ≡ 0 * batch
     none = omega arith

@@ -3,14 +3,11 @@ use Rattle.std.proofs.Common.{◌≡◌, ℕ, ◌≤◌, Bool, true, false, Resu
 use Rattle.std.specs.Prelude.{IsErrOf}
 use Rattle.std.specs.Result.{IsErr, IsErrAnd}
 use Rattle.std.proofs.lemmas.Bool.{false≢true}
-use Rattle.line_wire.specs.declared.lines.Next.{Next}
-use Rattle.line_wire.specs.declared.lines.LineStop.{LineStop}
-use Rattle.line_wire.specs.declared.lines.LineStop.TheVariants as stop
 use Rattle.audit_store.specs.declared.outcome.StoreFault.{StoreFault}
 use Rattle.audit_store.specs.declared.outcome.StoreFault.TheVariants as store
 use Rattle.audit_session.specs.declared.serving.EndFault.{EndFault}
 use Rattle.audit_session.specs.declared.serving.EndFault.TheVariants as end
-use Rattle.audit_session.specs.Ends.{line_end, store_end}
+use Rattle.audit_session.specs.Ends.{store_end}
 
 -- whether an input goes on has one answer
 pub no_more : {E P : Type 0} → (let given : Result Bool E = Ok false in given) ≡ Ok true → P
@@ -39,23 +36,10 @@ memory_no_limit answer same is = cc
 pub memory_no_bench : {X : Type 0} (answer : Result X EndFault) → answer ≡ Err end.NoMemory → answer ≡ Err end.Bench → ⊥
 memory_no_bench answer same is = cc
 
--- the cutter's stop, by the fault that it makes
-pub by_input : {X : Type 0} (given : LineStop) (answer : Result X EndFault) → answer ≡ Err (line_end given) → answer ≡ Err end.Input → given ≡ stop.Input
-by_input stop.Input answer same is = refl
-by_input stop.Limit answer same is = let none : ⊥ = cc in absurd none
-
-pub by_limit : {X : Type 0} (given : LineStop) (answer : Result X EndFault) → answer ≡ Err (line_end given) → answer ≡ Err end.Limit → given ≡ stop.Limit
-by_limit stop.Input answer same is = let none : ⊥ = cc in absurd none
-by_limit stop.Limit answer same is = refl
-
-pub no_bench : {X P : Type 0} (given : LineStop) (answer : Result X EndFault) → answer ≡ Err (line_end given) → answer ≡ Err end.Bench → P
-no_bench stop.Input answer same is = let none : ⊥ = cc in absurd none
-no_bench stop.Limit answer same is = let none : ⊥ = cc in absurd none
-
-pub no_input : {X : Type 0} (given : LineStop) (answer : Result X EndFault) → answer ≡ Err (line_end given) → (answer ≡ Err end.Input → ⊥)
-    → (let of_lines : Result Next LineStop = Err given in of_lines) ≡ Err stop.Input → ⊥
-no_input stop.Input answer same other is = other same
-no_input stop.Limit answer same other is = cc
+-- what is so of a fault is so of the one that is answered
+pub of_fault : {X : Type 0} (given fault : EndFault) (Claim : EndFault → Type 0) → Claim given → (let answer : Result X EndFault = Err given in answer) ≡ Err fault
+    → Claim fault
+of_fault given fault Claim holds is = let same : given ≡ fault = cc in subst Claim same holds
 
 -- the store's fault, by the end that it makes
 pub by_memory : {X Y : Type 0} (given : StoreFault) (answer : Result X EndFault) → answer ≡ Err (store_end given) → answer ≡ Err end.NoMemory →

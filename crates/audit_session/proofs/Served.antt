@@ -9,9 +9,10 @@ use Rattle.bench_core.specs.declared.source.Source.{Ghosts as SourceGhosts}
 use Rattle.bench_core.specs.Calls.{IsQuiet, LeavesOnly}
 use Rattle.bench_core.specs.Moments.{weakens, joins}
 use Rattle.schema_json.specs.Columns.{Column}
+use Rattle.audit_types.specs.declared.records.Protected.{Protected}
 use Rattle.table_load.specs.Cells.{PublicView, SecretView}
 use Rattle.table_load.specs.Database.{Database, base_of, secret_table}
-use Rattle.audit_store.specs.Stores.{StoreContents, IsAsLeft, IsStore}
+use Rattle.audit_store.specs.Stores.{StoreContents, IsAsLeft, IsStore, table_of}
 use Rattle.line_wire.specs.Lines.{CountedLine, counted_lines, whole_lines, most_input}
 use Rattle.line_wire.specs.Cutter.{Cutter}
 use Rattle.line_wire.specs.ReadLines.{IsRead, ReadsLines}
@@ -53,15 +54,16 @@ pub record Served {P B : Type 0} (source : SourceGhosts P) (bench : Ghosts B) (c
   pub within : lines.taken ≤ most_input + length lines.pending
   pub usable : store.usable ≡ true
   pub secret : store.secret ≡ first_store.secret
+  pub protected : store.protected ≡ first_store.protected
   pub is : IsStore store
   pub as_left : bench.told → IsAsLeft (bench.file at) store
   pub quiet : bench.told → IsQuiet bench first → IsQuiet bench at
-  pub answered : AnsweredLines source.told (base_of columns public first_store.secret) batch first_store.history (source.left first_source)
+  pub answered : AnsweredLines source.told (base_of columns public first_store.protected first_store.secret) batch first_store.history (source.left first_source)
       (lines.pending ++ source.left from) lines.ended store.history
   pub sent_is : bench.told → bench.sent at ≡ bench.sent first ++ bytes_of answered.replies
   pub calls : bench.told → bench.moment at ≡ bench.moment first + length answered.lines + 4 * commits batch answered.replies
   pub moments : bench.told → IsQuiet bench first →
-      LeavesOnly bench first at (StopsAmong source.told (base_of columns public first_store.secret) batch first_store.history
+      LeavesOnly bench first at (StopsAmong source.told (base_of columns public first_store.protected first_store.secret) batch first_store.history
       (counted_lines (source.left first_source)) (bench.sent first))
   pub source_steady : source.faults from ≡ source.faults first_source
   pub bench_steady : bench.faults at ≡ bench.faults first
@@ -71,10 +73,10 @@ pub first_moments : {B : Type 0} (told : Type 0) (bench : Ghosts B) (columns : L
     (all : List CountedLine) (at : B)
     → ((image bytes : List ℕ) → bench.since at (bench.moment at) image bytes → bench.leaves at image × (bytes ≡ bench.sent at)) → IsQuiet bench at →
     IsAsLeft (bench.file at) store
-    → LeavesOnly bench at at (StopsAmong told (base_of columns public store.secret) batch store.history all (bench.sent at))
+    → LeavesOnly bench at at (StopsAmong told (base_of columns public store.protected store.secret) batch store.history all (bench.sent at))
 first_moments told bench columns public batch store all at only_now quiet stands =
-    let stops : (ls : List CountedLine) → LeavesOnly bench at at (StopsOver (base_of columns public store.secret) batch store.history ls (bench.sent at)) =
-    λ ls. stops_first bench at (base_of columns public store.secret) batch store.history ls only_now quiet (store.journal.gate, stands) in
+    let stops : (ls : List CountedLine) → LeavesOnly bench at at (StopsOver (base_of columns public store.protected store.secret) batch store.history ls (bench.sent at)) =
+    λ ls. stops_first bench at (base_of columns public store.protected store.secret) batch store.history ls only_now quiet (store.journal.gate, stands) in
     record {
       later = omega arith;
       each = λ image bytes was. (([], (stops []).each image bytes was), λ t. (stops all).each image bytes was);
@@ -92,6 +94,7 @@ nothing_served source bench columns public batch lines store from at fresh usabl
   within = omega (arith, fresh.0);
   usable = usable;
   secret = refl;
+  protected = refl;
   is = is;
   as_left = stands;
   quiet = λ told quiet. quiet;
@@ -117,7 +120,7 @@ module _ {P B : Type 0} (source : SourceGhosts P) (bench : Ghosts B) (columns : 
     (first_store store : StoreContents) (first_source from : P) (first at : B)
     (served : Served source bench columns public batch lines first_store store first_source from first at) where
   abbrev base : Database
-  base = base_of columns public first_store.secret
+  base = base_of columns public first_store.protected first_store.secret
 
   abbrev all : List CountedLine
   all = counted_lines (source.left first_source)
@@ -224,12 +227,13 @@ module _ {P B : Type 0} (source : SourceGhosts P) (bench : Ghosts B) (columns : 
     as_many = length-plans columns public gathers.lines plans gathers.planned
 
     -- of the store as it was before the group
-    over_first : (claim : SecretView → Type 0) → claim store.secret → claim first_store.secret
-    over_first claim holds = subst claim served.secret holds
+    over_first : (claim : SecretView → List Protected → Type 0) → claim store.secret store.protected → claim first_store.secret first_store.protected
+    over_first claim holds = subst (λ (p : List Protected). claim first_store.secret p) served.protected
+        (subst (λ (s : SecretView). claim s store.protected) served.secret holds)
 
     -- while it is answered
     pub turn_moments : (new : B) → (source.told → (length plans ≡ batch) ⊎ (behind ≡ [])) → bench.told → IsQuiet bench first
-        → LeavesOnly bench at new (InGroup (IsReplyOf (secret_table store.secret)) (stands_of store.secret) store.history plans (bench.sent at))
+        → LeavesOnly bench at new (InGroup (IsReplyOf (table_of store)) (stands_of store.secret.shape) store.history plans (bench.sent at))
         → LeavesOnly bench first new (StopsAmong source.told base batch first_store.history all (bench.sent first))
     turn_moments new ends u quiet moments =
         joins bench first at new _ (served.moments u quiet)
@@ -237,14 +241,14 @@ module _ {P B : Type 0} (source : SourceGhosts P) (bench : Ghosts B) (columns : 
         stops_among base batch served.answered.count first_store.history store.history served.answered.lines gathers.lines served.answered.replies plans
         served.answered.many few served.answered.due served.answered.history_is gathers.planned
         source.told all behind (bench.sent first) (bench.sent at) image bytes all_are ends (served.sent_is u) found)
-        (over_first (λ s. LeavesOnly bench at new (InGroup (IsReplyOf (secret_table s)) (stands_of s) store.history plans (bench.sent at))) moments))
+        (over_first (λ s p. LeavesOnly bench at new (InGroup (IsReplyOf (secret_table s p)) (stands_of s.shape) store.history plans (bench.sent at))) moments))
 
-    module _ (now : List Answered) (new : B) (answers : AnswersGroup bench at new (secret_table store.secret) store.history now plans) where
+    module _ (now : List Answered) (new : B) (answers : AnswersGroup bench at new (table_of store) store.history now plans) where
       due_now : AreReplies (IsDue base) first_store.history (served.answered.lines ++ gathers.lines) (served.answered.replies ++ answers.replies)
       due_now =
           all_due base batch served.answered.count first_store.history store.history served.answered.lines gathers.lines served.answered.replies plans
           served.answered.many few served.answered.due served.answered.history_is gathers.planned answers.replies
-          (over_first (λ s. AreReplies (IsReplyOf (secret_table s)) store.history plans answers.replies) answers.due)
+          (over_first (λ s p. AreReplies (IsReplyOf (secret_table s p)) store.history plans answers.replies) answers.due)
 
       history_now : now ≡ first_store.history ++ records_of (served.answered.replies ++ answers.replies)
       history_now =
@@ -264,7 +268,7 @@ module _ {P B : Type 0} (source : SourceGhosts P) (bench : Ghosts B) (columns : 
           let long : length served.answered.replies ≡ served.answered.count * batch =
           length-replies (IsDue base) first_store.history served.answered.lines served.answered.replies served.answered.due ∙ served.answered.many in
           let more : length answers.replies ≡ length plans =
-          length-replies (IsReplyOf (secret_table store.secret)) store.history plans answers.replies answers.due in
+          length-replies (IsReplyOf (table_of store)) store.history plans answers.replies answers.due in
           omega (
             arith,
             answers.calls u,
@@ -279,17 +283,18 @@ module _ {P B : Type 0} (source : SourceGhosts P) (bench : Ghosts B) (columns : 
           → (source.told → lines_now.ended ≡ true → source.left source_now ≡ [])
           → (source.told → lines_now.taken + length (source.left source_now) ≡ lines.taken + length (source.left from))
           → lines_now.taken ≤ most_input + length lines_now.pending → source.faults source_now ≡ source.faults from → StandsOn bench at new store_now →
-          store_now.secret ≡ store.secret → IsStore store_now → bench.faults new ≡ bench.faults at
+          (store_now.secret ≡ store.secret) × (store_now.protected ≡ store.protected) → IsStore store_now → bench.faults new ≡ bench.faults at
           →
           (bench.told → IsQuiet bench at → LeavesOnly bench at new
-          (InGroup (IsReplyOf (secret_table store.secret)) (stands_of store.secret) store.history plans (bench.sent at)))
+          (InGroup (IsReplyOf (table_of store)) (stands_of store.secret.shape) store.history plans (bench.sent at)))
           → Served source bench columns public batch lines_now first_store store_now first_source source_now first new
-      next_turn store_now is is_ended full same taken within source_steady stands secret of_store bench_steady moments = record {
+      next_turn store_now is is_ended full same taken within source_steady stands table of_store bench_steady moments = record {
         same = same;
         taken = λ t. taken t ∙ served.taken t;
         within = within;
         usable = stands.usable;
-        secret = secret ∙ served.secret;
+        secret = table.0 ∙ served.secret;
+        protected = table.1 ∙ served.protected;
         is = of_store;
         as_left = stands.as_left;
         quiet = λ u quiet. stands.quiet u (served.quiet u quiet);

@@ -9,8 +9,8 @@ use Rattle.audit_store.specs.Stores.{StoreContents}
 use Rattle.audit_store.specs.declared.outcome.StoreFault.{StoreFault}
 use Rattle.audit_store.specs.declared.outcome.StoreFault.TheVariants as store
 use Rattle.line_wire.specs.Lines.{CountedLine, counted_lines, whole_lines, most_input}
-use Rattle.line_wire.specs.declared.lines.LineStop.{LineStop}
-use Rattle.line_wire.specs.declared.lines.LineStop.TheVariants as stop
+use Rattle.question_plan.specs.declared.planner.PlanStop.{PlanStop}
+use Rattle.question_plan.specs.declared.planner.PlanStop.TheVariants as stop
 use Rattle.question_plan.specs.Session.{Replied, records_of, bytes_of, AreReplies, groups, commits}
 use Rattle.question_plan.specs.Replies.{IsDue}
 use Rattle.audit_session.specs.declared.serving.EndFault.{EndFault}
@@ -70,14 +70,15 @@ Reads (Err end.Limit) input left = most_input + length left < length input
 Reads (Err end.NoMemory) input left = Unit {0}
 Reads (Err end.Bench) input left = Unit {0}
 
--- the end that a refusal of the store, or of the cutter of lines, makes
+-- the end that a refusal of the store, or of the planner of lines, makes
 abbrev pub store_end : StoreFault → EndFault
 store_end store.Failed = end.Bench
 store_end store.NoMemory = end.NoMemory
 
-abbrev pub line_end : LineStop → EndFault
-line_end stop.Input = end.Input
-line_end stop.Limit = end.Limit
+abbrev pub plan_end : PlanStop → EndFault
+plan_end stop.Input = end.Input
+plan_end stop.Limit = end.Limit
+plan_end stop.NoMemory = end.NoMemory
 
 -- the file stands for the history, and a quiet bench is still quiet
 pub record Rests {B : Type 0} (bench : Ghosts B) (old new : B) (store : StoreContents) : Type 0 where

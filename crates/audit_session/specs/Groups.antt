@@ -1,5 +1,5 @@
 -- A group of lines: what was read, what the lines come to, and what is left of the store and the bench.
-use Rattle.std.specs.Prelude.{◌≡◌, ◌⊎◌, ℕ, ◌+◌, ◌<◌, ◌≤◌, Bool, true, List, [], ◌∷◌, ◌++◌, length, Option, Some, None}
+use Rattle.std.specs.Prelude.{◌≡◌, ◌⊎◌, ℕ, ◌+◌, ◌<◌, ◌≤◌, Bool, true, List, [], ◌∷◌, ◌++◌, length}
 use Rattle.std.specs.List.{flat_map}
 use Rattle.audit_types.specs.Limits.{most_rows}
 use Rattle.audit_types.specs.declared.records.Asked.{Asked}
@@ -7,15 +7,18 @@ use Rattle.audit_types.specs.declared.records.Answered.{Answered}
 use Rattle.audit_types.specs.History.{Table}
 use Rattle.audit_core.specs.declared.outcome.Outcome.{Outcome}
 use Rattle.schema_json.specs.Columns.{Column}
-use Rattle.schema_json.specs.SecretShape.{shape_of}
-use Rattle.table_load.specs.Cells.{PublicView, SecretView}
+use Rattle.audit_types.specs.declared.shapes.Shape.{Shape}
+use Rattle.table_load.specs.Cells.{PublicView}
 use Rattle.table_load.specs.Database.{Database}
 use Rattle.journal_form.specs.Journal.{StandsFor}
 use Rattle.bench_core.specs.declared.bench.Bench.{Ghosts}
+use Rattle.bench_core.specs.declared.source.Source.{Ghosts as SourceGhosts}
+use Rattle.bench_core.specs.Causes.{Rose}
 use Rattle.bench_core.specs.Bench.{AppendsFront}
 use Rattle.bench_core.specs.Calls.{IsQuiet}
 use Rattle.audit_store.specs.Stores.{StoreContents, IsAsLeft, calls_for}
-use Rattle.line_wire.specs.Lines.{CountedLine, counted_lines, whole_lines}
+use Rattle.line_wire.specs.Lines.{CountedLine, whole_lines, most_input}
+use Rattle.line_wire.specs.Cutter.{Cutter}
 use Rattle.line_wire.specs.ReadLines.{ReadsLines}
 use Rattle.line_wire.specs.Reply.{reply_bytes, IsInRange}
 use Rattle.line_wire.specs.declared.reply.Reply.{Reply}
@@ -23,8 +26,10 @@ use Rattle.question_plan.specs.declared.planning.Plan.{Plan}
 use Rattle.question_plan.specs.declared.planning.Plan.TheVariants.{Ready, Ask}
 use Rattle.question_plan.specs.Session.{Replied, records_of, bytes_of, AreReplies}
 use Rattle.question_plan.specs.Replies.{IsPlan, IsReplyOf, TellsOutcome}
-use Rattle.question_plan.specs.Plans.{CanBeServed, CanBeTold}
+use Rattle.question_plan.specs.Plans.{CanBeTold}
 use Rattle.audit_session.specs.Stops.{StopsOver}
+use Rattle.audit_session.specs.declared.serving.EndFault.{EndFault}
+use Rattle.audit_session.specs.declared.serving.EndFault.TheVariants as end
 
 -- ---- reading
 
@@ -47,15 +52,27 @@ pub record Gathers (told : Type 0) (columns : List Column) (public : PublicView)
   pub planned : ArePlans columns public lines plans
   pub reads : told → ReadsLines rest left ended lines
 
--- what comes next: a line and its plan, or nothing is left
-abbrev pub GivesNext : Type 0 → List Column → PublicView → List ℕ → List ℕ → Bool → Option Plan → Type 0
-GivesNext told columns public rest left ended (Some plan) = CanBeServed (shape_of columns public.rows) plan × Gathers told columns public rest left ended (plan ∷ [])
-GivesNext told columns public rest left ended None = told → (left ≡ []) × (counted_lines rest ≡ [])
+-- a read failed before a whole group was read
+pub record FailsGathering {P : Type 0} (source : SourceGhosts P) (batch : ℕ) (old new : Cutter) (before after : P) : Type 0 where
+  pub going : ¬ (old.ended ≡ true)
+  pub short : source.told → CutsShort batch (old.pending ++ source.left before) (source.left after)
+  pub within : new.taken ≤ most_input
+  pub rose : Rose (source.faults before) (source.faults after)
+  pub last : source.last_failed after ≡ true
 
--- a line took a byte at least
-abbrev pub TakesByte : ℕ → ℕ → Option Plan → Type 0
-TakesByte before now (Some plan) = before < now
-TakesByte before now None = Unit {0}
+-- the limit was passed before a whole group was read
+pub record PassesGathering {P : Type 0} (source : SourceGhosts P) (batch : ℕ) (old new : Cutter) (before after : P) : Type 0 where
+  pub short : source.told → CutsShort batch (old.pending ++ source.left before) (new.pending ++ source.left after)
+  pub over : new.taken ≡ most_input + length new.pending
+  pub some : 0 < length new.pending
+  pub steady : source.faults after ≡ source.faults before
+
+-- why no group was gathered. The bench isn't called
+abbrev pub IsUngathered : {P : Type 0} → SourceGhosts P → ℕ → Cutter → Cutter → P → P → EndFault → Type 0
+IsUngathered source batch old new before after end.Input = FailsGathering source batch old new before after
+IsUngathered source batch old new before after end.Limit = PassesGathering source batch old new before after
+IsUngathered source batch old new before after end.NoMemory = source.faults after ≡ source.faults before
+IsUngathered source batch old new before after end.Bench = ⊥
 
 -- ---- deciding
 
@@ -101,9 +118,9 @@ pub record StandsOn {B : Type 0} (bench : Ghosts B) (old new : B) (store : Store
   pub as_left : bench.told → IsAsLeft (bench.file new) store
   pub quiet : bench.told → IsQuiet bench old → IsQuiet bench new
 
--- the image stands for this history of the secrets' table
-abbrev pub stands_of : SecretView → List ℕ → List Answered → Type 0
-stands_of secret image history = StandsFor image secret.shape history
+-- the image stands for this history of a table of the shape
+abbrev pub stands_of : Shape → List ℕ → List Answered → Type 0
+stands_of shape image history = StandsFor image shape history
 
 -- ---- answering
 

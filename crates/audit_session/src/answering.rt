@@ -2,11 +2,10 @@
 ghost use Rattle.std.specs.Prelude.{◌≡◌, ◌≢◌, ◌≤◌, ◌+◌, ◌++◌, List, ℕ, true, false, length, All, OnOk, OnErr, IsErrOf, Err};
 ghost use Rattle.std.specs.List.{flat_map};
 ghost use Rattle.std.specs.Vec.{vec_capacity};
-ghost use Rattle.table_load.specs.Database.{secret_table};
-ghost use Rattle.bench_core.specs.Causes.{HasCause, Rose};
+ghost use Rattle.bench_core.specs.Causes.{HasCause};
 ghost use Rattle.bench_core.specs.Bench.{AppendsFront, Elapses, Sending};
-ghost use Rattle.bench_core.specs.Calls.{IsQuiet, LeavesOnly};
-ghost use Rattle.audit_store.specs.Stores.{IsAsLeft, IsStore};
+ghost use Rattle.bench_core.specs.Calls.{IsQuiet, LeavesOnly, TellsFault};
+ghost use Rattle.audit_store.specs.Stores.{IsAsLeft, IsStore, table_of};
 ghost use Rattle.line_wire.specs.Reply.{reply_bytes, IsInRange};
 ghost use Rattle.question_plan.specs.Plans.{CanBeServed};
 ghost use Rattle.question_plan.specs.Replies.{IsReplyOf};
@@ -50,22 +49,19 @@ fn decide<B: Bench>(store: &mut Store, bench: &mut B, group: &mut Group) -> Resu
     requires questions { group.old.asked.items ≡ questions_of group.old.plans.items }
     requires room { length group.old.plans.items ≤ vec_capacity group.old.replies }
     requires stands { B.told → IsAsLeft (B.file bench.old) store.old }
-    ensures decides { OnOk result (DecidesGroup B.Bench bench.old bench.new (secret_table store.old.secret) store.old.history store.new.history group.old.plans.items group.new.replies.items) }
+    ensures decides { OnOk result (DecidesGroup B.Bench bench.old bench.new (table_of store.old) store.old.history store.new.history group.old.plans.items group.new.replies.items) }
     ensures in_range { OnOk result (All IsInRange group.new.replies.items) }
     ensures stands { OnOk result (StandsOn B.Bench bench.old bench.new store.new) }
     ensures err { OnErr result ((store.new.history ≡ store.old.history) × (store.new.usable ≡ false)) }
     ensures no_memory { IsErrOf result StoreFault.NoMemory → bench.new ≡ bench.old }
     ensures moments { B.told → IsQuiet B.Bench bench.old
-        → LeavesOnly B.Bench bench.old bench.new (InGroup (IsReplyOf (secret_table store.old.secret)) (stands_of store.old.secret) store.old.history group.old.plans.items (B.sent bench.old)) }
+        → LeavesOnly B.Bench bench.old bench.new (InGroup (IsReplyOf (table_of store.old)) (stands_of store.old.secret.shape) store.old.history group.old.plans.items (B.sent bench.old)) }
     ensures sent { B.sent bench.new ≡ B.sent bench.old }
     ensures room { vec_capacity group.new.replies ≡ vec_capacity group.old.replies }
     ensures plans { group.new.plans.items ≡ group.old.plans.items }
-    ensures secret { store.new.secret ≡ store.old.secret }
+    ensures table { (store.new.secret ≡ store.old.secret) × (store.new.protected ≡ store.old.protected) }
     ensures is { IsStore store.new }
-    ensures failed { IsErrOf result StoreFault.Failed → Rose (B.faults bench.old) (B.faults bench.new) }
-    ensures last_call { IsErrOf result StoreFault.Failed → B.last_failed bench.new ≡ true }
-    ensures steady { (IsErrOf result StoreFault.Failed → ⊥) → B.faults bench.new ≡ B.faults bench.old }
-    ensures later { B.faults bench.old ≤ B.faults bench.new }
+    ensures fault { TellsFault B.Bench bench.old bench.new (IsErrOf result StoreFault.Failed) }
 {
     told_outcomes();
     let outcomes = store.ask_all(bench, &group.asked)?;
@@ -120,19 +116,16 @@ pub(crate) fn answer<B: Bench>(
     requires questions { group.old.asked.items ≡ questions_of group.old.plans.items }
     requires room { length group.old.plans.items ≤ vec_capacity group.old.replies }
     requires stands { B.told → IsAsLeft (B.file bench.old) store.old }
-    ensures answers { OnOk result (AnswersGroup B.Bench bench.old bench.new (secret_table store.old.secret) store.old.history store.new.history group.old.plans.items) }
+    ensures answers { OnOk result (AnswersGroup B.Bench bench.old bench.new (table_of store.old) store.old.history store.new.history group.old.plans.items) }
     ensures stands { OnOk result (StandsOn B.Bench bench.old bench.new store.new) }
     ensures moments { B.told → IsQuiet B.Bench bench.old
-        → LeavesOnly B.Bench bench.old bench.new (InGroup (IsReplyOf (secret_table store.old.secret)) (stands_of store.old.secret) store.old.history group.old.plans.items (B.sent bench.old)) }
+        → LeavesOnly B.Bench bench.old bench.new (InGroup (IsReplyOf (table_of store.old)) (stands_of store.old.secret.shape) store.old.history group.old.plans.items (B.sent bench.old)) }
     ensures left { B.told → store.new.usable ≡ true → IsAsLeft (B.file bench.new) store.new }
     ensures no_memory { result ≡ Err EndFault.NoMemory → (bench.new ≡ bench.old) × (store.new.history ≡ store.old.history) }
     ensures room { vec_capacity group.new.replies ≡ vec_capacity group.old.replies }
-    ensures secret { store.new.secret ≡ store.old.secret }
+    ensures table { (store.new.secret ≡ store.old.secret) × (store.new.protected ≡ store.old.protected) }
     ensures is { IsStore store.new }
-    ensures failed { result ≡ Err EndFault.Bench → Rose (B.faults bench.old) (B.faults bench.new) }
-    ensures last_call { result ≡ Err EndFault.Bench → B.last_failed bench.new ≡ true }
-    ensures steady { result ≢ Err EndFault.Bench → B.faults bench.new ≡ B.faults bench.old }
-    ensures later { B.faults bench.old ≤ B.faults bench.new }
+    ensures fault { TellsFault B.Bench bench.old bench.new (result ≡ Err EndFault.Bench) }
     ensures others { (result ≢ Err EndFault.Input) × (result ≢ Err EndFault.Limit) }
 {
     decide(store, bench, group)?;

@@ -1,31 +1,28 @@
 //! Gathering the lines of a group.
-ghost use Rattle.std.specs.Prelude.{◌≡◌, ◌≢◌, ◌<◌, ◌≤◌, ◌+◌, ◌++◌, ◌||◌, [], ◌∷◌, not, true, false, length, All, IfOk, OnOk, Ok, Err};
+ghost use Rattle.std.specs.Prelude.{◌≡◌, ◌≢◌, ◌<◌, ◌≤◌, ◌+◌, ◌++◌, ◌||◌, [], ◌∷◌, not, true, false, length, All, IfOk, IfErr, OnOk, Ok};
 ghost use Rattle.std.specs.Vec.{vec_capacity, vec_len};
 ghost use Rattle.schema_json.specs.SecretShape.{shape_of};
 ghost use Rattle.table_load.specs.Cells.{FitsSchema};
-ghost use Rattle.bench_core.specs.Causes.{Rose};
 ghost use Rattle.line_wire.specs.Lines.{most_input};
-ghost use Rattle.line_wire.specs.Cutter.{StopsAt};
+ghost use Rattle.line_wire.specs.Calls.{Cuts};
 ghost use Rattle.question_plan.specs.Plans.{CanBeServed};
-ghost use Rattle.audit_session.specs.Groups.{CutsShort, Gathers, GivesNext, TakesByte, question_in, questions_of};
+ghost use Rattle.audit_session.specs.Groups.{Gathers, IsUngathered, question_in, questions_of};
 
 use crate::serving::EndFault;
 use audit_types::{Asked, NoMemory};
 use bench_core::Source;
-use json::Scratch;
-use line_wire::{Lines, Next, Reply};
-use question_plan::{Plan, plan_line};
+use line_wire::Reply;
+use question_plan::{Plan, Planner};
 use schema_json::Schema;
 use set_index::Index;
 use std::alloc::Global;
 
-/// What the lines of a group come to, their questions, room for their replies, and the memory that JSON is read with.
+/// What the lines of a group come to, their questions, and room for their replies.
 #[derive(Drop)]
 pub(crate) struct Group {
     pub(crate) plans: Vec<Plan>,
     pub(crate) asked: Vec<Asked>,
     pub(crate) replies: Vec<Reply>,
-    scratch: Scratch,
 }
 
 // Adds the question of a plan, if it asks one.
@@ -50,7 +47,6 @@ impl Group {
             plans: Vec::with_capacity(alloc, batch as usize)?,
             asked: Vec::with_capacity(alloc, batch as usize)?,
             replies: Vec::with_capacity(alloc, batch as usize)?,
-            scratch: Scratch::new(alloc),
         })
     }
 
@@ -84,86 +80,39 @@ impl Group {
     }
 }
 
-// What the next counted line comes to. No line is left where there is none.
-fn next_plan<P: Source>(
-    alloc: Global,
-    lines: &mut Lines,
-    schema: &Schema,
-    index: &Index,
-    source: &mut P,
-    scratch: &mut Scratch,
-) -> Result<Option<Plan>, EndFault>
-    requires same { P.told → lines.old.ended ≡ true → P.left source.old ≡ [] }
-    requires fits { FitsSchema schema.now.columns index.now }
-    ensures next { IfOk result (GivesNext P.told schema.now.columns index.now (lines.old.pending ++ P.left source.old) (lines.new.pending ++ P.left source.new) lines.new.ended) }
-    ensures takes { IfOk result (TakesByte (lines.old.taken + length lines.new.pending) (lines.new.taken + length lines.old.pending)) }
-    ensures input { P.told → result ≡ Err EndFault.Input → StopsAt (lines.old.pending ++ P.left source.old) (P.left source.new) }
-    ensures limit { P.told → result ≡ Err EndFault.Limit → StopsAt (lines.old.pending ++ P.left source.old) (lines.new.pending ++ P.left source.new) }
-    ensures over { result ≡ Err EndFault.Limit → (lines.new.taken ≡ most_input + length lines.new.pending) × (0 < length lines.new.pending) }
-    ensures read { result ≡ Err EndFault.Input → lines.new.taken ≤ most_input }
-    ensures same { P.told → lines.new.ended ≡ true → P.left source.new ≡ [] }
-    ensures taken { P.told → lines.new.taken + length (P.left source.new) ≡ lines.old.taken + length (P.left source.old) }
-    ensures within { lines.new.taken ≤ most_input + length lines.new.pending }
-    ensures once { lines.old.ended ≡ true → (source.new ≡ source.old) × (lines.new.ended ≡ true) × (result ≡ Err EndFault.Input → ⊥) }
-    ensures later { P.faults source.old ≤ P.faults source.new }
-    ensures steady { result ≢ Err EndFault.Input → P.faults source.new ≡ P.faults source.old }
-    ensures failed { result ≡ Err EndFault.Input → Rose (P.faults source.old) (P.faults source.new) }
-    ensures last_call { result ≡ Err EndFault.Input → P.last_failed source.new ≡ true }
-    ensures others { result ≢ Err EndFault.Bench }
-{
-    match lines.next(source) {
-        Ok(Next::Line) => Ok(Some(plan_line(alloc, schema, index, lines.text(), scratch)?)),
-        Ok(Next::Long) => Ok(Some(Plan::Ready(Reply::Long))),
-        Ok(Next::End) => Ok(None),
-        Err(stop) => Err(EndFault::from(stop)),
-    }
-}
-
 /// Gathers the next group of lines, and answers whether the input goes on after them. Nothing of the last group is left.
 pub(crate) fn gather<P: Source>(
     alloc: Global,
-    lines: &mut Lines,
+    planner: &mut Planner,
     schema: &Schema,
     index: &Index,
     source: &mut P,
     batch: u8,
     group: &mut Group,
 ) -> Result<bool, EndFault>
-    requires same { P.told → lines.old.ended ≡ true → P.left source.old ≡ [] }
-    requires within { lines.old.taken ≤ most_input + length lines.old.pending }
-    requires fits { FitsSchema schema.now.columns index.now }
+    requires same { P.told → planner.old.ended ≡ true → P.left source.old ≡ [] }
+    requires within { planner.old.taken ≤ most_input + length planner.old.pending }
+    requires fits { FitsSchema schema.now.columns index.now.public }
     requires some { 0 < batch }
 
     // The lines, what they come to, and how many there are.
-    ensures gathers { IfOk result (λ more. Gathers P.told schema.now.columns index.now (lines.old.pending ++ P.left source.old) (lines.new.pending ++ P.left source.new) (not more || lines.new.ended) group.new.plans.items) }
+    ensures gathers { IfOk result (λ more. Gathers P.told schema.now.columns index.now.public (planner.old.pending ++ P.left source.old) (planner.new.pending ++ P.left source.new) (not more || planner.new.ended) group.new.plans.items) }
     ensures questions { OnOk result (group.new.asked.items ≡ questions_of group.new.plans.items) }
-    ensures served { OnOk result (All (CanBeServed (shape_of schema.now.columns index.now.rows)) group.new.plans.items) }
+    ensures served { OnOk result (All (CanBeServed (shape_of schema.now.columns index.now.public.rows)) group.new.plans.items) }
     ensures most { OnOk result (length group.new.plans.items ≤ batch) }
     ensures whole { result ≡ Ok true → length group.new.plans.items ≡ batch }
-    ensures last { P.told → result ≡ Ok false → lines.new.pending ++ P.left source.new ≡ [] }
-    ensures takes { result ≡ Ok true → lines.old.taken + length lines.new.pending < lines.new.taken + length lines.old.pending }
+    ensures last { P.told → result ≡ Ok false → planner.new.pending ++ P.left source.new ≡ [] }
+    ensures takes { result ≡ Ok true → planner.old.taken + length planner.new.pending < planner.new.taken + length planner.old.pending }
     ensures room { vec_capacity group.new.replies ≡ vec_capacity group.old.replies }
+    ensures steady { OnOk result (P.faults source.new ≡ P.faults source.old) }
 
-    // Where it is cut short, by a failed read or at the limit, there are fewer.
-    ensures input { P.told → result ≡ Err EndFault.Input → CutsShort batch (lines.old.pending ++ P.left source.old) (P.left source.new) }
-    ensures limit { P.told → result ≡ Err EndFault.Limit → CutsShort batch (lines.old.pending ++ P.left source.old) (lines.new.pending ++ P.left source.new) }
-    ensures over { result ≡ Err EndFault.Limit → (lines.new.taken ≡ most_input + length lines.new.pending) × (0 < length lines.new.pending) }
-    ensures read { result ≡ Err EndFault.Input → lines.new.taken ≤ most_input }
-
-    // The cutter and the source.
-    ensures same { P.told → lines.new.ended ≡ true → P.left source.new ≡ [] }
-    ensures taken { P.told → lines.new.taken + length (P.left source.new) ≡ lines.old.taken + length (P.left source.old) }
-    ensures within { lines.new.taken ≤ most_input + length lines.new.pending }
-    ensures once { lines.old.ended ≡ true → (lines.new.ended ≡ true) × (result ≡ Err EndFault.Input → ⊥) }
-    ensures later { P.faults source.old ≤ P.faults source.new }
-    ensures steady { result ≢ Err EndFault.Input → P.faults source.new ≡ P.faults source.old }
-    ensures failed { result ≡ Err EndFault.Input → Rose (P.faults source.old) (P.faults source.new) }
-    ensures last_call { result ≡ Err EndFault.Input → P.last_failed source.new ≡ true }
-    ensures others { result ≢ Err EndFault.Bench }
+    // Where it is cut short, by a failed read or at the limit, there are fewer lines than a group has.
+    ensures ungathered { IfErr result (IsUngathered P.Source batch planner.old planner.new source.old source.new) }
+    ensures cuts { Cuts P.Source planner.old planner.new source.old source.new }
 {
     group.clear();
     while group.has_room(batch) {
-        match next_plan(alloc, lines, schema, index, source, &mut group.scratch)? {
+        match planner.next(alloc, schema, index, source)? {
             Some(plan) => group.add(plan)?,
             None => return Ok(false),
         }

@@ -6,7 +6,6 @@ use Rattle.std.proofs.lemmas.Option.{same_Some}
 use Rattle.audit_types.specs.declared.shapes.Shape.{Shape}
 use Rattle.audit_types.specs.declared.records.Answered.{Answered}
 use Rattle.audit_types.specs.History.{Table, IsLegal}
-use Rattle.table_load.specs.Cells.{SecretView}
 use Rattle.journal_form.specs.Journal.{StandsAt, BreaksAt}
 use Rattle.answer_journal.specs.declared.journal.BackFault.{BackFault}
 use Rattle.answer_journal.specs.declared.journal.BackFault.TheVariants as back
@@ -16,7 +15,6 @@ use Rattle.audit_store.specs.declared.starting.StartFault.{StartFault}
 use Rattle.audit_store.specs.declared.starting.StartFault.TheVariants.{NotMade, Damaged, OtherShape, Untrue, Illegal, Failed, NoMemory}
 use Rattle.audit_core.specs.Outcomes.{true_answer}
 use Rattle.audit_store.specs.Starting.{IsFirstUntrue, IsFirstIllegal, StartCause, HistoryCause, GivesUp, RefusedUnlessFailed, start_fault}
-use Rattle.table_load.specs.Database.{secret_table}
 
 -- what a reading of the journal gives up with
 pub gave_up : (fault : BackFault) → GaveUp fault → GivesUp (start_fault fault)
@@ -31,34 +29,34 @@ due_fault due fault (inl same) = inl (ap start_fault same)
 due_fault due fault (inr gave) = inr (gave_up fault gave)
 
 -- what a reading found is a cause in the file
-pub cause_of_reading : {X : Type 0} (file : List ℕ) (secret : SecretView) (fault : BackFault)
+pub cause_of_reading : {X : Type 0} (file : List ℕ) (table : Table) (fault : BackFault)
     → ((let given : Result X BackFault = Err fault in given) ≡ Err back.NotMade → IsMade file → ⊥)
     → ((at : ℕ) → (let given : Result X BackFault = Err fault in given) ≡ Err (back.Damaged at) → IsMade file × BreaksAt file at)
-    → StartCause (start_fault fault) file secret
-cause_of_reading file secret back.NotMade unmade damaged = unmade refl
-cause_of_reading file secret (back.Damaged at) unmade damaged = damaged at refl
-cause_of_reading file secret back.Failed unmade damaged = tt
-cause_of_reading file secret back.NoMemory unmade damaged = tt
+    → StartCause (start_fault fault) file table
+cause_of_reading file table back.NotMade unmade damaged = unmade refl
+cause_of_reading file table (back.Damaged at) unmade damaged = damaged at refl
+cause_of_reading file table back.Failed unmade damaged = tt
+cause_of_reading file table back.NoMemory unmade damaged = tt
 
 -- the cause in a history is a cause in each file that stands for it
-pub cause_in_file : (file : List ℕ) (shape : Shape) (history : List Answered) (gate : ℕ) (secret : SecretView) (fault : StartFault) →
-    StandsAt file shape history gate → HistoryCause fault shape history secret → StartCause fault file secret
-cause_in_file file shape history gate secret NotMade stands cause = absurd cause
-cause_in_file file shape history gate secret (Damaged at) stands cause = absurd cause
-cause_in_file file shape history gate secret (OtherShape kept now) stands cause =
+pub cause_in_file : (file : List ℕ) (shape : Shape) (history : List Answered) (gate : ℕ) (table : Table) (fault : StartFault) →
+    StandsAt file shape history gate → HistoryCause fault shape history table → StartCause fault file table
+cause_in_file file shape history gate table NotMade stands cause = absurd cause
+cause_in_file file shape history gate table (Damaged at) stands cause = absurd cause
+cause_in_file file shape history gate table (OtherShape kept now) stands cause =
     (history, (gate, subst (λ s. StandsAt file s history gate) (sym cause.0) stands), (cause.1, cause.2))
-cause_in_file file shape history gate secret (Untrue place kept now) stands cause =
+cause_in_file file shape history gate table (Untrue place kept now) stands cause =
     (history, (gate, subst (λ s. StandsAt file s history gate) cause.0 stands), cause.1)
-cause_in_file file shape history gate secret (Illegal place) stands cause = (history, (gate, subst (λ s. StandsAt file s history gate) cause.0 stands), cause.1)
-cause_in_file file shape history gate secret Failed stands cause = absurd cause
-cause_in_file file shape history gate secret NoMemory stands cause = tt
+cause_in_file file shape history gate table (Illegal place) stands cause = (history, (gate, subst (λ s. StandsAt file s history gate) cause.0 stands), cause.1)
+cause_in_file file shape history gate table Failed stands cause = absurd cause
+cause_in_file file shape history gate table NoMemory stands cause = tt
 
 module _ (table : Table) (history : List Answered) where
   -- of two first untrue records neither stands before the other
   untrue_not_before : (a b : ℕ) (kept now other due : ℤ) → IsFirstUntrue table history a kept now → IsFirstUntrue table history b other due → a < b → ⊥
   untrue_not_before a b kept now other due p q lt = p.differ (p.kept_is ∙ q.before a p.at lt p.stands ∙ sym p.now_is)
 
-  untrue_once : (a b : ℕ) (kept now other due : ℤ) → IsFirstUntrue table history a kept now → IsFirstUntrue table history b other due →
+  pub untrue_once : (a b : ℕ) (kept now other due : ℤ) → IsFirstUntrue table history a kept now → IsFirstUntrue table history b other due →
       Untrue b other due ≡ Untrue a kept now
   untrue_once a b kept now other due p q =
       let place : b ≡ a = elim (cases_lt a b) [
@@ -73,7 +71,7 @@ module _ (table : Table) (history : List Answered) where
   illegal_not_before : (a b : ℕ) → IsFirstIllegal table history a → IsFirstIllegal table history b → a < b → ⊥
   illegal_not_before a b p q lt = p.denied (q.before a p.at lt p.stands)
 
-  illegal_once : (a b : ℕ) → IsFirstIllegal table history a → IsFirstIllegal table history b → Illegal b ≡ Illegal a
+  pub illegal_once : (a b : ℕ) → IsFirstIllegal table history a → IsFirstIllegal table history b → Illegal b ≡ Illegal a
   illegal_once a b p q =
       elim (cases_lt a b) [
         | inl lt ↦ absurd (illegal_not_before a b p q lt)
@@ -84,15 +82,15 @@ module _ (table : Table) (history : List Answered) where
         ]
       ]
 
-  untrue_or_illegal : (a b : ℕ) (kept now : ℤ) → IsFirstUntrue table history a kept now → IsFirstIllegal table history b → ⊥
+  pub untrue_or_illegal : (a b : ℕ) (kept now : ℤ) → IsFirstUntrue table history a kept now → IsFirstIllegal table history b → ⊥
   untrue_or_illegal a b kept now p q = p.differ (p.kept_is ∙ q.all_true a p.at p.stands ∙ sym p.now_is)
 
-module _ (shape : Shape) (history : List Answered) (secret : SecretView) where
-  other_shape : (kept now : Shape) → HistoryCause (OtherShape kept now) shape history secret → shape ≡ secret.shape → ⊥
+module _ (shape : Shape) (history : List Answered) (table : Table) where
+  other_shape : (kept now : Shape) → HistoryCause (OtherShape kept now) shape history table → shape ≡ table.setting.shape → ⊥
   other_shape kept now cause same = cause.2 (cause.0 ∙ same ∙ sym cause.1)
 
   -- one cause at most holds of a history
-  pub one_cause : (due fault : StartFault) → (GivesUp due → ⊥) → HistoryCause due shape history secret → HistoryCause fault shape history secret →
+  pub one_cause : (due fault : StartFault) → (GivesUp due → ⊥) → HistoryCause due shape history table → HistoryCause fault shape history table →
       (fault ≡ due) ⊎ GivesUp fault
   one_cause NotMade fault some cause other = absurd cause
   one_cause (Damaged at) fault some cause other = absurd cause
@@ -107,14 +105,14 @@ module _ (shape : Shape) (history : List Answered) (secret : SecretView) where
   one_cause (OtherShape kept now) (Untrue b k n) some cause other = absurd (other_shape kept now cause other.0)
   one_cause (OtherShape kept now) (Illegal b) some cause other = absurd (other_shape kept now cause other.0)
   one_cause (Untrue a kept now) (OtherShape k n) some cause other = absurd (other_shape k n other cause.0)
-  one_cause (Untrue a kept now) (Untrue b k n) some cause other = inl (untrue_once (secret_table secret) history a b kept now k n cause.1 other.1)
-  one_cause (Untrue a kept now) (Illegal b) some cause other = absurd (untrue_or_illegal (secret_table secret) history a b kept now cause.1 other.1)
+  one_cause (Untrue a kept now) (Untrue b k n) some cause other = inl (untrue_once table history a b kept now k n cause.1 other.1)
+  one_cause (Untrue a kept now) (Illegal b) some cause other = absurd (untrue_or_illegal table history a b kept now cause.1 other.1)
   one_cause (Illegal a) (OtherShape k n) some cause other = absurd (other_shape k n other cause.0)
-  one_cause (Illegal a) (Untrue b k n) some cause other = absurd (untrue_or_illegal (secret_table secret) history b a k n other.1 cause.1)
-  one_cause (Illegal a) (Illegal b) some cause other = inl (illegal_once (secret_table secret) history a b cause.1 other.1)
+  one_cause (Illegal a) (Untrue b k n) some cause other = absurd (untrue_or_illegal table history b a k n other.1 cause.1)
+  one_cause (Illegal a) (Illegal b) some cause other = inl (illegal_once table history a b cause.1 other.1)
 
   -- a legal history of the secrets' shape has none
-  pub legal_has_no_cause : (fault : StartFault) → shape ≡ secret.shape → IsLegal (secret_table secret) history → HistoryCause fault shape history secret →
+  pub legal_has_no_cause : (fault : StartFault) → shape ≡ table.setting.shape → IsLegal table history → HistoryCause fault shape history table →
       GivesUp fault
   legal_has_no_cause NotMade same legal cause = absurd cause
   legal_has_no_cause (Damaged at) same legal cause = absurd cause
@@ -125,32 +123,32 @@ module _ (shape : Shape) (history : List Answered) (secret : SecretView) where
   legal_has_no_cause Failed same legal cause = absurd cause
   legal_has_no_cause NoMemory same legal cause = tt
 
-module _ (file : List ℕ) (secret : SecretView) where
+module _ (file : List ℕ) (table : Table) where
   -- where the journal was not read back, what is due of the start is due of the reading
   pub due_of_reading : (fault : BackFault) (due : StartFault) → ((IsMade file → ⊥) → IsDueOrGaveUp back.NotMade fault)
       → ((at : ℕ) → IsMade file → BreaksAt file at → IsDueOrGaveUp (back.Damaged at) fault)
       → ((shape : Shape) (history : List Answered) (gate : ℕ) → StandsAt file shape history gate → GaveUp fault) → (GivesUp due → ⊥) →
-      StartCause due file secret → RefusedUnlessFailed due (Err (start_fault fault))
+      StartCause due file table → RefusedUnlessFailed due (Err (start_fault fault))
   due_of_reading fault NotMade unmade damaged whole some cause = due_fault back.NotMade fault (unmade cause)
   due_of_reading fault (Damaged at) unmade damaged whole some cause = due_fault (back.Damaged at) fault (damaged at cause.0 cause.1)
   due_of_reading fault (OtherShape kept now) unmade damaged whole some cause = inr (gave_up fault (whole kept cause.0 cause.1.0 cause.1.1))
-  due_of_reading fault (Untrue place kept now) unmade damaged whole some cause = inr (gave_up fault (whole secret.shape cause.0 cause.1.0 cause.1.1))
-  due_of_reading fault (Illegal place) unmade damaged whole some cause = inr (gave_up fault (whole secret.shape cause.0 cause.1.0 cause.1.1))
+  due_of_reading fault (Untrue place kept now) unmade damaged whole some cause = inr (gave_up fault (whole table.setting.shape cause.0 cause.1.0 cause.1.1))
+  due_of_reading fault (Illegal place) unmade damaged whole some cause = inr (gave_up fault (whole table.setting.shape cause.0 cause.1.0 cause.1.1))
   due_of_reading fault Failed unmade damaged whole some cause = absurd (some tt)
   due_of_reading fault NoMemory unmade damaged whole some cause = absurd (some tt)
 
   -- where it was, the cause lies in its history
   pub due_of_history : (shape : Shape) (history : List Answered) (due : StartFault) → ((IsMade file → ⊥) → ⊥) → ((at : ℕ) → IsMade file → BreaksAt file at → ⊥)
       → ((other : Shape) (others : List Answered) (gate : ℕ) → StandsAt file other others gate → (shape ≡ other) × (history ≡ others)) → (GivesUp due → ⊥) →
-      StartCause due file secret → HistoryCause due shape history secret
+      StartCause due file table → HistoryCause due shape history table
   due_of_history shape history NotMade made whole once some cause = made cause
   due_of_history shape history (Damaged at) made whole once some cause = whole at cause.0 cause.1
   due_of_history shape history (OtherShape kept now) made whole once some cause =
       let same = once kept cause.0 cause.1.0 cause.1.1 in (sym same.0, cause.2.0, cause.2.1)
   due_of_history shape history (Untrue place kept now) made whole once some cause =
-      let same = once secret.shape cause.0 cause.1.0 cause.1.1 in
-      (same.0, subst (λ h. IsFirstUntrue (secret_table secret) h place kept now) (sym same.1) cause.2)
+      let same = once table.setting.shape cause.0 cause.1.0 cause.1.1 in
+      (same.0, subst (λ h. IsFirstUntrue table h place kept now) (sym same.1) cause.2)
   due_of_history shape history (Illegal place) made whole once some cause =
-      let same = once secret.shape cause.0 cause.1.0 cause.1.1 in (same.0, subst (λ h. IsFirstIllegal (secret_table secret) h place) (sym same.1) cause.2)
+      let same = once table.setting.shape cause.0 cause.1.0 cause.1.1 in (same.0, subst (λ h. IsFirstIllegal table h place) (sym same.1) cause.2)
   due_of_history shape history Failed made whole once some cause = absurd (some tt)
   due_of_history shape history NoMemory made whole once some cause = absurd (some tt)

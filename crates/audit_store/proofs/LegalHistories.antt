@@ -5,6 +5,7 @@ use Rattle.std.proofs.lemmas.Bool.{cases_lt}
 use Rattle.std.proofs.lemmas.List.{take_more, take-take, get_or-take}
 use Rattle.std.proofs.lemmas.Option.{same_Some, slice_get_within, get_or_from_slice_get, slice_get-get_or}
 use Rattle.audit_types.specs.declared.records.Answered.{Answered}
+use Rattle.audit_types.specs.declared.records.Protected.{Protected}
 use Rattle.audit_types.specs.History.{Table, FitsShape, IsLegal, IsPossibleHistory}
 use Rattle.audit_types.specs.Laws.{LegalIsPossible}
 use Rattle.audit_core.specs.Laws.{LegalGrows}
@@ -14,9 +15,9 @@ use Rattle.table_load.specs.Database.{secret_table}
 use Rattle.table_load.specs.SecretLists.{are_secrets}
 
 -- a legal history of the secrets of a table is possible
-pub legal_is_possible : (secret : SecretView) (history : List Answered) → LegalIsPossible → IsSecret secret → IsLegal (secret_table secret) history →
-    IsPossibleHistory (secret_table secret).setting history
-legal_is_possible secret history law is legal = law (secret_table secret) history (are_secrets secret is) legal
+pub legal_is_possible : (secret : SecretView) (protected : List Protected) (history : List Answered) → LegalIsPossible → IsSecret secret →
+    IsLegal (secret_table secret protected) history → IsPossibleHistory (secret_table secret protected).setting history
+legal_is_possible secret protected history law is legal = law (secret_table secret protected) history (are_secrets secret is) legal
 
 module _ (table : Table) (list : List Answered) (k : ℕ) (legal : IsLegal table (take k list)) where
   -- a record more that fits, is true and was to be released

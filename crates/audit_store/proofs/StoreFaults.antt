@@ -1,6 +1,6 @@
 -- What a refusal of the store says, by its fault.
-use Rattle.std.proofs.Common.{◌≡◌, refl, Result, Ok, Err, sym, subst}
-use Rattle.std.specs.Prelude.{IsErrOf, OnOk}
+use Rattle.std.proofs.Common.{◌≡◌, refl, Result, Ok, Err, sym, ap, subst}
+use Rattle.std.specs.Prelude.{IsErrOf, OnOk, OnErr}
 use Rattle.std.specs.Result.{IsErr, IsErrAnd}
 use Rattle.std.proofs.lemmas.Bool.{false≢true}
 use Rattle.answer_journal.specs.declared.journal.BackFault.{BackFault}
@@ -9,6 +9,11 @@ use Rattle.audit_store.specs.declared.starting.StartFault.{StartFault}
 use Rattle.audit_store.specs.declared.starting.StartFault.TheVariants as start
 use Rattle.audit_store.specs.Refusals.{same_fault}
 use Rattle.audit_store.specs.Starting.{start_fault}
+use Rattle.audit_store.specs.Growing.{grow_fault}
+use Rattle.audit_store.specs.declared.growing.GrowFault.{GrowFault}
+use Rattle.audit_store.specs.declared.growing.GrowFault.TheVariants as grow
+use Rattle.bench_core.specs.declared.bench.Bench.{Ghosts}
+use Rattle.bench_core.specs.Calls.{TellsFault}
 use Rattle.audit_store.specs.declared.outcome.StoreFault.{StoreFault}
 use Rattle.audit_store.specs.declared.outcome.StoreFault.TheVariants.{Failed, NoMemory}
 
@@ -70,3 +75,47 @@ start_failed back.NotMade fault same is = let none : ⊥ = cc in absurd none
 start_failed (back.Damaged at) fault same is = let none : ⊥ = cc in absurd none
 start_failed back.Failed fault same is = cc
 start_failed back.NoMemory fault same is = let none : ⊥ = cc in absurd none
+
+-- ---- a journal that has not grown
+
+-- a call failed where the journal was read
+pub grow_read_failed : {X Y : Type 0} (read : BackFault) (fault : GrowFault) → fault ≡ grow_fault (start_fault read) → IsErrOf {T = X} (Err fault) grow.Failed →
+    IsErrOf {T = Y} (Err read) back.Failed
+grow_read_failed back.NotMade fault same is = let none : ⊥ = cc in absurd none
+grow_read_failed (back.Damaged at) fault same is = let none : ⊥ = cc in absurd none
+grow_read_failed back.Failed fault same is = refl
+grow_read_failed back.NoMemory fault same is = let none : ⊥ = cc in absurd none
+
+pub grow_failed : {X Y : Type 0} (read : BackFault) (fault : GrowFault) → fault ≡ grow_fault (start_fault read) → IsErrOf {T = Y} (Err read) back.Failed →
+    IsErrOf {T = X} (Err fault) grow.Failed
+grow_failed back.NotMade fault same is = let none : ⊥ = cc in absurd none
+grow_failed (back.Damaged at) fault same is = let none : ⊥ = cc in absurd none
+grow_failed back.Failed fault same is = cc
+grow_failed back.NoMemory fault same is = let none : ⊥ = cc in absurd none
+
+-- ---- an answer whose fault is known
+
+module _ {X E : Type 0} (answer : Result X E) (e : E) (is : answer ≡ Err e) where
+  pub no_answer : (P : Type 0) → OnOk answer P
+  no_answer P = subst (λ (r : Result X E). OnOk r P) (sym is) tt
+
+  pub on_refusal : (P : Type 0) → P → OnErr answer P
+  on_refusal P holds = subst (λ (r : Result X E). OnErr r P) (sym is) holds
+
+-- an answer that refuses with a fault is that refusal
+pub is_refusal : {X E : Type 0} (answer : Result X E) (given : E) → IsErr answer × IsErrAnd answer (λ e. e ≡ given) → answer ≡ Err given
+is_refusal (Ok x) given refuses = absurd (false≢true refuses.0)
+is_refusal {X} {E} (Err e) given refuses = ap (λ (f : E). refusal f) refuses.1
+  where
+    refusal : E → Result X E
+    refusal f = Err f
+
+-- a fault that is told of one answer is told of another that fails alike
+pub told_as : {D : Type 0} (bench : Ghosts D) (old new : D) (Told Answered : Type 0) → (Told → Answered) → (Answered → Told) → TellsFault bench old new Told →
+    TellsFault bench old new Answered
+told_as bench old new Told Answered to from tells = record {
+  later = tells.later;
+  failed = λ answered. tells.failed (from answered);
+  last_call = λ answered. tells.last_call (from answered);
+  steady = λ other. tells.steady (λ told. other (to told));
+}

@@ -5,8 +5,9 @@ use Rattle.std.proofs.lemmas.Grind.{common_steps}
 use Rattle.std.proofs.Math.Seq.{take-length, drop-append_seam}
 use Rattle.std.proofs.lemmas.List.{take-append-drop, take_all}
 use Rattle.audit_types.specs.declared.records.Answered.{Answered}
+use Rattle.audit_types.specs.declared.records.Protected.{Protected}
 use Rattle.audit_types.specs.declared.shapes.Shape.{Shape}
-use Rattle.audit_types.specs.History.{IsLegal, setting_of}
+use Rattle.audit_types.specs.History.{Table, Setting, AreProtected, IsLegal, setting_of}
 use Rattle.audit_core.specs.Audited.{Audited}
 use Rattle.table_load.specs.Cells.{SecretView, IsSecret}
 use Rattle.bench_core.specs.declared.bench.Bench.{Ghosts}
@@ -19,54 +20,46 @@ use Rattle.answer_journal.specs.Contents.{JournalContents}
 use Rattle.audit_store.specs.Stores.{StoreContents, IsStore, IsAsLeft, IsAuditedBy, HasGroup, calls_for}
 use Rattle.table_load.specs.Database.{secret_table}
 
--- a store of these secrets and records over this journal, which may be asked
-abbrev pub store_of : SecretView → List Answered → JournalContents → StoreContents
-store_of secret history journal = record { secret = secret; history = history; journal = journal; usable = true }
+-- a store of these secrets, groups and records over this journal, which may be asked
+abbrev pub store_of : SecretView → List Protected → List Answered → JournalContents → StoreContents
+store_of secret protected history journal = record { secret = secret; protected = protected; history = history; journal = journal; usable = true }
 
-pub is_store : (secret : SecretView) (history : List Answered) (journal : JournalContents) → IsSecret secret → IsLegal (secret_table secret) history
+pub is_store : (secret : SecretView) (protected : List Protected) (history : List Answered) (journal : JournalContents) → IsSecret secret
+    → AreProtected secret.shape protected → IsLegal (secret_table secret protected) history
     → journal.usable ≡ true → journal.shape ≡ secret.shape → length history ≡ journal.count
-    → IsStore (store_of secret history journal)
-is_store secret history journal numbers legal usable shape counted = record {
+    → IsStore (store_of secret protected history journal)
+is_store secret protected history journal numbers fit legal usable shape counted = record {
   numbers = numbers;
+  fit = fit;
   legal = legal;
   journal_usable = λ _. usable;
   same_shape = λ _. shape;
   counted = λ _. sym counted;
 }
 
--- a store that was opened is one of these secrets, which may be asked
-pub started_store : {E : Type 0} (answer : Result StoreContents E) (secret : SecretView) (history : List Answered) (journal : JournalContents)
-    → IfOk answer (λ s. s ≡ store_of secret history journal) → IfOk answer IsStore
-    → IfOk answer (λ s. (s.secret ≡ secret) × (s.usable ≡ true) × IsStore s)
-started_store (Ok s) secret history journal is store = (ap (λ (t : StoreContents). t.secret) is, ap (λ (t : StoreContents). t.usable) is, store)
-started_store (Err e) secret history journal is store = tt
+-- a store that was opened is one of these secrets and groups, which may be asked
+pub started_store : {E : Type 0} (answer : Result StoreContents E) (secret : SecretView) (protected : List Protected) (history : List Answered) (journal : JournalContents)
+    → IfOk answer (λ s. s ≡ store_of secret protected history journal) → IfOk answer IsStore
+    → IfOk answer (λ s. (s.secret ≡ secret) × (s.protected ≡ protected) × (s.usable ≡ true) × IsStore s)
+started_store (Ok s) secret protected history journal is store =
+    (ap (λ (t : StoreContents). t.secret) is, ap (λ (t : StoreContents). t.protected) is, ap (λ (t : StoreContents). t.usable) is, store)
+started_store (Err e) secret protected history journal is store = tt
 
 -- and the file is as it left it
-pub left_store : {E : Type 0} (answer : Result StoreContents E) (secret : SecretView) (history : List Answered) (journal : JournalContents) (file : List ℕ)
-    → IfOk answer (λ s. s ≡ store_of secret history journal) → IfOk answer IsStore → StandsAt file journal.shape history journal.gate
+pub left_store : {E : Type 0} (answer : Result StoreContents E) (secret : SecretView) (protected : List Protected) (history : List Answered) (journal : JournalContents) (file : List ℕ)
+    → IfOk answer (λ s. s ≡ store_of secret protected history journal) → IfOk answer IsStore → StandsAt file journal.shape history journal.gate
     → IfOk answer (λ s. IsAsLeft file s)
-left_store (Ok s) secret history journal file is store stands =
+left_store (Ok s) secret protected history journal file is store stands =
     let shape : journal.shape ≡ s.secret.shape = sym (ap (λ (t : StoreContents). t.journal.shape) is)
     ∙ store.same_shape (ap (λ (t : StoreContents). t.usable) is) in
     subst (λ (x : Shape). StandsAt file x s.history s.journal.gate) shape
     (subst (λ (t : StoreContents). StandsAt file journal.shape t.history t.journal.gate) (sym is) stands)
-left_store (Err e) secret history journal file is store stands = tt
-
--- all records of the core were released
-pub all_released : (secret : SecretView) (core : Audited) (history : List Answered) (released : ℕ) →
-    core ≡ record { setting = setting_of secret.shape; history = history } → released ≡ length history →
-    (take released core.history ≡ history) × IsAuditedBy secret core released true
-all_released secret core history released core_is released_is =
-    let same : core.history ≡ history = ap (λ (a : Audited). a.history) core_is in
-    let long : released ≡ length core.history = released_is ∙ sym (ap length same) in (
-      ap (λ n. take n core.history) long ∙ take-length core.history ∙ same,
-      record { same_setting = ap (λ (a : Audited). a.setting) core_is; within = omega (arith, long); all = λ _. long },
-    )
+left_store (Err e) secret protected history journal file is store stands = tt
 
 -- while a store is usable the records of its core are its history
-pub core_is_history : (secret : SecretView) (core : Audited) (released : ℕ) (usable : Bool) (history : List Answered) →
-    IsAuditedBy secret core released usable → usable ≡ true → take released core.history ≡ history → core.history ≡ history
-core_is_history secret core released usable history audited is_usable view =
+pub core_is_history : (table : Table) (core : Audited) (released : ℕ) (usable : Bool) (history : List Answered) →
+    IsAuditedBy table core released usable → usable ≡ true → take released core.history ≡ history → core.history ≡ history
+core_is_history table core released usable history audited is_usable view =
     sym (ap (λ n. take n core.history) (audited.all is_usable) ∙ take-length core.history) ∙ view
 
 -- the records that were released, and those that the core took after them
@@ -120,23 +113,61 @@ pub four_calls : (group : List Answered) → 0 < length group → calls_for grou
 four_calls [] some = absurd (omega (arith, some))
 four_calls (r ∷ group) some = refl
 
+-- what the store of these secrets shows of its core
+abbrev pub store_in : SecretView → Audited → ℕ → JournalContents → Bool → StoreContents
+store_in secret core released journal usable =
+    record { secret = secret; protected = core.setting.protected; history = take released core.history; journal = journal; usable = usable }
+
+-- the table of a core over these secrets
+abbrev pub table_by : SecretView → Audited → Table
+table_by secret core = secret_table secret core.setting.protected
+
+module _ (secret : SecretView) (protected : List Protected) (history : List Answered) (core : Audited) (released : ℕ) (journal : JournalContents)
+    (is : core ≡ record { setting = setting_of secret.shape protected; history = history }) (long : released ≡ length history) where
+  all_released : take released history ≡ history
+  all_released = ap (λ n. take n history) long ∙ take-length history
+
+  -- a core that has replayed the history makes a store of it
+  pub opened_is : store_in secret core released journal true ≡ store_of secret protected history journal
+  opened_is = ap (λ (a : Audited). store_in secret a released journal true) is ∙ ap (λ (h : List Answered). store_of secret protected h journal) all_released
+
+  pub opened_store : IsStore (store_of secret protected history journal) →
+      IsStore (store_in secret core released journal true) × IsAuditedBy (table_by secret core) core released true
+  opened_store store =
+      subst (λ (a : Audited). IsStore (store_in secret a released journal true) × IsAuditedBy (table_by secret a) a released true) (sym is) (
+        subst (λ (h : List Answered). IsStore (store_of secret protected h journal)) (sym all_released) store,
+        record { same_setting = refl; within = omega (arith, long); all = λ _. long },
+      )
+
+-- a core that goes on over the same setting audits the same table
+same_table : (secret : SecretView) (old new : Audited) → new.setting ≡ old.setting → old.setting ≡ (table_by secret old).setting → new.setting ≡ (table_by secret new).setting
+same_table secret old new same was =
+    subst (λ (s : Setting). s ≡ setting_of secret.shape s.protected) (sym same) was
+
 -- a refused group leaves the history, whatever the core took and whatever became of the journal
 pub refused_store : (secret : SecretView) (old new : Audited) (released : ℕ) (before after : JournalContents) (usable : Bool) → usable ≡ true →
-    IsStore (record { secret = secret; history = take released old.history; journal = before; usable = usable }) → IsAuditedBy secret old released usable →
+    IsStore (store_in secret old released before usable) → IsAuditedBy (table_by secret old) old released usable →
     take (length old.history) new.history ≡ old.history → length old.history ≤ length new.history → new.setting ≡ old.setting →
-    IsStore (record { secret = secret; history = take released new.history; journal = after; usable = false }) × IsAuditedBy secret new released false
+    IsStore (store_in secret new released after false) × IsAuditedBy (table_by secret new) new released false
 refused_store secret old new released before after usable is_usable store audited begins within setting =
     let all : released ≡ length old.history = audited.all is_usable in
     let whole : take released old.history ≡ old.history = ap (λ n. take n old.history) all ∙ take-length old.history in
-    let same : take released old.history ≡ take released new.history = whole ∙ sym begins ∙ ap (λ n. take n new.history) (sym all) in (
+    let same : take released old.history ≡ take released new.history = whole ∙ sym begins ∙ ap (λ n. take n new.history) (sym all) in
+    let groups : old.setting.protected ≡ new.setting.protected = ap (λ (s : Setting). s.protected) (sym setting) in (
       record {
         numbers = store.numbers;
-        legal = subst (λ (h : List Answered). IsLegal (secret_table secret) h) same store.legal;
+        fit = subst (λ (p : List Protected). AreProtected secret.shape p) groups store.fit;
+        legal = subst (λ (p : List Protected). IsLegal (secret_table secret p) (take released new.history)) groups
+            (subst (λ (h : List Answered). IsLegal (table_by secret old) h) same store.legal);
         journal_usable = λ is. let none : ⊥ = cc in absurd none;
         same_shape = λ is. let none : ⊥ = cc in absurd none;
         counted = λ is. let none : ⊥ = cc in absurd none;
       },
-      record { same_setting = setting ∙ audited.same_setting; within = omega (arith, all, within); all = λ is. let none : ⊥ = cc in absurd none },
+      record {
+        same_setting = same_table secret old new setting audited.same_setting;
+        within = omega (arith, all, within);
+        all = λ is. let none : ⊥ = cc in absurd none;
+      },
     )
 
 -- and its refusal says so
@@ -148,23 +179,26 @@ refused_history (Err e) old new shown released all begins view =
 
 -- a group that was kept belongs to the history
 pub kept_store : (secret : SecretView) (old new : Audited) (released now : ℕ) (before after : JournalContents) (usable : Bool) (group made : List Answered) →
-    usable ≡ true → IsStore (record { secret = secret; history = take released old.history; journal = before; usable = usable }) →
-    IsAuditedBy secret old released usable → new.history ≡ old.history ++ made → new.setting ≡ old.setting →
-    IsLegal (secret_table secret) new.history → now ≡ length new.history →
+    usable ≡ true → IsStore (store_in secret old released before usable) →
+    IsAuditedBy (table_by secret old) old released usable → new.history ≡ old.history ++ made → new.setting ≡ old.setting →
+    IsLegal (table_by secret old) new.history → now ≡ length new.history →
     group ≡ made → after.usable ≡ true → after.shape ≡ before.shape → after.count ≡ before.count + length group →
-    IsStore (record { secret = secret; history = take now new.history; journal = after; usable = true }) × IsAuditedBy secret new now true
+    IsStore (store_in secret new now after true) × IsAuditedBy (table_by secret new) new now true
 kept_store secret old new released now before after usable group made is_usable store audited grown setting legal now_is group_is usable_after shape counted =
     let all : released ≡ length old.history = audited.all is_usable in
     let whole : take now new.history ≡ new.history = ap (λ n. take n new.history) now_is ∙ take-length new.history in
     let was : before.count ≡ length old.history = omega (arith, store.counted is_usable, length-take released old.history, all) in
     let is : length (take now new.history) ≡ length old.history + length made = ap length whole ∙ ap length grown ∙ length-append old.history made in
-    let count_is : after.count ≡ length (take now new.history) = omega (arith, counted, ap length group_is, was, is) in (
+    let count_is : after.count ≡ length (take now new.history) = omega (arith, counted, ap length group_is, was, is) in
+    let groups : old.setting.protected ≡ new.setting.protected = ap (λ (s : Setting). s.protected) (sym setting) in (
       record {
         numbers = store.numbers;
-        legal = subst (λ (h : List Answered). IsLegal (secret_table secret) h) (sym whole) legal;
+        fit = subst (λ (p : List Protected). AreProtected secret.shape p) groups store.fit;
+        legal = subst (λ (p : List Protected). IsLegal (secret_table secret p) (take now new.history)) groups
+            (subst (λ (h : List Answered). IsLegal (table_by secret old) h) (sym whole) legal);
         journal_usable = λ _. usable_after;
         same_shape = λ _. shape ∙ store.same_shape is_usable;
         counted = λ _. count_is;
       },
-      record { same_setting = setting ∙ audited.same_setting; within = omega (arith, now_is); all = λ _. now_is },
+      record { same_setting = same_table secret old new setting audited.same_setting; within = omega (arith, now_is); all = λ _. now_is },
     )

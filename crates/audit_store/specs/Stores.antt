@@ -1,9 +1,11 @@
--- A store, as contracts see it: the secrets that it guards, what was released of them, and the journal behind it.
+-- A store, as contracts see it: the secrets that it guards, the groups whose totals are protected, what was released, and the journal
+-- behind it.
 use Rattle.std.specs.Prelude.{◌≡◌, ℕ, ◌≤◌, Bool, true, List, [], ◌∷◌, length}
 use Rattle.audit_types.specs.declared.shapes.Shape.{Shape}
 use Rattle.audit_types.specs.declared.records.Asked.{Asked}
 use Rattle.audit_types.specs.declared.records.Answered.{Answered}
-use Rattle.audit_types.specs.History.{IsLegal, setting_of}
+use Rattle.audit_types.specs.declared.records.Protected.{Protected}
+use Rattle.audit_types.specs.History.{Table, AreProtected, IsLegal}
 use Rattle.audit_core.specs.Audited.{Audited}
 use Rattle.table_load.specs.Cells.{SecretView, IsSecret}
 use Rattle.table_load.specs.Database.{secret_table}
@@ -16,25 +18,30 @@ use Rattle.answer_journal.specs.Moments.{IsBeforeOrAfter}
 use Rattle.audit_core.specs.declared.outcome.Outcome.{Outcome}
 use Rattle.audit_core.specs.Outcomes.{AreOutcomes, records_made}
 
--- the secrets, the released records in order, the journal, and whether questions may be asked
+-- the secrets, the protected groups, the released records in order, the journal, and whether questions may be asked
 pub record StoreContents : Type 0 where
   pub secret : SecretView
+  pub protected : List Protected
   pub history : List Answered
   pub journal : JournalContents
   pub usable : Bool
 
+-- its table
+abbrev pub table_of : StoreContents → Table
+table_of store = secret_table store.secret store.protected
+
 -- what is true of every store: its history is legal, and while it is usable its journal is that of its table and history
 pub record IsStore (store : StoreContents) : Type 0 where
   pub numbers : IsSecret store.secret
-  pub legal : IsLegal (secret_table store.secret) store.history
+  pub fit : AreProtected store.secret.shape store.protected
+  pub legal : IsLegal (table_of store) store.history
   pub journal_usable : store.usable ≡ true → store.journal.usable ≡ true
   pub same_shape : store.usable ≡ true → store.journal.shape ≡ store.secret.shape
   pub counted : store.usable ≡ true → store.journal.count ≡ length store.history
 
--- the core audits the table of these secrets, and its records begin with those that were released; while the store is
--- usable they are all of them
-pub record IsAuditedBy (secret : SecretView) (core : Audited) (released : ℕ) (usable : Bool) : Type 0 where
-  pub same_setting : core.setting ≡ setting_of secret.shape
+-- the core audits the table, and its records begin with those that were released; while the store is usable they are all of them
+pub record IsAuditedBy (table : Table) (core : Audited) (released : ℕ) (usable : Bool) : Type 0 where
+  pub same_setting : core.setting ≡ table.setting
   pub within : released ≤ length core.history
   pub all : usable ≡ true → released ≡ length core.history
 
@@ -54,7 +61,7 @@ HasGroup shape (r ∷ records) gate old new = AppendsGroup shape (r ∷ records)
 
 -- what a crash finds while a group of questions is decided and kept: nothing was sent, and the image stands for the
 -- history before the group or for that with the group's records
-pub record Keeps {D : Type 0} (bench : Ghosts D) (before after : D) (secret : SecretView) (history : List Answered) (questions : List Asked) (sent : List ℕ) : Type 0 where
+pub record Keeps {D : Type 0} (bench : Ghosts D) (before after : D) (table : Table) (history : List Answered) (questions : List Asked) (sent : List ℕ) : Type 0 where
   pub outcomes : List Outcome
-  pub due : AreOutcomes (secret_table secret) history questions outcomes
-  pub moments : LeavesOnly bench before after (IsBeforeOrAfter secret.shape history (records_made questions outcomes) sent)
+  pub due : AreOutcomes table history questions outcomes
+  pub moments : LeavesOnly bench before after (IsBeforeOrAfter table.setting.shape history (records_made questions outcomes) sent)

@@ -3,10 +3,9 @@ ghost use Rattle.std.specs.Prelude.{◌≡◌, ◌≤◌, ◌+◌, ◌++◌, [],
 ghost use Rattle.std.specs.Option.{option_to_list};
 ghost use Rattle.audit_types.specs.Limits.{most_records};
 ghost use Rattle.audit_types.specs.declared.records.Answered.{Answered};
-ghost use Rattle.audit_types.specs.History.{FitsShape, IsLegal, setting_of};
+ghost use Rattle.audit_types.specs.History.{FitsShape, IsLegal};
 ghost use Rattle.audit_core.specs.Outcomes.{IsOutcome, AreOutcomes, record_of, records_made};
-ghost use Rattle.bench_core.specs.Causes.{Rose};
-ghost use Rattle.bench_core.specs.Calls.{IsQuiet, LeavesOnly};
+ghost use Rattle.bench_core.specs.Calls.{IsQuiet, LeavesOnly, TellsFault};
 ghost use Rattle.journal_form.specs.Journal.{StandsAt};
 ghost use Rattle.answer_journal.specs.Moments.{IsBeforeOrAfter};
 ghost use Rattle.table_load.specs.Database.{secret_table};
@@ -24,10 +23,10 @@ use table_load::Secret;
 
 /// What becomes of a question after the records of the core. The decision reads no secret, and the answer is read after it.
 pub fn outcome_of(secret: &Secret, core: &mut Core, asked: &Asked) -> Result<Outcome, NoMemory>
-    requires same_setting { core.old.setting ≡ setting_of secret.now.shape }
-    requires legal { IsLegal (secret_table secret.now) core.old.history }
+    requires same_shape { core.old.setting.shape ≡ secret.now.shape }
+    requires legal { IsLegal (secret_table secret.now core.old.setting.protected) core.old.history }
     requires fits { FitsShape secret.now.shape asked.now.column asked.now.rows }
-    ensures outcome { IfOk result (λ outcome. IsOutcome (secret_table secret.now) core.old.history asked.now outcome) }
+    ensures outcome { IfOk result (λ outcome. IsOutcome (secret_table secret.now core.old.setting.protected) core.old.history asked.now outcome) }
     ensures same { core.new ≡ core.old }
 {
     true_answers();
@@ -46,12 +45,12 @@ pub fn outcome_of(secret: &Secret, core: &mut Core, asked: &Asked) -> Result<Out
 
 // Decides a question after the records of the core, which takes the record of an answer.
 fn decide(secret: &Secret, core: &mut Core, asked: &Asked) -> Result<Outcome, NoMemory>
-    requires same_setting { core.old.setting ≡ setting_of secret.now.shape }
-    requires legal { IsLegal (secret_table secret.now) core.old.history }
+    requires same_shape { core.old.setting.shape ≡ secret.now.shape }
+    requires legal { IsLegal (secret_table secret.now core.old.setting.protected) core.old.history }
     requires fits { FitsShape secret.now.shape asked.now.column asked.now.rows }
-    ensures outcome { IfOk result (λ outcome. IsOutcome (secret_table secret.now) core.old.history asked.now outcome) }
+    ensures outcome { IfOk result (λ outcome. IsOutcome (secret_table secret.now core.old.setting.protected) core.old.history asked.now outcome) }
     ensures history { IfOk result (λ outcome. core.new.history ≡ core.old.history ++ option_to_list (record_of asked.now outcome)) }
-    ensures legal { OnOk result (IsLegal (secret_table secret.now) core.new.history) }
+    ensures legal { OnOk result (IsLegal (secret_table secret.now core.old.setting.protected) core.new.history) }
     ensures kept { OnErr result (core.new.history ≡ core.old.history) }
     ensures setting { core.new.setting ≡ core.old.setting }
 {
@@ -79,13 +78,13 @@ pub fn decide_all(
     core: &mut Core,
     asked: &[Asked],
 ) -> Result<Vec<Outcome>, NoMemory>
-    requires same_setting { core.old.setting ≡ setting_of secret.now.shape }
-    requires legal { IsLegal (secret_table secret.now) core.old.history }
+    requires same_shape { core.old.setting.shape ≡ secret.now.shape }
+    requires legal { IsLegal (secret_table secret.now core.old.setting.protected) core.old.history }
     requires fit { All (λ a. FitsShape secret.now.shape a.column a.rows) asked.now }
-    ensures outcomes { IfOk result (λ v. AreOutcomes (secret_table secret.now) core.old.history asked.now v.items) }
+    ensures outcomes { IfOk result (λ v. AreOutcomes (secret_table secret.now core.old.setting.protected) core.old.history asked.now v.items) }
     ensures history { IfOk result (λ v. core.new.history ≡ core.old.history ++ records_made asked.now v.items) }
     ensures few { IfOk result (λ v. length (records_made asked.now v.items) ≤ length asked.now) }
-    ensures legal { OnOk result (IsLegal (secret_table secret.now) core.new.history) }
+    ensures legal { OnOk result (IsLegal (secret_table secret.now core.old.setting.protected) core.new.history) }
     ensures begins { take (length core.old.history) core.new.history ≡ core.old.history }
     ensures within { length core.old.history ≤ length core.new.history }
     ensures setting { core.new.setting ≡ core.old.setting }
@@ -121,10 +120,7 @@ pub fn keep<B: Bench>(
     ensures ticks { B.told → OnOk result (B.moment bench.new ≡ B.moment bench.old + calls_for group.now) }
     ensures unasked { group.now ≡ [] → OnOk result (bench.new ≡ bench.old) }
     ensures no_memory { IsErrOf result StoreFault.NoMemory → bench.new ≡ bench.old }
-    ensures failed { IsErrOf result StoreFault.Failed → Rose (B.faults bench.old) (B.faults bench.new) }
-    ensures last_call { IsErrOf result StoreFault.Failed → B.last_failed bench.new ≡ true }
-    ensures steady { (IsErrOf result StoreFault.Failed → ⊥) → B.faults bench.new ≡ B.faults bench.old }
-    ensures later { B.faults bench.old ≤ B.faults bench.new }
+    ensures fault { TellsFault B.Bench bench.old bench.new (IsErrOf result StoreFault.Failed) }
 
     ensures shape { journal.new.shape ≡ journal.old.shape }
     ensures usable { OnOk result (journal.new.usable ≡ true) }

@@ -1,15 +1,18 @@
-//! The store: the secrets of a table, what was released of them, and the journal behind it.
+//! The store: the secrets of a table, its protected groups, what was released, and the journal behind it.
 //!
 //! `Store::start` opens a journal and tests that it is that of the table; `Store::ask_all` decides questions and keeps
-//! what it answers. A store's history is legal, so it discloses no secret.
+//! what it answers. A store's history is legal, so it discloses no secret, and no total of a protected group. `Store::grow` takes
+//! the journal of a table to the rows that came at its end.
 #![tactic(auto)]
 
 mod asking;
+mod growing;
 mod outcome;
 mod starting;
 mod store;
 
 pub use audit_core::Outcome;
+pub use growing::GrowFault;
 pub use outcome::StoreFault;
 pub use starting::StartFault;
 pub use store::Store;

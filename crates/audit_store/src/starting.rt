@@ -1,7 +1,8 @@
 //! Opening the journal of a table.
-ghost use Rattle.std.specs.Prelude.{◌≡◌, ◌≤◌, true, false, Ok, length, All, IfOk, IfErr, OnOk};
+ghost use Rattle.std.specs.Prelude.{◌≡◌, ◌≤◌, true, false, Ok, List, length, All, IfOk, IfErr, OnOk};
 ghost use Rattle.audit_types.specs.Limits.{most_records};
-ghost use Rattle.audit_types.specs.History.{FitsShape, IsLegal, IsPossibleHistory, IsDecisionAfter, setting_of};
+ghost use Rattle.audit_types.specs.History.{FitsShape, AreProtected, IsLegal, IsPossibleHistory, IsDecisionAfter, setting_of};
+ghost use Rattle.audit_types.specs.declared.records.Protected.{Protected};
 ghost use Rattle.audit_types.specs.declared.records.Verdict.TheVariants.{Released};
 ghost use Rattle.audit_store.specs.Starting.{AreTrue, HistoryCause, start_fault};
 ghost use Rattle.table_load.specs.Database.{secret_table};
@@ -10,7 +11,7 @@ use answer_journal::BackFault;
 use audit_core::Core;
 use audit_core::laws::released_records;
 use audit_types::laws::true_answers;
-use audit_types::{Answered, Asked, NoMemory, Shape, Verdict};
+use audit_types::{Answered, Asked, NoMemory, Protected, Shape, Verdict};
 use std::alloc::Global;
 use sum_basis::laws::narrow_or_wide;
 use table_load::Secret;
@@ -50,8 +51,8 @@ impl From<BackFault> for StartFault {
 fn test_truth(secret: &Secret, list: &[Answered]) -> Result<(), StartFault>
     requires fit { All (λ r. FitsShape secret.now.shape r.column r.rows) list.now }
     requires few { length list.now ≤ most_records }
-    ensures ok { OnOk result (AreTrue (secret_table secret.now) list.now) }
-    ensures err { IfErr result (λ fault. HistoryCause fault secret.now.shape list.now secret.now) }
+    ensures ok { (protected : List Protected) → OnOk result (AreTrue (secret_table secret.now protected) list.now) }
+    ensures err { (protected : List Protected) → IfErr result (λ fault. HistoryCause fault secret.now.shape list.now (secret_table secret.now protected)) }
 {
     for (place, answered) in list.iter().enumerate() {
         let now = secret.truth(answered.column, &answered.rows);
@@ -87,16 +88,22 @@ fn is_released(core: &mut Core, answered: &Answered) -> Result<bool, NoMemory>
 }
 
 // Decides each record's question after the records before it, as it was decided when it was answered.
-fn replay(alloc: Global, secret: &Secret, list: &[Answered]) -> Result<Core, StartFault>
+fn replay(
+    alloc: Global,
+    secret: &Secret,
+    protected: Vec<Protected>,
+    list: &[Answered],
+) -> Result<Core, StartFault>
+    requires groups { AreProtected secret.now.shape protected.items }
     requires fit { All (λ r. FitsShape secret.now.shape r.column r.rows) list.now }
     requires few { length list.now ≤ most_records }
-    requires are_true { AreTrue (secret_table secret.now) list.now }
-    ensures ok { IfOk result (λ core. (core ≡ record { setting = setting_of secret.now.shape; history = list.now }) × IsLegal (secret_table secret.now) list.now) }
-    ensures err { IfErr result (λ fault. HistoryCause fault secret.now.shape list.now secret.now) }
+    requires are_true { AreTrue (secret_table secret.now protected.items) list.now }
+    ensures ok { IfOk result (λ core. (core ≡ record { setting = setting_of secret.now.shape protected.items; history = list.now }) × IsLegal (secret_table secret.now protected.items) list.now) }
+    ensures err { IfErr result (λ fault. HistoryCause fault secret.now.shape list.now (secret_table secret.now protected.items)) }
 {
     true_answers();
     released_records();
-    let mut core = match Core::new(alloc, secret.shape()) {
+    let mut core = match Core::new(alloc, secret.shape(), protected) {
         Ok(core) => core,
         Err(NoMemory) => return Err(StartFault::NoMemory),
     };
@@ -119,14 +126,20 @@ fn replay(alloc: Global, secret: &Secret, list: &[Answered]) -> Result<Core, Sta
 }
 
 /// Tests that a history is that of the secrets' table: every answer is true, and every question was to be released.
-pub fn audited(alloc: Global, secret: &Secret, list: &[Answered]) -> Result<Core, StartFault>
+pub fn audited(
+    alloc: Global,
+    secret: &Secret,
+    protected: Vec<Protected>,
+    list: &[Answered],
+) -> Result<Core, StartFault>
+    requires groups { AreProtected secret.now.shape protected.items }
     requires fit { All (λ r. FitsShape secret.now.shape r.column r.rows) list.now }
     requires few { length list.now ≤ most_records }
-    ensures ok { IfOk result (λ core. (core ≡ record { setting = setting_of secret.now.shape; history = list.now }) × IsLegal (secret_table secret.now) list.now) }
-    ensures err { IfErr result (λ fault. HistoryCause fault secret.now.shape list.now secret.now) }
+    ensures ok { IfOk result (λ core. (core ≡ record { setting = setting_of secret.now.shape protected.items; history = list.now }) × IsLegal (secret_table secret.now protected.items) list.now) }
+    ensures err { IfErr result (λ fault. HistoryCause fault secret.now.shape list.now (secret_table secret.now protected.items)) }
 {
     match test_truth(secret, list) {
-        Ok(()) => replay(alloc, secret, list),
+        Ok(()) => replay(alloc, secret, protected, list),
         Err(fault) => Err(fault),
     }
 }

@@ -1,15 +1,17 @@
--- Records, histories, what a history tells of one column, and which histories are legal and disclose nothing.
-use Rattle.std.specs.Prelude.{◌≡◌, ◌≢◌, ℕ, ◌<◌, ◌≤◌, ℤ, ◌==◌, List, [], map, length, take, slice_get, Some}
-use Rattle.audit_types.specs.Limits.{most_records}
+-- Records, histories, what a history tells of one column, and which histories are legal and disclose nothing that is guarded.
+use Rattle.std.specs.Prelude.{◌≡◌, ◌≢◌, ℕ, ◌<◌, ◌≤◌, ℤ, ◌==◌, List, [], ◌∷◌, map, length, take, slice_get, Some, All}
+use Rattle.audit_types.specs.Limits.{most_records, most_groups}
 use Rattle.std.specs.List.{filter, slice_index_or, AllByRecursion}
+use Rattle.audit_types.specs.declared.shapes.Kind.TheVariants.{Sum}
 use Rattle.audit_types.specs.declared.shapes.Shape.{Shape}
 use Rattle.audit_types.specs.declared.records.Answered.{Answered}
+use Rattle.audit_types.specs.declared.records.Protected.{Protected}
 use Rattle.audit_types.specs.declared.records.Verdict.{Verdict}
 use Rattle.audit_types.specs.declared.records.Verdict.TheVariants.{Released}
 use Rattle.audit_types.specs.Rows.{Rows, AreRows}
 use Rattle.audit_types.specs.Shapes.{columns, kind_at}
-use Rattle.audit_types.specs.Truth.{truth, number_at}
-use Rattle.audit_types.specs.Column.{Known, Answer, Agrees}
+use Rattle.audit_types.specs.Truth.{truth}
+use Rattle.audit_types.specs.Column.{Known, Answer, Agrees, IsGuarded}
 use Rattle.audit_types.specs.Judgement.{IsDecision, IsJudgement}
 
 -- a question or a record that fits: a column of the shape, and some rows of its table
@@ -27,13 +29,31 @@ answer_in r = record { rows = r.rows.list; value = r.answer }
 abbrev pub answers_of : ℕ → List Answered → List Answer
 answers_of column history = map answer_in (filter (λ r. r.column == column) history)
 
+-- the entry of a group with these of n rows: one that has none needs no protection
+abbrev pub entry_of : ℕ → ℕ → List ℕ → List Protected
+entry_of column n [] = []
+entry_of column n (row ∷ rows) = record { column = column; rows = record { n = n; list = row ∷ rows } } ∷ []
+
+-- the groups of a column, in order
+abbrev pub groups_of : ℕ → List Protected → List (List ℕ)
+groups_of column protected = map (λ p. p.rows.list) (filter (λ p. p.column == column) protected)
+
 -- what a decision may read of a table, beside what was answered
 pub record Setting : Type 0 where
   pub shape : Shape
+  pub protected : List Protected
 
--- what may be read of a table of this shape
-abbrev pub setting_of : Shape → Setting
-setting_of shape = record { shape = shape }
+-- what may be read of a table of this shape, where these groups are protected
+abbrev pub setting_of : Shape → List Protected → Setting
+setting_of shape protected = record { shape = shape; protected = protected }
+
+-- a protected group that fits: some rows of a column of sums
+abbrev pub IsProtected : Shape → Protected → Type 0
+IsProtected shape p = FitsShape shape p.column p.rows × (kind_at shape p.column ≡ Sum)
+
+-- protected groups that fit: at most 64
+abbrev pub AreProtected : Shape → List Protected → Type 0
+AreProtected shape protected = All (IsProtected shape) protected × (length protected ≤ most_groups)
 
 -- what a history tells of a column
 abbrev pub known_of : Setting → List Answered → ℕ → Known
@@ -41,6 +61,7 @@ known_of setting history column = record {
   kind = kind_at setting.shape column;
   n = setting.shape.rows;
   answers = answers_of column history;
+  groups = groups_of column setting.protected;
 }
 
 -- the lists of the secret columns
@@ -90,14 +111,14 @@ pub record IsLegal (table : Table) (history : List Answered) : Type 0 where
   pub few : length history ≤ most_records
   pub each : (i : ℕ) (r : Answered) → slice_get history i ≡ Some r → IsLegalRecord table (take i history) r
 
--- other secrets that give the same answers, with another number at this place
-pub record HasTwin (table : Table) (history : List Answered) (column row : ℕ) : Type 0 where
+-- other secrets that give the same answers, and differ in this of a column
+pub record HasTwin (table : Table) (history : List Answered) (column : ℕ) (value : List ℤ → ℤ) : Type 0 where
   pub twin : Secrets
   pub are_secrets : AreSecrets table.setting.shape twin
   pub agree : AgreeWithHistory table.setting history twin
-  pub differs : number_at (list_of twin column) row ≢ number_at (list_of table.secrets column) row
+  pub differs : value (list_of twin column) ≢ value (list_of table.secrets column)
 
--- no number of the secrets is disclosed
+-- nothing that is guarded is disclosed: no number of the secrets, and no total of a protected group
 abbrev pub IsUndisclosed : Table → List Answered → Type 0
 IsUndisclosed table history =
-    (column row : ℕ) → column < columns table.setting.shape → row < table.setting.shape.rows → HasTwin table history column row
+    (column : ℕ) (value : List ℤ → ℤ) → column < columns table.setting.shape → IsGuarded (known_of table.setting history column) value → HasTwin table history column value

@@ -1,11 +1,10 @@
 -- What a report comes to, by cases on how it ended.
-use Rattle.std.proofs.Common.{rules, ◌≡◌, ◌≢◌, ℕ, List, Result, Ok, Err, OnOk, OnErr, refl, sym, ◌∙◌, ap, inl, inr, subst}
+use Rattle.std.proofs.Common.{rules, ◌≡◌, ◌≢◌, ℕ, List, Result, Ok, Err, OnOk, OnErr, refl, sym, ap, inl, inr, subst}
 use Rattle.audit_types.specs.declared.records.Answered.{Answered}
 use Rattle.bench_core.specs.Causes.{Rose}
-use Rattle.schema_json.specs.Columns.{Column}
-use Rattle.table_load.specs.Cells.{SecretView}
+use Rattle.audit_types.specs.History.{Table as Guarded}
 use Rattle.table_load.specs.Database.{Database}
-use Rattle.answer_journal.specs.Moments.{IsUntouched}
+use Rattle.bench_core.specs.Calls.{IsUntouched}
 use Rattle.journal_audit.specs.Reports.{Audit, Subject, SendsFront, SendsMeanwhile, Reports, ReportsFront}
 use Rattle.journal_audit.specs.declared.faults.AuditFault.{AuditFault}
 use Rattle.journal_audit.specs.declared.faults.AuditFault.TheVariants as report
@@ -16,15 +15,6 @@ use Rattle.auditor_top.specs.Ends.{AuditEnds, audit_over}
 use Rattle.auditor_top.specs.Causes.{FaultCounts, FaultCause, FileCause, HoldsLegal, NothingFailed, IsDoneOrWants}
 use Rattle.auditor_top.proofs.StepFaults.{not_both}
 
--- what is audited, by parts that are equal
-pub same_audit : (schema other : List Column) (secret hidden : SecretView) (history past : List Answered) → schema ≡ other → secret ≡ hidden → history ≡ past
-    →
-    (let a : Audit = record { schema = schema; shape = secret.shape; history = history } in a) ≡ record { schema = other; shape = hidden.shape; history = past }
-same_audit schema other secret hidden history past first second third =
-    let made : List Column → SecretView → List Answered → Audit = λ c s h. record { schema = c; shape = s.shape; history = h } in
-    ap (λ (c : List Column). made c secret history) first ∙ ap (λ (s : SecretView). made other s history) second
-    ∙ ap (λ (h : List Answered). made other hidden h) third
-
 -- a file that is left as it was is what a crash may find before the first line
 pub untouched_report : (audit : Audit) (about : List Subject) (file before image sent : List ℕ) → IsUntouched file before image sent →
     SendsMeanwhile audit about file before image sent
@@ -32,11 +22,11 @@ untouched_report audit about file before image sent same =
     record { same = same.1; front = subst (λ (bytes : List ℕ). SendsFront audit about before bytes) (sym same.0) (none_front audit about before) }
 
 -- a report over a legal history has that cause
-pub report_cause : {X : Type 0} (ended : Result X AuditFault) (file : List ℕ) (secret : SecretView) → HoldsLegal file secret →
-    FileCause (audit_status ended) command.Audit file secret
-report_cause (Ok done) file secret legal = legal
-report_cause (Err report.Failed) file secret legal = tt
-report_cause (Err report.NoMemory) file secret legal = tt
+pub report_cause : {X : Type 0} (ended : Result X AuditFault) (file : List ℕ) (table : Guarded) → HoldsLegal file table →
+    FileCause (audit_status ended) command.Audit file table
+report_cause (Ok done) file table legal = legal
+report_cause (Err report.Failed) file table legal = tt
+report_cause (Err report.NoMemory) file table legal = tt
 
 -- the ends of a report are those of the run
 pub report_ends : {X : Type 0} (ended : Result X AuditFault) (base : Database) (history : List Answered) (before after : List ℕ)

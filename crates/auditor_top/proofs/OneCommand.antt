@@ -5,7 +5,7 @@ use Rattle.auditor_top.specs.declared.words.Command.{Command}
 use Rattle.auditor_top.specs.declared.ready.Ready.{Ready}
 use Rattle.auditor_top.specs.declared.words.WordFault.{WordFault}
 use Rattle.auditor_top.specs.declared.words.WordFault.TheVariants.{Bad}
-use Rattle.auditor_top.specs.declared.words.Command.TheVariants.{Init, Serve, Audit, Simulate, Drill}
+use Rattle.auditor_top.specs.declared.words.Command.TheVariants.{Init, Serve, Audit, Simulate, Drill, Grow}
 use Rattle.auditor_top.specs.Ready.{command_for}
 
 pub one_command : (asked : Option Command) (a b : Command) → asked ≡ Some a → asked ≡ Some b → a ≡ b
@@ -17,13 +17,14 @@ one_batch asked a b is also = cc
 pub one_drill : (asked : Option Command) (a b : ℕ) → asked ≡ Some (Drill a) → asked ≡ Some (Drill b) → a ≡ b
 one_drill asked a b is also = cc
 
--- the place of a command among the five
+-- the place of a command among the six
 abbrev place_of : Command → ℕ
 place_of Init = 0
 place_of (Serve batch) = 1
 place_of Audit = 2
 place_of Simulate = 3
 place_of (Drill number) = 4
+place_of Grow = 5
 
 -- one command has one place
 same_place : (a b : Command) → a ≡ b → nat_eq (place_of a) (place_of b) ≡ true
@@ -35,6 +36,7 @@ same_place a b is = subst (λ (k : Command). nat_eq (place_of a) (place_of k) �
     to_itself Audit = refl
     to_itself Simulate = refl
     to_itself (Drill number) = refl
+    to_itself Grow = refl
 
 -- words that name one command name no other
 pub not_asked : {Y : Type 0} (asked : Option Command) (one another : Command) → asked ≡ Some one → asked ≡ Some another →

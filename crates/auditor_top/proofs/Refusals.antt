@@ -4,27 +4,28 @@ use Rattle.std.proofs.lemmas.Bool.{false≢true}
 use Rattle.std.proofs.lemmas.List.{append-nil}
 use Rattle.audit_types.specs.declared.records.Answered.{Answered}
 use Rattle.audit_types.specs.History.{IsLegal, IsUndisclosed}
+use Rattle.audit_types.specs.Widening.{over}
 use Rattle.bench_core.specs.declared.bench.Bench.{Ghosts}
 use Rattle.bench_core.specs.declared.source.Source as source
-use Rattle.bench_core.specs.Calls.{IsQuiet}
+use Rattle.bench_core.specs.Calls.{IsQuiet, IsUntouched, OnlyReads}
 use Rattle.bench_core.specs.Moments.{started, weakens}
-use Rattle.table_load.specs.Database.{Database, secret_table}
+use Rattle.table_load.specs.Database.{Database, table_in}
 use Rattle.journal_form.specs.Journal.{StandsFor}
-use Rattle.answer_journal.specs.Moments.{IsMade, IsUntouched}
+use Rattle.answer_journal.specs.Moments.{IsMade}
 use Rattle.line_wire.specs.Lines.{CountedLine, counted_lines}
 use Rattle.audit_session.specs.Stops.{StopsOver}
 use Rattle.audit_session.specs.Ends.{ServesSome}
 use Rattle.journal_audit.specs.Reports.{subjects, ReportsFront}
 use Rattle.journal_audit.specs.SendLaws.{none_front}
 use Rattle.auditor_top.specs.declared.words.Command.{Command}
-use Rattle.auditor_top.specs.declared.words.Command.TheVariants.{Init, Serve, Audit, Simulate}
+use Rattle.auditor_top.specs.declared.words.Command.TheVariants.{Init, Serve, Audit, Simulate, Grow}
 use Rattle.auditor_top.specs.declared.status.Status.{Status}
 use Rattle.auditor_top.specs.declared.status.Status.TheVariants.{Done}
 use Rattle.auditor_top.specs.Causes.{FaultCause, NothingFailed, IsDoneOrWants}
-use Rattle.auditor_top.specs.Commands.{AreFilesOf, opens_journal}
-use Rattle.auditor_top.specs.Ends.{AuditEnds, LeavesFile, ServeEnds, SimulateEnds, SimulateSends, StandsForWhat, audit_over, outside}
-use Rattle.auditor_top.specs.Ready.{IsGiven, EndsEarly, GivesUp, OnlyReads}
-use Rattle.auditor_top.specs.Runs.{Objects, objects, faults_of, Making, Serving, Auditing, Simulating}
+use Rattle.auditor_top.specs.Commands.{AreSoundFilesOf, opens_store}
+use Rattle.auditor_top.specs.Ends.{AuditEnds, GrowEnds, LeavesFile, ServeEnds, SimulateEnds, SimulateSends, StandsForWhat, audit_over, outside}
+use Rattle.auditor_top.specs.Ready.{IsGiven, EndsEarly, GivesUp}
+use Rattle.auditor_top.specs.Runs.{Objects, objects, faults_of, Making, Serving, Auditing, Simulating, Growing}
 use Rattle.auditor_top.proofs.AuditEndings.{untouched_report}
 use Rattle.auditor_top.proofs.OneTable.{nothing_served, untouched_stops}
 use Rattle.auditor_top.proofs.SimulationEndings.{none_begun, no_verdict}
@@ -35,8 +36,8 @@ use Rattle.auditor_top.proofs.StepStatuses.{by_giving_up}
 abbrev pub StopsAreLegal : Type 0
 StopsAreLegal =
     (schema table before image sent : List ℕ) (base : Database) (batch : ℕ) (history now : List Answered) (lines : List CountedLine) →
-    AreFilesOf schema table base → IsLegal (secret_table base.secret) history → StopsOver base batch history lines before image sent →
-    StandsFor image base.secret.shape now → IsLegal (secret_table base.secret) now × IsUndisclosed (secret_table base.secret) now
+    AreSoundFilesOf schema table base → IsLegal (table_in base) history → StopsOver base batch history lines before image sent →
+    StandsFor image base.secret.shape now → IsLegal (table_in base) now × IsUndisclosed (table_in base) now
 
 -- a run isn't done before its command goes on
 never_done : {Y : Type 0} (status : Status) → EndsEarly status → status ≡ Done → Y
@@ -49,7 +50,7 @@ uncalled bench at only_now = record {
   file = refl;
   sent = refl;
   crash = λ image left. left;
-  untouched = λ told quiet. started bench at _ (λ image sent was. let now = only_now image sent was in (now.1, quiet image now.0));
+  untouched = λ quiet. started bench at _ (λ image sent was. let now = only_now image sent was in (now.1, quiet image now.0));
 }
 
 -- a bench that was only read is as quiet as before
@@ -63,15 +64,16 @@ pub record Refused {P I B : Type 0} (files : source.Ghosts P) (lines : source.Gh
   pub serve : (batch : ℕ) → asked ≡ Some (Serve batch) → Serving files lines bench batch status old new
   pub audit : asked ≡ Some Audit → Auditing files lines bench status old new
   pub simulate : asked ≡ Some Simulate → Simulating files lines bench status old new
+  pub grow : asked ≡ Some Grow → Growing files lines bench status old new
 
 module _ {P I B : Type 0} (files : source.Ghosts P) (lines : source.Ghosts I) (bench : Ghosts B) (schema later_schema table later_table : P) (input : I)
     (at later : B) (spare : B) (status : Status) (early : EndsEarly status) (reads : OnlyReads bench at later)
     (cause : FaultCause status (faults_of files lines bench (objects schema table input at spare))
     (faults_of files lines bench (objects later_schema later_table input later spare)))
     (asked : Option Command)
-    (gives_up : (command : Command) → asked ≡ Some command → files.told → (opens_journal command ≡ true → bench.told) →
+    (gives_up : (command : Command) → asked ≡ Some command → files.told → (opens_store command ≡ true → bench.told) →
     IsGiven command (files.left schema) (files.left table) (bench.file at) → GivesUp status)
-    (unopened : (command : Command) → asked ≡ Some command → opens_journal command ≡ false → later ≡ at) where
+    (unopened : (command : Command) → asked ≡ Some command → opens_store command ≡ false → later ≡ at) where
   abbrev old : Objects P I B
   old = objects schema table input at spare
 
@@ -89,10 +91,10 @@ module _ {P I B : Type 0} (files : source.Ghosts P) (lines : source.Ghosts I) (b
     made = λ ptold told done base given. never_done status early done;
     kept = λ told undone fine. reads.file;
     unsent = reads.sent;
-    untouched = λ told there quiet. reads.untouched told quiet;
+    untouched = λ told there quiet. reads.untouched quiet;
     making = λ ptold told absent quiet base given.
         weakens bench at later (IsUntouched (bench.file at) (bench.sent at)) _
-        (λ image sent same. (same.0, inl (subst (λ (bytes : List ℕ). IsMade bytes → ⊥) (sym same.1) (not_made _ absent)))) (reads.untouched told quiet);
+        (λ image sent same. (same.0, inl (subst (λ (bytes : List ℕ). IsMade bytes → ⊥) (sym same.1) (not_made _ absent)))) (reads.untouched quiet);
     unmade = λ wanted. unopened Init is refl;
     init_calls = λ told done. never_done status early done;
     makes = λ ptold told base given absent none. wants (gives_up Init is ptold (λ opens. told) (base, given)) none;
@@ -112,11 +114,11 @@ module _ {P I B : Type 0} (files : source.Ghosts P) (lines : source.Ghosts I) (b
     any_moment = λ ptold itold told quiet base history over.
         weakens bench at later (IsUntouched (bench.file at) (bench.sent at)) _
         (λ image sent same. untouched_stops base batch history (counted_lines (lines.left input)) (bench.file at) (bench.sent at) image sent over.stands same)
-        (reads.untouched told quiet);
+        (reads.untouched quiet);
     undisclosed = λ ptold told quiet base history over image sent now was stands.
         legal _ _ _ image sent base batch history now [] over.files over.legal
         (untouched_stops base batch history [] (bench.file at) (bench.sent at) image sent over.stands
-        ((reads.untouched told quiet).each image sent was)) stands;
+        ((reads.untouched quiet).each image sent was)) stands;
     serve_calls = λ ptold itold told done base history over. never_done status early done;
     complete = λ ptold itold told base history over within none.
         wants (gives_up (Serve batch) is ptold (λ opens. told) (base, history, over)) none;
@@ -132,7 +134,7 @@ module _ {P I B : Type 0} (files : source.Ghosts P) (lines : source.Ghosts I) (b
     auditing = λ ptold told quiet base history over.
         weakens bench at later (IsUntouched (bench.file at) (bench.sent at)) _
         (λ image sent same. untouched_report (audit_over base history) (subjects base.secret.shape) (bench.file at) (bench.sent at) image sent same)
-        (reads.untouched told quiet);
+        (reads.untouched quiet);
     audit_calls = λ ptold told done base given. never_done status early done;
     audits = λ ptold told base history over none. wants (gives_up Audit is ptold (λ opens. told) (base, history, over)) none;
   }
@@ -151,13 +153,28 @@ module _ {P I B : Type 0} (files : source.Ghosts P) (lines : source.Ghosts I) (b
     simulating = λ ptold told quiet columns public given.
         weakens bench at later (IsUntouched (bench.file at) (bench.sent at)) _
         (λ image sent same. no_verdict lines.told columns public (counted_lines (lines.left input)) (bench.file at) (bench.sent at) image sent same.1 same.0)
-        (reads.untouched told quiet);
+        (reads.untouched quiet);
     undisturbed = λ told quiet.
-        weakens bench at later (IsUntouched (bench.file at) (bench.sent at)) (LeavesFile (bench.file at)) (λ image sent same. same.1) (reads.untouched told quiet);
+        weakens bench at later (IsUntouched (bench.file at) (bench.sent at)) (LeavesFile (bench.file at)) (λ image sent same. same.1) (reads.untouched quiet);
     simulate_calls = λ itold told done. never_done status early done;
     simulates = λ ptold itold columns public given verdicts agree within none.
         wants (gives_up Simulate is ptold (λ opens. absurd (false≢true opens)) (columns, public, given)) none;
   }
 
+  ungrown : asked ≡ Some Grow → Growing files lines bench status old new
+  ungrown is = record {
+    grown = λ ptold told base rows history given.
+        by_giving_up (λ (s : Status). GrowEnds s base history (bench.file at) (bench.file later)) status
+        (gives_up Grow is ptold (λ opens. told) (base, given.files)) reads.file reads.file tt reads.file;
+    growing = λ ptold told quiet base rows history given.
+        weakens bench at later (IsUntouched (bench.file at) (bench.sent at)) _
+        (λ image sent same. (same.0, inl (subst (λ (f : List ℕ). StandsFor f (over rows base.secret.shape) history) (sym same.1) given.stands)))
+        (reads.untouched quiet);
+    unsent = reads.sent;
+    kept = λ undone fine. reads.file;
+    grow_calls = λ told done. never_done status early done;
+    grows = λ ptold told base rows history given none. wants (gives_up Grow is ptold (λ opens. told) (base, given.files)) none;
+  }
+
   pub refused : StopsAreLegal → Refused files lines bench asked status old new
-  refused legal = record { init = unmade; serve = unserved legal; audit = unaudited; simulate = unsimulated }
+  refused legal = record { init = unmade; serve = unserved legal; audit = unaudited; simulate = unsimulated; grow = ungrown }

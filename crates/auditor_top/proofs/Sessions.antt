@@ -3,18 +3,16 @@ use Rattle.std.proofs.Common.{◌≡◌, ◌+◌, ℕ, List, [], subst}
 use Rattle.audit_types.specs.declared.records.Answered.{Answered}
 use Rattle.audit_types.specs.History.{IsLegal, IsUndisclosed}
 use Rattle.bench_core.specs.declared.bench.Bench.{Ghosts}
-use Rattle.bench_core.specs.Calls.{LeavesOnly}
+use Rattle.bench_core.specs.Calls.{IsUntouched, LeavesOnly, OnlyReads}
 use Rattle.bench_core.specs.Moments.{joins, weakens}
-use Rattle.table_load.specs.Database.{Database, secret_table}
+use Rattle.table_load.specs.Database.{Database, table_in}
 use Rattle.journal_form.specs.Journal.{StandsFor}
-use Rattle.answer_journal.specs.Moments.{IsUntouched}
 use Rattle.line_wire.specs.Lines.{counted_lines}
 use Rattle.audit_session.specs.Ends.{TakesCalls}
 use Rattle.audit_session.specs.Stops.{IsHarmless, StopsOver}
 use Rattle.auditor_top.specs.declared.status.Status.{Status}
 use Rattle.auditor_top.specs.Commands.{ServesOver}
 use Rattle.auditor_top.specs.Ends.{Outside, ServeEnds}
-use Rattle.auditor_top.specs.Ready.{OnlyReads}
 use Rattle.auditor_top.proofs.OneTable.{carried, untouched_stops}
 use Rattle.auditor_top.proofs.Refusals.{StopsAreLegal}
 
@@ -41,15 +39,15 @@ module _ {B : Type 0} (bench : Ghosts B) (at opened later : B) (reads : OnlyRead
 
   pub harmless_so : StopsAreLegal → (schema table : List ℕ) → ServesOver schema table (bench.file at) base history →
       LeavesOnly bench at opened (IsUntouched (bench.file at) (bench.sent at)) →
-      LeavesOnly bench opened later (λ image sent. IsHarmless seen.secret image) → (image sent : List ℕ) (now : List Answered) →
+      LeavesOnly bench opened later (λ image sent. IsHarmless (table_in seen) image) → (image sent : List ℕ) (now : List Answered) →
       bench.since later (bench.moment at) image sent → StandsFor image base.secret.shape now →
-      IsLegal (secret_table base.secret) now × IsUndisclosed (secret_table base.secret) now
+      IsLegal (table_in base) now × IsUndisclosed (table_in base) now
   harmless_so legal schema table over untouched session image sent now was stands =
-      (joins bench at opened later (λ image sent. IsHarmless base.secret image)
+      (joins bench at opened later (λ image sent. IsHarmless (table_in base) image)
       (weakens bench at opened (IsUntouched (bench.file at) (bench.sent at)) _
       (λ image sent is now stands. legal schema table (bench.sent at) image sent base batch history now [] over.files over.legal
       (untouched_stops base batch history [] (bench.file at) (bench.sent at) image sent over.stands is) stands) untouched)
-      (carried (λ (b : Database) (h : List Answered). LeavesOnly bench opened later (λ image sent. IsHarmless b.secret image)) seen base kept history same
+      (carried (λ (b : Database) (h : List Answered). LeavesOnly bench opened later (λ image sent. IsHarmless (table_in b) image)) seen base kept history same
       session)).each image sent was now stands
 
   pub calls_so : bench.moment opened ≡ bench.moment at + 2 → TakesCalls seen kept batch (counted_lines text) (bench.moment opened) (bench.moment later) →

@@ -1,10 +1,13 @@
 -- What a simulation comes to, by cases on how it ended.
-use Rattle.std.proofs.Common.{rules, ◌≡◌, ◌≢◌, ℕ, ◌^◌, ◌≤◌, List, [], length, Result, Ok, Err, refl, sym, ◌∙◌, inl, inr, subst, arith}
+use Rattle.std.proofs.Common.{rules, ◌≡◌, ◌≢◌, ℕ, ◌^◌, ◌≤◌, List, [], length, Result, Ok, Err, refl, sym, ◌∙◌, inl, inr, ap, subst, arith}
 use Rattle.std.proofs.lemmas.List.{append-nil}
 use Rattle.audit_types.specs.declared.records.Answered.{Answered}
+use Rattle.audit_types.specs.declared.records.Protected.{Protected}
 use Rattle.bench_core.specs.Causes.{Rose}
-use Rattle.schema_json.specs.Columns.{Column}
+use Rattle.schema_json.specs.Columns.{Column, SchemaView}
 use Rattle.schema_json.specs.Reading.{schema_of}
+use Rattle.set_index.specs.Groups.{AreEntries}
+use Rattle.set_index.specs.Indexed.{IndexView, OneListOfEntries}
 use Rattle.table_load.specs.Cells.{PublicView}
 use Rattle.table_load.specs.Tables.{public_of}
 use Rattle.line_wire.specs.Lines.{CountedLine, counted_lines}
@@ -21,40 +24,46 @@ use Rattle.auditor_top.specs.Causes.{FaultCounts, FaultCause, InputCause, Nothin
 use Rattle.auditor_top.proofs.OneTable.{same_ok}
 use Rattle.auditor_top.proofs.StepFaults.{not_both, same_counts}
 
--- the files mean one schema
-pub same_columns : (schema table : List ℕ) (opened columns : List Column) (public : PublicView) → schema_of schema ≡ Ok opened →
-    ArePublicFilesOf schema table columns public → opened ≡ columns
-same_columns schema table opened columns public is files = same_ok (schema_of schema) opened columns is files.schema_is
+abbrev index_of : PublicView → List Protected → IndexView
+index_of public protected = record { public = public; protected = protected }
 
--- and one public part
-pub same_public_part : (schema table : List ℕ) (opened columns : List Column) (shown public : PublicView) → schema_of schema ≡ Ok opened →
-    public_of opened table ≡ Ok shown → ArePublicFilesOf schema table columns public → shown ≡ public
-same_public_part schema table opened columns shown public is also files =
-    same_ok (public_of columns table) shown public
-    (subst (λ (cs : List Column). public_of cs table ≡ Ok shown) (same_columns schema table opened columns public is files) also) files.public_is
+-- the files mean one schema and one public part, and the entries of its groups are one list
+pub same_index : OneListOfEntries → (schema table : List ℕ) (opened columns : List Column) (shown index : IndexView) →
+    ArePublicFilesOf schema table opened shown → ArePublicFilesOf schema table columns index → (opened ≡ columns) × (shown ≡ index)
+same_index law schema table opened columns shown index read files =
+    let same : ◌≡◌ {A = SchemaView} (record { columns = opened; groups = read.groups }) (record { columns = columns; groups = files.groups }) =
+    same_ok (schema_of schema) _ _ read.schema_is files.schema_is in
+    let part : shown.public ≡ index.public = same_ok (public_of columns table) shown.public index.public
+    (subst (λ (v : SchemaView). public_of v.columns table ≡ Ok shown.public) same read.public_is) files.public_is in
+    let kept : shown.protected ≡ index.protected = law.one columns index.public files.groups shown.protected index.protected
+    (subst (λ (p : PublicView). AreEntries columns p files.groups shown.protected) part
+    (subst (λ (v : SchemaView). AreEntries v.columns shown.public v.groups shown.protected) same read.entries)) files.entries in (
+      ap (λ (v : SchemaView). v.columns) same,
+      ap (λ (p : PublicView). index_of p shown.protected) part ∙ ap (λ (l : List Protected). index_of index.public l) kept,
+    )
 
 -- so what is said of what was read is said of what the files mean
-pub carried_public : (P : List Column → PublicView → Type 0) (schema table : List ℕ) (opened columns : List Column) (shown public : PublicView)
-    → ArePublicFilesOf schema table opened shown → ArePublicFilesOf schema table columns public → P opened shown → P columns public
-carried_public P schema table opened columns shown public read files holds =
-    subst (λ (p : PublicView). P columns p) (same_public_part schema table opened columns shown public read.schema_is read.public_is files)
-    (subst (λ (cs : List Column). P cs shown) (same_columns schema table opened columns public read.schema_is files) holds)
+pub carried_public : OneListOfEntries → (P : List Column → IndexView → Type 0) (schema table : List ℕ) (opened columns : List Column) (shown index : IndexView)
+    → ArePublicFilesOf schema table opened shown → ArePublicFilesOf schema table columns index → P opened shown → P columns index
+carried_public law P schema table opened columns shown index read files holds =
+    let same = same_index law schema table opened columns shown index read files in
+    subst (λ (i : IndexView). P columns i) same.1 (subst (λ (cs : List Column). P cs shown) same.0 holds)
 
 -- ---- before the first line
 
 -- there is no verdict yet
-pub none_begun : (columns : List Column) (public : PublicView) (lines : List CountedLine) → BeginVerdicts columns public lines []
+pub none_begun : (columns : List Column) (public : IndexView) (lines : List CountedLine) → BeginVerdicts columns public lines []
 none_begun columns public lines = record { count = 0; are = tt }
 
 -- and nothing was sent
-pub no_verdict : (told : Type 0) (columns : List Column) (public : PublicView) (lines : List CountedLine) (file before image sent : List ℕ) → image ≡ file →
+pub no_verdict : (told : Type 0) (columns : List Column) (public : IndexView) (lines : List CountedLine) (file before image sent : List ℕ) → image ≡ file →
     sent ≡ before → SimulatesMeanwhile told columns public lines file before image sent
 no_verdict told columns public lines file before image sent same none = (same, λ t. ([], none_begun columns public lines, (0, none ∙ sym (append-nil before))))
 
 -- ---- reading the transcript
 
 -- the ends of a simulation are those of the run
-pub simulation_ends : (ended : Result (Unit {0}) SimulationFault) (columns : List Column) (public : PublicView) (input left : List ℕ)
+pub simulation_ends : (ended : Result (Unit {0}) SimulationFault) (columns : List Column) (public : IndexView) (input left : List ℕ)
     (verdicts : List (Replied Answered)) →
     EndVerdicts ended columns public input left verdicts → SimulateEnds (simulation_status ended) columns public input left verdicts
 simulation_ends (Ok done) columns public input left verdicts are = are
@@ -103,7 +112,7 @@ simulation_faults (Err verdict.NoMemory) before input bench input_rose input_sam
 
 -- where every reply agrees, the input is within its limit and nothing failed, it is done, or there was no memory
 pub simulation_wants : FirstLinesHaveVerdicts
-    → (ended : Result (Unit {0}) SimulationFault) (columns : List Column) (public : PublicView) (input left : List ℕ)
+    → (ended : Result (Unit {0}) SimulationFault) (columns : List Column) (public : IndexView) (input left : List ℕ)
     (verdicts others : List (Replied Answered)) (before after : FaultCounts)
     → EndVerdicts ended columns public input left verdicts → EndReads ended input left
     → AreVerdicts columns public (counted_lines input) others → length input ≤ 2 ^ 30 → FaultCause (simulation_status ended) before after →

@@ -3,7 +3,7 @@ use Rattle.std.proofs.Common.{rules, ◌≡◌, ◌≢◌, ℕ, ◌+◌, ◌<◌
 use Rattle.std.proofs.lemmas.Bool.{false≢true}
 use Rattle.audit_types.specs.declared.records.Answered.{Answered}
 use Rattle.bench_core.specs.Causes.{Rose}
-use Rattle.table_load.specs.Cells.{SecretView}
+use Rattle.audit_types.specs.History.{Table as Guarded}
 use Rattle.table_load.specs.Database.{Database}
 use Rattle.journal_form.specs.Journal.{StandsFor}
 use Rattle.answer_journal.specs.Moments.{IsAlready, IsMade}
@@ -51,11 +51,11 @@ making_faults (Err make.AlreadyThere) before bench rose same = same_counts befor
 making_faults (Err make.Failed) before bench rose same = (rose refl, refl)
 
 -- a journal was made where none was there
-pub making_cause : (making : Result (Unit {0}) MakeFault) (file : List ℕ) (secret : SecretView) → (IsAlready file → IsErr making)
-    → (IsErrOf making make.AlreadyThere → IsAlready file) → FileCause (making_status making) Init file secret
-making_cause (Ok done) file secret refused already = λ there. absurd (false≢true (refused there))
-making_cause (Err make.AlreadyThere) file secret refused already = already refl
-making_cause (Err make.Failed) file secret refused already = tt
+pub making_cause : (making : Result (Unit {0}) MakeFault) (file : List ℕ) (table : Guarded) → (IsAlready file → IsErr making)
+    → (IsErrOf making make.AlreadyThere → IsAlready file) → FileCause (making_status making) Init file table
+making_cause (Ok done) file table refused already = λ there. absurd (false≢true (refused there))
+making_cause (Err make.AlreadyThere) file table refused already = already refl
+making_cause (Err make.Failed) file table refused already = tt
 
 -- where nothing was there and the bench didn't fail, it is done
 pub making_wants : (making : Result (Unit {0}) MakeFault) (before after : FaultCounts) → (IsErrOf making make.AlreadyThere → ⊥)
@@ -86,13 +86,13 @@ making_failed (Err make.Failed) is = refl
 -- ---- answering lines
 
 -- a session over a legal history has that cause
-pub session_cause : {X : Type 0} (ended : Result X EndFault) (batch : ℕ) (file : List ℕ) (secret : SecretView) → HoldsLegal file secret →
-    FileCause (session_status ended) (Serve batch) file secret
-session_cause (Ok done) batch file secret legal = legal
-session_cause (Err end.Input) batch file secret legal = legal
-session_cause (Err end.Bench) batch file secret legal = tt
-session_cause (Err end.Limit) batch file secret legal = legal
-session_cause (Err end.NoMemory) batch file secret legal = tt
+pub session_cause : {X : Type 0} (ended : Result X EndFault) (batch : ℕ) (file : List ℕ) (table : Guarded) → HoldsLegal file table →
+    FileCause (session_status ended) (Serve batch) file table
+session_cause (Ok done) batch file table legal = legal
+session_cause (Err end.Input) batch file table legal = legal
+session_cause (Err end.Bench) batch file table legal = tt
+session_cause (Err end.Limit) batch file table legal = legal
+session_cause (Err end.NoMemory) batch file table legal = tt
 
 -- the ends of a session are those of the run
 pub session_ends : {X : Type 0} (ended : Result X EndFault) (base : Database) (batch : ℕ) (history now : List Answered) (before after : Outside)

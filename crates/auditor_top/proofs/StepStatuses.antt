@@ -1,12 +1,15 @@
 -- What follows from the status of each step of a run by itself.
 use Rattle.std.proofs.Common.{◌≡◌, ◌≢◌, ◌≤◌, List, ℕ, true, false, Bool, Some, Result, Ok, Err, IsErrOf, IsOk, arith, refl, subst, sym}
+use Rattle.std.specs.Prelude.{ℤ}
 use Rattle.std.specs.Bool.{OnTrue}
-use Rattle.schema_json.specs.Columns.{Column}
+use Rattle.audit_types.specs.declared.shapes.Shape.{Shape}
+use Rattle.schema_json.specs.Columns.{Column, Group, SchemaView}
 use Rattle.schema_json.specs.declared.faults.SchemaFault.{SchemaFault}
 use Rattle.schema_json.specs.declared.faults.SchemaFault.TheVariants as schema_fault
-use Rattle.table_load.specs.Cells.{SecretView}
+use Rattle.audit_types.specs.History.{Table as Guarded}
 use Rattle.table_load.specs.declared.faults.TableFault.{TableFault}
 use Rattle.table_load.specs.declared.faults.TableFault.TheVariants as table_fault
+use Rattle.set_index.specs.Groups.{AreSound}
 use Rattle.answer_journal.specs.declared.make.MakeFault.{MakeFault}
 use Rattle.answer_journal.specs.declared.make.MakeFault.TheVariants as make
 use Rattle.audit_session.specs.declared.serving.EndFault.{EndFault}
@@ -20,9 +23,9 @@ use Rattle.auditor_top.specs.declared.words.Command.TheVariants.{Init, Serve, Au
 use Rattle.auditor_top.specs.declared.status.Which.{Which}
 use Rattle.auditor_top.specs.declared.status.Which.TheVariants.{Schema, Table, Input}
 use Rattle.auditor_top.specs.declared.status.Status.{Status}
-use Rattle.auditor_top.specs.declared.status.Status.TheVariants.{Done, BadWords, BadSchema, BadTable, SourceFault, BenchFault, NotMade, AlreadyThere, Damaged, OtherShape, Untrue, Illegal, InputLimit, Disagrees, NoMemory}
+use Rattle.auditor_top.specs.declared.status.Status.TheVariants.{Done, BadWords, BadSchema, BadTable, SourceFault, BenchFault, NotMade, AlreadyThere, Damaged, OtherShape, NothingNew, Untrue, Illegal, InputLimit, Disagrees, BadGroup, NoMemory}
 use Rattle.auditor_top.specs.Status.{making_status, session_status, audit_status, simulation_status}
-use Rattle.auditor_top.specs.Causes.{FaultCounts, counts, NeverFall, WordCause, SchemaCause, TableCause, FileCause, InputCause}
+use Rattle.auditor_top.specs.Causes.{FaultCounts, counts, NeverFall, WordCause, SchemaCause, TableCause, GroupCause, FileCause, InputCause}
 use Rattle.auditor_top.specs.Ready.{EndsEarly, GivesUp}
 use Rattle.auditor_top.specs.Stages.{Stage, reading_table, opening_journal, reading_lines, is_short_of, reached, Before}
 
@@ -111,10 +114,12 @@ by_giving_up P NotMade gave_up schema table bench memory = absurd gave_up
 by_giving_up P AlreadyThere gave_up schema table bench memory = absurd gave_up
 by_giving_up P (Damaged at) gave_up schema table bench memory = absurd gave_up
 by_giving_up P (OtherShape kept now) gave_up schema table bench memory = absurd gave_up
+by_giving_up P (NothingNew rows) gave_up schema table bench memory = absurd gave_up
 by_giving_up P (Untrue place kept now) gave_up schema table bench memory = absurd gave_up
 by_giving_up P (Illegal place) gave_up schema table bench memory = absurd gave_up
 by_giving_up P InputLimit gave_up schema table bench memory = absurd gave_up
 by_giving_up P (Disagrees line due) gave_up schema table bench memory = absurd gave_up
+by_giving_up P (BadGroup place) gave_up schema table bench memory = absurd gave_up
 by_giving_up P NoMemory gave_up schema table bench memory = memory
 
 -- a run that ends early read nothing of the input, and isn't done
@@ -131,58 +136,71 @@ reads_nothing NotMade bytes early = refl
 reads_nothing AlreadyThere bytes early = absurd early
 reads_nothing (Damaged at) bytes early = refl
 reads_nothing (OtherShape kept now) bytes early = refl
+reads_nothing (NothingNew rows) bytes early = absurd early
 reads_nothing (Untrue place kept now) bytes early = refl
 reads_nothing (Illegal place) bytes early = refl
 reads_nothing InputLimit bytes early = absurd early
 reads_nothing (Disagrees line due) bytes early = absurd early
+reads_nothing (BadGroup place) bytes early = refl
 reads_nothing NoMemory bytes early = tt
 
 -- ---- the last step of a command
 
 -- a run may end so once its command goes on
 abbrev pub EndsLastStep : Status → Type 0
-EndsLastStep Done = Unit {0}
-EndsLastStep (SourceFault Input) = Unit {0}
-EndsLastStep BenchFault = Unit {0}
-EndsLastStep AlreadyThere = Unit {0}
-EndsLastStep InputLimit = Unit {0}
-EndsLastStep (Disagrees line due) = Unit {0}
-EndsLastStep NoMemory = Unit {0}
-EndsLastStep status = ⊥
+EndsLastStep BadWords = ⊥
+EndsLastStep (BadSchema fault) = ⊥
+EndsLastStep (BadTable fault) = ⊥
+EndsLastStep (SourceFault Schema) = ⊥
+EndsLastStep (SourceFault Table) = ⊥
+EndsLastStep (BadGroup place) = ⊥
+EndsLastStep status = Unit {0}
 
 -- what holds at each of these holds
-pub by_last_step : (P : Status → Type 0) (status : Status) → EndsLastStep status → P Done → P (SourceFault Input) → P BenchFault → P AlreadyThere → P InputLimit →
+pub by_last_step : (P : Status → Type 0) (status : Status) → EndsLastStep status → P Done → P (SourceFault Input) → P BenchFault → P NotMade → P AlreadyThere →
+    ((at : ℕ) → P (Damaged at)) → ((kept now : Shape) → P (OtherShape kept now)) → ((rows : ℕ) → P (NothingNew rows)) →
+    ((place : ℕ) (kept now : ℤ) → P (Untrue place kept now)) → ((place : ℕ) → P (Illegal place)) → P InputLimit →
     ((line : ℕ) (due : Due) → P (Disagrees line due)) → P NoMemory → P status
-by_last_step P Done last done input bench there limit disagrees memory = done
-by_last_step P BadWords last done input bench there limit disagrees memory = absurd last
-by_last_step P (BadSchema fault) last done input bench there limit disagrees memory = absurd last
-by_last_step P (BadTable fault) last done input bench there limit disagrees memory = absurd last
-by_last_step P (SourceFault Schema) last done input bench there limit disagrees memory = absurd last
-by_last_step P (SourceFault Table) last done input bench there limit disagrees memory = absurd last
-by_last_step P (SourceFault Input) last done input bench there limit disagrees memory = input
-by_last_step P BenchFault last done input bench there limit disagrees memory = bench
-by_last_step P NotMade last done input bench there limit disagrees memory = absurd last
-by_last_step P AlreadyThere last done input bench there limit disagrees memory = there
-by_last_step P (Damaged at) last done input bench there limit disagrees memory = absurd last
-by_last_step P (OtherShape kept now) last done input bench there limit disagrees memory = absurd last
-by_last_step P (Untrue place kept now) last done input bench there limit disagrees memory = absurd last
-by_last_step P (Illegal place) last done input bench there limit disagrees memory = absurd last
-by_last_step P InputLimit last done input bench there limit disagrees memory = limit
-by_last_step P (Disagrees line due) last done input bench there limit disagrees memory = disagrees line due
-by_last_step P NoMemory last done input bench there limit disagrees memory = memory
+by_last_step P Done last done input bench unmade there damaged other nothing untrue illegal limit disagrees memory = done
+by_last_step P BadWords last done input bench unmade there damaged other nothing untrue illegal limit disagrees memory = absurd last
+by_last_step P (BadSchema fault) last done input bench unmade there damaged other nothing untrue illegal limit disagrees memory = absurd last
+by_last_step P (BadTable fault) last done input bench unmade there damaged other nothing untrue illegal limit disagrees memory = absurd last
+by_last_step P (SourceFault Schema) last done input bench unmade there damaged other nothing untrue illegal limit disagrees memory = absurd last
+by_last_step P (SourceFault Table) last done input bench unmade there damaged other nothing untrue illegal limit disagrees memory = absurd last
+by_last_step P (SourceFault Input) last done input bench unmade there damaged other nothing untrue illegal limit disagrees memory = input
+by_last_step P BenchFault last done input bench unmade there damaged other nothing untrue illegal limit disagrees memory = bench
+by_last_step P NotMade last done input bench unmade there damaged other nothing untrue illegal limit disagrees memory = unmade
+by_last_step P AlreadyThere last done input bench unmade there damaged other nothing untrue illegal limit disagrees memory = there
+by_last_step P (Damaged at) last done input bench unmade there damaged other nothing untrue illegal limit disagrees memory = damaged at
+by_last_step P (OtherShape kept now) last done input bench unmade there damaged other nothing untrue illegal limit disagrees memory = other kept now
+by_last_step P (NothingNew rows) last done input bench unmade there damaged other nothing untrue illegal limit disagrees memory = nothing rows
+by_last_step P (Untrue place kept now) last done input bench unmade there damaged other nothing untrue illegal limit disagrees memory = untrue place kept now
+by_last_step P (Illegal place) last done input bench unmade there damaged other nothing untrue illegal limit disagrees memory = illegal place
+by_last_step P InputLimit last done input bench unmade there damaged other nothing untrue illegal limit disagrees memory = limit
+by_last_step P (Disagrees line due) last done input bench unmade there damaged other nothing untrue illegal limit disagrees memory = disagrees line due
+by_last_step P (BadGroup place) last done input bench unmade there damaged other nothing untrue illegal limit disagrees memory = absurd last
+by_last_step P NoMemory last done input bench unmade there damaged other nothing untrue illegal limit disagrees memory = memory
 
--- the files were read before, and the journal was opened
-pub schema_read : (status : Status) (meant : Result (List Column) SchemaFault) → EndsLastStep status → IsOk meant → SchemaCause status meant
-schema_read status meant last is = by_last_step (λ (s : Status). SchemaCause s meant) status last is is is is is (λ line due. is) tt
+-- the files were read before, the groups were made ready, and the journal was opened
+pub groups_read : (status : Status) (columns : List Column) (groups : List Group) → EndsLastStep status → AreSound columns groups → GroupCause status columns groups
+groups_read status columns groups last are = by_last_step (λ (s : Status). GroupCause s columns groups) status last are are are are are (λ at. are) (λ kept now. are) (λ rows. are)
+    (λ place kept now. are) (λ place. are) are (λ line due. are) tt
+
+pub schema_read : (status : Status) (meant : Result SchemaView SchemaFault) → EndsLastStep status → IsOk meant → SchemaCause status meant
+schema_read status meant last is = by_last_step (λ (s : Status). SchemaCause s meant) status last is is is is is (λ at. is) (λ kept now. is) (λ rows. is)
+    (λ place kept now. is) (λ place. is) is (λ line due. is) tt
 
 pub table_read : {X : Type 0} (status : Status) (meant : Result X TableFault) → EndsLastStep status → IsOk meant → TableCause status meant
-table_read status meant last is = by_last_step (λ (s : Status). TableCause s meant) status last is is is is is (λ line due. is) tt
+table_read status meant last is = by_last_step (λ (s : Status). TableCause s meant) status last is is is is is (λ at. is) (λ kept now. is) (λ rows. is)
+    (λ place kept now. is) (λ place. is) is (λ line due. is) tt
 
 pub past_table : (P : Type 0) (status : Status) → EndsLastStep status → Before reading_table status P
-past_table P status last = by_last_step (λ (s : Status). Before reading_table s P) status last tt tt tt tt tt (λ line due. tt) tt
+past_table P status last = by_last_step (λ (s : Status). Before reading_table s P) status last tt tt tt tt tt (λ at. tt) (λ kept now. tt) (λ rows. tt)
+    (λ place kept now. tt) (λ place. tt) tt (λ line due. tt) tt
 
 pub past_journal : (P : Type 0) (status : Status) → EndsLastStep status → Before opening_journal status P
-past_journal P status last = by_last_step (λ (s : Status). Before opening_journal s P) status last tt tt tt tt tt (λ line due. tt) tt
+past_journal P status last = by_last_step (λ (s : Status). Before opening_journal s P) status last tt tt tt tt tt (λ at. tt) (λ kept now. tt) (λ rows. tt)
+    (λ place kept now. tt) (λ place. tt) tt (λ line due. tt) tt
 
 -- so it isn't one of theirs that failed
 pub no_schema_fault : (status : Status) → EndsLastStep status → status ≢ BadSchema schema_fault.NoMemory
@@ -340,11 +358,11 @@ simulation_at_lines P (Err verdict.Limit) = tt
 simulation_at_lines P (Err (verdict.Disagrees line due)) = tt
 simulation_at_lines P (Err verdict.NoMemory) = tt
 
-pub simulation_file : {X : Type 0} (ended : Result X SimulationFault) (bytes : List ℕ) (secret : SecretView) →
-    FileCause (simulation_status ended) Simulate bytes secret
-simulation_file (Ok done) bytes secret = tt
-simulation_file (Err verdict.Input) bytes secret = tt
-simulation_file (Err verdict.Bench) bytes secret = tt
-simulation_file (Err verdict.Limit) bytes secret = tt
-simulation_file (Err (verdict.Disagrees line due)) bytes secret = tt
-simulation_file (Err verdict.NoMemory) bytes secret = tt
+pub simulation_file : {X : Type 0} (ended : Result X SimulationFault) (bytes : List ℕ) (table : Guarded) →
+    FileCause (simulation_status ended) Simulate bytes table
+simulation_file (Ok done) bytes table = tt
+simulation_file (Err verdict.Input) bytes table = tt
+simulation_file (Err verdict.Bench) bytes table = tt
+simulation_file (Err verdict.Limit) bytes table = tt
+simulation_file (Err (verdict.Disagrees line due)) bytes table = tt
+simulation_file (Err verdict.NoMemory) bytes table = tt

@@ -4,38 +4,41 @@ use Rattle.audit_types.specs.declared.records.Answered.{Answered}
 use Rattle.audit_types.specs.Shapes.{IsShape}
 use Rattle.bench_core.specs.declared.bench.Bench.{Ghosts}
 use Rattle.bench_core.specs.declared.source.Source as source
-use Rattle.bench_core.specs.Calls.{IsQuiet, LeavesOnly}
-use Rattle.schema_json.specs.Columns.{Column}
+use Rattle.std.specs.Bool.{OnTrue}
+use Rattle.audit_types.specs.History.{AreProtected}
+use Rattle.schema_json.specs.Columns.{Column, SchemaView}
 use Rattle.schema_json.specs.Reading.{schema_of, most_schema}
 use Rattle.schema_json.specs.SecretShape.{shape_of}
 use Rattle.schema_json.specs.declared.faults.SchemaFault.TheVariants as schema_fault
 use Rattle.table_load.specs.Cells.{FitsSchema, PublicView}
-use Rattle.table_load.specs.Database.{Database, base_of}
+use Rattle.table_load.specs.Database.{Database, base_of, table_in}
+use Rattle.set_index.specs.Groups.{AreEntries}
+use Rattle.set_index.specs.Indexed.{IndexView}
 use Rattle.table_load.specs.Reading.{most_table}
 use Rattle.table_load.specs.Tables.{table_of, public_of}
 use Rattle.table_load.specs.declared.faults.TableFault.TheVariants as table_fault
-use Rattle.answer_journal.specs.Moments.{IsUntouched}
 use Rattle.audit_store.specs.Stores.{StoreContents, IsStore, IsAsLeft}
 use Rattle.auditor_top.specs.declared.ready.Ready.{Ready}
-use Rattle.auditor_top.specs.declared.ready.Ready.TheVariants.{Init, Serve, Audit, Simulate, Drill}
+use Rattle.auditor_top.specs.declared.ready.Ready.TheVariants.{Init, Serve, Audit, Simulate, Drill, Grow}
 use Rattle.auditor_top.specs.declared.words.Command.{Command}
 use Rattle.auditor_top.specs.declared.words.Command.TheVariants as command
 use Rattle.auditor_top.specs.declared.status.Which.TheVariants.{Schema, Table, Input}
 use Rattle.auditor_top.specs.declared.status.Status.{Status}
-use Rattle.auditor_top.specs.declared.status.Status.TheVariants.{Done, BadWords, BadSchema, BadTable, SourceFault, BenchFault, AlreadyThere, InputLimit, Disagrees, NoMemory}
-use Rattle.auditor_top.specs.Causes.{WordCause, SchemaCause, TableCause, FileCause, FaultCause, counts}
-use Rattle.auditor_top.specs.Commands.{AreFilesOf, ArePublicFilesOf, ServesOver, opens_journal, reads_files, reads_secrets}
+use Rattle.auditor_top.specs.declared.status.Status.TheVariants.{Done, BadWords, BadSchema, BadTable, SourceFault, BenchFault, AlreadyThere, NothingNew, InputLimit, Disagrees, NoMemory}
+use Rattle.auditor_top.specs.Causes.{WordCause, SchemaCause, TableCause, GroupCause, FileCause, FaultCause, counts}
+use Rattle.auditor_top.specs.Commands.{AreFilesOf, AreSoundFilesOf, ArePublicFilesOf, ServesOver, opens_store, reads_files, reads_groups, reads_secrets}
 use Rattle.auditor_top.specs.Stages.{Before, reading_table, opening_journal}
 
 -- ---- what is given and what comes of it
 
--- what a command is given is without fault: its files, and the journal that it opens
+-- what a command is given before its last step is without fault: its files, and the journal of its store
 abbrev pub IsGiven : Command → List ℕ → List ℕ → List ℕ → Type 0
 IsGiven command.Init schema table file = (base : Database) × AreFilesOf schema table base
 IsGiven (command.Serve batch) schema table file = (base : Database) × (history : List Answered) × ServesOver schema table file base history
 IsGiven command.Audit schema table file = (base : Database) × (history : List Answered) × ServesOver schema table file base history
-IsGiven command.Simulate schema table file = (columns : List Column) × (public : PublicView) × ArePublicFilesOf schema table columns public
+IsGiven command.Simulate schema table file = (columns : List Column) × (index : IndexView) × ArePublicFilesOf schema table columns index
 IsGiven (command.Drill number) schema table file = Unit {0}
+IsGiven command.Grow schema table file = (base : Database) × AreSoundFilesOf schema table base
 
 -- the command that goes on with this
 abbrev pub command_for : Ready → Command
@@ -44,6 +47,7 @@ command_for (Serve schema index store batch) = command.Serve batch
 command_for (Audit schema store) = command.Audit
 command_for (Simulate schema index) = command.Simulate
 command_for (Drill number) = command.Drill number
+command_for (Grow secret protected) = command.Grow
 
 -- a store that was just opened: the journal's file is as it left it
 pub record IsOpened {B : Type 0} (bench : Ghosts B) (now : B) (store : StoreContents) : Type 0 where
@@ -55,25 +59,24 @@ pub record IsOpened {B : Type 0} (bench : Ghosts B) (now : B) (store : StoreCont
 abbrev pub IsReady : {B : Type 0} → Ghosts B → B → Ready → Type 0
 IsReady bench now (Init shape) = IsShape shape
 IsReady bench now (Serve schema index store batch) =
-    IsOpened bench now store × FitsSchema schema.columns index × (store.secret.shape ≡ shape_of schema.columns index.rows)
+    IsOpened bench now store × FitsSchema schema.columns index.public × (store.secret.shape ≡ shape_of schema.columns index.public.rows) ×
+    (index.protected ≡ store.protected)
 IsReady bench now (Audit schema store) = IsOpened bench now store × (store.secret.shape ≡ shape_of schema.columns store.secret.shape.rows)
-IsReady bench now (Simulate schema index) = FitsSchema schema.columns index
+IsReady bench now (Simulate schema index) =
+    FitsSchema schema.columns index.public × AreProtected (shape_of schema.columns index.public.rows) index.protected
 IsReady bench now (Drill number) = Unit {0}
+IsReady bench now (Grow secret protected) = AreProtected secret.shape protected.items
 
 -- its parts are what the files mean
 abbrev pub IsReadyOver : List ℕ → List ℕ → Ready → Type 0
 IsReadyOver schema_file table_file (Init shape) = (base : Database) × AreFilesOf schema_file table_file base × (shape ≡ base.secret.shape)
-IsReadyOver schema_file table_file (Serve schema index store batch) = AreFilesOf schema_file table_file (base_of schema.columns index store.secret)
-IsReadyOver schema_file table_file (Audit schema store) = (public : PublicView) × AreFilesOf schema_file table_file (base_of schema.columns public store.secret)
+IsReadyOver schema_file table_file (Serve schema index store batch) =
+    AreSoundFilesOf schema_file table_file (base_of schema.columns index.public index.protected store.secret)
+IsReadyOver schema_file table_file (Audit schema store) = (public : PublicView) × AreSoundFilesOf schema_file table_file (base_of schema.columns public store.protected store.secret)
 IsReadyOver schema_file table_file (Simulate schema index) = ArePublicFilesOf schema_file table_file schema.columns index
 IsReadyOver schema_file table_file (Drill number) = Unit {0}
-
--- a bench that was only read: at every moment the file and what was sent are as they were
-pub record OnlyReads {B : Type 0} (bench : Ghosts B) (old new : B) : Type 0 where
-  pub file : bench.file new ≡ bench.file old
-  pub sent : bench.sent new ≡ bench.sent old
-  pub crash : (image : List ℕ) → bench.leaves new image → bench.leaves old image
-  pub untouched : bench.told → IsQuiet bench old → LeavesOnly bench old new (IsUntouched (bench.file old) (bench.sent old))
+IsReadyOver schema_file table_file (Grow secret protected) =
+    (columns : List Column) × (public : PublicView) × AreSoundFilesOf schema_file table_file (base_of columns public protected.items secret)
 
 -- ---- the statuses
 
@@ -83,6 +86,7 @@ EndsEarly Done = ⊥
 EndsEarly BadWords = ⊥
 EndsEarly (SourceFault Input) = ⊥
 EndsEarly AlreadyThere = ⊥
+EndsEarly (NothingNew rows) = ⊥
 EndsEarly InputLimit = ⊥
 EndsEarly (Disagrees line due) = ⊥
 EndsEarly status = Unit {0}
@@ -100,19 +104,21 @@ pub record Refuses {P B : Type 0} (files : source.Ghosts P) (bench : Ghosts B) (
     (old new : B) : Type 0 where
   pub words : WordCause status (Some asked)
   pub schema : files.told → reads_files asked ≡ true → SchemaCause status (schema_of (files.left old_schema))
-  pub table : files.told → reads_secrets asked ≡ true → (columns : List Column) → schema_of (files.left old_schema) ≡ Ok columns →
-      TableCause status (table_of columns (files.left old_table))
-  pub public : files.told → asked ≡ command.Simulate → (columns : List Column) → schema_of (files.left old_schema) ≡ Ok columns →
-      TableCause status (public_of columns (files.left old_table))
-  pub file : files.told → bench.told → (base : Database) → AreFilesOf (files.left old_schema) (files.left old_table) base →
-      FileCause status asked (bench.file old) base.secret
+  pub table : files.told → reads_secrets asked ≡ true → (meant : SchemaView) → schema_of (files.left old_schema) ≡ Ok meant →
+      TableCause status (table_of meant.columns (files.left old_table))
+  pub public : files.told → asked ≡ command.Simulate → (meant : SchemaView) → schema_of (files.left old_schema) ≡ Ok meant →
+      TableCause status (public_of meant.columns (files.left old_table))
+  pub groups : files.told → reads_groups asked ≡ true → (meant : SchemaView) → schema_of (files.left old_schema) ≡ Ok meant →
+      GroupCause status meant.columns meant.groups
+  pub file : files.told → bench.told → (base : Database) → (given : AreFilesOf (files.left old_schema) (files.left old_table) base) →
+      OnTrue (reads_groups asked) (AreEntries base.columns base.public given.groups base.protected) → FileCause status asked (bench.file old) (table_in base)
   pub own_schema_fault : status ≢ BadSchema schema_fault.NoMemory
   pub own_table_fault : status ≢ BadTable table_fault.NoMemory
   pub schema_within : files.told → status ≡ SourceFault Schema → length (files.left old_schema) ≤ most_schema + length (files.left new_schema)
   pub table_within : files.told → status ≡ SourceFault Table → length (files.left old_table) ≤ most_table + length (files.left new_table)
   pub early : EndsEarly status
   -- where what is given has no fault, a call failed or memory ran out
-  pub gives_up : files.told → (opens_journal asked ≡ true → bench.told) → IsGiven asked (files.left old_schema) (files.left old_table) (bench.file old) →
+  pub gives_up : files.told → (opens_store asked ≡ true → bench.told) → IsGiven asked (files.left old_schema) (files.left old_table) (bench.file old) →
       GivesUp status
   pub faults : (input spare : ℕ) → FaultCause status (counts (files.faults old_schema) (files.faults old_table) input (bench.faults old) spare)
       (counts (files.faults new_schema) (files.faults new_table) input (bench.faults new) spare)

@@ -2,15 +2,16 @@
 use Rattle.std.specs.Prelude.{◌≡◌, ◌≢◌, ◌≤◌, ◌+◌, List, [], ℕ, length}
 use Rattle.audit_types.specs.declared.records.Answered.{Answered}
 use Rattle.audit_types.specs.History.{IsLegal, IsUndisclosed}
+use Rattle.audit_types.specs.Widening.{over}
 use Rattle.bench_core.specs.declared.bench.Bench.{Ghosts}
 use Rattle.bench_core.specs.declared.source.Source as source
-use Rattle.bench_core.specs.Calls.{IsQuiet, LeavesOnly}
+use Rattle.bench_core.specs.Calls.{IsQuiet, IsUntouched, LeavesOnly}
 use Rattle.schema_json.specs.Columns.{Column}
-use Rattle.table_load.specs.Cells.{PublicView}
-use Rattle.table_load.specs.Database.{Database, secret_table}
+use Rattle.set_index.specs.Indexed.{IndexView}
+use Rattle.table_load.specs.Database.{Database, table_in}
 use Rattle.journal_form.specs.Journal.{StandsFor}
 use Rattle.answer_journal.specs.Make.{calls_to_make}
-use Rattle.answer_journal.specs.Moments.{IsAlready, IsUnmadeOrEmpty, IsUntouched}
+use Rattle.answer_journal.specs.Moments.{IsAlready, IsBeforeOrGrown, IsUnmadeOrEmpty}
 use Rattle.line_wire.specs.Lines.{counted_lines, most_input}
 use Rattle.question_plan.specs.Session.{Replied}
 use Rattle.audit_session.specs.Ends.{TakesCalls}
@@ -21,9 +22,9 @@ use Rattle.transcript_sim.specs.Verdicts.{AreVerdicts, exchanges}
 use Rattle.auditor_top.specs.declared.status.Status.{Status}
 use Rattle.auditor_top.specs.declared.status.Status.TheVariants.{Done, BenchFault, NoMemory}
 use Rattle.auditor_top.specs.Causes.{FaultCounts, counts, NothingFailed, IsDoneOrWants}
-use Rattle.auditor_top.specs.Commands.{AreFilesOf, ArePublicFilesOf, ServesOver}
+use Rattle.auditor_top.specs.Commands.{AreFilesOf, ArePublicFilesOf, GrowsOver, ServesOver}
 use Rattle.auditor_top.specs.Drills.{DrillEnds}
-use Rattle.auditor_top.specs.Ends.{AuditEnds, LeavesFile, ServeEnds, SimulateEnds, SimulateSends, audit_over, outside}
+use Rattle.auditor_top.specs.Ends.{AuditEnds, GrowEnds, LeavesFile, ServeEnds, SimulateEnds, SimulateSends, audit_over, outside}
 
 -- the objects that a run is handed
 pub record Objects (P I B : Type 0) : Type 0 where
@@ -58,7 +59,7 @@ pub record Serving {P I B : Type 0} (files : source.Ghosts P) (lines : source.Gh
   pub undisclosed : files.told → bench.told → IsQuiet bench old.bench → (base : Database) (history : List Answered) →
       ServesOver (files.left old.schema) (files.left old.table) (bench.file old.bench) base history →
       (image sent : List ℕ) (now : List Answered) → bench.since new.bench (bench.moment old.bench) image sent → StandsFor image base.secret.shape now →
-      IsLegal (secret_table base.secret) now × IsUndisclosed (secret_table base.secret) now
+      IsLegal (table_in base) now × IsUndisclosed (table_in base) now
   -- it took two calls of the bench to open the journal, one for each line, and four for each group in which some reply makes a record
   pub serve_calls : files.told → lines.told → bench.told → status ≡ Done → (base : Database) (history : List Answered) →
       ServesOver (files.left old.schema) (files.left old.table) (bench.file old.bench) base history →
@@ -91,23 +92,23 @@ pub record Simulating {P I B : Type 0} (files : source.Ghosts P) (lines : source
     (old new : Objects P I B) : Type 0 where
   -- over a schema and the public part of a table: a verdict for each question of the input, whether or not the bench tells
   -- what was sent; their lines were, or a front of them, at the end and at every moment
-  pub simulated : files.told → lines.told → (columns : List Column) (public : PublicView) →
-      ArePublicFilesOf (files.left old.schema) (files.left old.table) columns public →
-      (verdicts : List (Replied Answered)) × SimulateEnds status columns public (lines.left old.input) (lines.left new.input) verdicts ×
+  pub simulated : files.told → lines.told → (columns : List Column) (index : IndexView) →
+      ArePublicFilesOf (files.left old.schema) (files.left old.table) columns index →
+      (verdicts : List (Replied Answered)) × SimulateEnds status columns index (lines.left old.input) (lines.left new.input) verdicts ×
       (bench.told → SimulateSends status verdicts (bench.sent old.bench) (bench.sent new.bench))
-  pub simulating : files.told → bench.told → IsQuiet bench old.bench → (columns : List Column) (public : PublicView) →
-      ArePublicFilesOf (files.left old.schema) (files.left old.table) columns public →
+  pub simulating : files.told → bench.told → IsQuiet bench old.bench → (columns : List Column) (index : IndexView) →
+      ArePublicFilesOf (files.left old.schema) (files.left old.table) columns index →
       LeavesOnly bench old.bench new.bench
-      (SimulatesMeanwhile lines.told columns public (counted_lines (lines.left old.input)) (bench.file old.bench) (bench.sent old.bench))
+      (SimulatesMeanwhile lines.told columns index (counted_lines (lines.left old.input)) (bench.file old.bench) (bench.sent old.bench))
   -- the file stays, over whatever files
   pub undisturbed : bench.told → IsQuiet bench old.bench → LeavesOnly bench old.bench new.bench (LeavesFile (bench.file old.bench))
   -- it took one call of the bench for each question
   pub simulate_calls : lines.told → bench.told → status ≡ Done →
       bench.moment new.bench ≡ bench.moment old.bench + length (exchanges (counted_lines (lines.left old.input)))
   -- where nothing is wrong, all replies agree and nothing fails, it is done
-  pub simulates : files.told → lines.told → (columns : List Column) (public : PublicView) →
-      ArePublicFilesOf (files.left old.schema) (files.left old.table) columns public → (verdicts : List (Replied Answered)) →
-      AreVerdicts columns public (counted_lines (lines.left old.input)) verdicts → length (lines.left old.input) ≤ most_input →
+  pub simulates : files.told → lines.told → (columns : List Column) (index : IndexView) →
+      ArePublicFilesOf (files.left old.schema) (files.left old.table) columns index → (verdicts : List (Replied Answered)) →
+      AreVerdicts columns index (counted_lines (lines.left old.input)) verdicts → length (lines.left old.input) ≤ most_input →
       NothingFailed (faults_of files lines bench old) (faults_of files lines bench new) → IsDoneOrWants status
 
 -- a run of `init`
@@ -141,3 +142,23 @@ pub record Drilling {P I B : Type 0} (files : source.Ghosts P) (lines : source.G
   pub undrilled : status ≡ NoMemory → new.bench ≡ old.bench
   -- where nothing fails, it is done
   pub drills : NothingFailed (faults_of files lines bench old) (faults_of files lines bench new) → IsDoneOrWants status
+
+-- a run of `grow`
+pub record Growing {P I B : Type 0} (files : source.Ghosts P) (lines : source.Ghosts I) (bench : Ghosts B) (status : Status) (old new : Objects P I B) : Type 0 where
+  -- over the files of a table and a journal that stands for a history over fewer rows, which is legal over all of them: what the
+  -- file stands for, at the end and at every moment
+  pub grown : files.told → bench.told → (base : Database) (rows : ℕ) (history : List Answered) →
+      GrowsOver (files.left old.schema) (files.left old.table) (bench.file old.bench) base rows history →
+      GrowEnds status base history (bench.file old.bench) (bench.file new.bench)
+  pub growing : files.told → bench.told → IsQuiet bench old.bench → (base : Database) (rows : ℕ) (history : List Answered) →
+      GrowsOver (files.left old.schema) (files.left old.table) (bench.file old.bench) base rows history →
+      LeavesOnly bench old.bench new.bench (IsBeforeOrGrown (over rows base.secret.shape) history base.secret.shape.rows (bench.sent old.bench))
+  -- nothing is sent, and the file is written only where it is done, or where the bench failed
+  pub unsent : bench.sent new.bench ≡ bench.sent old.bench
+  pub kept : status ≢ Done → status ≢ BenchFault → bench.file new.bench ≡ bench.file old.bench
+  -- it took two calls of the bench to open the journal, and four for the growth
+  pub grow_calls : bench.told → status ≡ Done → bench.moment new.bench ≡ bench.moment old.bench + 6
+  -- where nothing is wrong and nothing fails, it is done
+  pub grows : files.told → bench.told → (base : Database) (rows : ℕ) (history : List Answered) →
+      GrowsOver (files.left old.schema) (files.left old.table) (bench.file old.bench) base rows history →
+      NothingFailed (faults_of files lines bench old) (faults_of files lines bench new) → IsDoneOrWants status

@@ -5,9 +5,13 @@ use Rattle.answer_journal.specs.declared.make.MakeFault.{MakeFault}
 use Rattle.answer_journal.specs.declared.make.MakeFault.TheVariants as make
 use Rattle.audit_session.specs.declared.serving.EndFault.{EndFault}
 use Rattle.audit_session.specs.declared.serving.EndFault.TheVariants as end
+use Rattle.audit_store.specs.declared.growing.GrowFault.{GrowFault}
+use Rattle.audit_store.specs.declared.growing.GrowFault.TheVariants as grow
 use Rattle.audit_store.specs.declared.starting.StartFault.{StartFault}
 use Rattle.audit_store.specs.declared.starting.StartFault.TheVariants as start
 use Rattle.schema_json.specs.Faults as schema
+use Rattle.set_index.specs.declared.index.IndexFault.{IndexFault}
+use Rattle.set_index.specs.declared.index.IndexFault.TheVariants as index
 use Rattle.table_load.specs.Faults as table
 use Rattle.table_load.specs.declared.faults.TableFault.{TableFault}
 use Rattle.table_load.specs.declared.faults.TableFault.TheVariants as fault
@@ -19,9 +23,11 @@ use Rattle.transcript_sim.specs.declared.simulating.SimulationFault.TheVariants 
 use Rattle.auditor_top.specs.declared.files.FileFault.TheVariants as file
 use Rattle.auditor_top.specs.declared.opening.OpenFault.{OpenFault}
 use Rattle.auditor_top.specs.declared.opening.OpenFault.TheVariants as opening
+use Rattle.auditor_top.specs.declared.starting.NotStarted.{NotStarted}
+use Rattle.auditor_top.specs.declared.starting.NotStarted.TheVariants as starting
 use Rattle.auditor_top.specs.declared.status.Which.TheVariants.{Schema, Table, Input}
 use Rattle.auditor_top.specs.declared.status.Status.{Status}
-use Rattle.auditor_top.specs.declared.status.Status.TheVariants.{Done, BadWords, BadSchema, BadTable, SourceFault, BenchFault, NotMade, AlreadyThere, Damaged, OtherShape, Untrue, Illegal, InputLimit, Disagrees, NoMemory}
+use Rattle.auditor_top.specs.declared.status.Status.TheVariants.{Done, BadWords, BadSchema, BadTable, SourceFault, BenchFault, NotMade, AlreadyThere, Damaged, OtherShape, NothingNew, Untrue, Illegal, InputLimit, Disagrees, BadGroup, NoMemory}
 
 -- the exit status of the program
 abbrev pub status_code : Status → ℕ
@@ -40,6 +46,8 @@ status_code (Illegal place) = 12
 status_code InputLimit = 13
 status_code (Disagrees line due) = 14
 status_code NoMemory = 15
+status_code (BadGroup place) = 16
+status_code (NothingNew rows) = 17
 
 -- the place of a fault in a line
 abbrev pub at_line : ℕ → List ℕ
@@ -64,7 +72,7 @@ place_text fault.NoMemory = codes ""
 -- the words of a status that tells no number, none where it is done or tells one
 abbrev pub words_of : Status → List ℕ
 words_of Done = codes ""
-words_of BadWords = codes "usage: auditor init, serve [--batch N], audit, simulate, drill N"
+words_of BadWords = codes "usage: auditor init, serve [--batch N], audit, simulate, drill N, grow"
 words_of (BadSchema fault) = codes ""
 words_of (BadTable fault) = codes ""
 words_of (SourceFault Schema) = codes "cannot read schema"
@@ -75,10 +83,12 @@ words_of NotMade = codes "no journal"
 words_of AlreadyThere = codes "journal is already there"
 words_of (Damaged at) = codes ""
 words_of (OtherShape kept now) = codes ""
+words_of (NothingNew rows) = codes ""
 words_of (Untrue place kept now) = codes ""
 words_of (Illegal place) = codes ""
 words_of InputLimit = codes "input is too long"
 words_of (Disagrees line due) = codes ""
+words_of (BadGroup place) = codes ""
 words_of NoMemory = codes "out of memory"
 
 -- what the program tells of it
@@ -87,9 +97,11 @@ status_text (BadSchema fault) = codes "schema: fault " ++ decimal (schema.fault_
 status_text (BadTable fault) = codes "table: fault " ++ decimal (table.fault_number fault) ++ place_text fault
 status_text (Damaged at) = codes "journal damaged at byte " ++ decimal at
 status_text (OtherShape kept now) = codes "journal is of another table: rows " ++ decimal kept.rows ++ codes ", now " ++ decimal now.rows
+status_text (NothingNew rows) = codes "nothing to grow: rows " ++ decimal rows
 status_text (Untrue place kept now) = codes "record " ++ (decimal place ++
     (codes " holds " ++ (signed_decimal kept ++ (codes ", table gives " ++ signed_decimal now))))
 status_text (Illegal place) = codes "record " ++ decimal place ++ codes " should not have been released"
+status_text (BadGroup place) = codes "schema: group " ++ (decimal place ++ codes " is bad")
 status_text (Disagrees line due) = codes "line " ++ (decimal line ++ (codes " disagrees, due " ++ word_of due))
 status_text other = words_of other
 
@@ -103,6 +115,11 @@ open_status (opening.Schema (file.Bad fault)) = BadSchema fault
 open_status (opening.Table file.Failed) = SourceFault Table
 open_status (opening.Table file.NoMemory) = NoMemory
 open_status (opening.Table (file.Bad fault)) = BadTable fault
+
+-- of making the groups ready
+abbrev pub index_status : IndexFault → Status
+index_status (index.BadGroup place) = BadGroup place
+index_status index.NoMemory = NoMemory
 
 -- of making a journal
 abbrev pub make_status : MakeFault → Status
@@ -118,6 +135,22 @@ start_status (start.Untrue place kept now) = Untrue place kept now
 start_status (start.Illegal place) = Illegal place
 start_status start.Failed = BenchFault
 start_status start.NoMemory = NoMemory
+
+-- of growing a journal
+abbrev pub grow_status : GrowFault → Status
+grow_status grow.NotMade = NotMade
+grow_status (grow.Damaged at) = Damaged at
+grow_status (grow.OtherShape kept now) = OtherShape kept now
+grow_status (grow.NothingNew rows) = NothingNew rows
+grow_status (grow.Untrue place kept now) = Untrue place kept now
+grow_status (grow.Illegal place) = Illegal place
+grow_status grow.Failed = BenchFault
+grow_status grow.NoMemory = NoMemory
+
+-- of making the groups ready and starting the store
+abbrev pub started_status : NotStarted → Status
+started_status (starting.Groups fault) = index_status fault
+started_status (starting.Journal fault) = start_status fault
 
 -- of answering lines
 abbrev pub end_status : EndFault → Status
@@ -143,6 +176,11 @@ verdict_status verdict.NoMemory = NoMemory
 abbrev pub making_status : {X : Type 0} → Result X MakeFault → Status
 making_status (Ok done) = Done
 making_status (Err fault) = make_status fault
+
+-- of growing a journal, by how it ended
+abbrev pub growing_status : {X : Type 0} → Result X GrowFault → Status
+growing_status (Ok done) = Done
+growing_status (Err fault) = grow_status fault
 
 -- of a report, by how it ended
 abbrev pub audit_status : {X : Type 0} → Result X AuditFault → Status

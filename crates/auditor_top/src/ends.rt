@@ -1,10 +1,11 @@
 //! The status of the last step of a command, by how it ended.
 ghost use Rattle.std.specs.Prelude.{◌≡◌};
-ghost use Rattle.auditor_top.specs.Status.{making_status, session_status, audit_status, simulation_status};
+ghost use Rattle.auditor_top.specs.Status.{making_status, session_status, audit_status, simulation_status, growing_status};
 
 use crate::status::Status;
 use answer_journal::MakeFault;
 use audit_session::EndFault;
+use audit_store::GrowFault;
 use journal_audit::AuditFault;
 use transcript_sim::SimulationFault;
 
@@ -43,6 +44,16 @@ pub fn judged(simulation: Result<(), SimulationFault>) -> Status
     ensures { result ≡ simulation_status simulation }
 {
     match simulation {
+        Ok(()) => Status::Done,
+        Err(fault) => Status::from(fault),
+    }
+}
+
+/// The status of a growth that ended so.
+pub fn grown(growth: Result<(), GrowFault>) -> Status
+    ensures { result ≡ growing_status growth }
+{
+    match growth {
         Ok(()) => Status::Done,
         Err(fault) => Status::from(fault),
     }

@@ -4,50 +4,50 @@ ghost use Rattle.audit_types.specs.declared.records.Answered.{Answered};
 ghost use Rattle.audit_types.specs.History.{IsLegal, IsUndisclosed};
 ghost use Rattle.journal_form.specs.Journal.{StandsFor};
 ghost use Rattle.line_wire.specs.Lines.{CountedLine};
-ghost use Rattle.table_load.specs.Database.{Database, secret_table};
+ghost use Rattle.table_load.specs.Database.{Database, table_in};
 ghost use Rattle.audit_session.specs.Stops.{StopsOver, IsBatch};
-ghost use Rattle.auditor_top.specs.Commands.{AreFilesOf};
-ghost use Rattle.auditor_top.specs.declared.words.Command.TheVariants.{Init, Serve, Audit, Simulate, Drill};
+ghost use Rattle.auditor_top.specs.Commands.{AreSoundFilesOf};
+ghost use Rattle.auditor_top.specs.declared.words.Command.TheVariants.{Init, Serve, Audit, Simulate, Drill, Grow};
 ghost use Rattle.auditor_top.specs.Words.{command_of, number_of};
-ghost use Rattle.auditor_top.specs.Promise.{LivesHide, LivesKeepPromise, LivesGoOn, MadeIsTaken, StopsAreTaken, StopsMakeLives};
+ghost use Rattle.auditor_top.specs.Promise.{LivesKeepPromise, LivesGoOn, GrowthsAreTaken, MadeIsTaken, StopsAreTaken, RunsMakeLives};
 
-/// Every history for which a stop over a legal history of a table leaves an image is a legal history of it, and discloses no
-/// secret.
+/// Every history for which a stop over a legal history of a table leaves an image is a legal history of it, and discloses nothing of
+/// it that is guarded.
 pub fn stops_are_legal()
     ensures { (schema table before image sent : List ℕ) (base : Database) (batch : ℕ) (history now : List Answered) (lines : List CountedLine)
-        → AreFilesOf schema table base → IsLegal (secret_table base.secret) history
+        → AreSoundFilesOf schema table base → IsLegal (table_in base) history
         → StopsOver base batch history lines before image sent → StandsFor image base.secret.shape now
-        → IsLegal (secret_table base.secret) now × IsUndisclosed (secret_table base.secret) now }
+        → IsLegal (table_in base) now × IsUndisclosed (table_in base) now }
 {
     schema_json::laws::columns_of_a_schema();
     table_load::laws::secrets_of_a_table();
+    set_index::groups_of_a_schema();
     audit_session::laws::stops();
 }
 
-/// In every life over one table the last history is legal, discloses no secret, and keeps all that was sent; and each number is
-/// hidden: another table, with another number there, leads the same life, byte for byte. A stop makes the
-/// life one run longer, and decided as over every table that differs in its secrets alone; the next run is given what a run
-/// has to be given.
+/// In every life over growing tables the last history is legal for the rows in force, discloses nothing of them that is guarded, and
+/// keeps all that was sent. A run makes the life one run longer, which hides what is guarded, and is decided as over all tables that
+/// differ in their secrets alone; where all rows are in force, the next run of `serve` is given what it has to be given.
 pub fn lives()
     ensures keep { LivesKeepPromise }
-    ensures hide { LivesHide }
     ensures go_on { LivesGoOn }
-    ensures longer { StopsMakeLives }
+    ensures longer { RunsMakeLives }
 {
     schema_json::laws::columns_of_a_schema();
     table_load::laws::secrets_of_a_table();
-    journal_form::laws::one_reading();
-    question_plan::laws::answered_lines();
-    audit_core::laws::legal_histories();
+    set_index::groups_of_a_schema();
     table_load::lists_of_secrets();
+    audit_session::laws::lives();
+    audit_session::laws::hidden();
     audit_session::laws::two_worlds();
 }
 
-/// What `init` made, and what a stop of `serve` at any moment left, is never refused: with the files of the table it is what the
-/// clauses `served` and `audited` of `run` take, whose ends have no status that refuses it.
+/// What `init` made, and what a stop of `serve` or of `grow` at any moment left, is never refused: with the files of the table it is
+/// what the clauses `served`, `audited` and `grown` of `run` take, whose ends have no status that refuses it.
 pub fn never_refused()
     ensures made { MadeIsTaken }
     ensures left { StopsAreTaken }
+    ensures grown { GrowthsAreTaken }
 {
     stops_are_legal();
 }
@@ -59,6 +59,7 @@ pub fn plain_words()
     ensures serve { command_of (codes "serve" ∷ []) ≡ Some (Serve 1) }
     ensures audit { command_of (codes "audit" ∷ []) ≡ Some Audit }
     ensures simulate { command_of (codes "simulate" ∷ []) ≡ Some Simulate }
+    ensures grow { command_of (codes "grow" ∷ []) ≡ Some Grow }
     ensures batch { (word : List ℕ) (batch : ℕ) → number_of word ≡ Some batch → IsBatch batch
         → command_of (codes "serve" ∷ codes "--batch" ∷ word ∷ []) ≡ Some (Serve batch) }
     ensures batch_in_one_word { (word : List ℕ) (batch : ℕ) → number_of word ≡ Some batch → IsBatch batch

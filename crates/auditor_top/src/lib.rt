@@ -11,6 +11,7 @@ mod opening;
 mod reading;
 mod ready;
 mod running;
+mod starting;
 mod status;
 mod words;
 

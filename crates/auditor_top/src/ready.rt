@@ -1,18 +1,20 @@
 //! What each command goes on with: its files are read, and its journal is opened.
 ghost use Rattle.std.specs.Prelude.{◌≡◌, ◌≤◌, ◌+◌, true, false, IfOk, IfErr, IsOk, OnOk};
-ghost use Rattle.auditor_top.specs.Commands.{opens_journal, reads_files};
-ghost use Rattle.auditor_top.specs.Ready.{IsReady, IsReadyOver, OnlyReads, Refuses, command_for};
+ghost use Rattle.auditor_top.specs.Commands.{opens_store, reads_files};
+ghost use Rattle.bench_core.specs.Calls.{OnlyReads};
+ghost use Rattle.auditor_top.specs.Ready.{IsReady, IsReadyOver, Refuses, command_for};
 
-use crate::opening::{Opened, OpenedPublic, open_public, open_table, secret_of};
+use crate::opening::{Opened, OpenedPublic, open_public, open_table};
+use crate::starting::{Started, entries, start};
 use crate::status::Status;
 use crate::words::Command;
 use audit_store::Store;
-use audit_types::Shape;
+use audit_types::{Protected, Shape};
 use bench_core::{Bench, Source};
 use schema_json::Schema;
-use set_index::Index;
+use set_index::{Index, groups_of_a_schema};
 use std::alloc::Global;
-use table_load::Table;
+use table_load::Secret;
 
 /// What a command goes on with.
 #[derive(Drop)]
@@ -37,9 +39,13 @@ pub enum Ready {
     Drill {
         number: u32,
     },
+    Grow {
+        secret: Secret,
+        protected: Vec<Protected>,
+    },
 }
 
-/// Reads the files that the command stands on, and opens its journal.
+/// Reads the files that the command stands on, and opens the journal of its store.
 pub fn open<P: Source, B: Bench>(
     alloc: Global,
     command: Command,
@@ -47,12 +53,12 @@ pub fn open<P: Source, B: Bench>(
     table: &mut P,
     bench: &mut B,
 ) -> Result<Ready, Status>
-    // What the command goes on with is its own, and that of the files and the journal, which is opened in two calls.
+    // What the command goes on with is its own, and that of the files and the journal, which is opened in two calls for a store.
     ensures asked { IfOk result (λ ready. command_for ready ≡ command) }
     ensures ready { IfOk result (IsReady B.Bench bench.new) }
     ensures over { P.told → IfOk result (IsReadyOver (P.left schema.old) (P.left table.old)) }
     ensures steady { OnOk result ((P.faults schema.new ≡ P.faults schema.old) × (P.faults table.new ≡ P.faults table.old) × (B.faults bench.new ≡ B.faults bench.old)) }
-    ensures ticks { B.told → opens_journal command ≡ true → OnOk result (B.moment bench.new ≡ B.moment bench.old + 2) }
+    ensures ticks { B.told → opens_store command ≡ true → OnOk result (B.moment bench.new ≡ B.moment bench.old + 2) }
 
     // A refusal has its cause. A command that stands on no file isn't refused.
     ensures refusal { IfErr result (λ status. Refuses P.Source B.Bench command status schema.old schema.new table.old table.new bench.old bench.new) }
@@ -62,8 +68,9 @@ pub fn open<P: Source, B: Bench>(
     ensures reads { OnlyReads B.Bench bench.old bench.new }
     ensures later { (P.faults schema.old ≤ P.faults schema.new) × (P.faults table.old ≤ P.faults table.new) × (B.faults bench.old ≤ B.faults bench.new) }
     ensures unread { reads_files command ≡ false → (schema.new ≡ schema.old) × (table.new ≡ table.old) }
-    ensures unopened { opens_journal command ≡ false → bench.new ≡ bench.old }
+    ensures unopened { opens_store command ≡ false → bench.new ≡ bench.old }
 {
+    groups_of_a_schema();
     match command {
         Command::Drill { number } => Ok(Ready::Drill { number }),
         Command::Init => match open_table(alloc, schema, table) {
@@ -73,30 +80,43 @@ pub fn open<P: Source, B: Bench>(
             Err(fault) => Err(Status::from(fault)),
         },
         Command::Simulate => match open_public(alloc, schema, table) {
-            Ok(OpenedPublic { schema, index }) => Ok(Ready::Simulate { schema, index }),
+            Ok(OpenedPublic { schema, public }) => match Index::new(alloc, &schema, public) {
+                Ok(index) => Ok(Ready::Simulate { schema, index }),
+                Err(fault) => Err(Status::from(fault)),
+            },
             Err(fault) => Err(Status::from(fault)),
         },
         Command::Serve { batch } => match open_table(alloc, schema, table) {
-            Ok(Opened { schema, table }) => {
-                let Table { public, secret } = table;
-                let Ok(index) = Index::new(alloc, public) else {
-                    return Err(Status::NoMemory);
-                };
-                match Store::start(alloc, secret, bench) {
-                    Ok(store) => Ok(Ready::Serve {
+            Ok(opened) => match start(alloc, opened, bench) {
+                Ok(
+                    Started {
                         schema,
                         index,
                         store,
-                        batch,
-                    }),
-                    Err(fault) => Err(Status::from(fault)),
-                }
-            }
+                    },
+                ) => Ok(Ready::Serve {
+                    schema,
+                    index,
+                    store,
+                    batch,
+                }),
+                Err(fault) => Err(Status::from(fault)),
+            },
             Err(fault) => Err(Status::from(fault)),
         },
         Command::Audit => match open_table(alloc, schema, table) {
-            Ok(Opened { schema, table }) => match Store::start(alloc, secret_of(table), bench) {
-                Ok(store) => Ok(Ready::Audit { schema, store }),
+            Ok(opened) => match start(alloc, opened, bench) {
+                Ok(Started { schema, store, .. }) => Ok(Ready::Audit { schema, store }),
+                Err(fault) => Err(Status::from(fault)),
+            },
+            Err(fault) => Err(Status::from(fault)),
+        },
+        Command::Grow => match open_table(alloc, schema, table) {
+            Ok(Opened { schema, table }) => match entries(alloc, &schema, table.public) {
+                Ok(protected) => Ok(Ready::Grow {
+                    secret: table.secret,
+                    protected,
+                }),
                 Err(fault) => Err(Status::from(fault)),
             },
             Err(fault) => Err(Status::from(fault)),

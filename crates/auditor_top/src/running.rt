@@ -1,31 +1,33 @@
 //! The top call.
 ghost use Rattle.std.specs.Prelude.{◌≡◌, ◌≢◌, ◌≤◌, ◌+◌, ◌++◌, List, ℕ, true, false, None, Ok, length, map, string_bytes};
 ghost use Rattle.audit_types.specs.declared.records.Answered.{Answered};
-ghost use Rattle.bench_core.specs.Calls.{IsQuiet, LeavesOnly};
-ghost use Rattle.schema_json.specs.Columns.{Column};
+ghost use Rattle.bench_core.specs.Calls.{IsQuiet, IsUntouched, LeavesOnly};
+ghost use Rattle.schema_json.specs.Columns.{SchemaView};
 ghost use Rattle.schema_json.specs.Reading.{schema_of, most_schema};
 ghost use Rattle.table_load.specs.Reading.{most_table};
-ghost use Rattle.table_load.specs.Database.{Database};
+ghost use Rattle.table_load.specs.Database.{Database, table_in};
+ghost use Rattle.set_index.specs.Groups.{AreEntries};
+ghost use Rattle.std.specs.Bool.{OnTrue};
 ghost use Rattle.table_load.specs.Tables.{table_of, public_of};
 ghost use Rattle.journal_form.specs.Journal.{StandsFor};
-ghost use Rattle.answer_journal.specs.Moments.{IsUntouched};
-ghost use Rattle.audit_session.specs.Lives.{Run, IsLife};
+ghost use Rattle.audit_session.specs.Lives.{Standing, Run, IsLife, in_force};
 ghost use Rattle.auditor_top.specs.declared.words.Command.{Command};
-ghost use Rattle.auditor_top.specs.declared.words.Command.TheVariants.{Init, Serve, Audit, Simulate, Drill};
+ghost use Rattle.auditor_top.specs.declared.words.Command.TheVariants.{Init, Serve, Audit, Simulate, Drill, Grow};
 ghost use Rattle.auditor_top.specs.Words.{command_of, NamesCommand};
-ghost use Rattle.auditor_top.specs.Commands.{AreFilesOf, ServesOver, opens_journal, reads_files, reads_secrets, reads_lines, writes};
-ghost use Rattle.auditor_top.specs.Causes.{FaultCause, WordCause, SchemaCause, TableCause, FileCause, InputCause, NeverFall, counts};
+ghost use Rattle.auditor_top.specs.Commands.{AreFilesOf, AreSoundFilesOf, GoesOnOver, deed_of, opens_journal, reads_files, reads_groups, reads_secrets, reads_lines, writes};
+ghost use Rattle.auditor_top.specs.Causes.{FaultCause, WordCause, SchemaCause, TableCause, GroupCause, FileCause, InputCause, IsReadyFor, NeverFall, counts};
 ghost use Rattle.auditor_top.specs.Promise.{GoesOn};
-ghost use Rattle.auditor_top.specs.Runs.{objects, Making, Serving, Auditing, Simulating, Drilling};
+ghost use Rattle.auditor_top.specs.Runs.{objects, Making, Serving, Auditing, Simulating, Drilling, Growing};
 ghost use Rattle.auditor_top.specs.Stages.{Before, reading_table, opening_journal, reading_lines};
 
 use crate::drilling::drill;
-use crate::ends::{answered, judged, made, reported};
+use crate::ends::{answered, grown, judged, made, reported};
 use crate::laws::{lives, stops_are_legal};
 use crate::ready::{Ready, open};
 use crate::status::{Status, Which};
 use crate::words::{Command, WordFault, read_words};
 use answer_journal::Journal;
+use audit_store::Store;
 use bench_core::{Bench, Source};
 use schema_json::SchemaFault;
 use std::alloc::Global;
@@ -48,13 +50,16 @@ pub fn run<P: Source, I: Source, B: Bench>(
     ensures words { WordCause result (command_of (map string_bytes words.now.items)) }
     ensures schema { P.told → (command : Command) → NamesCommand words.now.items command → reads_files command ≡ true → SchemaCause result (schema_of (P.left schema.old)) }
     ensures table { P.told → (command : Command) → NamesCommand words.now.items command → reads_secrets command ≡ true
-        → (columns : List Column) → schema_of (P.left schema.old) ≡ Ok columns → TableCause result (table_of columns (P.left table.old)) }
+        → (meant : SchemaView) → schema_of (P.left schema.old) ≡ Ok meant → TableCause result (table_of meant.columns (P.left table.old)) }
     ensures public { P.told → NamesCommand words.now.items Simulate
-        → (columns : List Column) → schema_of (P.left schema.old) ≡ Ok columns → TableCause result (public_of columns (P.left table.old)) }
+        → (meant : SchemaView) → schema_of (P.left schema.old) ≡ Ok meant → TableCause result (public_of meant.columns (P.left table.old)) }
+    ensures groups { P.told → (command : Command) → NamesCommand words.now.items command → reads_groups command ≡ true
+        → (meant : SchemaView) → schema_of (P.left schema.old) ≡ Ok meant → GroupCause result meant.columns meant.groups }
     ensures own_schema_fault { result ≢ Status.BadSchema SchemaFault.NoMemory }
     ensures own_table_fault { result ≢ Status.BadTable TableFault.NoMemory }
     ensures file { P.told → B.told → (command : Command) → NamesCommand words.now.items command
-        → (base : Database) → AreFilesOf (P.left schema.old) (P.left table.old) base → FileCause result command (B.file bench.old) base.secret }
+        → (base : Database) → (files : AreFilesOf (P.left schema.old) (P.left table.old) base)
+        → OnTrue (reads_groups command) (AreEntries base.columns base.public files.groups base.protected) → FileCause result command (B.file bench.old) (table_in base) }
     ensures input { I.told → (command : Command) → NamesCommand words.now.items command → reads_lines command ≡ true → InputCause result (I.left input.old) (I.left input.new) }
 
     // A failed call is told when it happens: it is the only call that failed, and the last one that was made, of the object
@@ -73,13 +78,14 @@ pub fn run<P: Source, I: Source, B: Bench>(
     ensures schema_within { P.told → result ≡ Status.SourceFault Which.Schema → length (P.left schema.old) ≤ most_schema + length (P.left schema.new) }
     ensures table_within { P.told → result ≡ Status.SourceFault Which.Table → length (P.left table.old) ≤ most_table + length (P.left table.new) }
 
-    // After every life over the table that left this history, the life with this run is a life, keeps the promise, and decides
-    // as over every table that differs in its secrets alone, whatever moment the run is stopped at.
-    ensures lives { P.told → I.told → B.told → (batch : ℕ) → NamesCommand words.now.items (Serve batch) → IsQuiet B.Bench bench.old
-        → (base : Database) (history : List Answered) → ServesOver (P.left schema.old) (P.left table.old) (B.file bench.old) base history
-        → (runs : List Run) → IsLife base runs history
-        → (image sent : List ℕ) (now : List Answered) → B.since bench.new (B.moment bench.old) image (B.sent bench.old ++ sent) → StandsFor image base.secret.shape now
-        → GoesOn base runs (record { batch = batch; input = I.left input.old; last = now; sent = sent }) }
+    // A life goes on with this run, from where it stands: the life with it is a life, keeps the promise, hides what is guarded, and
+    // decides as over all tables that differ in their secrets alone, whatever moment the run is stopped at.
+    ensures lives { P.told → B.told → (command : Command) → NamesCommand words.now.items command → (reads_lines command ≡ true → I.told) → IsQuiet B.Bench bench.old
+        → (base : Database) (at : Standing) → GoesOnOver command (P.left schema.old) (P.left table.old) (B.file bench.old) at base
+        → (first : Database) (runs : List Run) → IsLife first runs at
+        → (image sent : List ℕ) (left : Standing) → left.base ≡ base → B.since bench.new (B.moment bench.old) image (B.sent bench.old ++ sent)
+        → StandsFor image (in_force left).setting.shape left.history
+        → GoesOn first runs (record { deed = deed_of command (I.left input.old); left = left; sent = sent }) }
 
     // What a run of each command does, by its status: the words, how it ends, what is found at every moment, its calls of the
     // bench, and that it is done where nothing is wrong and nothing fails.
@@ -91,12 +97,14 @@ pub fn run<P: Source, I: Source, B: Bench>(
         (objects schema.old table.old input.old bench.old spare.old) (objects schema.new table.new input.new bench.new spare.new) }
     ensures simulate { NamesCommand words.now.items Simulate → Simulating P.Source I.Source B.Bench result
         (objects schema.old table.old input.old bench.old spare.old) (objects schema.new table.new input.new bench.new spare.new) }
+    ensures grow { NamesCommand words.now.items Grow → Growing P.Source I.Source B.Bench result
+        (objects schema.old table.old input.old bench.old spare.old) (objects schema.new table.new input.new bench.new spare.new) }
     ensures drill { (number : ℕ) → NamesCommand words.now.items (Drill number) → Drilling P.Source I.Source B.Bench number result
         (objects schema.old table.old input.old bench.old spare.old) (objects schema.new table.new input.new bench.new spare.new) }
 
     // Over any other file nothing began of a command that opens the journal.
     ensures nothing_began { P.told → B.told → (command : Command) → NamesCommand words.now.items command → opens_journal command ≡ true → IsQuiet B.Bench bench.old
-        → ((base : Database) (history : List Answered) → ServesOver (P.left schema.old) (P.left table.old) (B.file bench.old) base history → ⊥)
+        → ((base : Database) → AreSoundFilesOf (P.left schema.old) (P.left table.old) base → IsReadyFor command (B.file bench.old) (table_in base) → ⊥)
         → LeavesOnly B.Bench bench.old bench.new (IsUntouched (B.file bench.old) (B.sent bench.old)) }
 
     // Where it ends without a failed call, a crash leaves the file that reads.
@@ -116,6 +124,7 @@ pub fn run<P: Source, I: Source, B: Bench>(
 {
     journal_form::laws::one_reading();
     one_verdict();
+    set_index::groups_of_a_schema();
     lives();
     stops_are_legal();
     let command = match read_words(alloc, words) {
@@ -143,5 +152,8 @@ pub fn run<P: Source, I: Source, B: Bench>(
             alloc, &schema, &index, input, bench,
         )),
         Ok(Ready::Drill { number }) => drill(alloc, number, bench),
+        Ok(Ready::Grow { secret, protected }) => {
+            grown(Store::grow(alloc, secret, protected, bench))
+        }
     }
 }

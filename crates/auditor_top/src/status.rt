@@ -4,12 +4,14 @@ ghost use Rattle.auditor_top.specs.Status as spec;
 
 use crate::files::FileFault;
 use crate::opening::OpenFault;
+use crate::starting::NotStarted;
 use answer_journal::MakeFault;
 use audit_session::EndFault;
-use audit_store::StartFault;
+use audit_store::{GrowFault, StartFault};
 use audit_types::{NoMemory, Shape};
 use journal_audit::AuditFault;
 use schema_json::SchemaFault;
+use set_index::IndexFault;
 use std::alloc::Global;
 use std::fmt;
 use table_load::TableFault;
@@ -46,6 +48,8 @@ pub enum Status {
     Damaged { at: u64 },
     /// The journal is that of a table of another shape.
     OtherShape { kept: Shape, now: Shape },
+    /// The journal has the table's rows, so it can't grow.
+    NothingNew { rows: u16 },
     /// The first record, from 0, whose answer isn't what the table gives.
     Untrue { place: u32, kept: i64, now: i64 },
     /// The first record, from 0, that should not have been released.
@@ -54,6 +58,8 @@ pub enum Status {
     InputLimit,
     /// The line of the transcript, from 1, that is the first reply which doesn't agree, and the verdict on its question.
     Disagrees { line: u64, due: Due },
+    /// The first group of the schema, from 0, whose column isn't one of sums, or whose condition is none.
+    BadGroup { place: u8 },
     /// Memory ran out.
     NoMemory,
 }
@@ -77,6 +83,20 @@ impl From<OpenFault> for Status {
     }
 }
 
+impl From<IndexFault> for Status {
+    ghost use Rattle.std.specs.Prelude.{◌≡◌};
+    ghost use Rattle.auditor_top.specs.Status.{index_status};
+
+    ghost from_gives = { λ fault status. status ≡ index_status fault };
+
+    fn from(fault: IndexFault) -> Status {
+        match fault {
+            IndexFault::BadGroup { place } => Status::BadGroup { place },
+            IndexFault::NoMemory => Status::NoMemory,
+        }
+    }
+}
+
 impl From<MakeFault> for Status {
     ghost use Rattle.std.specs.Prelude.{◌≡◌};
     ghost use Rattle.auditor_top.specs.Status.{make_status};
@@ -87,6 +107,20 @@ impl From<MakeFault> for Status {
         match fault {
             MakeFault::AlreadyThere => Status::AlreadyThere,
             MakeFault::Failed => Status::BenchFault,
+        }
+    }
+}
+
+impl From<NotStarted> for Status {
+    ghost use Rattle.std.specs.Prelude.{◌≡◌};
+    ghost use Rattle.auditor_top.specs.Status.{started_status};
+
+    ghost from_gives = { λ fault status. status ≡ started_status fault };
+
+    fn from(fault: NotStarted) -> Status {
+        match fault {
+            NotStarted::Groups(fault) => Status::from(fault),
+            NotStarted::Journal(fault) => Status::from(fault),
         }
     }
 }
@@ -106,6 +140,26 @@ impl From<StartFault> for Status {
             StartFault::Illegal { place } => Status::Illegal { place },
             StartFault::Failed => Status::BenchFault,
             StartFault::NoMemory => Status::NoMemory,
+        }
+    }
+}
+
+impl From<GrowFault> for Status {
+    ghost use Rattle.std.specs.Prelude.{◌≡◌};
+    ghost use Rattle.auditor_top.specs.Status.{grow_status};
+
+    ghost from_gives = { λ fault status. status ≡ grow_status fault };
+
+    fn from(fault: GrowFault) -> Status {
+        match fault {
+            GrowFault::NotMade => Status::NotMade,
+            GrowFault::Damaged { at } => Status::Damaged { at },
+            GrowFault::OtherShape { kept, now } => Status::OtherShape { kept, now },
+            GrowFault::NothingNew { rows } => Status::NothingNew { rows },
+            GrowFault::Untrue { place, kept, now } => Status::Untrue { place, kept, now },
+            GrowFault::Illegal { place } => Status::Illegal { place },
+            GrowFault::Failed => Status::BenchFault,
+            GrowFault::NoMemory => Status::NoMemory,
         }
     }
 }
@@ -189,7 +243,9 @@ fn words_of(status: &Status) -> &'static str
     ensures { result.now ≡ spec.words_of status.now }
 {
     match status {
-        Status::BadWords => "usage: auditor init, serve [--batch N], audit, simulate, drill N",
+        Status::BadWords => {
+            "usage: auditor init, serve [--batch N], audit, simulate, drill N, grow"
+        }
         Status::SourceFault(Which::Schema) => "cannot read schema",
         Status::SourceFault(Which::Table) => "cannot read table",
         Status::SourceFault(Which::Input) => "cannot read input",
@@ -203,9 +259,11 @@ fn words_of(status: &Status) -> &'static str
         | Status::BadTable(_)
         | Status::Damaged { .. }
         | Status::OtherShape { .. }
+        | Status::NothingNew { .. }
         | Status::Untrue { .. }
         | Status::Illegal { .. }
-        | Status::Disagrees { .. } => "",
+        | Status::Disagrees { .. }
+        | Status::BadGroup { .. } => "",
     }
 }
 
@@ -227,6 +285,7 @@ impl fmt::Display for Status {
                 "journal is of another table: rows {}, now {}",
                 kept.rows, now.rows
             ),
+            Status::NothingNew { rows } => write!(f, "nothing to grow: rows {rows}"),
             Status::Untrue { place, kept, now } => {
                 write!(f, "record {place} holds {kept}, table gives {now}")
             }
@@ -234,6 +293,7 @@ impl fmt::Display for Status {
                 write!(f, "record {place} should not have been released")
             }
             Status::Disagrees { line, due } => write!(f, "line {line} disagrees, due {due}"),
+            Status::BadGroup { place } => write!(f, "schema: group {place} is bad"),
             plain => f.write_str(words_of(plain)),
         }
     }
@@ -258,6 +318,8 @@ pub fn status_code(status: &Status) -> u8
         Status::Illegal { .. } => 12,
         Status::InputLimit => 13,
         Status::Disagrees { .. } => 14,
+        Status::BadGroup { .. } => 16,
+        Status::NothingNew { .. } => 17,
         Status::NoMemory => 15,
     }
 }

@@ -34,3 +34,12 @@ pub record Elapses (before now : ℕ) (past since : ℕ → List ℕ → List �
   pub later : before ≤ now
   pub nothing_else : (t : ℕ) (image sent : List ℕ) → t ≤ before → since t image sent → past t image sent ⊎ within image sent
   pub keeps : (t : ℕ) (image sent : List ℕ) → t ≤ before → past t image sent → since t image sent
+
+-- The file and what was sent stay as they were. A crash then leaves no image that it didn't leave before, and one within the
+-- call leaves one of those that it leaves then.
+pub record Stays {D : Type 0} (file_of sent_of : D → List ℕ) (may_leave : D → List ℕ → Type 0) (moment_of : D → ℕ) (found_since : D → ℕ → List ℕ → List ℕ → Type 0)
+    (old new : D) : Type 0 where
+  pub file : file_of new ≡ file_of old
+  pub sent : sent_of new ≡ sent_of old
+  pub crash : (image : List ℕ) → may_leave new image → may_leave old image
+  pub time : Elapses (moment_of old) (moment_of new) (found_since old) (found_since new) (Unsent (may_leave new) (sent_of old))

@@ -1,7 +1,7 @@
 //! The journal's file, and where replies go.
 ghost use Rattle.std.specs.Prelude.{◌≡◌, ◌≤◌, ◌+◌, ◌-◌, ◌++◌, Bool, List, ℕ, length, take, drop, min, IfOk, OnOk, OnErr, is_err};
 ghost use Rattle.bench_core.specs.Causes.{HasCause};
-ghost use Rattle.bench_core.specs.Bench.{AppendsFront, Holds, Torn, Follows, Unsent, Sending, Elapses};
+ghost use Rattle.bench_core.specs.Bench.{AppendsFront, Holds, Torn, Follows, Unsent, Sending, Elapses, Stays};
 
 use crate::Failed;
 
@@ -36,10 +36,7 @@ pub trait Bench {
     /// The file's length.
     fn length(&mut self) -> Result<u64, Failed>
         ensures length { told → IfOk result (λ count. count ≡ length (file self.old)) }
-        ensures file { file self.new ≡ file self.old }
-        ensures sent { sent self.new ≡ sent self.old }
-        ensures crash { (image : List ℕ) → leaves self.new image → leaves self.old image }
-        ensures time { Elapses (moment self.old) (moment self.new) (since self.old) (since self.new) (Unsent (leaves self.new) (sent self.old)) }
+        ensures stays { Stays file sent leaves moment since self.old self.new }
         ensures ticks { told → OnOk result (moment self.new ≡ moment self.old + 1) }
         ensures one_tick { moment self.new ≤ moment self.old + 1 }
         ensures cause { HasCause (faults self.old) (faults self.new) result }
@@ -50,10 +47,7 @@ pub trait Bench {
         ensures bound { IfOk result (λ count. count ≤ length buf.new) }
         ensures count { told → IfOk result (λ count. count ≡ min (length buf.new) (length (file self.old) - at)) }
         ensures bytes { told → IfOk result (λ count. take count buf.new ≡ take count (drop at (file self.old))) }
-        ensures file { file self.new ≡ file self.old }
-        ensures sent { sent self.new ≡ sent self.old }
-        ensures crash { (image : List ℕ) → leaves self.new image → leaves self.old image }
-        ensures time { Elapses (moment self.old) (moment self.new) (since self.old) (since self.new) (Unsent (leaves self.new) (sent self.old)) }
+        ensures stays { Stays file sent leaves moment since self.old self.new }
         ensures ticks { told → OnOk result (moment self.new ≡ moment self.old + 1) }
         ensures one_tick { moment self.new ≤ moment self.old + 1 }
         ensures cause { HasCause (faults self.old) (faults self.new) result }
@@ -75,10 +69,7 @@ pub trait Bench {
     /// After it, a crash leaves what a read gives.
     fn sync(&mut self) -> Result<(), Failed>
         ensures stable { told → OnOk result ((image : List ℕ) → leaves self.new image → image ≡ file self.old) }
-        ensures file { file self.new ≡ file self.old }
-        ensures sent { sent self.new ≡ sent self.old }
-        ensures crash { (image : List ℕ) → leaves self.new image → leaves self.old image }
-        ensures time { Elapses (moment self.old) (moment self.new) (since self.old) (since self.new) (Unsent (leaves self.new) (sent self.old)) }
+        ensures stays { Stays file sent leaves moment since self.old self.new }
         ensures ticks { told → OnOk result (moment self.new ≡ moment self.old + 1) }
         ensures one_tick { moment self.new ≤ moment self.old + 1 }
         ensures cause { HasCause (faults self.old) (faults self.new) result }

@@ -1,7 +1,7 @@
 //! A bench in memory that fails at stated calls, and where its room is full.
 ghost use Rattle.std.specs.Prelude.{◌≡◌, ◌≢◌, ◌↔◌, ◌⊎◌, ◌<◌, ◌≤◌, ◌+◌, ◌-◌, ◌/◌, ◌^◌, ◌++◌, ◌∷◌, [], List, ℕ, length, IfOk, IsErr, OnErr, OnOk, IsTrue, is_err, min, take, drop, None, Some, false};
 ghost use Rattle.bench_core.specs.Causes.{HasCause, next_count};
-ghost use Rattle.bench_core.specs.Bench.{AppendsFront, Holds, Torn, Follows, Unsent, Sending, Elapses};
+ghost use Rattle.bench_core.specs.Bench.{AppendsFront, Holds, Torn, Follows, Unsent, Sending, Elapses, Stays};
 ghost use Rattle.bench_core.specs.Machine.{wrote, unwritten, synced, sending, other, written};
 ghost use Rattle.bench_core.specs.BenchContents.{state_of, file_of, sent_of, torn_byte, IsTornFile, may_leave, found_since, call_fails, send_fails, write_fails, is_stopped, passed, failed, failed_write, failed_send};
 
@@ -337,10 +337,7 @@ impl Bench for MemoryBench {
 
     fn length(&mut self) -> Result<u64, Failed>
         ensures length { Unit {0} → IfOk result (λ count. count ≡ length (file_of self.old)) }
-        ensures file { file_of self.new ≡ file_of self.old }
-        ensures sent { sent_of self.new ≡ sent_of self.old }
-        ensures crash { (image : List ℕ) → may_leave self.new image → may_leave self.old image }
-        ensures time { Elapses (length self.old.past) (length self.new.past) (found_since self.old) (found_since self.new) (Unsent (may_leave self.new) (sent_of self.old)) }
+        ensures stays { Stays file_of sent_of may_leave (λ b. length b.past) found_since self.old self.new }
         ensures ticks { Unit {0} → OnOk result (length self.new.past ≡ length self.old.past + 1) }
         ensures one_tick { length self.new.past ≤ length self.old.past + 1 }
         ensures cause { HasCause self.old.faults self.new.faults result }
@@ -363,10 +360,7 @@ impl Bench for MemoryBench {
         ensures bound { IfOk result (λ count. count ≤ length buf.new) }
         ensures count { Unit {0} → IfOk result (λ count. count ≡ min (length buf.new) (length (file_of self.old) - at)) }
         ensures bytes { Unit {0} → IfOk result (λ count. take count buf.new ≡ take count (drop at (file_of self.old))) }
-        ensures file { file_of self.new ≡ file_of self.old }
-        ensures sent { sent_of self.new ≡ sent_of self.old }
-        ensures crash { (image : List ℕ) → may_leave self.new image → may_leave self.old image }
-        ensures time { Elapses (length self.old.past) (length self.new.past) (found_since self.old) (found_since self.new) (Unsent (may_leave self.new) (sent_of self.old)) }
+        ensures stays { Stays file_of sent_of may_leave (λ b. length b.past) found_since self.old self.new }
         ensures ticks { Unit {0} → OnOk result (length self.new.past ≡ length self.old.past + 1) }
         ensures one_tick { length self.new.past ≤ length self.old.past + 1 }
         ensures cause { HasCause self.old.faults self.new.faults result }
@@ -412,10 +406,7 @@ impl Bench for MemoryBench {
 
     fn sync(&mut self) -> Result<(), Failed>
         ensures stable { Unit {0} → OnOk result ((image : List ℕ) → may_leave self.new image → image ≡ file_of self.old) }
-        ensures file { file_of self.new ≡ file_of self.old }
-        ensures sent { sent_of self.new ≡ sent_of self.old }
-        ensures crash { (image : List ℕ) → may_leave self.new image → may_leave self.old image }
-        ensures time { Elapses (length self.old.past) (length self.new.past) (found_since self.old) (found_since self.new) (Unsent (may_leave self.new) (sent_of self.old)) }
+        ensures stays { Stays file_of sent_of may_leave (λ b. length b.past) found_since self.old self.new }
         ensures ticks { Unit {0} → OnOk result (length self.new.past ≡ length self.old.past + 1) }
         ensures one_tick { length self.new.past ≤ length self.old.past + 1 }
         ensures cause { HasCause self.old.faults self.new.faults result }

@@ -24,6 +24,17 @@ struct Broken {
     breach: Breach,
 }
 
+impl Broken {
+    // A run that ended otherwise than by the fault at this call.
+    fn by_status(call: u64) -> Broken {
+        Broken {
+            call,
+            over: Over::Left,
+            breach: Breach::OtherStatus,
+        }
+    }
+}
+
 impl fmt::Display for Broken {
     fn fmt<W: fmt::Write>(&self, f: &mut fmt::Formatter<W>) -> fmt::Result {
         let Broken { call, over, breach } = self;
@@ -41,7 +52,7 @@ fn status_of(fault: Fault) -> Status {
     }
 }
 
-/// Whether all is as due at each call, up to the first run that is done; what isn't is printed.
+/// Whether all is as due at each call, up to the first run that is done, or ends otherwise than by the fault; what isn't is printed.
 pub fn play_each(rt: &HostRuntime, name: Case, stage: Stage, law: &Law) -> Result<bool> {
     let trial = Trial { name, stage, law };
     let mut met = true;
@@ -49,6 +60,11 @@ pub fn play_each(rt: &HostRuntime, name: Case, stage: Stage, law: &Law) -> Resul
         let end = trial.run(rt.alloc(), call)?;
         if end.status == Status::Done {
             return Ok(met & trial.is_done(rt, &end)?);
+        }
+        if end.status != status_of(law.fault) {
+            // Such an end is no work of the fault, so that of the next call would be the same.
+            name.tell(rt, Broken::by_status(call))?;
+            return Ok(false);
         }
         met &= trial.is_kept(rt, call, &end)?;
     }
@@ -84,9 +100,6 @@ impl Trial<'_> {
     // What is wrong with a run that failed at a call, in the file that a crash leaves.
     fn breach(self, alloc: Global, call: u64, end: &End, over: Over) -> Result<Option<Breach>> {
         let sent = end.bench.sent();
-        if end.status != status_of(self.law.fault) {
-            return Ok(Some(Breach::OtherStatus));
-        }
         if !self.law.may_have_sent(alloc, call, sent)? {
             return Ok(Some(Breach::OtherReplies));
         }

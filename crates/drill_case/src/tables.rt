@@ -24,9 +24,9 @@ pub(crate) fn row_count() -> u16
     200
 }
 
-/// The schema of every drill.
+/// The schema of every drill. It protects no group.
 pub fn drill_schema(alloc: Global) -> Result<Schema, NoMemory>
-    ensures { IfOk result (λ schema. schema.columns ≡ drill_columns) }
+    ensures { IfOk result (λ schema. (schema.columns ≡ drill_columns) × (schema.groups ≡ [])) }
 {
     match read_schema(alloc, SCHEMA) {
         Ok(schema) => Ok(schema),

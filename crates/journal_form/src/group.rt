@@ -1,12 +1,14 @@
-//! A group behind its gate: a count byte, and that many records.
-ghost use Rattle.std.specs.Prelude.{◌≡◌, ◌↔◌, ◌≤◌, ◌<◌, ◌+◌, ◌^◌, ◌++◌, ◌∷◌, [], List, ℕ, length, take, All, IsTrue, IfOk};
+//! What stands after a gate: a count byte and that many records, or a count of 0 and a greater number of rows.
+ghost use Rattle.std.specs.Prelude.{◌≡◌, ◌↔◌, ◌≤◌, ◌<◌, ◌+◌, ◌/◌, ◌%◌, ◌^◌, ◌++◌, ◌∷◌, [], List, ℕ, length, take, All, IsTrue, IfOk, IfErr};
+ghost use Rattle.audit_types.specs.Limits.{most_rows};
 ghost use Rattle.audit_types.specs.History.{FitsShape};
 ghost use Rattle.audit_types.specs.Shapes.{IsShape};
-ghost use Rattle.journal_form.specs.Group.{AreRecords, IsGroup, IsCount, BreaksInRecord, GroupBreaks};
+ghost use Rattle.journal_form.specs.Group.{AreRecords, IsGroup, IsMoreRows, IsWritten, IsCount, IsGoodGrowthByte, BreaksInRecord, GroupBreaks};
+ghost use Rattle.journal_form.specs.Places.{FirstBad};
 ghost use Rattle.journal_form.specs.declared.group.GroupFault.TheVariants.{NoMemory};
 
 use crate::record::{put_record, read_record, size_of_record};
-use audit_types::{Answered, NoMemory, Shape};
+use audit_types::{Answered, MOST_ROWS, NoMemory, Shape};
 use std::alloc::{AllocError, AllocFailed, Global};
 
 // A column byte, eight bytes of answer, and a bit for each of 1,024 rows.
@@ -15,11 +17,16 @@ const MOST_OF_RECORD: usize = 137;
 /// The most bytes that a record takes in a journal: in a group of its own, with its gate and its count byte.
 pub const MOST_FOR_RECORD: usize = 2 + MOST_OF_RECORD;
 
-/// The records of a group, in order, and the number of its bytes from its count byte on.
+/// The bytes of a growth, from its count byte on, and of the next gate.
+pub const GROWTH_SIZE: usize = 4;
+
+/// The records of a group, in order, none for a growth; the number of its bytes from its count byte on; and the rows in force
+/// after it.
 #[derive(Drop)]
 pub struct Group {
     pub list: Vec<Answered>,
     pub size: u32,
+    pub rows: u16,
 }
 
 /// Why a group could not be read.
@@ -74,8 +81,16 @@ fn group_bytes(alloc: Global, shape: &Shape, list: &[Answered]) -> Result<Vec<u8
     Ok(bytes)
 }
 
-/// Reads the group that stands at the front, from its count byte on. `left` is how many records the journal may still
-/// hold. The gate behind the group isn't read.
+/// Writes the bytes of a growth to so many rows from its count byte on, and after them the next gate, closed.
+pub fn write_growth(rows: u16, out: &mut [u8; GROWTH_SIZE])
+    requires at_most { rows ≤ most_rows }
+    ensures { out.new ≡ 0 ∷ (rows / 256) ∷ (rows % 256) ∷ 0 ∷ [] }
+{
+    *out = [0, (rows / 256) as u8, (rows % 256) as u8, 0];
+}
+
+/// Reads the group that stands at the front, from its count byte on: records, or a growth of the shape's rows. `left` is how
+/// many records the journal may still hold. The gate behind the group isn't read.
 pub fn read_group(
     alloc: Global,
     shape: &Shape,
@@ -83,9 +98,12 @@ pub fn read_group(
     left: u32,
 ) -> Result<Group, GroupFault>
     requires { IsShape shape.now }
-    ensures ok { IfOk result (λ group. (group.size ≤ length bytes.now) × (length group.list.items ≤ left) × IsGroup shape.now (take group.size bytes.now) group.list.items) }
+    ensures ok { IfOk result (λ group. (group.size ≤ length bytes.now) × (length group.list.items ≤ left) × IsWritten shape.now (take group.size bytes.now) group.list.items group.rows) }
     ensures breaks { (at : ℕ) → result ≡ Err (GroupFault.Breaks at) → GroupBreaks shape.now left bytes.now at }
 {
+    if !bytes.is_empty() && bytes[0] == 0 && shape.rows < MOST_ROWS {
+        return read_growth(alloc, shape.rows, &bytes[1..]);
+    }
     if bytes.is_empty() || !is_count(bytes[0], left) {
         return Err(GroupFault::Breaks { at: 0 });
     }
@@ -95,7 +113,53 @@ pub fn read_group(
     Ok(Group {
         list,
         size: 1 + size,
+        rows: shape.rows,
     })
+}
+
+// Reads the growth whose number stands after its count byte. A place counts the count byte too.
+fn read_growth(alloc: Global, rows: u16, bytes: &[u8]) -> Result<Group, GroupFault>
+    requires { rows < most_rows }
+    ensures ok { IfOk result (λ group. (group.size ≡ 3) × (2 ≤ length bytes.now) × (group.list.items ≡ []) × IsMoreRows rows group.rows × (take 2 bytes.now ≡ (group.rows / 256) ∷ (group.rows % 256) ∷ [])) }
+    ensures breaks { (at : ℕ) → result ≡ Err (GroupFault.Breaks at) → (place : ℕ) × FirstBad (IsGoodGrowthByte rows bytes.now) 2 bytes.now place × (at ≡ 1 + place) }
+{
+    match read_rows(rows, bytes) {
+        Ok(more) => Ok(Group {
+            list: Vec::new(alloc),
+            size: 3,
+            rows: more,
+        }),
+        Err(place) => Err(GroupFault::Breaks { at: 1 + place }),
+    }
+}
+
+// Reads the number of a growth from so many rows. The error is the place of the first of its two bytes that no such number has
+// there.
+fn read_rows(rows: u16, bytes: &[u8]) -> Result<u16, u32>
+    requires { rows < most_rows }
+    ensures ok { IfOk result (λ more. (2 ≤ length bytes.now) × IsMoreRows rows more × (take 2 bytes.now ≡ (more / 256) ∷ (more % 256) ∷ [])) }
+    ensures err { IfErr result (λ place. FirstBad (IsGoodGrowthByte rows bytes.now) 2 bytes.now place) }
+    ensures near { IfErr result (λ place. place < 2) }
+{
+    if bytes.is_empty() || !is_high(rows, bytes[0]) {
+        return Err(0);
+    }
+    if bytes.len() < 2 {
+        return Err(1);
+    }
+    let more = bytes[0] as u16 * 256 + bytes[1] as u16;
+    if more <= rows || more > MOST_ROWS {
+        return Err(1);
+    }
+    Ok(more)
+}
+
+// Whether some number of more rows has this byte as its first.
+fn is_high(rows: u16, high: u8) -> bool
+    requires { rows < most_rows }
+    ensures { IsTrue result ↔ ((more : ℕ) × IsMoreRows rows more × (high ≡ more / 256)) }
+{
+    (rows + 1) / 256 <= high as u16 && high as u16 <= MOST_ROWS / 256
 }
 
 // Whether the byte may be the count of a group.

@@ -10,5 +10,6 @@ pub mod Requests
 pub mod Answers
 pub mod Texts
 pub mod ReadLines
+pub mod Calls
 pub mod LineLaws
 pub mod LinesInTurn

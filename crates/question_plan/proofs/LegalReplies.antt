@@ -15,7 +15,7 @@ use Rattle.audit_core.specs.Outcomes.{IsOutcome, record_of}
 use Rattle.audit_core.specs.Laws.{LegalGrows}
 use Rattle.schema_json.specs.Columns.{place_of, secret_place}
 use Rattle.schema_json.specs.SecretShape.{PlacesAreColumns}
-use Rattle.table_load.specs.Database.{Database, IsDatabase, secret_table}
+use Rattle.table_load.specs.Database.{Database, IsDatabase, table_in}
 use Rattle.predicate_lang.specs.Trees.{Tree, tree_of}
 use Rattle.set_index.specs.Asked.{meaning}
 use Rattle.line_wire.specs.Lines.{CountedLine, text, long}
@@ -69,22 +69,22 @@ module _ (grows : LegalGrows) (places : PlacesAreColumns) (base : Database) (is_
 
   -- an outcome's record keeps the history legal
   outcome_keeps : (history : List Answered) (asked : Asked) (outcome : Outcome) → FitsShape base.secret.shape asked.column asked.rows
-      → IsLegal (secret_table base.secret) history → IsOutcome (secret_table base.secret) history asked outcome
-      → IsLegal (secret_table base.secret) (history ++ option_to_list (record_of asked outcome))
-  outcome_keeps history asked Full fit legal due = subst (IsLegal (secret_table base.secret)) (sym (append-nil history)) legal
-  outcome_keeps history asked (Denied verdict) fit legal due = subst (IsLegal (secret_table base.secret)) (sym (append-nil history)) legal
+      → IsLegal (table_in base) history → IsOutcome (table_in base) history asked outcome
+      → IsLegal (table_in base) (history ++ option_to_list (record_of asked outcome))
+  outcome_keeps history asked Full fit legal due = subst (IsLegal (table_in base)) (sym (append-nil history)) legal
+  outcome_keeps history asked (Denied verdict) fit legal due = subst (IsLegal (table_in base)) (sym (append-nil history)) legal
   outcome_keeps history asked (Answer answer) fit legal due =
-      grows (secret_table base.secret) history (record { column = asked.column; rows = asked.rows; answer = answer }) legal due.0
+      grows (table_in base) history (record { column = asked.column; rows = asked.rows; answer = answer }) legal due.0
       (record { fits = fit; true_answer = due.2; released = due.1 })
 
   -- a reply that makes no record does
   only_keeps : (history : List Answered) (replied : Replied Answered) (added : Option Answered) → replied.added ≡ added →
-      IsLegal (secret_table base.secret) (history ++ option_to_list added) → IsLegal (secret_table base.secret) (history ++ option_to_list replied.added)
-  only_keeps history replied added is legal = subst (λ (a : Option Answered). IsLegal (secret_table base.secret) (history ++ option_to_list a)) (sym is) legal
+      IsLegal (table_in base) (history ++ option_to_list added) → IsLegal (table_in base) (history ++ option_to_list replied.added)
+  only_keeps history replied added is legal = subst (λ (a : Option Answered). IsLegal (table_in base) (history ++ option_to_list a)) (sym is) legal
 
-  nothing_keeps : (history : List Answered) (replied : Replied Answered) → replied.added ≡ None → IsLegal (secret_table base.secret) history →
-      IsLegal (secret_table base.secret) (history ++ option_to_list replied.added)
-  nothing_keeps history replied none legal = only_keeps history replied None none (subst (IsLegal (secret_table base.secret)) (sym (append-nil history)) legal)
+  nothing_keeps : (history : List Answered) (replied : Replied Answered) → replied.added ≡ None → IsLegal (table_in base) history →
+      IsLegal (table_in base) (history ++ option_to_list replied.added)
+  nothing_keeps history replied none legal = only_keeps history replied None none (subst (IsLegal (table_in base)) (sym (append-nil history)) legal)
 
   -- the column of a request that a question means
   taken_below : (written : Written) (t : Tree) (r : Request) → IsRequest base.columns written t r → TakesColumnBelow r
@@ -106,25 +106,25 @@ module _ (grows : LegalGrows) (places : PlacesAreColumns) (base : Database) (is_
   -- so does the reply of a plan
   reply_keeps : (plan : Plan) (history : List Answered) (replied : Replied Answered)
       → ((take : Take) (asked : Asked) → plan ≡ Ask take asked → FitsShape base.secret.shape asked.column asked.rows)
-      → IsLegal (secret_table base.secret) history
-      → IsReplyOf (secret_table base.secret) history plan replied → IsLegal (secret_table base.secret) (history ++ option_to_list replied.added)
+      → IsLegal (table_in base) history
+      → IsReplyOf (table_in base) history plan replied → IsLegal (table_in base) (history ++ option_to_list replied.added)
   reply_keeps (Ready answer) history replied fit legal reply = nothing_keeps history replied (ap (λ (r : Replied Answered). r.added) reply) legal
   reply_keeps (Ask take asked) history replied fit legal reply =
       only_keeps history replied (record_of asked reply.outcome) (ap (λ (r : Replied Answered). r.added) reply.replied_is)
       (outcome_keeps history asked reply.outcome (fit take asked refl) legal reply.due)
 
-  due_keeps : (history : List Answered) (line : CountedLine) (replied : Replied Answered) → IsLegal (secret_table base.secret) history →
-      IsDue base history line replied → IsLegal (secret_table base.secret) (history ++ option_to_list replied.added)
+  due_keeps : (history : List Answered) (line : CountedLine) (replied : Replied Answered) → IsLegal (table_in base) history →
+      IsDue base history line replied → IsLegal (table_in base) (history ++ option_to_list replied.added)
   due_keeps history line replied legal due =
       reply_keeps due.plan history replied
       (λ take asked is. plan_fits line take asked (subst (λ (p : Plan). IsPlan base.columns base.public line p) is due.planned)) legal due.reply
 
   -- and those to all lines
-  pub replies_keep : (history : List Answered) (lines : List CountedLine) (replies : List (Replied Answered)) → IsLegal (secret_table base.secret) history →
-      AreReplies (IsDue base) history lines replies → IsLegal (secret_table base.secret) (history ++ records_of replies)
-  replies_keep history [] [] legal are = subst (IsLegal (secret_table base.secret)) (sym (append-nil history)) legal
+  pub replies_keep : (history : List Answered) (lines : List CountedLine) (replies : List (Replied Answered)) → IsLegal (table_in base) history →
+      AreReplies (IsDue base) history lines replies → IsLegal (table_in base) (history ++ records_of replies)
+  replies_keep history [] [] legal are = subst (IsLegal (table_in base)) (sym (append-nil history)) legal
   replies_keep history [] (reply ∷ replies) legal are = absurd are
   replies_keep history (line ∷ lines) [] legal are = absurd are
   replies_keep history (line ∷ lines) (reply ∷ replies) legal are =
-      subst (IsLegal (secret_table base.secret)) (append_assoc history (option_to_list reply.added) (records_of replies))
+      subst (IsLegal (table_in base)) (append_assoc history (option_to_list reply.added) (records_of replies))
       (replies_keep (history ++ option_to_list reply.added) lines replies (due_keeps history line reply legal are.0) are.1)

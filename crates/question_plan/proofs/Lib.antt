@@ -1,3 +1,4 @@
+pub mod NextLines
 pub mod Means
 pub mod OneMean
 pub mod Requested

@@ -2,6 +2,7 @@
 use Rattle.std.proofs.Common.{◌≡◌, ◌≢◌, ℕ, ℤ, ◌*◌, ◌^◌, ◌<◌, ◌≤◌, List, [], refl, sym, ◌∙◌, ap, subst}
 use Rattle.std.specs.Prelude.{unsigned_abs}
 use Rattle.audit_types.specs.declared.records.Asked.{Asked}
+use Rattle.audit_types.specs.declared.records.Protected.{Protected}
 use Rattle.audit_types.specs.declared.records.Answered.{Answered}
 use Rattle.audit_types.specs.declared.records.Verdict.TheVariants.{Released, DeniedUnsafe, DeniedWide}
 use Rattle.audit_types.specs.declared.shapes.Kind.{Kind}
@@ -50,14 +51,15 @@ module _ (sums : SumsAreSmall) (maxima : MaximaAreSmall) (secret : SecretView) (
       subst (λ (y : ℤ). unsigned_abs y ≤ most_of take) (sym (is_true ∙ ap (λ (k : Kind). truth k (list_of secret.lists asked.column) asked.rows.list) own_kind))
       (truth_small take)
 
-  can_be_told : (history : List Answered) (outcome : Outcome) → IsOutcome (secret_table secret) history asked outcome → CanBeTold take outcome
-  can_be_told history Full due = tt
-  can_be_told history (Denied verdict) due = due.1
-  can_be_told history (Answer z) due = answer_small z due.2
+  can_be_told : (protected : List Protected) (history : List Answered) (outcome : Outcome) → IsOutcome (secret_table secret protected) history asked outcome →
+      CanBeTold take outcome
+  can_be_told protected history Full due = tt
+  can_be_told protected history (Denied verdict) due = due.1
+  can_be_told protected history (Answer z) due = answer_small z due.2
 
 pub outcomes_can_be_told : SumsAreSmall → MaximaAreSmall → OutcomesCanBeTold
-outcomes_can_be_told sums maxima secret history take asked outcome is askable due =
-    can_be_told sums maxima secret is take asked askable.fits askable.own_kind history outcome due
+outcomes_can_be_told sums maxima secret protected history take asked outcome is askable due =
+    can_be_told sums maxima secret is take asked askable.fits askable.own_kind protected history outcome due
 
 -- each outcome has a reply that tells it
 some_telling : (take : Take) (size : ℕ) (answer : ℤ) → 0 < size → (told : Reply) × Tells take size answer told

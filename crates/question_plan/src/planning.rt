@@ -41,8 +41,8 @@ fn plan_question(take: Take, column: u8, rows: RowSet) -> Plan
 
 // What a request comes to.
 fn plan_request(index: &Index, request: &Request) -> Plan
-    requires { fits_public index.now (condition_of request.now) ≡ true }
-    ensures { result ≡ plan_of index.now request.now }
+    requires { fits_public index.now.public (condition_of request.now) ≡ true }
+    ensures { result ≡ plan_of index.now.public request.now }
 {
     match request {
         Request::Count { pred } => Plan::Ready(Reply::Count(index.rows_of(pred).len())),
@@ -76,9 +76,9 @@ pub fn plan_line(
     scratch: &mut Scratch,
 ) -> Result<Plan, NoMemory>
     requires short { length line.now ≤ 8192 }
-    requires fits { FitsSchema schema.now.columns index.now }
-    ensures planned { IfOk result (IsPlan schema.now.columns index.now (text line.now)) }
-    ensures served { IfOk result (CanBeServed (shape_of schema.now.columns index.now.rows)) }
+    requires fits { FitsSchema schema.now.columns index.now.public }
+    ensures planned { IfOk result (IsPlan schema.now.columns index.now.public (text line.now)) }
+    ensures served { IfOk result (CanBeServed (shape_of schema.now.columns index.now.public.rows)) }
 {
     reads_what_fits();
     // A public part says of itself that it has 1 to 1,024 rows.

@@ -1,12 +1,12 @@
 -- The schema that bytes mean, and the first fault of bytes that mean none.
-use Rattle.std.specs.Prelude.{◌≡◌, ℕ, suc, not, if◌then◌else◌, List, [], ◌∷◌, length, Option, Some, None, is_none, option_map, option_and_then, unwrap_or, map, String, Vec, Result, Ok, Err, nat_lt, codes, ◌==◌}
+use Rattle.std.specs.Prelude.{◌≡◌, ℕ, suc, not, ◌||◌, if◌then◌else◌, List, [], ◌∷◌, length, Option, Some, None, is_none, option_map, option_and_then, unwrap_or, map, Vec, Result, Ok, Err, nat_lt, codes, ◌==◌}
 use Rattle.std.specs.Str.{bytes_eq, is_utf8}
 use Rattle.serde_json.specs.Data.{Data, Items, no_items, item, Members, no_members, member}
 use Rattle.serde_json.specs.Read.{read}
 use Rattle.serde_json.specs.Find.{get, as_str, as_array, as_object}
 use Rattle.std.specs.declared.alloc.Global.{Global}
-use Rattle.schema_json.specs.Kept.{column_of_entry}
-use Rattle.schema_json.specs.Columns.{Column, SchemaView, has_good_names, repeats, too_many, has_public}
+use Rattle.audit_types.specs.Limits.{most_groups}
+use Rattle.schema_json.specs.Columns.{Column, Group, SchemaView, has_good_names, repeats, too_many, has_public}
 use Rattle.schema_json.specs.declared.roles.Role.{Role}
 use Rattle.schema_json.specs.declared.roles.Role.TheVariants as role
 use Rattle.schema_json.specs.declared.faults.SchemaFault.{SchemaFault}
@@ -29,23 +29,27 @@ key_count d = unwrap_or (option_map members_len (as_object d)) 0
 abbrev pub role_of : List ℕ → Option Role
 role_of word = if bytes_eq word (codes "text") then Some role.Text else (if bytes_eq word (codes "number") then Some role.Number else (if bytes_eq word (codes "sum") then Some role.Sum else (if bytes_eq word (codes "max") then Some role.Max else None)))
 
--- a name and a role as a column, where both are there
-abbrev pub column_with : Option (List ℕ) → Option Role → Option Column
-column_with (Some name) (Some r) = Some (record { name = name; role = r })
-column_with name role = None
+-- what is made of two parts, where both are there
+abbrev pub made_of : {X Y Z : Type 0} → (X → Y → Z) → Option X → Option Y → Option Z
+made_of make (Some x) (Some y) = Some (make x y)
+made_of make x y = None
 
 -- an object of the two keys `name` and `is`
 unfoldable pub column_of : Data → Option Column
-column_of d = if key_count d == 2 then column_with (option_and_then as_str (get (codes "name") d)) (option_and_then role_of (option_and_then as_str (get (codes "is") d))) else None
+column_of d = if key_count d == 2 then made_of (λ name role. record { name = name; role = role }) (option_and_then as_str (get (codes "name") d)) (option_and_then role_of (option_and_then as_str (get (codes "is") d))) else None
 
--- each of the values as a column
-abbrev pub columns_in : Items → Option (List Column)
-columns_in no_items = Some []
-columns_in (item d ds) = option_and_then (λ c. option_map (λ cs. c ∷ cs) (columns_in ds)) (column_of d)
+-- an object of the two keys `column` and `where`
+unfoldable pub group_of : Data → Option Group
+group_of d = if key_count d == 2 then made_of (λ column condition. record { column = column; condition = condition }) (option_and_then as_str (get (codes "column") d)) (option_and_then as_str (get (codes "where") d)) else None
 
--- the array of an object of the one key `columns`
-unfoldable pub listed_items : Data → Option Items
-listed_items d = if key_count d == 1 then option_and_then as_array (get (codes "columns") d) else None
+-- what each of the values is read as
+abbrev pub each_as : {X : Type 0} → (Data → Option X) → Items → Option (List X)
+each_as read no_items = Some []
+each_as read (item d ds) = option_and_then (λ x. option_map (λ xs. x ∷ xs) (each_as read ds)) (read d)
+
+-- the values of the array under a key
+unfoldable pub items_at : List ℕ → Data → Option Items
+items_at key d = option_and_then as_array (get key d)
 
 -- some of them public, so at least one
 abbrev pub with_public : List Column → Option (List Column)
@@ -53,27 +57,31 @@ with_public columns = if has_public columns then Some columns else None
 
 -- the columns that a value lists, if it lists some of which some are public
 unfoldable pub columns_of : Data → Option (List Column)
-columns_of d = option_and_then with_public (option_and_then columns_in (listed_items d))
+columns_of d = option_and_then with_public (option_and_then (each_as column_of) (items_at (codes "columns") d))
 
--- the columns that the bytes list, and none where they list none
-abbrev pub columns_or_none : List ℕ → Option (List Column)
-columns_or_none bytes = option_and_then columns_of (value_of bytes)
+-- the groups that an object of the key `columns` lists: none where this is its one key, else those of the key `protect`
+unfoldable pub groups_of : Data → Option (List Group)
+groups_of d = if key_count d == 1 then Some [] else (if key_count d == 2 then option_and_then (each_as group_of) (items_at (codes "protect") d) else None)
+
+-- what a value lists: columns, and groups or none
+abbrev pub listed_of : Data → Option SchemaView
+listed_of d = made_of (λ columns groups. record { columns = columns; groups = groups }) (columns_of d) (groups_of d)
 
 -- the most bytes of a schema
 abbrev pub most_schema : ℕ
 most_schema = 65536
 
--- the first fault of the columns that are listed, and else these columns
-abbrev pub checked : Option (List Column) → Result (List Column) SchemaFault
+-- the first fault of what is listed, and else this
+abbrev pub checked : Option SchemaView → Result SchemaView SchemaFault
 checked None = Err Shape
-checked (Some columns) = if not (has_good_names columns) then Err BadName else (if repeats columns then Err Repeated else (if too_many columns then Err TooMany else Ok columns))
+checked (Some schema) = if not (has_good_names schema.columns) then Err BadName else (if repeats schema.columns then Err Repeated else (if too_many schema.columns || nat_lt most_groups (length schema.groups) then Err TooMany else Ok schema))
 
--- the columns that bytes mean, or their first fault
-abbrev pub schema_of : List ℕ → Result (List Column) SchemaFault
-schema_of bytes = if nat_lt most_schema (length bytes) then Err TooLong else (if is_none (value_of bytes) then Err NotJson else checked (columns_or_none bytes))
+-- the schema that bytes mean, or their first fault
+abbrev pub schema_of : List ℕ → Result SchemaView SchemaFault
+schema_of bytes = if nat_lt most_schema (length bytes) then Err TooLong else (if is_none (value_of bytes) then Err NotJson else checked (option_and_then listed_of (value_of bytes)))
 
 -- a fault is the bytes' own, unless memory was wanting
-abbrev pub IsFaultOf : SchemaFault → Result (List Column) SchemaFault → Type 0
+abbrev pub IsFaultOf : SchemaFault → Result SchemaView SchemaFault → Type 0
 IsFaultOf NoMemory meant = Unit {0}
 IsFaultOf TooLong meant = meant ≡ Err TooLong
 IsFaultOf NotJson meant = meant ≡ Err NotJson
@@ -84,21 +92,21 @@ IsFaultOf TooMany meant = meant ≡ Err TooMany
 
 -- what was read is what the bytes mean, unless memory was wanting
 abbrev pub ReadsSchema : Result SchemaView SchemaFault → List ℕ → Type 0
-ReadsSchema (Ok schema) bytes = schema_of bytes ≡ Ok schema.columns
+ReadsSchema (Ok schema) bytes = schema_of bytes ≡ Ok schema
 ReadsSchema (Err fault) bytes = IsFaultOf fault (schema_of bytes)
 
--- the same, of the columns that a value lists
-abbrev pub ReadsColumns : Result SchemaView SchemaFault → Result (List Column) SchemaFault → Type 0
-ReadsColumns (Ok schema) meant = meant ≡ Ok schema.columns
-ReadsColumns (Err fault) meant = IsFaultOf fault meant
+-- the same, of what a value lists
+abbrev pub ReadsListed : Result SchemaView SchemaFault → Result SchemaView SchemaFault → Type 0
+ReadsListed (Ok schema) meant = meant ≡ Ok schema
+ReadsListed (Err fault) meant = IsFaultOf fault meant
 
--- what the reader gathers: the columns that the values are, or word that some value is none
-abbrev pub Gathers : Result (Vec (String Global × Role) Global) SchemaFault → Option (List Column) → Type 0
-Gathers (Ok columns) meant = meant ≡ Some (map column_of_entry columns.items)
-Gathers (Err NoMemory) meant = Unit {0}
-Gathers (Err Shape) meant = meant ≡ None
-Gathers (Err TooLong) meant = ⊥
-Gathers (Err NotJson) meant = ⊥
-Gathers (Err BadName) meant = ⊥
-Gathers (Err Repeated) meant = ⊥
-Gathers (Err TooMany) meant = ⊥
+-- what the reader gathers: what the values are read as, or word that some value is none
+abbrev pub Gathers : {E X : Type 0} → (E → X) → Result (Vec E Global) SchemaFault → Option (List X) → Type 0
+Gathers kept (Ok entries) meant = meant ≡ Some (map kept entries.items)
+Gathers kept (Err NoMemory) meant = Unit {0}
+Gathers kept (Err Shape) meant = meant ≡ None
+Gathers kept (Err TooLong) meant = ⊥
+Gathers kept (Err NotJson) meant = ⊥
+Gathers kept (Err BadName) meant = ⊥
+Gathers kept (Err Repeated) meant = ⊥
+Gathers kept (Err TooMany) meant = ⊥

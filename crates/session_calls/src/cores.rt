@@ -16,7 +16,7 @@ fn new_core(alloc: Global) -> Result<Core, NoMemory>
         rows: 6,
         kinds: [1, 2, 0, 0, 0, 0, 0, 0],
     };
-    Core::new(alloc, shape)
+    Core::new(alloc, shape, Vec::new(alloc))
 }
 
 // Asks, and takes the answer if it may be released.
@@ -44,8 +44,8 @@ fn ask(core: &mut Core, column: u8, bits: u8, answer: i64) -> Result<Option<Verd
     }
 }
 
-// A column, a set, the answer over it, and the verdict. Rows 1 and 3, with what was told of rows 1, 3 and 5, would tell row 5. The
-// maximum 8 over rows 0 and 2 would leave row 1 as the only one of rows 0 and 1 that can have 9.
+// A column, a set, the answer over it, and the verdict. The sum over rows 1 and 3, with that over rows 1, 3 and 5, would give row 5
+// away. The maximum 8 over rows 0 and 2 would leave row 1 as the only one of rows 0 and 1 that can have 9.
 const CASES: [(u8, u8, i64, Verdict); 11] = [
     (0, 0b000001, 100, Verdict::DeniedUnsafe),
     (0, 0b000011, 300, Verdict::Released),

@@ -45,8 +45,9 @@ fn serve_lines(
     bench: &mut MemoryBench,
 ) -> Result<(), NoMemory>
     requires usable { store.old.usable ≡ true }
-    requires fits { FitsSchema schema.now.columns index.now }
-    requires shape { store.old.secret.shape ≡ shape_of schema.now.columns index.now.rows }
+    requires entries { index.now.protected ≡ store.old.protected }
+    requires fits { FitsSchema schema.now.columns index.now.public }
+    requires shape { store.old.secret.shape ≡ shape_of schema.now.columns index.now.public.rows }
     requires stands { IsAsLeft (file_of bench.old) store.old }
 {
     let mut source = SteadySource::new(lines);
@@ -62,13 +63,14 @@ fn start(
     secret: Secret,
     bench: &mut MemoryBench,
 ) -> Result<(), NoMemory>
-    requires fits { FitsSchema schema.now.columns index.now }
-    requires shape { secret.shape ≡ shape_of schema.now.columns index.now.rows }
+    requires fits { FitsSchema schema.now.columns index.now.public }
+    requires none { index.now.protected ≡ [] }
+    requires shape { secret.shape ≡ shape_of schema.now.columns index.now.public.rows }
     requires empty { file_of bench.old ≡ [] }
 {
     make(bench, &secret.shape())?;
     let lines = drill_lines(alloc, number)?;
-    match Store::start(alloc, secret, bench) {
+    match Store::start(alloc, secret, Vec::new(alloc), bench) {
         Ok(mut store) => serve_lines(alloc, schema, index, &mut store, lines, bench),
         Err(_) => Err(NoMemory),
     }
@@ -79,7 +81,7 @@ fn play(alloc: Global, number: u32, bench: &mut MemoryBench) -> Result<(), NoMem
 {
     let schema = drill_schema(alloc)?;
     let Table { public, secret } = drill_table(alloc, number)?;
-    let index = Index::new(alloc, public)?;
+    let index = Index::new(alloc, &schema, public).map_err(|_| NoMemory)?;
     start(alloc, number, &schema, &index, secret, bench)
 }
 

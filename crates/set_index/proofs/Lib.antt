@@ -2,6 +2,8 @@ pub mod Sets
 pub mod Ranges
 pub mod Searching
 pub mod Compared
+pub mod Entries
+pub mod GroupLaws
 pub mod Meets
 pub mod Columns
 pub mod Fitting

@@ -1,37 +1,56 @@
 //! The public part of a table, asked for the rows that satisfy a condition.
-ghost use Rattle.std.specs.Prelude.{◌≡◌, ◌<◌, ◌≤◌, ℕ, true, None, IfOk};
+ghost use Rattle.std.specs.Prelude.{◌≡◌, ◌<◌, ◌≤◌, ℕ, true, None, Some, Err, IfOk, length, slice_get, slice_index_or};
 ghost use Rattle.std.specs.List.Sorted.{IsSorted};
+ghost use Rattle.std.specs.Option.{option_to_list};
 ghost use Rattle.std.specs.Ordering.{nat_cmp};
-ghost use Rattle.predicate_lang.specs.Trees.{tree_of};
-ghost use Rattle.table_load.specs.Cells.{cells_at};
+ghost use Rattle.audit_types.specs.History.{AreProtected, entry_of};
 ghost use Rattle.audit_types.specs.Limits.{most_rows};
 ghost use Rattle.audit_types.specs.Rows.{rows_that};
+ghost use Rattle.schema_json.specs.Columns.{Group};
+ghost use Rattle.schema_json.specs.SecretShape.{shape_of};
+ghost use Rattle.predicate_lang.specs.Trees.{Tree, fits, tree_of};
+ghost use Rattle.table_load.specs.Cells.{FitsSchema, cells_at};
 ghost use Rattle.table_load.specs.Kept.{cells_kept};
 ghost use Rattle.set_index.specs.Asked.{meaning, fits_public};
+ghost use Rattle.set_index.specs.Groups.{AreEntries, HasNoFault, IsFirstBad, IsGroup};
 ghost use Rattle.set_index.specs.Marks.{SortsColumn};
 ghost use Rattle.set_index.specs.Ordered.{IsOrder, IsShown, compare_rows};
 
 use crate::asking::rows_of;
+use crate::laws::{groups_of_a_schema, reads_what_fits};
 use crate::sorted::Sorted;
 use crate::values::sort_by_value;
-use audit_types::{NoMemory, RowSet};
-use predicate_lang::Pred;
+use audit_types::{NoMemory, Protected, RowSet};
+use predicate_lang::{Pred, WhereFault, read_where};
+use schema_json::{Role, Schema};
 use std::alloc::Global;
 use std::marker::Model;
 use table_load::{Column, Public};
+
+// The most bytes of a group's condition.
+const MOST_CONDITION: usize = 8192;
+
+/// Why a public part wasn't made ready.
+#[derive(Clone, Copy)]
+pub enum IndexFault {
+    /// The first group, from 0, whose column isn't one of sums, or whose text has more than 8,192 bytes or is no condition.
+    BadGroup { place: u8 },
+    NoMemory,
+}
 
 /// The public part of a table, made ready for conditions: for each column the rows in ascending order of value.
 #[derive(Drop)]
 pub struct Index {
     public: Public,
+    protected: Vec<Protected>,
     columns: Vec<Option<Sorted>>,
 }
 
 impl Model for Index {
-    ghost use Rattle.table_load.specs.Cells.{PublicView};
+    ghost use Rattle.set_index.specs.Indexed.{IndexView};
     ghost use Rattle.set_index.specs.KeptIndex.{IsKeptIndex, index_view};
 
-    ghost Value = { PublicView };
+    ghost Value = { IndexView };
 
     ghost view = { index_view };
 
@@ -74,31 +93,125 @@ fn sorted(alloc: Global, rows: u16, column: &Column) -> Result<Option<Sorted>, N
     }
 }
 
-impl Index {
-    /// Makes a public part ready. Where memory runs out, it is dropped.
-    pub fn new(alloc: Global, public: Public) -> Result<Index, NoMemory>
-        ensures { IfOk result (λ index. index ≡ public) }
-    {
-        let rows = public.rows();
-        let mut columns = Vec::new(alloc);
-        for column in public.columns() {
-            columns.push(sorted(alloc, rows, column)?)?;
+// The rows in ascending order of each column's values.
+fn sorted_columns(alloc: Global, public: &Public) -> Result<Vec<Option<Sorted>>, NoMemory>
+    ensures { IfOk result (λ list. (place : ℕ) → SortsColumn public.now.rows (cells_at public.now place) (slice_index_or list.items place None)) }
+{
+    let rows = public.rows();
+    let mut columns = Vec::new(alloc);
+    for column in public.columns() {
+        columns.push(sorted(alloc, rows, column)?)?;
+    }
+    Ok(columns)
+}
+
+// The place among the secret columns of a group's column, and its condition.
+fn group_at(alloc: Global, schema: &Schema, place: u8) -> Result<(u8, Pred), IndexFault>
+    requires { place < length schema.now.groups }
+    ensures ok { IfOk result (λ found. (group : Group) → slice_get schema.now.groups place ≡ Some group → IsGroup schema.now.columns group found.0 (tree_of found.1)) }
+    ensures bad { (at : ℕ) → result ≡ Err (IndexFault.BadGroup at) → (at ≡ place) × ((group : Group) → slice_get schema.now.groups place ≡ Some group → ¬ (HasNoFault schema.now.columns group)) }
+    ensures fits { IfOk result (λ found. fits schema.now.columns (tree_of found.1) ≡ true) }
+{
+    let bad = IndexFault::BadGroup { place };
+    let text = schema.group_where(place);
+    let Some(column) = schema.find(schema.group_column(place)) else {
+        return Err(bad);
+    };
+    let (Role::Sum, Some(secret)) = (schema.role(column), schema.secret(column)) else {
+        return Err(bad);
+    };
+    if text.len() > MOST_CONDITION {
+        return Err(bad);
+    }
+    match read_where(alloc, schema, text) {
+        Ok(pred) => Ok((secret, pred)),
+        Err(WhereFault::NoMemory) => Err(IndexFault::NoMemory),
+        Err(WhereFault::Bad { .. }) => Err(bad),
+    }
+}
+
+// The entry of a group, if some row satisfies its condition.
+fn group_entry(
+    alloc: Global,
+    schema: &Schema,
+    index: &Index,
+    place: u8,
+) -> Result<Option<Protected>, IndexFault>
+    requires fits { FitsSchema schema.now.columns index.now.public }
+    requires place { place < length schema.now.groups }
+    ensures ok { IfOk result (λ entry. (group : Group) → slice_get schema.now.groups place ≡ Some group
+        → (column : ℕ) × (t : Tree) × IsGroup schema.now.columns group column t × (option_to_list entry ≡ entry_of column index.now.public.rows (meaning index.now.public t))) }
+    ensures bad { (at : ℕ) → result ≡ Err (IndexFault.BadGroup at) → (at ≡ place) × ((group : Group) → slice_get schema.now.groups place ≡ Some group → ¬ (HasNoFault schema.now.columns group)) }
+{
+    reads_what_fits();
+    let (column, pred) = group_at(alloc, schema, place)?;
+    let rows = index.rows_of(&pred);
+    if rows.is_empty() {
+        return Ok(None);
+    }
+    Ok(Some(Protected { column, rows }))
+}
+
+// The entries of the groups, in order.
+fn entries_of(alloc: Global, schema: &Schema, index: &Index) -> Result<Vec<Protected>, IndexFault>
+    requires fits { FitsSchema schema.now.columns index.now.public }
+    ensures entries { IfOk result (λ list. AreEntries schema.now.columns index.now.public schema.now.groups list.items) }
+    ensures bad { (place : ℕ) → result ≡ Err (IndexFault.BadGroup place) → IsFirstBad schema.now.columns schema.now.groups place }
+{
+    let mut list = Vec::new(alloc);
+    for place in 0..schema.groups() {
+        if let Some(entry) = group_entry(alloc, schema, index, place)? {
+            if list.push(entry).is_err() {
+                return Err(IndexFault::NoMemory);
+            }
         }
-        Ok(Index { public, columns })
+    }
+    Ok(list)
+}
+
+impl Index {
+    /// Makes a public part ready, and finds the rows of the groups that its schema protects. With a refusal it is dropped.
+    pub fn new(alloc: Global, schema: &Schema, public: Public) -> Result<Index, IndexFault>
+        requires { FitsSchema schema.now.columns public }
+        ensures public { IfOk result (λ index. index.public ≡ public) }
+        ensures entries { IfOk result (λ index. AreEntries schema.now.columns public schema.now.groups index.protected) }
+        ensures bad { (place : ℕ) → result ≡ Err (IndexFault.BadGroup place) → IsFirstBad schema.now.columns schema.now.groups place }
+        ensures fit { IfOk result (λ index. AreProtected (shape_of schema.now.columns public.rows) index.protected) }
+    {
+        groups_of_a_schema();
+        // The counts say that these are a schema's columns, and at most 64 groups.
+        let (_count, _groups) = (schema.count(), schema.groups());
+        let Ok(columns) = sorted_columns(alloc, &public) else {
+            return Err(IndexFault::NoMemory);
+        };
+        let mut index = Index {
+            public,
+            protected: Vec::new(alloc),
+            columns,
+        };
+        index.protected = entries_of(alloc, schema, &index)?;
+        Ok(index)
     }
 
     /// The public part.
     pub fn public(&self) -> &Public
-        ensures { result.now ≡ self.now }
+        ensures { result.now ≡ self.now.public }
     {
         &self.public
     }
 
+    /// The protected groups that some row satisfies, in the order of the schema.
+    pub fn protected(&self) -> &[Protected]
+        ensures { result.now ≡ self.now.protected }
+    {
+        &self.protected
+    }
+
     // The rows by the values of a column.
     pub(crate) fn sorted(&self, place: u8) -> &Sorted
-        requires { IsShown (cells_at self.now place) }
-        ensures rows { result.now.rows ≡ self.now.rows }
-        ensures ascending { IsSorted (compare_rows (cells_at self.now place)) result.now.order }
+        requires { IsShown (cells_at self.now.public place) }
+        ensures rows { result.now.rows ≡ self.now.public.rows }
+        ensures ascending { IsSorted (compare_rows (cells_at self.now.public place)) result.now.order }
     {
         match self.columns.get(place as usize) {
             Some(Some(sorted)) => sorted,
@@ -109,8 +222,8 @@ impl Index {
     /// The row numbers in ascending order of a column's values, and of the rows where values are equal, by the column's
     /// place in the schema.
     pub fn order(&self, place: u8) -> &[u16]
-        requires { IsShown (cells_at self.now place) }
-        ensures { IsOrder self.now.rows (cells_at self.now place) result.now }
+        requires { IsShown (cells_at self.now.public place) }
+        ensures { IsOrder self.now.public.rows (cells_at self.now.public place) result.now }
     {
         self.sorted(place).order()
     }
@@ -118,9 +231,9 @@ impl Index {
     /// The rows that satisfy a condition. A comparison is a range of a column's order, found by binary search; sets are
     /// combined word by word.
     pub fn rows_of(&self, pred: &Pred) -> RowSet
-        requires { fits_public self.now (tree_of pred.now) ≡ true }
-        ensures n { result.n ≡ self.now.rows }
-        ensures rows { result.list ≡ meaning self.now (tree_of pred.now) }
+        requires { fits_public self.now.public (tree_of pred.now) ≡ true }
+        ensures n { result.n ≡ self.now.public.rows }
+        ensures rows { result.list ≡ meaning self.now.public (tree_of pred.now) }
     {
         rows_of(self, pred)
     }

@@ -1,31 +1,61 @@
 -- What the files of a table mean to the auditor.
-use Rattle.std.specs.Prelude.{◌≡◌, List}
-use Rattle.audit_types.specs.History.{Table, setting_of}
+use Rattle.std.specs.Prelude.{◌≡◌, ℕ, ◌<◌, List, map, take}
+use Rattle.audit_types.specs.declared.records.Protected.{Protected}
+use Rattle.audit_types.specs.History.{Table, AreProtected, setting_of}
+use Rattle.audit_types.specs.Widening.{over, groups_among}
 use Rattle.schema_json.specs.Columns.{Column, AreColumns}
 use Rattle.schema_json.specs.SecretShape.{shape_of}
-use Rattle.table_load.specs.Cells.{PublicView, SecretView}
+use Rattle.table_load.specs.Cells.{Cells, hidden, numbers, texts, PublicView, SecretView}
 
 -- what a schema's file and a table's file mean together
 pub record Database : Type 0 where
   pub columns : List Column
   pub public : PublicView
+  pub protected : List Protected
   pub secret : SecretView
 
--- the columns of a schema over the two parts of a table
-abbrev pub base_of : List Column → PublicView → SecretView → Database
-base_of columns public secret = record { columns = columns; public = public; secret = secret }
+-- the columns of a schema over the parts of a table, with its protected groups
+abbrev pub base_of : List Column → PublicView → List Protected → SecretView → Database
+base_of columns public protected secret = record { columns = columns; public = public; protected = protected; secret = secret }
 
--- a schema's columns, and secrets of the shape that they give the table
+-- a schema's columns, secrets of the shape that they give the table, and groups that fit it
 pub record IsDatabase (base : Database) : Type 0 where
   pub schema : AreColumns base.columns
   pub shape : base.secret.shape ≡ shape_of base.columns base.public.rows
+  pub protected : AreProtected base.secret.shape base.protected
 
 -- tables that differ in their secrets alone
 pub record AreTwins (base twin : Database) : Type 0 where
   pub columns : twin.columns ≡ base.columns
   pub public : twin.public ≡ base.public
+  pub protected : twin.protected ≡ base.protected
   pub shape : twin.secret.shape ≡ base.secret.shape
 
--- the table whose secrets these are
-abbrev pub secret_table : SecretView → Table
-secret_table secret = record { setting = setting_of secret.shape; secrets = secret.lists }
+-- the table whose secrets these are, where these groups are protected
+abbrev pub secret_table : SecretView → List Protected → Table
+secret_table secret protected = record { setting = setting_of secret.shape protected; secrets = secret.lists }
+
+-- the table of a database
+abbrev pub table_in : Database → Table
+table_in base = record { setting = setting_of base.secret.shape base.protected; secrets = base.secret.lists }
+
+-- ---- growing tables
+
+-- the first n cells of a column
+abbrev pub first_cells : ℕ → Cells → Cells
+first_cells n hidden = hidden
+first_cells n (numbers list) = numbers (take n list)
+first_cells n (texts list) = texts (take n list)
+
+-- the secrets of the first n rows
+abbrev pub first_secrets : ℕ → SecretView → SecretView
+first_secrets n secret = record { shape = over n secret.shape; lists = map (take n) secret.lists }
+
+-- the first n rows of a table, with the groups among them
+abbrev pub first_of : ℕ → Database → Database
+first_of n base =
+    base_of base.columns (record { rows = n; columns = map (first_cells n) base.public.columns }) (groups_among n base.protected) (first_secrets n base.secret)
+
+-- a table over the same schema with more rows, the first of which are those of this one
+abbrev pub Grows : Database → Database → Type 0
+Grows base longer = (base.public.rows < longer.public.rows) × (base ≡ first_of base.public.rows longer)

@@ -1,4 +1,4 @@
-pub mod NextLines
+pub mod Stops
 pub mod Averages
 pub mod OneVerdict
 pub mod Exchanges

@@ -13,7 +13,7 @@ use Rattle.bench_core.specs.Calls.{IsQuiet, LeavesOnly}
 use Rattle.bench_core.specs.Causes.{Rose}
 use Rattle.bench_core.specs.Moments.{started, goes_on}
 use Rattle.schema_json.specs.Columns.{Column}
-use Rattle.table_load.specs.Cells.{PublicView}
+use Rattle.set_index.specs.Indexed.{IndexView}
 use Rattle.line_wire.specs.Lines.{CountedLine, counted_lines, whole_lines}
 use Rattle.line_wire.specs.Cutter.{Cutter, StopsAt}
 use Rattle.line_wire.specs.ReadLines.{IsRead, ReadsLines, NoLineIsRead, MoreLinesAreRead}
@@ -23,7 +23,8 @@ use Rattle.transcript_sim.specs.declared.expecting.Expected.{Expected}
 use Rattle.transcript_sim.specs.declared.simulating.SimulationFault.{SimulationFault}
 use Rattle.transcript_sim.specs.declared.simulating.SimulationFault.TheVariants as fault
 use Rattle.transcript_sim.specs.Verdicts.{Expects, due_of, verdict_bytes, Exchange, exchanges, IsVerdict, AreVerdicts}
-use Rattle.transcript_sim.specs.Steps.{Cuts, GivesLine, GivesNone, IsCutShort}
+use Rattle.line_wire.specs.Calls.{Cuts, GivesLine, GivesNone}
+use Rattle.transcript_sim.specs.Steps.{IsCutShort}
 use Rattle.transcript_sim.specs.Ends.{BeginVerdicts, EndVerdicts, EndSends, EndReads, SimulatesMeanwhile, Simulates}
 use Rattle.transcript_sim.proofs.Exchanges.{exchanges-append}
 
@@ -51,16 +52,16 @@ records-push verdicts out =
 pub no_fault : (fault : SimulationFault) → (let done : Result (Unit {0}) SimulationFault = Ok tt in done) ≡ Err fault → ⊥
 no_fault fault is = search rules
 
-module _ {P B : Type 0} (source : SourceGhosts P) (bench : Ghosts B) (columns : List Column) (public : PublicView) (first_source : P) (first : B) where
+module _ {P B : Type 0} (source : SourceGhosts P) (bench : Ghosts B) (columns : List Column) (index : IndexView) (first_source : P) (first : B) where
   -- these lines were read, and these are the verdicts on them
   pub record SoFar (cutter : Cutter) (from : P) (at : B) (lines : List CountedLine) (verdicts : List (Replied Answered)) : Type 0 where
     pub reads : source.told → ReadsLines (source.left first_source) (cutter.pending ++ source.left from) cutter.ended lines
-    pub are : AreVerdicts columns public lines verdicts
+    pub are : AreVerdicts columns index lines verdicts
     pub sent : bench.told → bench.sent at ≡ bench.sent first ++ bytes_of verdicts
     pub file : bench.file at ≡ bench.file first
     pub crash : (image : List ℕ) → bench.leaves at image → bench.leaves first image
     pub moments : bench.told → IsQuiet bench first →
-        LeavesOnly bench first at (SimulatesMeanwhile source.told columns public (counted_lines (source.left first_source)) (bench.file first)
+        LeavesOnly bench first at (SimulatesMeanwhile source.told columns index (counted_lines (source.left first_source)) (bench.file first)
         (bench.sent first))
     pub ticks : bench.told → bench.moment at ≡ bench.moment first + length verdicts
     pub same : source.told → cutter.ended ≡ true → source.left from ≡ []
@@ -72,19 +73,19 @@ module _ {P B : Type 0} (source : SourceGhosts P) (bench : Ghosts B) (columns : 
 
   -- verdicts on lines that were read are verdicts on the first lines
   begin_of : (rest : List ℕ) (ended : Bool) (lines : List CountedLine) (verdicts : List (Replied Answered))
-      → ReadsLines (source.left first_source) rest ended lines → AreVerdicts columns public lines verdicts
-      → BeginVerdicts columns public (counted_lines (source.left first_source)) verdicts
+      → ReadsLines (source.left first_source) rest ended lines → AreVerdicts columns index lines verdicts
+      → BeginVerdicts columns index (counted_lines (source.left first_source)) verdicts
   begin_of rest ended lines verdicts reads are = record {
     count = length lines;
     are =
-        subst (λ (ls : List CountedLine). AreVerdicts columns public ls verdicts)
+        subst (λ (ls : List CountedLine). AreVerdicts columns index ls verdicts)
         (sym (ap (λ (ls : List CountedLine). take (length lines) ls) reads.counted ∙ take-append_seam lines (counted_lines rest))) are;
   }
 
   -- before the first line no moment has passed
   pub nothing_sent : ((image bytes : List ℕ) → bench.since first (bench.moment first) image bytes → bench.leaves first image × (bytes ≡ bench.sent first))
       → IsQuiet bench first
-      → LeavesOnly bench first first (SimulatesMeanwhile source.told columns public (counted_lines (source.left first_source)) (bench.file first)
+      → LeavesOnly bench first first (SimulatesMeanwhile source.told columns index (counted_lines (source.left first_source)) (bench.file first)
       (bench.sent first))
   nothing_sent only_now quiet = started bench first _ (λ image bytes was.
       let found = only_now image bytes was in
@@ -127,19 +128,19 @@ module _ {P B : Type 0} (source : SourceGhosts P) (bench : Ghosts B) (columns : 
       counts_now = omega (arith, so_far.counts, gives.takes, length-append lines (line ∷ []))
 
       -- a question, whose verdict is sent
-      module _ (half : ℕ) (even : length lines ≡ 2 * half) (expected : Expected) (expects : Expects columns public (records_of verdicts) line expected) where
-        are_with : AreVerdicts columns public (lines ++ line ∷ []) (verdicts ++ sent_for expected ∷ [])
+      module _ (half : ℕ) (even : length lines ≡ 2 * half) (expected : Expected) (expects : Expects columns index (records_of verdicts) line expected) where
+        are_with : AreVerdicts columns index (lines ++ line ∷ []) (verdicts ++ sent_for expected ∷ [])
         are_with =
             let asked : Exchange = record { question = line; shown = None } in
-            let verdict : IsVerdict columns public (records_of verdicts) asked (sent_for expected) = record {
+            let verdict : IsVerdict columns index (records_of verdicts) asked (sent_for expected) = record {
               expected = expected;
               expects = expects;
               bytes_are = refl;
               taken = refl;
             } in
-            subst (λ (es : List Exchange). AreReplies (IsVerdict columns public) [] es (verdicts ++ sent_for expected ∷ []))
+            subst (λ (es : List Exchange). AreReplies (IsVerdict columns index) [] es (verdicts ++ sent_for expected ∷ []))
             (sym (exchanges-append lines (line ∷ []) half even))
-            (replies-append (IsVerdict columns public) [] (exchanges lines) (asked ∷ []) verdicts (sent_for expected ∷ []) so_far.are (verdict, tt))
+            (replies-append (IsVerdict columns index) [] (exchanges lines) (asked ∷ []) verdicts (sent_for expected ∷ []) so_far.are (verdict, tt))
 
         module _ (sending : B) (file : bench.file sending ≡ bench.file at) (crash : (image : List ℕ) → bench.leaves sending image → bench.leaves at image)
             (time : Elapses (bench.moment at) (bench.moment sending) (bench.since at) (bench.since sending)
@@ -157,7 +158,7 @@ module _ {P B : Type 0} (source : SourceGhosts P) (bench : Ghosts B) (columns : 
           )
 
           moments_now : bench.told → IsQuiet bench first →
-              LeavesOnly bench first sending (SimulatesMeanwhile source.told columns public (counted_lines (source.left first_source)) (bench.file first)
+              LeavesOnly bench first sending (SimulatesMeanwhile source.told columns index (counted_lines (source.left first_source)) (bench.file first)
               (bench.sent first))
           moments_now told quiet = goes_on bench first at sending _ _ (so_far.moments told quiet) time (λ image bytes found. (
             quiet image (so_far.crash image (crash image found.0)),
@@ -196,7 +197,7 @@ module _ {P B : Type 0} (source : SourceGhosts P) (bench : Ghosts B) (columns : 
           pub question_unsent : (bench.told → AppendsFront (bench.sent at) (verdict_bytes (due_of expected)) (bench.sent sending))
               → source.faults after ≡ source.faults from → Rose (bench.faults at) (bench.faults sending) → bench.last_failed sending ≡ true
               → bench.faults at ≤ bench.faults sending
-              → Simulates source bench columns public first_source after first sending (Err fault.Bench)
+              → Simulates source bench columns index first_source after first sending (Err fault.Bench)
           question_unsent part steady rose last later = record {
             verdicts =
                 λ t. (
@@ -224,13 +225,13 @@ module _ {P B : Type 0} (source : SourceGhosts P) (bench : Ghosts B) (columns : 
 
     -- by what is said of the verdicts and of the input
     pub ends : (after : P) (result : Result (Unit {0}) SimulationFault) → result ≢ Err fault.Bench
-        → (source.told → EndVerdicts result columns public (source.left first_source) (source.left after) verdicts)
+        → (source.told → EndVerdicts result columns index (source.left first_source) (source.left after) verdicts)
         → (bench.told → EndSends result verdicts (bench.sent first) (bench.sent at)) →
         (source.told → bench.told → OnOk result (bench.moment at ≡ bench.moment first + length (exchanges (counted_lines (source.left first_source))))) →
         (source.told → EndReads result (source.left first_source) (source.left after)) → source.faults from ≤ source.faults after
         → (result ≡ Err fault.Input → Rose (source.faults from) (source.faults after)) → (result ≡ Err fault.Input → source.last_failed after ≡ true) →
         (result ≢ Err fault.Input → source.faults after ≡ source.faults from)
-        → Simulates source bench columns public first_source after first at result
+        → Simulates source bench columns index first_source after first at result
     ends after result fine are sends calls reads later rose last steady = record {
       verdicts = λ t. (verdicts, are t, sends);
       calls = calls;
@@ -248,28 +249,28 @@ module _ {P B : Type 0} (source : SourceGhosts P) (bench : Ghosts B) (columns : 
       bench_steady = λ other. so_far.bench_steady;
     }
 
-    begun : source.told → BeginVerdicts columns public (counted_lines (source.left first_source)) verdicts
+    begun : source.told → BeginVerdicts columns index (counted_lines (source.left first_source)) verdicts
     begun t = begin_of (cutter.pending ++ source.left from) cutter.ended lines verdicts (so_far.reads t) so_far.are
 
     -- there was no memory
     pub wants_memory : (after : P) → source.faults after ≡ source.faults from →
-        Simulates source bench columns public first_source after first at (Err fault.NoMemory)
+        Simulates source bench columns index first_source after first at (Err fault.NoMemory)
     wants_memory after steady =
         ends after (Err fault.NoMemory) (search rules) begun so_far.sent (λ t told. tt) (λ t. tt) (omega (arith, steady)) (λ is. absurd (search rules))
         (λ is. absurd (search rules)) (λ other. steady)
 
     -- no line is left
     pub all_read : (new : Cutter) (after : P) → GivesNone source cutter new from after → Cuts source cutter new from after →
-        Simulates source bench columns public first_source after first at (Ok tt)
+        Simulates source bench columns index first_source after first at (Ok tt)
     all_read new after gives cuts = ends after (Ok tt) (no_fault fault.Bench)
-        (λ t. subst (λ (ls : List CountedLine). AreVerdicts columns public ls verdicts)
+        (λ t. subst (λ (ls : List CountedLine). AreVerdicts columns index ls verdicts)
         (sym ((so_far.reads t).counted ∙ ap (λ (ls : List CountedLine). lines ++ ls) (gives.none t) ∙ append-nil lines)) so_far.are) so_far.sent
         (λ t told.
         let all = (so_far.reads t).counted ∙ ap (λ (ls : List CountedLine). lines ++ ls) (gives.none t) ∙ append-nil lines in
         omega (
           arith,
           so_far.ticks told,
-          length-replies (IsVerdict columns public) [] (exchanges lines) verdicts so_far.are,
+          length-replies (IsVerdict columns index) [] (exchanges lines) verdicts so_far.are,
           ap (λ (ls : List CountedLine). length (exchanges ls)) all,
         ))
         (λ t.
@@ -305,8 +306,8 @@ module _ {P B : Type 0} (source : SourceGhosts P) (bench : Ghosts B) (columns : 
           ⊎_elim (λ (is : IsRead (so_far.reads t).read lines). is stop.front) (λ over. absurd (going over.0 over.1)) (so_far.reads t).whole
           ∙ ap (λ (ls : List CountedLine). lines ++ ls) stop.none ∙ append-nil lines
 
-      read_are : AreVerdicts columns public (whole_lines read) verdicts
-      read_are = subst (λ (ls : List CountedLine). AreVerdicts columns public ls verdicts) (sym read_lines) so_far.are
+      read_are : AreVerdicts columns index (whole_lines read) verdicts
+      read_are = subst (λ (ls : List CountedLine). AreVerdicts columns index ls verdicts) (sym read_lines) so_far.are
 
     -- bytes are left at the limit
     not_over : (pending left : List ℕ) → StopsAt (cutter.pending ++ source.left from) (pending ++ left) → 0 < length pending →
@@ -315,7 +316,7 @@ module _ {P B : Type 0} (source : SourceGhosts P) (bench : Ghosts B) (columns : 
         omega (arith, ap (λ (l : List ℕ). length l) (sym none ∙ stop.split), length-append stop.front (pending ++ left), length-append pending left, some)
 
     pub cut_short : (new : Cutter) (after : P) (why : SimulationFault) → IsCutShort source cutter new from after why → Cuts source cutter new from after →
-        Simulates source bench columns public first_source after first at (Err why)
+        Simulates source bench columns index first_source after first at (Err why)
     cut_short new after fault.Input short cuts = ends after (Err fault.Input) (search rules)
         (λ t.
         let going : cutter.ended ≡ true → cutter.pending ++ source.left from ≡ [] → ⊥ = λ ended none. short.going ended in

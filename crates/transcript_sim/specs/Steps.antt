@@ -1,5 +1,5 @@
 -- What the steps of a simulation do: reading a line, and telling what a reply comes to.
-use Rattle.std.specs.Prelude.{◌≡◌, ◌⊎◌, ◌<◌, ◌≤◌, ◌+◌, ℕ, true, List, [], ◌∷◌, ◌++◌, length, Option, Some, None, Result, Ok, Err, Bool, false}
+use Rattle.std.specs.Prelude.{◌≡◌, ◌⊎◌, ◌≤◌, ◌+◌, ℕ, true, List, [], ◌++◌, Option, Some, None, Result, Ok, Err, Bool, false}
 use Rattle.std.specs.Option.{option_to_list}
 use Rattle.audit_types.specs.History.{Setting, setting_of, FitsShape, known_of}
 use Rattle.audit_types.specs.Judgement.{IsWithinWidth}
@@ -10,14 +10,14 @@ use Rattle.bench_core.specs.Bench.{AppendsFront, Elapses, Sending}
 use Rattle.bench_core.specs.Causes.{Rose}
 use Rattle.schema_json.specs.Columns.{Column}
 use Rattle.schema_json.specs.SecretShape.{shape_of}
-use Rattle.table_load.specs.Cells.{PublicView}
-use Rattle.line_wire.specs.Lines.{CountedLine, text, long, counted_lines, most_input}
-use Rattle.line_wire.specs.Cutter.{Cutter, StopsAt}
-use Rattle.line_wire.specs.ReadLines.{ReadsLines}
-use Rattle.line_wire.specs.declared.lines.Next.{Next}
-use Rattle.line_wire.specs.declared.lines.Next.TheVariants as next
+use Rattle.set_index.specs.Indexed.{IndexView}
+use Rattle.line_wire.specs.Lines.{CountedLine}
+use Rattle.line_wire.specs.Cutter.{Cutter}
+use Rattle.line_wire.specs.Calls.{FailsRead, GivesLine, GivesNone, PassesLimit}
 use Rattle.line_wire.specs.declared.lines.LineStop.{LineStop}
 use Rattle.line_wire.specs.declared.lines.LineStop.TheVariants as stop
+use Rattle.question_plan.specs.declared.planner.PlanStop.{PlanStop}
+use Rattle.question_plan.specs.declared.planner.PlanStop.TheVariants as plan
 use Rattle.transcript_sim.specs.declared.due.Due.{Due}
 use Rattle.transcript_sim.specs.declared.expecting.Expected.{Expected}
 use Rattle.transcript_sim.specs.declared.expecting.Expected.TheVariants.{Only, Answer}
@@ -40,42 +40,7 @@ abbrev pub ComesTo : CountedLine → Expected → Shown → Type 0
 ComesTo line expected (Agrees added) = AgreesWith line expected added
 ComesTo line expected Disagrees = (added : Option Answered) → ¬ (AgreesWith line expected added)
 
--- ---- a call of the cutter
-
--- the cutter and its source after a call
-pub record Cuts {P : Type 0} (source : Ghosts P) (old new : Cutter) (before after : P) : Type 0 where
-  pub same : source.told → new.ended ≡ true → source.left after ≡ []
-  pub taken : source.told → new.taken + length (source.left after) ≡ old.taken + length (source.left before)
-  pub within : new.taken ≤ most_input + length new.pending
-  pub still : old.ended ≡ true → new.ended ≡ true
-  pub later : source.faults before ≤ source.faults after
-
--- it gave this line
-pub record GivesLine {P : Type 0} (source : Ghosts P) (old new : Cutter) (before after : P) (line : CountedLine) : Type 0 where
-  pub reads : source.told → ReadsLines (old.pending ++ source.left before) (new.pending ++ source.left after) new.ended (line ∷ [])
-  pub takes : old.taken + length new.pending < new.taken + length old.pending
-  pub steady : source.faults after ≡ source.faults before
-
--- no line is left
-pub record GivesNone {P : Type 0} (source : Ghosts P) (old new : Cutter) (before after : P) : Type 0 where
-  pub nothing : source.told → new.pending ++ source.left after ≡ []
-  pub none : source.told → counted_lines (old.pending ++ source.left before) ≡ []
-  pub steady : source.faults after ≡ source.faults before
-
--- a read failed
-pub record FailsRead {P : Type 0} (source : Ghosts P) (old new : Cutter) (before after : P) : Type 0 where
-  pub going : ¬ (old.ended ≡ true)
-  pub stops : source.told → StopsAt (old.pending ++ source.left before) (source.left after)
-  pub within : new.taken ≤ most_input
-  pub rose : Rose (source.faults before) (source.faults after)
-  pub last : source.last_failed after ≡ true
-
--- the limit was passed
-pub record PassesLimit {P : Type 0} (source : Ghosts P) (old new : Cutter) (before after : P) : Type 0 where
-  pub stops : source.told → StopsAt (old.pending ++ source.left before) (new.pending ++ source.left after)
-  pub over : new.taken ≡ most_input + length new.pending
-  pub some : 0 < length new.pending
-  pub steady : source.faults after ≡ source.faults before
+-- ---- a line that was read
 
 -- why no line was given: the cutter stopped, or there was no memory for what the line comes to
 abbrev pub IsCutShort : {P : Type 0} → Ghosts P → Cutter → Cutter → P → P → SimulationFault → Type 0
@@ -85,26 +50,20 @@ IsCutShort source old new before after fault.NoMemory = source.faults after ≡ 
 IsCutShort source old new before after fault.Bench = ⊥
 IsCutShort source old new before after (fault.Disagrees line due) = ⊥
 
--- what a call gave: a line, whose text the cutter shows, of at most 8,192 bytes, a long one, or none
-abbrev pub GivesNext : {P : Type 0} → Ghosts P → Cutter → Cutter → P → P → Next → Type 0
-GivesNext source old new before after next.Line = GivesLine source old new before after (text new.text) × (length new.text ≤ 8192)
-GivesNext source old new before after next.Long = GivesLine source old new before after long
-GivesNext source old new before after next.End = GivesNone source old new before after
-
 -- ---- the two lines of an exchange
 
 -- a question, and what it calls for
-pub record GivesQuestion {P : Type 0} (source : Ghosts P) (old new : Cutter) (before after : P) (columns : List Column) (public : PublicView)
+pub record GivesQuestion {P : Type 0} (source : Ghosts P) (old new : Cutter) (before after : P) (columns : List Column) (index : IndexView)
     (history : List Answered) (expected : Expected) : Type 0 where
   pub line : CountedLine
   pub gives : GivesLine source old new before after line
-  pub expects : Expects columns public history line expected
-  pub can : CanBeTaken (setting_of (shape_of columns public.rows)) history expected
+  pub expects : Expects columns index history line expected
+  pub can : CanBeTaken (setting_of (shape_of columns index.public.rows) index.protected) history expected
 
 -- a question, or no line
-abbrev pub AsksNext : {P : Type 0} → Ghosts P → Cutter → Cutter → P → P → List Column → PublicView → List Answered → Option Expected → Type 0
-AsksNext source old new before after columns public history None = GivesNone source old new before after
-AsksNext source old new before after columns public history (Some expected) = GivesQuestion source old new before after columns public history expected
+abbrev pub AsksNext : {P : Type 0} → Ghosts P → Cutter → Cutter → P → P → List Column → IndexView → List Answered → Option Expected → Type 0
+AsksNext source old new before after columns index history None = GivesNone source old new before after
+AsksNext source old new before after columns index history (Some expected) = GivesQuestion source old new before after columns index history expected
 
 -- a line that was shown, and what it comes to
 pub record GivesShown {P : Type 0} (source : Ghosts P) (old new : Cutter) (before after : P) (expected : Expected) (shown : Shown) : Type 0 where
@@ -165,21 +124,27 @@ SendsFor bench old new (Some expected) = SendsVerdict bench old new (due_of expe
 
 -- a question whose verdict couldn't be sent
 pub record GivesUnsent {P B : Type 0} (source : Ghosts P) (bench : BenchGhosts B) (old new : Cutter) (before after : P) (at now : B) (columns : List Column)
-    (public : PublicView) (history : List Answered) : Type 0 where
+    (index : IndexView) (history : List Answered) : Type 0 where
   pub expected : Expected
-  pub question : GivesQuestion source old new before after columns public history expected
+  pub question : GivesQuestion source old new before after columns index history expected
   pub fails : FailsSending bench at now (due_of expected)
 
 -- why no verdict was sent: no question was given and no call was made, or the call failed
-abbrev pub IsUnjudged : {P B : Type 0} → Ghosts P → BenchGhosts B → Cutter → Cutter → P → P → B → B → List Column → PublicView → List Answered →
+abbrev pub IsUnjudged : {P B : Type 0} → Ghosts P → BenchGhosts B → Cutter → Cutter → P → P → B → B → List Column → IndexView → List Answered →
     SimulationFault → Type 0
-IsUnjudged source bench old new before after at now columns public history why =
+IsUnjudged source bench old new before after at now columns index history why =
     (IsCutShort source old new before after why × (now ≡ at)) ⊎
-    ((why ≡ fault.Bench) × GivesUnsent source bench old new before after at now columns public history)
+    ((why ≡ fault.Bench) × GivesUnsent source bench old new before after at now columns index history)
 
 -- ---- the end of reading
 
--- the end that a refusal of the cutter makes
+-- the end that a stop of the cutter makes
 abbrev pub stop_fault : LineStop → SimulationFault
 stop_fault stop.Input = fault.Input
 stop_fault stop.Limit = fault.Limit
+
+-- and the end that one of the planner makes
+abbrev pub plan_fault : PlanStop → SimulationFault
+plan_fault plan.Input = fault.Input
+plan_fault plan.Limit = fault.Limit
+plan_fault plan.NoMemory = fault.NoMemory

@@ -1,10 +1,11 @@
 //! One exchange of a transcript: a question, whose verdict is sent, and the line that was shown to it.
 ghost use Rattle.std.specs.Prelude.{◌≡◌, ◌++◌, [], true, false, OnOk, OnErr, IfOk, IfErr};
-ghost use Rattle.audit_types.specs.History.{setting_of};
+ghost use Rattle.audit_types.specs.History.{AreProtected, setting_of};
 ghost use Rattle.audit_types.specs.Shapes.{IsShape};
 ghost use Rattle.schema_json.specs.SecretShape.{shape_of};
 ghost use Rattle.table_load.specs.Cells.{FitsSchema};
-ghost use Rattle.transcript_sim.specs.Steps.{AsksNext, CanBeTaken, CanFollow, Cuts, FailsSending, IsCutShort, IsUnjudged, SendsFor, SendsVerdict, ShowsNext, goes_on, records_shown};
+ghost use Rattle.line_wire.specs.Calls.{Cuts};
+ghost use Rattle.transcript_sim.specs.Steps.{AsksNext, CanBeTaken, CanFollow, FailsSending, IsCutShort, IsUnjudged, SendsFor, SendsVerdict, ShowsNext, goes_on, records_shown};
 
 use crate::due::{Due, verdict_line};
 use crate::expecting::Expected;
@@ -12,10 +13,9 @@ use crate::questions::next_shown;
 use crate::shown::Shown;
 use crate::simulating::SimulationFault;
 use audit_core::Core;
-use audit_types::{NoMemory, Shape};
+use audit_types::{NoMemory, Protected, Shape};
 use bench_core::{Bench, Failed, Source};
-use json::Scratch;
-use line_wire::Lines;
+use question_plan::Planner;
 use schema_json::Schema;
 use set_index::Index;
 use std::alloc::Global;
@@ -40,26 +40,29 @@ fn take_answer(core: &mut Core, shown: &Option<Shown>) -> Result<(), NoMemory>
     }
 }
 
-/// What is kept from line to line: the lines that are to come, the answers that were shown, and the memory that JSON is read with.
+/// What is kept from line to line: the lines that are to come, and the answers that were shown.
 #[derive(Drop)]
 pub(crate) struct Simulation {
-    pub(crate) lines: Lines,
+    pub(crate) lines: Planner,
     pub(crate) core: Core,
-    pub(crate) scratch: Scratch,
 }
 
 impl Simulation {
     /// Nothing was read, and no answer was shown.
-    pub(crate) fn new(alloc: Global, shape: Shape) -> Result<Simulation, NoMemory>
-        requires { IsShape shape }
+    pub(crate) fn new(
+        alloc: Global,
+        shape: Shape,
+        protected: &[Protected],
+    ) -> Result<Simulation, NoMemory>
+        requires valid { IsShape shape }
+        requires fit { AreProtected shape protected.now }
         ensures fresh { IfOk result (λ simulation. (simulation.lines.taken ≡ 0) × (simulation.lines.pending ≡ []) × (simulation.lines.ended ≡ false)) }
-        ensures setting { IfOk result (λ simulation. simulation.core.setting ≡ setting_of shape) }
+        ensures setting { IfOk result (λ simulation. simulation.core.setting ≡ setting_of shape protected.now) }
         ensures nothing { IfOk result (λ simulation. simulation.core.history ≡ []) }
     {
         Ok(Simulation {
-            lines: Lines::new(alloc)?,
-            core: Core::new(alloc, shape)?,
-            scratch: Scratch::new(alloc),
+            lines: Planner::new(alloc)?,
+            core: Core::new(alloc, shape, protected.to_vec(alloc)?)?,
         })
     }
 
@@ -73,8 +76,8 @@ impl Simulation {
         bench: &mut B,
     ) -> Result<Option<Expected>, SimulationFault>
         requires same { P.told → self.old.lines.ended ≡ true → P.left source.old ≡ [] }
-        requires fits { FitsSchema schema.now.columns index.now }
-        requires setting { self.old.core.setting ≡ setting_of (shape_of schema.now.columns index.now.rows) }
+        requires fits { FitsSchema schema.now.columns index.now.public }
+        requires setting { self.old.core.setting ≡ setting_of (shape_of schema.now.columns index.now.public.rows) index.now.protected }
         ensures asks { IfOk result (AsksNext P.Source self.old.lines self.new.lines source.old source.new schema.now.columns index.now self.old.core.history) }
         ensures sends { IfOk result (SendsFor B.Bench bench.old bench.new) }
         ensures unjudged { IfErr result (IsUnjudged P.Source B.Bench self.old.lines self.new.lines source.old source.new bench.old bench.new schema.now.columns index.now self.old.core.history) }

@@ -1,6 +1,6 @@
 //! Reading a transcript, and sending its verdicts.
 ghost use Rattle.std.specs.Prelude.{◌≡◌, ◌≢◌, ◌≤◌, ◌+◌, [], List, ℕ, false, length, OnOk, Err, true};
-ghost use Rattle.audit_types.specs.History.{setting_of};
+ghost use Rattle.audit_types.specs.History.{AreProtected, setting_of};
 ghost use Rattle.audit_types.specs.declared.records.Answered.{Answered};
 ghost use Rattle.bench_core.specs.Causes.{Rose};
 ghost use Rattle.bench_core.specs.Calls.{IsQuiet, LeavesOnly};
@@ -9,7 +9,7 @@ ghost use Rattle.table_load.specs.Cells.{FitsSchema};
 ghost use Rattle.line_wire.specs.Lines.{counted_lines};
 ghost use Rattle.question_plan.specs.Session.{Replied};
 ghost use Rattle.transcript_sim.specs.Verdicts.{exchanges};
-ghost use Rattle.transcript_sim.specs.Steps.{stop_fault};
+ghost use Rattle.transcript_sim.specs.Steps.{plan_fault, stop_fault};
 ghost use Rattle.transcript_sim.specs.Ends.{EndReads, EndSends, EndVerdicts, Simulates, SimulatesMeanwhile};
 ghost use Rattle.transcript_sim.specs.declared.simulating.SimulationFault.TheVariants as fault;
 
@@ -20,6 +20,7 @@ use audit_types::NoMemory;
 use bench_core::{Bench, Failed, Source};
 use line_wire::LineStop;
 use line_wire::laws::lines_in_turn;
+use question_plan::PlanStop;
 use schema_json::Schema;
 use set_index::Index;
 use std::alloc::Global;
@@ -50,6 +51,18 @@ impl From<LineStop> for SimulationFault {
     }
 }
 
+impl From<PlanStop> for SimulationFault {
+    ghost from_gives = { λ stop e. e ≡ plan_fault stop };
+
+    fn from(stop: PlanStop) -> SimulationFault {
+        match stop {
+            PlanStop::Input => SimulationFault::Input,
+            PlanStop::Limit => SimulationFault::Limit,
+            PlanStop::NoMemory => SimulationFault::NoMemory,
+        }
+    }
+}
+
 impl From<Failed> for SimulationFault {
     ghost from_gives = { λ _ e. e ≡ fault.Bench };
 
@@ -76,8 +89,8 @@ fn judge<P: Source, B: Bench>(
     bench: &mut B,
 ) -> Result<(), SimulationFault>
     requires fresh { (simulation.old.lines.taken ≡ 0) × (simulation.old.lines.pending ≡ []) × (simulation.old.lines.ended ≡ false) }
-    requires fits { FitsSchema schema.now.columns index.now }
-    requires setting { simulation.old.core.setting ≡ setting_of (shape_of schema.now.columns index.now.rows) }
+    requires fits { FitsSchema schema.now.columns index.now.public }
+    requires setting { simulation.old.core.setting ≡ setting_of (shape_of schema.now.columns index.now.public.rows) index.now.protected }
     requires nothing { simulation.old.core.history ≡ [] }
     ensures { Simulates P.Source B.Bench schema.now.columns index.now source.old source.new bench.old bench.new result }
 {
@@ -95,8 +108,8 @@ fn judge<P: Source, B: Bench>(
 }
 
 /// Sends the verdict on each question of a transcript, by one call before its reply is looked at, and takes an answer only from
-/// a reply that agrees. No verdict depends on its own reply. The index is that of the public columns of the schema; no secret is
-/// read, and nothing is written.
+/// a reply that agrees. No verdict depends on its own reply. The index is that of the schema's public columns and protected
+/// groups; no secret is read, and nothing is written.
 pub fn simulate<P: Source, B: Bench>(
     alloc: Global,
     schema: &Schema,
@@ -104,7 +117,8 @@ pub fn simulate<P: Source, B: Bench>(
     source: &mut P,
     bench: &mut B,
 ) -> Result<(), SimulationFault>
-    requires { FitsSchema schema.now.columns index.now }
+    requires fits { FitsSchema schema.now.columns index.now.public }
+    requires protected { AreProtected (shape_of schema.now.columns index.now.public.rows) index.now.protected }
 
     // Which verdicts there are, whether or not the bench tells what was sent, and that their lines were, by one call for each
     // question and no other.
@@ -128,6 +142,6 @@ pub fn simulate<P: Source, B: Bench>(
 {
     // A public part says of itself that it has 1 to 1,024 rows.
     let rows = index.public().rows();
-    let mut simulation = Simulation::new(alloc, schema.shape(rows))?;
+    let mut simulation = Simulation::new(alloc, schema.shape(rows), index.protected())?;
     judge(alloc, &mut simulation, schema, index, source, bench)
 }

@@ -1,9 +1,10 @@
 -- The highest list, row by row, and with one row lowered.
-use Rattle.std.proofs.Common.{◌≡◌, ℕ, ◌+◌, ◌<◌, ℤ, List, [], ◌∷◌, ◌++◌, refl, sym, ap, arith, subst, inl, inr}
-use Rattle.std.specs.List.{All}
+use Rattle.std.proofs.Common.{◌≡◌, ℕ, ◌+◌, ◌<◌, ℤ, List, [], ◌∷◌, ◌++◌, refl, sym, arith, subst, inl, inr}
+use Rattle.std.specs.List.{All, AllByRecursion}
 use Rattle.std.proofs.lemmas.List.Elements.{All-push}
 use Rattle.std.proofs.lemmas.List.FromFn.{map-range_with_len_more}
 use Rattle.audit_types.specs.declared.shapes.Kind.TheVariants.{Max}
+use Rattle.audit_types.specs.Truth.{truth}
 use Rattle.audit_types.specs.Column.{Answer, Known, Agrees, IsWellFormed, known_max}
 use Rattle.audit_types.specs.Extremes.{upper_bound, IsConsistent, IsLone}
 use Rattle.max_audit.specs.Laws.{HighestAgrees, LoneOrLowered}
@@ -31,20 +32,22 @@ highest_step answers k list after number h pushed is near = record {
   near = rw pushed (All-push IsNearRange list number h.near near);
 }
 
--- what is known of a column of maxima
-is_max : (known : Known) → known.kind ≡ Max → known_max known.n known.answers ≡ known
-is_max known e = ap (λ kind. record { kind = kind; n = known.n; answers = known.answers }) (sym e)
+-- what agrees with the answers of a column of maxima agrees with all that is known of it
+agrees_with : (known : Known) (w : List ℤ) → known.kind ≡ Max → Agrees (known_max known.n known.answers) w → Agrees known w
+agrees_with known w kind agrees = record {
+  one_each = agrees.one_each;
+  same = subst (λ k. AllByRecursion (λ a. truth k w a.rows ≡ a.value) known.answers) (sym kind) agrees.same;
+}
 
 -- where no row is lone, both lists agree, by the laws of maxima
 pub both_agree : HighestAgrees → LoneOrLowered → (known : Known) (row : ℕ) → known.kind ≡ Max → IsWellFormed known → IsConsistent known.answers →
     ((r : ℕ) → ¬ (IsLone known.answers r)) →
     row < known.n → Agrees known (lowered_at (highest known.n known.answers) row) × Agrees known (highest known.n known.answers)
 both_agree highest_law lowered_law known row kind well consistent free below =
-    let is = is_max known kind in
-    let same_well = subst IsWellFormed (sym is) well in (
+    let same_well : IsWellFormed (known_max known.n known.answers) = record { are_rows = well.are_rows; some = well.some } in (
       elim (lowered_law known.n known.answers row same_well consistent below) [
         | inl lone ↦ absurd (free row lone)
-        | inr agrees ↦ subst (λ k. Agrees k (lowered_at (highest known.n known.answers) row)) is agrees
+        | inr agrees ↦ agrees_with known (lowered_at (highest known.n known.answers) row) kind agrees
       ],
-      subst (λ k. Agrees k (highest known.n known.answers)) is (highest_law known.n known.answers same_well consistent),
+      agrees_with known (highest known.n known.answers) kind (highest_law known.n known.answers same_well consistent),
     )

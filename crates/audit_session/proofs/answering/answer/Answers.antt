@@ -37,20 +37,22 @@ returns-in_err-send_all g c =
           subst (λ (rs : List Reply). LeavesOnly g.B.Bench mid c.send_all.new.bench
           (SendsPart (g.B.Bench.file mid) (g.B.Bench.sent mid) (flat_map reply_bytes rs))) c.deref.ensures.value (c.send_all.ensures.moments t
           (e.stands.quiet t quiet)) in
-          then_sent g.B.Bench c.args.bench.now mid store.secret store.history c.args.group.now.plans.items c.decide.new.store.history
+          then_sent g.B.Bench c.args.bench.now mid store.secret store.protected store.history c.args.group.now.plans.items c.decide.new.store.history
           c.decide.new.group.replies.items e.decides e.sent c.send_all.new.bench
-          (left_stands (g.B.Bench.file mid) store c.decide.new.store (e.stands.as_left t) e.secret) (e.moments t quiet) sends;
+          (left_stands (g.B.Bench.file mid) store c.decide.new.store (e.stands.as_left t) e.table.0) (e.moments t quiet) sends;
       left = λ t usable. subst (λ (file : List ℕ). IsAsLeft file c.decide.new.store) (sym c.send_all.ensures.file) (c.in_ok-decide.ensures.stands.as_left t);
       no_memory = λ is. bench_no_memory c.from_residual-in_err-send_all.result same is;
       room = c.decide.ensures.room;
-      secret = c.decide.ensures.secret;
+      table = c.decide.ensures.table;
       is = c.decide.ensures.is;
-      failed = λ is.
-          subst (λ (n : ℕ). Rose n (g.B.Bench.faults c.send_all.new.bench))
-          (c.in_ok-decide.ensures.steady (λ is. no_refusal _ _ is)) c.in_err-send_all.ensures.cause.failed;
-      last_call = λ is. c.in_err-send_all.ensures.last_call;
-      steady = λ other. absurd (other same);
-      later = still_later _ _ _ (c.in_ok-decide.ensures.steady (λ is. no_refusal _ _ is)) c.send_all.ensures.cause.later;
+      fault = record {
+        later = still_later _ _ _ (c.in_ok-decide.ensures.fault.steady (λ is. no_refusal _ _ is)) c.send_all.ensures.cause.later;
+        failed = λ is.
+            subst (λ (n : ℕ). Rose n (g.B.Bench.faults c.send_all.new.bench))
+            (c.in_ok-decide.ensures.fault.steady (λ is. no_refusal _ _ is)) c.in_err-send_all.ensures.cause.failed;
+        last_call = λ is. c.in_err-send_all.ensures.last_call;
+        steady = λ other. absurd (other same);
+      };
       others = search rules;
     }
 
@@ -65,12 +67,14 @@ returns-in_err-decide g c =
       left = λ t usable. absurd (false≢true (sym c.in_err-decide.ensures.err.1 ∙ usable));
       no_memory = λ is. (c.in_err-decide.ensures.no_memory (by_memory given c.from_residual.result same is), c.in_err-decide.ensures.err.0);
       room = c.decide.ensures.room;
-      secret = c.decide.ensures.secret;
+      table = c.decide.ensures.table;
       is = c.decide.ensures.is;
-      failed = λ is. c.in_err-decide.ensures.failed (by_bench given c.from_residual.result same is);
-      last_call = λ is. c.in_err-decide.ensures.last_call (by_bench given c.from_residual.result same is);
-      steady = λ other. c.in_err-decide.ensures.steady (no_call given c.from_residual.result same other);
-      later = c.decide.ensures.later;
+      fault = record {
+        later = c.decide.ensures.fault.later;
+        failed = λ is. c.in_err-decide.ensures.fault.failed (by_bench given c.from_residual.result same is);
+        last_call = λ is. c.in_err-decide.ensures.fault.last_call (by_bench given c.from_residual.result same is);
+        steady = λ other. c.in_err-decide.ensures.fault.steady (no_call given c.from_residual.result same other);
+      };
       others = search rules;
     }
 
@@ -83,7 +87,7 @@ returns g c =
       answers =
           let sent = c.in_ok-send_all.ensures in
           let told = c.deref.ensures.value in
-          group_answered g.B.Bench c.args.bench.now mid store.secret store.history c.args.group.now.plans.items c.decide.new.store.history
+          group_answered g.B.Bench c.args.bench.now mid store.secret store.protected store.history c.args.group.now.plans.items c.decide.new.store.history
           c.decide.new.group.replies.items e.decides e.sent c.send_all.new.bench
           (λ t. subst (λ (rs : List Reply). g.B.Bench.sent c.send_all.new.bench ≡ g.B.Bench.sent mid ++ flat_map reply_bytes rs) told (sent.all t))
           (λ t. subst (λ (rs : List Reply). g.B.Bench.moment c.send_all.new.bench ≡ g.B.Bench.moment mid + length rs) told (sent.ticks t));
@@ -97,17 +101,19 @@ returns g c =
           subst (λ (rs : List Reply). LeavesOnly g.B.Bench mid c.send_all.new.bench
           (SendsPart (g.B.Bench.file mid) (g.B.Bench.sent mid) (flat_map reply_bytes rs))) c.deref.ensures.value (c.send_all.ensures.moments t
           (e.stands.quiet t quiet)) in
-          then_sent g.B.Bench c.args.bench.now mid store.secret store.history c.args.group.now.plans.items c.decide.new.store.history
+          then_sent g.B.Bench c.args.bench.now mid store.secret store.protected store.history c.args.group.now.plans.items c.decide.new.store.history
           c.decide.new.group.replies.items e.decides e.sent c.send_all.new.bench
-          (left_stands (g.B.Bench.file mid) store c.decide.new.store (e.stands.as_left t) e.secret) (e.moments t quiet) sends;
+          (left_stands (g.B.Bench.file mid) store c.decide.new.store (e.stands.as_left t) e.table.0) (e.moments t quiet) sends;
       left = λ t usable. subst (λ (file : List ℕ). IsAsLeft file c.decide.new.store) (sym c.send_all.ensures.file) (c.in_ok-decide.ensures.stands.as_left t);
       no_memory = λ is. no_refusal _ _ is;
       room = c.decide.ensures.room;
-      secret = c.decide.ensures.secret;
+      table = c.decide.ensures.table;
       is = c.decide.ensures.is;
-      failed = λ is. no_refusal _ _ is;
-      last_call = λ is. no_refusal _ _ is;
-      steady = λ other. c.in_ok-send_all.ensures.cause.steady ∙ c.in_ok-decide.ensures.steady (λ is. no_refusal _ _ is);
-      later = still_later _ _ _ (c.in_ok-decide.ensures.steady (λ is. no_refusal _ _ is)) c.in_ok-send_all.ensures.cause.later;
+      fault = record {
+        later = still_later _ _ _ (c.in_ok-decide.ensures.fault.steady (λ is. no_refusal _ _ is)) c.in_ok-send_all.ensures.cause.later;
+        failed = λ is. no_refusal _ _ is;
+        last_call = λ is. no_refusal _ _ is;
+        steady = λ other. c.in_ok-send_all.ensures.cause.steady ∙ c.in_ok-decide.ensures.fault.steady (λ is. no_refusal _ _ is);
+      };
       others = (λ is. no_refusal _ _ is, λ is. no_refusal _ _ is);
     }

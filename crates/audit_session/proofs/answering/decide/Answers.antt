@@ -5,8 +5,7 @@ use Rattle.audit_types.specs.declared.records.Asked.{Asked}
 use Rattle.audit_types.specs.History.{FitsShape}
 use Rattle.audit_core.specs.declared.outcome.Outcome.{Outcome}
 use Rattle.audit_core.specs.Outcomes.{AreOutcomes, records_made}
-use Rattle.table_load.specs.Database.{secret_table}
-use Rattle.audit_store.specs.Stores.{Keeps, calls_for}
+use Rattle.audit_store.specs.Stores.{Keeps, calls_for, table_of}
 use Rattle.question_plan.specs.declared.planning.Plan.{Plan}
 use Rattle.audit_session.specs.Groups.{AreTold, CanAllBeTold, questions_of}
 use Rattle.audit_session.proofs.ToldPlans.{can_all, few_questions, questions_fit}
@@ -40,9 +39,9 @@ tell_all-requires-clause-can g c =
     let asked : c.deref.result.now ≡ questions_of plans = c.deref.ensures.value ∙ c.requires.questions in
     let due =
     subst (λ (l : List Asked). AreOutcomes
-    (secret_table store.secret) store.history l c.in_ok-outcomes.outcomes.items) asked c.in_ok-outcomes.ensures.outcomes in
+    (table_of store) store.history l c.in_ok-outcomes.outcomes.items) asked c.in_ok-outcomes.ensures.outcomes in
     let can : CanAllBeTold plans c.in_ok-outcomes.outcomes.items =
-    can_all c.told_outcomes.ensures.can store.secret c.requires.is.numbers store.history plans c.in_ok-outcomes.outcomes.items c.requires.served due in
+    can_all c.told_outcomes.ensures.can store.secret store.protected c.requires.is.numbers store.history plans c.in_ok-outcomes.outcomes.items c.requires.served due in
     subst (λ (os : List Outcome). CanAllBeTold c.deref-2.result.now os) (sym c.deref-3.ensures.value)
     (subst (λ (ps : List Plan). CanAllBeTold ps c.in_ok-outcomes.outcomes.items) (sym c.deref-2.ensures.value) can)
 
@@ -62,21 +61,23 @@ returns-in_err-outcomes g c =
           let asked : c.deref.result.now ≡ questions_of plans = c.deref.ensures.value ∙ c.requires.questions in
           let e = c.in_err-outcomes.ensures in
           by_fault c.in_err-outcomes.field-0.0
-          (λ memory. nothing_called g.B.Bench c.args.bench.now c.ask_all.new.bench store.secret store.history plans (e.no_memory memory)
+          (λ memory. nothing_called g.B.Bench c.args.bench.now c.ask_all.new.bench store.secret store.protected store.history plans (e.no_memory memory)
           (λ image bytes was. g.met.B.Bench.only_now c.args.bench.now image bytes was) quiet (store.journal.gate, c.requires.stands told))
-          (λ other. while_kept g.B.Bench c.args.bench.now c.ask_all.new.bench store.secret store.history plans c.told_outcomes.ensures.can
+          (λ other. while_kept g.B.Bench c.args.bench.now c.ask_all.new.bench store.secret store.protected store.history plans c.told_outcomes.ensures.can
           c.told_outcomes.ensures.some c.requires.is.numbers c.requires.served (g.B.Bench.sent c.args.bench.now)
-          (subst (λ (l : List Asked). Keeps g.B.Bench c.args.bench.now c.ask_all.new.bench store.secret store.history l (g.B.Bench.sent c.args.bench.now)) asked
+          (subst (λ (l : List Asked). Keeps g.B.Bench c.args.bench.now c.ask_all.new.bench (table_of store) store.history l (g.B.Bench.sent c.args.bench.now)) asked
           (e.any_moment told quiet other)));
       sent = c.ask_all.ensures.sent;
       room = search rules;
       plans = search rules;
-      secret = c.ask_all.ensures.secret;
+      table = (c.ask_all.ensures.secret, c.ask_all.ensures.protected);
       is = c.ask_all.ensures.is;
-      failed = λ is. c.in_err-outcomes.ensures.failed (same_fault given fault.Failed (sym same ∙ is));
-      last_call = λ is. c.in_err-outcomes.ensures.last_call (same_fault given fault.Failed (sym same ∙ is));
-      steady = λ other. c.in_err-outcomes.ensures.steady (λ is. other (same ∙ same_fault given fault.Failed is));
-      later = c.ask_all.ensures.later;
+      fault = record {
+        later = c.ask_all.ensures.fault.later;
+        failed = λ is. c.in_err-outcomes.ensures.fault.failed (same_fault given fault.Failed (sym same ∙ is));
+        last_call = λ is. c.in_err-outcomes.ensures.fault.last_call (same_fault given fault.Failed (sym same ∙ is));
+        steady = λ other. c.in_err-outcomes.ensures.fault.steady (λ is. other (same ∙ same_fault given fault.Failed is));
+      };
     }
 
 pub returns : goal.returns
@@ -88,11 +89,11 @@ returns g c =
       decides =
           let outcomes = c.in_ok-outcomes.outcomes.items in
           let e = c.in_ok-outcomes.ensures in
-          let due = subst (λ (l : List Asked). AreOutcomes (secret_table store.secret) store.history l outcomes) asked e.outcomes in
+          let due = subst (λ (l : List Asked). AreOutcomes (table_of store) store.history l outcomes) asked e.outcomes in
           let told =
           subst (λ (os : List Outcome). AreTold plans os c.tell_all.new.replies.items) c.deref-3.ensures.value
           (subst (λ (ps : List Plan). AreTold ps c.deref-3.result.now c.tell_all.new.replies.items) c.deref-2.ensures.value c.tell_all.ensures.told) in
-          told_group g.B.Bench c.args.bench.now c.ask_all.new.bench store.secret store.history plans c.ask_all.new.self.history outcomes
+          told_group g.B.Bench c.args.bench.now c.ask_all.new.bench store.secret store.protected store.history plans c.ask_all.new.self.history outcomes
           c.tell_all.new.replies.items due told
           (e.history ∙ ap (λ (l : List Asked). store.history ++ records_made l outcomes) asked)
           (λ t. e.ticks t ∙ ap (λ (l : List Asked). g.B.Bench.moment c.args.bench.now + calls_for (records_made l outcomes)) asked);
@@ -101,18 +102,20 @@ returns g c =
       err = search rules;
       no_memory = λ is. no_refusal _ _ is;
       moments = λ told quiet.
-          while_kept g.B.Bench c.args.bench.now c.ask_all.new.bench store.secret store.history plans c.told_outcomes.ensures.can c.told_outcomes.ensures.some
+          while_kept g.B.Bench c.args.bench.now c.ask_all.new.bench store.secret store.protected store.history plans c.told_outcomes.ensures.can c.told_outcomes.ensures.some
           c.requires.is.numbers c.requires.served
           (g.B.Bench.sent c.args.bench.now)
-          (subst (λ (l : List Asked). Keeps g.B.Bench c.args.bench.now c.ask_all.new.bench store.secret store.history l (g.B.Bench.sent c.args.bench.now)) asked
+          (subst (λ (l : List Asked). Keeps g.B.Bench c.args.bench.now c.ask_all.new.bench (table_of store) store.history l (g.B.Bench.sent c.args.bench.now)) asked
           (c.in_ok-outcomes.ensures.any_moment told quiet (search rules)));
       sent = c.ask_all.ensures.sent;
       room = c.tell_all.ensures.room;
       plans = search rules;
-      secret = c.ask_all.ensures.secret;
+      table = (c.ask_all.ensures.secret, c.ask_all.ensures.protected);
       is = c.ask_all.ensures.is;
-      failed = λ is. no_refusal _ _ is;
-      last_call = λ is. no_refusal _ _ is;
-      steady = λ other. c.in_ok-outcomes.ensures.steady (λ is. no_refusal _ _ is);
-      later = c.ask_all.ensures.later;
+      fault = record {
+        later = c.ask_all.ensures.fault.later;
+        failed = λ is. no_refusal _ _ is;
+        last_call = λ is. no_refusal _ _ is;
+        steady = λ other. c.in_ok-outcomes.ensures.fault.steady (λ is. no_refusal _ _ is);
+      };
     }

@@ -6,9 +6,9 @@ use Rattle.audit_session.proofs.serving.answer_groups.Given as goal
 
 abbrev pub invariant-loop-more : goal.invariant-loop-more
 invariant-loop-more g l = record {
-  served : Served g.P.Source g.B.Bench l.schema.columns l.index l.batch l.lines l.fn.store l.store l.fn.source l.source l.fn.bench l.bench;
+  served : Served g.P.Source g.B.Bench l.schema.columns l.index.public l.batch l.planner l.fn.store l.store l.fn.source l.source l.fn.bench l.bench;
   room : vec_capacity l.group.replies ≡ l.batch;
 }
 
 abbrev pub decreases-loop-more : goal.decreases-loop-more
-decreases-loop-more g l = most_input + length l.lines.pending - l.lines.taken
+decreases-loop-more g l = most_input + length l.planner.pending - l.planner.taken

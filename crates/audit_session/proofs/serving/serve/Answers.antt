@@ -1,27 +1,33 @@
-use Rattle.std.proofs.Common.{rules, ◌≡◌, [], Result, Err, refl, subst, arith}
+use Rattle.std.proofs.Common.{◌≡◌, [], List, Result, Err, refl, sym, subst, arith}
 use Rattle.std.proofs.lemmas.Result.{IfOk-from_err}
+use Rattle.audit_types.specs.declared.records.Protected.{Protected}
+use Rattle.std.specs.Prelude.{OnOk}
+use Rattle.bench_core.specs.Calls.{LeavesOnly}
 use Rattle.bench_core.specs.Moments.{weakens}
 use Rattle.line_wire.specs.Lines.{counted_lines}
 use Rattle.table_load.specs.Database.{base_of}
 use Rattle.audit_session.specs.declared.serving.EndFault.{EndFault}
 use Rattle.audit_session.specs.declared.serving.EndFault.TheVariants as end
-use Rattle.audit_session.specs.Ends.{Ends, Reads}
+use Rattle.audit_session.specs.Ends.{Ends, Reads, TakesCalls}
+use Rattle.audit_session.specs.Stops.{StopsOver}
 use Rattle.audit_session.proofs.EndsByFault.{all_by, read_by, within_by}
-use Rattle.audit_session.proofs.FirstStop.{stops_first}
+use Rattle.audit_session.proofs.FirstStop.{serves_none, stops_first}
 use Rattle.audit_session.proofs.Refusals.{memory_no_bench, memory_no_input, memory_no_limit, refusal}
 use Rattle.audit_session.proofs.serving.serve.Goals as goal
 
 abbrev refused : EndFault → Result (Unit {0}) EndFault
 refused fault = Err fault
 
-pub returns-in_err-lines : goal.returns-in_err-lines
-returns-in_err-lines g c =
+pub returns-in_err-planner : goal.returns-in_err-planner
+returns-in_err-planner g c =
     let same : c.from_residual.result ≡ refused end.NoMemory = refusal c.from_residual.result _ c.from_residual.ensures in
     record {
       done = λ t u. IfOk-from_err _ _ c.from_residual.ensures.0;
       input_end = λ t u is. absurd (memory_no_input _ same is);
       limit_end = λ t u is. absurd (memory_no_limit _ same is);
-      memory_end = search rules;
+      memory_end = λ t u is.
+          serves_none (base_of c.args.schema.now.columns c.args.index.now.public c.args.index.now.protected c.args.store.now.secret) c.args.batch
+          c.args.store.now.history (counted_lines (g.P.Source.left c.args.source.now)) (g.B.Bench.sent c.args.bench.now);
       stands = λ u no. (c.args.store.now.journal.gate, c.requires.stands u);
       quiet = λ u quiet no. quiet;
       again = IfOk-from_err _ _ c.from_residual.ensures.0;
@@ -30,78 +36,92 @@ returns-in_err-lines g c =
       calls = λ t u. IfOk-from_err _ _ c.from_residual.ensures.0;
       any_moment = λ t u quiet.
           stops_first g.B.Bench c.args.bench.now
-          (base_of c.args.schema.now.columns c.args.index.now c.args.store.now.secret) c.args.batch c.args.store.now.history
+          (base_of c.args.schema.now.columns c.args.index.now.public c.args.index.now.protected c.args.store.now.secret) c.args.batch c.args.store.now.history
           (counted_lines (g.P.Source.left c.args.source.now))
           (λ image bytes was. g.met.B.Bench.only_now c.args.bench.now image bytes was) quiet (c.args.store.now.journal.gate, c.requires.stands u);
       legal = λ u quiet.
-          let base = base_of c.args.schema.now.columns c.args.index.now c.args.store.now.secret in
+          let base = base_of c.args.schema.now.columns c.args.index.now.public c.args.store.now.protected c.args.store.now.secret in
           weakens g.B.Bench c.args.bench.now c.args.bench.now _ _
           (λ image sent stop history stands.
           c.stops.ensures base c.args.batch c.args.store.now.history [] image stop.0 history
-          (record { schema = c.count-columns.ensures.columns; shape = c.requires.shape }) c.history-history.ensures.is.numbers
+          (record { schema = c.count-columns.ensures.columns; shape = c.requires.shape; protected = c.history-history.ensures.is.fit }) c.history-history.ensures.is.numbers
           c.history-history.ensures.is.legal stop.2 stands)
           (stops_first g.B.Bench c.args.bench.now base c.args.batch c.args.store.now.history []
           (λ image bytes was. g.met.B.Bench.only_now c.args.bench.now image bytes was) quiet (c.args.store.now.journal.gate, c.requires.stands u));
-      secret = refl;
+      table = (refl, refl);
       is = c.history-history.ensures.is;
       read = λ t. IfOk-from_err _ _ c.from_residual.ensures.0;
       within = λ t. IfOk-from_err _ _ c.from_residual.ensures.0;
       input_within = λ t is. absurd (memory_no_input _ same is);
       limit = λ t is. absurd (memory_no_limit _ same is);
-      later = (omega arith, omega arith);
+      later = omega arith;
       input = λ is. absurd (memory_no_input _ same is);
-      bench = λ is. absurd (memory_no_bench _ same is);
-      last_call = (λ is. absurd (memory_no_input _ same is), λ is. absurd (memory_no_bench _ same is));
-      steady = (λ other. refl, λ other. refl);
+      last_read = λ is. absurd (memory_no_input _ same is);
+      steady = λ other. refl;
+      fault = record {
+        later = omega arith;
+        failed = λ is. absurd (memory_no_bench _ same is);
+        last_call = λ is. absurd (memory_no_bench _ same is);
+        steady = λ other. refl;
+      };
     }
 
 pub returns : goal.returns
-returns g c = record {
-  done = λ t u. all_by _ c.args.batch _ _ _ (g.P.Source.left c.answer_groups.new.source) _ _ _ (c.answer_groups.ensures.ends t u);
-  input_end = λ t u is.
-      subst (λ (r : Result (Unit {0}) EndFault). Ends c.args.batch r
-      (base_of c.args.schema.now.columns c.args.index.now c.args.store.now.secret) c.args.store.now.history (g.P.Source.left c.args.source.now)
-      (g.P.Source.left c.answer_groups.new.source) c.answer_groups.new.store.history (g.B.Bench.sent c.args.bench.now)
-      (g.B.Bench.sent c.answer_groups.new.bench)) is (c.answer_groups.ensures.ends t u);
-  limit_end = λ t u is.
-      subst (λ (r : Result (Unit {0}) EndFault). Ends c.args.batch r
-      (base_of c.args.schema.now.columns c.args.index.now c.args.store.now.secret) c.args.store.now.history (g.P.Source.left c.args.source.now)
-      (g.P.Source.left c.answer_groups.new.source) c.answer_groups.new.store.history (g.B.Bench.sent c.args.bench.now)
-      (g.B.Bench.sent c.answer_groups.new.bench)) is (c.answer_groups.ensures.ends t u);
-  memory_end = λ t u is.
-      subst (λ (r : Result (Unit {0}) EndFault). Ends c.args.batch r
-      (base_of c.args.schema.now.columns c.args.index.now c.args.store.now.secret) c.args.store.now.history (g.P.Source.left c.args.source.now)
-      (g.P.Source.left c.answer_groups.new.source) c.answer_groups.new.store.history (g.B.Bench.sent c.args.bench.now)
-      (g.B.Bench.sent c.answer_groups.new.bench)) is (c.answer_groups.ensures.ends t u);
-  stands = λ u no. (c.answer_groups.ensures.rests no).stands u;
-  quiet = λ u quiet no. (c.answer_groups.ensures.rests no).quiet u quiet;
-  again = c.answer_groups.ensures.again;
-  usable = c.answer_groups.ensures.usable;
-  left = c.answer_groups.ensures.left;
-  calls = c.answer_groups.ensures.calls;
-  any_moment = λ t u quiet.
-      weakens g.B.Bench c.args.bench.now c.answer_groups.new.bench _ _ (λ image sent stop. stop.1 t) (c.answer_groups.ensures.moments u quiet);
-  legal = λ u quiet.
-      let base = base_of c.args.schema.now.columns c.args.index.now c.args.store.now.secret in
-      weakens g.B.Bench c.args.bench.now c.answer_groups.new.bench _ _
-      (λ image sent stop history stands.
-      c.stops.ensures base c.args.batch c.args.store.now.history stop.0.0 image stop.0.1.0 history
-      (record { schema = c.count-columns.ensures.columns; shape = c.requires.shape }) c.history-history.ensures.is.numbers c.history-history.ensures.is.legal
-      stop.0.1.2 stands)
-      (c.answer_groups.ensures.moments u quiet);
-  secret = c.answer_groups.ensures.kept.0;
-  is = c.answer_groups.ensures.kept.1;
-  read = λ t. read_by _ (g.P.Source.left c.args.source.now) _ (c.answer_groups.ensures.reads t);
-  within = λ t. within_by _ _ (g.P.Source.left c.answer_groups.new.source) (c.answer_groups.ensures.reads t);
-  input_within = λ t is.
-      subst (λ (r : Result (Unit {0}) EndFault). Reads r (g.P.Source.left c.args.source.now) (g.P.Source.left c.answer_groups.new.source)) is
-      (c.answer_groups.ensures.reads t);
-  limit = λ t is.
-      subst (λ (r : Result (Unit {0}) EndFault). Reads r (g.P.Source.left c.args.source.now) (g.P.Source.left c.answer_groups.new.source)) is
-      (c.answer_groups.ensures.reads t);
-  later = c.answer_groups.ensures.later;
-  input = c.answer_groups.ensures.input;
-  bench = c.answer_groups.ensures.bench;
-  last_call = c.answer_groups.ensures.last_call;
-  steady = c.answer_groups.ensures.steady;
-}
+returns g c =
+    let columns = c.args.schema.now.columns in
+    let public = c.args.index.now.public in
+    let store = c.args.store.now in
+    let batch = c.args.batch in
+    let input = g.P.Source.left c.args.source.now in
+    let left = g.P.Source.left c.answer_groups.new.source in
+    let now = c.answer_groups.new.store.history in
+    let before = g.B.Bench.sent c.args.bench.now in
+    let after = g.B.Bench.sent c.answer_groups.new.bench in
+    let same : store.protected ≡ c.args.index.now.protected = sym c.requires.entries in
+    let ends : g.P.Source.told → g.B.Bench.told →
+    Ends batch c.answer_groups.result (base_of columns public c.args.index.now.protected store.secret) store.history input left now before after =
+    λ t u. subst (λ (p : List Protected). Ends batch c.answer_groups.result (base_of columns public p store.secret) store.history input left now before after)
+    same (c.answer_groups.ensures.ends t u) in
+    let ends_as : (r : Result (Unit {0}) EndFault) → c.answer_groups.result ≡ r → g.P.Source.told → g.B.Bench.told →
+    Ends batch r (base_of columns public c.args.index.now.protected store.secret) store.history input left now before after =
+    λ r is t u. subst
+    (λ (r : Result (Unit {0}) EndFault). Ends batch r (base_of columns public c.args.index.now.protected store.secret) store.history input left now before after)
+    is (ends t u) in
+    record {
+      done = λ t u. all_by _ batch _ _ _ left _ _ _ (ends t u);
+      input_end = λ t u is. ends_as (refused end.Input) is t u;
+      limit_end = λ t u is. ends_as (refused end.Limit) is t u;
+      memory_end = λ t u is. ends_as (refused end.NoMemory) is t u;
+      stands = λ u no. (c.answer_groups.ensures.rests no).stands u;
+      quiet = λ u quiet no. (c.answer_groups.ensures.rests no).quiet u quiet;
+      again = c.answer_groups.ensures.again;
+      usable = c.answer_groups.ensures.usable;
+      left = c.answer_groups.ensures.left;
+      calls = λ t u.
+          subst (λ (p : List Protected). OnOk c.answer_groups.result (TakesCalls (base_of columns public p store.secret) store.history batch (counted_lines input)
+          (g.B.Bench.moment c.args.bench.now) (g.B.Bench.moment c.answer_groups.new.bench))) same (c.answer_groups.ensures.calls t u);
+      any_moment = λ t u quiet.
+          subst (λ (p : List Protected). LeavesOnly g.B.Bench c.args.bench.now c.answer_groups.new.bench
+          (StopsOver (base_of columns public p store.secret) batch store.history (counted_lines input) before)) same
+          (weakens g.B.Bench c.args.bench.now c.answer_groups.new.bench _ _ (λ image sent stop. stop.1 t) (c.answer_groups.ensures.moments u quiet));
+      legal = λ u quiet.
+          let base = base_of columns public store.protected store.secret in
+          let of_store = c.history-history.ensures.is in
+          weakens g.B.Bench c.args.bench.now c.answer_groups.new.bench _ _
+          (λ image sent stop history stands.
+          c.stops.ensures base batch store.history stop.0.0 image stop.0.1.0 history
+          (record { schema = c.count-columns.ensures.columns; shape = c.requires.shape; protected = of_store.fit }) of_store.numbers of_store.legal stop.0.1.2
+          stands)
+          (c.answer_groups.ensures.moments u quiet);
+      table = c.answer_groups.ensures.table;
+      is = c.answer_groups.ensures.is;
+      read = λ t. read_by _ input _ (c.answer_groups.ensures.reads t);
+      within = λ t. within_by _ _ left (c.answer_groups.ensures.reads t);
+      input_within = λ t is. subst (λ (r : Result (Unit {0}) EndFault). Reads r input left) is (c.answer_groups.ensures.reads t);
+      limit = λ t is. subst (λ (r : Result (Unit {0}) EndFault). Reads r input left) is (c.answer_groups.ensures.reads t);
+      later = c.answer_groups.ensures.later;
+      input = c.answer_groups.ensures.input;
+      last_read = c.answer_groups.ensures.last_read;
+      steady = c.answer_groups.ensures.steady;
+      fault = c.answer_groups.ensures.fault;
+    }

@@ -11,7 +11,7 @@ use Rattle.audit_store.proofs.asking.decide.Goals as goal
 
 pub returns-in_ok-take-in-Answer-clause-legal : goal.returns-in_ok-take-in-Answer-clause-legal
 returns-in_ok-take-in-Answer-clause-legal c =
-    let table = secret_table c.args.secret.now in
+    let table = secret_table c.args.secret.now c.args.core.now.setting.protected in
     let history = c.args.core.now.history in
     let asked = c.args.asked.now in
     let in_range : FitsSigned w64 c.in-Answer.answer = search rules in
@@ -27,7 +27,7 @@ returns-in_ok-take-in-Answer-clause-legal c =
 
 pub returns-in-Full-clause-outcome : goal.returns-in-Full-clause-outcome
 returns-in-Full-clause-outcome c =
-    subst (λ (o : Outcome). IsOutcome (secret_table c.args.secret.now) c.args.core.now.history c.args.asked.now o) c.in-Full.is c.in_ok-answer.ensures.outcome
+    subst (λ (o : Outcome). IsOutcome (secret_table c.args.secret.now c.args.core.now.setting.protected) c.args.core.now.history c.args.asked.now o) c.in-Full.is c.in_ok-answer.ensures.outcome
 
 pub returns-in-Full-clause-history : goal.returns-in-Full-clause-history
 returns-in-Full-clause-history c = ap (λ (a : Audited). a.history) c.in_ok-answer.ensures.same ∙ sym (append-nil c.args.core.now.history)
@@ -36,13 +36,13 @@ returns-in-Full-clause-history c = ap (λ (a : Audited). a.history) c.in_ok-answ
 
 pub returns-in-Denied-clause-outcome : goal.returns-in-Denied-clause-outcome
 returns-in-Denied-clause-outcome c = subst (λ (o : Outcome). IsOutcome
-    (secret_table c.args.secret.now) c.args.core.now.history c.args.asked.now o) c.in-Denied.is c.in_ok-answer.ensures.outcome
+    (secret_table c.args.secret.now c.args.core.now.setting.protected) c.args.core.now.history c.args.asked.now o) c.in-Denied.is c.in_ok-answer.ensures.outcome
 
 pub returns-in-Denied-clause-history : goal.returns-in-Denied-clause-history
 returns-in-Denied-clause-history c = ap (λ (a : Audited). a.history) c.in_ok-answer.ensures.same ∙ sym (append-nil c.args.core.now.history)
 
 pub returns-in-Denied-clause-legal : goal.returns-in-Denied-clause-legal
-returns-in-Denied-clause-legal c = subst (λ (h : List Answered). IsLegal (secret_table c.args.secret.now) h)
+returns-in-Denied-clause-legal c = subst (λ (h : List Answered). IsLegal (secret_table c.args.secret.now c.args.core.now.setting.protected) h)
     (sym (ap (λ (a : Audited). a.history) c.in_ok-answer.ensures.same)) c.requires.legal
 
 pub returns-in-Denied-clause-kept : goal.returns-in-Denied-clause-kept
@@ -52,7 +52,7 @@ pub returns-in-Denied-clause-setting : goal.returns-in-Denied-clause-setting
 returns-in-Denied-clause-setting c = ap (λ (a : Audited). a.setting) c.in_ok-answer.ensures.same
 
 pub returns-in-Full-clause-legal : goal.returns-in-Full-clause-legal
-returns-in-Full-clause-legal c = subst (λ (h : List Answered). IsLegal (secret_table c.args.secret.now) h)
+returns-in-Full-clause-legal c = subst (λ (h : List Answered). IsLegal (secret_table c.args.secret.now c.args.core.now.setting.protected) h)
     (sym (ap (λ (a : Audited). a.history) c.in_ok-answer.ensures.same)) c.requires.legal
 
 pub returns-in-Full-clause-kept : goal.returns-in-Full-clause-kept

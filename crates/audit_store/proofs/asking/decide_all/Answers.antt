@@ -3,6 +3,7 @@ use Rattle.std.specs.Option.{option_to_list}
 use Rattle.std.proofs.Math.Seq.{take-length}
 use Rattle.std.proofs.lemmas.List.{take_more, take_all}
 use Rattle.audit_types.specs.declared.records.Asked.{Asked}
+use Rattle.audit_types.specs.History.{Setting, IsLegal}
 use Rattle.audit_core.specs.Outcomes.{IsOutcome, AreOutcomes, record_of, records_made}
 use Rattle.table_load.specs.Database.{secret_table}
 use Rattle.audit_store.proofs.Outcomes.{outcomes_more, records_more, few_made, grown_begins, grown_within}
@@ -16,10 +17,13 @@ loop-question-preserved c =
     let asked = c.question-item.result in
     let outcomes = c.loop-question.outcomes.items in
     let outcome = c.in_ok-outcome.outcome in
-    let table = secret_table c.args.secret.now in
+    let table = secret_table c.args.secret.now c.args.core.now.setting.protected in
     let history = c.args.core.now.history in
     let made = records_made questions outcomes in
-    let decided : IsOutcome table (history ++ made) asked outcome = subst (λ h. IsOutcome table h asked outcome) i.history c.in_ok-outcome.ensures.outcome in
+    let setting : c.loop-question.core.setting ≡ c.args.core.now.setting = i.same_setting in
+    let decided : IsOutcome table (history ++ made) asked outcome =
+    subst (λ (s : Setting). IsOutcome (secret_table c.args.secret.now s.protected) (history ++ made) asked outcome) setting
+    (subst (λ h. IsOutcome (secret_table c.args.secret.now c.loop-question.core.setting.protected) h asked outcome) i.history c.in_ok-outcome.ensures.outcome) in
     let more = records_more table history questions outcomes asked outcome i.so_far in
     let first = option_to_list (record_of asked outcome) in
     record {
@@ -29,7 +33,7 @@ loop-question-preserved c =
           (outcomes_more table history questions outcomes asked outcome i.so_far decided);
       history = rw (take_more c.args.asked.now place asked c.loop-question-test.true, ← c.question-item.is, c.push_reserved.ensures.items)
           (c.in_ok-outcome.ensures.history ∙ ap (λ t. t ++ first) i.history ∙ append_assoc history made first ∙ ap (λ t. history ++ t) (sym more));
-      legal = c.in_ok-outcome.ensures.legal;
+      legal = subst (λ (s : Setting). IsLegal (secret_table c.args.secret.now s.protected) c.decide.new.core.history) setting c.in_ok-outcome.ensures.legal;
       many = c.push_reserved.ensures.len ∙ ap (λ n. n + 1) i.many;
       room = omega (arith, i.room, c.push_reserved.ensures.capacity);
     }
@@ -54,7 +58,7 @@ pub returns-clause-outcomes : goal.returns-clause-outcomes
 returns-clause-outcomes c =
     let all : take c.loop-question.question-index c.args.asked.now ≡ c.args.asked.now =
     take_all c.loop-question.question-index c.args.asked.now (omega (arith, c.loop-question-test.false)) in
-    subst (λ (questions : List Asked). AreOutcomes (secret_table c.args.secret.now) c.args.core.now.history questions c.loop-question.outcomes.items) all
+    subst (λ (questions : List Asked). AreOutcomes (secret_table c.args.secret.now c.args.core.now.setting.protected) c.args.core.now.history questions c.loop-question.outcomes.items) all
     c.loop-question.invariant.so_far
 
 pub returns-clause-history : goal.returns-clause-history

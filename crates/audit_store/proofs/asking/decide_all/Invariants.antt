@@ -9,9 +9,9 @@ use Rattle.audit_store.proofs.asking.decide_all.Given as goal
 abbrev pub invariant-loop-question : goal.invariant-loop-question
 invariant-loop-question l = record {
   same_setting : l.core.setting ≡ l.fn.core.setting;
-  so_far : AreOutcomes (secret_table l.secret) l.fn.core.history (take l.question-index l.asked) l.outcomes.items;
+  so_far : AreOutcomes (secret_table l.secret l.fn.core.setting.protected) l.fn.core.history (take l.question-index l.asked) l.outcomes.items;
   history : l.core.history ≡ l.fn.core.history ++ records_made (take l.question-index l.asked) l.outcomes.items;
-  legal : IsLegal (secret_table l.secret) l.core.history;
+  legal : IsLegal (secret_table l.secret l.fn.core.setting.protected) l.core.history;
   many : vec_len l.outcomes ≡ l.question-index;
   room : length l.asked ≤ vec_capacity l.outcomes;
 }

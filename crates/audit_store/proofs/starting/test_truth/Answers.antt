@@ -1,4 +1,4 @@
-use Rattle.std.proofs.Common.{rules, refl, sym, arith, FitsSigned, ◌∙◌}
+use Rattle.std.proofs.Common.{rules, [], refl, sym, arith, FitsSigned, ◌∙◌}
 use Rattle.std.specs.Int.{w64}
 use Rattle.std.proofs.Math.Facts.{to_z-of_z}
 use Rattle.std.proofs.lemmas.Option.{slice_get_read, slice_get_within}
@@ -7,7 +7,7 @@ use Rattle.audit_store.proofs.LegalHistories.{next_is_true}
 use Rattle.audit_store.proofs.starting.test_truth.Goals as goal
 
 pub returns-then-now-answered-clause-err : goal.returns-then-now-answered-clause-err
-returns-then-now-answered-clause-err c =
+returns-then-now-answered-clause-err c = λ protected.
     let list = c.args.list.now in
     let r = c.index-list-place.result in
     let kept : FitsSigned w64 r.answer = search rules in
@@ -31,8 +31,8 @@ loop-place-preserved c =
     let now : FitsSigned w64 c.truth-now.result = search rules in
     let stands = slice_get_read list _ c.loop-place.place r refl c.loop-place-test.true c.index-list-place.is in
     let is = sym (to_z-of_z kept) ∙ (rw c.if-now-answered.false at (to_z-of_z now)) ∙ c.truth-now.ensures in
-    next_is_true (secret_table c.args.secret.now) list c.loop-place.place r stands is c.loop-place.invariant
+    next_is_true (secret_table c.args.secret.now []) list c.loop-place.place r stands is c.loop-place.invariant
 
 pub returns-clause-ok : goal.returns-clause-ok
 returns-clause-ok c =
-    λ i r here. c.loop-place.invariant i r (omega (arith, slice_get_within c.args.list.now i r here, c.loop-place-test.false)) here
+    λ protected i r here. c.loop-place.invariant i r (omega (arith, slice_get_within c.args.list.now i r here, c.loop-place-test.false)) here

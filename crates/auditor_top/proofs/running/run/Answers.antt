@@ -3,6 +3,7 @@ mod Serve
 mod Audit
 mod Simulate
 mod Drill
+mod Grow
 use Rattle.std.proofs.Common.{◌≡◌, ◌≤◌, ◌+◌, ℕ, true, false, List, [], length, Option, Some, Result, Ok, Err, IsErr, IsErrOf, OnOk, OnErr, refl, sym, ◌∙◌, ap, subst, inr, map, string_bytes}
 use Rattle.audit_types.specs.declared.records.Answered.{Answered}
 use Rattle.audit_types.specs.declared.shapes.Shape.{Shape}
@@ -17,7 +18,7 @@ use Rattle.table_load.specs.Database.{Database, base_of, secret_table}
 use Rattle.table_load.specs.Tables.{table_of, public_of}
 use Rattle.journal_form.specs.Journal.{StandsFor}
 use Rattle.answer_journal.specs.Make.{calls_to_make}
-use Rattle.answer_journal.specs.Moments.{IsAlready, IsUnmadeOrEmpty, IsUntouched}
+use Rattle.answer_journal.specs.Moments.{IsAlready, IsUnmadeOrEmpty}
 use Rattle.answer_journal.specs.declared.make.MakeFault.TheVariants as make
 use Rattle.audit_store.specs.Stores.{IsAsLeft}
 use Rattle.line_wire.specs.Lines.{counted_lines}
@@ -33,7 +34,7 @@ use Rattle.auditor_top.specs.declared.ready.Ready.{Ready}
 use Rattle.auditor_top.specs.declared.status.Status.{Status}
 use Rattle.auditor_top.specs.declared.status.Status.TheVariants.{NoMemory}
 use Rattle.auditor_top.specs.Words.{command_of}
-use Rattle.auditor_top.specs.Commands.{AreFilesOf, ServesOver, opens_journal, reads_files, reads_secrets, reads_lines, writes}
+use Rattle.auditor_top.specs.Commands.{AreFilesOf, ServesOver, opens_store, reads_files, reads_groups, reads_secrets, reads_lines, writes}
 use Rattle.auditor_top.specs.Causes.{WordCause, FileCause, InputCause, FaultCause, HoldsLegal, counts}
 use Rattle.auditor_top.specs.Drills.{DrillEnds}
 use Rattle.auditor_top.specs.Ends.{ServeEnds, AuditEnds, SimulateEnds, SimulateSends, audit_over, outside}
@@ -43,7 +44,7 @@ use Rattle.auditor_top.specs.Stages.{Before, reading_table, opening_journal, rea
 use Rattle.auditor_top.specs.Status.{making_status, session_status, audit_status, simulation_status}
 use Rattle.auditor_top.proofs.AuditEndings.{untouched_report, report_cause, report_ends, report_faults, report_wants}
 use Rattle.auditor_top.proofs.Calls.{making_done, session_done, report_done, simulation_done}
-use Rattle.auditor_top.proofs.KeptByEveryLife.{with_this_run}
+use Rattle.auditor_top.proofs.OneRunMore.{goes_on}
 use Rattle.auditor_top.proofs.OneCommand.{one_command, one_batch, one_drill, same_command, asked_for, not_asked, none_asked, refused_words, takes_step, lacks_step}
 use Rattle.auditor_top.proofs.OneTable.{one_base, same_given, carried, schema_is_ok, table_is_ok}
 use Rattle.auditor_top.proofs.Openings.{stays, one_more, later_still}
@@ -57,6 +58,10 @@ use Rattle.auditor_top.proofs.running.run.Answers.Serve.{serve_ends}
 use Rattle.auditor_top.proofs.running.run.Answers.Audit.{audit_ends}
 use Rattle.auditor_top.proofs.running.run.Answers.Simulate.{simulate_ends}
 use Rattle.auditor_top.proofs.running.run.Answers.Drill.{drill_ends}
+use Rattle.auditor_top.proofs.running.run.Answers.Grow.{grow_ends}
+use Rattle.std.specs.Bool.{OnTrue}
+use Rattle.set_index.specs.Groups.{AreEntries}
+use Rattle.table_load.specs.Database.{table_in}
 use Rattle.auditor_top.proofs.running.run.Goals as goal
 
 -- ---- the words are no command
@@ -69,6 +74,7 @@ returns-in-Err-Bad g c =
       schema = λ ptold command asked. none_asked _ _ none asked;
       table = λ ptold command asked. none_asked _ _ none asked;
       public = λ ptold asked. none_asked _ _ none asked;
+      groups = λ ptold command asked. none_asked _ _ none asked;
       own_schema_fault = bad_words_say.own_schema;
       own_table_fault = bad_words_say.own_table;
       file = λ ptold told command asked. none_asked _ _ none asked;
@@ -81,11 +87,12 @@ returns-in-Err-Bad g c =
       later = never_fall _;
       schema_within = λ ptold is. absurd (bad_words_say.no_schema is);
       table_within = λ ptold is. absurd (bad_words_say.no_table is);
-      lives = λ ptold itold told batch asked. none_asked _ _ none asked;
+      lives = λ ptold told command asked. none_asked _ _ none asked;
       init = λ asked. none_asked _ _ none asked;
       serve = λ batch asked. none_asked _ _ none asked;
       audit = λ asked. none_asked _ _ none asked;
       simulate = λ asked. none_asked _ _ none asked;
+      grow = λ asked. none_asked _ _ none asked;
       drill = λ number asked. none_asked _ _ none asked;
       nothing_began = λ ptold told command asked. none_asked _ _ none asked;
       quiet = λ told quiet fine. quiet;
@@ -113,9 +120,10 @@ returns-in-Err-NoMemory g c =
       schema = λ ptold command asked reads. tt;
       table = λ ptold command asked reads columns is. tt;
       public = λ ptold asked columns is. tt;
+      groups = λ ptold command asked reads meant is. tt;
       own_schema_fault = no_memory_says.own_schema;
       own_table_fault = no_memory_says.own_table;
-      file = λ ptold told command asked base files. tt;
+      file = λ ptold told command asked base files sound. tt;
       input = λ itold command asked reads. tt;
       faults = refl;
       schema_last = λ is. absurd (no_memory_says.no_schema is);
@@ -125,13 +133,14 @@ returns-in-Err-NoMemory g c =
       later = never_fall _;
       schema_within = λ ptold is. absurd (no_memory_says.no_schema is);
       table_within = λ ptold is. absurd (no_memory_says.no_table is);
-      lives = λ ptold itold told batch asked.
-          with_this_run g.P.Source g.I.Source g.B.Bench batch NoMemory at at c.lives.ensures.longer (c.read_words.ensures.batch batch asked)
-          (all.serve batch asked) ptold itold told;
+      lives = λ ptold told command asked itold quiet. goes_on g.P.Source g.I.Source g.B.Bench NoMemory at at c.lives.ensures.longer command
+          (λ batch is. let serves = asked ∙ ap (λ (k : Command). Some k) is in (c.read_words.ensures.batch batch serves, all.serve batch serves))
+          (λ is. all.grow (asked ∙ ap (λ (k : Command). Some k) is)) ptold told itold quiet;
       init = all.init;
       serve = all.serve;
       audit = all.audit;
       simulate = all.simulate;
+      grow = all.grow;
       drill = λ number asked. record {
         drilled = λ told. refl;
         drill_calls = λ told done. absurd (no_memory_says.undone done);
@@ -139,7 +148,7 @@ returns-in-Err-NoMemory g c =
         undrilled = λ is. refl;
         drills = λ none. inr refl;
       };
-      nothing_began = λ ptold told command asked opens quiet none. reads.untouched told quiet;
+      nothing_began = λ ptold told command asked opens quiet none. reads.untouched quiet;
       quiet = λ told quiet fine. quiet;
       before_table = tt;
       before_bench = tt;
@@ -166,20 +175,22 @@ returns-in-Err g c =
     let faults = says.faults (g.I.Source.faults old.input) (g.B.Bench.faults old.spare) in
     let all = refused g.P.Source g.I.Source g.B.Bench old.schema new.schema old.table new.table old.input old.bench new.bench old.spare status says.early reads
     faults words
-    (λ command asked ptold told given. subst (λ (k : Command). (opens_journal k ≡ true → g.B.Bench.told)
+    (λ command asked ptold told given. subst (λ (k : Command). (opens_store k ≡ true → g.B.Bench.told)
     → IsGiven k (g.P.Source.left old.schema) (g.P.Source.left old.table) (g.B.Bench.file old.bench) → GivesUp status) (one_command words _ command is_named asked)
     (says.gives_up ptold) told given)
-    (λ command asked none. c.open.ensures.unopened (ap opens_journal (one_command words _ command is_named asked) ∙ none)) c.stops_are_legal.ensures in
+    (λ command asked none. c.open.ensures.unopened (ap opens_store (one_command words _ command is_named asked) ∙ none)) c.stops_are_legal.ensures in
     record {
       words = subst (λ (asked : Option Command). WordCause status asked) (sym is_named) says.words;
       schema = λ ptold command asked reads. says.schema ptold (ap reads_files (one_command words _ command is_named asked) ∙ reads);
       table = λ ptold command asked reads. says.table ptold (ap reads_secrets (one_command words _ command is_named asked) ∙ reads);
       public = λ ptold asked. says.public ptold (one_command words _ command.Simulate is_named asked);
+      groups = λ ptold command asked reads. says.groups ptold (ap reads_groups (one_command words _ command is_named asked) ∙ reads);
       own_schema_fault = λ is. says.own_schema_fault is;
       own_table_fault = λ is. says.own_table_fault is;
-      file = λ ptold told command asked base files.
-          subst (λ (k : Command). FileCause status k (g.B.Bench.file old.bench) base.secret) (one_command words _ command is_named asked)
-          (says.file ptold told base files);
+      file = λ ptold told command asked base files sound.
+          let same = one_command words _ command is_named asked in
+          subst (λ (k : Command). FileCause status k (g.B.Bench.file old.bench) (table_in base)) same (says.file ptold told base files
+          (subst (λ (k : Command). OnTrue (reads_groups k) (AreEntries base.columns base.public files.groups base.protected)) (sym same) sound));
       input = λ itold command asked reads. reads_nothing status (g.I.Source.left old.input) says.early;
       faults = faults;
       schema_last = λ is. says.schema_last is;
@@ -189,15 +200,16 @@ returns-in-Err g c =
       later = record { schema = c.open.ensures.later.0; table = c.open.ensures.later.1; input = stays _; bench = c.open.ensures.later.2 };
       schema_within = λ ptold is. says.schema_within ptold is;
       table_within = λ ptold is. says.table_within ptold is;
-      lives = λ ptold itold told batch asked.
-          with_this_run g.P.Source g.I.Source g.B.Bench batch status old new c.lives.ensures.longer (c.read_words.ensures.batch batch asked)
-          (all.serve batch asked) ptold itold told;
+      lives = λ ptold told command asked itold quiet. goes_on g.P.Source g.I.Source g.B.Bench status old new c.lives.ensures.longer command
+          (λ batch is. let serves = asked ∙ ap (λ (k : Command). Some k) is in (c.read_words.ensures.batch batch serves, all.serve batch serves))
+          (λ is. all.grow (asked ∙ ap (λ (k : Command). Some k) is)) ptold told itold quiet;
       init = all.init;
       serve = all.serve;
       audit = all.audit;
       simulate = all.simulate;
+      grow = all.grow;
       drill = λ number asked. absurd (false≢true (c.in-Err.ensures.taken (ap reads_files (one_command words _ (command.Drill number) is_named asked))));
-      nothing_began = λ ptold told command asked opens quiet none. reads.untouched told quiet;
+      nothing_began = λ ptold told command asked opens quiet none. reads.untouched quiet;
       quiet = λ told quiet fine. as_quiet g.B.Bench old.bench new.bench reads quiet;
       before_table = says.before_table;
       before_bench = says.before_bench;
@@ -227,6 +239,9 @@ returns-in-Ok-Simulate g c = simulate_ends g c
 pub returns-in-Ok-Drill : goal.returns-in-Ok-Drill
 returns-in-Ok-Drill g c = drill_ends g c
 
+pub returns-in-Ok-Grow : goal.returns-in-Ok-Grow
+returns-in-Ok-Grow g c = grow_ends g c
+
 -- ---- what the last steps want
 
 pub make-requires : goal.make-requires
@@ -240,6 +255,7 @@ serve-requires g c =
       usable = ready.0.usable;
       fits = ready.1;
       shape = ready.2;
+      entries = ready.3;
       stands = ready.0.left;
       batch = c.read_words.ensures.batch n (asked_for _ _ _ _ c.in-Ok.ensures.command c.in-Ok-Serve.field-0-is c.in-Ok-Serve.ensures.asked);
     }
@@ -249,4 +265,5 @@ audit-requires g c =
     let ready = subst (IsReady g.B.Bench c.open.new.bench) c.in-Ok-Audit.field-0-is c.in-Ok-Audit.ensures.ready in record { usable = ready.0.usable; shape = ready.1 }
 
 pub simulate-requires : goal.simulate-requires
-simulate-requires g c = subst (IsReady g.B.Bench c.open.new.bench) c.in-Ok-Simulate.field-0-is c.in-Ok-Simulate.ensures.ready
+simulate-requires g c =
+    let ready = subst (IsReady g.B.Bench c.open.new.bench) c.in-Ok-Simulate.field-0-is c.in-Ok-Simulate.ensures.ready in record { fits = ready.0; protected = ready.1 }

@@ -14,8 +14,8 @@ pub unreachable-requires : goal.unreachable-requires
 unreachable-requires g c =
     let secret = c.args.store.now.secret in
     let history = c.args.store.now.history in
-    let free = c.free_numbers.ensures.lone (secret_table secret) history c.args.column
-    (c.lists_of_secrets.ensures secret c.requires.is.numbers) c.requires.is.legal c.requires.below c.requires.part.own_kind in
+    let free = c.free_numbers.ensures.lone (secret_table secret c.args.store.now.protected) history c.args.column
+    (c.lists_of_secrets.ensures secret c.requires.is.numbers) c.requires.is.fit c.requires.is.legal c.requires.below c.requires.part.own_kind in
     let consistent = subst IsConsistent (sym c.requires.part.answers) free.0 in
     let found = c.in-Some.ensures.fixed consistent in
     free.1 c.in-Some.field-0 (subst (λ n. c.in-Some.field-0 < n) c.requires.part.n found.0.0)
@@ -27,15 +27,15 @@ name-name-requires g c = place_below c.args.schema.now.columns c.args.place c.ar
 pub write_column-requires-clause-consistent : goal.write_column-requires-clause-consistent
 write_column-requires-clause-consistent g c =
     let secret = c.args.store.now.secret in
-    let free = c.free_numbers.ensures.lone (secret_table secret) c.args.store.now.history c.args.column
-    (c.lists_of_secrets.ensures secret c.requires.is.numbers) c.requires.is.legal c.requires.below c.requires.part.own_kind in
+    let free = c.free_numbers.ensures.lone (secret_table secret c.args.store.now.protected) c.args.store.now.history c.args.column
+    (c.lists_of_secrets.ensures secret c.requires.is.numbers) c.requires.is.fit c.requires.is.legal c.requires.below c.requires.part.own_kind in
     subst IsConsistent (sym c.requires.part.answers) free.0
 
 pub write_column-requires-clause-same_n : goal.write_column-requires-clause-same_n
 write_column-requires-clause-same_n g c =
     subst (λ l. AllByRecursion (λ r. r.rows.n ≡ c.args.maxima.now.n) l) (sym c.history.ensures.history)
     (subst (λ n. AllByRecursion (λ r. r.rows.n ≡ n) c.args.store.now.history) (sym c.requires.part.n)
-    (same_n (secret_table c.args.store.now.secret) c.args.store.now.history c.requires.is.legal))
+    (same_n (secret_table c.args.store.now.secret c.args.store.now.protected) c.args.store.now.history c.requires.is.legal))
 
 pub returns-in_err-write_column : goal.returns-in_err-write_column
 returns-in_err-write_column g c =

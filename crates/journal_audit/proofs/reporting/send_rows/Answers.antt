@@ -32,14 +32,14 @@ write_row-requires-clause-free g c =
     let audit = audit_of c.args.schema.now.columns c.args.store.now in
     let secret = c.args.store.now.secret in
     not_pinned_here audit c.args.column c.loop-row.row c.args.sums.now.n c.args.sums.now.answers c.requires.part.n c.requires.part.answers
-    (c.free_numbers.ensures.pinned (secret_table secret) audit.history c.args.column c.loop-row.row
-    (c.lists_of_secrets.ensures secret c.requires.is.numbers) c.requires.is.legal c.requires.below c.requires.part.own_kind)
+    (c.free_numbers.ensures.pinned (secret_table secret c.args.store.now.protected) audit.history c.args.column c.loop-row.row
+    (c.lists_of_secrets.ensures secret c.requires.is.numbers) c.requires.is.fit c.requires.is.legal c.requires.below c.requires.part.own_kind)
 
 pub write_row-requires-clause-same_n : goal.write_row-requires-clause-same_n
 write_row-requires-clause-same_n g c =
     let audit = audit_of c.args.schema.now.columns c.args.store.now in
     let sets = sets_same_n audit.shape.rows (λ r. r.column == c.args.column) audit.history
-    (same_n (secret_table c.args.store.now.secret) audit.history c.requires.is.legal) in
+    (same_n (secret_table c.args.store.now.secret c.args.store.now.protected) audit.history c.requires.is.legal) in
     let here = c.deref.ensures.value ∙ c.in_ok-sets.ensures ∙ ap
     (λ l. map (λ (r : Answered). r.rows) (filter (λ r. r.column == c.args.column) l)) c.history.ensures.history in
     subst (λ n. AllByRecursion (λ s. s.n ≡ n) c.deref.result.now) (sym c.requires.part.n)

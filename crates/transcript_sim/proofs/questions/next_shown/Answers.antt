@@ -4,7 +4,9 @@ use Rattle.line_wire.specs.Lines.{text, long}
 use Rattle.line_wire.specs.declared.lines.Next.{Next}
 use Rattle.transcript_sim.specs.declared.shown.Shown.{Shown}
 use Rattle.transcript_sim.specs.declared.simulating.SimulationFault.{SimulationFault}
-use Rattle.transcript_sim.specs.Steps.{ComesTo, GivesNext, IsCutShort}
+use Rattle.line_wire.specs.Calls.{GivesNext}
+use Rattle.transcript_sim.specs.Steps.{ComesTo, IsCutShort, stop_fault}
+use Rattle.transcript_sim.proofs.Stops.{cutting_stops}
 use Rattle.transcript_sim.proofs.questions.next_shown.Goals as goal
 
 abbrev ended_by : SimulationFault → Result (Option Shown) SimulationFault
@@ -14,11 +16,13 @@ pub returns-in_err-next_line : goal.returns-in_err-next_line
 returns-in_err-next_line g c = record {
   shows = IfOk-from_err _ _ c.from_residual.ensures.0;
   short =
-      let same : c.from_residual.result ≡ ended_by c.in_err-next_line.field-0.0 = search rules in
+      let why = c.in_err-next_line.field-0.0 in
+      let same : c.from_residual.result ≡ ended_by (stop_fault why) = search rules in
       subst
-      (λ (r : Result (Option Shown) SimulationFault). IfErr r (IsCutShort g.P.Source c.args.lines.now c.next_line.new.lines c.args.source.now
+      (λ (r : Result (Option Shown) SimulationFault). IfErr r (IsCutShort g.P.Source c.args.lines.now c.next_line.new.self c.args.source.now
       c.next_line.new.source))
-      (sym same) c.in_err-next_line.ensures.short;
+      (sym same)
+      (cutting_stops g.P.Source c.args.lines.now c.next_line.new.self c.args.source.now c.next_line.new.source why c.in_err-next_line.ensures.stopped);
   cuts = c.next_line.ensures.cuts;
 }
 
@@ -26,10 +30,10 @@ pub returns-in-Line : goal.returns-in-Line
 returns-in-Line g c = record {
   shows =
       let gives =
-      subst (λ (n : Next). GivesNext g.P.Source c.args.lines.now c.next_line.new.lines c.args.source.now c.next_line.new.source n) c.in-Line.is
+      subst (λ (n : Next). GivesNext g.P.Source c.args.lines.now c.next_line.new.self c.args.source.now c.next_line.new.source n) c.in-Line.is
       c.in_ok-next_line.ensures.gives in
       record {
-        line = text c.next_line.new.lines.text;
+        line = text c.next_line.new.self.text;
         gives = gives.0;
         comes_to = subst (λ (line : List ℕ). ComesTo (text line) c.args.expected.now c.shown.result) c.text.ensures c.shown.ensures;
       };
@@ -41,7 +45,7 @@ pub returns-in-Long : goal.returns-in-Long
 returns-in-Long g c = record {
   shows =
       let gives =
-      subst (λ (n : Next). GivesNext g.P.Source c.args.lines.now c.next_line.new.lines c.args.source.now c.next_line.new.source n) c.in-Long.is
+      subst (λ (n : Next). GivesNext g.P.Source c.args.lines.now c.next_line.new.self c.args.source.now c.next_line.new.source n) c.in-Long.is
       c.in_ok-next_line.ensures.gives in
       record { line = long; gives = gives; comes_to = λ added agrees. agrees };
   short = tt;
@@ -51,7 +55,7 @@ returns-in-Long g c = record {
 pub returns-in-End : goal.returns-in-End
 returns-in-End g c = record {
   shows =
-      subst (λ (n : Next). GivesNext g.P.Source c.args.lines.now c.next_line.new.lines c.args.source.now c.next_line.new.source n) c.in-End.is
+      subst (λ (n : Next). GivesNext g.P.Source c.args.lines.now c.next_line.new.self c.args.source.now c.next_line.new.source n) c.in-End.is
       c.in_ok-next_line.ensures.gives;
   short = tt;
   cuts = c.next_line.ensures.cuts;

@@ -7,9 +7,8 @@ use Rattle.journal_form.specs.Journal.{StandsAt}
 use Rattle.answer_journal.specs.Contents.{IsJournal, JournalContents}
 use Rattle.answer_journal.specs.declared.journal.BackFault.{BackFault}
 use Rattle.answer_journal.specs.Faults.{IsFaultOf}
-use Rattle.answer_journal.proofs.FileCalls.{no_fault}
 use Rattle.answer_journal.proofs.Histories.{is_journal}
-use Rattle.answer_journal.proofs.RecordsFit.{history_fits}
+use Rattle.answer_journal.proofs.RecordsFit.{history_fits, shape_is_valid}
 use Rattle.answer_journal.proofs.DueIsAnswered.{stands_is_made, not_made_is_due, damage_is_due, whole_has_no_fault}
 use Rattle.answer_journal.proofs.journal.Journal.read_back.Goals as goal
 
@@ -20,6 +19,7 @@ ending_at-requires g c =
     let some = c.in-Ok.ensures.journal in
     subst (λ (n : ℕ). IsJournal (record { shape = contents.shape; count = n; gate = contents.gate; usable = true })) (sym long)
     (is_journal some.0 contents.shape contents.list.items contents.gate some.1
+    (shape_is_valid some.0 contents.shape contents.list.items contents.gate some.1)
     (c.bytes_of_records.ensures.gate some.0 contents.shape contents.list.items contents.gate some.1))
 
 -- ---- it was read
@@ -52,15 +52,9 @@ returns-in-Ok g c = record {
       c.one_reading.ensures (g.B.Bench.file c.args.bench.now) contents.shape shape contents.list.items history contents.gate gate
       (c.in-Ok.ensures.ok told) stands in
       (ap (λ (j : JournalContents). j.shape) c.ending_at.ensures ∙ once.0, once.1, ap (λ (j : JournalContents). j.gate) c.ending_at.ensures ∙ once.2);
-  file = c.contents_of.ensures.file;
-  sent = c.contents_of.ensures.sent;
-  crash = c.contents_of.ensures.crash;
-  untouched = c.contents_of.ensures.untouched;
+  reads = c.contents_of.ensures.reads;
   ticks = c.in-Ok.ensures.ticks;
-  failed = λ is. no_fault _ _ is;
-  last_call = λ is. no_fault _ _ is;
-  steady = λ other. c.in-Ok.ensures.steady (λ is. no_fault _ _ is);
-  later = c.contents_of.ensures.later;
+  fault = search rules;
 }
 
 -- ---- it was not
@@ -80,13 +74,7 @@ returns-in-Err g c = record {
   whole =
       λ shape history gate told stands. whole_has_no_fault (g.B.Bench.file c.args.bench.now) c.in-Err.fault shape history gate c.no_break_in_a_journal.ensures
       (c.in-Err.ensures.err told) stands;
-  file = c.contents_of.ensures.file;
-  sent = c.contents_of.ensures.sent;
-  crash = c.contents_of.ensures.crash;
-  untouched = c.contents_of.ensures.untouched;
+  reads = c.contents_of.ensures.reads;
   ticks = λ told. tt;
-  failed = search rules;
-  last_call = search rules;
-  steady = search rules;
-  later = c.contents_of.ensures.later;
+  fault = search rules;
 }

@@ -10,9 +10,8 @@ use Rattle.journal_form.specs.Journal.{StandsAt}
 use Rattle.answer_journal.specs.Moments.{IsBeforeOrAfter}
 use Rattle.bench_core.specs.Calls.{LeavesOnly}
 use Rattle.audit_core.specs.Outcomes.{AreOutcomes, records_made}
-use Rattle.table_load.specs.Database.{secret_table}
-use Rattle.audit_store.specs.Stores.{StoreContents, HasGroup, calls_for}
-use Rattle.audit_store.proofs.Stores.{core_is_history, released_and_more, more_released, taken_since, refused_history, refused_store, kept_store}
+use Rattle.audit_store.specs.Stores.{StoreContents, table_of, HasGroup, calls_for}
+use Rattle.audit_store.proofs.Stores.{table_by, core_is_history, released_and_more, more_released, taken_since, refused_history, refused_store, kept_store}
 use Rattle.audit_store.specs.declared.outcome.StoreFault.TheVariants.{Failed, NoMemory}
 use Rattle.audit_store.specs.Refusals.{no_refusal}
 use Rattle.audit_store.proofs.StoreFaults.{is_memory, memory_no_call, given_is, answer_is}
@@ -84,15 +83,15 @@ keep-requires-clause-fit g c =
     subst (λ (s : Shape). All (λ (r : Answered). FitsShape s r.column r.rows) group) shape
     (All-take (fits core) (length shown - i.released) (drop i.released shown) (All-drop (fits core) i.released shown c.history.ensures.fit))
 
-pub decide_all-requires-clause-same_setting : goal.decide_all-requires-clause-same_setting
-decide_all-requires-clause-same_setting g c = c.self.invariant.1.same_setting
+pub decide_all-requires-clause-same_shape : goal.decide_all-requires-clause-same_shape
+decide_all-requires-clause-same_shape g c = ap (λ (s : Setting). s.shape) c.self.invariant.1.same_setting
 
 pub decide_all-requires-clause-legal : goal.decide_all-requires-clause-legal
 decide_all-requires-clause-legal g c =
     let i = c.self.inside in
     let usable : i.usable ≡ true = ap (λ (s : StoreContents). s.usable) c.self.view_is ∙ c.requires.usable in
-    let all = core_is_history i.secret i.core i.released i.usable (take i.released i.core.history) c.self.invariant.1 usable refl in
-    subst (λ (h : List Answered). IsLegal (secret_table i.secret) h) (sym all) c.self.invariant.0.legal
+    let all = core_is_history (table_by i.secret i.core) i.core i.released i.usable (take i.released i.core.history) c.self.invariant.1 usable refl in
+    subst (λ (h : List Answered). IsLegal (table_by i.secret i.core) h) (sym all) c.self.invariant.0.legal
 
 pub decide_all-requires-clause-fit : goal.decide_all-requires-clause-fit
 decide_all-requires-clause-fit g c =
@@ -121,15 +120,18 @@ returns-in_err-keep g c =
           (ap (λ (s : StoreContents). s.history) c.self.view_is);
       no_memory = λ is.
           c.in_err-keep.ensures.no_memory (given_is c.in_err-keep.field-0.0 NoMemory c.from_residual-in_err-keep.result c.from_residual-in_err-keep.ensures is);
-      failed = λ is.
-          c.in_err-keep.ensures.failed (given_is c.in_err-keep.field-0.0 Failed c.from_residual-in_err-keep.result c.from_residual-in_err-keep.ensures is);
-      last_call = λ is.
-          c.in_err-keep.ensures.last_call (given_is c.in_err-keep.field-0.0 Failed c.from_residual-in_err-keep.result c.from_residual-in_err-keep.ensures is);
-      steady = λ other.
-          c.in_err-keep.ensures.steady
-          (λ is. other (answer_is c.in_err-keep.field-0.0 Failed c.from_residual-in_err-keep.result c.from_residual-in_err-keep.ensures is));
-      later = c.keep.ensures.later;
+      fault = record {
+        failed = λ is.
+            c.in_err-keep.ensures.fault.failed (given_is c.in_err-keep.field-0.0 Failed c.from_residual-in_err-keep.result c.from_residual-in_err-keep.ensures is);
+        last_call = λ is.
+            c.in_err-keep.ensures.fault.last_call (given_is c.in_err-keep.field-0.0 Failed c.from_residual-in_err-keep.result c.from_residual-in_err-keep.ensures is);
+        steady = λ other.
+            c.in_err-keep.ensures.fault.steady
+            (λ is. other (answer_is c.in_err-keep.field-0.0 Failed c.from_residual-in_err-keep.result c.from_residual-in_err-keep.ensures is));
+        later = c.keep.ensures.fault.later;
+      };
       secret = ap (λ (s : StoreContents). s.secret) c.self.view_is;
+      protected = ap (λ (s : Setting). s.protected) c.decide_all.ensures.setting ∙ ap (λ (s : StoreContents). s.protected) c.self.view_is;
       is = (invariant_of-self-in_err-keep g c).0;
       any_moment = λ told quiet other.
           let made = records_made c.args.asked.now c.in_ok-outcomes.outcomes.items in
@@ -150,11 +152,11 @@ returns-in_err-keep g c =
           (λ (s : Shape). LeavesOnly g.B.Bench c.args.bench.now c.keep.new.bench (IsBeforeOrAfter s history made sent)) shape
           (subst (λ (l : List Answered). LeavesOnly g.B.Bench c.args.bench.now c.keep.new.bench
           (IsBeforeOrAfter i.journal.shape history l sent)) group found)) in
-          let all = core_is_history i.secret i.core i.released i.usable history c.self.invariant.1 usable refl in
+          let all = core_is_history (table_by i.secret i.core) i.core i.released i.usable history c.self.invariant.1 usable refl in
           let due =
-          subst (λ (s : StoreContents). AreOutcomes (secret_table s.secret) s.history c.args.asked.now c.in_ok-outcomes.outcomes.items) c.self.view_is
+          subst (λ (s : StoreContents). AreOutcomes (table_of s) s.history c.args.asked.now c.in_ok-outcomes.outcomes.items) c.self.view_is
           (subst (λ (h : List Answered). AreOutcomes
-          (secret_table i.secret) h c.args.asked.now c.in_ok-outcomes.outcomes.items) all c.in_ok-outcomes.ensures.outcomes) in
+          (table_by i.secret i.core) h c.args.asked.now c.in_ok-outcomes.outcomes.items) all c.in_ok-outcomes.ensures.outcomes) in
           record { outcomes = c.in_ok-outcomes.outcomes.items; due = due; moments = moments };
       moments = λ told quiet. IfOk-from_err _ _ c.from_residual-in_err-keep.ensures.0;
       written = λ told. IfOk-from_err _ _ c.from_residual-in_err-keep.ensures.0;
@@ -179,11 +181,14 @@ returns-in_err-outcomes g c = record {
       (c.self.invariant.1.all usable) c.decide_all.ensures.begins
       (ap (λ (s : StoreContents). s.history) c.self.view_is);
   no_memory = λ is. refl;
-  failed = λ is. memory_no_call c.from_residual.result c.from_residual.ensures is;
-  last_call = λ is. memory_no_call c.from_residual.result c.from_residual.ensures is;
-  steady = λ other. refl;
-  later = omega arith;
+  fault = record {
+    failed = λ is. memory_no_call c.from_residual.result c.from_residual.ensures is;
+    last_call = λ is. memory_no_call c.from_residual.result c.from_residual.ensures is;
+    steady = λ other. refl;
+    later = omega arith;
+  };
   secret = ap (λ (s : StoreContents). s.secret) c.self.view_is;
+  protected = ap (λ (s : Setting). s.protected) c.decide_all.ensures.setting ∙ ap (λ (s : StoreContents). s.protected) c.self.view_is;
   is = (invariant_of-self g c).0;
   any_moment = λ told quiet other. absurd (other (is_memory c.from_residual.result c.from_residual.ensures));
   moments = λ told quiet. IfOk-from_err _ _ c.from_residual.ensures.0;
@@ -210,10 +215,10 @@ returns g c =
     let sent = g.B.Bench.sent c.args.bench.now in
     record {
       outcomes =
-          let all = core_is_history i.secret i.core i.released i.usable (take i.released i.core.history) c.self.invariant.1 usable refl in
-          subst (λ (s : StoreContents). AreOutcomes (secret_table s.secret) s.history c.args.asked.now c.in_ok-outcomes.outcomes.items) c.self.view_is
+          let all = core_is_history (table_by i.secret i.core) i.core i.released i.usable (take i.released i.core.history) c.self.invariant.1 usable refl in
+          subst (λ (s : StoreContents). AreOutcomes (table_of s) s.history c.args.asked.now c.in_ok-outcomes.outcomes.items) c.self.view_is
           (subst (λ (h : List Answered). AreOutcomes
-          (secret_table i.secret) h c.args.asked.now c.in_ok-outcomes.outcomes.items) all c.in_ok-outcomes.ensures.outcomes);
+          (table_by i.secret i.core) h c.args.asked.now c.in_ok-outcomes.outcomes.items) all c.in_ok-outcomes.ensures.outcomes);
       history =
           more_released i.core.history c.decide_all.new.core.history c.args.self.now.history
           (records_made c.args.asked.now c.in_ok-outcomes.outcomes.items) i.released (length c.history-2.result.now)
@@ -237,11 +242,14 @@ returns g c =
       usable = refl;
       kept = tt;
       no_memory = λ is. no_refusal _ _ is;
-      failed = λ is. no_refusal _ _ is;
-      last_call = λ is. no_refusal _ _ is;
-      steady = λ other. c.in_ok-keep.ensures.steady (λ is. no_refusal _ _ is);
-      later = c.keep.ensures.later;
+      fault = record {
+        failed = λ is. no_refusal _ _ is;
+        last_call = λ is. no_refusal _ _ is;
+        steady = λ other. c.in_ok-keep.ensures.fault.steady (λ is. no_refusal _ _ is);
+        later = c.keep.ensures.fault.later;
+      };
       secret = ap (λ (s : StoreContents). s.secret) c.self.view_is;
+      protected = ap (λ (s : Setting). s.protected) c.decide_all.ensures.setting ∙ ap (λ (s : StoreContents). s.protected) c.self.view_is;
       is = (invariant_of-self-2 g c).0;
       any_moment = λ told quiet other.
           let before : StandsAt file i.secret.shape history i.journal.gate =
@@ -254,11 +262,11 @@ returns g c =
           (λ (s : Shape). LeavesOnly g.B.Bench c.args.bench.now c.keep.new.bench (IsBeforeOrAfter s history made sent)) shape
           (subst (λ (l : List Answered). LeavesOnly g.B.Bench c.args.bench.now c.keep.new.bench
           (IsBeforeOrAfter i.journal.shape history l sent)) group found)) in
-          let all = core_is_history i.secret i.core i.released i.usable history c.self.invariant.1 usable refl in
+          let all = core_is_history (table_by i.secret i.core) i.core i.released i.usable history c.self.invariant.1 usable refl in
           let due =
-          subst (λ (s : StoreContents). AreOutcomes (secret_table s.secret) s.history c.args.asked.now c.in_ok-outcomes.outcomes.items) c.self.view_is
+          subst (λ (s : StoreContents). AreOutcomes (table_of s) s.history c.args.asked.now c.in_ok-outcomes.outcomes.items) c.self.view_is
           (subst (λ (h : List Answered). AreOutcomes
-          (secret_table i.secret) h c.args.asked.now c.in_ok-outcomes.outcomes.items) all c.in_ok-outcomes.ensures.outcomes) in
+          (table_by i.secret i.core) h c.args.asked.now c.in_ok-outcomes.outcomes.items) all c.in_ok-outcomes.ensures.outcomes) in
           record { outcomes = c.in_ok-outcomes.outcomes.items; due = due; moments = moments };
       moments = λ told quiet.
           let before : StandsAt file i.secret.shape history i.journal.gate =

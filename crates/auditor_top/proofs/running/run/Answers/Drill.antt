@@ -1,10 +1,11 @@
 -- What `run` says of `drill`.
 use Rattle.std.proofs.Common.{◌≡◌, ◌≤◌, ◌+◌, ℕ, Option, Some, refl, sym, ◌∙◌, ap, subst, map, string_bytes}
 use Rattle.bench_core.specs.Causes.{Rose}
+use Rattle.table_load.specs.Database.{table_in}
 use Rattle.auditor_top.specs.declared.words.Command.{Command}
 use Rattle.auditor_top.specs.declared.words.Command.TheVariants as command
 use Rattle.auditor_top.specs.Words.{command_of, NamesCommand}
-use Rattle.auditor_top.specs.Commands.{opens_journal, reads_files, reads_secrets, reads_lines}
+use Rattle.auditor_top.specs.Commands.{opens_journal, opens_store, reads_files, reads_groups, reads_lines, reads_secrets}
 use Rattle.auditor_top.specs.Causes.{WordCause, FileCause, FaultCause, counts}
 use Rattle.auditor_top.specs.Drills.{DrillEnds}
 use Rattle.auditor_top.specs.Runs.{objects, Drilling}
@@ -14,6 +15,7 @@ use Rattle.auditor_top.proofs.Openings.{stays, later_still}
 use Rattle.auditor_top.proofs.Refusals.{as_quiet}
 use Rattle.auditor_top.proofs.StepFaults.{moved}
 use Rattle.auditor_top.proofs.StepStatuses.{always_before, before_so}
+use Rattle.auditor_top.proofs.OneRunMore.{never_goes_on}
 use Rattle.auditor_top.proofs.running.run.Given.{Over}
 use Rattle.auditor_top.proofs.running.run.Goals as goal
 
@@ -27,7 +29,7 @@ drilling g c = λ number asked.
     let old = objects c.args.schema.now c.args.table.now c.args.input.now at c.args.spare.now in
     let new = objects c.open.new.schema c.open.new.table c.args.input.now later c.args.spare.now in
     let same : c.in-Ok.command ≡ command.Drill n = same_command _ _ _ c.in-Ok-Drill.field-0-is c.in-Ok-Drill.ensures.asked in
-    let unopened : c.open.new.bench ≡ at = c.open.ensures.unopened (ap opens_journal same) in
+    let unopened : c.open.new.bench ≡ at = c.open.ensures.unopened (ap opens_store same) in
     subst (λ (k : ℕ). Drilling g.P.Source g.I.Source g.B.Bench k c.drill.result old new) (one_drill _ n number (asked_for _ _ _ _ c.in-Ok.ensures.command c.in-Ok-Drill.field-0-is c.in-Ok-Drill.ensures.asked) asked)
     (record {
       drilled = λ told. subst (λ b. DrillEnds c.drill.result n (g.B.Bench.sent b) (g.B.Bench.sent later)) unopened (c.drill.ensures.ends told);
@@ -55,7 +57,7 @@ drill_ends g c =
     let same : c.in-Ok.command ≡ command.Drill n = same_command _ _ _ c.in-Ok-Drill.field-0-is c.in-Ok-Drill.ensures.asked in
     let is_named : command_of (map string_bytes c.args.words.now.items) ≡ Some (command.Drill n) =
     asked_for _ _ _ _ c.in-Ok.ensures.command c.in-Ok-Drill.field-0-is c.in-Ok-Drill.ensures.asked in
-    let unopened : c.open.new.bench ≡ c.args.bench.now = c.open.ensures.unopened (ap opens_journal same) in
+    let unopened : c.open.new.bench ≡ c.args.bench.now = c.open.ensures.unopened (ap opens_store same) in
     let unread = c.open.ensures.unread (ap reads_files same) in
     let steady = c.in-Ok-Drill.ensures.steady in
     let before = counts schema table input (g.B.Bench.faults c.args.bench.now) spare in
@@ -67,10 +69,11 @@ drill_ends g c =
       schema = λ ptold command asked reads. lacks_step reads_files _ _ command is_named asked refl reads;
       table = λ ptold command asked reads. lacks_step reads_secrets _ _ command is_named asked refl reads;
       public = λ ptold asked. not_asked _ _ _ is_named asked refl;
+      groups = λ ptold command asked reads. lacks_step reads_groups _ _ command is_named asked refl reads;
       own_schema_fault = c.drill.ensures.own_schema_fault;
       own_table_fault = c.drill.ensures.own_table_fault;
-      file = λ ptold told other asked base files.
-          subst (λ (k : Command). FileCause status k file base.secret) (one_command _ _ other is_named asked) (c.drill.ensures.file_cause file base.secret);
+      file = λ ptold told other asked base files sound.
+          subst (λ (k : Command). FileCause status k file (table_in base)) (one_command _ _ other is_named asked) (c.drill.ensures.file_cause file (table_in base));
       input = λ itold command asked reads. lacks_step reads_lines _ _ command is_named asked refl reads;
       faults = faults;
       schema_last = λ is. absurd (c.drill.ensures.no_source _ is);
@@ -85,11 +88,12 @@ drill_ends g c =
       };
       schema_within = λ ptold is. absurd (c.drill.ensures.no_source _ is);
       table_within = λ ptold is. absurd (c.drill.ensures.no_source _ is);
-      lives = λ ptold itold told batch asked. not_asked _ _ _ is_named asked refl;
+      lives = λ ptold told command asked itold quiet base at goes. never_goes_on _ command _ _ _ _ at base is_named asked (λ none. none) goes;
       init = λ asked. not_asked _ _ _ is_named asked refl;
       serve = λ batch asked. not_asked _ _ _ is_named asked refl;
       audit = λ asked. not_asked _ _ _ is_named asked refl;
       simulate = λ asked. not_asked _ _ _ is_named asked refl;
+      grow = λ asked. not_asked _ _ _ is_named asked refl;
       drill = drilling g c;
       nothing_began = λ ptold told command asked opens. lacks_step opens_journal _ _ command is_named asked refl opens;
       quiet = λ told quiet fine. c.drill.ensures.quiet (as_quiet g.B.Bench _ _ c.open.ensures.reads quiet);

@@ -11,10 +11,12 @@ returns-then-next_fails c =
     let below = c.fail.ensures.faults in
     rw c.fail.ensures.changed (record {
       length = λ told. tt;
-      file = refl;
-      sent = refl;
-      crash = λ image left. left;
-      time = time_still still (Unsent (may_leave still) (sent_of still));
+      stays = record {
+        file = refl;
+        sent = refl;
+        crash = λ image left. left;
+        time = time_still still (Unsent (may_leave still) (sent_of still));
+      };
       ticks = λ told. tt;
       one_tick = omega arith;
       cause = record { later = omega arith; failed = refl; steady = tt };
@@ -29,10 +31,12 @@ returns c =
     let old = c.args.self.now in
     rw c.pass.ensures (record {
       length = λ told. ap length (c.file.ensures.file ∙ (rw c.pass.ensures (ap (λ (s : State). s.file) (passed_state old other))));
-      file = ap (λ (s : State). s.file) (passed_state old other);
-      sent = ap (λ (s : State). s.sent) (passed_state old other);
-      crash = same_images old;
-      time = time_unsent old other (λ image sent found. found) refl;
+      stays = record {
+        file = ap (λ (s : State). s.file) (passed_state old other);
+        sent = ap (λ (s : State). s.sent) (passed_state old other);
+        crash = same_images old;
+        time = time_unsent old other (λ image sent found. found) refl;
+      };
       ticks = λ told. length-append old.past (other ∷ []);
       one_tick = omega (arith, length-append old.past (other ∷ []));
       cause = record { later = omega arith; failed = tt; steady = refl };

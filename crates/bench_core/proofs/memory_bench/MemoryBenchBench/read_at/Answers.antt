@@ -13,10 +13,12 @@ returns-then-next_fails c =
       bound = tt;
       count = λ told. tt;
       bytes = λ told. tt;
-      file = refl;
-      sent = refl;
-      crash = λ image left. left;
-      time = time_still still (Unsent (may_leave still) (sent_of still));
+      stays = record {
+        file = refl;
+        sent = refl;
+        crash = λ image left. left;
+        time = time_still still (Unsent (may_leave still) (sent_of still));
+      };
       ticks = λ told. tt;
       one_tick = omega arith;
       cause = record { later = omega arith; failed = refl; steady = tt };
@@ -34,10 +36,12 @@ returns c =
       bound = omega (arith, c.copy_from.ensures.count);
       count = λ told. c.copy_from.ensures.count ∙ ap (λ (f : List ℕ). min (length c.copy_from.new.buf) (length f - c.args.at)) read;
       bytes = λ told. c.copy_from.ensures.copied ∙ ap (λ (f : List ℕ). take c.copy_from.result (drop c.args.at f)) read;
-      file = ap (λ (s : State). s.file) (passed_state old other);
-      sent = ap (λ (s : State). s.sent) (passed_state old other);
-      crash = same_images old;
-      time = time_unsent old other (λ image sent found. found) refl;
+      stays = record {
+        file = ap (λ (s : State). s.file) (passed_state old other);
+        sent = ap (λ (s : State). s.sent) (passed_state old other);
+        crash = same_images old;
+        time = time_unsent old other (λ image sent found. found) refl;
+      };
       ticks = λ told. length-append old.past (other ∷ []);
       one_tick = omega (arith, length-append old.past (other ∷ []));
       cause = record { later = omega arith; failed = tt; steady = refl };

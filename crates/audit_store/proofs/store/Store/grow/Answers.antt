@@ -1,0 +1,222 @@
+use Rattle.std.proofs.Common.{◌≡◌, ℕ, inl, inr, List, Result, Err, refl, sym, ap, subst, ◌∙◌, arith}
+use Rattle.std.specs.Prelude.{IfErr, IsErrOf}
+use Rattle.std.proofs.lemmas.Result.{IfErr-at_err}
+use Rattle.bench_core.specs.declared.bench.Bench.{Ghosts}
+use Rattle.bench_core.specs.Calls.{LeavesOnly, IsUntouched}
+use Rattle.bench_core.specs.Moments.{joins, weakens, still_quiet, then_tells}
+use Rattle.audit_types.specs.declared.shapes.Shape.{Shape}
+use Rattle.audit_types.specs.declared.records.Answered.{Answered}
+use Rattle.audit_types.specs.Widening.{over, widened}
+use Rattle.journal_form.specs.Journal.{StandsAt, StandsFor}
+use Rattle.answer_journal.specs.Moments.{IsBeforeOrGrown}
+use Rattle.table_load.specs.Database.{secret_table}
+use Rattle.audit_store.specs.declared.growing.GrowFault.{GrowFault}
+use Rattle.audit_store.specs.declared.growing.GrowFault.TheVariants.{Failed}
+use Rattle.audit_store.specs.Growing.{GivesUpGrowing, GrowCause, GrowHistoryCause, GrowsFrom, NotGrownUnlessFailed, GrowsUnlessFailed}
+use Rattle.audit_store.specs.Refusals.{no_refusal}
+use Rattle.audit_store.proofs.GrowCauses.{grow_cause_of_reading, grow_due_of_reading, grow_gave_up, grow_cause_in_file, grow_due_of_history, one_grow_cause, grows_has_no_cause, grows_from, can_grow, history_no_call}
+use Rattle.audit_store.proofs.StoreFaults.{grow_read_failed, grow_failed, no_answer, on_refusal, is_refusal, told_as}
+use Rattle.audit_store.proofs.store.Store.grow.Goals as goal
+
+module _ {D : Type 0} (bench : Ghosts D) (old : D) (other : Shape) (history : List Answered) (more : ℕ) (stands : StandsFor (bench.file old) other history) where
+  -- the journal was read, and its history stands as before
+  read_alone : (mid : D) → LeavesOnly bench old mid (IsUntouched (bench.file old) (bench.sent old)) →
+      LeavesOnly bench old mid (IsBeforeOrGrown other history more (bench.sent old))
+  read_alone mid reading =
+      weakens bench old mid (IsUntouched (bench.file old) (bench.sent old)) (IsBeforeOrGrown other history more (bench.sent old))
+      (λ image sent is. (is.0, inl (stands.0, subst (λ (f : List ℕ). StandsAt f other history stands.0) (sym is.1) stands.1))) reading
+
+  -- and then the growth was appended
+  in_two_steps : (mid new : D) (shape : Shape) (list : List Answered) (rows : ℕ) → shape ≡ other → list ≡ history → rows ≡ more → bench.sent mid ≡ bench.sent old
+      → LeavesOnly bench old mid (IsUntouched (bench.file old) (bench.sent old)) → LeavesOnly bench mid new (IsBeforeOrGrown shape list rows (bench.sent mid))
+      → LeavesOnly bench old new (IsBeforeOrGrown other history more (bench.sent old))
+  in_two_steps mid new shape list rows same_shape same_list same_rows same_sent reading growing =
+      joins bench old mid new (IsBeforeOrGrown other history more (bench.sent old)) (read_alone mid reading)
+      (subst (λ (b : List ℕ). LeavesOnly bench mid new (IsBeforeOrGrown other history more b)) same_sent
+      (subst (λ (k : ℕ). LeavesOnly bench mid new (IsBeforeOrGrown other history k (bench.sent mid))) same_rows
+      (subst (λ (h : List Answered). LeavesOnly bench mid new (IsBeforeOrGrown other h rows (bench.sent mid))) same_list
+      (subst (λ (s : Shape). LeavesOnly bench mid new (IsBeforeOrGrown s list rows (bench.sent mid))) same_shape growing))))
+
+-- ---- the journal was not read
+
+pub returns : goal.returns
+returns g c =
+    let bench = g.B.Bench in
+    let old = c.args.bench.now in
+    let mid = c.read_back.new.bench in
+    let file = bench.file old in
+    let secret = c.args.secret in
+    let table = secret_table secret c.args.protected.items in
+    let reads = c.read_back.ensures.reads in
+    record {
+      cause = λ fault told is.
+          let found = grow_cause_of_reading file table c.in-Err.fault (c.in-Err.ensures.not_made told) (λ at. c.in-Err.ensures.damaged at told) in
+          IfErr-at_err (λ (f : GrowFault). GrowCause f file table) is (subst (λ (f : GrowFault). GrowCause f file table) (sym c.from.ensures) found);
+      due = λ fault told some cause.
+          let due = grow_due_of_reading file table c.in-Err.fault fault (c.in-Err.ensures.made told) (λ at. c.in-Err.ensures.damaged_only at told)
+          (λ shape history gate. c.in-Err.ensures.whole shape history gate told) some cause in
+          rw c.from.ensures due;
+      grows = λ told can.
+          subst (λ (f : GrowFault). GivesUpGrowing f) (sym c.from.ensures)
+          (grow_gave_up c.in-Err.fault (c.in-Err.ensures.whole (over can.rows secret.shape) can.history can.stands.0 told can.stands.1));
+      done = λ told. tt;
+      any_moment = λ told quiet grown.
+          read_alone bench old (over grown.rows secret.shape) grown.history secret.shape.rows grown.stands mid (reads.untouched quiet);
+      untouched = λ told quiet no. reads.untouched quiet;
+      kept = λ other. reads.file;
+      quiet = λ told quiet other. still_quiet bench old mid reads quiet;
+      sent = reads.sent;
+      ticks = λ told. tt;
+      fault = told_as bench old mid _ _ (λ told. grow_failed c.in-Err.fault c.from.result c.from.ensures told)
+          (λ is. grow_read_failed c.in-Err.fault c.from.result c.from.ensures is) c.in-Err.ensures.fault;
+    }
+
+-- ---- its history doesn't go on over all rows
+
+pub returns-in_err-may_grow-in-Ok : goal.returns-in_err-may_grow-in-Ok
+returns-in_err-may_grow-in-Ok g c =
+    let bench = g.B.Bench in
+    let old = c.args.bench.now in
+    let mid = c.read_back.new.bench in
+    let file = bench.file old in
+    let secret = c.args.secret in
+    let table = secret_table secret c.args.protected.items in
+    let journal = c.in-Ok.journal in
+    let list = c.in-Ok.list.items in
+    let reads = c.read_back.ensures.reads in
+    let e = c.in_err-may_grow-in-Ok.field-0.0 in
+    let answer = c.from_residual.result in
+    let same : answer ≡ Err e = is_refusal answer e c.from_residual.ensures in
+    let found : GrowHistoryCause e c.shape-kept.result c.deref_mut.result.now table = c.in_err-may_grow-in-Ok.ensures.err in
+    let here = subst (λ (s : Shape). GrowHistoryCause e s list table) c.shape-kept.ensures.shape
+    (subst (λ (l : List Answered). GrowHistoryCause e c.shape-kept.result l table) c.deref_mut.ensures.value found) in
+    record {
+      cause = λ fault told is.
+          IfErr-at_err (λ (f : GrowFault). GrowCause f file table) is
+          (subst (λ (r : Result (Unit {0}) GrowFault). IfErr r (λ (f : GrowFault). GrowCause f file table)) (sym same)
+          (grow_cause_in_file file journal.shape list journal.gate table e (c.in-Ok.ensures.stands told) here));
+      due = λ fault told some cause.
+          let due = grow_due_of_history file table journal.shape list
+          (λ other others gate stands. let is = c.in-Ok.ensures.whole other others gate told stands in (is.0, is.1))
+          fault (c.in-Ok.ensures.made told) (λ at. c.in-Ok.ensures.damaged_only at told) some cause in
+          subst (λ (r : Result (Unit {0}) GrowFault). NotGrownUnlessFailed fault r) (sym same) (one_grow_cause journal.shape list table fault e some due here);
+      grows = λ told can.
+          let from = grows_from file table journal.shape list
+          (λ other others gate stands. let is = c.in-Ok.ensures.whole other others gate told stands in (is.0, is.1)) can in
+          subst (λ (r : Result (Unit {0}) GrowFault). GrowsUnlessFailed r) (sym same) (grows_has_no_cause journal.shape list table e from here);
+      done = λ told. no_answer answer e same _;
+      any_moment = λ told quiet grown.
+          read_alone bench old (over grown.rows secret.shape) grown.history secret.shape.rows grown.stands mid (reads.untouched quiet);
+      untouched = λ told quiet no. reads.untouched quiet;
+      kept = on_refusal answer e same _ (λ other. reads.file);
+      quiet = λ told quiet other. still_quiet bench old mid reads quiet;
+      sent = reads.sent;
+      ticks = λ told. no_answer answer e same _;
+      fault = told_as bench old mid _ _ (λ is. no_refusal _ _ is)
+          (λ is. absurd (history_no_call journal.shape list table e here
+          (subst (λ (r : Result (Unit {0}) GrowFault). IsErrOf r Failed) same is))) c.in-Ok.ensures.fault;
+    }
+
+-- ---- the growth was not appended
+
+pub returns-in_err-append_growth-in-Ok : goal.returns-in_err-append_growth-in-Ok
+returns-in_err-append_growth-in-Ok g c =
+    let bench = g.B.Bench in
+    let old = c.args.bench.now in
+    let mid = c.read_back.new.bench in
+    let new = c.append_growth.new.bench in
+    let file = bench.file old in
+    let secret = c.args.secret in
+    let table = secret_table secret c.args.protected.items in
+    let journal = c.in-Ok.journal in
+    let list = c.in-Ok.list.items in
+    let reads = c.read_back.ensures.reads in
+    let rows = c.shape-rows.result.rows in
+    let answer = c.from_residual-in_err-append_growth-in-Ok.result in
+    let same : answer ≡ Err Failed = is_refusal answer Failed c.from_residual-in_err-append_growth-in-Ok.ensures in
+    let found : GrowsFrom c.shape-kept.result c.deref_mut.result.now table = c.in_ok-may_grow-in-Ok.ensures.ok in
+    let here = subst (λ (s : Shape). GrowsFrom s list table) c.shape-kept.ensures.shape
+    (subst (λ (l : List Answered). GrowsFrom c.shape-kept.result l table) c.deref_mut.ensures.value found) in
+    record {
+      cause = λ fault told is.
+          IfErr-at_err (λ (f : GrowFault). GrowCause f file table) is
+          (subst (λ (r : Result (Unit {0}) GrowFault). IfErr r (λ (f : GrowFault). GrowCause f file table)) (sym same) tt);
+      due = λ fault told some cause. subst (λ (r : Result (Unit {0}) GrowFault). NotGrownUnlessFailed fault r) (sym same) (inr tt);
+      grows = λ told can. subst (λ (r : Result (Unit {0}) GrowFault). GrowsUnlessFailed r) (sym same) tt;
+      done = λ told. no_answer answer Failed same _;
+      any_moment = λ told quiet grown.
+          let read = c.in-Ok.ensures.whole (over grown.rows secret.shape) grown.history grown.stands.0 told grown.stands.1 in
+          let same_rows : rows ≡ secret.shape.rows = ap (λ (s : Shape). s.rows) c.shape-rows.ensures.shape in
+          let stands = subst (λ (f : List ℕ). StandsAt f journal.shape list journal.gate) (sym reads.file) (c.in-Ok.ensures.stands told) in
+          in_two_steps bench old (over grown.rows secret.shape) grown.history secret.shape.rows grown.stands mid new journal.shape list rows
+          read.0 read.1 same_rows reads.sent (reads.untouched quiet) (c.append_growth.ensures.any_moment list told stands (still_quiet bench old mid reads quiet));
+      untouched = λ told quiet no. absurd (no (can_grow file journal.shape list journal.gate table (c.in-Ok.ensures.stands told) here));
+      kept = on_refusal answer Failed same _ (λ other. absurd (other same));
+      quiet = λ told quiet other. absurd (other same);
+      sent = c.append_growth.ensures.sent ∙ reads.sent;
+      ticks = λ told. no_answer answer Failed same _;
+      fault = then_tells bench old mid new _ _ c.in-Ok.ensures.fault (λ is. no_refusal _ _ is) (record {
+        later = c.append_growth.ensures.cause.later;
+        failed = λ is. c.in_err-append_growth-in-Ok.ensures.cause.failed;
+        last_call = λ is. c.in_err-append_growth-in-Ok.ensures.last_call;
+        steady = λ other. absurd (other (subst (λ (r : Result (Unit {0}) GrowFault). IsErrOf r Failed) (sym same) refl));
+      });
+    }
+
+-- ---- it was
+
+pub returns-in-Ok : goal.returns-in-Ok
+returns-in-Ok g c =
+    let bench = g.B.Bench in
+    let old = c.args.bench.now in
+    let mid = c.read_back.new.bench in
+    let new = c.append_growth.new.bench in
+    let file = bench.file old in
+    let secret = c.args.secret in
+    let table = secret_table secret c.args.protected.items in
+    let journal = c.in-Ok.journal in
+    let list = c.in-Ok.list.items in
+    let reads = c.read_back.ensures.reads in
+    let rows = c.shape-rows.result.rows in
+    let found : GrowsFrom c.shape-kept.result c.deref_mut.result.now table = c.in_ok-may_grow-in-Ok.ensures.ok in
+    let here = subst (λ (s : Shape). GrowsFrom s list table) c.shape-kept.ensures.shape
+    (subst (λ (l : List Answered). GrowsFrom c.shape-kept.result l table) c.deref_mut.ensures.value found) in
+    let same_rows : rows ≡ secret.shape.rows = ap (λ (s : Shape). s.rows) c.shape-rows.ensures.shape in
+    record {
+      cause = λ fault told is. let none : ⊥ = cc in absurd none;
+      due = λ fault told some cause.
+          some
+          (grows_has_no_cause journal.shape list table fault here
+          (grow_due_of_history file table journal.shape list
+          (λ other others gate stands. let is = c.in-Ok.ensures.whole other others gate told stands in (is.0, is.1))
+          fault (c.in-Ok.ensures.made told) (λ at. c.in-Ok.ensures.damaged_only at told) some cause));
+      grows = λ told can. tt;
+      done = λ told.
+          let stands = subst (λ (f : List ℕ). StandsAt f journal.shape list journal.gate) (sym reads.file) (c.in-Ok.ensures.stands told) in
+          let after = c.in_ok-append_growth-in-Ok.ensures.done list told stands in
+          let shape : c.append_growth.new.self.shape ≡ secret.shape = c.in_ok-append_growth-in-Ok.ensures.shape
+          ∙ ap (λ (s : Shape). over rows s) here.fewer.columns ∙ ap (λ k. over k secret.shape) same_rows in (
+            can_grow file journal.shape list journal.gate table (c.in-Ok.ensures.stands told) here,
+            (
+              c.append_growth.new.self.gate,
+              subst (λ (s : Shape). StandsAt (bench.file new) s (widened secret.shape.rows list) c.append_growth.new.self.gate) shape
+                  (subst (λ (k : ℕ). StandsAt (bench.file new) c.append_growth.new.self.shape (widened k list) c.append_growth.new.self.gate) same_rows after),
+            ),
+          );
+      any_moment = λ told quiet grown.
+          let read = c.in-Ok.ensures.whole (over grown.rows secret.shape) grown.history grown.stands.0 told grown.stands.1 in
+          let stands = subst (λ (f : List ℕ). StandsAt f journal.shape list journal.gate) (sym reads.file) (c.in-Ok.ensures.stands told) in
+          in_two_steps bench old (over grown.rows secret.shape) grown.history secret.shape.rows grown.stands mid new journal.shape list rows
+          read.0 read.1 same_rows reads.sent (reads.untouched quiet) (c.append_growth.ensures.any_moment list told stands (still_quiet bench old mid reads quiet));
+      untouched = λ told quiet no. absurd (no (can_grow file journal.shape list journal.gate table (c.in-Ok.ensures.stands told) here));
+      kept = tt;
+      quiet = λ told quiet other. c.in_ok-append_growth-in-Ok.ensures.quiet told;
+      sent = c.append_growth.ensures.sent ∙ reads.sent;
+      ticks = λ told. omega (arith, c.in-Ok.ensures.ticks told, c.in_ok-append_growth-in-Ok.ensures.ticks told);
+      fault = then_tells bench old mid new _ _ c.in-Ok.ensures.fault (λ is. no_refusal _ _ is) (record {
+        later = c.append_growth.ensures.cause.later;
+        failed = λ is. no_refusal _ _ is;
+        last_call = λ is. no_refusal _ _ is;
+        steady = λ other. c.in_ok-append_growth-in-Ok.ensures.cause.steady;
+      });
+    }

@@ -1,0 +1,88 @@
+-- What a journal is found to be when it is to grow to the rows of a table: each answer has its cause in the file and the
+-- table.
+use Rattle.std.specs.Prelude.{◌≡◌, ◌≢◌, ◌⊎◌, ℕ, ◌<◌, List, Result, Ok, Err}
+use Rattle.audit_types.specs.declared.shapes.Shape.{Shape}
+use Rattle.audit_types.specs.declared.records.Answered.{Answered}
+use Rattle.audit_types.specs.Widening.{over, widened}
+use Rattle.audit_types.specs.History.{Table, IsLegal}
+use Rattle.journal_form.specs.Journal.{StandsFor, BreaksAt}
+use Rattle.answer_journal.specs.Moments.{IsMade}
+use Rattle.audit_store.specs.declared.growing.GrowFault.{GrowFault}
+use Rattle.audit_store.specs.declared.growing.GrowFault.TheVariants.{NotMade, Damaged, OtherShape, NothingNew, Untrue, Illegal, Failed, NoMemory}
+use Rattle.audit_store.specs.declared.starting.StartFault.{StartFault}
+use Rattle.audit_store.specs.declared.starting.StartFault.TheVariants as start
+use Rattle.audit_store.specs.Starting.{IsFirstUntrue, IsFirstIllegal, StandsForOne}
+
+-- a journal of this shape can't grow to a table of that one: its columns are others, or it has more rows
+abbrev pub CantGrow : Shape → Shape → Type 0
+CantGrow kept now = (kept.kinds ≢ now.kinds) ⊎ (now.rows < kept.rows)
+
+-- the file stands for a history over fewer rows than the table has, and over all of them it has this
+pub record StandsForFewer (file : List ℕ) (table : Table) (P : List Answered → Type 0) : Type 0 where
+  pub rows : ℕ
+  pub history : List Answered
+  pub fewer : rows < table.setting.shape.rows
+  pub stands : StandsFor file (over rows table.setting.shape) history
+  pub has : P (widened table.setting.shape.rows history)
+
+-- the file stands for a history over fewer rows, which is legal over all of them
+abbrev pub CanGrow : List ℕ → Table → Type 0
+CanGrow file table = StandsForFewer file table (IsLegal table)
+
+-- why a journal has not grown, by the file
+abbrev pub GrowCause : GrowFault → List ℕ → Table → Type 0
+GrowCause NotMade file table = ¬ (IsMade file)
+GrowCause (Damaged at) file table = IsMade file × BreaksAt file at
+GrowCause (OtherShape kept now) file table = StandsForOne file kept (λ _. (now ≡ table.setting.shape) × CantGrow kept now)
+GrowCause (NothingNew rows) file table = StandsForOne file table.setting.shape (λ _. rows ≡ table.setting.shape.rows)
+GrowCause (Untrue place kept now) file table = StandsForFewer file table (λ history. IsFirstUntrue table history place kept now)
+GrowCause (Illegal place) file table = StandsForFewer file table (λ history. IsFirstIllegal table history place)
+GrowCause Failed file table = Unit {0}
+GrowCause NoMemory file table = Unit {0}
+
+-- the same columns over fewer rows
+pub record IsFewer (shape : Shape) (table : Table) : Type 0 where
+  pub columns : shape ≡ over shape.rows table.setting.shape
+  pub fewer : shape.rows < table.setting.shape.rows
+
+-- a history that a journal of this shape keeps goes on over all rows of the table
+pub record GrowsFrom (shape : Shape) (history : List Answered) (table : Table) : Type 0 where
+  pub fewer : IsFewer shape table
+  pub legal : IsLegal table (widened table.setting.shape.rows history)
+
+-- why it doesn't
+abbrev pub GrowHistoryCause : GrowFault → Shape → List Answered → Table → Type 0
+GrowHistoryCause NotMade shape history table = ⊥
+GrowHistoryCause (Damaged at) shape history table = ⊥
+GrowHistoryCause (OtherShape kept now) shape history table = (kept ≡ shape) × (now ≡ table.setting.shape) × CantGrow kept now
+GrowHistoryCause (NothingNew rows) shape history table = (shape ≡ table.setting.shape) × (rows ≡ table.setting.shape.rows)
+GrowHistoryCause (Untrue place kept now) shape history table = IsFewer shape table × IsFirstUntrue table (widened table.setting.shape.rows history) place kept now
+GrowHistoryCause (Illegal place) shape history table = IsFewer shape table × IsFirstIllegal table (widened table.setting.shape.rows history) place
+GrowHistoryCause Failed shape history table = ⊥
+GrowHistoryCause NoMemory shape history table = Unit {0}
+
+-- the fault that opening the journal found
+abbrev pub grow_fault : StartFault → GrowFault
+grow_fault start.NotMade = NotMade
+grow_fault (start.Damaged at) = Damaged at
+grow_fault (start.OtherShape kept now) = OtherShape kept now
+grow_fault (start.Untrue place kept now) = Untrue place kept now
+grow_fault (start.Illegal place) = Illegal place
+grow_fault start.Failed = Failed
+grow_fault start.NoMemory = NoMemory
+
+-- a call of the bench failed, or memory ran out: that may come whatever the file is
+abbrev pub GivesUpGrowing : GrowFault → Type 0
+GivesUpGrowing Failed = Unit {0}
+GivesUpGrowing NoMemory = Unit {0}
+GivesUpGrowing fault = ⊥
+
+-- it has grown, or a call of the bench failed, or memory ran out
+abbrev pub GrowsUnlessFailed : Result (Unit {0}) GrowFault → Type 0
+GrowsUnlessFailed (Ok done) = Unit {0}
+GrowsUnlessFailed (Err fault) = GivesUpGrowing fault
+
+-- it has not grown, for this cause unless a call of the bench failed or memory ran out
+abbrev pub NotGrownUnlessFailed : GrowFault → Result (Unit {0}) GrowFault → Type 0
+NotGrownUnlessFailed due (Ok done) = ⊥
+NotGrownUnlessFailed due (Err fault) = (fault ≡ due) ⊎ GivesUpGrowing fault

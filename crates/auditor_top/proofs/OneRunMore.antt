@@ -1,0 +1,108 @@
+-- A life with one run more.
+use Rattle.std.proofs.Common.{◌≡◌, ℕ, inl, List, [], ◌∷◌, ◌++◌, true, Option, Some, refl, sym, ◌∙◌, ap, subst, arith}
+use Rattle.std.proofs.lemmas.List.{append_cancel_left, append-nil}
+use Rattle.audit_types.specs.declared.shapes.Shape.{Shape}
+use Rattle.audit_types.specs.declared.records.Answered.{Answered}
+use Rattle.audit_types.specs.History.{Table, IsLegal}
+use Rattle.bench_core.specs.declared.bench.Bench.{Ghosts}
+use Rattle.bench_core.specs.declared.source.Source as source
+use Rattle.bench_core.specs.Calls.{IsQuiet}
+use Rattle.table_load.specs.Database.{Database}
+use Rattle.journal_form.specs.Journal.{StandsFor, StandsAt}
+use Rattle.audit_types.specs.Widening.{over}
+use Rattle.answer_journal.specs.Moments.{IsBeforeOrGrown}
+use Rattle.line_wire.specs.Lines.{counted_lines}
+use Rattle.question_plan.specs.Replies.{IsDue}
+use Rattle.audit_session.specs.Stops.{IsBatch, Stop, StopsOver, stands_over}
+use Rattle.audit_session.specs.Lives.{Standing, serves, grows, Run, GoesFrom, Lead, IsLife, in_force}
+use Rattle.auditor_top.specs.declared.status.Status.{Status}
+use Rattle.auditor_top.specs.declared.words.Command.{Command}
+use Rattle.auditor_top.specs.declared.words.Command.TheVariants.{Init, Serve, Audit, Simulate, Drill, Grow}
+use Rattle.auditor_top.specs.Commands.{GoesOnOver, deed_of, reads_lines}
+use Rattle.auditor_top.specs.Promise.{GoesOn, RunsMakeLives}
+use Rattle.auditor_top.specs.Runs.{Objects, Serving, Growing}
+use Rattle.auditor_top.proofs.OneCommand.{one_command}
+
+-- one file has one history
+abbrev pub OneReading : Type 0
+OneReading =
+    (file : List ℕ) (shape other : Shape) (history others : List Answered) (gate place : ℕ) → StandsAt file shape history gate →
+    StandsAt file other others place → (shape ≡ other) × (history ≡ others) × (gate ≡ place)
+
+-- the empty history is legal
+pub nothing_is_legal : (table : Table) → IsLegal table []
+nothing_is_legal table = record { few = omega arith; each = λ i r is. cc }
+
+pub lead_push : (at : Standing) (runs : List Run) (mid : Standing) (run : Run) → Lead at runs mid → GoesFrom mid run → Lead at (runs ++ run ∷ []) run.left
+lead_push at [] mid run lead goes = (subst (λ (s : Standing). GoesFrom s run) lead goes, refl)
+lead_push at (before ∷ runs) mid run lead goes = (lead.0, lead_push before.left runs mid run lead.1 goes)
+
+module _ {P I B : Type 0} (files : source.Ghosts P) (lines : source.Ghosts I) (bench : Ghosts B) (status : Status) (old new : Objects P I B) (longer : RunsMakeLives)
+    (quiet : IsQuiet bench old.bench) (at : Standing) (first : Database) (runs : List Run) (life : IsLife first runs at) (image sent : List ℕ) (left : Standing)
+    (was : bench.since new.bench (bench.moment old.bench) image (bench.sent old.bench ++ sent))
+    (stands : StandsFor image (in_force left).setting.shape left.history) where
+  abbrev before : List ℕ
+  before = bench.sent old.bench
+
+  -- the life goes on with a run of `serve`
+  serves_on : (batch : ℕ) → IsBatch batch → Serving files lines bench batch status old new → files.told → lines.told → bench.told →
+      GoesOnOver (Serve batch) (files.left old.schema) (files.left old.table) (bench.file old.bench) at left.base →
+      GoesOn first runs (record { deed = serves batch (lines.left old.input); left = left; sent = sent })
+  serves_on batch is serving ptold itold told goes =
+      let base = left.base in
+      let stops : StopsOver base batch at.history (counted_lines (lines.left old.input)) before image (before ++ sent) =
+      (serving.any_moment ptold itold told quiet base at.history goes.0).each image (before ++ sent) was in
+      let same : stops.0 ≡ sent = sym (append_cancel_left before sent stops.0 stops.1) in
+      longer (files.left old.schema) (files.left old.table) first runs at (record { deed = serves batch (lines.left old.input); left = left; sent = sent })
+      goes.0.files life (record {
+        table = inl (sym (ap (λ (s : Standing). s.base) goes.1));
+        image = image;
+        stands = stands;
+        makes = (
+          is,
+          ap (λ (s : Standing). s.rows) goes.1,
+          subst (λ (bytes : List ℕ). Stop (IsDue base) (stands_over base) batch at.history (counted_lines (lines.left old.input)) image bytes) same stops.2,
+        );
+      })
+
+  -- and with one of `grow`
+  grows_on : Growing files lines bench status old new → files.told → bench.told →
+      GoesOnOver Grow (files.left old.schema) (files.left old.table) (bench.file old.bench) at left.base →
+      GoesOn first runs (record { deed = grows; left = left; sent = sent })
+  grows_on growing ptold told goes =
+      let found : IsBeforeOrGrown (over at.rows left.base.secret.shape) at.history left.base.secret.shape.rows before image (before ++ sent) =
+      (growing.growing ptold told quiet left.base at.rows at.history goes.0).each image (before ++ sent) was in
+      longer (files.left old.schema) (files.left old.table) first runs at (record { deed = grows; left = left; sent = sent }) goes.0.files life (record {
+        table = goes.1;
+        image = image;
+        stands = stands;
+        makes = (append_cancel_left before sent [] (found.0 ∙ sym (append-nil before)), found.1);
+      })
+
+-- whatever moment a run of a command is stopped at, the life goes on with it
+pub goes_on : {P I B : Type 0} (files : source.Ghosts P) (lines : source.Ghosts I) (bench : Ghosts B) (status : Status) (old new : Objects P I B) →
+    RunsMakeLives → (command : Command) → ((batch : ℕ) → command ≡ Serve batch → IsBatch batch × Serving files lines bench batch status old new) →
+    (command ≡ Grow → Growing files lines bench status old new) → files.told → bench.told → (reads_lines command ≡ true → lines.told) →
+    IsQuiet bench old.bench → (base : Database) (at : Standing) →
+    GoesOnOver command (files.left old.schema) (files.left old.table) (bench.file old.bench) at base → (first : Database) (runs : List Run) →
+    IsLife first runs at → (image sent : List ℕ) (left : Standing) → left.base ≡ base →
+    bench.since new.bench (bench.moment old.bench) image (bench.sent old.bench ++ sent) → StandsFor image (in_force left).setting.shape left.history →
+    GoesOn first runs (record { deed = deed_of command (lines.left old.input); left = left; sent = sent })
+goes_on files lines bench status old new longer Init serving growing ptold told itold quiet base at goes first runs life image sent left is was stands = absurd goes
+goes_on files lines bench status old new longer (Serve batch) serving growing ptold told itold quiet base at goes first runs life image sent left is was stands =
+    let served = serving batch refl in
+    serves_on files lines bench status old new longer quiet at first runs life image sent left was stands batch served.0 served.1 ptold (itold refl) told
+    (subst (λ (b : Database). GoesOnOver (Serve batch) (files.left old.schema) (files.left old.table) (bench.file old.bench) at b) (sym is) goes)
+goes_on files lines bench status old new longer Audit serving growing ptold told itold quiet base at goes first runs life image sent left is was stands = absurd goes
+goes_on files lines bench status old new longer Simulate serving growing ptold told itold quiet base at goes first runs life image sent left is was stands = absurd goes
+goes_on files lines bench status old new longer (Drill number) serving growing ptold told itold quiet base at goes first runs life image sent left is was stands =
+    absurd goes
+goes_on files lines bench status old new longer Grow serving growing ptold told itold quiet base at goes first runs life image sent left is was stands =
+    grows_on files lines bench status old new longer quiet at first runs life image sent left was stands (growing refl) ptold told
+    (subst (λ (b : Database). GoesOnOver Grow (files.left old.schema) (files.left old.table) (bench.file old.bench) at b) (sym is) goes)
+
+-- with a run of any other command none does
+pub never_goes_on : {Y : Type 0} (words : Option Command) (command one : Command) (schema table file : List ℕ) (at : Standing) (base : Database) →
+    words ≡ Some one → words ≡ Some command → (GoesOnOver one schema table file at base → ⊥) → GoesOnOver command schema table file at base → Y
+never_goes_on words command one schema table file at base is asked never goes =
+    absurd (never (subst (λ (k : Command). GoesOnOver k schema table file at base) (one_command words command one asked is) goes))

@@ -1,0 +1,38 @@
+-- All rows of a table are the table.
+use Rattle.std.proofs.Common.{◌≡◌, ◌≢◌, ℕ, ℤ, List, [], ◌∷◌, ◌++◌, map, length, take, refl, sym, ◌∙◌, ap, subst, arith}
+use Rattle.std.specs.List.{AllByRecursion}
+use Rattle.std.specs.Prelude.{All}
+use Rattle.std.proofs.lemmas.List.{take_all}
+use Rattle.std.proofs.lemmas.List.Elements.{All-head, All-tail}
+use Rattle.audit_types.specs.declared.shapes.Shape.{Shape}
+use Rattle.audit_types.specs.declared.records.Protected.{Protected}
+use Rattle.audit_types.specs.RowLaws.{rows-again}
+use Rattle.audit_types.specs.Rows.{AreRows, has_row, rows_that}
+use Rattle.audit_types.specs.Widening.{groups_among, first_rows}
+use Rattle.audit_types.specs.History.{Table, Secrets, AreSecrets, AreProtected, IsProtected, entry_of, setting_of}
+
+whole_lists : (n : ℕ) (lists : List (List ℤ)) → AllByRecursion (λ w. length w ≡ n) lists → map (take n) lists ≡ lists
+whole_lists n [] all = refl
+whole_lists n (w ∷ lists) all = ap (λ v. v ∷ map (take n) lists) (take_all n w (omega (arith, all.0))) ∙ ap (λ vs. w ∷ vs) (whole_lists n lists all.1)
+
+whole_entry : (column n m : ℕ) (list : List ℕ) → m ≡ n → list ≢ [] → entry_of column n list ≡ record { column = column; rows = record { n = m; list = list } } ∷ []
+whole_entry column n m [] same some = absurd (some refl)
+whole_entry column n m (r ∷ rows) same some = ap (λ k. record { column = column; rows = record { n = k; list = r ∷ rows } } ∷ []) (sym same)
+
+whole_groups : (shape : Shape) (protected : List Protected) → All (IsProtected shape) protected → groups_among shape.rows protected ≡ protected
+whole_groups shape [] fit = refl
+whole_groups shape (p ∷ protected) fit =
+    let first = (All-head (IsProtected shape) p protected fit).0 in
+    let again : rows_that (has_row p.rows.list) shape.rows ≡ p.rows.list = rows-again shape.rows p.rows.list
+    (subst (λ n. AreRows n p.rows.list) first.same_n first.are_rows) in
+    ap (λ rows. entry_of p.column shape.rows rows ++ groups_among shape.rows protected) again
+    ∙ ap (λ l. l ++ groups_among shape.rows protected) (whole_entry p.column shape.rows p.rows.n p.rows.list first.same_n first.some)
+    ∙ ap (λ l. p ∷ l) (whole_groups shape protected (All-tail (IsProtected shape) p protected fit))
+
+pub whole_table : (table : Table) → AreSecrets table.setting.shape table.secrets → AreProtected table.setting.shape table.setting.protected →
+    first_rows table.setting.shape.rows table ≡ table
+whole_table table are fit =
+    let shape = table.setting.shape in
+    ap (λ (gs : List Protected). record { setting = setting_of shape gs; secrets = map (take shape.rows) table.secrets })
+    (whole_groups shape table.setting.protected fit.0)
+    ∙ ap (λ (ls : Secrets). record { setting = table.setting; secrets = ls }) (whole_lists shape.rows table.secrets are.numbers)

@@ -1,0 +1,43 @@
+use Rattle.std.proofs.Common.{◌≡◌, List, Result, Err, refl, sym, ◌∙◌, subst}
+use Rattle.audit_types.specs.declared.records.Answered.{Answered}
+use Rattle.audit_types.specs.declared.records.Protected.{Protected}
+use Rattle.audit_types.specs.History.{IsLegal}
+use Rattle.table_load.specs.Database.{secret_table}
+use Rattle.journal_form.specs.Journal.{StandsFor}
+use Rattle.audit_store.specs.Starting.{StartCause, GivesUp}
+use Rattle.audit_store.specs.declared.starting.StartFault.{StartFault}
+use Rattle.audit_store.specs.declared.starting.StartFault.TheVariants as start
+use Rattle.set_index.specs.Groups.{AreEntries}
+use Rattle.auditor_top.specs.declared.starting.NotStarted.{NotStarted}
+use Rattle.auditor_top.specs.declared.starting.NotStarted.TheVariants as began
+use Rattle.auditor_top.proofs.StoreRefusals.{same_journal, same_start}
+use Rattle.auditor_top.proofs.starting.start.Goals as goal
+
+-- the journal's fault is told as it is
+one_fault : {X : Type 0} (a b : StartFault) → ◌≡◌ {A = Result X NotStarted} (Err (began.Journal a)) (Err (began.Journal b)) → a ≡ b
+one_fault a b is = cc
+
+pub returns-in-Err-start-clause-cause : goal.returns-in-Err-start-clause-cause
+returns-in-Err-start-clause-cause g c = λ fault is.
+    let opened = c.args.opened in
+    let entries : List Protected = c.in-Ok-copied.protected.items in
+    let found = c.in-Err-start.fault in
+    subst (λ (f : StartFault). (protected : List Protected) × AreEntries opened.schema.columns opened.table.public opened.schema.groups protected ×
+    (g.B.Bench.told → StartCause f (g.B.Bench.file c.args.bench.now) (secret_table opened.table.secret protected) ×
+    ((history : List Answered) → StandsFor (g.B.Bench.file c.args.bench.now) opened.table.secret.shape history →
+    IsLegal (secret_table opened.table.secret protected) history → GivesUp f))) (one_fault found fault is) (
+      entries,
+      subst (λ (l : List Protected). AreEntries opened.schema.columns opened.table.public opened.schema.groups l) (sym (c.in-Ok-copied.ensures ∙ c.protected.ensures))
+          c.in-Ok.ensures.entries,
+      λ told. (c.in-Err-start.ensures.cause found told refl, λ history stands legal. c.in-Err-start.ensures.opens history told stands legal),
+    )
+
+pub returns-in-Err-start-clause-fault : goal.returns-in-Err-start-clause-fault
+returns-in-Err-start-clause-fault g c =
+    let tells = c.in-Err-start.ensures.fault in
+    record {
+      later = tells.later;
+      failed = λ is. tells.failed (same_journal c.in-Err-start.fault start.Failed is);
+      last_call = λ is. tells.last_call (same_journal c.in-Err-start.fault start.Failed is);
+      steady = λ other. tells.steady (λ is. other (same_start c.in-Err-start.fault is));
+    }

@@ -1,0 +1,97 @@
+-- Laws of the entries of groups: they are one list, there is one where no group has a fault, and they fit the table.
+use Rattle.std.proofs.Common.{◌≡◌, ℕ, suc, ◌≤◌, List, [], ◌∷◌, ◌++◌, length, Option, Some, None, unwrap_or, refl, sym, ap, ◌∙◌, subst, arith}
+use Rattle.std.specs.Prelude.{option_and_then, All}
+use Rattle.std.proofs.lemmas.List.{length-append}
+use Rattle.std.proofs.lemmas.List.Elements.{All-append, All-nil, All-cons}
+use Rattle.audit_types.specs.Rows.{AreRows}
+use Rattle.audit_types.specs.RowLaws.{AreRows-rows_that}
+use Rattle.audit_types.specs.History.{IsProtected, FitsShape, entry_of}
+use Rattle.audit_types.specs.declared.records.Protected.{Protected}
+use Rattle.audit_types.specs.declared.shapes.Kind.{Kind}
+use Rattle.audit_types.specs.declared.shapes.Kind.TheVariants as kind
+use Rattle.schema_json.specs.Columns.{Column, Group, AreColumns, place_of, role_at, secret_place}
+use Rattle.schema_json.specs.SecretShape.{IsSecretOf, PlacesAreColumns, role_of_kind, shape_of}
+use Rattle.schema_json.specs.declared.roles.Role.TheVariants.{Sum}
+use Rattle.table_load.specs.Cells.{PublicView}
+use Rattle.predicate_lang.specs.Laws.{OneMeaning}
+use Rattle.predicate_lang.specs.Trees.{Tree}
+use Rattle.set_index.specs.Asked.{meaning}
+use Rattle.set_index.specs.Groups.{AreEntries, AreSound, HasNoFault, IsGroup}
+use Rattle.set_index.specs.Indexed.{EntriesFit, OneListOfEntries}
+use Rattle.set_index.proofs.Entries.{entries_sound}
+
+-- ---- one list
+
+some_one : (a b : ℕ) (o : Option ℕ) → o ≡ Some a → o ≡ Some b → a ≡ b
+some_one a b o first second = ap (λ x. unwrap_or x a) (sym first ∙ second)
+
+-- groups have at most one list of entries
+one_list : OneMeaning → (columns : List Column) (public : PublicView) (groups : List Group) (a b : List Protected) → AreEntries columns public groups a → AreEntries columns public groups b → a ≡ b
+one_list means columns public [] a b x y = x ∙ sym y
+one_list means columns public (g ∷ gs) a b (c, t, rest, is, a_is, more) (d, u, others, was, b_is, again) =
+    let place = some_one c d (option_and_then (secret_place columns) (place_of g.column columns)) is.place was.place in
+    let tree = means.tree columns g.condition t u is.means was.means in
+    a_is
+    ∙ ap (λ k. entry_of k public.rows (meaning public t) ++ rest) place
+    ∙ ap (λ v. entry_of d public.rows (meaning public v) ++ rest) tree
+    ∙ ap (λ xs. entry_of d public.rows (meaning public u) ++ xs) (one_list means columns public gs rest others more again)
+    ∙ sym b_is
+
+-- groups without fault have one
+some_list : (columns : List Column) (public : PublicView) (groups : List Group) → AreSound columns groups → (protected : List Protected) × AreEntries columns public groups protected
+some_list columns public [] sound = ([], refl)
+some_list columns public (g ∷ gs) sound = by (sound 0 g refl) (some_list columns public gs (λ i group is. sound (suc i) group is))
+  where
+    by : HasNoFault columns g → ((rest : List Protected) × AreEntries columns public gs rest) → (protected : List Protected) × AreEntries columns public (g ∷ gs) protected
+    by (c, t, is) (rest, more) = (entry_of c public.rows (meaning public t) ++ rest, (c, t, rest, is, refl, more))
+
+pub one_list_of_entries : OneMeaning → OneListOfEntries
+one_list_of_entries means = record {
+  one = one_list means;
+  some = some_list;
+  sound = entries_sound;
+  bad = λ columns groups place first sound. first.bad (sound place first.at first.stands);
+}
+
+-- ---- they fit
+
+-- the place among the secret columns that a group's name has is a column of sums
+sums_at : PlacesAreColumns → (columns : List Column) (group : Group) (column : ℕ) (t : Tree) → AreColumns columns → IsGroup columns group column t →
+    IsSecretOf columns (Some Sum) column
+sums_at places columns group column t are is = by (place_of group.column columns) is.sums is.place
+  where
+    by : (o : Option ℕ) → option_and_then (role_at columns) o ≡ Some Sum → option_and_then (secret_place columns) o ≡ Some column → IsSecretOf columns (Some Sum) column
+    by None sums place = absurd (cc)
+    by (Some p) sums place = subst (λ r. IsSecretOf columns r column) sums (places columns p column are place)
+
+kind_of_sums : (k : Kind) → Some Sum ≡ Some (role_of_kind k) → k ≡ kind.Sum
+kind_of_sums kind.Sum is = refl
+kind_of_sums kind.Max is = absurd (cc)
+
+-- some rows of a column of sums are a group that fits
+fits_sums : (columns : List Column) (column rows : ℕ) (list : List ℕ) → IsSecretOf columns (Some Sum) column → AreRows rows list →
+    All (IsProtected (shape_of columns rows)) (entry_of column rows list) × (length (entry_of column rows list) ≤ 1)
+fits_sums columns column rows [] secret are = (All-nil (IsProtected (shape_of columns rows)), omega arith)
+fits_sums columns column rows (r ∷ list) secret are =
+    let shape = shape_of columns rows in
+    let p : Protected = record { column = column; rows = record { n = rows; list = r ∷ list } } in
+    let fits : FitsShape shape column p.rows = record { column_below = secret.has.below rows; same_n = refl; are_rows = are; some = λ none. cc } in
+    (All-cons (IsProtected shape) p [] (fits, secret.has.of_kind rows ∙ kind_of_sums secret.kind secret.named) (All-nil (IsProtected shape)), omega arith)
+
+-- the entries of groups fit the table, and are no more than the groups
+entries_fit : PlacesAreColumns → (columns : List Column) (public : PublicView) (groups : List Group) (protected : List Protected) → AreColumns columns → AreEntries columns public groups protected →
+    All (IsProtected (shape_of columns public.rows)) protected × (length protected ≤ length groups)
+entries_fit places columns public [] protected are none =
+    subst (λ xs. All (IsProtected (shape_of columns public.rows)) xs × (length xs ≤ 0)) (sym none) (All-nil (IsProtected (shape_of columns public.rows)), omega arith)
+entries_fit places columns public (g ∷ gs) protected are (c, t, rest, is, protected_is, more) =
+    let shape = shape_of columns public.rows in
+    let entry = entry_of c public.rows (meaning public t) in
+    let first = fits_sums columns c public.rows (meaning public t) (sums_at places columns g c t are is) (AreRows-rows_that _ public.rows) in
+    let others = entries_fit places columns public gs rest are more in
+    let few : length (entry ++ rest) ≤ length (g ∷ gs) = omega (arith, first.1, others.1, length-append entry rest) in
+    subst (λ xs. All (IsProtected shape) xs × (length xs ≤ length (g ∷ gs))) (sym protected_is) (All-append (IsProtected shape) entry rest first.0 others.0, few)
+
+pub entries_are_protected : PlacesAreColumns → EntriesFit
+entries_are_protected places columns public groups protected are is few entries =
+    let fit = entries_fit places columns public groups protected are entries in
+    (fit.0, omega (arith, fit.1, few))
