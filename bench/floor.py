@@ -28,7 +28,7 @@ ABOVE = 1.1
 
 
 def run(program, command, given, taken, counter=()):
-    """Runs a command of the program, below valgrind where that is given, with nothing in its environment that could differ."""
+    """Runs a command of the program, under valgrind if that is given, with nothing in its environment that could differ."""
     with open(given, "rb") as asked, open(taken, "wb") as said:
         ended = subprocess.run([*counter, program, command], stdin=asked, stdout=said, stderr=subprocess.PIPE, env={"PATH": "/usr/bin:/bin"})
     if ended.returncode != 0:
@@ -45,7 +45,7 @@ def count(program, command, given):
 
 def prepare(program, rows, sets, ask, questions, command):
     """The files of a workload, over which its command is counted, and the name of its input."""
-    write_table(rows)
+    write_table(rows, 0)
     write_questions(sets, ask, rows, questions)
     if os.path.exists("answers.journal"):
         os.remove("answers.journal")

@@ -1,10 +1,10 @@
 #!/bin/sh
 # Kills the serving program at random moments, opens it again, and compares what left with what the journal kept: in each
 # round the new records are those of the replies that left whole, in order, and at most one more. Prints figures, and ends
-# with 0 where that held in every round. Each fifty rounds begin a new table and journal. Build the program first:
+# with 0 if that held in every round. Each fifty rounds begin a new table and journal. Build the program first:
 # demo/run.sh does.
 #
-#   bench/kill.sh [ROUNDS]        1,000 where none is given
+#   bench/kill.sh [ROUNDS]        1,000 if none is given
 rounds=${1:-1000}
 . "$(dirname "$0")/setup.sh"
 echo '{"columns":[{"name":"age","is":"number"},{"name":"pay","is":"sum"},{"name":"best","is":"max"}]}' >schema.json

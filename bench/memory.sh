@@ -1,8 +1,8 @@
 #!/bin/sh
 # Refuses the program one request for memory after the other, in each command over the demo's files, by a library that is loaded
-# before the C library. Each run has to end as one that was refused none, or with 15 and its text, and then: what was sent is a
+# before the C library. Each run has to end as one that was refused nothing, or with 15 and its text, and then: what was sent is a
 # front of what is due, `init` can be run again, and a run over the lines without a reply gives the replies that are left.
-# Prints for each command how many requests were refused and how often it ended with 15; the status is 1 where a run did
+# Prints for each command how many requests were refused and how often it ended with 15; the status is 1 if a run did
 # otherwise. Needs `cc`. Build the program first: demo/run.sh does.
 #
 #   bench/memory.sh

@@ -1,41 +1,72 @@
 #!/bin/sh
-# Times the built program where it opens a full journal: 65,536 records over 200 rows, of sums and maxima in turn over random
-# pairs of rows joined, none of which tells the two rows of a pair apart, so that no question is denied. Prints the seconds and
-# the peak of memory, and ends with 1 where these are more than five seconds or 64 MiB, or where the journal isn't full. Build the
-# program first: demo/run.sh does.
+# Times the built program when it opens a full journal, 65,536 records of sums and maxima in turn over random pairs of rows
+# joined, none of which separates the two rows of a pair, so that no question is denied: over 200 rows, and over 1,024 rows with
+# 64 protected groups of half of the rows each. Prints the seconds and the peak of memory of each, and ends with 1 if these
+# are more than 5 and 30 seconds, or 64 MiB, or if a journal isn't full. Build the program first: demo/run.sh does.
 #
 #   bench/opening.sh
 # A sync is free in a folder that is kept in memory.
 [ -d /dev/shm ] && export TMPDIR=/dev/shm
 . "$(dirname "$0")/setup.sh"
-echo '{"columns":[{"name":"pair","is":"number"},{"name":"pay","is":"sum"},{"name":"best","is":"max"}]}' >schema.json
-awk 'BEGIN { srand(1); print "pair,pay,best"
-    for (row = 0; row < 200; row++) print int(row / 2) "," int(rand() * 100000) "," int(rand() * 1000) }' >table.csv
-awk 'BEGIN { srand(2)
-    for (line = 0; line < 65536; line++) {
-        low = int(rand() * 100); high = low + int(rand() * 100); other = int(rand() * 100)
-        question = line % 2 ? "\"ask\":\"max\",\"column\":\"best\"" : "\"ask\":\"sum\",\"column\":\"pay\""
-        print "{" question ",\"where\":\"pair >= " low " and pair <= " high " or pair = " other "\"}"
-    } }' >questions.jsonl
-"$program" init || exit 1
-"$program" serve --batch 64 <questions.jsonl >replies.jsonl || exit 1
-full=$(echo '{"ask":"sum","column":"pay","where":"all"}' | "$program" serve)
-if [ "$full" != '{"refused":"full"}' ] || grep -q denied replies.jsonl; then
-    echo "opening: the journal isn't full" >&2
-    exit 1
-fi
 
-begin=$(date +%s.%N)
-"$program" serve </dev/null &
-peak=0
-while kill -0 $! 2>/dev/null; do
-    now=$(awk '/^VmHWM/ { print $2 }' /proc/$!/status 2>/dev/null)
-    [ "${now:-0}" -gt "$peak" ] && peak=$now
-    sleep 0.01
-done
-wait $! || exit 1
-end=$(date +%s.%N)
-echo "$begin $end $peak $(wc -c <answers.journal)" | awk '{
-    seconds = $2 - $1; mebibytes = $3 / 1024
-    printf "65,536 records over 200 rows, %d bytes: %.2f s, %.1f MiB\n", $4, seconds, mebibytes
-    exit seconds > 5 || mebibytes > 64 }'
+# A pair's number, two secrets, and twelve bits of each row, by which the groups are named.
+write_table() {
+    awk -v rows="$1" 'BEGIN { srand(1)
+        printf "pair,pay,best"; for (bit = 0; bit < 12; bit++) printf ",h%d", bit; print ""
+        for (row = 0; row < rows; row++) {
+            printf "%d,%d,%d", row / 2, rand() * 100000, rand() * 1000
+            for (bit = 0; bit < 12; bit++) printf ",%d", rand() * 2
+            print ""
+        } }' >table.csv
+}
+
+# The groups are the rows in which two of the bits are equal.
+write_schema() {
+    awk -v groups="$1" 'BEGIN {
+        printf "{\"columns\":[{\"name\":\"pair\",\"is\":\"number\"},{\"name\":\"pay\",\"is\":\"sum\"},{\"name\":\"best\",\"is\":\"max\"}"
+        for (bit = 0; bit < 12; bit++) printf ",{\"name\":\"h%d\",\"is\":\"number\"}", bit
+        printf "]"
+        if (groups > 0) printf ",\"protect\":["
+        for (bit = 0; bit < 12; bit++) for (other = 0; other < bit; other++) if (number < groups)
+            printf "%s{\"column\":\"pay\",\"where\":\"h%d = 0 and h%d = 0 or h%d = 1 and h%d = 1\"}", number++ ? "," : "", bit, other, bit, other
+        print groups > 0 ? "]}" : "}" }' >schema.json
+}
+
+write_questions() {
+    awk -v pairs="$1" 'BEGIN { srand(2)
+        for (line = 0; line < 65536; line++) {
+            low = int(rand() * pairs); high = low + int(rand() * pairs); other = int(rand() * pairs)
+            question = line % 2 ? "\"ask\":\"max\",\"column\":\"best\"" : "\"ask\":\"sum\",\"column\":\"pay\""
+            print "{" question ",\"where\":\"pair >= " low " and pair <= " high " or pair = " other "\"}"
+        } }' >questions.jsonl
+}
+
+# measure ROWS GROUPS SECONDS: the journal is made by serving, and opened once more.
+measure() {
+    rm -f answers.journal
+    write_table "$1" && write_schema "$2" && write_questions $(($1 / 2)) || return 1
+    "$program" init || return 1
+    "$program" serve --batch 64 <questions.jsonl >replies.jsonl || return 1
+    full=$(echo '{"ask":"sum","column":"pay","where":"all"}' | "$program" serve)
+    if [ "$full" != '{"refused":"full"}' ] || grep -q denied replies.jsonl; then
+        echo "opening: the journal isn't full" >&2
+        return 1
+    fi
+    begin=$(date +%s.%N)
+    "$program" serve </dev/null &
+    peak=0
+    while kill -0 $! 2>/dev/null; do
+        now=$(awk '/^VmHWM/ { print $2 }' /proc/$!/status 2>/dev/null)
+        [ "${now:-0}" -gt "$peak" ] && peak=$now
+        sleep 0.01
+    done
+    wait $! || return 1
+    end=$(date +%s.%N)
+    echo "$begin $end $peak $(wc -c <answers.journal) $*" | awk '{
+        seconds = $2 - $1; mebibytes = $3 / 1024
+        printf "65,536 records over %d rows with %d protected groups, %d bytes: %.2f s, %.1f MiB\n", $5, $6, $4, seconds, mebibytes
+        exit seconds > $7 || mebibytes > 64 }'
+}
+
+measure 200 0 5 || exit 1
+measure 1024 64 30

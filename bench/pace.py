@@ -6,7 +6,7 @@
 Runs both in turn in the folder that it is called in, and prints for each workload the least processor time of each, the
 auditor's peak of memory, and the ratio of the two times: 1 is as fast as the plain program, 2 twice as fast. With --opening
 it times a run without questions over the journal that the workload left, which decides each record again. The exit status
-is 1 where replies differ."""
+is 1 if replies differ."""
 import argparse
 import json
 import os
@@ -14,15 +14,16 @@ import random
 import subprocess
 import sys
 
-# The sets, what is asked of them, and how many questions.
+# The sets, what is asked of them, how many questions, and how many totals are protected.
 WORKLOADS = [
-    ("intervals", "count", 20000),
-    ("intervals", "sum", 2000),
-    ("intervals-or-groups", "both", 2000),
-    ("triples", "sum", 2000),
-    ("halves", "sum", 300),
-    ("cycle", "sum", 1000),
-    ("intervals", "max", 2000),
+    ("intervals", "count", 20000, 0),
+    ("intervals", "sum", 2000, 0),
+    ("intervals", "sum", 2000, 64),
+    ("intervals-or-groups", "both", 2000, 0),
+    ("triples", "sum", 2000, 0),
+    ("halves", "sum", 300, 0),
+    ("cycle", "sum", 1000, 0),
+    ("intervals", "max", 2000, 0),
 ]
 COLUMNS = {"sum": "v", "max": "m"}
 
@@ -53,13 +54,25 @@ def write_questions(sets, ask, rows, count):
     open("none.jsonl", "w").close()
 
 
-def write_table(rows):
+def protected(rows, count):
+    """So many groups of a twentieth of the rows, next to one another."""
+    draw = random.Random(31)
+    lows = [draw.randrange(rows - rows // 20) for _ in range(count)]
+    return [{"column": "v", "where": f"k >= {low} and k < {low + rows // 20}"} for low in lows]
+
+
+def write_schema(columns, groups):
+    meant = {"columns": columns, "protect": groups} if groups else {"columns": columns}
+    with open("schema.json", "w") as schema:
+        json.dump(meant, schema)
+
+
+def write_table(rows, groups):
     draw = random.Random(29)
     halves = [f"h{k}" for k in range(12)]
     roles = {"k": "number", "g": "number", **dict.fromkeys(halves, "number"), "v": "sum", "m": "max"}
     columns = [{"name": name, "is": role} for name, role in roles.items()]
-    with open("schema.json", "w") as schema:
-        json.dump({"columns": columns}, schema)
+    write_schema(columns, protected(rows, groups))
     with open("table.csv", "w") as table:
         print(*roles, sep=",", file=table)
         for row in range(rows):
@@ -107,21 +120,21 @@ def main():
     words.add_argument("--opening", action="store_true")
     given = words.parse_args()
     programs = {"auditor": given.auditor, "plain": given.plain}
-    print(f"{'workload':30} {'auditor s':>10} {'plain s':>9} {'ratio':>7} {'MiB':>6}")
+    print(f"{'workload':32} {'auditor s':>10} {'plain s':>9} {'ratio':>7} {'MiB':>6}")
     ratios, all_equal = [], True
     for rows in (200, 1024):
-        write_table(rows)
-        for sets, ask, count in WORKLOADS:
-            name = f"{rows}-{sets}-{ask}"
+        for sets, ask, count, groups in WORKLOADS:
+            name = f"{rows}-{sets}-{ask}" + (f"-{groups}-protected" if groups else "")
             if given.only not in name:
                 continue
+            write_table(rows, groups)
             write_questions(sets, ask, rows, count)
             best, equal = compare(programs, given.rounds, given.opening)
             (auditor, peak), (plain, _) = best["auditor"], best["plain"]
             ratios.append(plain / auditor)
             all_equal = all_equal and equal
             note = "" if equal else "  replies differ"
-            print(f"{name:30} {auditor:10.3f} {plain:9.3f} {ratios[-1]:7.2f} {peak:6.1f}{note}", flush=True)
+            print(f"{name:32} {auditor:10.3f} {plain:9.3f} {ratios[-1]:7.2f} {peak:6.1f}{note}", flush=True)
     print(f"least ratio {min(ratios):.2f}")
     sys.exit(0 if all_equal else 1)
 

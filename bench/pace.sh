@@ -1,5 +1,5 @@
 #!/bin/sh
-# Times the built program on fourteen workloads beside the plain, unproved program of bench/plain, and prints the ratio of
+# Times the built program on sixteen workloads beside the plain, unproved program of bench/plain, and prints the ratio of
 # their times. Build the program first: demo/run.sh does. The plain one is built here, with cargo.
 #
 #   bench/pace.sh [--rounds 3] [--only 1024-intervals-max] [--opening]

@@ -5,7 +5,7 @@
 # replies, and without questions, which opens the journal and decides each record again. What groups save is syncs, so let
 # TMPDIR be on a disk. Build the program first: demo/run.sh does.
 #
-#   bench/serve.sh [QUESTIONS]        2,000 where none is given; a quarter of them of maxima alone
+#   bench/serve.sh [QUESTIONS]        2,000 if none is given; a quarter of them of maxima alone
 most=${1:-2000}
 . "$(dirname "$0")/setup.sh"
 echo '{"columns":[{"name":"band","is":"number"},{"name":"age","is":"number"},{"name":"pay","is":"sum"},{"name":"best","is":"max"}]}' >schema.json

@@ -1,13 +1,13 @@
 #!/bin/sh
 # Does to the journal what somebody with leave to write its folder might do, most of it while a run has it open, and prints what the
-# run then ended with and said. Ends with 0 where each end is the one that is due: a run that no longer has the journal's name, or
+# run then ended with and said. Ends with 0 if each end is the one that is due: a run that no longer has the journal's name, or
 # finds it cut off or written by somebody else, sends nothing more, and no answer leaves whose record isn't in the journal.
 #
 #   demo/attacks.sh [PROGRAM]
 set -u
 . "$(dirname "$0")/ends.sh"
 
-# Tells of the end of the open run, which sent three replies and no fourth, or four where it had to go on.
+# Reports the end of the open run, which sent three replies and no fourth, or four if it had to go on.
 tell_run() {
     end_run
     tell "$1" "$2" "$status"
@@ -88,7 +88,7 @@ tell 'the replies are sent behind its end' 6 $?
 "$program" serve <questions.jsonl >replies 2>said
 tell 'the next run over that' 0 $?
 
-# They pass the end of so short a journal. One that stays as long is told of at the next run alone.
+# They pass the end of so short a journal. In one that stays as long only the next run notices it.
 fresh
 "$program" serve <questions.jsonl 1<>answers.journal 2>said
 tell 'the replies are sent over its front' 6 $?
@@ -105,7 +105,7 @@ for command in serve audit init; do
 done
 cmp -s elsewhere made.journal || complain 'what the link leads to was written'
 
-# A file of fewer bytes than a journal has is no journal yet, so `init` would write over it.
+# A file of fewer bytes than a journal has isn't a journal yet, so `init` would write over it.
 fresh
 rm answers.journal
 printf 'v\n1\n2\n' >small.csv

@@ -1,4 +1,4 @@
-# Read by scripts that set `top`, the top of the repository: `build` proves and builds the program, tells on standard error
+# Read by scripts that set `top`, the top of the repository: `build` proves and builds the program, says on standard error
 # what it is at, and sets `program`. The first run proves some twenty crates; a later one only what has changed.
 
 # The crates that the program stands on, itself last, in the order of crates.txt.
@@ -15,7 +15,7 @@ crates_below() {
     ' "$top/crates.txt"
 }
 
-# Proves and builds one crate. The program is also started, where there are no files for it: it ends with 5 then.
+# Proves and builds one crate. The program is also started, in a folder without files for it: it then ends with 5.
 prove() {
     cd "$top/crates/$1" || return 1
     case $1 in

@@ -45,27 +45,44 @@ def number_of_rows():
     return rows
 
 
-def records(columns, rows):
-    """The records of the journal, in order: column, answer, and the rows of the set."""
+def journal(columns):
+    """The bytes of the journal, and the rows that it was made for."""
     with open("answers.journal", "rb") as file:
         data = file.read()
     kinds = bytes(KINDS[kind] for _, kind in columns)
     need(len(data) > 20 and data[:9] == b"\x01SQAJRNL\x01", "no journal")
-    shape = rows.to_bytes(2, "big") + bytes([len(kinds)]) + kinds.ljust(8, b"\0")
-    need(data[9:20] == shape, "the journal is of another table")
-    at, size = 20, 9 + (rows + 7) // 8
+    need(data[11:20] == bytes([len(kinds)]) + kinds.ljust(8, b"\0"), "the journal is of another table")
+    return data, int.from_bytes(data[9:11], "big")
+
+
+def records(columns, rows):
+    """The records of the journal, in order: column, answer, and the rows of the set."""
+    data, in_force = journal(columns)
+    at = 20
     while data[at : at + 1] == b"\x01":
-        need(1 <= int.from_bytes(data[at + 1 : at + 2], "big") <= 64, f"no group of records at byte {at}")
-        count, at = data[at + 1], at + 2
-        for _ in range(count):
-            record = data[at : at + size]
-            need(len(record) == size, f"the file ends within the record at byte {at}")
-            bits = int.from_bytes(record[9:], "little")
-            chosen = [row for row in range(rows) if bits >> row & 1]
-            need(record[0] < len(columns) and chosen and not bits >> rows, f"no record at byte {at}")
-            yield record[0], int.from_bytes(record[1:9], "big", signed=True), chosen
-            at += size
+        count = int.from_bytes(data[at + 1 : at + 2], "big")
+        need(count <= 64, f"no group of records at byte {at}")
+        at += 2
+        if count == 0:
+            grown = int.from_bytes(data[at : at + 2], "big")
+            need(in_force < grown <= 1024, f"no growth at byte {at - 2}")
+            in_force, at = grown, at + 2
+        size = 9 + (in_force + 7) // 8
+        for place in range(at, at + count * size, size):
+            yield record(data, place, size, columns, in_force)
+        at += count * size
     need(at < len(data), f"the file ends at byte {at}, where a gate has to be")
+    need(in_force == rows, "the journal is of another table")
+
+
+def record(data, at, size, columns, in_force):
+    """The record at a byte: column, answer, and the rows of the set, of those that are in force there."""
+    text = data[at : at + size]
+    need(len(text) == size, f"the file ends within the record at byte {at}")
+    bits = int.from_bytes(text[9:], "little")
+    chosen = [row for row in range(in_force) if bits >> row & 1]
+    need(text[0] < len(columns) and chosen and not bits >> in_force, f"no record at byte {at}")
+    return text[0], int.from_bytes(text[1:9], "big", signed=True), chosen
 
 
 def report():
@@ -81,7 +98,7 @@ def report():
 
 
 def are_whole(numbers):
-    """A fraction could be rounded until a total is 0, so none is taken, and neither is true, which Python holds to be 1."""
+    """A fraction could be rounded until a total is 0, so none is taken, nor is `true`, which Python takes for 1."""
     return isinstance(numbers, list) and all(type(number) is int for number in numbers)
 
 

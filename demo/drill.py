@@ -21,7 +21,7 @@ def draws(number):
 
 
 class Sums:
-    """The sets whose sums were told, as a reduced row echelon form: each row by its pivot, as a dictionary of its entries."""
+    """The sets whose sums were answered, as a reduced row echelon form: each row by its pivot, as a dictionary of its entries."""
 
     def __init__(self):
         self.form = {}
@@ -71,7 +71,7 @@ def whole(row):
 
 
 class Maxima:
-    """The sets whose maxima were told, and these."""
+    """The sets whose maxima were answered, and these."""
 
     def __init__(self, numbers):
         self.numbers = numbers
@@ -88,8 +88,8 @@ class Maxima:
 
 
 def extreme_rows(told):
-    """In how many rows of each set its maximum may stand: those whose least maximum it is. Some list has these maxima where
-    each set has such a row; where it is one row alone, that row's number is known."""
+    """In how many rows of each set its maximum may stand: those whose least maximum it is. Some list has these maxima if
+    each set has such a row; if it is one row alone, that row's number is known."""
     bound = {}
     for rows, answer in told:
         for row in rows:

@@ -1,5 +1,5 @@
 # Read by edges.sh, attacks.sh and statuses.sh, after `set -u` and with their arguments: finds the program, makes a folder that is
-# gone at the end, and has what they say of an end. Where no program is given it is the one that run.sh built in the source.
+# gone at the end, and has what they say of an end. If no program is given it is the one that run.sh built in the source.
 demo=$(cd "$(dirname "$0")" && pwd)
 built=${1:-$demo/../crates/auditor/out/auditor}
 if [ ! -f "$built" ] || [ ! -x "$built" ]; then
@@ -22,7 +22,7 @@ fresh() {
     cp answers.journal made.journal
 }
 
-# Prints a line for an end, with the status that was seen and what was said, and a mark where another status was due.
+# Prints a line for an end, with the status that was seen and what was said, and a mark if another status was due.
 tell() {
     mark=' '
     [ "$2" = "$3" ] || { mark='!'; wrong=$((wrong + 1)); }
@@ -35,7 +35,7 @@ complain() {
     wrong=$((wrong + 1))
 }
 
-# Tells of an end, and that what the journal holds is as it was made.
+# Reports an end, and checks that what the journal holds is as it was made.
 tell_unwritten() {
     cmp -s answers.journal made.journal || complain "the journal was written: $1"
     tell "$@"
@@ -65,7 +65,7 @@ end_run() {
     status=$?
 }
 
-# Says how many ends were not those that were due, and ends with 1 where some weren't.
+# Says how many ends were not those that were due, and ends with 1 if some weren't.
 conclude() {
     [ "$wrong" = 0 ] || echo "$wrong of these are not what was due"
     [ "$wrong" = 0 ]

@@ -1,9 +1,9 @@
 #!/bin/sh
 # Makes what is handed to those who have no kit: a folder and a tarball with the built program, its manual page, the pages for
-# users, the demo, and the scripts of the front; then unpacks the tarball in a fresh folder, and runs the demo out of it. Its name has the version, the
-# newest of CHANGELOG.md. Build the program first: demo/run.sh does.
+# users, the demo, and the scripts of the front; then unpacks the tarball in a fresh folder, and runs the demo out of it. Its name has
+# the version, the newest of CHANGELOG.md. Build the program first: demo/run.sh does.
 #
-#   demo/package.sh [FOLDER]        the folder to make them in; the current one where none is given
+#   demo/package.sh [FOLDER]        the folder to make them in; the current one if none is given
 set -u
 demo=$(cd "$(dirname "$0")" && pwd)
 top=$(dirname "$demo")
@@ -40,7 +40,7 @@ for page in PROMISES THREATS FORMATS OPERATIONS; do
     cp "$top/docs/$page.md" "$name/share/doc/auditor/" || exit 1
 done
 cp "$top/CHANGELOG.md" "$name/share/doc/auditor/" || exit 1
-for file in run.sh ends.sh edges.sh attacks.sh statuses.sh said.txt check_report.py twin.py drill.py schema.json table.csv public.csv questions.jsonl replies.jsonl; do
+for file in run.sh ends.sh edges.sh attacks.sh statuses.sh said.txt check_report.py twin.py drill.py grow.sh schema.json table.csv public.csv questions.jsonl replies.jsonl; do
     cp "$demo/$file" "$name/share/doc/auditor/demo/" || exit 1
 done
 mkdir -p "$name/share/doc/auditor/front" || exit 1

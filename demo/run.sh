@@ -1,9 +1,11 @@
 #!/bin/sh
 # Makes a journal beside copies of the demo's files in a fresh folder, asks the demo's questions, compares the replies with
-# those due, has the report checked, and shows for each number another table that sends the same bytes, if there is a python3. Then, in a folder with the public columns alone, computes the decisions
-# of the transcript again: it agrees, and with one reply changed it doesn't. At last it prepares the table anew from its CSV, as with a table
-# of your own, and asks about it in plain words. The exit status tells. Where none is given the program is built first, which takes the
-# source and the kit; in a package it is bin/auditor.
+# those due, has the report checked, and shows for each number another table that sends the same bytes, if there is a python3. Then,
+# in a folder with the public columns alone, computes the decisions of the transcript again: it agrees, and with one reply changed it
+# doesn't. Then a schema protects a team's total, and that total
+# is denied, and a table gets a row at its end. At last it prepares the table anew from its CSV, as with
+# a table of your own, and asks about it in plain words. The exit status is 0 if all is as it should be. If no program is given it is
+# built first, which takes the source and the kit; in a package it is bin/auditor.
 #
 #   demo/run.sh [PROGRAM]
 set -u
@@ -37,6 +39,8 @@ if command -v python3 >/dev/null; then
     python3 "$demo/twin.py" "$program" >&2 || exit 1
 fi
 
+"$demo/grow.sh" "$program" || { echo "demo: the table didn't grow" >&2; exit 1; }
+
 # Blank lines have no reply.
 LC_ALL=C grep -av "^$(printf '\r')\{0,1\}$" questions.jsonl | paste -d '\n' - replies.jsonl >transcript.jsonl
 mkdir outside && cp schema.json outside && cp "$demo/public.csv" outside/table.csv && cd outside || exit 1
@@ -48,6 +52,14 @@ sed '12s/.*/{"sum":112500}/' ../transcript.jsonl >changed.jsonl
 "$program" simulate <changed.jsonl 2>complaint >verdicts.jsonl
 [ $? = 14 ] && [ "$(cat complaint)" = "line 12 disagrees, due unsafe" ] || { echo "demo: a changed reply wasn't told" >&2; exit 1; }
 echo "with that denial made an answer: $(cat complaint)" >&2
+
+# With the group in the schema the total that was answered above isn't any more, over a journal of its own.
+mkdir ../protected && cd ../protected && cp "$demo/table.csv" . || exit 1
+sed "\$s/.*/],\"protect\":[{\"column\":\"salary\",\"where\":\"team = 'Support, Leeds'\"}]}/" "$demo/schema.json" >schema.json || exit 1
+"$program" init || { echo "demo: auditor init ended with status $?, with a protected total" >&2; exit 1; }
+grep -a "'Support, Leeds'" "$demo/questions.jsonl" | "$program" serve >denied.jsonl || { echo "demo: auditor serve ended with status $?, with a protected total" >&2; exit 1; }
+[ "$(cat denied.jsonl)" = '{"denied":"unsafe"}' ] || { echo "demo: a protected total was answered: $(cat denied.jsonl)" >&2; exit 1; }
+echo "with the total of that team protected: $(cat denied.jsonl)" >&2
 
 # From a CSV file to the first answer without an editor: the scripts in front/ need a python3 of 3.10 or later.
 front=$(dirname "$demo")/front

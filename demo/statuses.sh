@@ -1,13 +1,13 @@
 #!/bin/sh
 # Brings the program to each of its exit codes, and compares the code, the text on standard error and what was sent to standard output
-# with those that OPERATIONS.md tells. Prints a line for each, and ends with 0 where all are as told.
+# with those that OPERATIONS.md names. Prints a line for each, and ends with 0 if all are as it says.
 #
 #   demo/statuses.sh [PROGRAM]
 set -u
 . "$(dirname "$0")/ends.sh"
 
 # Compares the end of a run with what is due: `due CODE TEXT COMMAND..`. Its input is `asked`, and `replies` has what is to be sent.
-# Where `limit` is set, the run has so many KiB of memory.
+# If `limit` is set, the run has so many KiB of memory.
 due() {
     code=$1
     text=$2
@@ -37,9 +37,9 @@ cp questions.jsonl asked
 cp "$demo/replies.jsonl" replies
 due 0 '' serve
 
-usage='usage: auditor init, serve [--batch N], audit, simulate, drill N'
+usage='usage: auditor init, serve [--batch N], audit, simulate, drill N, grow'
 begin
-for words in '' help 'serve 3' '--batch 65 serve' 'audit --batch 2' drill 'drill x' 'drill 4294967296'; do
+for words in '' help 'serve 3' '--batch 65 serve' 'audit --batch 2' 'grow 7' drill 'drill x' 'drill 4294967296'; do
     due 2 "$usage" $words
 done
 
@@ -108,5 +108,12 @@ begin
 yes 'a,1,1,1' | head -c 16000000 >>table.csv
 limit=12000
 due 15 'out of memory' serve
+
+begin
+sed -i '$s/.*/],"protect":[{"column":"salary","where":"team = 1"}]}/' schema.json
+due 16 'schema: group 0 is bad' serve
+
+begin
+due 17 'nothing to grow: rows 6' grow
 
 conclude

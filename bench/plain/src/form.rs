@@ -1,8 +1,8 @@
 //! The reduced form of the sets that were answered: whole rows with a pivot each, 0 at the other rows' pivots, without a common
 //! divisor, as lists of what is not 0 at the other columns.
 //!
-//! A set of rows is dangerous where the form with it has a row with a pivot alone, since then that person's number is known. It is
-//! wide where the form with it has a number, or a common multiple of its pivots' entries, beyond a limit.
+//! A set of rows is dangerous if the form with it has a row with a pivot alone, since then that person's number is known. It is
+//! wide if the form with it has a number, or a common multiple of its pivots' entries, beyond a limit.
 
 use crate::divide::{gcd128, gcd64, lcm, Content, Quotient, LIMIT};
 use crate::row_set::RowSet;
@@ -18,7 +18,7 @@ pub struct Form {
     units: u32,
     /// The three rows of greatest numbers.
     widest: Vec<usize>,
-    /// The first columns that are no pivots, where numbers are near the limit.
+    /// The first columns that aren't pivots, if numbers are near the limit.
     front: Vec<u16>,
 }
 

@@ -1,4 +1,4 @@
-//! The journal's file: a header, and groups of records behind a byte that says that they count.
+//! The journal's file: a header, and groups of records after a byte that says that they count.
 
 use crate::row_set::RowSet;
 use crate::table::Role;

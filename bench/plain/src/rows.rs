@@ -61,6 +61,14 @@ impl NewRow {
     pub fn value(&self, place: u16) -> i64 {
         self.values[at(place)]
     }
+
+    pub fn same(&self, other: &NewRow) -> bool {
+        self.places == other.places
+            && self
+                .places
+                .iter()
+                .all(|place| self.value(*place) == other.value(*place))
+    }
 }
 
 /// What clearing a row needs besides.
@@ -208,7 +216,7 @@ impl Row {
         most.max(factors.head(self) as u128) / content <= LIMIT as u128
     }
 
-    /// The pivot's entry once the row is cleared at the new row's pivot; None where it is wide then.
+    /// The pivot's entry once the row is cleared at the new row's pivot; None if it is wide then.
     pub fn cleared_head(&self, new: &NewRow) -> Option<i64> {
         let Some(k) = self.find(new.pivot) else {
             return Some(self.head);
@@ -287,7 +295,7 @@ impl Row {
         content.value()
     }
 
-    /// A multiple of the content that mostly is the content: from the head and a few numbers behind the new pivot.
+    /// A multiple of the content that mostly is the content: from the head and a few numbers after the new pivot.
     fn first_divisor(&self, new: &NewRow, k: usize, factors: Factors) -> u128 {
         let mut content = Content::new(factors.head(self) as u128);
         for entry in &self.entries[k + 1..] {
@@ -336,7 +344,7 @@ impl Row {
         1
     }
 
-    /// The numbers at the row's entries over a divisor, or the first that is no multiple; with how many the new row has.
+    /// The numbers at the row's entries over a divisor, or the first that isn't a multiple; with how many the new row has.
     #[inline]
     fn divided(
         &self,
@@ -496,7 +504,7 @@ impl Row {
     }
 }
 
-/// Each entry but that at `k` takes its number; those behind it move up by one.
+/// Each entry but that at `k` takes its number; those after it move up by one.
 #[inline(never)]
 fn write_up(entries: &mut [Entry], k: usize, new: &NewRow, numbers: &[i64]) -> Pass {
     let mut pass = Pass::default();
@@ -515,7 +523,7 @@ fn write_up(entries: &mut [Entry], k: usize, new: &NewRow, numbers: &[i64]) -> P
     pass
 }
 
-/// Each entry but that at `k` takes its new value; those behind it move up by one.
+/// Each entry but that at `k` takes its new value; those after it move up by one.
 #[inline(never)]
 fn combine(
     entries: &mut [Entry],

@@ -1,5 +1,6 @@
 //! The whole path: files, lines, sets, decisions, journal, replies.
 
+use crate::condition;
 use crate::index::Index;
 use crate::journal::{Journal, Record};
 use crate::maxima::Bounds;
@@ -33,7 +34,7 @@ enum Part {
 }
 
 impl Part {
-    /// Decides on a set; where it is released, the answer is taken.
+    /// Decides on a set; if it is released, the answer is taken.
     fn ask(&mut self, rows: &RowSet, secret: &Secret) -> Result<i64, Verdict> {
         match self {
             Part::Sums(sums) => {
@@ -62,15 +63,31 @@ struct Auditor {
     records: usize,
 }
 
+/// The protected groups of each secret column that have rows.
+fn groups(schema: &Schema, index: &Index) -> Vec<Vec<RowSet>> {
+    let mut groups = vec![Vec::new(); schema.secret_roles().len()];
+    for group in &schema.groups {
+        let place = schema.find(&group.column).expect("a column of sums");
+        let condition = condition::read(schema, &group.condition);
+        let rows = index.rows_of(&condition.unwrap_or_else(|_| panic!("a condition")));
+        if !rows.is_empty() {
+            groups[usize::from(schema.secret_place(place))].push(rows);
+        }
+    }
+    groups
+}
+
 impl Auditor {
     /// Opens the journal and decides each of its records again.
     fn open() -> Auditor {
         let (schema, table) = read_files();
-        let part = |role: &Role| match role {
-            Role::Sum => Part::Sums(Box::new(SumColumn::new(table.rows))),
+        let index = Index::new(&schema, &table);
+        let groups = groups(&schema, &index);
+        let part = |(place, role): (usize, &Role)| match role {
+            Role::Sum => Part::Sums(Box::new(SumColumn::new(table.rows, groups[place].clone()))),
             _ => Part::Maxima(Box::new(Bounds::new(table.rows))),
         };
-        let mut parts: Vec<Part> = schema.secret_roles().iter().map(part).collect();
+        let mut parts: Vec<Part> = schema.secret_roles().iter().enumerate().map(part).collect();
         let secrets = table.secrets(&schema);
         let (journal, records) = Journal::open(JOURNAL, table.rows).unwrap();
         for record in &records {
@@ -79,7 +96,7 @@ impl Auditor {
             assert!(answer == Ok(record.answer), "a journal of another table");
         }
         Auditor {
-            index: Index::new(&schema, &table),
+            index,
             schema,
             secrets,
             parts,
