@@ -48,7 +48,7 @@ def answer_one(there, question):
         print(verdict_words(there.would(question)))
         return True
     reply = there.ask(question)
-    print(reply_words(question, reply, there.columns, there.notes))
+    print(reply_words(question, reply, there.columns, there.notes, there.protected))
     return answer_of(reply) is not None
 
 
@@ -72,7 +72,7 @@ def answer_groups(there, question):
         words = (
             verdict_words(reply)
             if question.would
-            else reply_words(question.over(value), reply, there.columns, there.notes)
+            else reply_words(question.over(value), reply, there.columns, there.notes, there.protected)
         )
         print(f"{value_words(value, there.notes.get(question.by, {}))}: {words}")
         answered = answered and ("verdict" in reply or answer_of(reply) is not None)
@@ -85,7 +85,7 @@ def value_words(value, note):
 
 
 def say_columns(there):
-    """A line for each column: its name, what it is, its title and unit."""
+    """A line for each column: its name, what it is, its title and unit; and one for each total that is protected."""
     for name, kind in there.columns.items():
         note = there.notes.get(name, {})
         title = note.get("title", name)
@@ -98,6 +98,13 @@ def say_columns(there):
         ]
         words += [f"called {title!r}"] * (title != name) + [f"in steps of {step(note)}"] * bool(note.get("decimals"))
         print(f"  {name:32} " + ", ".join(words + ([f"unit {note['unit']}"] if note.get("unit") else [])))
+    for column, where in there.protected:
+        print(f"  protected, so never answered: the total of {column} where {shown(where)}")
+
+
+def shown(text):
+    """What other people wrote, without what would steer a terminal."""
+    return "".join(letter if letter.isprintable() else ascii(letter)[1:-1] for letter in text)
 
 
 def answer_lines(there):
@@ -120,6 +127,9 @@ def answer_lines(there):
 
 def main(words):
     """Asks what the words or the terminal say."""
+    if words in (["-h"], ["--help"]):
+        print(__doc__.strip())
+        return 0
     if not words or words[0].startswith("-"):
         print(__doc__.strip(), file=sys.stderr)
         return 2

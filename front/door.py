@@ -44,7 +44,7 @@ def make_handlers(table, settings):
 
 
 def hosts_of(settings, port):
-    """The names under which requests may come, all where a socket of the file system is listened on and none is given."""
+    """The names under which requests may come; all, if a socket of the file system is listened on and none is given."""
     hosts = set(settings.host)
     if not settings.listen.startswith("unix:"):
         address = settings.listen.rpartition(":")[0]

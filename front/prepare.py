@@ -7,6 +7,8 @@
         fills in choices, as salary=sum others="leave out"; without any it asks for each that is open
     prepare.py make FILE CHOICES FOLDER
         writes FOLDER with schema.json and table.csv, and FOLDER/public with the public columns alone, and says each change
+    prepare.py add FILE CHOICES OLD NEW
+        writes the folder NEW, with the tables of the folder OLD and the rows of FILE at their end, as auditor grow wants them
 
 Nothing is guessed silently, nothing secret is rounded, nothing is overwritten, and what isn't made whole isn't there. The
 program itself, auditor in the path or the one that AUDITOR names, reads both folders before they are put into place.
@@ -16,8 +18,9 @@ import os
 import shutil
 import sys
 
+from preparing.adding import add
 from preparing.choosing import choose
-from preparing.faults import Fault, shown
+from preparing.faults import Fault, os_words, shown
 from preparing.looking import look
 from preparing.making import make
 
@@ -53,6 +56,10 @@ def run(words):
             choose(path, choices)
         case ["make", path, choices, folder]:
             make(path, choices, folder, program())
+        case ["add", path, choices, old, new]:
+            add(path, choices, old, new, program())
+        case ["-h" | "--help" | "help"]:
+            print(__doc__.strip())
         case _:
             print(__doc__.strip(), file=sys.stderr)
             return 2
@@ -63,8 +70,10 @@ def main(words):
     """Does what the words say; what can't be done ends with a sentence and status 1."""
     try:
         return run(words)
-    except (Fault, OSError) as fault:
+    except Fault as fault:
         print(f"prepare: {fault}", file=sys.stderr)
+    except OSError as fault:
+        print(f"prepare: {os_words(fault)}", file=sys.stderr)
     except MemoryError:
         print("prepare: out of memory", file=sys.stderr)
     except KeyboardInterrupt:

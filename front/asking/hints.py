@@ -84,7 +84,7 @@ def mended_token(found):
 
 
 def spaced(found, word):
-    """A word in place of a mark, with blanks where the mark had none."""
+    """A word in place of a mark, with blanks if the mark had none."""
     before = found.string[: found.start()][-1:]
     after = found.string[found.end() :][:1]
     return (" " if before.strip() else "") + word + (" " if after.strip() else "")

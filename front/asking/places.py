@@ -1,6 +1,6 @@
 """Where questions go: the program in a folder, or a front door by its address.
 
-Both have the schema's columns, notes for people, the public rows, `ask` and `would`. A place that can't be asked raises Away
+Both have the schema's columns and protected totals, notes for people, the public rows, `ask` and `would`. A place that can't be asked raises Away
 with a sentence.
 """
 
@@ -14,15 +14,11 @@ import socket
 import subprocess
 import urllib.parse
 
+from .words import ended_words
+
 PATIENCE = 90
 SECRET = ("sum", "max")
 NUMBERS = ("den", "num", "count", "sum", "max", "at")
-AFTERWARDS = {
-    6: "another run has the journal open, or the journal can't be written",
-    7: "there is no journal: run auditor init in the folder, once for the table",
-    10: "the table has other rows or secret columns than when the journal was made: put the right one back",
-    11: "a number of the table was changed since it was answered: put the right table back",
-}
 
 
 class Away(Exception):
@@ -34,7 +30,8 @@ class Folder:
 
     def __init__(self, path, program):
         self.path, self.program, self.child = pathlib.Path(path), program, None
-        self.columns = columns_of(self._text("schema.json"))
+        schema = self._text("schema.json")
+        self.columns, self.protected = columns_of(schema), protected_of(schema)
         self.notes = notes_of(self._text("public/notes.json", "notes.json", otherwise="{}"))
 
     def _text(self, *names, otherwise=None):
@@ -73,8 +70,7 @@ class Folder:
         """Why the program ended, in its words and ours."""
         _, said = self.child.communicate()
         status, self.child = self.child.returncode, None
-        words = said.decode(errors="replace").strip() or f"it ended with status {status}"
-        return f"auditor: {words}" + (f" ({AFTERWARDS[status]})" if status in AFTERWARDS else "")
+        return "auditor: " + ended_words(said.decode(errors="replace").strip(), status)
 
     def would(self, question):
         raise Away("only a front door says beforehand whether a question would be answered")
@@ -90,7 +86,8 @@ class Door:
 
     def __init__(self, address):
         self.address = address
-        self.columns = columns_of(self._get("schema.json"))
+        schema = self._get("schema.json")
+        self.columns, self.protected = columns_of(schema), protected_of(schema)
         self.notes = notes_of(self._get("notes.json", otherwise="{}"))
 
     def _connection(self):
@@ -166,6 +163,14 @@ def columns_of(text):
         return {column["name"]: column["is"] for column in json.loads(text)["columns"]}
     except (ValueError, LookupError, TypeError):
         raise Away("what is there isn't a schema: it has no columns") from None
+
+
+def protected_of(text):
+    """Column and condition of each total that is protected."""
+    try:
+        return [(total["column"], total["where"]) for total in json.loads(text).get("protect", [])]
+    except (LookupError, TypeError, AttributeError):
+        raise Away('what is there isn\'t a schema: each entry of "protect" has the keys column and where') from None
 
 
 def notes_of(text):

@@ -41,20 +41,25 @@ def answer_of(reply):
     return next((reply[key] for key in ("count", "sum", "max") if key in reply), None)
 
 
-def reply_words(question, reply, kinds, notes):
-    """A reply in a line, or for a refused condition in several: a mark under the byte, why, and what to write."""
+def reply_words(question, reply, kinds, notes, protected=()):
+    """A reply in a line, or for a refused condition in several: a mark under the byte, why, and what to write.
+
+    `protected` has the column and the condition of each total that is never answered.
+    """
     number = answer_of(reply)
     if number is not None:
         return number_words(number, notes.get(question.column, {}) if question.ask != "count" else {})
     if "denied" in reply:
-        return "not answered: " + WORDS["denied"].get(reply["denied"], reply["denied"])
+        named = (question.column, question.where.strip()) in [(column, where.strip()) for column, where in protected]
+        why = WORDS["note"]["protected"] if named else WORDS["denied"].get(reply["denied"], reply["denied"])
+        return "not answered: " + why
     if reply.get("refused") == "where":
         return condition_words(question.where, reply["at"], kinds, notes)
     return "refused: " + WORDS["refused"].get(reply.get("refused"), f"The program says {json.dumps(reply)}.")
 
 
 def condition_words(condition, at, kinds, notes):
-    """Where a condition goes wrong, why, and how it would be written, if that can be told."""
+    """Where a condition goes wrong, why, and how it would be written, if that can be said."""
     decimals = {name: note.get("decimals") or 0 for name, note in notes.items()}
     why = hint(condition, at, kinds, decimals)
     lines = [
@@ -63,6 +68,12 @@ def condition_words(condition, at, kinds, notes):
     ]
     better = mended(condition)
     return "\n".join(lines + ([f"Write: {better}"] if better != condition else []))
+
+
+def ended_words(said, status):
+    """Why the program ended, in its words, and what to do about it."""
+    known = WORDS["ended"].get(str(status))
+    return (said or f"it ended with status {status}") + (f" ({known})" if known else "")
 
 
 def verdict_words(reply):

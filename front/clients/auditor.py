@@ -234,7 +234,8 @@ class Table(Asker):
     def __init__(self, url, name="", headers=None, timeout=90, patience=10):
         self.door, self.name = Door(url, headers, timeout, patience), name
         self.base = urllib.parse.quote(name, safe="") + "/" if name else ""
-        self.columns = parsed("schema.json", self.door.request("GET", self.base + "schema.json"))["columns"]
+        schema = parsed("schema.json", self.door.request("GET", self.base + "schema.json"))
+        self.columns, self.protected = schema["columns"], schema.get("protect") or []
         self.kinds = {column["name"]: column["is"] for column in self.columns}
         self.words, self.notes = self._optional("words.json"), self._optional(self.base + "notes.json")
 
@@ -249,7 +250,7 @@ class Table(Asker):
         return found if isinstance(found, dict) else {}
 
     def sentence(self, group, reason):
-        """The sentence for a reason, by words.json; where there is none, the reason itself."""
+        """The sentence for a reason, by words.json; if there is none, the reason itself."""
         known = self.words.get(group)
         return known.get(reason, reason) if isinstance(known, dict) else reason
 
@@ -267,7 +268,9 @@ class Table(Asker):
         """The answer to `count`, `sum`, `avg` or `max`, or Denied; Refused is raised."""
         reply = self._post("ask", kind, column, where)
         if "denied" in reply:
-            return Denied(reply["denied"], self.sentence("denied", reply["denied"]), self.name)
+            named = any(total["column"] == column and total["where"].strip() == where.strip() for total in self.protected)
+            sentence = self.sentence("note", "protected") if named else self.sentence("denied", reply["denied"])
+            return Denied(reply["denied"], sentence, self.name)
         if "refused" in reply:
             raise Refused(reply["refused"], self.sentence("refused", reply["refused"]), reply.get("at"))
         return fractions.Fraction(reply["num"], reply["den"]) if kind == "avg" else reply[kind]
@@ -295,6 +298,9 @@ class Parts(Asker):
         self.tables = list(tables)
         first = self.tables[0]
         self.columns, self.kinds, self.notes, self.sentence = first.columns, first.kinds, first.notes, first.sentence
+        self.protected = []
+        for table in self.tables:
+            self.protected += [total for total in table.protected if total not in self.protected]
         for table in self.tables:
             if table.columns != first.columns:
                 raise ValueError(f"{table.name} has other columns than {first.name}: they aren't parts of one table")
@@ -336,12 +342,15 @@ def together(kind, answers):
 
 def connect(url, headers=None, timeout=90, patience=10):
     """The table behind a door, or its tables as parts of one. `headers` go with each request, as those of a login."""
+    door = Door(url, headers, timeout, patience)
     try:
-        names = parsed("tables.json", Door(url, headers, timeout, patience).request("GET", "tables.json"))
+        names = parsed("tables.json", door.request("GET", "tables.json"))
     except DoorFault as fault:
         if fault.status != 404:
             raise
         names = []
+    finally:
+        door.close()
     if not names:
         return Table(url, "", headers, timeout, patience)
     return Parts(Table(url, name, headers, timeout, patience) for name in names)
@@ -394,7 +403,8 @@ def shown_average(average, places, unit):
 def answer_line(asker, line):
     """The lines that answer one typed line; Refused and DoorFault are raised."""
     if line == "columns":
-        return [f"{column['name']:32} {column['is']}" for column in asker.columns]
+        return [f"{column['name']:32} {column['is']}" for column in asker.columns] + [
+            f"protected, so never answered: the total of {total['column']} where {total['where']}" for total in asker.protected]
     match = LINE.fullmatch(line)
     if not match or (match["kind"] == "count") != (match["column"] is None) or match["would"] and match["by"]:
         return HELP.splitlines()

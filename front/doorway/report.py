@@ -27,6 +27,9 @@ class Reports:
         self.path, self.fresh = keep / "report.jsonl", keep / "report.jsonl.new"
         self.stopped = keep / "stopped.txt"
         self.of = -1                        # answers that the last report was made over
+
+    def need_newest(self):
+        """Raises what an earlier report found, until somebody has put the journal right and removed the file."""
         if self.stopped.exists():
             raise OlderJournal(f"{self.stopped}: {self.stopped.read_text().strip()}")
 

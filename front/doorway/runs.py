@@ -4,9 +4,13 @@ Through a socket the door needs no right to the table and the journal, and that 
 for trying it.
 """
 import asyncio
+import json
 import os
+import pathlib
 import select
 
+WORDS = pathlib.Path(__file__).resolve().parent.parent / "words.json"
+AFTERWARDS = json.loads(WORDS.read_text(encoding="utf-8"))["ended"]
 CLOSED = -1
 FAREWELL = 30                       # seconds that a run has to end by itself once its input has ended
 
@@ -15,8 +19,19 @@ class Ended(Exception):
     """The program ended, or said what it can't have said."""
 
 
+def ended_words(complaint, code):
+    """Why the program ended: the end of what it said, or how it ended, and what to do about it."""
+    if code < 0:
+        how = f"the program was stopped by signal {-code}"
+    else:
+        how = f"the program ended with code {code}"
+    said = complaint[-200:].decode("utf-8", "replace").strip() or how
+    known = AFTERWARDS.get(str(code))
+    return said + (f" ({known})" if known else "")
+
+
 class Run:
-    """One run with its input and output. `process` is None where the run is another user's."""
+    """One run with its input and output. `process` is None if the run is another user's."""
 
     def __init__(self, reader, writer, process=None):
         self.reader, self.writer, self.process = reader, writer, process
@@ -49,11 +64,8 @@ class Run:
         """What the run said on its standard error, or how it ended."""
         if not self.process:
             return "the program is gone"
-        said = (await self.process.stderr.read())[-200:].decode("utf-8", "replace").strip()
-        code = await self.process.wait()
-        if code < 0:
-            return said or f"the program was stopped by signal {-code}"
-        return said or f"the program ended with code {code}"
+        complaint = await self.process.stderr.read()
+        return ended_words(complaint, await self.process.wait())
 
     def kill(self):
         self._close_input()

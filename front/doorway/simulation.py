@@ -5,7 +5,7 @@ A verdict says what the program would do now, by the transcript alone. It doesn'
 import asyncio
 
 from .lines import Turned
-from .runs import Ended
+from .runs import Ended, ended_words
 
 PIECE = 65_536
 DISAGREES = 14                      # the code with which `simulate` ends at a reply that wasn't due
@@ -65,8 +65,9 @@ class Simulation:
         said = (await self.process.stdout.readline()).strip()
         if said:
             return said
+        complaint = await self.process.stderr.read()
         if await self.process.wait() != DISAGREES:
-            raise Ended(f"auditor simulate ended with code {self.process.returncode}")
+            raise Ended(f"auditor simulate: {ended_words(complaint, self.process.returncode)}")
         self.gap = True
         return None
 
@@ -82,6 +83,14 @@ async def verdict_on(auditor, public, transcript, line):
         if process.returncode is None:
             process.kill()
     if process.returncode != 0:
-        text = complaint[-200:].decode("utf-8", "replace").strip()
-        raise Turned(503, f"auditor simulate: {text or process.returncode}")
+        raise Turned(503, f"auditor simulate: {ended_words(complaint, process.returncode)}")
     return said.rstrip(b"\n").rsplit(b"\n", 1)[-1]
+
+
+async def fault_over(auditor, public):
+    """Why `simulate` can't begin over these public columns, or None if it can."""
+    process = await asyncio.create_subprocess_exec(
+        auditor, "simulate", cwd=public, stdin=asyncio.subprocess.DEVNULL, stdout=asyncio.subprocess.DEVNULL,
+        stderr=asyncio.subprocess.PIPE)
+    _, complaint = await process.communicate()
+    return ended_words(complaint, process.returncode) if process.returncode else None

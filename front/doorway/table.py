@@ -5,16 +5,19 @@ is written into the transcript and synced; the askers are told. So whoever was t
 """
 import asyncio
 import collections
+import contextlib
 import math
 import sys
 
+from .growth import carry_over, public_rows
 from .lines import HISTORY, Turned
 from .recovery import ask_again
 from .report import Reports
 from .runs import Ended
-from .simulation import verdict_on
-from .transcript import Transcript, check_table
+from .simulation import fault_over, verdict_on
+from .transcript import Damaged, Transcript, check_table
 
+COUNT = b'{"ask":"count","where":"all"}'
 WAITING = 1024                      # askers who may wait
 PATIENCE = 60                       # seconds that an asker waits
 VERDICTS = 16                       # askers who may wait for a verdict
@@ -53,6 +56,7 @@ class Table:
 
     def __init__(self, name, groups, places, auditor, report_every=0):
         self.name, self.groups, self.places, self.auditor = name, groups, places, auditor
+        carry_over(places.public, places.keep, self.say)
         check_table(places.public, places.keep)
         self.transcript = Transcript(places.keep)
         self.reports = Reports(self, places.keep, report_every)
@@ -115,6 +119,7 @@ class Table:
 
     async def serve(self):
         """Takes questions from the queue in their order until `stop`."""
+        self.reports.need_newest()
         await self.start([Question(line) for line in self.transcript.left])
         while not self.closing.is_set():
             if not self.queue:
@@ -172,7 +177,9 @@ class Table:
         pause, self.state = FIRST_PAUSE, "starting"
         while not self.closing.is_set():
             try:
+                self._need_same_table()
                 await self.groups.start()
+                await self._need_same_rows()
                 await ask_again(self, left)
                 self.state = "serving"
                 return
@@ -180,10 +187,32 @@ class Table:
                 self.say(f"program: {fault}")
                 self.groups.kill()
                 if pause > QUIET:
-                    self._give_up(fault)
+                    self._give_up(await self._why(fault))
                 pause = min(pause * 2, LONGEST_PAUSE)
                 await self._sleep(pause)
         self._give_up("the door is closing")
+
+    def _need_same_table(self):
+        """Answers of another table aren't handed out: it may have grown since the door began."""
+        try:
+            check_table(self.places.public, self.places.keep)
+        except Damaged:
+            raise Ended("schema.json or the public table.csv has changed: start the door again, over the new ones")
+
+    async def _need_same_rows(self):
+        """The program's table and the public columns grow together, or what is shown of one isn't true of the other."""
+        reply, = await self.groups.ask([COUNT])
+        rows = public_rows(self.places.public)
+        if reply != b'{"count":%d}' % rows:
+            raise Ended(f"the public table.csv has {rows} rows, and the program says {reply.decode(errors='replace')}: put in the right one")
+
+    async def _why(self, fault):
+        """A socket doesn't say why the program behind it ended. If it is for schema and public columns, `simulate` does."""
+        if self.places.serve:
+            with contextlib.suppress(OSError):
+                found = await fault_over(self.auditor, self.places.public)
+                return f"{fault}: {found}" if found else fault
+        return fault
 
     async def _sleep(self, pause):
         try:

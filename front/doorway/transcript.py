@@ -47,6 +47,11 @@ class Transcript:
         head = {"at": self.size, "bytes": len(body), "sum": _sum(self.size, body)}
         _write(self.waiting, "waiting.jsonl", json.dumps(head).encode() + b"\n" + body, 0)
 
+    def forget(self):
+        """Takes the list of the waiting away: it is of this transcript, and another one is to take its place."""
+        self.waiting.truncate(0)
+        self.waiting.sync()
+
     def add(self, pairs):
         """Writes down and syncs the pairs that were decided. Only then may anybody be told."""
         decided = [(line, reply) for line, reply in pairs if reply.startswith(DECIDED)]
@@ -131,14 +136,28 @@ def _sum(at, body):
     return hashlib.sha256(b"%d\n" % at + body).hexdigest()
 
 
+def read_public(public):
+    """The bytes of the schema and of the public columns."""
+    return [(public / name).read_bytes() for name in ("schema.json", "table.csv")]
+
+
+def mark_of(schema, table):
+    """The sum that stands for a schema and public columns."""
+    return hashlib.sha256(schema + table).hexdigest().encode() + b"\n"
+
+
+def is_of(mark, schema, table):
+    """Whether a file has the sum of this schema and these public columns."""
+    return mark.read_bytes().strip() == mark_of(schema, table).strip()
+
+
 def check_table(public, keep):
     """Refuses another table than the one that the transcript was made over: its answers are handed out again, and
     `simulate` reads it with these public columns."""
-    names = ("schema.json", "table.csv")
-    now = hashlib.sha256(b"".join((public / name).read_bytes() for name in names)).hexdigest()
-    mark = keep / "table.sha256"
+    now, mark = read_public(public), keep / "table.sha256"
     if not mark.exists():
-        write_whole(mark, now.encode() + b"\n")
-    elif mark.read_text().strip() != now:
-        raise Damaged("schema.json or the public table.csv isn't the one that transcript.jsonl was made over: "
-                      "put the right ones back")
+        write_whole(mark, mark_of(*now))
+    elif not is_of(mark, *now):
+        raise Damaged("schema.json or the public table.csv isn't the one that transcript.jsonl was made over: put the right "
+                      "ones back. If only totals to protect were added, and auditor simulate ends with 0 over the "
+                      f"transcript, remove {mark}")

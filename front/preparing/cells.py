@@ -57,7 +57,7 @@ class DateForm:
         self.name, self.pattern = name, re.compile(pattern, re.ASCII)
 
     def read(self, cell):
-        """The date that the cell spells as a whole number, or None. No such day, as 30 February, is no date."""
+        """The date that the cell spells as a whole number, or None. 30 February isn't a date."""
         found = self.pattern.fullmatch(cell)
         if found is None:
             return None
@@ -109,7 +109,7 @@ FORMS = {form.name: form for form in NUMBER_FORMS + [DateForm(name, date_pattern
 
 
 def is_missing(cell):
-    """Whether a cell looks as cells do where nothing is known. A person decides whether that is what it says."""
+    """Whether a cell looks as cells do if nothing is known. A person decides whether that is what it says."""
     return cell.lower() in MISSING
 
 

@@ -92,12 +92,15 @@ def write(path, choices, fresh):
 
 
 def open_choices(choices):
-    """What is still to be chosen, in the words that `choose` takes. A column that is left out asks no more."""
-    found = [key for key in TABLE_KEYS if choices[key] == OPEN]
+    """What is still to be chosen, in the words that `choose` takes: the columns before the totals that are over them.
+
+    A column that is left out asks no more.
+    """
+    found = [key for key in TABLE_KEYS if key != "protect" and choices[key] == OPEN]
     for column in choices["columns"]:
         keys = {OPEN: ("is",), "leave out": (), "text": TEXT_KEYS}.get(column["is"], NUMBER_KEYS)
         found += [column["name"] + ("" if key == "is" else f".{key}") for key in keys if column[key] == OPEN]
-    return found
+    return found + ["protect"] * (choices["protect"] == OPEN)
 
 
 def need_decided(choices):
@@ -129,22 +132,6 @@ def table_faults(choices):
         for name in choices["split by"] or []
         if name not in public
     ]
-    return faults + protect_faults(choices)
-
-
-def protect_faults(choices):
-    """A sentence for each total to be protected that isn't one of a column of sums, under a condition."""
-    sums = [column["name"] for column in choices["columns"] if column["is"] == "sum"]
-    faults = []
-    for place, group in enumerate(choices["protect"] or []):
-        if not isinstance(group, dict) or set(group) != {"column", "where"}:
-            faults.append(f'total {place} to protect isn\'t an object with the keys "column" and "where"')
-        elif group["column"] not in sums:
-            faults.append(f"total {place} to protect: {shown(group['column'])} isn't the name of a column that is sum")
-        elif not isinstance(group["where"], str) or not group["where"].strip() or len(group["where"].encode()) > 8192:
-            faults.append(f"total {place} to protect: its condition has to be a text of 1 to 8,192 bytes")
-    if len(choices["protect"] or []) > 64:
-        faults.append("at most 64 totals can be protected")
     return faults
 
 

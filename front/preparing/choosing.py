@@ -1,9 +1,13 @@
 """`choose`: sets choices in their file from words, or asks for each open one at a terminal."""
 
+import re
+
 from . import choices as choosing
 from .choices import COLUMN_KEYS, KINDS, MISSING, OPEN, ROUNDINGS, TABLE_KEYS
 from .cells import FORMS
 from .faults import Fault, shown
+from .making import columns_to_write
+from .protecting import need_totals
 
 LISTS = ("split by", "missing is")
 
@@ -15,6 +19,8 @@ def choose(path, words):
         key, mark, value = word.partition("=")
         if not mark:
             raise Fault(f"{shown(word)} sets nothing: write KEY=VALUE, NAME=KIND or NAME.KEY=VALUE")
+        if not word.isascii() and any("\ud800" <= letter <= "\udfff" for letter in word):
+            raise Fault(f"{shown(word)} has bytes in it that aren't UTF-8")
         set_choice(choices, key.strip(), value.strip())
     if not words:
         ask_each(choices)
@@ -108,15 +114,23 @@ def from_words(key, value, kind):
 
 
 def add_protected(choices, value):
-    """One more total that must stay open, as COLUMN where CONDITION; none sets the list to nothing."""
+    """One more total that must stay open, as COLUMN where CONDITION; none sets the list to nothing.
+
+    It is tried at once if it is known by then what each column is.
+    """
     if value == "none":
         choices["protect"] = []
         return
-    column, mark, where = value.partition(" where ")
-    if not mark:
+    found = re.fullmatch(r"(.+?)\s+where\s+(.+)", value, re.IGNORECASE | re.DOTALL)
+    if not found:
         raise Fault(f'{shown(value)} isn\'t a total: write protect="COLUMN where CONDITION", or protect=none')
+    group = {"column": column_named(choices, found[1])["name"], "where": found[2]}
     groups = choices["protect"] if isinstance(choices["protect"], list) else []
-    choices["protect"] = groups + [{"column": column.strip(), "where": where.strip()}]
+    if group in groups:
+        raise Fault(f"{shown(value)} is protected already")
+    if not any(column["is"] == OPEN for column in choices["columns"]):
+        need_totals(groups + [group], columns_to_write(choices))
+    choices["protect"] = groups + [group]
 
 
 def ask_each(choices):
@@ -135,10 +149,30 @@ def ask_each(choices):
         if not value:
             skipped.add(key)
             continue
+        set_or_say(choices, key, value)
+        if key == "protect" and choices["protect"] not in (OPEN, []):
+            ask_for_more_totals(choices)
+
+
+def set_or_say(choices, key, value):
+    """Sets a choice, or prints why it can't be."""
+    try:
+        set_choice(choices, key, value)
+    except Fault as fault:
+        print(fault)
+
+
+def ask_for_more_totals(choices):
+    """Asks for totals that must stay open until an empty line, or the input's end."""
+    while True:
         try:
-            set_choice(choices, key, value)
-        except Fault as fault:
-            print(fault)
+            value = input("another total (COLUMN where CONDITION, or nothing for no more)? ").strip()
+        except EOFError:
+            print()
+            return
+        if not value:
+            return
+        set_or_say(choices, "protect", value)
 
 
 def question_about(choices, key):
@@ -146,7 +180,7 @@ def question_about(choices, key):
     name, _, part = key.partition(".")
     column = next((column for column in choices["columns"] if column["name"] == name), None)
     if column is None:
-        return " (none, or COLUMN where CONDITION)" if key == "protect" else ""
+        return " (a total that must stay open, whatever is asked: COLUMN where CONDITION, or none)" if key == "protect" else ""
     answers = {
         "": KINDS,
         "missing": [choice for choice, kinds in MISSING.items() if column["is"] in kinds],

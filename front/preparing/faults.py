@@ -26,3 +26,8 @@ def listed(sentences):
 def counted(number, noun):
     """A number with its noun: 1 row, 1,309 rows."""
     return f"{number:,} {noun}" + ("" if number == 1 else "s")
+
+
+def os_words(fault):
+    """What the system refused, in its words, after the name of the file."""
+    return f"{fault.filename}: {fault.strerror}" if fault.filename and fault.strerror else str(fault)

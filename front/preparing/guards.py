@@ -122,7 +122,7 @@ def say_of_secret(name, rows, public):
 
 
 def say_of_pair(first, second, rows):
-    """Points out two secret columns that tell each other's numbers."""
+    """Points out two secret columns that give away each other's numbers."""
     pairs = {(row[first], row[second]) for row in rows}
     lengths = {len(pairs), len({row[first] for row in rows}), len({row[second] for row in rows})}
     if len(lengths) == 1 and FEW_VALUES < len(pairs) < len(rows):

@@ -193,7 +193,8 @@ def say_next(out, choices):
         " it)."
     )
     print(
-        '"protect" names totals that must stay open, or none: choose protect=none, or protect="salary where dept ='
-        " 'QA'\"."
+        '"protect" lists totals that must stay open, whatever is asked: choose protect="salary where dept = \'QA\'", once for'
+        " each, or protect=none."
     )
+    print('"wave" is for a table to which rows may be added later: choose wave=1, and prepare.py add can tell them apart.')
     print(f'Go on with an editor, or with: prepare.py choose {out} NAME=KIND .. others="leave out"')

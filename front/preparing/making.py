@@ -11,6 +11,7 @@ from .faults import Fault, counted, listed, shown
 from .guards import say_what_is_known, secrets_apart
 from .looking import step
 from .names import free
+from .protecting import need_totals, say_totals
 from .reading import Layout, decode, load, read_rows, without_separator_line
 from .splitting import parts, say_parts
 from .writing import write_folders
@@ -52,6 +53,9 @@ def make(path, choices_path, folder, program):
     choosing.need_decided(choices)
     table = read_as_chosen(path, choices)
     columns = columns_to_write(choices)
+    need_columns(columns)
+    totals = choices["protect"] or []
+    need_totals(totals, columns)
     changes = Changes()
     rows = convert_all(table, columns, changes)
     public = [column.name for column in columns if column.kind in PUBLIC]
@@ -60,9 +64,10 @@ def make(path, choices_path, folder, program):
         rows, columns, {column.name: texts_of(table, column, changes) for column in columns if column.kind == "text"}
     )
     tables = parts(rows, choices["split by"], public)
-    write_folders(folder, columns, choices["protect"] or [], tables, program)
+    write_folders(folder, columns, totals, tables, program)
     say_changes(choices, columns, table, changes)
     say_parts(tables)
+    say_totals(totals, columns, tables)
     say_what_is_known(rows, public, secret)
     each = "each folder of " if choices["split by"] else ""
     print(
@@ -96,7 +101,6 @@ def columns_to_write(choices):
             columns.append(Column(known, "number", place, chosen, marks=chosen["name"]))
     if choices["wave"] is not None:
         columns.append(Column("wave", "number"))
-    need_columns(columns)
     return columns
 
 
@@ -209,8 +213,6 @@ def say_changes(choices, columns, table, changes):
         print(f"{shown(chosen['from'])}: {column_words(chosen, columns, changes)}")
     if choices["wave"] is not None:
         print("wave: public number, 1 in every row, for rows that may be added later")
-    for group in choices["protect"] or []:
-        print(f"protected: the total of {group['column']} where {group['where']}")
     if table.empty:
         print(f"passed over: {counted(table.empty, 'line')} with nothing in it")
     if changes.dropped:

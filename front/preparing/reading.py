@@ -1,6 +1,6 @@
 """Reads a CSV file as people have it into titles and rows of text, without changing a cell.
 
-The encoding and the separator are either given or found out. Where the bytes allow more than one reading, nothing is
+The encoding and the separator are either given or found out. If the bytes allow more than one reading, nothing is
 chosen: a Fault says which ones there are and how to name one.
 """
 

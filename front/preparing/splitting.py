@@ -4,6 +4,7 @@ No question goes over two parts, so each is a table with a journal of its own.
 """
 
 import collections
+import dataclasses
 import itertools
 
 from .faults import Fault, counted, listed, shown
@@ -13,6 +14,15 @@ MOST_ROWS = 1024
 FEWEST_ROWS_A_PART = 20
 SMALL_PART = 3
 MOST_TRIED = 30
+
+
+@dataclasses.dataclass(frozen=True)
+class Part:
+    """A table: the rows, and if it is one of several the name of its folder and the values that its rows share, in words."""
+
+    rows: list
+    name: str = ""
+    values: str = ""
 
 
 def sizes_by(columns):
@@ -51,12 +61,12 @@ def say_splits(names, columns):
 
 
 def parts(rows, by, public):
-    """Name of the folder, values in words, and rows of each part; one part without a name if `by` is empty."""
+    """The table cut by the columns `by`; in one part without a name if there are none."""
     if not by:
         if len(rows) > MOST_ROWS:
             say_splits(public, [[row[name] for row in rows] for name in public])
             raise Fault(f'{len(rows):,} rows are left, and a table has at most {MOST_ROWS:,}: choose "split by"')
-        return [("", "", rows)]
+        return [Part(rows)]
     tables = collections.defaultdict(list)
     for row in rows:
         tables[tuple(row[name] for name in by)].append(row)
@@ -69,7 +79,7 @@ def parts(rows, by, public):
     for values, table in tables.items():
         name = free(plain("_".join(map(str, values)), "part"), taken)
         taken.add(name)
-        found.append((name, values_words(by, values), table))
+        found.append(Part(table, name, values_words(by, values)))
     return found
 
 
@@ -79,7 +89,8 @@ def values_words(by, values):
 
 def say_parts(found):
     """A line for each part: its folder, its rows, and whether there are too few to be asked about."""
-    for name, values, table in found:
-        if name:
-            few = ": so few that hardly a question will be answered" if len(table) <= SMALL_PART else ""
-            print(f"{name}: the {counted(len(table), 'row')} with {values}, a table with a journal of its own{few}")
+    for part in found:
+        if part.name:
+            few = ": so few that hardly a question will be answered" if len(part.rows) <= SMALL_PART else ""
+            rows = counted(len(part.rows), "row")
+            print(f"{part.name}: the {rows} with {part.values}, a table with a journal of its own{few}")

@@ -1,34 +1,51 @@
 """Writes the folders of a table beside their place first and then under their name, so that none is there in half."""
 
+import contextlib
 import csv
+import io
 import json
 import os
 import pathlib
+import re
 import shutil
 import subprocess
 import tempfile
 
 from .choices import PUBLIC
-from .faults import Fault, shown
+from .faults import Fault
+from .protecting import total_words
 
 MOST_BYTES = 16_777_216
+MOST_SCHEMA_BYTES = 65_536
 
 
 def write_folders(folder, columns, protect, tables, program):
     """Writes a folder, or one for each part in it, has the program read them, and puts them into place."""
+    with put_into_place(folder) as beside:
+        for part in tables:
+            write_folder(beside / part.name, columns, protect, part.rows)
+            try_program(beside / part.name, program)
+    said_of_program(program)
+
+
+@contextlib.contextmanager
+def put_into_place(folder):
+    """A folder beside the one that is wanted, which gets its name once it is whole. Whatever goes wrong leaves nothing."""
     folder = pathlib.Path(folder)
     need_free(folder)
     beside = pathlib.Path(tempfile.mkdtemp(prefix=f".{folder.name[:100]}-", dir=folder.parent))
     try:
         beside.chmod(0o777 & ~current_umask())
-        for name, _, rows in tables:
-            write_folder(beside / name, columns, protect, rows)
-            try_program(beside / name, program)
+        yield beside
         need_free(folder)
         os.rename(beside, folder)
     except BaseException:
         shutil.rmtree(beside, ignore_errors=True)
         raise
+
+
+def said_of_program(program):
+    """Says if the files weren't tried with the program."""
     if program is None:
         print("not tried with the program: there is no auditor in the path, nor does AUDITOR name one")
 
@@ -55,8 +72,14 @@ def write_folder(folder, columns, protect, rows):
     schema = {"columns": [{"name": column.name, "is": column.kind} for column in columns]}
     if protect:
         schema["protect"] = protect
+    text = json.dumps(schema, indent=1, ensure_ascii=False) + "\n"
+    if len(text.encode()) > MOST_SCHEMA_BYTES:
+        raise Fault(
+            f"the schema has {len(text.encode()):,} bytes, and at most {MOST_SCHEMA_BYTES:,} are read: protect fewer"
+            " totals, or write their conditions in fewer letters"
+        )
     for where in (folder, public):
-        (where / "schema.json").write_text(json.dumps(schema, indent=1, ensure_ascii=False) + "\n", encoding="utf-8")
+        (where / "schema.json").write_text(text, encoding="utf-8")
     write_table(folder / "table.csv", columns, rows, 0o600)
     write_table(public / "table.csv", [column for column in columns if column.kind in PUBLIC], rows, 0o666)
     (public / "notes.json").write_text(
@@ -67,9 +90,20 @@ def write_folder(folder, columns, protect, rows):
 def write_table(path, columns, rows, mode):
     """The table as CSV, with the line ends of its standard, so that a line end within a cell is quoted too."""
     with open(os.open(path, os.O_WRONLY | os.O_CREAT | os.O_EXCL, mode), "w", encoding="utf-8", newline="") as file:
-        writer = csv.writer(file)
-        writer.writerow([column.name for column in columns])
-        writer.writerows([row[column.name] for column in columns] for row in rows)
+        file.write(lines_of([[column.name for column in columns]]))
+        file.write(lines_of([row[column.name] for column in columns] for row in rows))
+    need_few_bytes(path)
+
+
+def lines_of(records):
+    """Records as CSV."""
+    text = io.StringIO(newline="")
+    csv.writer(text).writerows(records)
+    return text.getvalue()
+
+
+def need_few_bytes(path):
+    """A Fault if a table is larger than the program reads."""
     if path.stat().st_size > MOST_BYTES:
         raise Fault(f"the table has {path.stat().st_size:,} bytes, and at most {MOST_BYTES:,} are read")
 
@@ -99,18 +133,19 @@ def try_program(folder, program):
                 [program, command], cwd=copy, stdin=subprocess.DEVNULL, capture_output=True, text=True, errors="replace"
             )
         if run.returncode:
+            said = run.stderr.strip() or f"status {run.returncode}"
             raise Fault(
-                f"auditor {command} doesn't take the files, so nothing is written:"
-                f" {run.stderr.strip() or f'status {run.returncode}'}"
-                + protect_words(folder, run.returncode)
+                f"auditor {command} doesn't take the files, so nothing is written: {said}"
+                + protect_words(folder, run.returncode, said)
             )
 
 
-def protect_words(folder, status):
+def protect_words(folder, status, said):
     """What the program's complaint may mean if totals are to be protected."""
     groups = json.loads((folder / "schema.json").read_text(encoding="utf-8")).get("protect")
+    bad = re.fullmatch(r"schema: group (\d+) is bad", said)
     if groups and status == 3:
         return ". This auditor may be older than protected totals: choose protect=none, or take a newer one"
-    if groups and status == 16:
-        return ". The condition of that total isn't understood: " + "; ".join(shown(group["where"]) for group in groups)
+    if groups and status == 16 and bad and int(bad[1]) < len(groups):
+        return f". That is {total_words(groups[int(bad[1])])}"
     return ""

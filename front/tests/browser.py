@@ -1,4 +1,4 @@
-"""A headless Chromium for tests of the page. Where there is none, the test is skipped and says what to install."""
+"""A headless Chromium for tests of the page. If there is none, the test is skipped and says what to install."""
 import shutil
 import tempfile
 import unittest

@@ -10,12 +10,12 @@ from kit import SECRETS, SEED, Door, Folder, ask
 
 
 class DoorCase(unittest.IsolatedAsyncioTestCase):
-    """`words` are the door's arguments, `rows` the size of the table."""
+    """`words` are the door's arguments, `rows` the size of the table, `protect` the conditions of totals that stay open."""
 
-    words, rows = (), 200
+    words, rows, protect = (), 200, ()
 
     def setUp(self):
-        self.folder = Folder(self.rows)
+        self.folder = Folder(self.rows, protect=self.protect)
         self.door = self.make_door()
         self.told = []                      # question, line, reply
         self.unanswered = 0

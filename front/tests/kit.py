@@ -46,14 +46,15 @@ def line_of(kind, low, high):
 class Folder:
     """A table of random numbers in a fresh folder, with the public columns beside it, and the rows in memory."""
 
-    def __init__(self, rows=200, seed=SEED, path=None, init=True):
+    def __init__(self, rows=200, seed=SEED, path=None, init=True, protect=()):
         chance = random.Random(seed)
         self.path = pathlib.Path(path or tempfile.mkdtemp(prefix="door-"))
         self.public = self.path / "public"
         self.public.mkdir(parents=True)
         self.rows = [(chance.choice(TEAMS), k, chance.randrange(20_000, 90_000), chance.randrange(60)) for k in range(rows)]
+        schema = {"columns": COLUMNS, "protect": [{"column": "salary", "where": where} for where in protect]}
         for folder, width in ((self.path, 4), (self.public, 2)):
-            (folder / "schema.json").write_text(json.dumps({"columns": COLUMNS}))
+            (folder / "schema.json").write_text(json.dumps(schema if protect else {"columns": COLUMNS}))
             with open(folder / "table.csv", "w", newline="") as file:
                 csv.writer(file).writerows([[c["name"] for c in COLUMNS[:width]], *[row[:width] for row in self.rows]])
         if init:
@@ -88,6 +89,9 @@ class Folder:
         size, at, records, sets = 9 + (rows + 7) // 8, 20, [], {}
         while data[at] == 1:
             count, at = data[at + 1], at + 2
+            if count == 0:                  # a growth: the number of rows from there on
+                rows, at = int.from_bytes(data[at:at + 2], "big"), at + 2
+                size = 9 + (rows + 7) // 8
             for record in (data[at + number * size:at + (number + 1) * size] for number in range(count)):
                 if record[9:] not in sets:
                     bits = int.from_bytes(record[9:], "little")

@@ -1,4 +1,4 @@
-"""Wrong bodies of the door: each is planted in a copy of front/, and the test that is named beside it has to fail.
+"""Wrong bodies of the door and of what protects totals: each is planted in a copy of front/, and the test beside it has to fail.
 
     AUDITOR=.. /usr/bin/python3 plant.py [NUMBER ..]
 
@@ -75,7 +75,7 @@ PLANTS = [
      "test_lost_group.LostGroup.test_a_denial_that_became_an_answer_is_asked_last"),
     ("a lost group is forgotten", "table.py", "Question(line) for line in self.transcript.left", "Question(line) for line in []",
      "test_lost_group.LostGroup.test_a_denial_that_became_an_answer_is_asked_last"),
-    ("a transcript of another table is taken", "transcript.py", "elif mark.read_text().strip() != now:", "elif False:",
+    ("a transcript of another table is taken", "transcript.py", "elif not is_of(mark, *now):", "elif False:",
      "test_faults.Faults.test_another_table_is_not_served_with_this_transcript"),
     ("an older journal is passed over", "report.py", "if counted < given:", "if counted < 0:",
      "test_faults.Faults.test_an_older_journal_is_seen_at_the_next_report"),
@@ -105,6 +105,57 @@ PLANTS = [
      "test_several_tables.Tables.test_a_total_says_which_part_is_not_answered_and_asks_none"),
     ("a total leaves out what isn't answered", "totals.py", "    if without:\n", "    if False:\n",
      "test_several_tables.Tables.test_a_table_whose_program_is_away_holds_up_no_other"),
+    ("what is wrong with schema and public columns isn't said through a socket", "table.py", "        if self.places.serve:\n",
+     "        if False:\n", "test_faults.Causes.test_a_bad_group_is_said_through_a_socket_too"),
+    ("an end is said without what to do", "runs.py", 'f" ({known})" if known else ""', '""', "test_faults.Causes.test_each_end_is_said_with_what_to_do"),
+    ("or binds before and", "preparing/conditions.py", 'self.joined("and", self.unit)', 'self.joined("or", self.unit)',
+     "test_protected.Conditions.test_conditions_hold_for_the_rows_that_they_mean"),
+    ("a quote at the end of a text closes it", "preparing/conditions.py", "*'(?!')", "*'", "test_protected.Conditions"),
+    ("65 brackets are read", "preparing/conditions.py", "if self.depth == MOST_DEPTH:", "if self.depth > MOST_DEPTH:",
+     "test_protected.Conditions.test_what_isnt_a_condition_has_its_place"),
+    ("513 tokens are read", "preparing/conditions.py", "self.read > MOST_TOKENS", "self.read > MOST_TOKENS + 1",
+     "test_protected.Conditions.test_what_isnt_a_condition_has_its_place"),
+    ("a place is that of a letter", "preparing/conditions.py", "self.at = len(text[:place].encode(\"utf-8\", \"surrogatepass\"))", "self.at = place",
+     "test_protected.Conditions.test_what_isnt_a_condition_has_its_place"),
+    ("a total of a public column is protected", "preparing/protecting.py", "    if kinds[name] in PUBLIC:\n", "    if False:\n",
+     "test_protected.Protecting.test_each_total_that_cant_be_protected_is_named_with_the_reason"),
+    ("8,193 bytes are protected", "preparing/protecting.py", "if len(where.encode()) > LONGEST_CONDITION:",
+     "if len(where.encode()) > LONGEST_CONDITION + 1:", "test_protected.Protecting.test_all_limits_are_those_of_the_program"),
+    ("65 totals are protected", "preparing/protecting.py", "if len(groups) > MOST_TOTALS:", "if len(groups) > MOST_TOTALS + 1:",
+     "test_protected.Protecting.test_all_limits_are_those_of_the_program"),
+    ("a schema may be as long as it gets", "preparing/writing.py", "if len(text.encode()) > MOST_SCHEMA_BYTES:", "if False:",
+     "test_protected.Protecting.test_all_limits_are_those_of_the_program"),
+    ("a total over every row isn't pointed out", "preparing/protecting.py", "if size == len(part.rows) > 1]", "if False]",
+     "test_protected.Protecting.test_a_total_over_no_row_one_row_or_all_rows_is_pointed_out"),
+    ("the public schema is without its totals", "preparing/writing.py", '(where / "schema.json").write_text(text,',
+     '(where / "schema.json").write_text(text if where == folder else json.dumps({"columns": schema["columns"]}),',
+     "test_protected.Protecting.test_totals_stand_in_both_schemas"),
+    ("the first total is named for each", "preparing/writing.py", "groups[int(bad[1])])", "groups[0])",
+     "test_protected.Protecting.test_what_the_program_says_of_totals_is_put_in_words"),
+    ("denials are carried over a growth", "growth.py", " if reply.startswith(RELEASED)]", "]",
+     "test_growth.Carried.test_each_answer_is_kept_with_the_question_that_means_its_rows"),
+    ("a question keeps its condition over more rows", "growth.py", "            if not any(map(", "            if True or any(map(",
+     "test_growth.Carried.test_each_answer_is_kept_with_the_question_that_means_its_rows"),
+    ("a condition is carried over without brackets", "growth.py", 'f"({where}) and', 'f"{where} and',
+     "test_growth.Carried.test_each_answer_is_kept_with_the_question_that_means_its_rows"),
+    ("a number that some old row has tells the rows apart", "growth.py", "for row in before) < min(", "for row in before) <= min(",
+     "test_growth.Carried.test_wave_comes_first_and_any_public_number_will_do"),
+    ("any longer table is a growth", "growth.py", "            if so_far.hexdigest().encode() == mark.strip():\n",
+     "            if size:\n", "test_growth.Carried.test_the_same_table_and_another_one_are_no_growth"),
+    ("the places of the old transcript stay", "growth.py", "            old.forget()\n", "",
+     "test_growth.Carried.test_each_answer_is_kept_with_the_question_that_means_its_rows"),
+    ("the old transcript is thrown away", "growth.py", "            write_whole(beside, text)\n", "            return beside\n",
+     "test_growth.Carried.test_each_answer_is_kept_with_the_question_that_means_its_rows"),
+    ("what was with the program is forgotten at a growth", "growth.py", "        fresh.hold(left)\n", "        pass\n",
+     "test_growth.Carried.test_what_was_with_the_program_is_asked_again_over_its_own_rows"),
+    ("a table that changes under the door is served on", "table.py", "                self._need_same_table()\n", "",
+     "test_growth.Grown.test_a_table_that_changes_under_a_door_isnt_served_on"),
+    ("public columns may be shorter than the table", "table.py", "                await self._need_same_rows()\n", "",
+     "test_growth.Grown.test_public_columns_that_didnt_grow_too_arent_served"),
+    ("rows that are added are of the first wave", "preparing/adding.py", "for row in before) + 1", "for row in before)",
+     "test_adding.Adding.test_the_rows_stand_after_those_that_were_there"),
+    ("a table of other columns is added to", "preparing/adding.py", "    if there != [(column.name, column.kind) for column in columns]:\n",
+     "    if False:\n", "test_adding.Adding.test_what_doesnt_fit_is_refused_and_leaves_nothing"),
     ("an empty part spoils a total", "totals.py", " and reply != EMPTY", "", "test_several_tables.Tables.test_a_total_is_the_sum_of_the_parts"),
 ]
 
@@ -115,7 +166,7 @@ def tried(number):
     with tempfile.TemporaryDirectory() as folder:
         front = pathlib.Path(folder) / "front"
         shutil.copytree(FRONT, front, ignore=shutil.ignore_patterns("__pycache__"))
-        path = front / "doorway" / name
+        path = front / name if "/" in name else front / "doorway" / name
         text = path.read_text()
         if text.count(old) != 1:
             return False, f"{number}: {what}: it stands {text.count(old)} times in {name}"

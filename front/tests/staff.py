@@ -76,7 +76,7 @@ class Office:
 
     def ready(self, ask):
         """Waits until `ask` no longer fails because nobody listens."""
-        deadline = time.monotonic() + 20
+        deadline = time.monotonic() + 120
         while True:
             try:
                 return ask()

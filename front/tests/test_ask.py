@@ -195,7 +195,7 @@ class OverAFolder(TableTest):
         self.assertIn(
             (
                 "1765.00\nnot answered: Some answer to this question, together with what was answered before, could"
-                " give one person's value away"
+                " give a person's value or a protected total away"
             ),
             said,
         )
@@ -269,12 +269,17 @@ class OverAFolder(TableTest):
             ([self.folder / "nothing"], "there is no folder"),
             ([self.folder], "has no schema.json"),
             ([], "ask.py FOLDER"),
-            (["--help"], "ask.py FOLDER"),
+            (["--what"], "ask.py FOLDER"),
         ):
             with mock.patch.dict(os.environ, {"AUDITOR": "/bin/true"}):
                 status, said = said_by(ask.main, words)
             self.assertIn(due, said)
             self.assertNotEqual(status, 0)
+
+    def test_help_is_there_without_a_place(self):
+        status, said = said_by(ask.main, ["--help"])
+        self.assertEqual(status, 0)
+        self.assertIn("ask.py FOLDER", said)
 
     def test_without_the_program_it_says_so(self):
         with mock.patch.dict(os.environ, {"AUDITOR": "/nowhere/auditor"}):
@@ -283,6 +288,22 @@ class OverAFolder(TableTest):
     def test_a_program_that_says_nothing_is_said(self):
         with mock.patch.dict(os.environ, {"AUDITOR": "/bin/true"}):
             self.assertIn("it ended with status 0", self.ask("count")[1])
+
+
+    def test_each_end_of_the_program_is_said_with_what_to_do(self):
+        program = self.folder / "auditor"
+        for code, complaint, words in (
+            (7, "no journal", "auditor: no journal (there is no journal: run auditor init"),
+            (12, "record 1 should not have been released", "before schema.json protected a total"),
+            (16, "schema: group 0 is bad", "auditor: schema: group 0 is bad (in schema.json, under protect, counted from 0"),
+            (99, "", "auditor: it ended with status 99\n"),
+        ):
+            program.write_text(f"#!/bin/sh\necho '{complaint}' >&2\nexit {code}\n")
+            program.chmod(0o755)
+            with self.subTest(code), mock.patch.dict(os.environ, {"AUDITOR": str(program)}):
+                status, said = self.ask("count")
+                self.assertEqual(status, 1)
+                self.assertIn(words, said)
 
 
 class ListedDoor(http.server.BaseHTTPRequestHandler):
@@ -353,6 +374,26 @@ class OverADoor(unittest.TestCase):
                 ("/t/would", kind, {"ask": "sum", "column": "salary", "where": "all"}),
             ],
         )
+
+    def test_protected_totals_are_said_with_the_columns(self):
+        schema = json.loads(ListedDoor.files["/t/schema.json"])
+        for protect, due in (
+            ([], []),
+            (
+                [{"column": "salary", "where": "team = 'Q\u202eA'"}],
+                ["  protected, so never answered: the total of salary where team = 'Q\\u202eA'"],
+            ),
+        ):
+            ListedDoor.files["/t/schema.json"] = json.dumps({**schema, "protect": protect})
+            status, said = self.ask([], "columns")
+            self.assertEqual((status, said.splitlines()[len(KINDS) :]), (0, due))
+        ListedDoor.files["/t/schema.json"] = json.dumps({**schema, "protect": [{"column": "salary", "where": "team = 'QA' "}]})
+        status, said = self.ask(['{"denied":"unsafe"}'] * 5, "totals salary by team", "avg salary where team = 'QA'", "sum salary where team != 'QA'")
+        named = "not answered: This total is protected, so it is never answered."
+        self.assertEqual((status, [line.endswith(named) for line in said.splitlines()]), (1, [False, True, True, False]))
+        for protect in (1, [1], [{"column": "salary"}], None):
+            ListedDoor.files["/t/schema.json"] = json.dumps({**schema, "protect": protect})
+            self.assertIn('each entry of "protect" has the keys column and where', self.ask([], "columns")[1])
 
     def test_groups_are_those_of_the_public_table(self):
         status, said = self.ask(['{"sum":1}', '{"denied":"wide"}'], "totals salary by team")

@@ -14,7 +14,7 @@ GOOD = line_of("count", 0, 9)
 LINE = b'{"refused":"line"}\n'
 LONG = b'{"ask":"count","where":"' + b" " * 8163 + b'all"}'
 
-# Body, status, and the program's reply where the program was asked.
+# Body, status, and the program's reply if the program was asked.
 BODIES = [
     (b"", 400, None),
     (b"\n", 400, None),

@@ -266,6 +266,25 @@ class Scripted(unittest.TestCase):
                 self.assertEqual(typed(self.door(reply).url, f"{kind} pay"), ([due], "", 0))
         self.assertEqual(typed(self.door('{"num":5,"den":2}').url, "avg age")[0], ["2.5"])
 
+    def test_protected_totals_are_said_with_the_columns(self):
+        total = {"column": "pay", "where": "team = 'A\u202e'"}
+        schema = {"columns": [{"name": name, "is": kind} for name, kind in COLUMNS.items()], "protect": [total]}
+        door = self.door("", **{"schema.json": json.dumps(schema)})
+        self.assertEqual(self.table(door).protected, [total])
+        said, faults, status = typed(door.url, "columns")
+        self.assertEqual(said[len(COLUMNS):], ["protected, so never answered: the total of pay where team = 'A\\u202e'"])
+        self.assertEqual((faults, status), ("", 0))
+        door = self.door('{"denied":"unsafe"}', **{"schema.json": json.dumps(schema), "words.json": (staff.FRONT / "words.json").read_text()})
+        for where, words in (("team = 'A\u202e' ", "This total is protected"), ("team = 'B'", "Some answer to this question")):
+            self.assertTrue(self.table(door).sum("pay", where).sentence.startswith(words))
+        more = {**schema, "protect": [total, {"column": "pay", "where": "all"}]}
+        parts = auditor.connect(self.door("", **{"tables.json": '["north","south"]', "north/schema.json": json.dumps(schema),
+                                                 "south/schema.json": json.dumps(more)}).url)
+        for table in parts.tables:
+            self.addCleanup(table.door.close)
+        self.assertEqual(parts.protected, more["protect"])
+        self.assertEqual(self.table(self.door("")).protected, [])
+
     def test_groups_are_asked_within_the_whole_condition(self):
         door = self.door(lambda _, question: (200, json.dumps({question["ask"]: 5})), self.ROWS)
         table = self.table(door)

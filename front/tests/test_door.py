@@ -1,5 +1,6 @@
 """Many askers, and stops of either side at random moments. SEED chooses the questions and the moments."""
 import asyncio
+import json
 import os
 import pathlib
 import random
@@ -10,7 +11,7 @@ import time
 import unittest
 
 from case import DoorCase
-from kit import AUDITOR, NOBODY, SEED, Door, health
+from kit import AUDITOR, NOBODY, SEED, Door, ask, health
 
 
 class Doors(DoorCase):
@@ -76,6 +77,67 @@ class OneByOne(Doors):
 class WithReports(Doors):
     """The same, with a report in each rest."""
     words, clients, questions, kills = ("--report-every", 0.01), 8, 12, 5
+
+
+# Conditions of totals that are protected, each with the rows that it means, a row as kit.Folder has it.
+TOTALS = {
+    "team = 'QA'": lambda row: row[0] == "QA",
+    "k < 70 and not team in ('OPS', 'DEV')": lambda row: row[1] < 70 and row[0] not in ("OPS", "DEV"),
+    "k >= 30 and k <= 149": lambda row: 30 <= row[1] <= 149,
+}
+PRIME = 2**61 - 1
+
+
+def reduced(row, pivots):
+    """What is left of a row once multiples of others are taken from it; each of these is 1 at its pivot, the first place of its own."""
+    for place, pivot in pivots.items():
+        if row[place]:
+            row = [(one - row[place] * other) % PRIME for one, other in zip(row, pivot)]
+    return row
+
+
+def pivots_of(sets, count):
+    """The reduced rows of some sets of rows, by their pivots. They span over the whole numbers modulo a prime what the sets span."""
+    pivots = {}
+    for members in sets:
+        row = reduced([int(place in members) for place in range(count)], pivots)
+        first = next((place for place, one in enumerate(row) if one), None)
+        if first is not None:
+            inverse = pow(row[first], -1, PRIME)
+            pivots[first] = [one * inverse % PRIME for one in row]
+    return pivots
+
+
+class WithTotals(Doors):
+    """The same, over a schema that protects totals: none of them follows from all the answers in the journal together."""
+    protect, clients, questions, kills = tuple(TOTALS), 16, 12, 6
+
+    def check_all(self):
+        super().check_all()
+        count = len(self.folder.rows)
+        pivots = pivots_of({rows for column, rows, _ in self.folder.journal() if column == 0}, count)
+        self.assertGreater(len(pivots), 4)
+        for where, holds in TOTALS.items():
+            self.assertTrue(any(reduced([int(holds(row)) for row in self.folder.rows], pivots)), where)
+
+    async def test_a_total_is_denied_in_whatever_words_it_is_asked(self):
+        lines = [line_of_sum(f"{front}{where}{end}") for where in TOTALS for front, end in (("", ""), ("not (not (", "))"), ("", " and all"))]
+        parts = [line_of_sum(where) for where in ("k < 30", "k > 149", "all")]
+        self.door.start()
+        async with self.door.session() as session:
+            await self.door.ready(session)
+            for line in (*lines, *[line.replace(b'"sum"', b'"avg"') for line in lines]):
+                self.assertEqual(await ask(session, line, "/would"), (200, b'{"verdict":"unsafe"}\n'), line)
+                self.assertEqual(await ask(session, line), (200, b'{"denied":"unsafe"}\n'), line)
+            # Two of the three parts of the table are told, and the whole would give the third, which is protected.
+            replies = [(await ask(session, line))[1] for line in parts]
+            self.assertEqual(([b"sum" in reply for reply in replies], replies[2]), ([True, True, False], b'{"denied":"unsafe"}\n'))
+            await self.client(session, 0, 20)
+        self.end_and_check()
+
+
+def line_of_sum(where):
+    return json.dumps({"ask": "sum", "column": "salary", "where": where}).encode()
 
 
 @unittest.skipUnless(shutil.which("socat") and os.geteuid() == 0, "socat and root are wanted")

@@ -9,7 +9,7 @@ import time
 import unittest
 
 from case import DoorCase
-from kit import AUDITOR, HERE, Door, ask, health, line_of
+from kit import AUDITOR, FRONT, HERE, Door, Folder, ask, health, line_of
 
 
 def question(kind, low, high):
@@ -73,6 +73,23 @@ class Faults(DoorCase):
         self.door.start()
         async with self.door.session() as session:
             await self.door.ready(session)
+        self.end_and_check()
+
+    async def test_another_schema_is_served_once_somebody_has_looked_at_it(self):
+        async with self.door.session() as session:
+            await self.start(session)
+            await self.client(session, 0, 5)
+            self.assertEqual(self.door.stop(), 0)
+            schema, mark = self.folder.public / "schema.json", self.folder.public / "table.sha256"
+            schema.write_text(schema.read_text() + "\n")
+            self.door.start()
+            await self.ends()
+            self.assertIn(f"If only totals to protect were added, and auditor simulate ends with 0 over the transcript, remove {mark}",
+                          self.folder.said())
+            mark.unlink()
+            self.door.start()
+            await self.door.ready(session)
+            await self.client(session, 1, 5)
         self.end_and_check()
 
     async def test_an_older_journal_is_seen_at_the_next_report(self):
@@ -161,7 +178,8 @@ class Faults(DoorCase):
         self.door.start()
         async with self.door.session() as session:
             await self.door.ready(session, "stopped")
-            self.assertEqual((await health(session))["state"], "stopped: journal damaged at byte 8")
+            self.assertEqual((await health(session))["state"], "stopped: journal damaged at byte 8 (put back a copy of the"
+                             " journal that is at least as new as the last reply)")
             status, body = await ask(session, line_of("sum", 0, 99))
             self.assertEqual(status, 503)
             journal.write_bytes(whole)
@@ -206,6 +224,52 @@ class Faults(DoorCase):
         self.assertEqual(self.door.stop(), 0)
         self.assertEqual([line for line, _ in self.folder.transcript()], [line_of("sum", 0, 99), line_of("sum", 0, 199)])
         self.check_all()
+
+
+class Causes(unittest.IsolatedAsyncioTestCase):
+    """What is said of a program that doesn't begin. One of the test's own says it: what comes of it is the door's part."""
+
+    def setUp(self):
+        self.folder = Folder(4, init=False)
+        self.addCleanup(self.folder.remove)
+        self.program = self.folder.path / "auditor"
+
+    def write_program(self, complaint, code):
+        self.program.write_text(f"#!/bin/sh\necho '{complaint}' >&2\nexit {code}\n")
+        self.program.chmod(0o755)
+
+    async def state(self, *words):
+        """The door's state once it has given up to wait, and what an asker is told then."""
+        door = Door(self.folder, *words, auditor=str(self.program)).start()
+        self.addCleanup(door.end)
+        async with door.session() as session:
+            await door.ready(session, "stopped")
+            status, body = await ask(session, line_of("sum", 0, 3))
+            self.assertEqual(status, 503)
+            state = (await health(session))["state"]
+            self.assertIn(state.removeprefix("stopped: "), json.loads(body)["error"])
+        self.assertEqual(await asyncio.to_thread(door.stop), 0)
+        return state
+
+    async def test_each_end_is_said_with_what_to_do(self):
+        words = json.loads((FRONT / "words.json").read_text())["ended"]
+        for complaint, code in (("schema: fault 3", 3), ("no journal", 7), ("journal is of another table: rows 6, now 5", 10),
+                                ("record 1 should not have been released", 12), ("schema: group 63 is bad", 16)):
+            with self.subTest(complaint):
+                self.write_program(complaint, code)
+                self.assertEqual(await self.state(), f"stopped: {complaint} ({words[str(code)]})")
+
+    async def test_an_end_that_isnt_known_is_said_by_its_code(self):
+        self.write_program("", 99)
+        self.assertEqual(await self.state(), "stopped: the program ended with code 99")
+
+    async def test_a_bad_group_is_said_through_a_socket_too(self):
+        self.write_program("schema: group 0 is bad", 16)
+        path = str(self.folder.path / "serve.sock")
+        gone = await asyncio.start_unix_server(lambda _, writer: writer.close(), path)
+        self.addAsyncCleanup(gone.wait_closed)
+        self.addCleanup(gone.close)
+        self.assertIn("the program is gone: schema: group 0 is bad (in schema.json, under protect", await self.state("--serve", path))
 
 
 class Known(DoorCase):

@@ -45,6 +45,8 @@ class PageCase(unittest.TestCase):
         cls.addClassCleanup(cls.browser.close)
 
     def tearDown(self):
+        # A page that is left asks no door that is closed by then.
+        self.browser.driver.get("about:blank")
         self.browser.screen(1200)
         self.assertEqual(self.browser.faults(), [])
 
@@ -154,7 +156,7 @@ class OverTheProgram(PageCase):
         self.browser.write(self.alone())
         self.browser.ask()
         self.assertEqual(self.browser.find("#answer .verdict").text, "Not answered")
-        self.assertIn("could give one person's value away", self.browser.text("answer"))
+        self.assertIn("could give a person's value or a protected total away", self.browser.text("answer"))
         self.assertIn("decided without looking at the values", self.browser.text("answer"))
         self.assertEqual(self.browser.all("#answer .number"), [])
         self.assertEqual(self.browser.find("#history td:nth-child(2)").text, "not answered")

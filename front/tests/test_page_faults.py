@@ -1,4 +1,4 @@
-"""The page over a door that says what it is told to say: seldom replies, failing doors, several tables.
+"""The page over a door that says what it is told to say: rare replies, failing doors, several tables.
 
 Start: /usr/bin/python3 -m unittest -v test_page_faults. It needs no program.
 """
@@ -63,7 +63,7 @@ class Scripted(OneTable):
         self.assertNotIn("exactly", self.say('{"num":1001,"den":4}', "avg"))
 
     def test_each_refusal_and_denial_has_its_sentence(self):
-        cases = [('{"denied":"wide"}', "Not answered", "larger numbers than it has"), ('{"denied":"unsafe"}', "Not answered", "one person's value"),
+        cases = [('{"denied":"wide"}', "Not answered", "larger numbers than it has"), ('{"denied":"unsafe"}', "Not answered", "a person's value or a protected total"),
                  ('{"refused":"empty"}', "Not asked", "No row satisfies"), ('{"refused":"full"}', "Not asked", "The history is full"),
                  ('{"refused":"long"}', "Not asked", "8,192 bytes"), ('{"refused":"another"}', "Not asked", "another"),
                  ('{"denied":"constructor"}', "Not answered", "constructor")]
@@ -92,6 +92,31 @@ class Scripted(OneTable):
         self.assertEqual(shown, {"count": None, "sum": ["pay"], "max": ["best"]})
         self.assertFalse(self.browser.find("#table-choice").is_displayed())
         self.assertFalse(self.browser.find("#parts-note").is_displayed())
+
+    def test_protected_totals_are_listed_beside_their_column(self):
+        totals = [{"column": "pay", "where": where} for where in ("constructor = '<b>A</b>'", *(f"age > {age}" for age in range(6)))]
+        self.open("", {"schema.json": json.dumps({"protect": totals, "columns": [*COLUMNS, {"name": "tax", "is": "sum"}]})})
+        holds = {line.find_element("css selector", "code, th").text: line.find_elements("tag name", "td")[-1].text
+                 for line in self.browser.all("#columns tr")}
+        self.assertEqual((holds["tax"], holds["pay"]), (
+            "totals and averages", "totals and averages. Protected: the total where constructor = '<b>A</b>'; where age > 0; where age > 1; "
+            "where age > 2; where age > 3; and 2 more in schema.json"))
+
+    def test_a_denial_of_a_protected_total_says_so(self):
+        totals = [{"column": "pay", "where": "age > 30 "}]
+        self.open("", {"schema.json": json.dumps({"protect": totals, "columns": COLUMNS})})
+        for kind, where, named in (("sum", " age > 30", True), ("avg", "age > 30", True), ("sum", "age > 31", False), ("max", "age > 30", False)):
+            with self.subTest(kind=kind, where=where):
+                self.browser.write(where)
+                said = self.say('{"denied":"unsafe"}', kind)
+                self.assertEqual("This total is protected, so it is never answered." in said, named)
+                self.assertEqual("Another condition may be answered." in said, not named)
+                self.reply = '{"verdict":"unsafe"}'
+                self.assertEqual("This total is protected, so it is never answered." in self.browser.ask("would"), named)
+
+    def test_a_list_of_protected_totals_that_isnt_one_is_passed_over(self):
+        self.open('{"sum":500}', {"schema.json": json.dumps({"protect": "all", "columns": COLUMNS})})
+        self.assertIn("5.00 EUR", self.browser.ask())
 
     def test_bars_are_as_long_as_their_numbers_on_either_side_of_zero(self):
         pay = {"30": -100, "40": 300, "50": 0}

@@ -497,21 +497,21 @@ class Choices(TableTest):
         self.look(STAFF)
         status, said = self.make()
         self.assertEqual((status, self.names()), (1, ["t.choices.json", "t.csv"]))
-        self.assertIn("still to be chosen:\nprotect\nteam\nage\nsalary", said)
+        self.assertIn("still to be chosen:\nteam\nage\nsalary\nprotect", said)
 
     def test_choose_says_what_is_left(self):
         self.look(STAFF)
-        self.assertIn("still open: protect, team, age", self.choose("salary=sum")[1])
+        self.assertIn("still open: team, age, protect", self.choose("salary=sum")[1])
         self.assertIn("nothing is open any more", self.choose("others=text", "protect=none")[1])
 
     def test_choose_asks_for_each_open_choice(self):
         self.look(STAFF)
-        with mock.patch("builtins.input", side_effect=["none", "text", "nmber", "number", "sum"]) as asked:
+        with mock.patch("builtins.input", side_effect=["text", "nmber", "number", "sum", "none"]) as asked:
             said = self.choose()[1]
         self.assertIn("age can't be 'nmber'", said)
         self.assertEqual(
             [call.args[0].split(" ")[0].rstrip("?") for call in asked.call_args_list],
-            ["protect", "team", "age", "age", "salary"],
+            ["team", "age", "age", "salary", "protect"],
         )
         self.assertEqual(self.make()[0], 0)
 
@@ -621,19 +621,6 @@ class Written(TableTest):
             },
         )
 
-    def test_totals_to_protect_stand_in_the_schema(self):
-        with mock.patch.dict(os.environ, {"PATH": ""}):
-            os.environ.pop("AUDITOR", None)
-            self.look(STAFF)
-            self.choose(*STAFF_KINDS, "protect=salary where team = 'QA'")
-            self.assertEqual(self.make()[0], 0)
-        self.assertEqual(self.schema()["protect"], [{"column": "salary", "where": "team = 'QA'"}])
-
-    def test_a_total_of_another_column_isnt_protected(self):
-        self.look(STAFF)
-        self.choose(*STAFF_KINDS, "protect=age where team = 'QA'")
-        self.assertIn("'age' isn't the name of a column that is sum", self.make()[1])
-
     def test_wave_is_a_public_number(self):
         said = self.made(STAFF, *STAFF_KINDS, "wave=1")
         self.assertEqual([row[-1] for row in self.table()], ["wave", "1", "1", "1"])
@@ -655,6 +642,9 @@ class Written(TableTest):
         self.assertEqual(
             {name: (self.folder / name).read_bytes() for name in self.names() if (self.folder / name).is_file()}, before
         )
+
+    def test_a_file_that_isnt_there_is_named(self):
+        self.assertEqual(self.prepare("look", self.file), (1, f"prepare: {self.file}: No such file or directory\n"))
 
     def test_a_folder_isnt_a_file_to_look_at(self):
         for place in (".", "/", self.folder):
@@ -701,21 +691,6 @@ class Written(TableTest):
                 self.refused(STAFF, *STAFF_KINDS),
             )
 
-    def test_totals_that_the_program_doesnt_take_are_said(self):
-        program = self.folder / "auditor"
-        self.look(STAFF)
-        self.choose(*STAFF_KINDS, "protect=salary where team =")
-        for status, said, words in (
-            (3, "schema: fault 3", "may be older than protected totals"),
-            (16, "schema: group 0 is bad", "isn't understood: 'team ='"),
-        ):
-            program.write_text(f"#!/bin/sh\necho '{said}' >&2\nexit {status}\n")
-            program.chmod(0o755)
-            with self.subTest(said), mock.patch.dict(os.environ, {"AUDITOR": str(program)}):
-                status, found = self.make()
-                self.assertEqual((status, self.out.exists()), (1, False))
-                self.assertIn(words, found)
-
     def test_a_stop_while_it_writes_leaves_nothing(self):
         self.look(STAFF)
         self.choose(*STAFF_KINDS, "protect=none")
@@ -727,9 +702,9 @@ class Written(TableTest):
                     self.assertEqual(self.names(), before)
 
     def test_wrong_arguments_show_the_usage(self):
-        for words in ((), ("look",), ("make", "a", "b"), ("help",)):
+        for words, due in (((), 2), (("look",), 2), (("make", "a", "b"), 2), (("help", "me"), 2), (("help",), 0), (("--help",), 0)):
             status, said = self.prepare(*words)
-            self.assertEqual(status, 2)
+            self.assertEqual(status, due)
             self.assertIn("prepare.py look FILE", said)
         self.assertIn("isn't an option of look", self.prepare("look", self.file, "seperator=;")[1])
 

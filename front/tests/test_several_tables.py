@@ -38,6 +38,7 @@ class Office:
 class Tables(unittest.IsolatedAsyncioTestCase):
     def setUp(self):
         self.office = Office()
+        self.lines = set()                  # those that were asked, with the name of their table
         self.door = Door(self.office, *self.office.words(), plain=True)
 
     def tearDown(self):
@@ -50,6 +51,7 @@ class Tables(unittest.IsolatedAsyncioTestCase):
             name = chance.choice(NAMES)
             part = self.office.parts[name]
             (kind, low, high), line = part.draw(chance)
+            self.lines.add((name, line))
             status, body = await ask(session, line, f"/{name}/ask")
             self.assertEqual(status, 200)
             reply = json.loads(body)
@@ -65,7 +67,8 @@ class Tables(unittest.IsolatedAsyncioTestCase):
                 self.assertEqual(await response.json(), list(NAMES))
             said = await health(session)
             self.assertEqual(list(said["tables"]), list(NAMES))
-            self.assertEqual(sum(one["asked"] + one["repeats"] for one in said["tables"].values()), 24 * 15)
+            # What several ask at the same moment is one question.
+            self.assertIn(sum(one["asked"] + one["repeats"] for one in said["tables"].values()), range(len(self.lines), 24 * 15 + 1))
             for name, part in self.office.parts.items():
                 async with session.get(f"/{name}/table.csv") as response:
                     self.assertEqual(await response.read(), (part.public / "table.csv").read_bytes())
@@ -153,6 +156,16 @@ class Tables(unittest.IsolatedAsyncioTestCase):
             self.assertEqual((await ask(session, line_of("sum", 0, 30), "/south/ask"))[0], 503)
             self.assertEqual((await ask(session, line_of("sum", 0, 50), "/north/ask"))[0], 200)
         self.assertEqual(self.door.stop(signal.SIGTERM), 0)
+        # The next door doesn't forget it, though it makes no reports, and the other tables go on there too.
+        self.door.words = self.door.words[:-2]
+        self.door.start()
+        async with self.door.session() as session:
+            await self.door.ready(session, "stopped", path="/south/health")
+            await self.door.ready(session, path="/north/health")
+            self.assertIn("stopped.txt: the journal holds 0 answers and 1 were given", (await health(session, "/south/health"))["state"])
+            self.assertEqual((await ask(session, line_of("sum", 0, 30), "/south/ask"))[0], 503)
+            self.assertEqual((await ask(session, line_of("sum", 0, 40), "/north/ask"))[0], 200)
+        self.assertEqual(self.door.stop(), 0)
 
 
 class Arguments(unittest.TestCase):
