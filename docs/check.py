@@ -1,9 +1,10 @@
 #!/usr/bin/env python3
 """Checks that what the documents name is there: links, paths, edits, clauses and words of specs/; that README shows replies of
-the demo, in order; that the demo and the gate's case of the program have the same files; that DECISIONS lists each of its
-entries by crate; and that the promise stands on no more lines of definitions than it may (promise_size.py).
+the demo, in order; that the demo and the gate's case of the program have the same files; that the pages name the newest release;
+that DECISIONS lists each of its entries by crate once; and that the promise stands on no more lines of definitions than it may
+(promise_size.py).
 
-    docs/check.py           # prints each name that isn't there; exits with 1 where there is one
+    docs/check.py           # prints each name that isn't there; exits with 1 if there is one
 """
 import re
 import sys
@@ -13,7 +14,7 @@ import promise_size
 
 TOP = Path(__file__).resolve().parent.parent
 PAGES = [TOP / "README.md", *sorted(TOP.glob("docs/*.md")), *sorted(TOP.glob("crates/*/README.md")), TOP / "bench/README.md"]
-HISTORY = {"DECISIONS.md", "CHANGELOG.md"}  # they tell of what was, too
+HISTORY = {"DECISIONS.md", "CHANGELOG.md"}  # they speak of what was, too
 BUILT = {"crates/auditor/out/auditor"}  # by demo/run.sh
 
 
@@ -49,7 +50,7 @@ def missing_edits(page, text):
 
 
 def missing_rows(page, text):
-    """The cells of an index of clauses: a sentence, clauses, words, edits. A table of layers is none, though it has as many."""
+    """The cells of an index of clauses: a sentence, clauses, words, edits. A table of layers isn't one, though it has as many."""
     text = re.sub(r"(?m)^\| layer .*\n(?:\|.*\n)*", "", text)
     for row in re.findall(r"(?m)^\| (?!what is said|---)(.*) \|$", text):
         cells = row.split(" | ")
@@ -67,7 +68,7 @@ def missing_rows(page, text):
 
 
 def missing_entries(page, text):
-    """The clauses and definitions of an entry, each with its words behind it."""
+    """The clauses and definitions of an entry, each with its words after it."""
     for kind, lines in re.findall(r"(?m)^(Clause|Definition):((?:.*\n)(?: {15}.*\n)*)", text):
         for name in re.findall(r"`(?:\w+::)?(\w+)`", lines):
             known = WORDS if kind == "Definition" else CLAUSES | CALLS | LAWS | WORDS | CRATES
@@ -99,13 +100,27 @@ def stale_copies():
             yield f"demo/{ours}: other than crates/auditor/{gates}"
 
 
+def stale_version():
+    """README's tarball and the manual page have the version and the date of the newest release."""
+    version, date = re.search(r"(?m)^## ([\d.]+) \((\d{4}-\d\d-\d\d)\)$", (TOP / "CHANGELOG.md").read_text()).groups()
+    for named in re.findall(r"auditor-([\d.]+)-x86_64", (TOP / "README.md").read_text()):
+        if named != version:
+            yield f"README.md: version {named}, and {version} is the newest of CHANGELOG.md"
+    if f'\n.TH AUDITOR 1 {date} "auditor {version}" ' not in (TOP / "docs/auditor.1").read_text():
+        yield f"docs/auditor.1: its head isn't of version {version} and {date}"
+
+
 def missing_titles():
-    """Entries of DECISIONS.md that its list by crate doesn't have."""
+    """Entries of DECISIONS.md that its list by crate doesn't have once, and what it lists that has no entry."""
     head, _, entries = (TOP / "docs/DECISIONS.md").read_text().partition("\n## Entries\n")
-    listed = " ".join(head.split())
-    for title in re.findall(r"(?m)^### (.*) \(\d{4}-\d\d-\d\d\)$", entries):
-        if title not in listed:
-            yield f"docs/DECISIONS.md: not in the list by crate: {title}"
+    by_crate = head.partition("\n## By crate\n")[2]
+    listed = [title for item in by_crate.split("\n- **")[1:] for title in " ".join(item.split()).partition("**: ")[2].split("; ")]
+    titles = re.findall(r"(?m)^### (.*) \(\d{4}-\d\d-\d\d\)$", entries)
+    if len(titles) != len(re.findall(r"(?m)^### ", entries)):
+        yield "docs/DECISIONS.md: an entry without a date"
+    for title in sorted(set(titles + listed)):
+        if (times := (titles.count(title), listed.count(title))) != (1, 1):
+            yield f"docs/DECISIONS.md: {times[0]} entries and {times[1]} times in the list by crate: {title}"
 
 
 CHECKS = [missing_links, missing_paths, missing_edits, missing_rows, missing_entries, missing_tests]
@@ -119,7 +134,7 @@ def main():
         for check in CHECKS
         for fault in check(page, page.read_text())
     ]
-    faults += [*stale_transcript(), *stale_copies(), *missing_titles(), *promise_size.too_long()]
+    faults += [*stale_transcript(), *stale_copies(), *stale_version(), *missing_titles(), *promise_size.too_long()]
     print("\n".join(faults) if faults else f"{len(PAGES)} pages, and all that they name is there")
     return 1 if faults else 0
 

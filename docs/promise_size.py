@@ -29,11 +29,11 @@ CRATES = {
 MOST = {
     "disclosure": 70,
     "decision": 110,
-    "lines and conditions": 375,
-    "formats of files": 220,
-    "journal and crash": 80,
-    "lives": 175,
-    "the promise": 1020,
+    "lines and conditions": 380,
+    "formats of files": 245,
+    "journal and crash": 95,
+    "lives": 240,
+    "the promise": 1130,
 }
 
 IMPORT = re.compile(r"(?:ghost )?use (?:Rattle\.)?([\w.]+?)(?:\.\{(.*)\}| as (\w+));?$")
@@ -116,7 +116,7 @@ def is_constructor(module, word, place):
 
 
 def variables(module, text, names, place):
-    """The variables that a line brings in: in brackets with their type, behind a `λ`, or on the left of an equation."""
+    """The variables that a line brings in: in brackets with their type, after a `λ`, or on the left of an equation."""
     found = {name for group in re.findall(r"[({]([^(){}:]+) :", text) for name in group.split()}
     found |= set(re.findall(r"λ (\w+)\.", text))
     left = text.partition(" = ")[0] if " = " in text else ""
