@@ -24,7 +24,23 @@ fresh
 "$program" serve <&- >&- 2>&-
 tell_unwritten 'all three are closed' 0 $?
 
-# No text may go into the journal, which may then be opened under the number of a closed stream.
+# What has the number of a closed output, once the journal is open.
+if [ -d /proc/self/fd ]; then
+    fresh
+    mkfifo lines
+    "$program" serve <lines >&- 2>said &
+    run=$!
+    exec 4>lines
+    turns=0
+    while ! ls -l "/proc/$run/fd" | grep -q 'answers.journal$' && [ $((turns += 1)) -le 200 ]; do sleep 0.05; done
+    number_1=$(readlink "/proc/$run/fd/1")
+    exec 4>&-
+    wait "$run"
+    tell_unwritten 'standard output is closed, and nothing is asked' 0 $?
+    [ "$number_1" = /dev/null ] || complain "$number_1 has the number of the closed output"
+fi
+
+# No text may go into the journal, which would otherwise be opened under the number of a closed stream.
 fresh
 "$program" init <&- >&- 2>&-
 tell_unwritten 'all three are closed, at init over a journal' 8 $?
@@ -90,11 +106,16 @@ exec 4>&-
 tell 'a run after one that was killed' 0 $?
 
 fresh
+<<<<<<< HEAD
 (ulimit -f 0; exec "$program" serve <questions.jsonl >/dev/null 2>&1)
+=======
+{ (ulimit -f 0; exec "$program" serve <questions.jsonl >/dev/null); } 2>said
+>>>>>>> 7da37aa5
 tell 'no file may grow (SIGXFSZ)' 153 $?
 "$program" serve <questions.jsonl >replies 2>said
 tell 'a run after that' 0 $?
 
+<<<<<<< HEAD
 # A pipe whose reading or writing end waits for nothing, as many programs leave those of their children.
 if command -v python3 >/dev/null; then
     fresh
@@ -113,6 +134,20 @@ if command -v python3 >/dev/null; then
         echo $? >status
     } | sleep 1
     tell_unwritten 'standard output is a full pipe that waits for nothing' 6 "$(cat status)"
+=======
+# A pipe that waits for nothing, as many programs leave those of their children: it is empty, and then it is full.
+if command -v python3 >/dev/null; then
+    fresh
+    mkfifo pipe
+    exec 5<>pipe
+    python3 -c 'import os; os.set_blocking(0, False)' <&5
+    "$program" serve <&5 >replies 2>said
+    tell_unwritten 'standard input is an empty pipe that waits for nothing' 5 $?
+    yes '{"ask":"count","where":"all"}' | head -n 20000 >many.jsonl
+    "$program" serve <many.jsonl >&5 2>said
+    tell_unwritten 'standard output is a full pipe that waits for nothing' 6 $?
+    exec 5>&-
+>>>>>>> 7da37aa5
 fi
 
 if can_be_nobody; then

@@ -40,11 +40,19 @@ for page in PROMISES THREATS FORMATS OPERATIONS; do
     cp "$top/docs/$page.md" "$name/share/doc/auditor/" || exit 1
 done
 cp "$top/CHANGELOG.md" "$name/share/doc/auditor/" || exit 1
+<<<<<<< HEAD
 for file in run.sh ends.sh edges.sh attacks.sh statuses.sh check_report.py drill.py schema.json table.csv public.csv questions.jsonl replies.jsonl; do
     cp "$demo/$file" "$name/share/doc/auditor/demo/" || exit 1
 done
 mkdir -p "$name/share/doc/auditor/front" || exit 1
 cp "$top/docs/FRONT.md" "$name/share/doc/auditor/" || exit 1
+=======
+for file in run.sh ends.sh edges.sh attacks.sh statuses.sh said.txt check_report.py twin.py drill.py schema.json table.csv public.csv questions.jsonl replies.jsonl; do
+    cp "$demo/$file" "$name/share/doc/auditor/demo/" || exit 1
+done
+mkdir -p "$name/share/doc/auditor/front" || exit 1
+cp "$top/docs/FRONT.md" "$top/docs/front.png" "$name/share/doc/auditor/" || exit 1
+>>>>>>> 7da37aa5
 (cd "$top/front" && tar --exclude=tests --exclude=check.sh --exclude=__pycache__ -cf - .) | tar -xf - -C "$name/share/doc/auditor/front" || exit 1
 # The modes are those that an install needs, whatever the umask is, here and where the source was fetched.
 chmod -R u=rwX,go=rX "$name" || exit 1

@@ -1,6 +1,6 @@
 #!/bin/sh
 # Makes a journal beside copies of the demo's files in a fresh folder, asks the demo's questions, compares the replies with
-# those due, and has the report checked where there is a python3. Then, in a folder with the public columns alone, computes the decisions
+# those due, has the report checked, and shows for each number another table that sends the same bytes, if there is a python3. Then, in a folder with the public columns alone, computes the decisions
 # of the transcript again: it agrees, and with one reply changed it doesn't. At last it prepares the table anew from its CSV, as with a table
 # of your own, and asks about it in plain words. The exit status tells. Where none is given the program is built first, which takes the
 # source and the kit; in a package it is bin/auditor.
@@ -34,6 +34,7 @@ cmp replies.jsonl "$demo/replies.jsonl" || exit 1
 "$program" audit >report.jsonl || { echo "demo: auditor audit ended with status $?" >&2; exit 1; }
 if command -v python3 >/dev/null; then
     python3 "$demo/check_report.py" <report.jsonl >&2 || exit 1
+    python3 "$demo/twin.py" "$program" >&2 || exit 1
 fi
 
 # Blank lines have no reply.

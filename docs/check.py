@@ -1,7 +1,7 @@
 #!/usr/bin/env python3
 """Checks that what the documents name is there: links, paths, edits, clauses and words of specs/; that README shows replies of
-the demo, in order; that the demo and the gate's case of the program have the same files; and that the promise stands on no more
-lines of definitions than it may (promise_size.py).
+the demo, in order; that the demo and the gate's case of the program have the same files; that DECISIONS lists each of its
+entries by crate; and that the promise stands on no more lines of definitions than it may (promise_size.py).
 
     docs/check.py           # prints each name that isn't there; exits with 1 where there is one
 """
@@ -49,7 +49,8 @@ def missing_edits(page, text):
 
 
 def missing_rows(page, text):
-    """The cells of an index of clauses: a sentence, clauses, words, edits."""
+    """The cells of an index of clauses: a sentence, clauses, words, edits. A table of layers is none, though it has as many."""
+    text = re.sub(r"(?m)^\| layer .*\n(?:\|.*\n)*", "", text)
     for row in re.findall(r"(?m)^\| (?!what is said|---)(.*) \|$", text):
         cells = row.split(" | ")
         if len(cells) != 4:
@@ -58,7 +59,7 @@ def missing_rows(page, text):
             if name not in CLAUSES | CALLS | LAWS | WORDS:
                 yield f"clause {name}"
         for name in re.findall(r"`(\w+)`", cells[2]):
-            if name not in WORDS:
+            if name not in WORDS | CLAUSES:
                 yield f"word {name}"
         for name in re.findall(r"\b[a-z0-9]+(?:_[a-z0-9]+){2,}\b", cells[3]):
             if name not in EDITS and name not in CALLS:
@@ -98,6 +99,15 @@ def stale_copies():
             yield f"demo/{ours}: other than crates/auditor/{gates}"
 
 
+def missing_titles():
+    """Entries of DECISIONS.md that its list by crate doesn't have."""
+    head, _, entries = (TOP / "docs/DECISIONS.md").read_text().partition("\n## Entries\n")
+    listed = " ".join(head.split())
+    for title in re.findall(r"(?m)^### (.*) \(\d{4}-\d\d-\d\d\)$", entries):
+        if title not in listed:
+            yield f"docs/DECISIONS.md: not in the list by crate: {title}"
+
+
 CHECKS = [missing_links, missing_paths, missing_edits, missing_rows, missing_entries, missing_tests]
 
 
@@ -109,7 +119,7 @@ def main():
         for check in CHECKS
         for fault in check(page, page.read_text())
     ]
-    faults += [*stale_transcript(), *stale_copies(), *promise_size.too_long()]
+    faults += [*stale_transcript(), *stale_copies(), *missing_titles(), *promise_size.too_long()]
     print("\n".join(faults) if faults else f"{len(PAGES)} pages, and all that they name is there")
     return 1 if faults else 0
 

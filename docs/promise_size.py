@@ -1,7 +1,11 @@
 #!/usr/bin/env python3
 """Counts what a reader of the promise must believe: the bare lines (no blank line, no comment, no import) of each definition
 that the promise's clauses of `run` stand on, each counted once. Words of the kit count as known, and so do the types of the code.
+<<<<<<< HEAD
 The promise has parts: what may not be disclosed, when a question is denied, the lines and conditions, the formats of the files, the
+=======
+The promise has parts: what may not be disclosed, when a question is denied, lines and conditions, the formats of the files, the
+>>>>>>> 7da37aa5
 journal with its crashes, and lives of runs. Each has a limit of its own, and so has the whole.
 
     docs/promise_size.py             # a table by part; exits with 1 if there are more lines than there may be
@@ -14,7 +18,13 @@ from pathlib import Path
 
 TOP = Path(__file__).resolve().parent.parent
 RUN = TOP / "crates/auditor_top/src/running.rt"
+<<<<<<< HEAD
 CLAUSES = ("lives", "served", "any_moment", "undisclosed")
+=======
+CLAUSE = "lives"
+RECORD = ("auditor_top.specs.Runs", "Serving")  # of its fields these carry the promise too
+FIELDS = ("served", "any_moment", "undisclosed")
+>>>>>>> 7da37aa5
 HISTORY = "audit_types.specs.History"
 # A definition belongs to the first part that has it: what this word stands on, or what stands in these crates.
 STANDS_ON = {"disclosure": "IsUndisclosed", "decision": "IsLegal"}
@@ -25,6 +35,7 @@ CRATES = {
     "lives": ("audit_types", "audit_core", "audit_session", "auditor_top"),
 }
 MOST = {
+<<<<<<< HEAD
     "disclosure": 90,
     "decision": 110,
     "lines and conditions": 375,
@@ -32,6 +43,15 @@ MOST = {
     "journal and crash": 110,
     "lives": 175,
     "the promise": 1080,
+=======
+    "disclosure": 70,
+    "decision": 110,
+    "lines and conditions": 375,
+    "formats of files": 220,
+    "journal and crash": 80,
+    "lives": 175,
+    "the promise": 1020,
+>>>>>>> 7da37aa5
 }
 
 IMPORT = re.compile(r"(?:ghost )?use (?:Rattle\.)?([\w.]+?)(?:\.\{(.*)\}| as (\w+));?$")
@@ -160,11 +180,15 @@ def all_below(found):
 
 
 def words_of_clauses():
+    """The words of the clause of `run`, and of the fields of the record that its clause on `serve` is: their own lines aren't counted, as a clause's aren't."""
     text = RUN.read_text()
-    module = Module("run", text)
-    for clause in CLAUSES:
-        body = re.search(rf"(?s)\n    ensures {clause} \{{(.*?)\}}\n", text)[1]
-        yield from words_of(module, [body.replace("\n", " ")])
+    body = re.search(rf"(?s)\n    ensures {CLAUSE} \{{(.*?)\}}\n", text)[1]
+    yield from words_of(Module("run", text), [body.replace("\n", " ")])
+    module = MODULES[RECORD[0]]
+    record = module.definitions[RECORD[1]]
+    for line in whole_lines(record.lines)[1:]:
+        if re.match(r" *pub (\w+) :", line)[1] in FIELDS:
+            yield from words_of(module, [line], place=record.place)
 
 
 def parts():

@@ -56,7 +56,8 @@ async def listen(runner, where):
     """Starts to listen, and says where."""
     if where.startswith("unix:"):
         path = pathlib.Path(where[5:])
-        path.unlink(missing_ok=True)
+        if path.is_socket():                # of a door that was killed; its table is ours by now
+            path.unlink()
         mask = os.umask(0o117)
         await web.UnixSite(runner, str(path)).start()
         os.umask(mask)

@@ -401,7 +401,8 @@ def answer_line(asker, line):
     kind, column, where = KINDS[match["kind"]], match["column"], match["where"] or "all"
     if match["would"]:
         verdicts = asker.would(kind, column, where)
-        return [f"{name}: {verdict}" for name, verdict in verdicts.items()] if isinstance(verdicts, dict) else [verdicts]
+        named = verdicts.items() if isinstance(verdicts, dict) else [("", verdicts)]
+        return [(f"{name}: " if name else "") + asker.sentence("verdict", verdict) for name, verdict in named]
     if match["by"]:
         return [f"{group.value}: {shown(asker, column, group.answer)}" + ("" if kind == "count" else f" ({group.rows} rows)")
                 for group in asker.groups(column, match["by"], kind, where)]

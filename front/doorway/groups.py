@@ -63,7 +63,7 @@ class Groups:
     async def receive(self):
         """The replies to the group that was sent."""
         lines, due = self.sent
-        count = len(lines) + (len(due) if due else 0)
+        count = len(lines) + len(due)
         try:
             if self.broken:
                 raise Ended(await self._why() or self.broken)

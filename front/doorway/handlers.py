@@ -109,7 +109,7 @@ class TableHandlers:
         response = web.StreamResponse(headers={"Content-Type": JSONL, "Content-Length": str(size), **SAFE})
         await response.prepare(request)
         with contextlib.suppress(ConnectionError):
-            while at < size:
+            while at < size and request.method != "HEAD":
                 piece = transcript.file.read(min(size - at, PIECE), at)
                 at += len(piece)
                 await response.write(piece)
@@ -187,6 +187,7 @@ def application(page, words, tables, hosts):
     routes |= RootHandlers(page, words, tables).routes()
     app = web.Application(client_max_size=LONGEST + 3)      # a body as long as that is refused
     for (method, path), handler in routes.items():
-        app.router.add_route(method, path, guarded(handler, hosts))
+        for one in ("GET", "HEAD") if method == "GET" else (method,):
+            app.router.add_route(one, path, guarded(handler, hosts))
     app.router.add_route("*", "/{rest:.*}", guarded(unknown({path for _, path in routes}), hosts))
     return app

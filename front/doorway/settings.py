@@ -1,5 +1,6 @@
 """The door's arguments, and the folders that each table has by them."""
 import argparse
+import os
 import pathlib
 import re
 from dataclasses import dataclass
@@ -63,6 +64,8 @@ def read(arguments=None):
     fault = _fault_of_names(settings)
     if fault:
         words.error(fault)
+    if "/" in settings.auditor:             # it is started in other folders
+        settings.auditor = os.path.abspath(settings.auditor)
     settings.places = {name: _places(settings, name) for name in settings.table or [""]}
     return settings
 

@@ -71,7 +71,7 @@ class Table:
         if known:
             self.repeats += 1
             return known
-        if self.closing.is_set() or self.state.startswith("stopped"):
+        if self.is_stopped():
             raise Turned(503, self.state, again=True)
         if self.waiting >= self.most_waiting:
             raise Turned(503, "too many questions wait", again=True)
@@ -103,6 +103,10 @@ class Table:
         records = self.transcript.records
         return {"state": self.state, "records": records, "room": max(HISTORY - records, 0), "asked": self.asked,
                 "groups": self.sent, "repeats": self.repeats, "restarts": self.restarts, "waiting": self.waiting}
+
+    def is_stopped(self):
+        """Whether no question is taken just now."""
+        return self.closing.is_set() or self.state.startswith("stopped")
 
     def say(self, text):
         print(f"{self.name}: {text}" if self.name else text, file=sys.stderr, flush=True)

@@ -13,7 +13,7 @@ VERDICTS_DENIED = {"unsafe": {"denied": "unsafe"}, "wide": {"denied": "wide"}}
 
 
 async def total(parts, line):
-    """The total as a dict. `parts` are names with objects that have `ask` and `verdict`, as a door has them."""
+    """The total as a dict. `parts` are the handlers of the tables by their names."""
     question = read_question(line)
     kind = question.get("ask") if question else None
     if kind not in ("sum", "count"):
@@ -33,6 +33,8 @@ async def _each(parts, call, line):
 
 async def _denial(part, line):
     """The denial or the door's own text that is due, or None if the question would be answered or refused."""
+    if part.table.is_stopped():
+        return {"error": part.table.state}
     try:
         return VERDICTS_DENIED.get(json.loads(await part.verdict(line))["verdict"])
     except Turned as turned:

@@ -85,13 +85,14 @@ class Folder:
         data = (self.path / "answers.journal").read_bytes()
         assert data[0] == 1 and data[1:8] == b"SQAJRNL" and data[8] == 1
         rows = int.from_bytes(data[9:11], "big")
-        size, at, records = 9 + (rows + 7) // 8, 20, []
+        size, at, records, sets = 9 + (rows + 7) // 8, 20, [], {}
         while data[at] == 1:
             count, at = data[at + 1], at + 2
             for record in (data[at + number * size:at + (number + 1) * size] for number in range(count)):
-                bits = int.from_bytes(record[9:], "little")
-                records.append((record[0], frozenset(row for row in range(rows) if bits >> row & 1),
-                                int.from_bytes(record[1:9], "big", signed=True)))
+                if record[9:] not in sets:
+                    bits = int.from_bytes(record[9:], "little")
+                    sets[record[9:]] = frozenset(row for row in range(rows) if bits >> row & 1)
+                records.append((record[0], sets[record[9:]], int.from_bytes(record[1:9], "big", signed=True)))
             at += count * size
         return records
 
@@ -136,6 +137,7 @@ class Door:
         if self.process and self.process.poll() is None:
             self.process.kill()
             self.process.wait()
+            self.kill_programs()            # a test may have left them stopped
 
     def start(self):
         with open(self.folder.path / "door.err", "ab") as errors:
@@ -148,7 +150,7 @@ class Door:
         return aiohttp.ClientSession("http://door", connector=aiohttp.UnixConnector(self.socket, limit=0),
                                      timeout=aiohttp.ClientTimeout(120))
 
-    async def ready(self, session, state="serving", patience=30, path="/health"):
+    async def ready(self, session, state="serving", patience=120, path="/health"):
         end = time.monotonic() + patience
         while time.monotonic() < end:
             try:
@@ -171,12 +173,15 @@ class Door:
                 pass
         return found
 
-    def kill_programs(self):
+    def signal_programs(self, how):
         for number in self.programs():
             try:
-                os.kill(number, signal.SIGKILL)
+                os.kill(number, how)
             except ProcessLookupError:
                 pass
+
+    def kill_programs(self):
+        self.signal_programs(signal.SIGKILL)
 
     def stop(self, how=signal.SIGTERM):
         self.process.send_signal(how)

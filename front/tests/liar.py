@@ -1,7 +1,7 @@
 #!/usr/bin/python3
-"""A program that lies: `serve` of the real one, with the replies of a group altered now and then.
+"""A program that lies: `serve` of the real one, with the replies of each group of three questions or more altered.
 
-LIE says how, LIE_EVERY how often. All other commands are the real program's, which AUDITOR names. A group is 64 lines.
+LIE says how. All other commands are the real program's, which AUDITOR names. A group is 64 lines.
 """
 import os
 import subprocess
@@ -52,9 +52,8 @@ def main():
     program = os.environ["AUDITOR"]
     if sys.argv[1] != "serve":
         os.execv(program, [program, *sys.argv[1:]])
-    lie, every = globals()[os.environ["LIE"]], int(os.environ["LIE_EVERY"])
+    lie = globals()[os.environ["LIE"]]
     real = subprocess.Popen([program, *sys.argv[1:]], stdin=subprocess.PIPE, stdout=subprocess.PIPE)
-    number = 0
     while True:
         questions = [line for line in (sys.stdin.buffer.readline() for _ in range(GROUP)) if line]
         if not questions:
@@ -64,9 +63,9 @@ def main():
         if len(questions) < GROUP:
             break
         replies = [real.stdout.readline() for _ in range(GROUP)]
-        number += 1
-        asked = sum(line != b"x\n" for line in questions) > 3
-        sys.stdout.buffer.write(b"".join(lie(replies, questions) if asked and number % every == 0 else replies))
+        # The last line is a filler too.
+        several = sum(line != b"x\n" for line in questions) > 3
+        sys.stdout.buffer.write(b"".join(lie(replies, questions) if several else replies))
         sys.stdout.buffer.flush()
     real.stdin.close()
     sys.exit(real.wait())

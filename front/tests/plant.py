@@ -34,7 +34,7 @@ PLANTS = [
 """, "test_faults.Faults.test_a_full_disk_of_the_transcript_loses_nothing"),
     ("a group leaves before it is written down", "table.py",
      "        self.transcript.hold(lines)\n        self.groups.send(lines)\n",
-     "        self.groups.send(lines)\n        __import__(\"time\").sleep(1)\n        self.transcript.hold(lines)\n",
+     "        self.groups.send(lines)\n        self.transcript.hold(lines)\n",
      "test_faults.Faults.test_what_leaves_for_the_program_is_written_down_first"),
     ("nothing is synced", "transcript.py", "        file.write(text, at)\n        file.sync()\n", "        file.write(text, at)\n",
      "test_power.PowerCuts"),

@@ -60,8 +60,12 @@ class Office:
 
     def __init__(self, tables, *arguments, unix=False):
         self.folder = pathlib.Path(tempfile.mkdtemp(prefix="office-"))
-        for name, (columns, rows, public, notes) in tables.items():
-            write_table(self.folder / "tables" / name, columns, rows, public, notes)
+        try:
+            for name, (columns, rows, public, notes) in tables.items():
+                write_table(self.folder / "tables" / name, columns, rows, public, notes)
+        except BaseException:
+            shutil.rmtree(self.folder)
+            raise
         names = [word for name in tables if name for word in ("--table", name)]
         folder = str(self.folder / "tables") + ("/{table}" if names else "")
         port = free_port()

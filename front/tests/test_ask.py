@@ -8,6 +8,7 @@ import http.server
 import io
 import json
 import os
+import random
 import subprocess
 import threading
 import unittest
@@ -18,7 +19,7 @@ from table_kit import AUDITOR, TableTest, needs_program, said_by
 import ask
 from asking.hints import hint, marked, mended
 from asking.questions import Question, Unclear, parse
-from asking.words import number_words
+from asking.words import condition_words, number_words
 
 KINDS = {"team": "text", "age": "number", "weight_x10": "number", "salary": "sum", "bonus": "max"}
 STAFF = (
@@ -129,6 +130,19 @@ class Words(unittest.TestCase):
         ):
             self.assertEqual(mended(condition), condition)
 
+    def test_no_condition_breaks_what_is_said_of_it(self):
+        draw = random.Random(5)
+        pieces = (
+            "team age w_x10 salary = == <> < ! != ' '' \" and AND or not in ( ) , 12 1.5 - between is like é 東 ; 'x' &&"
+            " | “ >= => \0 \u202e _ %".split(" ")
+        )
+        for _ in range(3000):
+            condition = "".join(draw.choice(pieces) + draw.choice(["", " ", "\n"]) for _ in range(draw.randrange(9)))
+            at = draw.randrange(len(condition.encode()) + 1)
+            lines = condition_words(condition, at, KINDS, {"weight_x10": {"decimals": 1}}).split("\n")
+            self.assertEqual(lines[1].strip(), "^")
+            self.assertRegex(lines[2], r"^refused: .*[.?]$")
+
     def test_the_mark_stands_under_the_byte(self):
         for condition, at, before in (
             ("age == 4", 5, 5),
@@ -197,6 +211,12 @@ class OverAFolder(TableTest):
         self.assertTrue(any(line.startswith('Tea "&" cake: not answered') for line in lines))
         self.assertEqual(lines[-5:], ["30: 1", "35: 2", "41: 1", "44: 1", "52: 1"])
         self.assertEqual(status, 1)
+
+    @needs_program
+    def test_a_value_that_no_row_has_left_has_no_line(self):
+        self.journal()
+        status, said = self.ask("max bonus by team where age >= 44 or team = 'Support, Leeds'")
+        self.assertEqual([line.split(": ")[0] for line in said.splitlines()], ["Ann's", "Design", "Support, Leeds"])
 
     @needs_program
     def test_the_program_stops_where_the_table_of_wrong_conditions_says(self):

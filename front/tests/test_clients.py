@@ -121,7 +121,7 @@ class OverTheProgram(unittest.TestCase):
         said, faults, status = typed(self.url, "count where age >= 30", "sum salary", "", "max bonus", f"would sum salary where {alone}",
                                      f"sum salary where {alone}", "columns")
         self.assertEqual(said[:4], [str(sum(row.age >= 30 for row in self.rows)), f"{sum(row.salary for row in self.rows) / 100:.2f} EUR",
-                                    f"{max(row.bonus for row in self.rows) / 100:.2f} EUR", "unsafe"])
+                                    f"{max(row.bonus for row in self.rows) / 100:.2f} EUR", "It would not be answered."])
         self.assertTrue(said[4].startswith("not answered: Some answer to this question"))
         self.assertEqual([line.split() for line in said[5:]], [[name, kind] for name, kind in staff.COLUMNS.items()])
         self.assertEqual((faults, status), ("", 0))
@@ -224,6 +224,8 @@ class SeveralTables(unittest.TestCase):
         said, _, status = typed(self.office.url, f"sum salary where age = {single} or site != 'York'")
         self.assertTrue(said[0].startswith("not answered by york: Some answer"))
         self.assertEqual(status, 0)
+        said, _, _ = typed(self.office.url, f"would sum salary where age = {single} or site != 'York'")
+        self.assertEqual(said, ["north: It would be answered now.", "york: It would not be answered."])
 
     def test_one_table_is_asked_by_its_name(self):
         said, faults, status = typed(self.office.url, "count", arguments=["--table", "york"])

@@ -14,7 +14,8 @@ from kit import AUDITOR, NOBODY, SEED, Door, health
 
 
 class Doors(DoorCase):
-    clients, questions, kills = 64, 30, 20
+    clients, questions, kills = 64, 30, 12
+    patient_clients, patient_questions = 24, 10
 
     async def test_each_asker_gets_its_own_reply(self):
         self.door.start()
@@ -33,8 +34,8 @@ class Doors(DoorCase):
         chance, kills = random.Random(f"{SEED} {self.id()}"), 0
         async with self.door.session() as session:
             await self.door.ready(session)
-            asking = asyncio.gather(*(self.client(session, number, self.questions // 2, patient=True)
-                                      for number in range(self.clients // 2)))
+            clients, questions = min(self.clients, self.patient_clients), min(self.questions, self.patient_questions)
+            asking = asyncio.gather(*(self.client(session, number, questions, patient=True) for number in range(clients)))
             while not asking.done() and kills < self.kills:
                 await asyncio.sleep(chance.uniform(0.005, 0.12))
                 kill()
@@ -42,7 +43,7 @@ class Doors(DoorCase):
             await asking
             await self.door.ready(session)
         self.assertGreaterEqual(kills, min(self.kills, 3))
-        self.assertEqual(len(self.told), self.clients // 2 * (self.questions // 2))
+        self.assertEqual(len(self.told), clients * questions)
         self.assertEqual(self.door.stop(), 0)
         self.check_all()
 
@@ -66,23 +67,23 @@ class Doors(DoorCase):
 
 class ShortRuns(Doors):
     """The same, with an end of the program's input after each few groups."""
-    words, clients, questions, kills = ("--run-limit", 3000), 24, 16, 8
+    words, clients, questions, kills = ("--run-limit", 3000), 16, 8, 6
 
 
 class OneByOne(Doors):
     """The same, with a program that answers each line alone."""
-    words, clients, questions, kills = ("--batch", 1), 24, 16, 8
+    words, clients, questions, kills = ("--batch", 1), 16, 8, 6
 
 
 class WithReports(Doors):
     """The same, with a report in each rest."""
-    words, clients, questions, kills = ("--report-every", 0.005), 12, 16, 8
+    words, clients, questions, kills = ("--report-every", 0.01), 8, 12, 5
 
 
 @unittest.skipUnless(shutil.which("socat") and os.geteuid() == 0, "socat and root are wanted")
 class OfAnotherUser(Doors):
     """The same, with the program on the other side of sockets, and a door that may read neither table nor journal."""
-    clients, questions, kills = 24, 16, 8
+    clients, questions, kills = 16, 8, 6
 
     def make_door(self):
         for path in (self.folder.path, self.folder.public):
@@ -105,7 +106,7 @@ class OfAnotherUser(Doors):
         process = subprocess.Popen(
             ["socat", f"UNIX-LISTEN:{path},fork,max-children=1,user={NOBODY},unlink-early", f'EXEC:{AUDITOR} {command}'],
             cwd=self.folder.path, stderr=subprocess.DEVNULL, start_new_session=True)
-        end = time.monotonic() + 10
+        end = time.monotonic() + 120
         while not pathlib.Path(path).exists() and time.monotonic() < end:
             time.sleep(0.01)
         return process
@@ -125,7 +126,7 @@ class OfAnotherUser(Doors):
             await self.door.ready(session)
             await self.client(session, 0, 5)
             owner = pathlib.Path(f"/proc/{self.door.process.pid}").stat().st_uid
-            end = time.monotonic() + 30
+            end = time.monotonic() + 120
             while not (self.folder.public / "report.jsonl").exists() and time.monotonic() < end:
                 await asyncio.sleep(0.05)
         self.assertEqual(owner, NOBODY)

@@ -24,7 +24,7 @@ class Faults(DoorCase):
 
     async def ends(self, status=1):
         """The door's own end."""
-        code = await asyncio.to_thread(self.door.process.wait, 30)
+        code = await asyncio.to_thread(self.door.process.wait, 120)
         self.assertEqual(code, status, self.folder.said())
 
     async def test_a_full_disk_of_the_transcript_loses_nothing(self):
@@ -49,18 +49,13 @@ class Faults(DoorCase):
         self.check_all()
 
     async def test_what_leaves_for_the_program_is_written_down_first(self):
+        self.door = Door(self.folder, auditor=str(HERE / "watcher.py"))
+        os.environ.update(AUDITOR=AUDITOR, KEEP=str(self.folder.public))
         async with self.door.session() as session:
             await self.start(session)
-            for number in self.door.programs():
-                os.kill(number, signal.SIGSTOP)
-            line = line_of("sum", 0, 99)
-            asking = asyncio.create_task(self.ask(session, ("sum", 0, 99), line))
-            await asyncio.sleep(0.5)
-            self.assertIn(line, (self.folder.public / "waiting.jsonl").read_bytes().split(b"\n"))
-            for number in self.door.programs():
-                os.kill(number, signal.SIGCONT)
-            await asking
+            await asyncio.gather(*(self.client(session, number, 10) for number in range(8)))
         self.assertEqual(self.door.stop(), 0)
+        self.assertFalse((self.folder.public / "unwritten").exists())
         self.check_all()
 
     async def test_another_table_is_not_served_with_this_transcript(self):
@@ -115,7 +110,7 @@ class Faults(DoorCase):
             await self.start(session)
             second = Door(self.folder)
             second.start()
-            self.assertEqual(await asyncio.to_thread(second.process.wait, 30), 1)
+            self.assertEqual(await asyncio.to_thread(second.process.wait, 120), 1)
             self.assertIn("another door keeps", self.folder.said())
             await self.client(session, 0, 5)
         self.assertEqual(self.door.stop(), 0)
@@ -127,7 +122,7 @@ class Faults(DoorCase):
         async with self.door.session() as session:
             await self.start(session)
             await self.ask(session, *question("sum", 0, 99))
-            end = time.monotonic() + 20
+            end = time.monotonic() + 120
             while not (self.folder.public / "report.jsonl.new").exists() and time.monotonic() < end:
                 await asyncio.sleep(0.02)
             began = time.monotonic()
@@ -140,7 +135,7 @@ class Faults(DoorCase):
         self.door = Door(self.folder, "--report-every", 0.1)
         async with self.door.session() as session:
             await self.start(session)
-            end = time.monotonic() + 20
+            end = time.monotonic() + 120
             while not (self.folder.public / "report.jsonl").exists() and time.monotonic() < end:
                 await asyncio.sleep(0.02)
             async with session.get("/report.jsonl") as response:
@@ -184,12 +179,11 @@ class Faults(DoorCase):
     async def test_askers_past_the_limit_are_turned_away_and_the_others_get_their_replies(self):
         async with self.door.session() as session:
             await self.start(session, "--waiting", 4)
-            for number in self.door.programs():
-                os.kill(number, signal.SIGSTOP)
+            self.door.signal_programs(signal.SIGSTOP)
             asking = [asyncio.create_task(ask(session, line_of("count", 0, high))) for high in range(12)]
-            await asyncio.sleep(0.5)
-            for number in self.door.programs():
-                os.kill(number, signal.SIGCONT)
+            while sum(one.done() for one in asking) < 8:
+                await asyncio.sleep(0.02)
+            self.door.signal_programs(signal.SIGCONT)
             replies = await asyncio.gather(*asking)
         self.assertEqual(sorted(status for status, _ in replies), [200] * 4 + [503] * 8)
         self.assertEqual(self.door.stop(), 0)
@@ -197,13 +191,13 @@ class Faults(DoorCase):
     async def test_an_asker_who_waited_too_long_finds_the_answer_in_the_transcript(self):
         async with self.door.session() as session:
             await self.start(session, "--asker-patience", 0.3)
-            for number in self.door.programs():
-                os.kill(number, signal.SIGSTOP)
+            self.door.signal_programs(signal.SIGSTOP)
             line = line_of("sum", 0, 99)
             self.assertEqual((await ask(session, line))[0], 504)
-            for number in self.door.programs():
-                os.kill(number, signal.SIGCONT)
-            await asyncio.sleep(0.5)
+            self.door.signal_programs(signal.SIGCONT)
+            while not self.folder.transcript(torn=True):
+                await asyncio.sleep(0.02)
+            await asyncio.sleep(0.2)
             self.told.append((("sum", 0, 99), line, (await ask(session, line))[1]))
             self.assertEqual((await health(session))["repeats"], 1)
         self.assertEqual(self.door.stop(), 0)
@@ -212,12 +206,10 @@ class Faults(DoorCase):
     async def test_a_question_is_asked_though_its_asker_went_away(self):
         async with self.door.session() as session:
             await self.start(session)
-            for number in self.door.programs():
-                os.kill(number, signal.SIGSTOP)
+            self.door.signal_programs(signal.SIGSTOP)
             with self.assertRaises(asyncio.TimeoutError):
                 await asyncio.wait_for(ask(session, line_of("sum", 0, 99)), 0.3)
-            for number in self.door.programs():
-                os.kill(number, signal.SIGCONT)
+            self.door.signal_programs(signal.SIGCONT)
             await self.ask(session, *question("sum", 0, 199))
         self.assertEqual(self.door.stop(), 0)
         self.assertEqual([line for line, _ in self.folder.transcript()], [line_of("sum", 0, 99), line_of("sum", 0, 199)])
@@ -275,13 +267,11 @@ class Known(DoorCase):
         self.door.start()
         async with self.door.session() as session:
             await self.door.ready(session)
-            for number in self.door.programs():
-                os.kill(number, signal.SIGSTOP)
+            self.door.signal_programs(signal.SIGSTOP)
             asking = [asyncio.create_task(ask(session, line_of("sum", 0, 99))) for _ in range(100)]
             while (await health(session))["waiting"] < 100:
                 await asyncio.sleep(0.02)
-            for number in self.door.programs():
-                os.kill(number, signal.SIGCONT)
+            self.door.signal_programs(signal.SIGCONT)
             replies = await asyncio.gather(*asking)
         self.assertEqual(self.door.stop(), 0)
         self.assertEqual(len(set(replies)), 1)
@@ -313,6 +303,9 @@ class Known(DoorCase):
                     self.assertEqual(await response.read(), (self.folder.public / name).read_bytes(), name)
                     self.assertEqual(response.content_type, kind)
                     self.assertEqual(response.headers["X-Content-Type-Options"], "nosniff", name)
+                async with session.head("/" + name) as response:
+                    self.assertEqual((response.status, await response.read()), (200, b""), name)
+                    self.assertEqual(response.content_length, (self.folder.public / name).stat().st_size, name)
             async with session.get("/tables.json") as response:
                 self.assertEqual(await response.json(), [])
         self.assertEqual(self.door.stop(), 0)

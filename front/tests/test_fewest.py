@@ -4,7 +4,7 @@ import random
 import unittest
 
 from case import DoorCase
-from kit import SEED, Door, ask, health, line_of
+from kit import SEED, ask, health, line_of
 
 
 class Fewest(DoorCase):

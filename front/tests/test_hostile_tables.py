@@ -102,47 +102,50 @@ def strange_headers():
     yield "sep twice", b"sep=,\nsep=,\na,b\n1,2\n"
 
 
+NUMBERS = [
+    ("400 digits", ["9" * 400]),
+    ("5,000 digits", ["1" * 5000]),
+    ("400 decimals", ["0." + "1" * 400]),
+    ("a large power", ["1e999"]),
+    ("a small power", ["1e-999"]),
+    ("a power too long", ["1e9999"]),
+    ("no power", ["1e"]),
+    ("minus 0", ["-0"]),
+    ("signs alone", ["+", "-"]),
+    ("two signs", ["--1"]),
+    ("infinity", ["inf", "-Infinity"]),
+    ("not a number", ["nan", "NaN"]),
+    ("hexadecimal", ["0x1F"]),
+    ("strokes in it", ["1_000"]),
+    ("Arabic digits", ["٣", "٤"]),
+    ("wide digits", ["１２"]),
+    ("raised digits", ["²"]),
+    ("a fraction", ["1/2"]),
+    ("points alone", [".", ".."]),
+    ("two points", ["1.2.3"]),
+    ("groups that aren't", ["1,2345,6"]),
+    ("a blank within", ["1 0"]),
+    ("thousands and points mixed", ["1,000.5", "1.000,5"]),
+    ("two currencies", ["$5", "€5"]),
+    ("a unit on both sides", ["$5%"]),
+    ("truth", ["TRUE", "FALSE"]),
+    ("a time", ["12:30"]),
+    ("no such day", ["2024-02-31"]),
+    ("the year 0", ["0000-01-01"]),
+    ("the year 9999", ["9999-12-31"]),
+    ("a month 13", ["2024-13-01"]),
+    ("dates in two orders", ["31.01.2024", "2024-01-31"]),
+    ("a date with two digits", ["1/2/24"]),
+    ("ten to the twelfth and one", ["1000000000001"]),
+    ("blanks", ["  5  ", "\t6"]),
+    ("a fixed blank", ["\u00a05\u00a0"]),
+    ("zeros", ["000000000000000000007"]),
+    ("a minus sign of print", ["\u22125"]),
+]
+
+
 def strange_numbers():
-    for name, cells in (
-        ("400 digits", ["9" * 400]),
-        ("5,000 digits", ["1" * 5000]),
-        ("400 decimals", ["0." + "1" * 400]),
-        ("a large power", ["1e999"]),
-        ("a small power", ["1e-999"]),
-        ("a power too long", ["1e9999"]),
-        ("no power", ["1e"]),
-        ("minus 0", ["-0"]),
-        ("signs alone", ["+", "-"]),
-        ("two signs", ["--1"]),
-        ("infinity", ["inf", "-Infinity"]),
-        ("not a number", ["nan", "NaN"]),
-        ("hexadecimal", ["0x1F"]),
-        ("strokes in it", ["1_000"]),
-        ("Arabic digits", ["٣", "٤"]),
-        ("wide digits", ["１２"]),
-        ("raised digits", ["²"]),
-        ("a fraction", ["1/2"]),
-        ("points alone", [".", ".."]),
-        ("two points", ["1.2.3"]),
-        ("groups that aren't", ["1,2345,6"]),
-        ("a blank within", ["1 0"]),
-        ("thousands and points mixed", ["1,000.5", "1.000,5"]),
-        ("two currencies", ["$5", "€5"]),
-        ("a unit on both sides", ["$5%"]),
-        ("truth", ["TRUE", "FALSE"]),
-        ("a time", ["12:30"]),
-        ("no such day", ["2024-02-31"]),
-        ("the year 0", ["0000-01-01"]),
-        ("the year 9999", ["9999-12-31"]),
-        ("a month 13", ["2024-13-01"]),
-        ("dates in two orders", ["31.01.2024", "2024-01-31"]),
-        ("a date with two digits", ["1/2/24"]),
-        ("ten to the twelfth and one", ["1000000000001"]),
-        ("blanks", ["  5  ", "\t6"]),
-        ("a fixed blank", ["\u00a05\u00a0"]),
-        ("zeros", ["000000000000000000007"]),
-        ("a minus sign of print", ["\u22125"]),
-    ):
+    for name, cells in NUMBERS:
         rows = [f"t{k};{cells[k % len(cells)] if k < 2 * len(cells) else k}" for k in range(9)]
         yield f"number: {name}", ("team;pay\n" + "\n".join(rows) + "\n").encode()
         yield f"number, every one: {name}", (
@@ -185,6 +188,44 @@ def spoilt(number):
         else:
             data[place] = draw.randrange(256)
     return bytes(data)
+
+
+STRANGE = [
+    None,
+    "?",
+    "",
+    "x" * 300,
+    "none",
+    [],
+    {},
+    0,
+    -1,
+    13,
+    10**30,
+    True,
+    1.5,
+    "\ud800",
+    "a\0",
+    [[]],
+    [{}],
+    ["team"],
+    [1],
+]
+STRANGE += [
+    {"a": 1},
+    [{"column": [], "where": "x"}],
+    [{"column": "salary", "where": 5}],
+    [{"column": "salary", "where": ""}],
+]
+STRANGE += ["hex", "idna", "1,234", "mark"]
+
+
+def changed_choices(good):
+    """Choices with a strange value in the place of each of theirs, and of each of the third column's."""
+    first, second, third, *others = good["columns"]
+    for value in STRANGE:
+        yield from ({**good, key: value} for key in good)
+        yield from ({**good, "columns": [first, second, {**third, key: value}, *others]} for key in third)
 
 
 class Hostile(TableTest):
@@ -257,59 +298,23 @@ class Hostile(TableTest):
                 self.take(spoilt(number))
 
     def test_no_choice_breaks_it(self):
-        """Each value of a file of choices is put in the place of others: what can't be followed is a sentence."""
         self.look(STAFF)
         self.choose("protect=none", "team=text", "age=number", "salary=sum", "bonus=max")
-        good, column = self.chosen(), self.chosen()["columns"][2]
-        strange = [
-            None,
-            "?",
-            "",
-            "x" * 300,
-            "none",
-            [],
-            {},
-            0,
-            -1,
-            13,
-            10**30,
-            True,
-            1.5,
-            "\ud800",
-            "a\0",
-            [[]],
-            [{}],
-            ["team"],
-            [1],
-            {"a": 1},
-        ]
-        strange += [
-            [{"column": [], "where": "x"}],
-            [{"column": "salary", "where": 5}],
-            [{"column": "salary", "where": ""}],
-            "hex",
-            "idna",
-            "1,234",
-            "mark",
-        ]
-        changed = [{**good, key: value} for key in good for value in strange]
-        changed += [
-            {**good, "columns": [*good["columns"][:2], {**column, key: value}, good["columns"][3]]}
-            for key in column
-            for value in strange
-        ]
         with mock.patch.dict(os.environ, {"AUDITOR": ""}):
-            for choices in changed:
+            for choices in changed_choices(self.chosen()):
                 self.choices.write_text(json.dumps(choices))
                 with self.subTest(str(choices)[-300:]):
-                    status, said = self.make()
-                    if status == 0 and choices["split by"]:
-                        self.assertTrue(all((part / "public/notes.json").is_file() for part in self.out.iterdir()))
-                        shutil.rmtree(self.out)
-                    elif status == 0:
-                        self.need_whole()
-                    else:
-                        self.need_sentence(said, ["t.choices.json", "t.csv"])
+                    self.need_end(choices["split by"], *self.make())
+
+    def need_end(self, by, status, said):
+        """A sentence, or a whole folder, or one for each part if the table is split."""
+        if status:
+            self.need_sentence(said, ["t.choices.json", "t.csv"])
+        elif by:
+            self.assertTrue(all((part / "public/notes.json").is_file() for part in self.out.iterdir()))
+            shutil.rmtree(self.out)
+        else:
+            self.need_whole()
 
     def test_what_each_of_the_worst_is_told(self):
         for name, data, words in (

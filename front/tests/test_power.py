@@ -77,7 +77,7 @@ def parts_of(call):
     if call[0] == "truncate":
         return [call]
     _, text, at = call
-    fronts = [text[:size] for size in range(1, len(text), max(len(text) // 12, 1))]
+    fronts = [text[:size] for size in range(1, len(text), max(len(text) // 9, 1))]
     zeroed = [front + bytes(len(text) - len(front)) for front in fronts]
     backs = [bytes(len(front)) + text[len(front):] for front in fronts]
     holes = [front + b"\0" + text[len(front) + 1:] for front in fronts]
@@ -106,6 +106,10 @@ def reply_of(line):
 
 def is_count(line):
     return reply_of(line).startswith(b'{"count"')
+
+
+def is_torn(text):
+    return b"\0" in text or not text.endswith(b"\n")
 
 
 class Play:
@@ -155,12 +159,13 @@ class Play:
 class PowerCuts(unittest.TestCase):
     def test_what_was_told_is_there_after_a_power_cut_at_any_call(self):
         chance = random.Random(SEED)
-        first, images = Play({name: b"" for name in FILES}, 0), 0
+        first, images, torn = Play({name: b"" for name in FILES}, 0), 0, 0
         first.groups((1, 3, 2, 5, 1, 4), chance)
         for contents, told, sent in first.images():
             self.check(contents, told, sent)
             images += 1
-            if images % 60 == 0:
+            torn += is_torn(contents["transcript.jsonl"])
+            if torn % 10 == 1 and is_torn(contents["transcript.jsonl"]) or images % 200 == 0:
                 images += self.cut_again(contents, told, first.number, chance)
         self.assertGreater(images, 1000)
         print(f"test_power: {images} images of the two files", file=sys.stderr)

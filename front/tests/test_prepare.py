@@ -114,6 +114,14 @@ class Reading(TableTest):
         self.assertEqual(self.table()[1], [cell, "5"])
         self.assertEqual(self.table("public")[1], [cell])
 
+    def test_a_lone_line_end_within_a_cell_is_quoted(self):
+        for cell in ("c\rd", "c\nd", "c\u2028d", "c\x85d"):
+            with self.subTest(repr(cell)):
+                self.choices.unlink(missing_ok=True)
+                self.out = self.folder / f"out{ord(cell[1])}"
+                self.made(f'note,pay\n"{cell}x",5\ny,7\n', "note=text", "pay=sum")
+                self.assertEqual([row[0] for row in self.table()], ["note", f"{cell}x", "y"])
+
 
 class Names(TableTest):
     def test_names_are_made_good_and_said(self):

@@ -1,6 +1,9 @@
 """Several tables behind one door: each has its own program, its own journal and its own transcript."""
 import asyncio
+import contextlib
+import io
 import json
+import os
 import pathlib
 import random
 import shutil
@@ -10,7 +13,10 @@ import sys
 import tempfile
 import unittest
 
-from kit import AUDITOR, DOOR, SEED, Door, Folder, ask, health, line_of
+from kit import DOOR, FRONT, SEED, Door, Folder, ask, health, line_of
+
+sys.path.insert(0, str(FRONT))
+from doorway import settings  # noqa: E402
 
 NAMES = ("north", "south", "west")
 
@@ -121,8 +127,10 @@ class Tables(unittest.IsolatedAsyncioTestCase):
             self.assertEqual((await ask(session, line_of("sum", 0, 50), "/south/ask"))[0], 503)
             async with session.get("/health") as response:
                 self.assertEqual(response.status, 503)
-            status, said = await self.total(session, line_of("sum", 0, 50))
-            self.assertEqual((said["total"], said["without"]), (None, ["south"]))
+            for kind in ("sum", "count"):
+                status, said = await self.total(session, line_of(kind, 0, 40))
+                self.assertEqual((status, said["total"], said["without"]), (200, None, ["south"]))
+            self.assertEqual((await health(session, "/north/health"))["records"], 1)
             (self.office.path / "south" / "answers.journal").unlink(missing_ok=True)
             (self.office.path / "put-away").rename(self.office.path / "south" / "answers.journal")
             await self.door.ready(session)
@@ -151,9 +159,11 @@ class Arguments(unittest.TestCase):
     """Wrong arguments end with status 2 and say what is wrong, before anything is opened."""
 
     def refused(self, *words):
-        run = subprocess.run([sys.executable, str(DOOR), *words], capture_output=True, text=True)
-        self.assertEqual(run.returncode, 2, words)
-        return run.stderr.strip().rsplit("\n", 1)[-1]
+        said = io.StringIO()
+        with contextlib.redirect_stderr(said), self.assertRaises(SystemExit) as end:
+            settings.read(words)
+        self.assertEqual(end.exception.code, 2, words)
+        return said.getvalue().strip().rsplit("\n", 1)[-1]
 
     def test_wrong_arguments_are_named(self):
         for words, text in [
@@ -164,6 +174,18 @@ class Arguments(unittest.TestCase):
                 (["--table", "a", "--table", "a"], "named twice"), (["--table", "a", "--keep", "b"], "{table}"),
                 (["--nothing"], "unrecognized")]:
             self.assertIn(text, self.refused(*words), words)
+
+    def test_a_program_named_from_here_is_found_from_other_folders(self):
+        self.assertEqual(settings.read(["--auditor", "out/auditor"]).auditor, os.path.abspath("out/auditor"))
+        self.assertEqual(settings.read([]).auditor, "auditor")
+
+    def test_a_file_that_is_no_socket_is_not_removed(self):
+        folder = Folder(10)
+        path = folder.path / "precious"
+        path.write_text("kept")
+        run = subprocess.run([sys.executable, str(DOOR), "--folder", folder.path, "--listen", f"unix:{path}"], capture_output=True, text=True)
+        self.assertEqual((run.returncode, path.read_text()), (1, "kept"), run.stderr)
+        self.assertTrue(run.stderr.startswith("door: "), run.stderr)
 
     def test_a_missing_folder_is_named(self):
         run = subprocess.run([sys.executable, str(DOOR), "--folder", "/nowhere"], capture_output=True, text=True)

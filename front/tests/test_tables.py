@@ -35,6 +35,39 @@ def printed(line):
     return fractions.Fraction(found[0]) if found else None
 
 
+ALL = Condition("all", lambda row: True)
+
+
+def equal(name, title, values, quote="'"):
+    """A condition for each value that the column of that title may have."""
+    return [
+        Condition(f"{name} = {quote}{value}{quote}", lambda row, value=value: row[title] == value) for value in values
+    ]
+
+
+def at_least(name, title, numbers):
+    """A condition for each number: the column's is as large. Rounded down, a number is as large as a whole one if it was before."""
+    return [Condition(f"{name} >= {least}", lambda row, least=least: number(row[title]) >= least) for least in numbers]
+
+
+def both(first, second):
+    """A condition for each pair."""
+    return [
+        Condition(f"{a.text} and {b.text}", lambda row, a=a, b=b: a.holds(row) and b.holds(row))
+        for a in first
+        for b in second
+    ]
+
+
+def questions_on(conditions, *columns):
+    """For each condition a question on each (ask, column, title)."""
+    return [
+        (kind, column, condition, lambda row, title=title: number(row[title]))
+        for condition in conditions
+        for kind, column, title in columns
+    ]
+
+
 @needs_program
 class Round(TableTest):
     """A table is prepared, its journal made and its questions asked; the file is read apart from that."""
@@ -82,210 +115,93 @@ class Round(TableTest):
             "salaries.csv", "salary=sum", "yrs_service=max", "yrs_since_phd=number", "column_1=leave out", "others=text"
         )
         self.assertIn("'': left out", said)
-        rows = self.rows("salaries.csv")
-        conditions = [Condition("all", lambda row: True)]
-        conditions += [
-            Condition(f"rank = '{rank}'", lambda row, rank=rank: row["rank"] == rank)
-            for rank in ("Prof", "AssocProf", "AsstProf")
-        ]
-        conditions += [
-            Condition(
-                f"sex = '{sex}' and discipline = '{letter}'",
-                lambda row, sex=sex, letter=letter: (row["sex"], row["discipline"]) == (sex, letter),
-            )
-            for sex in ("Male", "Female")
-            for letter in "AB"
-        ]
-        conditions += [
-            Condition(f"yrs_since_phd >= {years}", lambda row, years=years: int(row["yrs.since.phd"]) >= years)
-            for years in range(5, 40, 5)
-        ]
-        questions = [
-            question
-            for condition in conditions
-            for question in (
-                ("sum", "salary", condition, lambda row: number(row["salary"])),
-                ("avg", "salary", condition, lambda row: number(row["salary"])),
-                ("max", "yrs_service", condition, lambda row: number(row["yrs.service"])),
-            )
-        ]
-        self.assertGreaterEqual(self.asked(self.out, rows, questions), ENOUGH)
+        conditions = [ALL, *equal("rank", "rank", ("Prof", "AssocProf", "AsstProf"))]
+        conditions += both(equal("sex", "sex", ("Male", "Female")), equal("discipline", "discipline", "AB"))
+        conditions += at_least("yrs_since_phd", "yrs.since.phd", range(5, 40, 5))
+        questions = questions_on(
+            conditions, ("sum", "salary", "salary"), ("avg", "salary", "salary"), ("max", "yrs_service", "yrs.service")
+        )
+        self.assertGreaterEqual(self.asked(self.out, self.rows("salaries.csv"), questions), ENOUGH)
 
     def test_lung(self):
+        public = [f"{name}=number" for name in ("inst", "age", "sex", "status", "ph_ecog")]
         said = self.prepared(
             "lung.tsv",
             "time=sum",
             "wt_loss=sum",
-            "inst=number",
+            *public,
             "inst.missing=mark",
-            "age=number",
-            "sex=number",
-            "status=number",
-            "ph_ecog=number",
             "others=leave out",
             "missing=drop the row",
         )
         self.assertIn("dropped 15 rows of 228, for what they lack: 'wt.loss' 14, 'ph.ecog' 1", said)
         rows = [
-            row
-            for row in self.rows("lung.tsv", "\t", row_names=True)
-            if row["wt.loss"] != "NA" and row["ph.ecog"] != "NA"
+            row for row in self.rows("lung.tsv", "\t", row_names=True) if "NA" not in (row["wt.loss"], row["ph.ecog"])
         ]
         self.assertEqual(len(rows), 213)
         conditions = [
-            Condition(f"age >= {age}", lambda row, age=age: int(row["age"]) >= age) for age in range(42, 78, 4)
-        ]
-        conditions += [
-            Condition(
-                f"sex = {sex} and status = {status}",
-                lambda row, sex=sex, status=status: (row["sex"], row["status"]) == (str(sex), str(status)),
-            )
-            for sex in (1, 2)
-            for status in (1, 2)
+            ALL,
+            *at_least("age", "age", range(42, 78, 4)),
+            *both(equal("sex", "sex", "12", ""), equal("status", "status", "12", "")),
         ]
         conditions += [
             Condition("not (inst_known = 1)", lambda row: row["inst"] == "NA"),
             Condition("inst < 10 and inst_known = 1", lambda row: row["inst"] != "NA" and int(row["inst"]) < 10),
             Condition("ph_ecog in (0, 1)", lambda row: row["ph.ecog"] in "01"),
-            Condition("all", lambda row: True),
         ]
-        questions = [
-            (kind, column, condition, lambda row, title=title: number(row[title]))
-            for condition in conditions
-            for kind, column, title in (("sum", "time", "time"), ("avg", "wt_loss", "wt.loss"))
-        ]
+        questions = questions_on(conditions, ("sum", "time", "time"), ("avg", "wt_loss", "wt.loss"))
         self.assertGreaterEqual(self.asked(self.out, rows, questions), ENOUGH)
 
     def test_students(self):
-        said = self.prepared(
-            "students.csv",
-            "Pulse=sum",
-            "Height=sum",
-            "NW_Hnd=max",
-            "Age=number",
-            "Age.decimals=0",
-            "Age.rounded=down",
-            "Sex=text",
-            "Exer=text",
-            "Exer.missing=keep",
-            "Smoke=text",
-            "others=leave out",
-            "missing=drop the row",
-        )
+        secret, age = ("Pulse=sum", "Height=sum", "NW_Hnd=max"), ("Age=number", "Age.decimals=0", "Age.rounded=down")
+        public = ("Sex=text", "Exer=text", "Exer.missing=keep", "Smoke=text")
+        said = self.prepared("students.csv", *secret, *age, *public, "others=leave out", "missing=drop the row")
         self.assertIn("'Height': secret sum, times 100, so in steps of 0.01", said)
-        rows = [
-            row
-            for row in self.rows("students.csv", ";")
-            if "NA" not in (row["Pulse"], row["Height"], row["NW.Hnd"], row["Sex"], row["Smoke"])
-        ]
+        lacking = ("Pulse", "Height", "NW.Hnd", "Sex", "Smoke")
+        rows = [row for row in self.rows("students.csv", ";") if "NA" not in [row[title] for title in lacking]]
+        light = Condition("Smoke != 'Heavy'", lambda row: row["Smoke"] != "Heavy")
         conditions = [
-            Condition(f"Exer = '{exer}'", lambda row, exer=exer: row["Exer"] == exer)
-            for exer in ("None", "Some", "Freq")
+            ALL,
+            *equal("Exer", "Exer", ("None", "Some", "Freq")),
+            *both(equal("Sex", "Sex", ("Male", "Female")), [light]),
         ]
-        conditions += [
-            Condition(
-                f"Sex = '{sex}' and Smoke != 'Heavy'",
-                lambda row, sex=sex: row["Sex"] == sex and row["Smoke"] != "Heavy",
-            )
-            for sex in ("Male", "Female")
-        ]
-        conditions += [
-            Condition(f"Age <= {age}", lambda row, age=age: number(row["Age"]) < age + 1) for age in range(17, 26)
-        ]
-        conditions += [Condition("all", lambda row: True)]
-        questions = [
-            (kind, column, condition, lambda row, title=title: number(row[title]))
-            for condition in conditions
-            for kind, column, title in (
-                ("sum", "Pulse", "Pulse"),
-                ("avg", "Height", "Height"),
-                ("max", "NW_Hnd", "NW.Hnd"),
-            )
-        ]
+        conditions += at_least("Age", "Age", range(17, 26))
+        questions = questions_on(
+            conditions, ("sum", "Pulse", "Pulse"), ("avg", "Height", "Height"), ("max", "NW_Hnd", "NW.Hnd")
+        )
         self.assertGreaterEqual(self.asked(self.out, rows, questions), ENOUGH)
 
     def test_transplants(self):
+        public = [f"{name}=number" for name in ("accept_dt", "age", "surgery", "transplant", "fustat")]
         said = self.prepared(
-            "transplants.csv",
-            "futime=sum",
-            "accept_dt=number",
-            "age=number",
-            "age.decimals=0",
-            "age.rounded=down",
-            "surgery=number",
-            "transplant=number",
-            "fustat=number",
-            "others=leave out",
+            "transplants.csv", "futime=sum", *public, "age.decimals=0", "age.rounded=down", "others=leave out"
         )
         self.assertIn("'accept.dt': public number, named accept_dt, as a number, 20170131 for 31 January 2017", said)
-        rows = self.rows("transplants.csv")
         conditions = [
-            Condition(
-                f"accept_dt < {year}{month}01",
-                lambda row, year=year, month=month: row["accept.dt"] < f"{year}-{month}-01",
-            )
+            Condition(f"accept_dt < {year}{month}01", lambda row, day=f"{year}-{month}-01": row["accept.dt"] < day)
             for year in range(1969, 1974)
             for month in ("01", "07")
         ]
-        conditions += [
-            Condition(f"age > {age}", lambda row, age=age: number(row["age"]) >= age + 1) for age in range(20, 60, 4)
-        ]
-        conditions += [
-            Condition(
-                f"transplant = {given} and fustat = {status}",
-                lambda row, given=given, status=status: (row["transplant"], row["fustat"]) == (given, status),
-            )
-            for given in "01"
-            for status in "01"
-        ]
-        conditions += [
-            Condition("surgery = 1", lambda row: row["surgery"] == "1"),
-            Condition("surgery != 1", lambda row: row["surgery"] == "0"),
-        ]
-        questions = [
-            (kind, "futime", condition, lambda row: number(row["futime"]))
-            for condition in conditions
-            for kind in ("sum", "avg")
-        ]
-        self.assertGreaterEqual(self.asked(self.out, rows, questions), ENOUGH)
+        conditions += [*at_least("age", "age", range(20, 60, 4)), *equal("surgery", "surgery", "01", "")]
+        conditions += both(equal("transplant", "transplant", "01", ""), equal("fustat", "fustat", "01", ""))
+        questions = questions_on(conditions, ("sum", "futime", "futime"), ("avg", "futime", "futime"))
+        self.assertGreaterEqual(self.asked(self.out, self.rows("transplants.csv"), questions), ENOUGH)
 
     def test_titanic(self):
+        public = [f"{name}=text" for name in ("survived", "sex", "passengerClass")]
         said = self.prepared(
-            "titanic.csv",
-            "age=sum",
-            "survived=text",
-            "sex=text",
-            "passengerClass=text",
-            "column_1=leave out",
-            "missing=drop the row",
-            "split by=passengerClass",
+            "titanic.csv", "age=sum", *public, "others=leave out", "missing=drop the row", "split by=passengerClass"
         )
         self.assertIn("dropped 263 rows of 1,309, for what they lack: 'age' 263", said)
         every = [row for row in self.rows("titanic.csv") if row["age"] != "NA"]
         self.assertEqual(len(every), 1046)
-        conditions = [
-            Condition(
-                f"survived = '{survived}' and sex = '{sex}'",
-                lambda row, survived=survived, sex=sex: (row["survived"], row["sex"]) == (survived, sex),
-            )
-            for survived in ("yes", "no")
-            for sex in ("male", "female")
-        ]
-        conditions += [
-            Condition("all", lambda row: True),
-            Condition("sex = 'male'", lambda row: row["sex"] == "male"),
-            Condition("not survived = 'yes'", lambda row: row["survived"] == "no"),
-        ]
-        questions = [
-            (kind, "age", condition, lambda row: number(row["age"]))
-            for condition in conditions
-            for kind in ("sum", "avg")
-        ]
-        answered = 0
+        lost = Condition("not survived = 'yes'", lambda row: row["survived"] == "no")
+        conditions = both(equal("survived", "survived", ("yes", "no")), equal("sex", "sex", ("male", "female")))
+        conditions += [ALL, lost, *equal("sex", "sex", ["male"])]
+        questions, answered = questions_on(conditions, ("sum", "age", "age"), ("avg", "age", "age")), 0
         for folder, cabin in (("c_1st", "1st"), ("c_2nd", "2nd"), ("c_3rd", "3rd")):
-            answered += self.asked(
-                self.out / folder, [row for row in every if row["passengerClass"] == cabin], questions
-            )
+            part = [row for row in every if row["passengerClass"] == cabin]
+            answered += self.asked(self.out / folder, part, questions)
         self.assertGreaterEqual(answered, ENOUGH)
 
 

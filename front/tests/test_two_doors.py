@@ -6,6 +6,7 @@ import pathlib
 import random
 import shutil
 import signal
+import socket
 import subprocess
 import tempfile
 import time
@@ -22,6 +23,11 @@ events {{ worker_connections 512; }}
 http {{ access_log off; client_body_temp_path {folder}/body; proxy_temp_path {folder}/proxy; fastcgi_temp_path {folder}/f;
 uwsgi_temp_path {folder}/u; scgi_temp_path {folder}/s; include {folder}/block.conf; }}
 """
+
+
+def listens(port):
+    with socket.socket() as probe:
+        return probe.connect_ex(("127.0.0.1", port)) == 0
 
 
 class Nginx:
@@ -41,6 +47,9 @@ class Nginx:
         (self.folder / "block.conf").write_text(text)
         (self.folder / "nginx.conf").write_text(SHELL.format(folder=self.folder))
         self.process = subprocess.Popen([NGINX, "-c", self.folder / "nginx.conf", "-e", self.folder / "nginx.err"])
+        end = time.monotonic() + 120
+        while not listens(port) and time.monotonic() < end:
+            time.sleep(0.05)
 
     def close(self):
         self.process.send_signal(signal.SIGTERM)
@@ -76,7 +85,7 @@ class TwoDoors(unittest.IsolatedAsyncioTestCase):
                                      auth=aiohttp.BasicAuth(user, "secret") if user else None)
 
     async def ready(self, session, name, status=200):
-        end = time.monotonic() + 30
+        end = time.monotonic() + 120
         while time.monotonic() < end:
             try:
                 async with session.get(f"/{name}/health") as response:
@@ -137,13 +146,13 @@ class OneDoor(unittest.IsolatedAsyncioTestCase):
     async def test_login_and_the_limit_of_one_person_are_the_proxys(self):
         folder = Folder(60)
         folder.path.chmod(0o755)
-        port, socket = free_port(), f"{folder.path}/door.sock"
+        port, path = free_port(), f"{folder.path}/door.sock"
         door = Door(folder, "--host", NAME).start()
-        nginx = Nginx("nginx.conf", port, {"/run/auditor-door/http.sock": socket})
+        nginx = Nginx("nginx.conf", port, {"/run/auditor-door/http.sock": path})
         try:
             async with door.session() as session:
                 await self.wait(session)
-                os.chmod(socket, 0o666)
+                os.chmod(path, 0o666)
             async with aiohttp.ClientSession(f"http://127.0.0.1:{port}", headers={"Host": NAME}) as session:
                 self.assertEqual((await ask(session, line_of("count", 0, 9)))[0], 401)
                 ann, bob = aiohttp.BasicAuth("ann", "secret"), aiohttp.BasicAuth("bob", "secret")

@@ -51,6 +51,7 @@ class Units(unittest.TestCase):
         for name, path in (("serve", place.serve), ("audit", place.audit)):
             self.assertIn(f"ListenStream={path}\n", (self.folder / f"auditor-north-{name}.socket").read_text())
             self.assertIn("WorkingDirectory=/var/lib/auditor/north\n", (self.folder / f"auditor-north-{name}@.service").read_text())
+        self.assertIn("StateDirectory=auditor-door auditor-door/north\n", (self.folder / "auditor-door.service").read_text())
         self.assertEqual((str(place.public), str(place.keep)), ("/var/lib/auditor-public/north", "/var/lib/auditor-door/north"))
 
     def test_wrong_names_and_folders_are_refused(self):

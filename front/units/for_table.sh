@@ -1,6 +1,7 @@
 #!/bin/sh
-# Writes the units of one of several tables into a folder: its sockets are in /run/auditor/NAME, its files in /var/lib/auditor/NAME.
-# The door's own unit is written beside them with that one table; a door over several names each of them with --table.
+# Writes the units of one of several tables into a folder: its sockets are in /run/auditor/NAME, its files in
+# /var/lib/auditor/NAME, auditor-public/NAME and auditor-door/NAME. The door's own unit is written beside them with that one
+# table; for a door over several add a --table, a state directory and the sockets of each.
 #
 #   front/units/for_table.sh NAME FOLDER
 set -eu
@@ -15,7 +16,9 @@ for unit in auditor-serve.socket auditor-serve@.service auditor-audit.socket aud
         "$units/$unit" >"$2/$(echo "$unit" | sed "s/^auditor/auditor-$1/")"
 done
 sed -e "s|auditor-serve.socket auditor-audit.socket|auditor-$1-serve.socket auditor-$1-audit.socket|" \
-    -e "s|--serve /run/auditor/|--table $1 --serve /run/auditor/{table}/|" -e "s|--audit /run/auditor/|--audit /run/auditor/{table}/|" \
+    -e "s|^StateDirectory=.*|& auditor-door/$1|" \
+    -e "s|--serve /run/auditor/|--table $1 --serve /run/auditor/{table}/|" \
+    -e "s|--audit /run/auditor/|--audit /run/auditor/{table}/|" \
     -e "s|--public /var/lib/auditor-public|--public /var/lib/auditor-public/{table}|" \
     -e "s|--keep /var/lib/auditor-door|--keep /var/lib/auditor-door/{table}|" \
     "$units/auditor-door.service" >"$2/auditor-door.service"

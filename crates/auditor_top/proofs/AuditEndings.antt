@@ -1,35 +1,20 @@
--- What the fault of each step of a run that audits comes to, by cases on that fault.
+-- What a report comes to, by cases on how it ended.
 use Rattle.std.proofs.Common.{rules, ◌≡◌, ◌≢◌, ℕ, List, Result, Ok, Err, OnOk, OnErr, refl, sym, ◌∙◌, ap, inl, inr, subst}
 use Rattle.audit_types.specs.declared.records.Answered.{Answered}
 use Rattle.bench_core.specs.Causes.{Rose}
 use Rattle.schema_json.specs.Columns.{Column}
-use Rattle.table_load.specs.Cells.{TableView, SecretView}
+use Rattle.audit_types.specs.History.{Table as Guarded}
 use Rattle.table_load.specs.Database.{Database}
-use Rattle.answer_journal.specs.Moments.{IsUntouched}
-use Rattle.audit_store.specs.Starting.{StartCause, StartsUnlessFailed}
-use Rattle.audit_store.specs.declared.starting.StartFault.{StartFault}
-use Rattle.audit_store.specs.declared.starting.StartFault.TheVariants as start
-use Rattle.journal_audit.specs.Reports.{Audit, Subject, subjects, SendsFront, SendsMeanwhile, Reports, ReportsFront}
+use Rattle.bench_core.specs.Calls.{IsUntouched}
+use Rattle.journal_audit.specs.Reports.{Audit, Subject, SendsFront, SendsMeanwhile, Reports, ReportsFront}
 use Rattle.journal_audit.specs.declared.faults.AuditFault.{AuditFault}
 use Rattle.journal_audit.specs.declared.faults.AuditFault.TheVariants as report
 use Rattle.journal_audit.specs.SendLaws.{none_front}
-use Rattle.auditor_top.specs.declared.files.FileFault.TheVariants as file
-use Rattle.auditor_top.specs.declared.opening.OpenFault.{OpenFault}
-use Rattle.auditor_top.specs.declared.opening.OpenFault.TheVariants as opening
 use Rattle.auditor_top.specs.declared.words.Command.TheVariants as command
-use Rattle.auditor_top.specs.Status.{open_status, start_status, audit_status}
+use Rattle.auditor_top.specs.Status.{audit_status}
 use Rattle.auditor_top.specs.Ends.{AuditEnds, audit_over}
-use Rattle.auditor_top.specs.Causes.{FaultCounts, FaultCause, SchemaCause, TableCause, FileCause, HoldsLegal, NothingFailed, IsDoneOrWants}
+use Rattle.auditor_top.specs.Causes.{FaultCounts, FaultCause, FileCause, HoldsLegal, NothingFailed, IsDoneOrWants}
 use Rattle.auditor_top.proofs.StepFaults.{not_both}
-
--- what is audited, by parts that are equal
-pub same_audit : (schema other : List Column) (secret hidden : SecretView) (history past : List Answered) → schema ≡ other → secret ≡ hidden → history ≡ past
-    →
-    (let a : Audit = record { schema = schema; shape = secret.shape; history = history } in a) ≡ record { schema = other; shape = hidden.shape; history = past }
-same_audit schema other secret hidden history past first second third =
-    let made : List Column → SecretView → List Answered → Audit = λ c s h. record { schema = c; shape = s.shape; history = h } in
-    ap (λ (c : List Column). made c secret history) first ∙ ap (λ (s : SecretView). made other s history) second
-    ∙ ap (λ (h : List Answered). made other hidden h) third
 
 -- a file that is left as it was is what a crash may find before the first line
 pub untouched_report : (audit : Audit) (about : List Subject) (file before image sent : List ℕ) → IsUntouched file before image sent →
@@ -37,57 +22,12 @@ pub untouched_report : (audit : Audit) (about : List Subject) (file before image
 untouched_report audit about file before image sent same =
     record { same = same.1; front = subst (λ (bytes : List ℕ). SendsFront audit about before bytes) (sym same.0) (none_front audit about before) }
 
--- ---- opening the files
-
--- the files have no fault, so what kept them closed was a failed source or want of memory
-pub unopened_report : (fault : OpenFault) (columns : List Column) (meant : TableView) (base : Database) (history : List Answered) (sent : List ℕ)
-    → SchemaCause (open_status fault) (Ok columns) → TableCause (open_status fault) (Ok meant)
-    → AuditEnds (open_status fault) base history sent sent
-unopened_report (opening.Schema file.Failed) columns meant base history sent schema table = refl
-unopened_report (opening.Schema file.NoMemory) columns meant base history sent schema table =
-    none_front (audit_over base history) (subjects base.secret.shape) sent
-unopened_report (opening.Schema (file.Bad f)) columns meant base history sent schema table = absurd (not_both columns f schema)
-unopened_report (opening.Table file.Failed) columns meant base history sent schema table = refl
-unopened_report (opening.Table file.NoMemory) columns meant base history sent schema table =
-    none_front (audit_over base history) (subjects base.secret.shape) sent
-unopened_report (opening.Table (file.Bad f)) columns meant base history sent schema table = absurd (not_both meant f table)
-
--- ---- starting the store
-
--- a store that was to start, and wasn't, gave up
-pub unstarted_report : (f : StartFault) (base : Database) (history : List Answered) (before after : List ℕ) → StartsUnlessFailed (Err f) → after ≡ before →
-    AuditEnds (start_status f) base history before after
-unstarted_report start.NotMade base history before after opens same = absurd opens
-unstarted_report (start.Damaged at) base history before after opens same = absurd opens
-unstarted_report (start.OtherShape kept now) base history before after opens same = absurd opens
-unstarted_report (start.Untrue place kept now) base history before after opens same = absurd opens
-unstarted_report (start.Illegal place) base history before after opens same = absurd opens
-unstarted_report start.Failed base history before after opens same =
-    subst (λ (bytes : List ℕ). ReportsFront (audit_over base history) before bytes) (sym same)
-    (none_front (audit_over base history) (subjects base.secret.shape) before)
-unstarted_report start.NoMemory base history before after opens same =
-    subst (λ (bytes : List ℕ). ReportsFront (audit_over base history) before bytes) (sym same)
-    (none_front (audit_over base history) (subjects base.secret.shape) before)
-
--- each refusal has its cause
-pub unstarted_report_cause : (f : StartFault) (file : List ℕ) (secret : SecretView) → StartCause f file secret →
-    FileCause (start_status f) command.Audit file secret
-unstarted_report_cause start.NotMade file secret cause = cause
-unstarted_report_cause (start.Damaged at) file secret cause = cause
-unstarted_report_cause (start.OtherShape kept now) file secret cause = cause
-unstarted_report_cause (start.Untrue place kept now) file secret cause = cause
-unstarted_report_cause (start.Illegal place) file secret cause = cause
-unstarted_report_cause start.Failed file secret cause = tt
-unstarted_report_cause start.NoMemory file secret cause = tt
-
--- ---- sending the report
-
 -- a report over a legal history has that cause
-pub report_cause : {X : Type 0} (ended : Result X AuditFault) (file : List ℕ) (secret : SecretView) → HoldsLegal file secret →
-    FileCause (audit_status ended) command.Audit file secret
-report_cause (Ok done) file secret legal = legal
-report_cause (Err report.Failed) file secret legal = tt
-report_cause (Err report.NoMemory) file secret legal = tt
+pub report_cause : {X : Type 0} (ended : Result X AuditFault) (file : List ℕ) (table : Guarded) → HoldsLegal file table →
+    FileCause (audit_status ended) command.Audit file table
+report_cause (Ok done) file table legal = legal
+report_cause (Err report.Failed) file table legal = tt
+report_cause (Err report.NoMemory) file table legal = tt
 
 -- the ends of a report are those of the run
 pub report_ends : {X : Type 0} (ended : Result X AuditFault) (base : Database) (history : List Answered) (before after : List ℕ)

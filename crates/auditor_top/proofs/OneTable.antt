@@ -1,44 +1,90 @@
 -- What files mean is one table, and what a run leaves that answered nothing.
-use Rattle.std.proofs.Common.{◌≡◌, ℕ, ◌-◌, ◌*◌, List, [], ◌++◌, take, Result, Ok, refl, sym, ◌∙◌, ap, subst, unwrap_or}
+use Rattle.std.proofs.Common.{◌≡◌, ℕ, ◌-◌, ◌*◌, List, [], ◌++◌, take, Result, Ok, IsOk, refl, sym, ◌∙◌, ap, subst, unwrap_or}
 use Rattle.std.specs.Result.{result_ok}
 use Rattle.std.proofs.Math.Nat.{zero-mul}
 use Rattle.std.proofs.Math.Seq.{take-nil}
 use Rattle.std.proofs.lemmas.List.{append-nil}
 use Rattle.audit_types.specs.declared.records.Answered.{Answered}
-use Rattle.schema_json.specs.Columns.{Column}
+use Rattle.audit_types.specs.declared.records.Protected.{Protected}
+use Rattle.set_index.specs.Groups.{AreEntries, AreSound}
+use Rattle.set_index.specs.Indexed.{OneListOfEntries}
+use Rattle.schema_json.specs.Columns.{Column, Group, SchemaView}
 use Rattle.schema_json.specs.Reading.{schema_of}
-use Rattle.table_load.specs.Cells.{PublicView, SecretView, TableView}
+use Rattle.schema_json.specs.declared.faults.SchemaFault.{SchemaFault}
+use Rattle.table_load.specs.Cells.{PublicView, TableView}
 use Rattle.table_load.specs.Database.{Database, base_of}
 use Rattle.table_load.specs.Tables.{table_of}
-use Rattle.journal_form.specs.Journal.{StandsFor}
-use Rattle.answer_journal.specs.Moments.{IsUntouched}
+use Rattle.journal_form.specs.Journal.{StandsFor, StandsAt}
+use Rattle.bench_core.specs.Calls.{IsUntouched}
 use Rattle.line_wire.specs.Lines.{CountedLine, counted_lines}
 use Rattle.question_plan.specs.Session.{Replied, bytes_of, AreReplies, groups}
 use Rattle.question_plan.specs.Replies.{IsDue}
 use Rattle.audit_session.specs.Stops.{StopsOver}
 use Rattle.audit_session.specs.Ends.{ServesSome}
-use Rattle.auditor_top.specs.Commands.{AreFilesOf}
+use Rattle.auditor_top.specs.Commands.{AreFilesOf, AreSoundFilesOf, ServesOver}
 use Rattle.auditor_top.specs.Ends.{StandsForWhat}
+use Rattle.auditor_top.proofs.KeptByEveryLife.{OneReading}
 
 -- a good answer holds one value
 pub same_ok : {X E : Type 0} (r : Result X E) (x y : X) → r ≡ Ok x → r ≡ Ok y → x ≡ y
 same_ok r x y is other = ap (λ s. unwrap_or (result_ok s) x) (sym is ∙ other)
 
--- the files mean one table
-pub same_base : (schema table : List ℕ) (columns : List Column) (meant : TableView) (base : Database) → schema_of schema ≡ Ok columns →
-    table_of columns table ≡ Ok meant → AreFilesOf schema table base → base ≡ base_of columns meant.public meant.secret
-same_base schema table columns meant base schema_is table_is files =
-    let one : base.columns ≡ columns = same_ok (schema_of schema) base.columns columns files.schema_is schema_is in
-    let view : TableView = record { public = base.public; secret = base.secret } in
-    let two : view ≡ meant = same_ok (table_of columns table) view meant
-    (subst (λ (cs : List Column). table_of cs table ≡ Ok view) one files.table_is) table_is in
-    ap (λ (cs : List Column). base_of cs base.public base.secret) one ∙ ap (λ (v : TableView). base_of columns v.public v.secret) two
+-- the files mean one schema and one table
+same_files : (schema table : List ℕ) (a b : Database) (first : AreFilesOf schema table a) (second : AreFilesOf schema table b) →
+    (◌≡◌ {A = SchemaView} (record { columns = a.columns; groups = first.groups }) (record { columns = b.columns; groups = second.groups })) ×
+    (◌≡◌ {A = TableView} (record { public = a.public; secret = a.secret }) (record { public = b.public; secret = b.secret }))
+same_files schema table a b first second =
+    let one : ◌≡◌ {A = SchemaView} (record { columns = a.columns; groups = first.groups }) (record { columns = b.columns; groups = second.groups }) =
+    same_ok (schema_of schema) _ _ first.schema_is second.schema_is in (
+      one,
+      same_ok (table_of b.columns table) _ _
+          (subst (λ (v : SchemaView). table_of v.columns table ≡ Ok (record { public = a.public; secret = a.secret })) one first.table_is) second.table_is,
+    )
 
--- the same, by parts that are equal
-pub same_parts : (base : Database) (columns : List Column) (public other : PublicView) (secret hidden : SecretView) → base ≡ base_of columns public secret →
-    other ≡ public → hidden ≡ secret → base ≡ base_of columns other hidden
-same_parts base columns public other secret hidden is same kept =
-    is ∙ ap (λ (p : PublicView). base_of columns p secret) (sym same) ∙ ap (λ (s : SecretView). base_of columns other s) (sym kept)
+-- so they have one secret part
+pub one_secret : (schema table : List ℕ) (a b : Database) → AreFilesOf schema table a → AreFilesOf schema table b → a.secret ≡ b.secret
+one_secret schema table a b first second = ap (λ (v : TableView). v.secret) (same_files schema table a b first second).1
+
+-- and tables of theirs over groups without fault are one
+pub one_base : OneListOfEntries → (schema table : List ℕ) (a b : Database) → AreSoundFilesOf schema table a → AreSoundFilesOf schema table b → a ≡ b
+one_base law schema table a b first second =
+    let same = same_files schema table a b first.files second.files in
+    let kept : a.protected ≡ b.protected = law.one b.columns b.public second.files.groups a.protected b.protected
+    (subst (λ (v : TableView). AreEntries b.columns v.public second.files.groups a.protected) same.1
+    (subst (λ (v : SchemaView). AreEntries v.columns a.public v.groups a.protected) same.0 first.entries)) second.entries in
+    ap (λ (v : SchemaView). base_of v.columns a.public a.protected a.secret) same.0
+    ∙ ap (λ (v : TableView). base_of b.columns v.public a.protected v.secret) same.1 ∙ ap (λ (p : List Protected). base_of b.columns b.public p b.secret) kept
+
+-- the file has a history with these secrets, so that is the one that is served
+pub same_given : OneReading → OneListOfEntries → (schema table file : List ℕ) (seen base : Database) (kept history : List Answered) (gate : ℕ)
+    → AreSoundFilesOf schema table seen → StandsAt file seen.secret.shape kept gate → ServesOver schema table file base history →
+    (seen ≡ base) × (kept ≡ history)
+same_given one law schema table file seen base kept history gate are stands over = (
+  one_base law schema table seen base are over.files,
+  (one file seen.secret.shape base.secret.shape kept history gate over.stands.0 stands over.stands.1).1,
+)
+
+-- and what is said of the one is said of the other
+pub carried : (P : Database → List Answered → Type 0) (seen base : Database) (kept history : List Answered) → (seen ≡ base) × (kept ≡ history) → P seen kept
+    → P base history
+carried P seen base kept history same holds =
+    subst (λ (b : Database). P b history) same.0 (subst (λ (h : List Answered). P seen h) same.1 holds)
+
+-- the files were read
+pub schema_is_ok : (schema : List ℕ) (meant : SchemaView) → schema_of schema ≡ Ok meant → IsOk (schema_of schema)
+schema_is_ok schema meant is = subst (λ (r : Result SchemaView SchemaFault). IsOk r) (sym is) refl
+
+pub table_is_ok : {X E : Type 0} (meaning : List Column → Result X E) (schema : List ℕ) (read asked : SchemaView) (meant : X) → schema_of schema ≡ Ok read →
+    meaning read.columns ≡ Ok meant → schema_of schema ≡ Ok asked → IsOk (meaning asked.columns)
+table_is_ok {X} {E} meaning schema read asked meant is means also =
+    subst (λ (v : SchemaView). IsOk (meaning v.columns)) (same_ok (schema_of schema) read asked is also) (subst (λ (r : Result X E). IsOk r) (sym means) refl)
+
+-- and no group has a fault
+pub groups_are_sound : OneListOfEntries → (schema : List ℕ) (columns : List Column) (public : PublicView) (groups : List Group) (protected : List Protected)
+    (asked : SchemaView) → schema_of schema ≡ Ok (record { columns = columns; groups = groups }) → AreEntries columns public groups protected →
+    schema_of schema ≡ Ok asked → AreSound asked.columns asked.groups
+groups_are_sound law schema columns public groups protected asked is entries also =
+    subst (λ (v : SchemaView). AreSound v.columns v.groups) (same_ok (schema_of schema) _ asked is also) (law.sound columns public groups protected entries)
 
 -- no group of lines has no replies
 none_due : (base : Database) (batch : ℕ) (history : List Answered) (lines : List CountedLine) → AreReplies (IsDue base) history (groups batch 0 lines) []

@@ -1,7 +1,7 @@
 -- What the fault of a file comes to, by cases on that fault.
 use Rattle.std.proofs.Common.{◌≡◌, ◌≢◌, ℕ, ◌≤◌, ◌+◌, List, Result, Ok, Err, refl, sym, ap, subst, arith}
 use Rattle.bench_core.specs.Causes.{Rose}
-use Rattle.schema_json.specs.Columns.{Column}
+use Rattle.schema_json.specs.Columns.{SchemaView}
 use Rattle.schema_json.specs.declared.faults.SchemaFault.{SchemaFault}
 use Rattle.table_load.specs.declared.faults.TableFault.{TableFault}
 use Rattle.auditor_top.specs.declared.files.FileFault.{FileFault}
@@ -45,7 +45,7 @@ not_schema a b is = cc
 
 -- ---- the schema's file
 
-pub schema_says : (fault : FileFault SchemaFault) (meant : Result (List Column) SchemaFault) → IsFaultOf fault meant →
+pub schema_says : (fault : FileFault SchemaFault) (meant : Result SchemaView SchemaFault) → IsFaultOf fault meant →
     SchemaCause (open_status (opening.Schema fault)) meant
 schema_says file.Failed meant is = tt
 schema_says file.NoMemory meant is = tt
@@ -74,13 +74,13 @@ table_says file.NoMemory meant is = tt
 table_says (file.Bad f) meant is = is
 
 -- the schema was read
-pub past_schema : (fault : FileFault TableFault) (meant : Result (List Column) SchemaFault) (columns : List Column) → meant ≡ Ok columns
+pub past_schema : (fault : FileFault TableFault) (meant : Result SchemaView SchemaFault) (schema : SchemaView) → meant ≡ Ok schema
     → SchemaCause (open_status (opening.Table fault)) meant
-past_schema fault meant columns is = subst (SchemaCause (open_status (opening.Table fault))) (sym is) (of_columns fault)
+past_schema fault meant schema is = subst (SchemaCause (open_status (opening.Table fault))) (sym is) (of_schema fault)
   where
-    of_columns : (fault : FileFault TableFault) → SchemaCause (open_status (opening.Table fault)) (Ok columns)
-    of_columns file.Failed = refl
-    of_columns file.NoMemory = tt
+    of_schema : (fault : FileFault TableFault) → SchemaCause (open_status (opening.Table fault)) (Ok schema)
+    of_schema file.Failed = refl
+    of_schema file.NoMemory = tt
     of_columns (file.Bad f) = refl
 
 pub table_faults : {X : Type 0} (fault : FileFault TableFault) (schema later_schema table later input bench spare : ℕ) → later_schema ≡ schema

@@ -1,14 +1,11 @@
--- What the fault of each step of a run that simulates comes to, by cases on that fault.
+-- What a simulation comes to, by cases on how it ended.
 use Rattle.std.proofs.Common.{rules, ◌≡◌, ◌≢◌, ℕ, ◌^◌, ◌≤◌, List, [], length, Result, Ok, Err, refl, sym, ◌∙◌, inl, inr, subst, arith}
 use Rattle.std.proofs.lemmas.List.{append-nil}
 use Rattle.audit_types.specs.declared.records.Answered.{Answered}
 use Rattle.bench_core.specs.Causes.{Rose}
-use Rattle.bench_core.specs.declared.bench.Bench.{Ghosts}
-use Rattle.bench_core.specs.Calls.{IsQuiet, LeavesOnly}
-use Rattle.bench_core.specs.Moments.{started}
 use Rattle.schema_json.specs.Columns.{Column}
 use Rattle.schema_json.specs.Reading.{schema_of}
-use Rattle.table_load.specs.Cells.{PublicView}
+use Rattle.set_index.specs.Indexed.{IndexView}
 use Rattle.table_load.specs.Tables.{public_of}
 use Rattle.line_wire.specs.Lines.{CountedLine, counted_lines}
 use Rattle.question_plan.specs.Session.{Replied}
@@ -17,75 +14,47 @@ use Rattle.transcript_sim.specs.declared.simulating.SimulationFault.TheVariants 
 use Rattle.transcript_sim.specs.Verdicts.{AreVerdicts}
 use Rattle.transcript_sim.specs.Laws.{FirstLinesHaveVerdicts}
 use Rattle.transcript_sim.specs.Ends.{BeginVerdicts, EndVerdicts, EndSends, EndReads, SimulatesMeanwhile}
-use Rattle.auditor_top.specs.declared.files.FileFault.TheVariants as file
-use Rattle.auditor_top.specs.declared.opening.OpenFault.{OpenFault}
-use Rattle.auditor_top.specs.declared.opening.OpenFault.TheVariants as opening
-use Rattle.auditor_top.specs.Status.{open_status, simulation_status}
-use Rattle.auditor_top.specs.Ends.{LeavesFile, SimulateEnds, SimulateSends}
+use Rattle.auditor_top.specs.Status.{simulation_status}
+use Rattle.auditor_top.specs.Ends.{SimulateEnds, SimulateSends}
 use Rattle.auditor_top.specs.Commands.{ArePublicFilesOf}
-use Rattle.auditor_top.specs.Causes.{FaultCounts, FaultCause, SchemaCause, TableCause, InputCause, NothingFailed, IsDoneOrWants}
+use Rattle.auditor_top.specs.Causes.{FaultCounts, FaultCause, InputCause, NothingFailed, IsDoneOrWants}
 use Rattle.auditor_top.proofs.OneTable.{same_ok}
 use Rattle.auditor_top.proofs.StepFaults.{not_both, same_counts}
 
 -- the files mean one schema
-pub same_columns : (schema table : List ℕ) (opened columns : List Column) (public : PublicView) → schema_of schema ≡ Ok opened →
+pub same_columns : (schema table : List ℕ) (opened columns : List Column) (public : IndexView) → schema_of schema ≡ Ok opened →
     ArePublicFilesOf schema table columns public → opened ≡ columns
 same_columns schema table opened columns public is files = same_ok (schema_of schema) opened columns is files.schema_is
 
 -- and one public part
-pub same_public_part : (schema table : List ℕ) (opened columns : List Column) (shown public : PublicView) → schema_of schema ≡ Ok opened →
+pub same_public_part : (schema table : List ℕ) (opened columns : List Column) (shown public : IndexView) → schema_of schema ≡ Ok opened →
     public_of opened table ≡ Ok shown → ArePublicFilesOf schema table columns public → shown ≡ public
 same_public_part schema table opened columns shown public is also files =
     same_ok (public_of columns table) shown public
     (subst (λ (cs : List Column). public_of cs table ≡ Ok shown) (same_columns schema table opened columns public is files) also) files.public_is
 
+-- so what is said of what was read is said of what the files mean
+pub carried_public : (P : List Column → IndexView → Type 0) (schema table : List ℕ) (opened columns : List Column) (shown public : IndexView)
+    → ArePublicFilesOf schema table opened shown → ArePublicFilesOf schema table columns public → P opened shown → P columns public
+carried_public P schema table opened columns shown public read files holds =
+    subst (λ (p : IndexView). P columns p) (same_public_part schema table opened columns shown public read.schema_is read.public_is files)
+    (subst (λ (cs : List Column). P cs shown) (same_columns schema table opened columns public read.schema_is files) holds)
+
 -- ---- before the first line
 
 -- there is no verdict yet
-pub none_begun : (columns : List Column) (public : PublicView) (lines : List CountedLine) → BeginVerdicts columns public lines []
+pub none_begun : (columns : List Column) (public : IndexView) (lines : List CountedLine) → BeginVerdicts columns public lines []
 none_begun columns public lines = record { count = 0; are = tt }
 
 -- and nothing was sent
-pub no_verdict : (told : Type 0) (columns : List Column) (public : PublicView) (lines : List CountedLine) (file before image sent : List ℕ) → image ≡ file →
+pub no_verdict : (told : Type 0) (columns : List Column) (public : IndexView) (lines : List CountedLine) (file before image sent : List ℕ) → image ≡ file →
     sent ≡ before → SimulatesMeanwhile told columns public lines file before image sent
 no_verdict told columns public lines file before image sent same none = (same, λ t. ([], none_begun columns public lines, (0, none ∙ sym (append-nil before))))
-
-module _ {B : Type 0} (bench : Ghosts B) (at : B)
-    (only_now : (image bytes : List ℕ) → bench.since at (bench.moment at) image bytes → bench.leaves at image × (bytes ≡ bench.sent at))
-    (quiet : IsQuiet bench at) where
-  pub before_lines : (told : Type 0) (columns : List Column) (public : PublicView) (lines : List CountedLine) →
-      LeavesOnly bench at at (SimulatesMeanwhile told columns public lines (bench.file at) (bench.sent at))
-  before_lines told columns public lines = started bench at _ (λ image sent was.
-      let now = only_now image sent was in
-      no_verdict told columns public lines (bench.file at) (bench.sent at) image sent (quiet image now.0) now.1)
-
-  pub still_file : LeavesOnly bench at at (LeavesFile (bench.file at))
-  still_file = started bench at _ (λ image sent was. quiet image (only_now image sent was).0)
-
--- ---- opening the files
-
--- the files have no fault, so what kept them closed was a failed source or want of memory
-pub unopened_verdicts : (fault : OpenFault) (columns : List Column) (public : PublicView) (input left : List ℕ) → SchemaCause (open_status fault) (Ok columns) →
-    TableCause (open_status fault) (Ok public) → SimulateEnds (open_status fault) columns public input left []
-unopened_verdicts (opening.Schema file.Failed) columns public input left schema table = refl
-unopened_verdicts (opening.Schema file.NoMemory) columns public input left schema table = none_begun columns public (counted_lines input)
-unopened_verdicts (opening.Schema (file.Bad f)) columns public input left schema table = absurd (not_both columns f schema)
-unopened_verdicts (opening.Table file.Failed) columns public input left schema table = refl
-unopened_verdicts (opening.Table file.NoMemory) columns public input left schema table = none_begun columns public (counted_lines input)
-unopened_verdicts (opening.Table (file.Bad f)) columns public input left schema table = absurd (not_both public f table)
-
-pub unopened_sends : (fault : OpenFault) (sent : List ℕ) → SimulateSends (open_status fault) [] sent sent
-unopened_sends (opening.Schema file.Failed) sent = sym (append-nil sent)
-unopened_sends (opening.Schema file.NoMemory) sent = sym (append-nil sent)
-unopened_sends (opening.Schema (file.Bad f)) sent = sym (append-nil sent)
-unopened_sends (opening.Table file.Failed) sent = sym (append-nil sent)
-unopened_sends (opening.Table file.NoMemory) sent = sym (append-nil sent)
-unopened_sends (opening.Table (file.Bad f)) sent = sym (append-nil sent)
 
 -- ---- reading the transcript
 
 -- the ends of a simulation are those of the run
-pub simulation_ends : (ended : Result (Unit {0}) SimulationFault) (columns : List Column) (public : PublicView) (input left : List ℕ)
+pub simulation_ends : (ended : Result (Unit {0}) SimulationFault) (columns : List Column) (public : IndexView) (input left : List ℕ)
     (verdicts : List (Replied Answered)) →
     EndVerdicts ended columns public input left verdicts → SimulateEnds (simulation_status ended) columns public input left verdicts
 simulation_ends (Ok done) columns public input left verdicts are = are
@@ -134,7 +103,7 @@ simulation_faults (Err verdict.NoMemory) before input bench input_rose input_sam
 
 -- where every reply agrees, the input is within its limit and nothing failed, it is done, or there was no memory
 pub simulation_wants : FirstLinesHaveVerdicts
-    → (ended : Result (Unit {0}) SimulationFault) (columns : List Column) (public : PublicView) (input left : List ℕ)
+    → (ended : Result (Unit {0}) SimulationFault) (columns : List Column) (public : IndexView) (input left : List ℕ)
     (verdicts others : List (Replied Answered)) (before after : FaultCounts)
     → EndVerdicts ended columns public input left verdicts → EndReads ended input left
     → AreVerdicts columns public (counted_lines input) others → length input ≤ 2 ^ 30 → FaultCause (simulation_status ended) before after →

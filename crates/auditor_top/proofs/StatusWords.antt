@@ -7,7 +7,7 @@ use Rattle.table_load.specs.declared.faults.TableFault.{TableFault}
 use Rattle.transcript_sim.specs.declared.due.Due.{Due}
 use Rattle.auditor_top.specs.declared.status.Which.TheVariants.{Schema, Table, Input}
 use Rattle.auditor_top.specs.declared.status.Status.{Status}
-use Rattle.auditor_top.specs.declared.status.Status.TheVariants.{Done, BadWords, BadSchema, BadTable, SourceFault, BenchFault, NotMade, AlreadyThere, Damaged, OtherShape, Untrue, Illegal, InputLimit, Disagrees, NoMemory}
+use Rattle.auditor_top.specs.declared.status.Status.TheVariants.{Done, BadWords, BadSchema, BadTable, SourceFault, BenchFault, NotMade, AlreadyThere, Damaged, OtherShape, Untrue, Illegal, InputLimit, Disagrees, BadGroup, NoMemory}
 use Rattle.auditor_top.specs.Status.{words_of, status_text}
 
 pub tells_no_number : (status : Status)
@@ -18,21 +18,23 @@ pub tells_no_number : (status : Status)
     → ((place : ℕ) (kept now : ℤ) → status ≡ Untrue place kept now → ⊥)
     → ((place : ℕ) → status ≡ Illegal place → ⊥)
     → ((line : ℕ) (due : Due) → status ≡ Disagrees line due → ⊥)
+    → ((place : ℕ) → status ≡ BadGroup place → ⊥)
     → words_of status ≡ status_text status
-tells_no_number Done schema table damaged shape untrue illegal disagrees = refl
-tells_no_number BadWords schema table damaged shape untrue illegal disagrees = refl
-tells_no_number (BadSchema fault) schema table damaged shape untrue illegal disagrees = absurd (schema fault refl)
-tells_no_number (BadTable fault) schema table damaged shape untrue illegal disagrees = absurd (table fault refl)
-tells_no_number (SourceFault Schema) schema table damaged shape untrue illegal disagrees = refl
-tells_no_number (SourceFault Table) schema table damaged shape untrue illegal disagrees = refl
-tells_no_number (SourceFault Input) schema table damaged shape untrue illegal disagrees = refl
-tells_no_number BenchFault schema table damaged shape untrue illegal disagrees = refl
-tells_no_number NotMade schema table damaged shape untrue illegal disagrees = refl
-tells_no_number AlreadyThere schema table damaged shape untrue illegal disagrees = refl
-tells_no_number (Damaged at) schema table damaged shape untrue illegal disagrees = absurd (damaged at refl)
-tells_no_number (OtherShape kept now) schema table damaged shape untrue illegal disagrees = absurd (shape kept now refl)
-tells_no_number (Untrue place kept now) schema table damaged shape untrue illegal disagrees = absurd (untrue place kept now refl)
-tells_no_number (Illegal place) schema table damaged shape untrue illegal disagrees = absurd (illegal place refl)
-tells_no_number InputLimit schema table damaged shape untrue illegal disagrees = refl
-tells_no_number (Disagrees line due) schema table damaged shape untrue illegal disagrees = absurd (disagrees line due refl)
-tells_no_number NoMemory schema table damaged shape untrue illegal disagrees = refl
+tells_no_number Done schema table damaged shape untrue illegal disagrees group = refl
+tells_no_number BadWords schema table damaged shape untrue illegal disagrees group = refl
+tells_no_number (BadSchema fault) schema table damaged shape untrue illegal disagrees group = absurd (schema fault refl)
+tells_no_number (BadTable fault) schema table damaged shape untrue illegal disagrees group = absurd (table fault refl)
+tells_no_number (SourceFault Schema) schema table damaged shape untrue illegal disagrees group = refl
+tells_no_number (SourceFault Table) schema table damaged shape untrue illegal disagrees group = refl
+tells_no_number (SourceFault Input) schema table damaged shape untrue illegal disagrees group = refl
+tells_no_number BenchFault schema table damaged shape untrue illegal disagrees group = refl
+tells_no_number NotMade schema table damaged shape untrue illegal disagrees group = refl
+tells_no_number AlreadyThere schema table damaged shape untrue illegal disagrees group = refl
+tells_no_number (Damaged at) schema table damaged shape untrue illegal disagrees group = absurd (damaged at refl)
+tells_no_number (OtherShape kept now) schema table damaged shape untrue illegal disagrees group = absurd (shape kept now refl)
+tells_no_number (Untrue place kept now) schema table damaged shape untrue illegal disagrees group = absurd (untrue place kept now refl)
+tells_no_number (Illegal place) schema table damaged shape untrue illegal disagrees group = absurd (illegal place refl)
+tells_no_number InputLimit schema table damaged shape untrue illegal disagrees group = refl
+tells_no_number (Disagrees line due) schema table damaged shape untrue illegal disagrees group = absurd (disagrees line due refl)
+tells_no_number (BadGroup place) schema table damaged shape untrue illegal disagrees group = absurd (group place refl)
+tells_no_number NoMemory schema table damaged shape untrue illegal disagrees group = refl

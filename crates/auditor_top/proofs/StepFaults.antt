@@ -1,32 +1,24 @@
--- What the fault of each step of a run comes to, by cases on that fault.
+-- What the end of the last step of `init` and of `serve` comes to, by cases on it.
 use Rattle.std.proofs.Common.{rules, ◌≡◌, ◌≢◌, ℕ, ◌+◌, ◌<◌, ◌≤◌, List, [], Result, Ok, Err, IsErr, IsErrOf, OnOk, length, refl, sym, ◌∙◌, ap, inl, inr, arith, subst}
 use Rattle.std.proofs.lemmas.Bool.{false≢true}
 use Rattle.audit_types.specs.declared.records.Answered.{Answered}
 use Rattle.bench_core.specs.Causes.{Rose}
-use Rattle.schema_json.specs.Columns.{Column}
-use Rattle.table_load.specs.Cells.{TableView, SecretView}
+use Rattle.audit_types.specs.History.{Table as Guarded}
 use Rattle.table_load.specs.Database.{Database}
 use Rattle.journal_form.specs.Journal.{StandsFor}
 use Rattle.answer_journal.specs.Moments.{IsAlready, IsMade}
 use Rattle.answer_journal.specs.declared.make.MakeFault.{MakeFault}
 use Rattle.answer_journal.specs.declared.make.MakeFault.TheVariants as make
-use Rattle.audit_store.specs.Starting.{StartCause, StartsUnlessFailed}
-use Rattle.audit_store.specs.declared.starting.StartFault.{StartFault}
-use Rattle.audit_store.specs.declared.starting.StartFault.TheVariants as start
 use Rattle.line_wire.specs.Lines.{counted_lines, most_input}
 use Rattle.audit_session.specs.Ends.{Serves, ServesWhole, ServesSome, ServesLimited}
 use Rattle.audit_session.specs.declared.serving.EndFault.{EndFault}
 use Rattle.audit_session.specs.declared.serving.EndFault.TheVariants as end
-use Rattle.auditor_top.specs.declared.files.FileFault.TheVariants as file
-use Rattle.auditor_top.specs.declared.opening.OpenFault.{OpenFault}
-use Rattle.auditor_top.specs.declared.opening.OpenFault.TheVariants as opening
 use Rattle.auditor_top.specs.declared.words.Command.TheVariants.{Init, Serve}
 use Rattle.auditor_top.specs.declared.status.Status.{Status}
 use Rattle.auditor_top.specs.declared.status.Status.TheVariants.{Done, BenchFault}
-use Rattle.auditor_top.specs.Status.{open_status, making_status, start_status, session_status}
+use Rattle.auditor_top.specs.Status.{making_status, session_status}
 use Rattle.auditor_top.specs.Ends.{Outside, ServeEnds}
-use Rattle.auditor_top.specs.Causes.{FaultCounts, counts, FaultCause, SchemaCause, TableCause, FileCause, HoldsLegal, InputCause, NothingFailed, IsDoneOrWants}
-use Rattle.auditor_top.proofs.OneTable.{nothing_served}
+use Rattle.auditor_top.specs.Causes.{FaultCounts, counts, FaultCause, FileCause, HoldsLegal, InputCause, NothingFailed, IsDoneOrWants}
 
 -- an answer isn't good and bad
 pub not_both : {X E : Type 0} (x : X) (e : E) → Ok x ≡ Err e → ⊥
@@ -48,92 +40,6 @@ moved status before schema later_schema table later_table input bench spare is a
 pub not_made : (file : List ℕ) → (IsAlready file → ⊥) → IsMade file → ⊥
 not_made file absent made = grind arith
 
--- a store that there was no memory for wasn't refused since the bench failed
-pub wants_not_failed : {X : Type 0} → ◌≢◌ {A = Result X StartFault} (Err start.NoMemory) (Err start.Failed)
-wants_not_failed is = cc
-
--- a fault that is handed on is the same
-pub same_start : {X Y : Type 0} (a b : StartFault) → ◌≡◌ {A = Result X StartFault} (Err a) (Err b) → ◌≡◌ {A = Result Y StartFault} (Err a) (Err b)
-same_start a b is = cc
-
--- ---- opening the files
-
--- the files have no fault, so what kept them closed was a failed source or want of memory
-pub unopened_ends : (fault : OpenFault) (columns : List Column) (meant : TableView) (base : Database) (batch : ℕ) (history : List Answered) (at : Outside)
-    → SchemaCause (open_status fault) (Ok columns) → TableCause (open_status fault) (Ok meant)
-    → StandsFor at.file base.secret.shape history → ServeEnds batch (open_status fault) base history at at
-unopened_ends (opening.Schema file.Failed) columns meant base batch history at schema table stands = (refl, refl)
-unopened_ends (opening.Schema file.NoMemory) columns meant base batch history at schema table stands =
-    nothing_served base batch history at.input at.sent at.file stands
-unopened_ends (opening.Schema (file.Bad f)) columns meant base batch history at schema table stands = absurd (not_both columns f schema)
-unopened_ends (opening.Table file.Failed) columns meant base batch history at schema table stands = (refl, refl)
-unopened_ends (opening.Table file.NoMemory) columns meant base batch history at schema table stands =
-    nothing_served base batch history at.input at.sent at.file stands
-unopened_ends (opening.Table (file.Bad f)) columns meant base batch history at schema table stands = absurd (not_both meant f table)
-
--- where no source failed either, it was want of memory
-pub unopened_wants : {T : Type 0} (fault : OpenFault) (columns : List Column) (meant : T) (before after : FaultCounts)
-    → SchemaCause (open_status fault) (Ok columns) → TableCause (open_status fault) (Ok meant)
-    → FaultCause (open_status fault) before after → NothingFailed before after → IsDoneOrWants (open_status fault)
-unopened_wants (opening.Schema file.Failed) columns meant before after schema table rose none = absurd (none.schema rose.0)
-unopened_wants (opening.Schema file.NoMemory) columns meant before after schema table rose none = inr refl
-unopened_wants (opening.Schema (file.Bad f)) columns meant before after schema table rose none = absurd (not_both columns f schema)
-unopened_wants (opening.Table file.Failed) columns meant before after schema table rose none = absurd (none.table rose.0)
-unopened_wants (opening.Table file.NoMemory) columns meant before after schema table rose none = inr refl
-unopened_wants (opening.Table (file.Bad f)) columns meant before after schema table rose none = absurd (not_both meant f table)
-
--- ---- starting the store
-
--- a store that was to start, and wasn't, gave up
-pub unstarted_ends : (f : StartFault) (base : Database) (batch : ℕ) (history : List Answered) (before after : Outside) → StartsUnlessFailed (Err f)
-    → before.sent ≡ after.sent → StandsFor after.file base.secret.shape history
-    → ServeEnds batch (start_status f) base history before after
-unstarted_ends start.NotMade base batch history before after opens same stands = absurd opens
-unstarted_ends (start.Damaged at) base batch history before after opens same stands = absurd opens
-unstarted_ends (start.OtherShape kept now) base batch history before after opens same stands = absurd opens
-unstarted_ends (start.Untrue place kept now) base batch history before after opens same stands = absurd opens
-unstarted_ends (start.Illegal place) base batch history before after opens same stands = absurd opens
-unstarted_ends start.Failed base batch history before after opens same stands = tt
-unstarted_ends start.NoMemory base batch history before after opens same stands =
-    subst
-    (λ (sent : List ℕ). (now : List Answered) × ServesSome base history batch (counted_lines before.input) now before.sent sent ×
-    StandsFor after.file base.secret.shape now) same
-    (nothing_served base batch history before.input before.sent after.file stands)
-
--- where the bench didn't fail either, it was want of memory
-pub unstarted_wants : (f : StartFault) (before after : FaultCounts) → StartsUnlessFailed (Err f) → FaultCause (start_status f) before after →
-    NothingFailed before after → IsDoneOrWants (start_status f)
-unstarted_wants start.NotMade before after opens rose none = absurd opens
-unstarted_wants (start.Damaged at) before after opens rose none = absurd opens
-unstarted_wants (start.OtherShape kept now) before after opens rose none = absurd opens
-unstarted_wants (start.Untrue place kept now) before after opens rose none = absurd opens
-unstarted_wants (start.Illegal place) before after opens rose none = absurd opens
-unstarted_wants start.Failed before after opens rose none = absurd (none.bench rose.0)
-unstarted_wants start.NoMemory before after opens rose none = inr refl
-
--- a store that isn't started has its cause in the file
-pub unstarted_cause : (f : StartFault) (batch : ℕ) (file : List ℕ) (secret : SecretView) → StartCause f file secret →
-    FileCause (start_status f) (Serve batch) file secret
-unstarted_cause start.NotMade batch file secret cause = cause
-unstarted_cause (start.Damaged at) batch file secret cause = cause
-unstarted_cause (start.OtherShape kept now) batch file secret cause = cause
-unstarted_cause (start.Untrue place kept now) batch file secret cause = cause
-unstarted_cause (start.Illegal place) batch file secret cause = cause
-unstarted_cause start.Failed batch file secret cause = tt
-unstarted_cause start.NoMemory batch file secret cause = tt
-
--- the count of the bench rose where a call of it failed, and no other count changed
-pub unstarted_faults : {X : Type 0} (f : StartFault) (before : FaultCounts) (bench : ℕ) → (IsErrOf {T = X} (Err f) start.Failed → Rose before.bench bench)
-    → ((IsErrOf {T = X} (Err f) start.Failed → ⊥) → bench ≡ before.bench)
-    → FaultCause (start_status f) before (record before { bench = bench })
-unstarted_faults start.NotMade before bench rose same = same_counts before before.input bench refl (same (search rules))
-unstarted_faults (start.Damaged at) before bench rose same = same_counts before before.input bench refl (same (search rules))
-unstarted_faults (start.OtherShape kept now) before bench rose same = same_counts before before.input bench refl (same (search rules))
-unstarted_faults (start.Untrue place kept now) before bench rose same = same_counts before before.input bench refl (same (search rules))
-unstarted_faults (start.Illegal place) before bench rose same = same_counts before before.input bench refl (same (search rules))
-unstarted_faults start.Failed before bench rose same = (rose refl, refl)
-unstarted_faults start.NoMemory before bench rose same = same_counts before before.input bench refl (same (search rules))
-
 -- ---- making a journal
 
 -- the count of the bench rose where a call of it failed, and no other count changed
@@ -145,11 +51,11 @@ making_faults (Err make.AlreadyThere) before bench rose same = same_counts befor
 making_faults (Err make.Failed) before bench rose same = (rose refl, refl)
 
 -- a journal was made where none was there
-pub making_cause : (making : Result (Unit {0}) MakeFault) (file : List ℕ) (secret : SecretView) → (IsAlready file → IsErr making)
-    → (IsErrOf making make.AlreadyThere → IsAlready file) → FileCause (making_status making) Init file secret
-making_cause (Ok done) file secret refused already = λ there. absurd (false≢true (refused there))
-making_cause (Err make.AlreadyThere) file secret refused already = already refl
-making_cause (Err make.Failed) file secret refused already = tt
+pub making_cause : (making : Result (Unit {0}) MakeFault) (file : List ℕ) (table : Guarded) → (IsAlready file → IsErr making)
+    → (IsErrOf making make.AlreadyThere → IsAlready file) → FileCause (making_status making) Init file table
+making_cause (Ok done) file table refused already = λ there. absurd (false≢true (refused there))
+making_cause (Err make.AlreadyThere) file table refused already = already refl
+making_cause (Err make.Failed) file table refused already = tt
 
 -- where nothing was there and the bench didn't fail, it is done
 pub making_wants : (making : Result (Unit {0}) MakeFault) (before after : FaultCounts) → (IsErrOf making make.AlreadyThere → ⊥)
@@ -180,13 +86,13 @@ making_failed (Err make.Failed) is = refl
 -- ---- answering lines
 
 -- a session over a legal history has that cause
-pub session_cause : {X : Type 0} (ended : Result X EndFault) (batch : ℕ) (file : List ℕ) (secret : SecretView) → HoldsLegal file secret →
-    FileCause (session_status ended) (Serve batch) file secret
-session_cause (Ok done) batch file secret legal = legal
-session_cause (Err end.Input) batch file secret legal = legal
-session_cause (Err end.Bench) batch file secret legal = tt
-session_cause (Err end.Limit) batch file secret legal = legal
-session_cause (Err end.NoMemory) batch file secret legal = tt
+pub session_cause : {X : Type 0} (ended : Result X EndFault) (batch : ℕ) (file : List ℕ) (table : Guarded) → HoldsLegal file table →
+    FileCause (session_status ended) (Serve batch) file table
+session_cause (Ok done) batch file table legal = legal
+session_cause (Err end.Input) batch file table legal = legal
+session_cause (Err end.Bench) batch file table legal = tt
+session_cause (Err end.Limit) batch file table legal = legal
+session_cause (Err end.NoMemory) batch file table legal = tt
 
 -- the ends of a session are those of the run
 pub session_ends : {X : Type 0} (ended : Result X EndFault) (base : Database) (batch : ℕ) (history now : List Answered) (before after : Outside)

@@ -5,6 +5,8 @@ pub mod Ends
 pub mod Files
 pub mod Promise
 pub mod Reading
+pub mod Ready
+pub mod Runs
 pub mod Stages
 pub mod Status
 pub mod Words

@@ -8,6 +8,8 @@ use Rattle.audit_session.specs.declared.serving.EndFault.TheVariants as end
 use Rattle.audit_store.specs.declared.starting.StartFault.{StartFault}
 use Rattle.audit_store.specs.declared.starting.StartFault.TheVariants as start
 use Rattle.schema_json.specs.Faults as schema
+use Rattle.set_index.specs.declared.index.IndexFault.{IndexFault}
+use Rattle.set_index.specs.declared.index.IndexFault.TheVariants as index
 use Rattle.table_load.specs.Faults as table
 use Rattle.table_load.specs.declared.faults.TableFault.{TableFault}
 use Rattle.table_load.specs.declared.faults.TableFault.TheVariants as fault
@@ -19,9 +21,11 @@ use Rattle.transcript_sim.specs.declared.simulating.SimulationFault.TheVariants 
 use Rattle.auditor_top.specs.declared.files.FileFault.TheVariants as file
 use Rattle.auditor_top.specs.declared.opening.OpenFault.{OpenFault}
 use Rattle.auditor_top.specs.declared.opening.OpenFault.TheVariants as opening
+use Rattle.auditor_top.specs.declared.starting.NotStarted.{NotStarted}
+use Rattle.auditor_top.specs.declared.starting.NotStarted.TheVariants as starting
 use Rattle.auditor_top.specs.declared.status.Which.TheVariants.{Schema, Table, Input}
 use Rattle.auditor_top.specs.declared.status.Status.{Status}
-use Rattle.auditor_top.specs.declared.status.Status.TheVariants.{Done, BadWords, BadSchema, BadTable, SourceFault, BenchFault, NotMade, AlreadyThere, Damaged, OtherShape, Untrue, Illegal, InputLimit, Disagrees, NoMemory}
+use Rattle.auditor_top.specs.declared.status.Status.TheVariants.{Done, BadWords, BadSchema, BadTable, SourceFault, BenchFault, NotMade, AlreadyThere, Damaged, OtherShape, Untrue, Illegal, InputLimit, Disagrees, BadGroup, NoMemory}
 
 -- the exit status of the program
 abbrev pub status_code : Status → ℕ
@@ -40,6 +44,7 @@ status_code (Illegal place) = 12
 status_code InputLimit = 13
 status_code (Disagrees line due) = 14
 status_code NoMemory = 15
+status_code (BadGroup place) = 16
 
 -- the place of a fault in a line
 abbrev pub at_line : ℕ → List ℕ
@@ -79,6 +84,7 @@ words_of (Untrue place kept now) = codes ""
 words_of (Illegal place) = codes ""
 words_of InputLimit = codes "input is too long"
 words_of (Disagrees line due) = codes ""
+words_of (BadGroup place) = codes ""
 words_of NoMemory = codes "out of memory"
 
 -- what the program tells of it
@@ -90,6 +96,7 @@ status_text (OtherShape kept now) = codes "journal is of another table: rows " +
 status_text (Untrue place kept now) = codes "record " ++ (decimal place ++
     (codes " holds " ++ (signed_decimal kept ++ (codes ", table gives " ++ signed_decimal now))))
 status_text (Illegal place) = codes "record " ++ decimal place ++ codes " should not have been released"
+status_text (BadGroup place) = codes "schema: group " ++ (decimal place ++ codes " is bad")
 status_text (Disagrees line due) = codes "line " ++ (decimal line ++ (codes " disagrees, due " ++ word_of due))
 status_text other = words_of other
 
@@ -103,6 +110,11 @@ open_status (opening.Schema (file.Bad fault)) = BadSchema fault
 open_status (opening.Table file.Failed) = SourceFault Table
 open_status (opening.Table file.NoMemory) = NoMemory
 open_status (opening.Table (file.Bad fault)) = BadTable fault
+
+-- of making the groups ready
+abbrev pub index_status : IndexFault → Status
+index_status (index.BadGroup place) = BadGroup place
+index_status index.NoMemory = NoMemory
 
 -- of making a journal
 abbrev pub make_status : MakeFault → Status
@@ -118,6 +130,11 @@ start_status (start.Untrue place kept now) = Untrue place kept now
 start_status (start.Illegal place) = Illegal place
 start_status start.Failed = BenchFault
 start_status start.NoMemory = NoMemory
+
+-- of making the groups ready and starting the store
+abbrev pub started_status : NotStarted → Status
+started_status (starting.Groups fault) = index_status fault
+started_status (starting.Journal fault) = start_status fault
 
 -- of answering lines
 abbrev pub end_status : EndFault → Status

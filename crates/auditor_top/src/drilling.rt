@@ -2,8 +2,9 @@
 ghost use Rattle.std.specs.Prelude.{◌≡◌, ◌≢◌, ◌≤◌, ◌+◌, [], List, ℕ, true, Some, length, take, IfOk, OnOk};
 ghost use Rattle.audit_types.specs.Shapes.{IsShape};
 ghost use Rattle.audit_types.specs.declared.records.Answered.{Answered};
+ghost use Rattle.audit_types.specs.History.{Table as Guarded};
 ghost use Rattle.schema_json.specs.SecretShape.{shape_of};
-ghost use Rattle.table_load.specs.Cells.{FitsSchema, SecretView};
+ghost use Rattle.table_load.specs.Cells.{FitsSchema};
 ghost use Rattle.table_load.specs.Database.{base_of};
 ghost use Rattle.bench_core.specs.BenchContents.{file_of, sent_of};
 ghost use Rattle.bench_core.specs.Calls.{IsQuiet};
@@ -28,7 +29,7 @@ use bench_core::{Bench, Failed, MemoryBench, Room, SteadySource};
 use drill_case::laws::lines_of_replies;
 use drill_case::{drill_lines, drill_schema, drill_table, summary, tally};
 use schema_json::{Schema, SchemaFault};
-use set_index::Index;
+use set_index::{Index, IndexFault};
 use std::alloc::Global;
 use table_load::{Secret, Table, TableFault};
 
@@ -66,11 +67,12 @@ fn answer_over(
     bench: &mut MemoryBench,
 ) -> Result<(), NoMemory>
     requires usable { store.old.usable ≡ true }
-    requires fits { FitsSchema schema.now.columns index.now }
-    requires shape { store.old.secret.shape ≡ shape_of schema.now.columns index.now.rows }
+    requires entries { index.now.protected ≡ store.old.protected }
+    requires fits { FitsSchema schema.now.columns index.now.public }
+    requires shape { store.old.secret.shape ≡ shape_of schema.now.columns index.now.public.rows }
     requires stands { IsAsLeft (file_of bench.old) store.old }
     requires short { length lines.items ≤ 60000 }
-    ensures { OnOk result (Serves (base_of schema.now.columns index.now store.old.secret) store.old.history (counted_lines lines.items) store.new.history (sent_of bench.old) (sent_of bench.new)) }
+    ensures { OnOk result (Serves (base_of schema.now.columns index.now.public index.now.protected store.old.secret) store.old.history (counted_lines lines.items) store.new.history (sent_of bench.old) (sent_of bench.new)) }
 {
     let mut source = SteadySource::new(lines);
     match audit_session::serve(alloc, schema, index, store, &mut source, bench, 1) {
@@ -91,14 +93,15 @@ fn answer(
     lines: Vec<u8>,
     bench: &mut MemoryBench,
 ) -> Result<(), NoMemory>
-    requires fits { FitsSchema schema.now.columns index.now }
-    requires shape { secret.shape ≡ shape_of schema.now.columns index.now.rows }
+    requires fits { FitsSchema schema.now.columns index.now.public }
+    requires none { index.now.protected ≡ [] }
+    requires shape { secret.shape ≡ shape_of schema.now.columns index.now.public.rows }
     requires stands { StandsFor (file_of bench.old) secret.shape [] }
     requires short { length lines.items ≤ 60000 }
-    ensures { OnOk result ((last : List Answered) × Serves (base_of schema.now.columns index.now secret) [] (counted_lines lines.items) last (sent_of bench.old) (sent_of bench.new)) }
+    ensures { OnOk result ((last : List Answered) × Serves (base_of schema.now.columns index.now.public index.now.protected secret) [] (counted_lines lines.items) last (sent_of bench.old) (sent_of bench.new)) }
 {
     journal_form::laws::one_reading();
-    match Store::start(alloc, secret, bench) {
+    match Store::start(alloc, secret, Vec::new(alloc), bench) {
         Ok(mut store) => answer_over(alloc, schema, index, &mut store, lines, bench),
         Err(fault) => match fault {
             StartFault::Failed | StartFault::NoMemory => Err(NoMemory),
@@ -117,9 +120,10 @@ fn answer_lines(
     bench: &mut MemoryBench,
 ) -> Result<(), NoMemory>
     requires columns { schema.now.columns ≡ drill_columns }
-    requires public { index.now ≡ drill_public number }
+    requires public { index.now.public ≡ drill_public number }
+    requires none { index.now.protected ≡ [] }
     requires secret { secret ≡ drill_secret number }
-    requires fits { FitsSchema schema.now.columns index.now }
+    requires fits { FitsSchema schema.now.columns index.now.public }
     requires empty { file_of bench.old ≡ [] }
     requires unsent { sent_of bench.old ≡ [] }
     ensures replies { OnOk result (AnswersDrill number (sent_of bench.new)) }
@@ -139,6 +143,7 @@ fn answer_table(
     bench: &mut MemoryBench,
 ) -> Result<u16, NoMemory>
     requires columns { schema.now.columns ≡ drill_columns }
+    requires groups { schema.now.groups ≡ [] }
     requires public { table.public ≡ drill_public number }
     requires secret { table.secret ≡ drill_secret number }
     requires fits { FitsSchema schema.now.columns table.public }
@@ -150,7 +155,13 @@ fn answer_table(
 {
     let Table { public, secret } = table;
     let rows = public.rows();
-    let index = Index::new(alloc, public)?;
+    let index = match Index::new(alloc, schema, public) {
+        Ok(index) => index,
+        Err(fault) => match fault {
+            IndexFault::NoMemory => return Err(NoMemory),
+            IndexFault::BadGroup { .. } => unreachable!(),
+        },
+    };
     answer_lines(alloc, number, schema, &index, secret, bench)?;
     Ok(rows)
 }
@@ -183,7 +194,7 @@ fn write_summary(alloc: Global, number: u32, out: &mut [u8; 160]) -> Result<usiz
 pub fn drill<B: Bench>(alloc: Global, number: u32, bench: &mut B) -> Status
     // Each status has its cause.
     ensures word_cause { WordCause result (Some (Drill number)) }
-    ensures file_cause { (file : List ℕ) (secret : SecretView) → FileCause result (Drill number) file secret }
+    ensures file_cause { (file : List ℕ) (table : Guarded) → FileCause result (Drill number) file table }
     ensures own_schema_fault { result ≢ Status.BadSchema SchemaFault.NoMemory }
     ensures own_table_fault { result ≢ Status.BadTable TableFault.NoMemory }
     ensures no_source { (which : Which) → result ≢ Status.SourceFault which }

@@ -11,9 +11,8 @@ ghost use Rattle.auditor_top.specs.Files.{GivesSchema, GivesTable, GivesPublic};
 use crate::reading::{ReadFault, read_all};
 use bench_core::Source;
 use schema_json::{MOST_SCHEMA, Schema, SchemaFault, read_schema};
-use set_index::Index;
 use std::alloc::Global;
-use table_load::{MOST_TABLE, Table, TableFault, load, load_public};
+use table_load::{MOST_TABLE, Public, Table, TableFault, load, load_public};
 
 /// Why a file gives nothing.
 #[derive(Drop)]
@@ -97,32 +96,29 @@ pub fn table_from<P: Source>(
     }
 }
 
-// The public part that bytes mean over the columns of a schema, ready to be asked.
-fn index_in(alloc: Global, schema: &Schema, bytes: &[u8]) -> Result<Index, FileFault<TableFault>>
+// The public part that bytes mean over the columns of a schema.
+fn public_in(alloc: Global, schema: &Schema, bytes: &[u8]) -> Result<Public, FileFault<TableFault>>
     ensures means { GivesPublic result (public_of schema.now.columns bytes.now) }
-    ensures fits { IfOk result (λ index. FitsSchema schema.now.columns index) }
+    ensures fits { IfOk result (λ public. FitsSchema schema.now.columns public) }
     ensures own { result ≢ Err (FileFault.Bad TableFault.NoMemory) }
     ensures all_read { result ≢ Err FileFault.Failed }
 {
     match load_public(alloc, schema, bytes) {
-        Ok(public) => match Index::new(alloc, public) {
-            Ok(index) => Ok(index),
-            Err(_) => Err(FileFault::NoMemory),
-        },
+        Ok(public) => Ok(public),
         Err(TableFault::NoMemory) => Err(FileFault::NoMemory),
         Err(fault) => Err(FileFault::Bad(fault)),
     }
 }
 
-/// The public part that a source's bytes mean over the columns of a schema, where the file has the public columns alone, ready
-/// to be asked. It reads until the bytes are more than a table may have.
-pub fn index_from<P: Source>(
+/// The public part that a source's bytes mean over the columns of a schema, where the file has the public columns alone. It reads until
+/// the bytes are more than a table may have.
+pub fn public_from<P: Source>(
     alloc: Global,
     schema: &Schema,
     source: &mut P,
-) -> Result<Index, FileFault<TableFault>>
+) -> Result<Public, FileFault<TableFault>>
     ensures means { P.told → GivesPublic result (public_of schema.now.columns (P.left source.old)) }
-    ensures fits { IfOk result (λ index. FitsSchema schema.now.columns index) }
+    ensures fits { IfOk result (λ public. FitsSchema schema.now.columns public) }
     ensures own { result ≢ Err (FileFault.Bad TableFault.NoMemory) }
     ensures within { P.told → result ≡ Err FileFault.Failed → length (P.left source.old) ≤ most_table + length (P.left source.new) }
     ensures later { P.faults source.old ≤ P.faults source.new }
@@ -131,7 +127,7 @@ pub fn index_from<P: Source>(
     ensures steady { (result ≡ Err FileFault.Failed → ⊥) → P.faults source.new ≡ P.faults source.old }
 {
     match read_all(alloc, source, MOST_TABLE) {
-        Ok(bytes) => index_in(alloc, schema, &bytes),
+        Ok(bytes) => public_in(alloc, schema, &bytes),
         Err(ReadFault::Failed) => Err(FileFault::Failed),
         Err(ReadFault::NoMemory) => Err(FileFault::NoMemory),
     }

@@ -3,16 +3,15 @@
 //! `run` is the one call, and the theorem of the product stands on its contract.
 #![tactic(auto)]
 
-mod auditing;
 mod drilling;
+mod ends;
 mod files;
-mod init;
 pub mod laws;
 mod opening;
 mod reading;
+mod ready;
 mod running;
-mod serving;
-mod simulating;
+mod starting;
 mod status;
 mod words;
 

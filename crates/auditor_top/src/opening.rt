@@ -1,6 +1,6 @@
 //! The files that every command over a table stands on: the schema, and the table over it.
 ghost use Rattle.std.specs.Prelude.{◌≡◌, ◌≢◌, ◌≤◌, ◌+◌, ℕ, true, List, length, IfOk, IfErr, OnOk, Ok, Err};
-ghost use Rattle.schema_json.specs.Columns.{Column};
+ghost use Rattle.schema_json.specs.Columns.{SchemaView};
 ghost use Rattle.schema_json.specs.Reading.{schema_of, most_schema};
 ghost use Rattle.table_load.specs.Reading.{most_table};
 ghost use Rattle.schema_json.specs.SecretShape.{shape_of};
@@ -11,12 +11,11 @@ ghost use Rattle.auditor_top.specs.Causes.{FaultCause, SchemaCause, TableCause, 
 ghost use Rattle.auditor_top.specs.Stages.{Before, reading_table};
 ghost use Rattle.auditor_top.specs.Status.{open_status};
 
-use crate::files::{FileFault, index_from, schema_from, table_from};
+use crate::files::{FileFault, public_from, schema_from, table_from};
 use bench_core::Source;
 use schema_json::{Schema, SchemaFault};
-use set_index::Index;
 use std::alloc::Global;
-use table_load::{Secret, Table, TableFault};
+use table_load::{Public, Table, TableFault};
 
 /// A table, and the schema that it was read by.
 #[derive(Drop)]
@@ -25,18 +24,11 @@ pub struct Opened {
     pub table: Table,
 }
 
-/// The public part of a table, ready to be asked, and the schema that it was read by.
+/// The public part of a table, and the schema that it was read by.
 #[derive(Drop)]
 pub struct OpenedPublic {
     pub schema: Schema,
-    pub index: Index,
-}
-
-/// The secret part of a table, whose public part is dropped.
-pub fn secret_of(table: Table) -> Secret
-    ensures { result ≡ table.secret }
-{
-    table.secret
+    pub public: Public,
 }
 
 /// Why the files of a table weren't opened: the first of them that gives nothing, with what is wrong with it.
@@ -52,15 +44,15 @@ pub fn open_table<P: Source>(
     schema: &mut P,
     table: &mut P,
 ) -> Result<Opened, OpenFault>
-    ensures schema_is { P.told → IfOk result (λ opened. schema_of (P.left schema.old) ≡ Ok opened.schema.columns) }
+    ensures schema_is { P.told → IfOk result (λ opened. schema_of (P.left schema.old) ≡ Ok opened.schema) }
     ensures table_is { P.told → IfOk result (λ opened. table_of opened.schema.columns (P.left table.old) ≡ Ok (table_view opened.table)) }
     ensures fits { IfOk result (λ opened. FitsSchema opened.schema.columns opened.table.public) }
     ensures shape { IfOk result (λ opened. opened.table.secret.shape ≡ shape_of opened.schema.columns opened.table.public.rows) }
 
     // A fault is the first that there is. The table is read only over a schema without fault.
     ensures schema_cause { P.told → IfErr result (λ fault. SchemaCause (open_status fault) (schema_of (P.left schema.old))) }
-    ensures table_cause { P.told → (columns : List Column) → schema_of (P.left schema.old) ≡ Ok columns
-        → IfErr result (λ fault. TableCause (open_status fault) (table_of columns (P.left table.old))) }
+    ensures table_cause { P.told → (meant : SchemaView) → schema_of (P.left schema.old) ≡ Ok meant
+        → IfErr result (λ fault. TableCause (open_status fault) (table_of meant.columns (P.left table.old))) }
     ensures own_schema_fault { result ≢ Err (OpenFault.Schema (FileFault.Bad SchemaFault.NoMemory)) }
     ensures own_table_fault { result ≢ Err (OpenFault.Table (FileFault.Bad TableFault.NoMemory)) }
     ensures schema_within { P.told → result ≡ Err (OpenFault.Schema FileFault.Failed) → length (P.left schema.old) ≤ most_schema + length (P.left schema.new) }
@@ -89,14 +81,14 @@ pub fn open_public<P: Source>(
     schema: &mut P,
     table: &mut P,
 ) -> Result<OpenedPublic, OpenFault>
-    ensures schema_is { P.told → IfOk result (λ opened. schema_of (P.left schema.old) ≡ Ok opened.schema.columns) }
-    ensures public_is { P.told → IfOk result (λ opened. public_of opened.schema.columns (P.left table.old) ≡ Ok opened.index) }
-    ensures fits { IfOk result (λ opened. FitsSchema opened.schema.columns opened.index) }
+    ensures schema_is { P.told → IfOk result (λ opened. schema_of (P.left schema.old) ≡ Ok opened.schema) }
+    ensures public_is { P.told → IfOk result (λ opened. public_of opened.schema.columns (P.left table.old) ≡ Ok opened.public) }
+    ensures fits { IfOk result (λ opened. FitsSchema opened.schema.columns opened.public) }
 
     // A fault is the first that there is. The table is read only over a schema without fault.
     ensures schema_cause { P.told → IfErr result (λ fault. SchemaCause (open_status fault) (schema_of (P.left schema.old))) }
-    ensures public_cause { P.told → (columns : List Column) → schema_of (P.left schema.old) ≡ Ok columns
-        → IfErr result (λ fault. TableCause (open_status fault) (public_of columns (P.left table.old))) }
+    ensures public_cause { P.told → (meant : SchemaView) → schema_of (P.left schema.old) ≡ Ok meant
+        → IfErr result (λ fault. TableCause (open_status fault) (public_of meant.columns (P.left table.old))) }
     ensures own_schema_fault { result ≢ Err (OpenFault.Schema (FileFault.Bad SchemaFault.NoMemory)) }
     ensures own_table_fault { result ≢ Err (OpenFault.Table (FileFault.Bad TableFault.NoMemory)) }
     ensures schema_within { P.told → result ≡ Err (OpenFault.Schema FileFault.Failed) → length (P.left schema.old) ≤ most_schema + length (P.left schema.new) }
@@ -113,8 +105,8 @@ pub fn open_public<P: Source>(
         Ok(schema) => schema,
         Err(fault) => return Err(OpenFault::Schema(fault)),
     };
-    match index_from(alloc, &schema, table) {
-        Ok(index) => Ok(OpenedPublic { schema, index }),
+    match public_from(alloc, &schema, table) {
+        Ok(public) => Ok(OpenedPublic { schema, public }),
         Err(fault) => Err(OpenFault::Table(fault)),
     }
 }

@@ -4,12 +4,14 @@ ghost use Rattle.auditor_top.specs.Status as spec;
 
 use crate::files::FileFault;
 use crate::opening::OpenFault;
+use crate::starting::NotStarted;
 use answer_journal::MakeFault;
 use audit_session::EndFault;
 use audit_store::StartFault;
 use audit_types::{NoMemory, Shape};
 use journal_audit::AuditFault;
 use schema_json::SchemaFault;
+use set_index::IndexFault;
 use std::alloc::Global;
 use std::fmt;
 use table_load::TableFault;
@@ -54,6 +56,8 @@ pub enum Status {
     InputLimit,
     /// The line of the transcript, from 1, that is the first reply which doesn't agree, and the verdict on its question.
     Disagrees { line: u64, due: Due },
+    /// The first group of the schema, from 0, whose column isn't one of sums, or whose condition is none.
+    BadGroup { place: u8 },
     /// Memory ran out.
     NoMemory,
 }
@@ -77,6 +81,20 @@ impl From<OpenFault> for Status {
     }
 }
 
+impl From<IndexFault> for Status {
+    ghost use Rattle.std.specs.Prelude.{◌≡◌};
+    ghost use Rattle.auditor_top.specs.Status.{index_status};
+
+    ghost from_gives = { λ fault status. status ≡ index_status fault };
+
+    fn from(fault: IndexFault) -> Status {
+        match fault {
+            IndexFault::BadGroup { place } => Status::BadGroup { place },
+            IndexFault::NoMemory => Status::NoMemory,
+        }
+    }
+}
+
 impl From<MakeFault> for Status {
     ghost use Rattle.std.specs.Prelude.{◌≡◌};
     ghost use Rattle.auditor_top.specs.Status.{make_status};
@@ -87,6 +105,20 @@ impl From<MakeFault> for Status {
         match fault {
             MakeFault::AlreadyThere => Status::AlreadyThere,
             MakeFault::Failed => Status::BenchFault,
+        }
+    }
+}
+
+impl From<NotStarted> for Status {
+    ghost use Rattle.std.specs.Prelude.{◌≡◌};
+    ghost use Rattle.auditor_top.specs.Status.{started_status};
+
+    ghost from_gives = { λ fault status. status ≡ started_status fault };
+
+    fn from(fault: NotStarted) -> Status {
+        match fault {
+            NotStarted::Groups(fault) => Status::from(fault),
+            NotStarted::Journal(fault) => Status::from(fault),
         }
     }
 }
@@ -205,7 +237,8 @@ fn words_of(status: &Status) -> &'static str
         | Status::OtherShape { .. }
         | Status::Untrue { .. }
         | Status::Illegal { .. }
-        | Status::Disagrees { .. } => "",
+        | Status::Disagrees { .. }
+        | Status::BadGroup { .. } => "",
     }
 }
 
@@ -234,6 +267,7 @@ impl fmt::Display for Status {
                 write!(f, "record {place} should not have been released")
             }
             Status::Disagrees { line, due } => write!(f, "line {line} disagrees, due {due}"),
+            Status::BadGroup { place } => write!(f, "schema: group {place} is bad"),
             plain => f.write_str(words_of(plain)),
         }
     }
@@ -258,6 +292,7 @@ pub fn status_code(status: &Status) -> u8
         Status::Illegal { .. } => 12,
         Status::InputLimit => 13,
         Status::Disagrees { .. } => 14,
+        Status::BadGroup { .. } => 16,
         Status::NoMemory => 15,
     }
 }

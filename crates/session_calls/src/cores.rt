@@ -1,8 +1,8 @@
 //! Verdicts of a core over sums and maxima, before and after they are answered, by hand.
-ghost use Rattle.std.specs.Prelude.{◌≡◌, ◌×◌, IfOk};
+ghost use Rattle.std.specs.Prelude.{◌≡◌, IfOk};
 ghost use Rattle.audit_types.specs.Shapes.{columns};
 
-use crate::staff::people;
+use crate::people::people;
 use audit_core::Core;
 use audit_types::{Answered, Asked, NoMemory, Shape, Verdict};
 use std::alloc::Global;

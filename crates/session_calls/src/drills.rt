@@ -1,6 +1,6 @@
 //! A drill taken by hand through the calls that make a journal, start a store and serve its lines, in groups of 64. What became of the
 //! lines is counted here, and was worked out by demo/drill.py.
-ghost use Rattle.std.specs.Prelude.{◌≡◌, ◌≤◌, [], length, OnOk};
+ghost use Rattle.std.specs.Prelude.{◌≡◌, [], true, OnOk};
 ghost use Rattle.audit_types.specs.Shapes.{IsShape};
 ghost use Rattle.schema_json.specs.SecretShape.{shape_of};
 ghost use Rattle.table_load.specs.Cells.{FitsSchema};
@@ -98,7 +98,7 @@ fn counts(alloc: Global, number: u32) -> Result<(usize, usize, usize), NoMemory>
     };
     let answers = lines().filter(is_answer).count();
     let denials = lines()
-        .filter(|line| **line == *b"{\"denied\":\"unsafe\"}")
+        .filter(|line| *line == b"{\"denied\":\"unsafe\"}".as_slice())
         .count();
     Ok((lines().count(), answers, denials))
 }

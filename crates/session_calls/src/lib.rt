@@ -1,6 +1,5 @@
-//! Calls over a whole core, an index, a store and a session, of which some are made by no command: verdicts of a core and the order of
-//! an index by hand, the lists of a report checked as they are printed, and a drill taken through its calls one by one. It has tests
-//! alone, so that no other library is proved a second time with its tests.
+//! Calls over a whole core, a store and a session: verdicts of a core by hand, and a drill taken through its calls one by one. It has
+//! tests alone, so that no other library is proved a second time with its tests.
 #![tactic(auto)]
 
 #[cfg(test)]
@@ -8,8 +7,4 @@ mod cores;
 #[cfg(test)]
 mod drills;
 #[cfg(test)]
-mod orders;
-#[cfg(test)]
-mod reports;
-#[cfg(test)]
-mod staff;
+mod people;

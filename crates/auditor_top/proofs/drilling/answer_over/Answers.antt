@@ -5,6 +5,7 @@ pub serve-requires : goal.serve-requires
 serve-requires c = record {
   usable = c.requires.usable;
   fits = c.requires.fits;
+  entries = c.requires.entries;
   shape = c.requires.shape;
   stands = λ told. c.requires.stands;
   batch = search rules;

@@ -1,5 +1,5 @@
-use Rattle.std.proofs.Common.{List, refl, subst}
-use Rattle.schema_json.specs.Columns.{Column}
+use Rattle.std.proofs.Common.{refl, subst}
+use Rattle.schema_json.specs.Columns.{SchemaView}
 use Rattle.table_load.specs.Tables.{table_of}
 use Rattle.auditor_top.specs.Files.{IsFaultOf}
 use Rattle.auditor_top.proofs.OneTable.{same_ok}
@@ -18,7 +18,7 @@ returns-in-Err g c = record {
   fits = tt;
   shape = tt;
   schema_cause = λ told. schema_says c.in-Err.fault _ (c.in-Err.ensures.means told);
-  table_cause = λ told columns is. schema_only c.in-Err.fault _;
+  table_cause = λ told meant is. schema_only c.in-Err.fault _;
   own_schema_fault = λ is. c.in-Err.ensures.own (same_schema_fault _ _ is);
   own_table_fault = not_table _ _;
   schema_within = λ told is. c.in-Err.ensures.within told (same_schema_fault _ _ is);
@@ -43,8 +43,8 @@ returns-in-Err-table_from g c =
       fits = tt;
       shape = tt;
       schema_cause = λ told. past_schema fault _ _ (c.in-Ok.ensures.means told);
-      table_cause = λ told columns is.
-          table_says fault _ (subst (λ (cs : List Column). IsFaultOf fault (table_of cs bytes)) (same_ok _ _ _ (c.in-Ok.ensures.means told) is)
+      table_cause = λ told meant is.
+          table_says fault _ (subst (λ (s : SchemaView). IsFaultOf fault (table_of s.columns bytes)) (same_ok _ _ _ (c.in-Ok.ensures.means told) is)
           (c.in-Err-table_from.ensures.means told));
       own_schema_fault = not_schema _ _;
       own_table_fault = λ is. c.in-Err-table_from.ensures.own (same_table_fault _ _ is);
@@ -69,7 +69,7 @@ returns-in-Ok-table_from g c = record {
   fits = c.in-Ok-table_from.ensures.fits;
   shape = c.in-Ok-table_from.ensures.shape;
   schema_cause = λ told. tt;
-  table_cause = λ told columns is. tt;
+  table_cause = λ told meant is. tt;
   own_schema_fault = not_both _ _;
   own_table_fault = not_both _ _;
   schema_within = λ told is. absurd (not_both _ _ is);

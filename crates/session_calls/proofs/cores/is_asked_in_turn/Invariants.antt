@@ -1,4 +1,4 @@
-use Rattle.std.proofs.Common.{◌≡◌, ◌×◌}
+use Rattle.std.proofs.Common.{◌≡◌}
 use Rattle.audit_types.specs.Shapes.{columns}
 use Rattle.session_calls.proofs.cores.is_asked_in_turn.Given as goal
 

@@ -34,10 +34,16 @@ returns-in-Disagrees-clause-writes g c = λ plain ok.
     c.write-in-Disagrees.ensures.writes plain ok in
     subst (λ (s : Status). HasWritten g.W.Write.write_str_gives c.args.f.now (status_text s) c.write-in-Disagrees.new.self) (sym c.in-Disagrees.is) wrote
 
+pub returns-in-BadGroup-clause-writes : goal.returns-in-BadGroup-clause-writes
+returns-in-BadGroup-clause-writes g c = λ plain ok.
+    let wrote : HasWritten g.W.Write.write_str_gives c.args.f.now (codes "schema: group " ++ (decimal c.in-BadGroup.place ++ codes " is bad"))
+    c.write-in-BadGroup.new.self = c.write-in-BadGroup.ensures.writes plain ok in
+    subst (λ (s : Status). HasWritten g.W.Write.write_str_gives c.args.f.now (status_text s) c.write-in-BadGroup.new.self) (sym c.in-BadGroup.is) wrote
+
 pub returns-in_default-clause-writes : goal.returns-in_default-clause-writes
 returns-in_default-clause-writes g c = λ plain ok.
     let status = c.args.self.now in
     let words = tells_no_number status c.in_default.not-BadSchema c.in_default.not-BadTable c.in_default.not-Damaged c.in_default.not-OtherShape
-    c.in_default.not-Untrue c.in_default.not-Illegal c.in_default.not-Disagrees in
+    c.in_default.not-Untrue c.in_default.not-Illegal c.in_default.not-Disagrees c.in_default.not-BadGroup in
     subst (λ (text : List ℕ). HasWritten g.W.Write.write_str_gives c.args.f.now text c.write_str.new.self) (c.words_of.ensures ∙ words)
     (c.write_str.ensures.writes plain ok)

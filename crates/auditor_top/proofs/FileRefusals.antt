@@ -1,0 +1,185 @@
+-- What a refusal says: the files weren't opened, or the journal wasn't.
+use Rattle.std.proofs.Common.{◌≡◌, ◌≢◌, ◌≤◌, ◌+◌, ℕ, true, List, length, Some, Result, Ok, refl, subst}
+use Rattle.bench_core.specs.declared.bench.Bench.{Ghosts}
+use Rattle.bench_core.specs.declared.source.Source as source
+use Rattle.schema_json.specs.Columns.{Column, Group, SchemaView}
+use Rattle.schema_json.specs.Reading.{schema_of, most_schema}
+use Rattle.schema_json.specs.declared.faults.SchemaFault.{SchemaFault}
+use Rattle.schema_json.specs.declared.faults.SchemaFault.TheVariants as schema_fault
+use Rattle.table_load.specs.Cells.{PublicView, TableView}
+use Rattle.table_load.specs.Database.{Database}
+use Rattle.table_load.specs.Reading.{most_table}
+use Rattle.table_load.specs.Tables.{table_of, public_of}
+use Rattle.table_load.specs.declared.faults.TableFault.{TableFault}
+use Rattle.table_load.specs.declared.faults.TableFault.TheVariants as table_fault
+use Rattle.audit_types.specs.History.{Table as Guarded}
+use Rattle.set_index.specs.Indexed.{IndexView}
+use Rattle.table_load.specs.Database.{table_in}
+use Rattle.auditor_top.specs.declared.files.FileFault.{FileFault}
+use Rattle.auditor_top.specs.declared.files.FileFault.TheVariants as file
+use Rattle.auditor_top.specs.declared.opening.OpenFault.{OpenFault}
+use Rattle.auditor_top.specs.declared.opening.OpenFault.TheVariants as opening
+use Rattle.auditor_top.specs.declared.words.Command.{Command}
+use Rattle.auditor_top.specs.declared.words.Command.TheVariants as command
+use Rattle.auditor_top.specs.declared.status.Which.TheVariants.{Schema, Table}
+use Rattle.auditor_top.specs.declared.status.Status.TheVariants.{BadSchema, BadTable, SourceFault, BenchFault}
+use Rattle.auditor_top.specs.Status.{open_status}
+use Rattle.auditor_top.specs.Causes.{FaultCause, WordCause, SchemaCause, TableCause, GroupCause, FileCause, counts}
+use Rattle.auditor_top.specs.Commands.{AreFilesOf, ArePublicFilesOf, reads_files, reads_secrets}
+use Rattle.auditor_top.specs.Ready.{EndsEarly, GivesUp, IsGiven, Refuses}
+use Rattle.auditor_top.specs.Stages.{Before, reading_table, opening_journal}
+use Rattle.auditor_top.proofs.StepFaults.{not_both}
+use Rattle.auditor_top.proofs.StepStatuses.{always_before}
+
+-- ---- the files weren't opened
+
+-- what its status says
+record FileRefusal (fault : OpenFault) : Type 1 where
+  pub words : (asked : Command) → reads_files asked ≡ true → WordCause (open_status fault) (Some asked)
+  pub journal : (asked : Command) (bytes : List ℕ) (table : Guarded) → FileCause (open_status fault) asked bytes table
+  pub early : EndsEarly (open_status fault)
+  pub groups : (columns : List Column) (groups : List Group) → GroupCause (open_status fault) columns groups
+  pub own_schema : open_status fault ≡ BadSchema schema_fault.NoMemory → fault ≡ opening.Schema (file.Bad schema_fault.NoMemory)
+  pub own_table : open_status fault ≡ BadTable table_fault.NoMemory → fault ≡ opening.Table (file.Bad table_fault.NoMemory)
+  pub schema : open_status fault ≡ SourceFault Schema → fault ≡ opening.Schema file.Failed
+  pub table : open_status fault ≡ SourceFault Table → fault ≡ opening.Table file.Failed
+  pub no_bench : open_status fault ≢ BenchFault
+  pub gives_up : (X : Type 0) (schema : SchemaView) (meant : X) → SchemaCause (open_status fault) (Ok schema) → TableCause (open_status fault) (Ok meant) →
+      GivesUp (open_status fault)
+
+schema_refusal : (fault : FileFault SchemaFault) → FileRefusal (opening.Schema fault)
+schema_refusal file.Failed = record {
+  words = λ asked reads. reads;
+  journal = λ asked bytes table. tt;
+  early = tt;
+  groups = λ columns groups. tt;
+  own_schema = λ is. cc;
+  own_table = λ is. cc;
+  schema = λ is. refl;
+  table = λ is. cc;
+  no_bench = λ is. cc;
+  gives_up = λ X view meant schema table. tt;
+}
+schema_refusal file.NoMemory = record {
+  words = λ asked reads. tt;
+  journal = λ asked bytes table. tt;
+  early = tt;
+  groups = λ columns groups. tt;
+  own_schema = λ is. cc;
+  own_table = λ is. cc;
+  schema = λ is. cc;
+  table = λ is. cc;
+  no_bench = λ is. cc;
+  gives_up = λ X view meant schema table. tt;
+}
+schema_refusal (file.Bad f) = record {
+  words = λ asked reads. reads;
+  journal = λ asked bytes table. tt;
+  early = tt;
+  groups = λ columns groups. tt;
+  own_schema = λ is. cc;
+  own_table = λ is. cc;
+  schema = λ is. cc;
+  table = λ is. cc;
+  no_bench = λ is. cc;
+  gives_up = λ X view meant schema table. absurd (not_both view f schema);
+}
+
+table_refusal : (fault : FileFault TableFault) → FileRefusal (opening.Table fault)
+table_refusal file.Failed = record {
+  words = λ asked reads. reads;
+  journal = λ asked bytes table. tt;
+  early = tt;
+  groups = λ columns groups. tt;
+  own_schema = λ is. cc;
+  own_table = λ is. cc;
+  schema = λ is. cc;
+  table = λ is. refl;
+  no_bench = λ is. cc;
+  gives_up = λ X view meant schema table. tt;
+}
+table_refusal file.NoMemory = record {
+  words = λ asked reads. tt;
+  journal = λ asked bytes table. tt;
+  early = tt;
+  groups = λ columns groups. tt;
+  own_schema = λ is. cc;
+  own_table = λ is. cc;
+  schema = λ is. cc;
+  table = λ is. cc;
+  no_bench = λ is. cc;
+  gives_up = λ X view meant schema table. tt;
+}
+table_refusal (file.Bad f) = record {
+  words = λ asked reads. reads;
+  journal = λ asked bytes table. tt;
+  early = tt;
+  groups = λ columns groups. tt;
+  own_schema = λ is. cc;
+  own_table = λ is. cc;
+  schema = λ is. cc;
+  table = λ is. cc;
+  no_bench = λ is. cc;
+  gives_up = λ X view meant schema table. absurd (not_both meant f table);
+}
+
+file_refusal : (fault : OpenFault) → FileRefusal fault
+file_refusal (opening.Schema fault) = schema_refusal fault
+file_refusal (opening.Table fault) = table_refusal fault
+
+-- so a command that stands on the files is refused, by what opening them says
+module _ {P B : Type 0} (files : source.Ghosts P) (bench : Ghosts B) (asked : Command) (schema later_schema table later_table : P) (at : B) (fault : OpenFault)
+    (stands_on : reads_files asked ≡ true) (schema_cause : files.told → SchemaCause (open_status fault) (schema_of (files.left schema)))
+    (own_schema : fault ≢ opening.Schema (file.Bad schema_fault.NoMemory)) (own_table : fault ≢ opening.Table (file.Bad table_fault.NoMemory))
+    (schema_within : files.told → fault ≡ opening.Schema file.Failed → length (files.left schema) ≤ most_schema + length (files.left later_schema))
+    (table_within : files.told → fault ≡ opening.Table file.Failed → length (files.left table) ≤ most_table + length (files.left later_table))
+    (faults : (input now spare : ℕ) → FaultCause (open_status fault) (counts (files.faults schema) (files.faults table) input now spare)
+    (counts (files.faults later_schema) (files.faults later_table) input now spare))
+    (schema_last : fault ≡ opening.Schema file.Failed → files.last_failed later_schema ≡ true)
+    (table_last : fault ≡ opening.Table file.Failed → files.last_failed later_table ≡ true)
+    (untouched : Before reading_table (open_status fault) (later_table ≡ table)) where
+  pub files_refused : (files.told → reads_secrets asked ≡ true → (meant : SchemaView) → schema_of (files.left schema) ≡ Ok meant →
+      TableCause (open_status fault) (table_of meant.columns (files.left table))) →
+      (files.told → asked ≡ command.Simulate → (meant : SchemaView) → schema_of (files.left schema) ≡ Ok meant →
+      TableCause (open_status fault) (public_of meant.columns (files.left table))) →
+      (files.told → IsGiven asked (files.left schema) (files.left table) (bench.file at) → GivesUp (open_status fault)) →
+      Refuses files bench asked (open_status fault) schema later_schema table later_table at at
+  files_refused table_cause public_cause gives_up =
+      let says = file_refusal fault in
+      record {
+        words = says.words asked stands_on;
+        schema = λ ptold reads. schema_cause ptold;
+        table = table_cause;
+        public = public_cause;
+        groups = λ ptold reads meant is. says.groups meant.columns meant.groups;
+        file = λ ptold told base given sound. says.journal asked (bench.file at) (table_in base);
+        own_schema_fault = λ is. own_schema (says.own_schema is);
+        own_table_fault = λ is. own_table (says.own_table is);
+        schema_within = λ ptold is. schema_within ptold (says.schema is);
+        table_within = λ ptold is. table_within ptold (says.table is);
+        early = says.early;
+        gives_up = λ ptold told given. gives_up ptold given;
+        faults = λ input spare. faults input (bench.faults at) spare;
+        schema_last = λ is. schema_last (says.schema is);
+        table_last = λ is. table_last (says.table is);
+        bench_last = λ is. absurd (says.no_bench is);
+        before_table = untouched;
+        before_bench = always_before opening_journal (open_status fault) refl;
+      }
+
+-- nothing that is given has a fault, so a call failed or memory ran out
+pub gives_up_over : (fault : OpenFault) (schema table : List ℕ) (base : Database) → AreFilesOf schema table base →
+    SchemaCause (open_status fault) (schema_of schema) →
+    ((meant : SchemaView) → schema_of schema ≡ Ok meant → TableCause (open_status fault) (table_of meant.columns table)) → GivesUp (open_status fault)
+gives_up_over fault schema table base given schema_cause table_cause =
+    (file_refusal fault).gives_up TableView (record { columns = base.columns; groups = given.groups }) (record { public = base.public; secret = base.secret })
+    (subst (λ (r : Result SchemaView SchemaFault). SchemaCause (open_status fault) r) given.schema_is schema_cause)
+    (subst (λ (r : Result TableView TableFault). TableCause (open_status fault) r) given.table_is (table_cause (record { columns = base.columns; groups = given.groups }) given.schema_is))
+
+pub gives_up_public : (fault : OpenFault) (schema table : List ℕ) (columns : List Column) (index : IndexView) → ArePublicFilesOf schema table columns index →
+    SchemaCause (open_status fault) (schema_of schema) →
+    ((meant : SchemaView) → schema_of schema ≡ Ok meant → TableCause (open_status fault) (public_of meant.columns table)) → GivesUp (open_status fault)
+gives_up_public fault schema table columns index given schema_cause table_cause =
+    (file_refusal fault).gives_up PublicView (record { columns = columns; groups = given.groups }) index.public
+    (subst (λ (r : Result SchemaView SchemaFault). SchemaCause (open_status fault) r) given.schema_is schema_cause)
+    (subst (λ (r : Result PublicView TableFault). TableCause (open_status fault) r) given.public_is (table_cause (record { columns = columns; groups = given.groups }) given.schema_is))

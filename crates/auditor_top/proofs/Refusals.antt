@@ -1,0 +1,163 @@
+-- What a run does whose command never went on: its files or its journal were refused, a call failed, or memory ran out.
+use Rattle.std.proofs.Common.{◌≡◌, ℕ, true, false, List, [], Option, Some, refl, sym, ◌∙◌, subst, inl, inr}
+use Rattle.std.proofs.lemmas.Bool.{false≢true}
+use Rattle.std.proofs.lemmas.List.{append-nil}
+use Rattle.audit_types.specs.declared.records.Answered.{Answered}
+use Rattle.audit_types.specs.History.{IsLegal, IsUndisclosed}
+use Rattle.bench_core.specs.declared.bench.Bench.{Ghosts}
+use Rattle.bench_core.specs.declared.source.Source as source
+use Rattle.bench_core.specs.Calls.{IsQuiet, IsUntouched, OnlyReads}
+use Rattle.bench_core.specs.Moments.{started, weakens}
+use Rattle.table_load.specs.Database.{Database, table_in}
+use Rattle.journal_form.specs.Journal.{StandsFor}
+use Rattle.answer_journal.specs.Moments.{IsMade}
+use Rattle.line_wire.specs.Lines.{CountedLine, counted_lines}
+use Rattle.audit_session.specs.Stops.{StopsOver}
+use Rattle.audit_session.specs.Ends.{ServesSome}
+use Rattle.journal_audit.specs.Reports.{subjects, ReportsFront}
+use Rattle.journal_audit.specs.SendLaws.{none_front}
+use Rattle.auditor_top.specs.declared.words.Command.{Command}
+use Rattle.auditor_top.specs.declared.words.Command.TheVariants.{Init, Serve, Audit, Simulate}
+use Rattle.auditor_top.specs.declared.status.Status.{Status}
+use Rattle.auditor_top.specs.declared.status.Status.TheVariants.{Done}
+use Rattle.auditor_top.specs.Causes.{FaultCause, NothingFailed, IsDoneOrWants}
+use Rattle.auditor_top.specs.Commands.{AreSoundFilesOf, opens_journal}
+use Rattle.auditor_top.specs.Ends.{AuditEnds, LeavesFile, ServeEnds, SimulateEnds, SimulateSends, StandsForWhat, audit_over, outside}
+use Rattle.auditor_top.specs.Ready.{IsGiven, EndsEarly, GivesUp}
+use Rattle.auditor_top.specs.Runs.{Objects, objects, faults_of, Making, Serving, Auditing, Simulating}
+use Rattle.auditor_top.proofs.AuditEndings.{untouched_report}
+use Rattle.auditor_top.proofs.OneTable.{nothing_served, untouched_stops}
+use Rattle.auditor_top.proofs.SimulationEndings.{none_begun, no_verdict}
+use Rattle.auditor_top.proofs.StepFaults.{not_made}
+use Rattle.auditor_top.proofs.StepStatuses.{by_giving_up}
+
+-- every history for which a stop over a legal history leaves an image is legal, and discloses nothing
+abbrev pub StopsAreLegal : Type 0
+StopsAreLegal =
+    (schema table before image sent : List ℕ) (base : Database) (batch : ℕ) (history now : List Answered) (lines : List CountedLine) →
+    AreSoundFilesOf schema table base → IsLegal (table_in base) history → StopsOver base batch history lines before image sent →
+    StandsFor image base.secret.shape now → IsLegal (table_in base) now × IsUndisclosed (table_in base) now
+
+-- a run isn't done before its command goes on
+never_done : {Y : Type 0} (status : Status) → EndsEarly status → status ≡ Done → Y
+never_done status early done = absurd (subst EndsEarly done early)
+
+-- a bench that wasn't called was only read
+pub uncalled : {B : Type 0} (bench : Ghosts B) (at : B) →
+    ((image bytes : List ℕ) → bench.since at (bench.moment at) image bytes → bench.leaves at image × (bytes ≡ bench.sent at)) → OnlyReads bench at at
+uncalled bench at only_now = record {
+  file = refl;
+  sent = refl;
+  crash = λ image left. left;
+  untouched = λ quiet. started bench at _ (λ image sent was. let now = only_now image sent was in (now.1, quiet image now.0));
+}
+
+-- a bench that was only read is as quiet as before
+pub as_quiet : {B : Type 0} (bench : Ghosts B) (old new : B) → OnlyReads bench old new → IsQuiet bench old → IsQuiet bench new
+as_quiet bench old new reads quiet = λ image left. quiet image (reads.crash image left) ∙ sym reads.file
+
+-- what a run says of its command that ended early
+pub record Refused {P I B : Type 0} (files : source.Ghosts P) (lines : source.Ghosts I) (bench : Ghosts B) (asked : Option Command) (status : Status)
+    (old new : Objects P I B) : Type 0 where
+  pub init : asked ≡ Some Init → Making files lines bench status old new
+  pub serve : (batch : ℕ) → asked ≡ Some (Serve batch) → Serving files lines bench batch status old new
+  pub audit : asked ≡ Some Audit → Auditing files lines bench status old new
+  pub simulate : asked ≡ Some Simulate → Simulating files lines bench status old new
+
+module _ {P I B : Type 0} (files : source.Ghosts P) (lines : source.Ghosts I) (bench : Ghosts B) (schema later_schema table later_table : P) (input : I)
+    (at later : B) (spare : B) (status : Status) (early : EndsEarly status) (reads : OnlyReads bench at later)
+    (cause : FaultCause status (faults_of files lines bench (objects schema table input at spare))
+    (faults_of files lines bench (objects later_schema later_table input later spare)))
+    (asked : Option Command)
+    (gives_up : (command : Command) → asked ≡ Some command → files.told → (opens_journal command ≡ true → bench.told) →
+    IsGiven command (files.left schema) (files.left table) (bench.file at) → GivesUp status)
+    (unopened : (command : Command) → asked ≡ Some command → opens_journal command ≡ false → later ≡ at) where
+  abbrev old : Objects P I B
+  old = objects schema table input at spare
+
+  abbrev new : Objects P I B
+  new = objects later_schema later_table input later spare
+
+  -- where nothing failed there was no memory
+  wants : GivesUp status → NothingFailed (faults_of files lines bench old) (faults_of files lines bench new) → IsDoneOrWants status
+  wants gave_up none =
+      by_giving_up (λ (s : Status). FaultCause s (faults_of files lines bench old) (faults_of files lines bench new) → IsDoneOrWants s) status gave_up
+      (λ rose. absurd (none.schema rose.0)) (λ rose. absurd (none.table rose.0)) (λ rose. absurd (none.bench rose.0)) (λ same. inr refl) cause
+
+  unmade : asked ≡ Some Init → Making files lines bench status old new
+  unmade is = record {
+    made = λ ptold told done base given. never_done status early done;
+    kept = λ told undone fine. reads.file;
+    unsent = reads.sent;
+    untouched = λ told there quiet. reads.untouched quiet;
+    making = λ ptold told absent quiet base given.
+        weakens bench at later (IsUntouched (bench.file at) (bench.sent at)) _
+        (λ image sent same. (same.0, inl (subst (λ (bytes : List ℕ). IsMade bytes → ⊥) (sym same.1) (not_made _ absent)))) (reads.untouched quiet);
+    unmade = λ wanted. unopened Init is refl;
+    init_calls = λ told done. never_done status early done;
+    makes = λ ptold told base given absent none. wants (gives_up Init is ptold (λ opens. told) (base, given)) none;
+  }
+
+  unserved : StopsAreLegal → (batch : ℕ) → asked ≡ Some (Serve batch) → Serving files lines bench batch status old new
+  unserved legal batch is = record {
+    served = λ ptold itold told base history over.
+        let text = lines.left input in
+        let some : List ℕ → List ℕ → Type 0 =
+        λ file sent. StandsForWhat file base (λ now. ServesSome base history batch (counted_lines text) now (bench.sent at) sent) in
+        by_giving_up (λ (s : Status). ServeEnds batch s base history (outside lines bench input at) (outside lines bench input later)) status
+        (gives_up (Serve batch) is ptold (λ opens. told) (base, history, over)) (reads.sent, reads.file) (reads.sent, reads.file) tt
+        (subst (λ (file : List ℕ). some file (bench.sent later)) (sym reads.file)
+        (subst (λ (sent : List ℕ). some (bench.file at) sent) (sym reads.sent)
+        (nothing_served base batch history text (bench.sent at) (bench.file at) over.stands)));
+    any_moment = λ ptold itold told quiet base history over.
+        weakens bench at later (IsUntouched (bench.file at) (bench.sent at)) _
+        (λ image sent same. untouched_stops base batch history (counted_lines (lines.left input)) (bench.file at) (bench.sent at) image sent over.stands same)
+        (reads.untouched quiet);
+    undisclosed = λ ptold told quiet base history over image sent now was stands.
+        legal _ _ _ image sent base batch history now [] over.files over.legal
+        (untouched_stops base batch history [] (bench.file at) (bench.sent at) image sent over.stands
+        ((reads.untouched quiet).each image sent was)) stands;
+    serve_calls = λ ptold itold told done base history over. never_done status early done;
+    complete = λ ptold itold told base history over within none.
+        wants (gives_up (Serve batch) is ptold (λ opens. told) (base, history, over)) none;
+  }
+
+  unaudited : asked ≡ Some Audit → Auditing files lines bench status old new
+  unaudited is = record {
+    audited = λ ptold told base history over.
+        let none = subst (λ (bytes : List ℕ). ReportsFront (audit_over base history) (bench.sent at) bytes) (sym reads.sent)
+        (none_front (audit_over base history) (subjects base.secret.shape) (bench.sent at)) in
+        by_giving_up (λ (s : Status). AuditEnds s base history (bench.sent at) (bench.sent later)) status
+        (gives_up Audit is ptold (λ opens. told) (base, history, over)) reads.sent reads.sent none none;
+    auditing = λ ptold told quiet base history over.
+        weakens bench at later (IsUntouched (bench.file at) (bench.sent at)) _
+        (λ image sent same. untouched_report (audit_over base history) (subjects base.secret.shape) (bench.file at) (bench.sent at) image sent same)
+        (reads.untouched quiet);
+    audit_calls = λ ptold told done base given. never_done status early done;
+    audits = λ ptold told base history over none. wants (gives_up Audit is ptold (λ opens. told) (base, history, over)) none;
+  }
+
+  unsimulated : asked ≡ Some Simulate → Simulating files lines bench status old new
+  unsimulated is = record {
+    simulated = λ ptold itold columns public given.
+        let text = lines.left input in
+        let begun = none_begun columns public (counted_lines text) in
+        let same = reads.sent ∙ sym (append-nil (bench.sent at)) in
+        let gave_up = gives_up Simulate is ptold (λ opens. absurd (false≢true opens)) (columns, public, given) in (
+          [],
+          by_giving_up (λ (s : Status). SimulateEnds s columns public text text []) status gave_up refl refl begun begun,
+          λ told. by_giving_up (λ (s : Status). SimulateSends s [] (bench.sent at) (bench.sent later)) status gave_up same same (0, same) same,
+        );
+    simulating = λ ptold told quiet columns public given.
+        weakens bench at later (IsUntouched (bench.file at) (bench.sent at)) _
+        (λ image sent same. no_verdict lines.told columns public (counted_lines (lines.left input)) (bench.file at) (bench.sent at) image sent same.1 same.0)
+        (reads.untouched quiet);
+    undisturbed = λ told quiet.
+        weakens bench at later (IsUntouched (bench.file at) (bench.sent at)) (LeavesFile (bench.file at)) (λ image sent same. same.1) (reads.untouched quiet);
+    simulate_calls = λ itold told done. never_done status early done;
+    simulates = λ ptold itold columns public given verdicts agree within none.
+        wants (gives_up Simulate is ptold (λ opens. absurd (false≢true opens)) (columns, public, given)) none;
+  }
+
+  pub refused : StopsAreLegal → Refused files lines bench asked status old new
+  refused legal = record { init = unmade; serve = unserved legal; audit = unaudited; simulate = unsimulated }

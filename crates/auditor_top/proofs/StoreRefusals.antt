@@ -1,0 +1,382 @@
+-- What a refusal says where the journal wasn't opened, or there was no memory to open it.
+use Rattle.std.proofs.Common.{rules, ◌≡◌, ℕ, Bool, true, false, List, Some, Result, Ok, Err, IsOk, IsErrOf, refl, sym, ◌∙◌, ap, subst}
+use Rattle.std.proofs.lemmas.Bool.{true≢false, false≢true}
+use Rattle.audit_types.specs.declared.records.Answered.{Answered}
+use Rattle.audit_types.specs.History.{IsLegal}
+use Rattle.std.specs.Bool.{OnTrue}
+use Rattle.audit_types.specs.History.{Table as Guarded}
+use Rattle.audit_types.specs.declared.records.Protected.{Protected}
+use Rattle.bench_core.specs.Causes.{Rose}
+use Rattle.bench_core.specs.Calls.{TellsFault}
+use Rattle.bench_core.specs.declared.bench.Bench.{Ghosts}
+use Rattle.bench_core.specs.declared.source.Source as source
+use Rattle.schema_json.specs.Columns.{Column, Group, SchemaView}
+use Rattle.schema_json.specs.Reading.{schema_of}
+use Rattle.schema_json.specs.declared.faults.SchemaFault.{SchemaFault}
+use Rattle.table_load.specs.Cells.{PublicView, TableView}
+use Rattle.table_load.specs.Database.{Database, base_of, secret_table, table_in}
+use Rattle.table_load.specs.Tables.{table_of, public_of}
+use Rattle.table_load.specs.declared.faults.TableFault.{TableFault}
+use Rattle.set_index.specs.Groups.{AreEntries, AreSound, IsFirstBad}
+use Rattle.set_index.specs.Indexed.{IndexView, OneListOfEntries}
+use Rattle.set_index.specs.declared.index.IndexFault.{IndexFault}
+use Rattle.set_index.specs.declared.index.IndexFault.TheVariants as index
+use Rattle.journal_form.specs.Journal.{StandsFor}
+use Rattle.audit_store.specs.Starting.{StartCause}
+use Rattle.audit_store.specs.Starting as starting
+use Rattle.audit_store.specs.declared.starting.StartFault.{StartFault}
+use Rattle.audit_store.specs.declared.starting.StartFault.TheVariants as start
+use Rattle.auditor_top.specs.declared.starting.NotStarted.{NotStarted}
+use Rattle.auditor_top.specs.declared.starting.NotStarted.TheVariants as began
+use Rattle.auditor_top.specs.declared.words.Command.{Command}
+use Rattle.auditor_top.specs.declared.words.Command.TheVariants.{Init, Serve, Audit, Simulate, Drill}
+use Rattle.auditor_top.specs.declared.status.Status.{Status}
+use Rattle.auditor_top.specs.declared.status.Status.TheVariants.{BadGroup, BenchFault, NotMade, Damaged, OtherShape, Untrue, Illegal, NoMemory}
+use Rattle.auditor_top.specs.Status.{index_status, start_status, started_status}
+use Rattle.auditor_top.specs.Causes.{FaultCounts, FaultCause, WordCause, SchemaCause, TableCause, GroupCause, FileCause, counts}
+use Rattle.auditor_top.specs.Commands.{AreSoundFilesOf, ArePublicFilesOf, ServesOver, opens_journal, reads_groups, reads_secrets}
+use Rattle.auditor_top.specs.Ready.{EndsEarly, GivesUp, IsGiven, Refuses}
+use Rattle.auditor_top.specs.Stages.{Before, reading_table, opening_journal}
+use Rattle.auditor_top.proofs.OneTable.{same_ok, one_base, schema_is_ok, table_is_ok, groups_are_sound}
+use Rattle.auditor_top.proofs.StepFaults.{moved, same_counts}
+use Rattle.auditor_top.proofs.StepStatuses.{always_before}
+
+-- a command takes no step that its kind doesn't, and takes each that it does
+pub lacks : {Y : Type 0} (step : Command → Bool) {asked own : Command} → asked ≡ own → step own ≡ false → step asked ≡ true → Y
+lacks step is none taken = absurd (true≢false (sym taken ∙ ap step is ∙ none))
+
+pub no_step : {Y : Type 0} (step : Command → Bool) {asked own : Command} → asked ≡ own → step own ≡ true → step asked ≡ false → Y
+no_step step is taken none = absurd (true≢false (sym taken ∙ sym (ap step is) ∙ none))
+
+-- a run may end so where its journal is opened
+abbrev EndsOpening : Status → Type 0
+EndsOpening NotMade = Unit {0}
+EndsOpening (Damaged at) = Unit {0}
+EndsOpening (OtherShape kept now) = Unit {0}
+EndsOpening (Untrue place kept now) = Unit {0}
+EndsOpening (Illegal place) = Unit {0}
+EndsOpening BenchFault = Unit {0}
+EndsOpening NoMemory = Unit {0}
+EndsOpening status = ⊥
+
+start_ends : (fault : StartFault) → EndsOpening (start_status fault)
+start_ends start.NotMade = tt
+start_ends (start.Damaged at) = tt
+start_ends (start.OtherShape kept now) = tt
+start_ends (start.Untrue place kept now) = tt
+start_ends (start.Illegal place) = tt
+start_ends start.Failed = tt
+start_ends start.NoMemory = tt
+
+start_early : (fault : StartFault) → EndsEarly (start_status fault)
+start_early start.NotMade = tt
+start_early (start.Damaged at) = tt
+start_early (start.OtherShape kept now) = tt
+start_early (start.Untrue place kept now) = tt
+start_early (start.Illegal place) = tt
+start_early start.Failed = tt
+start_early start.NoMemory = tt
+
+start_words : (fault : StartFault) (asked : Command) → opens_journal asked ≡ true → WordCause (start_status fault) (Some asked)
+start_words start.NotMade asked opens = opens
+start_words (start.Damaged at) asked opens = opens
+start_words (start.OtherShape kept now) asked opens = opens
+start_words (start.Untrue place kept now) asked opens = opens
+start_words (start.Illegal place) asked opens = opens
+start_words start.Failed asked opens = tt
+start_words start.NoMemory asked opens = tt
+
+start_schema : (fault : StartFault) (meant : Result SchemaView SchemaFault) → IsOk meant → SchemaCause (start_status fault) meant
+start_schema start.NotMade meant is = is
+start_schema (start.Damaged at) meant is = is
+start_schema (start.OtherShape kept now) meant is = is
+start_schema (start.Untrue place kept now) meant is = is
+start_schema (start.Illegal place) meant is = is
+start_schema start.Failed meant is = is
+start_schema start.NoMemory meant is = tt
+
+start_groups : (fault : StartFault) (columns : List Column) (groups : List Group) → AreSound columns groups → GroupCause (start_status fault) columns groups
+start_groups start.NotMade columns groups are = are
+start_groups (start.Damaged at) columns groups are = are
+start_groups (start.OtherShape kept now) columns groups are = are
+start_groups (start.Untrue place kept now) columns groups are = are
+start_groups (start.Illegal place) columns groups are = are
+start_groups start.Failed columns groups are = are
+start_groups start.NoMemory columns groups are = tt
+
+start_table : {X : Type 0} (fault : StartFault) (meant : Result X TableFault) → IsOk meant → TableCause (start_status fault) meant
+start_table start.NotMade meant is = is
+start_table (start.Damaged at) meant is = is
+start_table (start.OtherShape kept now) meant is = is
+start_table (start.Untrue place kept now) meant is = is
+start_table (start.Illegal place) meant is = is
+start_table start.Failed meant is = is
+start_table start.NoMemory meant is = tt
+
+start_cause : (fault : StartFault) (asked : Command) (file : List ℕ) (table : Guarded) → StartCause fault file table →
+    FileCause (start_status fault) asked file table
+start_cause start.NotMade asked file table cause = cause
+start_cause (start.Damaged at) asked file table cause = cause
+start_cause (start.OtherShape kept now) asked file table cause = cause
+start_cause (start.Untrue place kept now) asked file table cause = cause
+start_cause (start.Illegal place) asked file table cause = cause
+start_cause start.Failed asked file table cause = tt
+start_cause start.NoMemory asked file table cause = tt
+
+start_gives_up : (fault : StartFault) → starting.GivesUp fault → GivesUp (start_status fault)
+start_gives_up start.NotMade gave_up = absurd gave_up
+start_gives_up (start.Damaged at) gave_up = absurd gave_up
+start_gives_up (start.OtherShape kept now) gave_up = absurd gave_up
+start_gives_up (start.Untrue place kept now) gave_up = absurd gave_up
+start_gives_up (start.Illegal place) gave_up = absurd gave_up
+start_gives_up start.Failed gave_up = tt
+start_gives_up start.NoMemory gave_up = tt
+
+start_failed : {X : Type 0} (fault : StartFault) → start_status fault ≡ BenchFault → IsErrOf {T = X} (Err fault) start.Failed
+start_failed start.NotMade is = cc
+start_failed (start.Damaged at) is = cc
+start_failed (start.OtherShape kept now) is = cc
+start_failed (start.Untrue place kept now) is = cc
+start_failed (start.Illegal place) is = cc
+start_failed start.Failed is = refl
+start_failed start.NoMemory is = cc
+
+start_faults : {X : Type 0} (fault : StartFault) (before : FaultCounts) (bench : ℕ) → (IsErrOf {T = X} (Err fault) start.Failed → Rose before.bench bench) →
+    ((IsErrOf {T = X} (Err fault) start.Failed → ⊥) → bench ≡ before.bench) → FaultCause (start_status fault) before (record before { bench = bench })
+start_faults start.NotMade before bench rose same = same_counts before before.input bench refl (same (search rules))
+start_faults (start.Damaged at) before bench rose same = same_counts before before.input bench refl (same (search rules))
+start_faults (start.OtherShape kept now) before bench rose same = same_counts before before.input bench refl (same (search rules))
+start_faults (start.Untrue place kept now) before bench rose same = same_counts before before.input bench refl (same (search rules))
+start_faults (start.Illegal place) before bench rose same = same_counts before before.input bench refl (same (search rules))
+start_faults start.Failed before bench rose same = (rose refl, refl)
+start_faults start.NoMemory before bench rose same = same_counts before before.input bench refl (same (search rules))
+
+start_before : (P : Type 0) (fault : StartFault) → Before reading_table (start_status fault) P × Before opening_journal (start_status fault) P
+start_before P start.NotMade = (tt, tt)
+start_before P (start.Damaged at) = (tt, tt)
+start_before P (start.OtherShape kept now) = (tt, tt)
+start_before P (start.Untrue place kept now) = (tt, tt)
+start_before P (start.Illegal place) = (tt, tt)
+start_before P start.Failed = (tt, tt)
+start_before P start.NoMemory = (tt, tt)
+
+-- what is given to a command that opens the journal
+given_history : (asked : Command) (schema table file : List ℕ) → opens_journal asked ≡ true → IsGiven asked schema table file →
+    (base : Database) × (history : List Answered) × ServesOver schema table file base history
+given_history Init schema table file opens given = absurd (false≢true opens)
+given_history (Serve batch) schema table file opens given = given
+given_history Audit schema table file opens given = given
+given_history Simulate schema table file opens given = absurd (false≢true opens)
+given_history (Drill number) schema table file opens given = absurd (false≢true opens)
+
+-- a command that opens the journal makes the groups ready
+opens_groups : (asked : Command) → opens_journal asked ≡ true → reads_groups asked ≡ true
+opens_groups Init opens = opens
+opens_groups (Serve batch) opens = refl
+opens_groups Audit opens = refl
+opens_groups Simulate opens = refl
+opens_groups (Drill number) opens = opens
+
+-- a run may end so where the groups are made ready
+abbrev EndsGroups : Status → Type 0
+EndsGroups (BadGroup place) = Unit {0}
+EndsGroups NoMemory = Unit {0}
+EndsGroups status = ⊥
+
+module _ {P B : Type 0} (files : source.Ghosts P) (bench : Ghosts B) (law : OneListOfEntries) (asked : Command)
+    (schema later_schema table later_table : P) (at later : B) (opens : opens_journal asked ≡ true) (read : SchemaView) (meant : TableView)
+    (schema_is : files.told → schema_of (files.left schema) ≡ Ok read) (table_is : files.told → table_of read.columns (files.left table) ≡ Ok meant)
+    (same_schema : files.faults later_schema ≡ files.faults schema) (same_table : files.faults later_table ≡ files.faults table) where
+  not_public : {Y : Type 0} → asked ≡ Simulate → Y
+  not_public is = absurd (false≢true (subst (λ (k : Command). opens_journal k ≡ true) is opens))
+
+  grouped : reads_groups asked ≡ true
+  grouped = opens_groups asked opens
+
+  abbrev seen : List Protected → Database
+  seen protected = base_of read.columns meant.public protected meant.secret
+
+  sound_files : files.told → (protected : List Protected) → AreEntries read.columns meant.public read.groups protected →
+      AreSoundFilesOf (files.left schema) (files.left table) (seen protected)
+  sound_files ptold protected entries =
+      record { files = record { groups = read.groups; schema_is = schema_is ptold; table_is = table_is ptold }; entries = entries }
+
+  table_ok : files.told → (other : SchemaView) → schema_of (files.left schema) ≡ Ok other → IsOk (table_of other.columns (files.left table))
+  table_ok ptold other is =
+      table_is_ok (λ (cs : List Column). table_of cs (files.left table)) (files.left schema) read other meant (schema_is ptold) (table_is ptold) is
+
+  pub store_refused : {X : Type 0} (fault : StartFault) (protected : List Protected) → AreEntries read.columns meant.public read.groups protected →
+      (bench.told → StartCause fault (bench.file at) (secret_table meant.secret protected) × ((history : List Answered) →
+      StandsFor (bench.file at) meant.secret.shape history → IsLegal (secret_table meant.secret protected) history → starting.GivesUp fault)) →
+      TellsFault bench at later (IsErrOf {T = X} (Err fault) start.Failed) →
+      Refuses files bench asked (start_status fault) schema later_schema table later_table at later
+  store_refused fault protected entries cause tells = record {
+    words = start_words fault asked opens;
+    schema = λ ptold reads. start_schema fault _ (schema_is_ok _ read (schema_is ptold));
+    table = λ ptold reads other is. start_table fault _ (table_ok ptold other is);
+    public = λ ptold is. not_public is;
+    groups = λ ptold reads other is.
+        start_groups fault _ _ (groups_are_sound law _ read.columns meant.public read.groups protected other (schema_is ptold) entries is);
+    file = λ ptold told base given sound.
+        let one = one_base law _ _ (seen protected) base (sound_files ptold protected entries) (record {
+          files = given;
+          entries = subst (λ (b : Bool). OnTrue b (AreEntries base.columns base.public given.groups base.protected)) grouped sound;
+        }) in
+        subst (λ (b : Database). FileCause (start_status fault) asked (bench.file at) (table_in b)) one
+        (start_cause fault asked (bench.file at) (table_in (seen protected)) (cause told).0);
+    own_schema_fault = λ is. subst EndsOpening is (start_ends fault);
+    own_table_fault = λ is. subst EndsOpening is (start_ends fault);
+    schema_within = λ ptold is. absurd (subst EndsOpening is (start_ends fault));
+    table_within = λ ptold is. absurd (subst EndsOpening is (start_ends fault));
+    early = start_early fault;
+    gives_up = λ ptold told given.
+        let all = given_history asked _ _ _ opens given in
+        let one = sym (one_base law _ _ (seen protected) all.0 (sound_files ptold protected entries) all.2.files) in
+        start_gives_up fault ((cause (told opens)).1 all.1 (subst (λ (b : Database). StandsFor (bench.file at) b.secret.shape all.1) one all.2.stands)
+        (subst (λ (b : Database). IsLegal (table_in b) all.1) one all.2.legal));
+    faults = λ input spare.
+        moved (start_status fault) (counts (files.faults schema) (files.faults table) input (bench.faults at) spare) _ _ _ _ input (bench.faults later) spare
+        same_schema same_table (start_faults fault _ (bench.faults later) tells.failed tells.steady);
+    schema_last = λ is. absurd (subst EndsOpening is (start_ends fault));
+    table_last = λ is. absurd (subst EndsOpening is (start_ends fault));
+    bench_last = λ is. tells.last_call (start_failed fault is);
+    before_table = (start_before (later_table ≡ table) fault).0;
+    before_bench = (start_before (later ≡ at) fault).1;
+  }
+
+-- ---- the groups weren't made ready
+
+-- what its status says
+record GroupRefusal (fault : IndexFault) : Type 1 where
+  pub words : (asked : Command) → reads_groups asked ≡ true → WordCause (index_status fault) (Some asked)
+  pub schema : (meant : Result SchemaView SchemaFault) → IsOk meant → SchemaCause (index_status fault) meant
+  pub table : (X : Type 0) (meant : Result X TableFault) → IsOk meant → TableCause (index_status fault) meant
+  pub journal : (asked : Command) (bytes : List ℕ) (table : Guarded) → FileCause (index_status fault) asked bytes table
+  pub early : EndsEarly (index_status fault)
+  pub ends : EndsGroups (index_status fault)
+  pub before : (P : Type 0) → Before reading_table (index_status fault) P
+  pub same : (before : FaultCounts) → FaultCause (index_status fault) before before
+
+group_refusal : (fault : IndexFault) → GroupRefusal fault
+group_refusal (index.BadGroup place) = record {
+  words = λ asked reads. reads;
+  schema = λ meant is. is;
+  table = λ X meant is. is;
+  journal = λ asked bytes table. tt;
+  early = tt;
+  ends = tt;
+  before = λ P. tt;
+  same = λ before. refl;
+}
+group_refusal index.NoMemory = record {
+  words = λ asked reads. tt;
+  schema = λ meant is. tt;
+  table = λ X meant is. tt;
+  journal = λ asked bytes table. tt;
+  early = tt;
+  ends = tt;
+  before = λ P. tt;
+  same = λ before. refl;
+}
+
+-- the first bad group is told, and none is where none has a fault
+group_cause : (fault : IndexFault) (columns : List Column) (groups : List Group) →
+    ((place : ℕ) → fault ≡ index.BadGroup place → IsFirstBad columns groups place) → GroupCause (index_status fault) columns groups
+group_cause (index.BadGroup place) columns groups bad = bad place refl
+group_cause index.NoMemory columns groups bad = tt
+
+group_gives_up : OneListOfEntries → (fault : IndexFault) (columns : List Column) (public : PublicView) (groups : List Group) (protected : List Protected) →
+    AreEntries columns public groups protected → ((place : ℕ) → fault ≡ index.BadGroup place → IsFirstBad columns groups place) →
+    GivesUp (index_status fault)
+group_gives_up law (index.BadGroup place) columns public groups protected entries bad =
+    absurd (law.bad columns groups place (bad place refl) (law.sound columns public groups protected entries))
+group_gives_up law index.NoMemory columns public groups protected entries bad = tt
+
+module _ {P B : Type 0} (files : source.Ghosts P) (bench : Ghosts B) (asked : Command) (schema later_schema table later_table : P) (at : B)
+    (grouped : reads_groups asked ≡ true) (read : SchemaView) (schema_is : files.told → schema_of (files.left schema) ≡ Ok read)
+    (same_schema : files.faults later_schema ≡ files.faults schema) (same_table : files.faults later_table ≡ files.faults table)
+    (fault : IndexFault) (bad : (place : ℕ) → fault ≡ index.BadGroup place → IsFirstBad read.columns read.groups place) where
+  pub groups_refused : (files.told → reads_secrets asked ≡ true → (other : SchemaView) → schema_of (files.left schema) ≡ Ok other →
+      IsOk (table_of other.columns (files.left table))) →
+      (files.told → asked ≡ Simulate → (other : SchemaView) → schema_of (files.left schema) ≡ Ok other → IsOk (public_of other.columns (files.left table))) →
+      (files.told → (opens_journal asked ≡ true → bench.told) → IsGiven asked (files.left schema) (files.left table) (bench.file at) →
+      GivesUp (index_status fault)) → Refuses files bench asked (index_status fault) schema later_schema table later_table at at
+  groups_refused table_ok public_ok gives_up =
+      let says = group_refusal fault in
+      record {
+        words = says.words asked grouped;
+        schema = λ ptold reads. says.schema _ (schema_is_ok _ read (schema_is ptold));
+        table = λ ptold reads other is. says.table _ _ (table_ok ptold reads other is);
+        public = λ ptold simulates other is. says.table _ _ (public_ok ptold simulates other is);
+        groups = λ ptold reads other is.
+            subst (λ (v : SchemaView). GroupCause (index_status fault) v.columns v.groups) (same_ok (schema_of (files.left schema)) read other (schema_is ptold) is)
+            (group_cause fault read.columns read.groups bad);
+        file = λ ptold told base given sound. says.journal asked (bench.file at) (table_in base);
+        own_schema_fault = λ is. subst EndsGroups is says.ends;
+        own_table_fault = λ is. subst EndsGroups is says.ends;
+        schema_within = λ ptold is. absurd (subst EndsGroups is says.ends);
+        table_within = λ ptold is. absurd (subst EndsGroups is says.ends);
+        early = says.early;
+        gives_up = gives_up;
+        faults = λ input spare.
+            moved (index_status fault) (counts (files.faults schema) (files.faults table) input (bench.faults at) spare) _ _ _ _ input (bench.faults at) spare
+            same_schema same_table (says.same _);
+        schema_last = λ is. absurd (subst EndsGroups is says.ends);
+        table_last = λ is. absurd (subst EndsGroups is says.ends);
+        bench_last = λ is. absurd (subst EndsGroups is says.ends);
+        before_table = says.before (later_table ≡ table);
+        before_bench = always_before opening_journal (index_status fault) refl;
+      }
+
+pub public_gives_up : OneListOfEntries → (fault : IndexFault) (schema table : List ℕ) (read : SchemaView) (public : PublicView) → schema_of schema ≡ Ok read →
+    public_of read.columns table ≡ Ok public → ((place : ℕ) → fault ≡ index.BadGroup place → IsFirstBad read.columns read.groups place) →
+    (columns : List Column) × (given : IndexView) × ArePublicFilesOf schema table columns given → GivesUp (index_status fault)
+public_gives_up law fault schema table read public schema_is public_is bad given =
+    let view : SchemaView = record { columns = given.0; groups = given.2.groups } in
+    let same : read ≡ view = same_ok (schema_of schema) read view schema_is given.2.schema_is in
+    group_gives_up law fault given.0 given.1.public given.2.groups given.1.protected given.2.entries
+    (subst (λ (v : SchemaView). (place : ℕ) → fault ≡ index.BadGroup place → IsFirstBad v.columns v.groups place) same bad)
+
+-- ---- both in one
+
+same_journal : {X Y : Type 0} (a b : StartFault) → ◌≡◌ {A = Result X NotStarted} (Err (began.Journal a)) (Err (began.Journal b)) → IsErrOf {T = Y} (Err a) b
+same_journal a b is = cc
+
+same_start : {X Y : Type 0} (a : StartFault) → IsErrOf {T = X} (Err a) start.Failed → ◌≡◌ {A = Result Y NotStarted} (Err (began.Journal a)) (Err (began.Journal start.Failed))
+same_start a is = cc
+
+pub not_started : {P B X : Type 0} (files : source.Ghosts P) (bench : Ghosts B) (law : OneListOfEntries) (asked : Command)
+    (schema later_schema table later_table : P) (at later : B) (opens : opens_journal asked ≡ true) (read : SchemaView) (meant : TableView)
+    (schema_is : files.told → schema_of (files.left schema) ≡ Ok read) (table_is : files.told → table_of read.columns (files.left table) ≡ Ok meant)
+    (same_schema : files.faults later_schema ≡ files.faults schema) (same_table : files.faults later_table ≡ files.faults table) (fault : NotStarted) →
+    ((place : ℕ) → ◌≡◌ {A = Result X NotStarted} (Err fault) (Err (began.Groups (index.BadGroup place))) → IsFirstBad read.columns read.groups place) →
+    ((f : StartFault) → ◌≡◌ {A = Result X NotStarted} (Err fault) (Err (began.Journal f)) → (protected : List Protected) ×
+    AreEntries read.columns meant.public read.groups protected × (bench.told → StartCause f (bench.file at) (secret_table meant.secret protected) ×
+    ((history : List Answered) → StandsFor (bench.file at) meant.secret.shape history → IsLegal (secret_table meant.secret protected) history →
+    starting.GivesUp f))) → TellsFault bench at later (IsErrOf {T = X} (Err fault) (began.Journal start.Failed)) →
+    ((f : IndexFault) → ◌≡◌ {A = Result X NotStarted} (Err fault) (Err (began.Groups f)) → later ≡ at) →
+    Refuses files bench asked (started_status fault) schema later_schema table later_table at later
+not_started {P} {B} {X} files bench law asked schema later_schema table later_table at later opens read meant schema_is table_is same_schema same_table
+    (began.Groups f) bad cause tells uncalled =
+    let first = λ (place : ℕ) (is : f ≡ index.BadGroup place). bad place (ap (λ (g : IndexFault). Err (began.Groups g)) is) in
+    subst (λ b. Refuses files bench asked (index_status f) schema later_schema table later_table at b) (sym (uncalled f refl))
+    (groups_refused files bench asked schema later_schema table later_table at (opens_groups asked opens) read schema_is same_schema same_table f first
+    (λ ptold reads other is. table_is_ok (λ (cs : List Column). table_of cs (files.left table)) (files.left schema) read other meant (schema_is ptold)
+    (table_is ptold) is)
+    (λ ptold simulates. absurd (false≢true (subst (λ (k : Command). opens_journal k ≡ true) simulates opens)))
+    (λ ptold told given.
+    let all = given_history asked _ _ _ opens given in
+    let view : SchemaView = record { columns = all.0.columns; groups = all.2.files.files.groups } in
+    group_gives_up law f all.0.columns all.0.public view.groups all.0.protected all.2.files.entries
+    (subst (λ (v : SchemaView). (place : ℕ) → f ≡ index.BadGroup place → IsFirstBad v.columns v.groups place)
+    (same_ok (schema_of (files.left schema)) read view (schema_is ptold) all.2.files.files.schema_is) first)))
+not_started {P} {B} {X} files bench law asked schema later_schema table later_table at later opens read meant schema_is table_is same_schema same_table
+    (began.Journal f) bad cause tells uncalled =
+    let all = cause f refl in
+    store_refused files bench law asked schema later_schema table later_table at later opens read meant schema_is table_is same_schema same_table {X = X} f all.0
+    all.1 all.2 (record {
+      later = tells.later;
+      failed = λ is. tells.failed (same_start f is);
+      last_call = λ is. tells.last_call (same_start f is);
+      steady = λ other. tells.steady (λ is. other (same_journal f start.Failed is));
+    })

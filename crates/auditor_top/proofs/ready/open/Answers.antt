@@ -1,0 +1,355 @@
+use Rattle.std.proofs.Common.{◌≡◌, ℕ, List, Result, Err, refl, sym, ◌∙◌, ap, subst}
+use Rattle.audit_types.specs.Shapes.{IsShape}
+use Rattle.audit_types.specs.declared.shapes.Shape.{Shape}
+use Rattle.audit_types.specs.History.{IsLegal}
+use Rattle.schema_json.specs.SecretShape.{shape_of}
+use Rattle.table_load.specs.Cells.{FitsSchema, PublicView, SecretView}
+use Rattle.table_load.specs.Database.{Database, base_of, secret_table}
+use Rattle.journal_form.specs.Journal.{StandsFor}
+use Rattle.audit_store.specs.Starting.{StartCause}
+use Rattle.audit_store.specs.Stores.{IsAsLeft}
+use Rattle.auditor_top.specs.declared.opening.OpenFault.{OpenFault}
+use Rattle.auditor_top.specs.declared.opening.Opened.{Opened}
+use Rattle.auditor_top.specs.declared.opening.OpenedPublic.{OpenedPublic}
+use Rattle.auditor_top.specs.declared.words.Command.{Command}
+use Rattle.auditor_top.specs.declared.status.Status.{Status}
+use Rattle.auditor_top.specs.Commands.{AreFilesOf, opens_journal, reads_files, reads_secrets}
+use Rattle.auditor_top.specs.Ready.{IsGiven, Refuses}
+use Rattle.auditor_top.proofs.FileRefusals.{files_refused, gives_up_over, gives_up_public}
+use Rattle.auditor_top.proofs.Openings.{stays}
+use Rattle.auditor_top.proofs.Refusals.{uncalled}
+use Rattle.auditor_top.proofs.StepFaults.{not_both}
+use Rattle.auditor_top.proofs.StoreRefusals.{store_refused, unready, no_step, lacks}
+use Rattle.audit_types.specs.History.{AreProtected}
+use Rattle.audit_types.specs.declared.records.Protected.{Protected}
+use Rattle.schema_json.specs.Columns.{Column, SchemaView}
+use Rattle.table_load.specs.Loaded.{table_view}
+use Rattle.table_load.specs.Tables.{public_of}
+use Rattle.set_index.specs.Groups.{AreEntries}
+use Rattle.set_index.specs.Indexed.{IndexView}
+use Rattle.set_index.specs.declared.index.IndexFault.{IndexFault}
+use Rattle.set_index.specs.declared.index.IndexFault.TheVariants as index
+use Rattle.auditor_top.specs.Commands.{AreSoundFilesOf, reads_groups}
+use Rattle.auditor_top.proofs.OneTable.{table_is_ok}
+use Rattle.auditor_top.proofs.StoreRefusals.{groups_refused, public_gives_up, not_started}
+use Rattle.auditor_top.proofs.ready.open.Goals as goal
+
+abbrev index_refused : IndexFault → Result IndexView IndexFault
+index_refused fault = Err fault
+
+abbrev table_unopened : OpenFault → Result Opened OpenFault
+table_unopened fault = Err fault
+
+abbrev public_unopened : OpenFault → Result OpenedPublic OpenFault
+public_unopened fault = Err fault
+
+-- ---- a command without files
+
+pub returns-in-Drill : goal.returns-in-Drill
+returns-in-Drill g c = record {
+  asked = sym c.in-Drill.is;
+  ready = tt;
+  over = λ ptold. tt;
+  steady = (refl, refl, refl);
+  ticks = λ told opens. lacks opens_journal c.in-Drill.is refl opens;
+  refusal = tt;
+  taken = λ none. refl;
+  reads = uncalled g.B.Bench c.args.bench.now (λ image sent was. g.met.B.Bench.only_now c.args.bench.now image sent was);
+  later = (stays _, stays _, stays _);
+  unread = λ none. (refl, refl);
+  unopened = λ none. refl;
+}
+
+-- ---- `init`
+
+pub returns-in-Err : goal.returns-in-Err
+returns-in-Err g c =
+    let e = c.in-Err.ensures in
+    let fault = c.in-Err.fault in
+    record {
+      asked = tt;
+      ready = tt;
+      over = λ ptold. tt;
+      steady = tt;
+      ticks = λ told opens. tt;
+      refusal = subst (λ (s : Status). Refuses g.P.Source g.B.Bench c.args.command s c.args.schema.now c.open_table.new.schema c.args.table.now c.open_table.new.table
+          c.args.bench.now c.args.bench.now) (sym c.from.ensures)
+          (files_refused g.P.Source g.B.Bench c.args.command c.args.schema.now c.open_table.new.schema c.args.table.now c.open_table.new.table c.args.bench.now fault
+          (ap reads_files c.in-Init.is) e.schema_cause (λ is. e.own_schema_fault (ap table_unopened is)) (λ is. e.own_table_fault (ap table_unopened is))
+          (λ ptold is. e.schema_within ptold (ap table_unopened is)) (λ ptold is. e.table_within ptold (ap table_unopened is)) e.faults
+          (λ is. e.schema_last (ap table_unopened is)) (λ is. e.table_last (ap table_unopened is)) e.untouched
+          (λ ptold reads columns is. e.table_cause ptold columns is) (λ ptold is. no_step reads_secrets c.in-Init.is refl (ap reads_secrets is)) (λ ptold given. gives_up_over fault _ _ _ (subst (λ (k : Command). IsGiven k (g.P.Source.left c.args.schema.now) (g.P.Source.left c.args.table.now) (g.B.Bench.file c.args.bench.now)) c.in-Init.is given).1 (e.schema_cause ptold) (e.table_cause ptold)));
+      taken = λ none. no_step reads_files c.in-Init.is refl none;
+      reads = uncalled g.B.Bench c.args.bench.now (λ image sent was. g.met.B.Bench.only_now c.args.bench.now image sent was);
+      later = (e.later.0, e.later.1, stays _);
+      unread = λ none. no_step reads_files c.in-Init.is refl none;
+      unopened = λ none. refl;
+    }
+
+pub returns-in-Ok : goal.returns-in-Ok
+returns-in-Ok g c =
+    let e = c.in-Ok.ensures in
+    let opened = c.in-Ok.opened in
+    record {
+      asked = sym c.in-Init.is;
+      ready = subst IsShape (sym c.shape.ensures.shape) c.shape.ensures.is.shape;
+      over = λ ptold.
+          (base_of opened.schema.columns opened.table.public opened.table.secret, record { schema_is = e.schema_is ptold; table_is = e.table_is ptold }, c.shape.ensures.shape);
+      steady = (e.steady.0, e.steady.1, refl);
+      ticks = λ told opens. lacks opens_journal c.in-Init.is refl opens;
+      refusal = tt;
+      taken = λ none. refl;
+      reads = uncalled g.B.Bench c.args.bench.now (λ image sent was. g.met.B.Bench.only_now c.args.bench.now image sent was);
+      later = (e.later.0, e.later.1, stays _);
+      unread = λ none. no_step reads_files c.in-Init.is refl none;
+      unopened = λ none. refl;
+    }
+
+-- ---- `simulate`
+
+pub returns-in-Err-open_public : goal.returns-in-Err-open_public
+returns-in-Err-open_public g c =
+    let e = c.in-Err-open_public.ensures in
+    let fault = c.in-Err-open_public.fault in
+    record {
+      asked = tt;
+      ready = tt;
+      over = λ ptold. tt;
+      steady = tt;
+      ticks = λ told opens. tt;
+      refusal = subst (λ (s : Status). Refuses g.P.Source g.B.Bench c.args.command s c.args.schema.now c.open_public.new.schema c.args.table.now c.open_public.new.table
+          c.args.bench.now c.args.bench.now) (sym c.from-in-Err-open_public.ensures)
+          (files_refused g.P.Source g.B.Bench c.args.command c.args.schema.now c.open_public.new.schema c.args.table.now c.open_public.new.table c.args.bench.now fault
+          (ap reads_files c.in-Simulate.is) e.schema_cause (λ is. e.own_schema_fault (ap public_unopened is)) (λ is. e.own_table_fault (ap public_unopened is))
+          (λ ptold is. e.schema_within ptold (ap public_unopened is)) (λ ptold is. e.table_within ptold (ap public_unopened is)) e.faults
+          (λ is. e.schema_last (ap public_unopened is)) (λ is. e.table_last (ap public_unopened is)) e.untouched
+          (λ ptold reads. lacks reads_secrets c.in-Simulate.is refl reads) (λ ptold is columns asked. e.public_cause ptold columns asked) (λ ptold given. gives_up_public fault _ _ _ _ (subst (λ (k : Command). IsGiven k (g.P.Source.left c.args.schema.now) (g.P.Source.left c.args.table.now) (g.B.Bench.file c.args.bench.now)) c.in-Simulate.is given).2 (e.schema_cause ptold) (e.public_cause ptold)));
+      taken = λ none. no_step reads_files c.in-Simulate.is refl none;
+      reads = uncalled g.B.Bench c.args.bench.now (λ image sent was. g.met.B.Bench.only_now c.args.bench.now image sent was);
+      later = (e.later.0, e.later.1, stays _);
+      unread = λ none. no_step reads_files c.in-Simulate.is refl none;
+      unopened = λ none. refl;
+    }
+
+pub returns-in-Err-new : goal.returns-in-Err-new
+returns-in-Err-new g c =
+    let opened = c.in-Ok-open_public.field-0 in
+    let e = c.in-Ok-open_public.ensures in
+    let fault = c.in-Err-new.fault in
+    let bad = λ (place : ℕ) (is : fault ≡ index.BadGroup place). c.in-Err-new.ensures.bad place (ap index_refused is) in
+    record {
+      asked = tt;
+      ready = tt;
+      over = λ ptold. tt;
+      steady = tt;
+      ticks = λ told opens. tt;
+      refusal = subst (λ (s : Status). Refuses g.P.Source g.B.Bench c.args.command s c.args.schema.now c.open_public.new.schema c.args.table.now
+          c.open_public.new.table c.args.bench.now c.args.bench.now) (sym c.from-in-Err-new.ensures)
+          (groups_refused g.P.Source g.B.Bench c.args.command c.args.schema.now c.open_public.new.schema c.args.table.now c.open_public.new.table c.args.bench.now
+          (ap reads_groups c.in-Simulate.is) opened.schema e.schema_is e.steady.0 e.steady.1 fault bad
+          (λ ptold reads. lacks reads_secrets c.in-Simulate.is refl reads)
+          (λ ptold simulates other is. table_is_ok (λ (cs : List Column). public_of cs (g.P.Source.left c.args.table.now)) _ opened.schema other opened.public
+          (e.schema_is ptold) (e.public_is ptold) is)
+          (λ ptold told given. public_gives_up c.groups_of_a_schema.ensures.entries fault (g.P.Source.left c.args.schema.now) (g.P.Source.left c.args.table.now)
+          opened.schema opened.public (e.schema_is ptold) (e.public_is ptold) bad
+          (subst (λ (k : Command). IsGiven k (g.P.Source.left c.args.schema.now) (g.P.Source.left c.args.table.now) (g.B.Bench.file c.args.bench.now))
+          c.in-Simulate.is given)));
+      taken = λ none. no_step reads_files c.in-Simulate.is refl none;
+      reads = uncalled g.B.Bench c.args.bench.now (λ image sent was. g.met.B.Bench.only_now c.args.bench.now image sent was);
+      later = (e.later.0, e.later.1, stays _);
+      unread = λ none. no_step reads_files c.in-Simulate.is refl none;
+      unopened = λ none. refl;
+    }
+
+pub returns-in-Ok-new : goal.returns-in-Ok-new
+returns-in-Ok-new g c =
+    let opened = c.in-Ok-open_public.field-0 in
+    let e = c.in-Ok-open_public.ensures in
+    let made = c.in-Ok-new.ensures in
+    let index = c.in-Ok-new.index in
+    let same : index.public ≡ opened.public = made.public in
+    record {
+      asked = sym c.in-Simulate.is;
+      ready = (
+        subst (λ (p : PublicView). FitsSchema opened.schema.columns p) (sym same) e.fits,
+        subst (λ (p : PublicView). AreProtected (shape_of opened.schema.columns p.rows) index.protected) (sym same) made.fit,
+      );
+      over = λ ptold. record {
+        groups = opened.schema.groups;
+        schema_is = e.schema_is ptold;
+        public_is = subst (λ (p : PublicView). public_of opened.schema.columns (g.P.Source.left c.args.table.now) ≡ Ok p) (sym same) (e.public_is ptold);
+        entries = subst (λ (p : PublicView). AreEntries opened.schema.columns p opened.schema.groups index.protected) (sym same) made.entries;
+      };
+      steady = (e.steady.0, e.steady.1, refl);
+      ticks = λ told opens. lacks opens_journal c.in-Simulate.is refl opens;
+      refusal = tt;
+      taken = λ none. refl;
+      reads = uncalled g.B.Bench c.args.bench.now (λ image sent was. g.met.B.Bench.only_now c.args.bench.now image sent was);
+      later = (e.later.0, e.later.1, stays _);
+      unread = λ none. no_step reads_files c.in-Simulate.is refl none;
+      unopened = λ none. refl;
+    }
+
+-- ---- `serve`
+
+pub returns-in-Err-open_table : goal.returns-in-Err-open_table
+returns-in-Err-open_table g c =
+    let e = c.in-Err-open_table.ensures in
+    let fault = c.in-Err-open_table.fault in
+    record {
+      asked = tt;
+      ready = tt;
+      over = λ ptold. tt;
+      steady = tt;
+      ticks = λ told opens. tt;
+      refusal = subst (λ (s : Status). Refuses g.P.Source g.B.Bench c.args.command s c.args.schema.now c.open_table-in-Serve.new.schema c.args.table.now c.open_table-in-Serve.new.table
+          c.args.bench.now c.args.bench.now) (sym c.from-in-Err-open_table.ensures)
+          (files_refused g.P.Source g.B.Bench c.args.command c.args.schema.now c.open_table-in-Serve.new.schema c.args.table.now c.open_table-in-Serve.new.table c.args.bench.now fault
+          (ap reads_files c.in-Serve.is) e.schema_cause (λ is. e.own_schema_fault (ap table_unopened is)) (λ is. e.own_table_fault (ap table_unopened is))
+          (λ ptold is. e.schema_within ptold (ap table_unopened is)) (λ ptold is. e.table_within ptold (ap table_unopened is)) e.faults
+          (λ is. e.schema_last (ap table_unopened is)) (λ is. e.table_last (ap table_unopened is)) e.untouched
+          (λ ptold reads columns is. e.table_cause ptold columns is) (λ ptold is. no_step reads_secrets c.in-Serve.is refl (ap reads_secrets is)) (λ ptold given. gives_up_over fault _ _ _ (subst (λ (k : Command). IsGiven k (g.P.Source.left c.args.schema.now) (g.P.Source.left c.args.table.now) (g.B.Bench.file c.args.bench.now)) c.in-Serve.is given).2.files (e.schema_cause ptold) (e.table_cause ptold)));
+      taken = λ none. no_step reads_files c.in-Serve.is refl none;
+      reads = uncalled g.B.Bench c.args.bench.now (λ image sent was. g.met.B.Bench.only_now c.args.bench.now image sent was);
+      later = (e.later.0, e.later.1, stays _);
+      unread = λ none. no_step reads_files c.in-Serve.is refl none;
+      unopened = λ none. refl;
+    }
+
+-- ---- `audit`
+
+pub returns-in-Err-open_table-2 : goal.returns-in-Err-open_table-2
+returns-in-Err-open_table-2 g c =
+    let e = c.in-Err-open_table-2.ensures in
+    let fault = c.in-Err-open_table-2.fault in
+    record {
+      asked = tt;
+      ready = tt;
+      over = λ ptold. tt;
+      steady = tt;
+      ticks = λ told opens. tt;
+      refusal = subst (λ (s : Status). Refuses g.P.Source g.B.Bench c.args.command s c.args.schema.now c.open_table-in-Audit.new.schema c.args.table.now c.open_table-in-Audit.new.table
+          c.args.bench.now c.args.bench.now) (sym c.from-in-Err-open_table-2.ensures)
+          (files_refused g.P.Source g.B.Bench c.args.command c.args.schema.now c.open_table-in-Audit.new.schema c.args.table.now c.open_table-in-Audit.new.table c.args.bench.now fault
+          (ap reads_files c.in-Audit.is) e.schema_cause (λ is. e.own_schema_fault (ap table_unopened is)) (λ is. e.own_table_fault (ap table_unopened is))
+          (λ ptold is. e.schema_within ptold (ap table_unopened is)) (λ ptold is. e.table_within ptold (ap table_unopened is)) e.faults
+          (λ is. e.schema_last (ap table_unopened is)) (λ is. e.table_last (ap table_unopened is)) e.untouched
+          (λ ptold reads columns is. e.table_cause ptold columns is) (λ ptold is. no_step reads_secrets c.in-Audit.is refl (ap reads_secrets is)) (λ ptold given. gives_up_over fault _ _ _ (subst (λ (k : Command). IsGiven k (g.P.Source.left c.args.schema.now) (g.P.Source.left c.args.table.now) (g.B.Bench.file c.args.bench.now)) c.in-Audit.is given).2.files (e.schema_cause ptold) (e.table_cause ptold)));
+      taken = λ none. no_step reads_files c.in-Audit.is refl none;
+      reads = uncalled g.B.Bench c.args.bench.now (λ image sent was. g.met.B.Bench.only_now c.args.bench.now image sent was);
+      later = (e.later.0, e.later.1, stays _);
+      unread = λ none. no_step reads_files c.in-Audit.is refl none;
+      unopened = λ none. refl;
+    }
+
+pub returns-in-Err-start : goal.returns-in-Err-start
+returns-in-Err-start g c =
+    let opened = c.in-Ok-open_table.opened in
+    let e = c.in-Ok-open_table.ensures in
+    record {
+      asked = tt;
+      ready = tt;
+      over = λ ptold. tt;
+      steady = tt;
+      ticks = λ told opens. tt;
+      refusal = subst (λ (s : Status). Refuses g.P.Source g.B.Bench c.args.command s c.args.schema.now c.open_table-in-Serve.new.schema c.args.table.now c.open_table-in-Serve.new.table
+          c.args.bench.now c.start.new.bench) (sym c.from-in-Err-start.ensures)
+          (not_started g.P.Source g.B.Bench c.groups_of_a_schema.ensures.entries c.args.command c.args.schema.now c.open_table-in-Serve.new.schema c.args.table.now
+          c.open_table-in-Serve.new.table c.args.bench.now c.start.new.bench (ap opens_journal c.in-Serve.is) opened.schema (table_view opened.table) e.schema_is e.table_is e.steady.0
+          e.steady.1 c.in-Err-start.fault c.in-Err-start.ensures.bad c.in-Err-start.ensures.cause c.in-Err-start.ensures.fault c.start.ensures.reads c.in-Err-start.ensures.uncalled);
+      taken = λ none. no_step reads_files c.in-Serve.is refl none;
+      reads = c.start.ensures.reads;
+      later = (e.later.0, e.later.1, c.start.ensures.fault.later);
+      unread = λ none. no_step reads_files c.in-Serve.is refl none;
+      unopened = λ none. no_step opens_journal c.in-Serve.is refl none;
+    }
+
+pub returns-in-Ok-start : goal.returns-in-Ok-start
+returns-in-Ok-start g c =
+    let opened = c.in-Ok-open_table.opened in
+    let e = c.in-Ok-open_table.ensures in
+    let s = c.in-Ok-start.field-0 in
+    let a = c.in-Ok-start.ensures in
+    record {
+      asked = sym c.in-Serve.is;
+      ready = (
+        record { is = a.store.1; usable = a.store.0; left = λ told. subst (λ (f : List ℕ). IsAsLeft f s.store) (sym c.start.ensures.reads.file) (a.stands told) },
+        subst (λ (p : PublicView). FitsSchema s.schema.columns p) (sym a.same.1) (subst (λ (v : SchemaView). FitsSchema v.columns opened.table.public) (sym a.same.0) e.fits),
+        ap (λ (v : SecretView). v.shape) a.same.2 ∙ e.shape ∙ ap (λ (v : SchemaView). shape_of v.columns opened.table.public.rows) (sym a.same.0)
+            ∙ ap (λ (p : PublicView). shape_of s.schema.columns p.rows) (sym a.same.1),
+        a.same.3,
+      );
+      over = λ ptold.
+          subst (λ (v : SchemaView). AreSoundFilesOf (g.P.Source.left c.args.schema.now) (g.P.Source.left c.args.table.now)
+          (base_of v.columns s.index.public s.index.protected s.store.secret)) (sym a.same.0)
+          (subst (λ (p : PublicView). AreSoundFilesOf (g.P.Source.left c.args.schema.now) (g.P.Source.left c.args.table.now)
+          (base_of opened.schema.columns p s.index.protected s.store.secret)) (sym a.same.1)
+          (subst (λ (v : SecretView). AreSoundFilesOf (g.P.Source.left c.args.schema.now) (g.P.Source.left c.args.table.now)
+          (base_of opened.schema.columns opened.table.public s.index.protected v)) (sym a.same.2)
+          (record {
+            files = record { groups = opened.schema.groups; schema_is = e.schema_is ptold; table_is = e.table_is ptold };
+            entries = subst (λ (l : List Protected). AreEntries opened.schema.columns opened.table.public opened.schema.groups l) (sym a.same.3) a.entries;
+          })));
+      steady = (e.steady.0, e.steady.1, a.fault.steady (not_both _ _));
+      ticks = λ told opens. a.ticks told;
+      refusal = tt;
+      taken = λ none. refl;
+      reads = c.start.ensures.reads;
+      later = (e.later.0, e.later.1, c.start.ensures.fault.later);
+      unread = λ none. no_step reads_files c.in-Serve.is refl none;
+      unopened = λ none. no_step opens_journal c.in-Serve.is refl none;
+    }
+
+pub returns-in-Err-start-2 : goal.returns-in-Err-start-2
+returns-in-Err-start-2 g c =
+    let opened = c.in-Ok-open_table-2.opened in
+    let e = c.in-Ok-open_table-2.ensures in
+    record {
+      asked = tt;
+      ready = tt;
+      over = λ ptold. tt;
+      steady = tt;
+      ticks = λ told opens. tt;
+      refusal = subst (λ (s : Status). Refuses g.P.Source g.B.Bench c.args.command s c.args.schema.now c.open_table-in-Audit.new.schema c.args.table.now c.open_table-in-Audit.new.table
+          c.args.bench.now c.start-in-Audit.new.bench) (sym c.from-in-Err-start-2.ensures)
+          (not_started g.P.Source g.B.Bench c.groups_of_a_schema.ensures.entries c.args.command c.args.schema.now c.open_table-in-Audit.new.schema c.args.table.now
+          c.open_table-in-Audit.new.table c.args.bench.now c.start-in-Audit.new.bench (ap opens_journal c.in-Audit.is) opened.schema (table_view opened.table) e.schema_is e.table_is e.steady.0
+          e.steady.1 c.in-Err-start-2.fault c.in-Err-start-2.ensures.bad c.in-Err-start-2.ensures.cause c.in-Err-start-2.ensures.fault c.start-in-Audit.ensures.reads c.in-Err-start-2.ensures.uncalled);
+      taken = λ none. no_step reads_files c.in-Audit.is refl none;
+      reads = c.start-in-Audit.ensures.reads;
+      later = (e.later.0, e.later.1, c.start-in-Audit.ensures.fault.later);
+      unread = λ none. no_step reads_files c.in-Audit.is refl none;
+      unopened = λ none. no_step opens_journal c.in-Audit.is refl none;
+    }
+
+pub returns-in-Ok-start-2 : goal.returns-in-Ok-start-2
+returns-in-Ok-start-2 g c =
+    let opened = c.in-Ok-open_table-2.opened in
+    let e = c.in-Ok-open_table-2.ensures in
+    let s = c.in-Ok-start-2.field-0 in
+    let a = c.in-Ok-start-2.ensures in
+    let shape : s.store.secret.shape ≡ shape_of s.schema.columns opened.table.public.rows = ap (λ (v : SecretView). v.shape) a.same.2 ∙ e.shape
+    ∙ ap (λ (v : SchemaView). shape_of v.columns opened.table.public.rows) (sym a.same.0) in
+    record {
+      asked = sym c.in-Audit.is;
+      ready = (
+        record { is = a.store.1; usable = a.store.0; left = λ told. subst (λ (f : List ℕ). IsAsLeft f s.store) (sym c.start-in-Audit.ensures.reads.file) (a.stands told) },
+        shape ∙ ap (λ (n : ℕ). shape_of s.schema.columns n) (sym (ap (λ (v : Shape). v.rows) shape)),
+      );
+      over = λ ptold. (
+        opened.table.public,
+        subst (λ (v : SchemaView). AreSoundFilesOf (g.P.Source.left c.args.schema.now) (g.P.Source.left c.args.table.now)
+            (base_of v.columns opened.table.public s.store.protected s.store.secret)) (sym a.same.0)
+            (subst (λ (v : SecretView). AreSoundFilesOf (g.P.Source.left c.args.schema.now) (g.P.Source.left c.args.table.now)
+            (base_of opened.schema.columns opened.table.public s.store.protected v)) (sym a.same.2)
+            (record { files = record { groups = opened.schema.groups; schema_is = e.schema_is ptold; table_is = e.table_is ptold }; entries = a.entries })),
+      );
+      steady = (e.steady.0, e.steady.1, a.fault.steady (not_both _ _));
+      ticks = λ told opens. a.ticks told;
+      refusal = tt;
+      taken = λ none. refl;
+      reads = c.start-in-Audit.ensures.reads;
+      later = (e.later.0, e.later.1, c.start-in-Audit.ensures.fault.later);
+      unread = λ none. no_step reads_files c.in-Audit.is refl none;
+      unopened = λ none. no_step opens_journal c.in-Audit.is refl none;
+    }

@@ -1,0 +1,113 @@
+-- What `run` says of `drill`.
+use Rattle.std.proofs.Common.{◌≡◌, ◌≤◌, ◌+◌, ℕ, Option, Some, refl, sym, ◌∙◌, ap, subst, map, string_bytes}
+use Rattle.bench_core.specs.Causes.{Rose}
+use Rattle.auditor_top.specs.declared.words.Command.{Command}
+use Rattle.auditor_top.specs.declared.words.Command.TheVariants as command
+use Rattle.auditor_top.specs.Words.{command_of, NamesCommand}
+use Rattle.auditor_top.specs.Commands.{reads_groups, AreSoundFilesOf, opens_journal, reads_files, reads_secrets, reads_lines}
+use Rattle.auditor_top.specs.Causes.{WordCause, FileCause, FaultCause, counts}
+use Rattle.auditor_top.specs.Drills.{DrillEnds}
+use Rattle.auditor_top.specs.Runs.{objects, Drilling}
+use Rattle.auditor_top.specs.Stages.{reading_table, opening_journal, reading_lines}
+use Rattle.auditor_top.proofs.OneCommand.{one_command, one_drill, same_command, asked_for, not_asked, none_asked, lacks_step}
+use Rattle.auditor_top.proofs.Openings.{stays, later_still}
+use Rattle.auditor_top.proofs.Refusals.{as_quiet}
+use Rattle.auditor_top.proofs.StepFaults.{moved}
+use Rattle.auditor_top.proofs.StepStatuses.{always_before, before_so}
+use Rattle.std.specs.Bool.{OnTrue}
+use Rattle.audit_types.specs.declared.records.Protected.{Protected}
+use Rattle.audit_types.specs.History.{IsLegal}
+use Rattle.set_index.specs.Groups.{AreEntries}
+use Rattle.set_index.specs.Indexed.{IndexView}
+use Rattle.auditor_top.proofs.OneTable.{one_secret, groups_are_sound}
+use Rattle.auditor_top.proofs.StepStatuses.{groups_read}
+use Rattle.auditor_top.proofs.running.run.Given.{Over}
+use Rattle.auditor_top.proofs.running.run.Goals as goal
+
+drilling : (g : Over) (c : goal.After-drill g) → (number : ℕ) → NamesCommand c.args.words.now.items (command.Drill number) →
+    Drilling g.P.Source g.I.Source g.B.Bench number c.drill.result (objects c.args.schema.now c.args.table.now c.args.input.now c.args.bench.now c.args.spare.now)
+    (objects c.open.new.schema c.open.new.table c.args.input.now c.drill.new.bench c.args.spare.now)
+drilling g c = λ number asked.
+    let at = c.args.bench.now in
+    let later = c.drill.new.bench in
+    let n = c.in-Ok-Drill.number in
+    let old = objects c.args.schema.now c.args.table.now c.args.input.now at c.args.spare.now in
+    let new = objects c.open.new.schema c.open.new.table c.args.input.now later c.args.spare.now in
+    let same : c.in-Ok.command ≡ command.Drill n = same_command _ _ _ c.in-Ok-Drill.field-0-is c.in-Ok-Drill.ensures.asked in
+    let unopened : c.open.new.bench ≡ at = c.open.ensures.unopened (ap opens_journal same) in
+    subst (λ (k : ℕ). Drilling g.P.Source g.I.Source g.B.Bench k c.drill.result old new) (one_drill _ n number (asked_for _ _ _ _ c.in-Ok.ensures.command c.in-Ok-Drill.field-0-is c.in-Ok-Drill.ensures.asked) asked)
+    (record {
+      drilled = λ told. subst (λ b. DrillEnds c.drill.result n (g.B.Bench.sent b) (g.B.Bench.sent later)) unopened (c.drill.ensures.ends told);
+      drill_calls = λ told done. subst (λ b. g.B.Bench.moment later ≡ g.B.Bench.moment b + 1) unopened (c.drill.ensures.calls told done);
+      drill_call = subst (λ b. g.B.Bench.moment later ≤ g.B.Bench.moment b + 1) unopened c.drill.ensures.one_call;
+      undrilled = λ is. c.drill.ensures.no_memory is ∙ unopened;
+      drills = λ none. c.drill.ensures.complete (g.P.Source.faults old.schema) (g.P.Source.faults old.table) (g.I.Source.faults old.input)
+          (g.B.Bench.faults old.spare) (record {
+            schema = λ rose. none.schema (subst (λ (m : ℕ). Rose (g.P.Source.faults old.schema) m) (sym c.in-Ok-Drill.ensures.steady.0) rose);
+            table = λ rose. none.table (subst (λ (m : ℕ). Rose (g.P.Source.faults old.table) m) (sym c.in-Ok-Drill.ensures.steady.1) rose);
+            input = none.input;
+            bench = λ rose. none.bench (subst (λ b. Rose (g.B.Bench.faults b) (g.B.Bench.faults later)) unopened rose);
+          });
+    })
+
+pub drill_ends : goal.returns-in-Ok-Drill
+drill_ends g c =
+    let n = c.in-Ok-Drill.number in
+    let status = c.drill.result in
+    let file = g.B.Bench.file c.args.bench.now in
+    let schema = g.P.Source.faults c.args.schema.now in
+    let table = g.P.Source.faults c.args.table.now in
+    let input = g.I.Source.faults c.args.input.now in
+    let spare = g.B.Bench.faults c.args.spare.now in
+    let same : c.in-Ok.command ≡ command.Drill n = same_command _ _ _ c.in-Ok-Drill.field-0-is c.in-Ok-Drill.ensures.asked in
+    let is_named : command_of (map string_bytes c.args.words.now.items) ≡ Some (command.Drill n) =
+    asked_for _ _ _ _ c.in-Ok.ensures.command c.in-Ok-Drill.field-0-is c.in-Ok-Drill.ensures.asked in
+    let unopened : c.open.new.bench ≡ c.args.bench.now = c.open.ensures.unopened (ap opens_journal same) in
+    let unread = c.open.ensures.unread (ap reads_files same) in
+    let steady = c.in-Ok-Drill.ensures.steady in
+    let before = counts schema table input (g.B.Bench.faults c.args.bench.now) spare in
+    let faults = moved status before _ _ _ _ input (g.B.Bench.faults c.drill.new.bench) spare steady.0 steady.1
+    (subst (λ b. FaultCause status (counts schema table input (g.B.Bench.faults b) spare)
+    (counts schema table input (g.B.Bench.faults c.drill.new.bench) spare)) unopened (c.drill.ensures.faults schema table input spare)) in
+    record {
+      words = subst (λ (asked : Option Command). WordCause status asked) (sym is_named) c.drill.ensures.word_cause;
+      schema = λ ptold command asked reads. lacks_step reads_files _ _ command is_named asked refl reads;
+      table = λ ptold command asked reads. lacks_step reads_secrets _ _ command is_named asked refl reads;
+      public = λ ptold asked. not_asked _ _ _ is_named asked refl;
+      groups = λ ptold command asked reads. lacks_step reads_groups _ _ command is_named asked refl reads;
+      own_schema_fault = c.drill.ensures.own_schema_fault;
+      own_table_fault = c.drill.ensures.own_table_fault;
+      file = λ ptold told other asked base files sound.
+          subst (λ (k : Command). FileCause status k file (table_in base)) (one_command _ _ other is_named asked) (c.drill.ensures.file_cause file (table_in base));
+      input = λ itold command asked reads. lacks_step reads_lines _ _ command is_named asked refl reads;
+      faults = faults;
+      schema_last = λ is. absurd (c.drill.ensures.no_source _ is);
+      table_last = λ is. absurd (c.drill.ensures.no_source _ is);
+      input_last = λ is. absurd (c.drill.ensures.no_source _ is);
+      bench_last = c.drill.ensures.bench_last;
+      later = record {
+        schema = c.open.ensures.later.0;
+        table = c.open.ensures.later.1;
+        input = stays _;
+        bench = later_still _ _ _ c.open.ensures.later.2 (c.drill.ensures.later schema table input spare).bench;
+      };
+      schema_within = λ ptold is. absurd (c.drill.ensures.no_source _ is);
+      table_within = λ ptold is. absurd (c.drill.ensures.no_source _ is);
+      lives = λ ptold itold told batch asked. not_asked _ _ _ is_named asked refl;
+      init = λ asked. not_asked _ _ _ is_named asked refl;
+      serve = λ batch asked. not_asked _ _ _ is_named asked refl;
+      audit = λ asked. not_asked _ _ _ is_named asked refl;
+      simulate = λ asked. not_asked _ _ _ is_named asked refl;
+      drill = drilling g c;
+      nothing_began = λ ptold told command asked opens. lacks_step opens_journal _ _ command is_named asked refl opens;
+      quiet = λ told quiet fine. c.drill.ensures.quiet (as_quiet g.B.Bench _ _ c.open.ensures.reads quiet);
+      before_table = always_before reading_table status unread.1;
+      before_bench = before_so opening_journal status (λ is. is ∙ unopened) c.drill.ensures.before_bench;
+      before_lines = before_so reading_lines status (λ sent. (refl, sent ∙ c.open.ensures.reads.sent)) c.drill.ensures.before_lines;
+      unwritten = λ told. always_before reading_lines status (c.drill.ensures.file ∙ c.open.ensures.reads.file);
+      unread = λ none. none_asked _ _ none is_named;
+      no_files = λ command asked none. unread;
+      no_lines = λ command asked none. refl;
+      never_written = λ told command asked none. c.drill.ensures.file ∙ c.open.ensures.reads.file;
+      spare = refl;
+    }

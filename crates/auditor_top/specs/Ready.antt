@@ -1,0 +1,124 @@
+-- What a command goes on with once its files are read and its journal is opened, and with which statuses that may end.
+use Rattle.std.specs.Prelude.{◌≡◌, ◌≢◌, ◌≤◌, ◌+◌, List, ℕ, true, length, Some, Ok}
+use Rattle.audit_types.specs.declared.records.Answered.{Answered}
+use Rattle.audit_types.specs.Shapes.{IsShape}
+use Rattle.bench_core.specs.declared.bench.Bench.{Ghosts}
+use Rattle.bench_core.specs.declared.source.Source as source
+use Rattle.std.specs.Bool.{OnTrue}
+use Rattle.audit_types.specs.History.{AreProtected}
+use Rattle.schema_json.specs.Columns.{Column, SchemaView}
+use Rattle.schema_json.specs.Reading.{schema_of, most_schema}
+use Rattle.schema_json.specs.SecretShape.{shape_of}
+use Rattle.schema_json.specs.declared.faults.SchemaFault.TheVariants as schema_fault
+use Rattle.table_load.specs.Cells.{FitsSchema, PublicView}
+use Rattle.table_load.specs.Database.{Database, base_of, table_in}
+use Rattle.set_index.specs.Groups.{AreEntries}
+use Rattle.set_index.specs.Indexed.{IndexView}
+use Rattle.table_load.specs.Reading.{most_table}
+use Rattle.table_load.specs.Tables.{table_of, public_of}
+use Rattle.table_load.specs.declared.faults.TableFault.TheVariants as table_fault
+use Rattle.audit_store.specs.Stores.{StoreContents, IsStore, IsAsLeft}
+use Rattle.auditor_top.specs.declared.ready.Ready.{Ready}
+use Rattle.auditor_top.specs.declared.ready.Ready.TheVariants.{Init, Serve, Audit, Simulate, Drill}
+use Rattle.auditor_top.specs.declared.words.Command.{Command}
+use Rattle.auditor_top.specs.declared.words.Command.TheVariants as command
+use Rattle.auditor_top.specs.declared.status.Which.TheVariants.{Schema, Table, Input}
+use Rattle.auditor_top.specs.declared.status.Status.{Status}
+use Rattle.auditor_top.specs.declared.status.Status.TheVariants.{Done, BadWords, BadSchema, BadTable, SourceFault, BenchFault, AlreadyThere, InputLimit, Disagrees, NoMemory}
+use Rattle.auditor_top.specs.Causes.{WordCause, SchemaCause, TableCause, GroupCause, FileCause, FaultCause, counts}
+use Rattle.auditor_top.specs.Commands.{AreFilesOf, AreSoundFilesOf, ArePublicFilesOf, ServesOver, opens_journal, reads_files, reads_groups, reads_secrets}
+use Rattle.auditor_top.specs.Stages.{Before, reading_table, opening_journal}
+
+-- ---- what is given and what comes of it
+
+-- what a command is given is without fault: its files, and the journal that it opens
+abbrev pub IsGiven : Command → List ℕ → List ℕ → List ℕ → Type 0
+IsGiven command.Init schema table file = (base : Database) × AreFilesOf schema table base
+IsGiven (command.Serve batch) schema table file = (base : Database) × (history : List Answered) × ServesOver schema table file base history
+IsGiven command.Audit schema table file = (base : Database) × (history : List Answered) × ServesOver schema table file base history
+IsGiven command.Simulate schema table file = (columns : List Column) × (index : IndexView) × ArePublicFilesOf schema table columns index
+IsGiven (command.Drill number) schema table file = Unit {0}
+
+-- the command that goes on with this
+abbrev pub command_for : Ready → Command
+command_for (Init shape) = command.Init
+command_for (Serve schema index store batch) = command.Serve batch
+command_for (Audit schema store) = command.Audit
+command_for (Simulate schema index) = command.Simulate
+command_for (Drill number) = command.Drill number
+
+-- a store that was just opened: the journal's file is as it left it
+pub record IsOpened {B : Type 0} (bench : Ghosts B) (now : B) (store : StoreContents) : Type 0 where
+  pub is : IsStore store
+  pub usable : store.usable ≡ true
+  pub left : bench.told → IsAsLeft (bench.file now) store
+
+-- its parts fit one another
+abbrev pub IsReady : {B : Type 0} → Ghosts B → B → Ready → Type 0
+IsReady bench now (Init shape) = IsShape shape
+IsReady bench now (Serve schema index store batch) =
+    IsOpened bench now store × FitsSchema schema.columns index.public × (store.secret.shape ≡ shape_of schema.columns index.public.rows) ×
+    (index.protected ≡ store.protected)
+IsReady bench now (Audit schema store) = IsOpened bench now store × (store.secret.shape ≡ shape_of schema.columns store.secret.shape.rows)
+IsReady bench now (Simulate schema index) =
+    FitsSchema schema.columns index.public × AreProtected (shape_of schema.columns index.public.rows) index.protected
+IsReady bench now (Drill number) = Unit {0}
+
+-- its parts are what the files mean
+abbrev pub IsReadyOver : List ℕ → List ℕ → Ready → Type 0
+IsReadyOver schema_file table_file (Init shape) = (base : Database) × AreFilesOf schema_file table_file base × (shape ≡ base.secret.shape)
+IsReadyOver schema_file table_file (Serve schema index store batch) =
+    AreSoundFilesOf schema_file table_file (base_of schema.columns index.public index.protected store.secret)
+IsReadyOver schema_file table_file (Audit schema store) = (public : PublicView) × AreSoundFilesOf schema_file table_file (base_of schema.columns public store.protected store.secret)
+IsReadyOver schema_file table_file (Simulate schema index) = ArePublicFilesOf schema_file table_file schema.columns index
+IsReadyOver schema_file table_file (Drill number) = Unit {0}
+
+-- ---- the statuses
+
+-- a run may end so before its command goes on
+abbrev pub EndsEarly : Status → Type 0
+EndsEarly Done = ⊥
+EndsEarly BadWords = ⊥
+EndsEarly (SourceFault Input) = ⊥
+EndsEarly AlreadyThere = ⊥
+EndsEarly InputLimit = ⊥
+EndsEarly (Disagrees line due) = ⊥
+EndsEarly status = Unit {0}
+
+-- before that a call failed, or memory ran out: that may come whatever is given
+abbrev pub GivesUp : Status → Type 0
+GivesUp (SourceFault Schema) = Unit {0}
+GivesUp (SourceFault Table) = Unit {0}
+GivesUp BenchFault = Unit {0}
+GivesUp NoMemory = Unit {0}
+GivesUp status = ⊥
+
+-- what is said of a refusal: of the words, the files and the journal, and of the call that failed, the last one
+pub record Refuses {P B : Type 0} (files : source.Ghosts P) (bench : Ghosts B) (asked : Command) (status : Status) (old_schema new_schema old_table new_table : P)
+    (old new : B) : Type 0 where
+  pub words : WordCause status (Some asked)
+  pub schema : files.told → reads_files asked ≡ true → SchemaCause status (schema_of (files.left old_schema))
+  pub table : files.told → reads_secrets asked ≡ true → (meant : SchemaView) → schema_of (files.left old_schema) ≡ Ok meant →
+      TableCause status (table_of meant.columns (files.left old_table))
+  pub public : files.told → asked ≡ command.Simulate → (meant : SchemaView) → schema_of (files.left old_schema) ≡ Ok meant →
+      TableCause status (public_of meant.columns (files.left old_table))
+  pub groups : files.told → reads_groups asked ≡ true → (meant : SchemaView) → schema_of (files.left old_schema) ≡ Ok meant →
+      GroupCause status meant.columns meant.groups
+  pub file : files.told → bench.told → (base : Database) → (given : AreFilesOf (files.left old_schema) (files.left old_table) base) →
+      OnTrue (reads_groups asked) (AreEntries base.columns base.public given.groups base.protected) → FileCause status asked (bench.file old) (table_in base)
+  pub own_schema_fault : status ≢ BadSchema schema_fault.NoMemory
+  pub own_table_fault : status ≢ BadTable table_fault.NoMemory
+  pub schema_within : files.told → status ≡ SourceFault Schema → length (files.left old_schema) ≤ most_schema + length (files.left new_schema)
+  pub table_within : files.told → status ≡ SourceFault Table → length (files.left old_table) ≤ most_table + length (files.left new_table)
+  pub early : EndsEarly status
+  -- where what is given has no fault, a call failed or memory ran out
+  pub gives_up : files.told → (opens_journal asked ≡ true → bench.told) → IsGiven asked (files.left old_schema) (files.left old_table) (bench.file old) →
+      GivesUp status
+  pub faults : (input spare : ℕ) → FaultCause status (counts (files.faults old_schema) (files.faults old_table) input (bench.faults old) spare)
+      (counts (files.faults new_schema) (files.faults new_table) input (bench.faults new) spare)
+  pub schema_last : status ≡ SourceFault Schema → files.last_failed new_schema ≡ true
+  pub table_last : status ≡ SourceFault Table → files.last_failed new_table ≡ true
+  pub bench_last : status ≡ BenchFault → bench.last_failed new ≡ true
+  -- what isn't come to isn't called
+  pub before_table : Before reading_table status (new_table ≡ old_table)
+  pub before_bench : Before opening_journal status (new ≡ old)

@@ -1,0 +1,143 @@
+-- What a run of each command does, by its status, and by the objects that it is handed: as they were and as they are left.
+use Rattle.std.specs.Prelude.{◌≡◌, ◌≢◌, ◌≤◌, ◌+◌, List, [], ℕ, length}
+use Rattle.audit_types.specs.declared.records.Answered.{Answered}
+use Rattle.audit_types.specs.History.{IsLegal, IsUndisclosed}
+use Rattle.bench_core.specs.declared.bench.Bench.{Ghosts}
+use Rattle.bench_core.specs.declared.source.Source as source
+use Rattle.bench_core.specs.Calls.{IsQuiet, IsUntouched, LeavesOnly}
+use Rattle.schema_json.specs.Columns.{Column}
+use Rattle.set_index.specs.Indexed.{IndexView}
+use Rattle.table_load.specs.Database.{Database, table_in}
+use Rattle.journal_form.specs.Journal.{StandsFor}
+use Rattle.answer_journal.specs.Make.{calls_to_make}
+use Rattle.answer_journal.specs.Moments.{IsAlready, IsUnmadeOrEmpty}
+use Rattle.line_wire.specs.Lines.{counted_lines, most_input}
+use Rattle.question_plan.specs.Session.{Replied}
+use Rattle.audit_session.specs.Ends.{TakesCalls}
+use Rattle.audit_session.specs.Stops.{StopsOver}
+use Rattle.journal_audit.specs.Reports.{SendsMeanwhile, subjects}
+use Rattle.transcript_sim.specs.Ends.{SimulatesMeanwhile}
+use Rattle.transcript_sim.specs.Verdicts.{AreVerdicts, exchanges}
+use Rattle.auditor_top.specs.declared.status.Status.{Status}
+use Rattle.auditor_top.specs.declared.status.Status.TheVariants.{Done, BenchFault, NoMemory}
+use Rattle.auditor_top.specs.Causes.{FaultCounts, counts, NothingFailed, IsDoneOrWants}
+use Rattle.auditor_top.specs.Commands.{AreFilesOf, ArePublicFilesOf, ServesOver}
+use Rattle.auditor_top.specs.Drills.{DrillEnds}
+use Rattle.auditor_top.specs.Ends.{AuditEnds, LeavesFile, ServeEnds, SimulateEnds, SimulateSends, audit_over, outside}
+
+-- the objects that a run is handed
+pub record Objects (P I B : Type 0) : Type 0 where
+  pub schema : P
+  pub table : P
+  pub input : I
+  pub bench : B
+  pub spare : B
+
+abbrev pub objects : {P I B : Type 0} → P → P → I → B → B → Objects P I B
+objects schema table input bench spare = record { schema = schema; table = table; input = input; bench = bench; spare = spare }
+
+-- how often each of them has failed
+abbrev pub faults_of : {P I B : Type 0} → source.Ghosts P → source.Ghosts I → Ghosts B → Objects P I B → FaultCounts
+faults_of files lines bench at =
+    counts (files.faults at.schema) (files.faults at.table) (lines.faults at.input) (bench.faults at.bench) (bench.faults at.spare)
+
+-- a run of `serve`
+pub record Serving {P I B : Type 0} (files : source.Ghosts P) (lines : source.Ghosts I) (bench : Ghosts B) (batch : ℕ) (status : Status)
+    (old new : Objects P I B) : Type 0 where
+  -- over the files of a table and a journal that stands for a legal history of it: which lines were answered, what was sent
+  -- and what the file stands for, at each end
+  pub served : files.told → lines.told → bench.told → (base : Database) (history : List Answered) →
+      ServesOver (files.left old.schema) (files.left old.table) (bench.file old.bench) base history →
+      ServeEnds batch status base history (outside lines bench old.input old.bench) (outside lines bench new.input new.bench)
+  -- at every moment it is a stop: the image of the file that a crash leaves stands for the history with the records of some
+  -- groups of lines, and their replies were sent, those of the last group maybe in part
+  pub any_moment : files.told → lines.told → bench.told → IsQuiet bench old.bench → (base : Database) (history : List Answered) →
+      ServesOver (files.left old.schema) (files.left old.table) (bench.file old.bench) base history →
+      LeavesOnly bench old.bench new.bench (StopsOver base batch history (counted_lines (lines.left old.input)) (bench.sent old.bench))
+  -- every history that a crash at any moment leaves is legal for the table, and discloses no secret of it, whatever the input is
+  pub undisclosed : files.told → bench.told → IsQuiet bench old.bench → (base : Database) (history : List Answered) →
+      ServesOver (files.left old.schema) (files.left old.table) (bench.file old.bench) base history →
+      (image sent : List ℕ) (now : List Answered) → bench.since new.bench (bench.moment old.bench) image sent → StandsFor image base.secret.shape now →
+      IsLegal (table_in base) now × IsUndisclosed (table_in base) now
+  -- it took two calls of the bench to open the journal, one for each line, and four for each group in which some reply makes a record
+  pub serve_calls : files.told → lines.told → bench.told → status ≡ Done → (base : Database) (history : List Answered) →
+      ServesOver (files.left old.schema) (files.left old.table) (bench.file old.bench) base history →
+      TakesCalls base history batch (counted_lines (lines.left old.input)) (bench.moment old.bench + 2) (bench.moment new.bench)
+  -- where nothing is wrong and nothing fails, it is done
+  pub complete : files.told → lines.told → bench.told → (base : Database) (history : List Answered) →
+      ServesOver (files.left old.schema) (files.left old.table) (bench.file old.bench) base history →
+      length (lines.left old.input) ≤ most_input → NothingFailed (faults_of files lines bench old) (faults_of files lines bench new) → IsDoneOrWants status
+
+-- a run of `audit`
+pub record Auditing {P I B : Type 0} (files : source.Ghosts P) (lines : source.Ghosts I) (bench : Ghosts B) (status : Status) (old new : Objects P I B) : Type 0 where
+  -- over the files of a table and a journal that stands for a legal history of it: the report of the history was sent, or a
+  -- front of it, at the end and at every moment
+  pub audited : files.told → bench.told → (base : Database) (history : List Answered) →
+      ServesOver (files.left old.schema) (files.left old.table) (bench.file old.bench) base history →
+      AuditEnds status base history (bench.sent old.bench) (bench.sent new.bench)
+  pub auditing : files.told → bench.told → IsQuiet bench old.bench → (base : Database) (history : List Answered) →
+      ServesOver (files.left old.schema) (files.left old.table) (bench.file old.bench) base history →
+      LeavesOnly bench old.bench new.bench (SendsMeanwhile (audit_over base history) (subjects base.secret.shape) (bench.file old.bench) (bench.sent old.bench))
+  -- it took two calls of the bench to open the journal, and one for each line of the report
+  pub audit_calls : files.told → bench.told → status ≡ Done → (base : Database) → AreFilesOf (files.left old.schema) (files.left old.table) base →
+      bench.moment new.bench ≡ bench.moment old.bench + 2 + length (subjects base.secret.shape)
+  -- where nothing is wrong and nothing fails, it is done
+  pub audits : files.told → bench.told → (base : Database) (history : List Answered) →
+      ServesOver (files.left old.schema) (files.left old.table) (bench.file old.bench) base history →
+      NothingFailed (faults_of files lines bench old) (faults_of files lines bench new) → IsDoneOrWants status
+
+-- a run of `simulate`
+pub record Simulating {P I B : Type 0} (files : source.Ghosts P) (lines : source.Ghosts I) (bench : Ghosts B) (status : Status)
+    (old new : Objects P I B) : Type 0 where
+  -- over a schema and the public part of a table: a verdict for each question of the input, whether or not the bench tells
+  -- what was sent; their lines were, or a front of them, at the end and at every moment
+  pub simulated : files.told → lines.told → (columns : List Column) (index : IndexView) →
+      ArePublicFilesOf (files.left old.schema) (files.left old.table) columns index →
+      (verdicts : List (Replied Answered)) × SimulateEnds status columns index (lines.left old.input) (lines.left new.input) verdicts ×
+      (bench.told → SimulateSends status verdicts (bench.sent old.bench) (bench.sent new.bench))
+  pub simulating : files.told → bench.told → IsQuiet bench old.bench → (columns : List Column) (index : IndexView) →
+      ArePublicFilesOf (files.left old.schema) (files.left old.table) columns index →
+      LeavesOnly bench old.bench new.bench
+      (SimulatesMeanwhile lines.told columns index (counted_lines (lines.left old.input)) (bench.file old.bench) (bench.sent old.bench))
+  -- the file stays, over whatever files
+  pub undisturbed : bench.told → IsQuiet bench old.bench → LeavesOnly bench old.bench new.bench (LeavesFile (bench.file old.bench))
+  -- it took one call of the bench for each question
+  pub simulate_calls : lines.told → bench.told → status ≡ Done →
+      bench.moment new.bench ≡ bench.moment old.bench + length (exchanges (counted_lines (lines.left old.input)))
+  -- where nothing is wrong, all replies agree and nothing fails, it is done
+  pub simulates : files.told → lines.told → (columns : List Column) (index : IndexView) →
+      ArePublicFilesOf (files.left old.schema) (files.left old.table) columns index → (verdicts : List (Replied Answered)) →
+      AreVerdicts columns index (counted_lines (lines.left old.input)) verdicts → length (lines.left old.input) ≤ most_input →
+      NothingFailed (faults_of files lines bench old) (faults_of files lines bench new) → IsDoneOrWants status
+
+-- a run of `init`
+pub record Making {P I B : Type 0} (files : source.Ghosts P) (lines : source.Ghosts I) (bench : Ghosts B) (status : Status) (old new : Objects P I B) : Type 0 where
+  -- it makes a journal that stands for the empty history, and sends nothing
+  pub made : files.told → bench.told → status ≡ Done → (base : Database) → AreFilesOf (files.left old.schema) (files.left old.table) base →
+      StandsFor (bench.file new.bench) base.secret.shape []
+  pub kept : bench.told → status ≢ Done → status ≢ BenchFault → bench.file new.bench ≡ bench.file old.bench
+  pub unsent : bench.sent new.bench ≡ bench.sent old.bench
+  -- at every moment the file is the one that was there already, or no made journal, or stands for the empty history
+  pub untouched : bench.told → IsAlready (bench.file old.bench) → IsQuiet bench old.bench →
+      LeavesOnly bench old.bench new.bench (IsUntouched (bench.file old.bench) (bench.sent old.bench))
+  pub making : files.told → bench.told → ¬ (IsAlready (bench.file old.bench)) → IsQuiet bench old.bench → (base : Database) →
+      AreFilesOf (files.left old.schema) (files.left old.table) base →
+      LeavesOnly bench old.bench new.bench (IsUnmadeOrEmpty base.secret.shape (bench.sent old.bench))
+  pub unmade : status ≡ NoMemory → new.bench ≡ old.bench
+  -- it took seven calls of the bench, or six over a file of 21 bytes
+  pub init_calls : bench.told → status ≡ Done → bench.moment new.bench ≡ bench.moment old.bench + calls_to_make (bench.file old.bench)
+  -- where nothing is wrong and nothing fails, it is done
+  pub makes : files.told → bench.told → (base : Database) → AreFilesOf (files.left old.schema) (files.left old.table) base →
+      ¬ (IsAlready (bench.file old.bench)) → NothingFailed (faults_of files lines bench old) (faults_of files lines bench new) → IsDoneOrWants status
+
+-- a run of `drill`
+pub record Drilling {P I B : Type 0} (files : source.Ghosts P) (lines : source.Ghosts I) (bench : Ghosts B) (number : ℕ) (status : Status)
+    (old new : Objects P I B) : Type 0 where
+  -- it sends the summary of the replies that are due to the drill's lines, or a front of it
+  pub drilled : bench.told → DrillEnds status number (bench.sent old.bench) (bench.sent new.bench)
+  -- that is one call of the bench, at most one where it failed, and where memory is wanting there is none
+  pub drill_calls : bench.told → status ≡ Done → bench.moment new.bench ≡ bench.moment old.bench + 1
+  pub drill_call : bench.moment new.bench ≤ bench.moment old.bench + 1
+  pub undrilled : status ≡ NoMemory → new.bench ≡ old.bench
+  -- where nothing fails, it is done
+  pub drills : NothingFailed (faults_of files lines bench old) (faults_of files lines bench new) → IsDoneOrWants status

@@ -1,0 +1,49 @@
+//! The status of the last step of a command, by how it ended.
+ghost use Rattle.std.specs.Prelude.{◌≡◌};
+ghost use Rattle.auditor_top.specs.Status.{making_status, session_status, audit_status, simulation_status};
+
+use crate::status::Status;
+use answer_journal::MakeFault;
+use audit_session::EndFault;
+use journal_audit::AuditFault;
+use transcript_sim::SimulationFault;
+
+/// The status of a making that ended so.
+pub fn made(making: Result<(), MakeFault>) -> Status
+    ensures { result ≡ making_status making }
+{
+    match making {
+        Ok(()) => Status::Done,
+        Err(fault) => Status::from(fault),
+    }
+}
+
+/// The status of a session that ended so.
+pub fn answered(session: Result<(), EndFault>) -> Status
+    ensures { result ≡ session_status session }
+{
+    match session {
+        Ok(()) => Status::Done,
+        Err(fault) => Status::from(fault),
+    }
+}
+
+/// The status of a report that ended so.
+pub fn reported(report: Result<(), AuditFault>) -> Status
+    ensures { result ≡ audit_status report }
+{
+    match report {
+        Ok(()) => Status::Done,
+        Err(fault) => Status::from(fault),
+    }
+}
+
+/// The status of a simulation that ended so.
+pub fn judged(simulation: Result<(), SimulationFault>) -> Status
+    ensures { result ≡ simulation_status simulation }
+{
+    match simulation {
+        Ok(()) => Status::Done,
+        Err(fault) => Status::from(fault),
+    }
+}

@@ -1,0 +1,97 @@
+//! What every command over a journal stands on, besides the files: the schema's groups are ready, and the journal is open.
+ghost use Rattle.std.specs.Prelude.{◌≡◌, ◌+◌, ℕ, List, true, IfOk, OnOk, IsErrOf, Err};
+ghost use Rattle.audit_types.specs.declared.records.Answered.{Answered};
+ghost use Rattle.audit_types.specs.declared.records.Protected.{Protected as Entry};
+ghost use Rattle.audit_types.specs.History.{IsLegal};
+ghost use Rattle.bench_core.specs.Calls.{OnlyReads, TellsFault};
+ghost use Rattle.schema_json.specs.SecretShape.{shape_of};
+ghost use Rattle.table_load.specs.Cells.{FitsSchema};
+ghost use Rattle.table_load.specs.Database.{secret_table};
+ghost use Rattle.journal_form.specs.Journal.{StandsFor};
+ghost use Rattle.audit_store.specs.Starting.{StartCause, GivesUp};
+ghost use Rattle.audit_store.specs.Stores.{IsStore, IsAsLeft};
+ghost use Rattle.set_index.specs.Groups.{AreEntries, IsFirstBad};
+ghost use Rattle.set_index.specs.declared.index.IndexFault.{IndexFault};
+ghost use Rattle.audit_store.specs.declared.starting.StartFault.{StartFault};
+
+use crate::opening::Opened;
+use audit_store::{StartFault, Store};
+use audit_types::{NoMemory, Protected};
+use bench_core::Bench;
+use schema_json::Schema;
+use set_index::groups_of_a_schema;
+use set_index::{Index, IndexFault};
+use std::alloc::Global;
+use table_load::Table;
+
+/// The schema of a table, its public part, ready to be asked, and the store of its secrets.
+#[derive(Drop)]
+pub struct Started {
+    pub schema: Schema,
+    pub index: Index,
+    pub store: Store,
+}
+
+/// Why no store was started over a table.
+#[derive(Drop)]
+pub enum NotStarted {
+    /// A group of the schema has a fault, or there was no memory for the groups.
+    Groups(IndexFault),
+    /// The journal wasn't opened.
+    Journal(StartFault),
+}
+
+// The same groups in a list of their own.
+fn copied(alloc: Global, groups: &[Protected]) -> Result<Vec<Protected>, NoMemory>
+    ensures { IfOk result (λ copy. copy.items ≡ groups.now) }
+{
+    let mut copy = Vec::new(alloc);
+    match copy.extend_from_slice(groups) {
+        Ok(()) => Ok(copy),
+        Err(_) => Err(NoMemory),
+    }
+}
+
+/// Makes the groups of a table's schema ready, and then opens its journal.
+pub fn start<B: Bench>(alloc: Global, opened: Opened, bench: &mut B) -> Result<Started, NotStarted>
+    requires fits { FitsSchema opened.schema.columns opened.table.public }
+    requires shape { opened.table.secret.shape ≡ shape_of opened.schema.columns opened.table.public.rows }
+
+    ensures same { IfOk result (λ started. (started.schema ≡ opened.schema) × (started.index.public ≡ opened.table.public) × (started.store.secret ≡ opened.table.secret)
+        × (started.index.protected ≡ started.store.protected)) }
+    ensures entries { IfOk result (λ started. AreEntries opened.schema.columns opened.table.public opened.schema.groups started.store.protected) }
+    ensures store { IfOk result (λ started. (started.store.usable ≡ true) × IsStore started.store) }
+    ensures stands { B.told → IfOk result (λ started. IsAsLeft (B.file bench.old) started.store) }
+
+    // A refusal has its cause in the groups, or over groups without fault in the file; a legal history isn't refused.
+    ensures bad { (place : ℕ) → result ≡ Err (NotStarted.Groups (IndexFault.BadGroup place)) → IsFirstBad opened.schema.columns opened.schema.groups place }
+    ensures cause { (fault : StartFault) → result ≡ Err (NotStarted.Journal fault) → (protected : List Entry)
+        × AreEntries opened.schema.columns opened.table.public opened.schema.groups protected
+        × (B.told → StartCause fault (B.file bench.old) (secret_table opened.table.secret protected)
+        × ((history : List Answered) → StandsFor (B.file bench.old) opened.table.secret.shape history → IsLegal (secret_table opened.table.secret protected) history → GivesUp fault)) }
+
+    // The journal is only read, in two calls. One that failed is told.
+    ensures reads { OnlyReads B.Bench bench.old bench.new }
+    ensures uncalled { (fault : IndexFault) → result ≡ Err (NotStarted.Groups fault) → bench.new ≡ bench.old }
+    ensures ticks { B.told → OnOk result (B.moment bench.new ≡ B.moment bench.old + 2) }
+    ensures fault { TellsFault B.Bench bench.old bench.new (IsErrOf result (NotStarted.Journal StartFault.Failed)) }
+{
+    groups_of_a_schema();
+    let Opened { schema, table } = opened;
+    let Table { public, secret } = table;
+    let index = match Index::new(alloc, &schema, public) {
+        Ok(index) => index,
+        Err(fault) => return Err(NotStarted::Groups(fault)),
+    };
+    let Ok(protected) = copied(alloc, index.protected()) else {
+        return Err(NotStarted::Groups(IndexFault::NoMemory));
+    };
+    match Store::start(alloc, secret, protected, bench) {
+        Ok(store) => Ok(Started {
+            schema,
+            index,
+            store,
+        }),
+        Err(fault) => Err(NotStarted::Journal(fault)),
+    }
+}
