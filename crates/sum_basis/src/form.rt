@@ -1,5 +1,5 @@
 //! The reduced form of rows of whole numbers, kept as long as it is narrow.
-ghost use Rattle.std.specs.Prelude.{◌≡◌, ◌↔◌, ℕ, ◌<◌, ◌≤◌, ◌++◌, ◌^◌, ℤ, List, pos, [], ◌∷◌, length, map, IfOk, OnOk, OnErr, IfSome, IfNone, IsTrue, MatchOption, slice_index_or, unsigned_abs};
+ghost use Rattle.std.specs.Prelude.{◌≡◌, ◌↔◌, ℕ, ◌<◌, ◌≤◌, ◌++◌, ◌^◌, ℤ, List, pos, [], ◌∷◌, false, length, map, Ok, IfOk, OnOk, OnErr, IfSome, IfNone, IsTrue, MatchOption, slice_index_or, unsigned_abs};
 ghost use Rattle.std.specs.List.{AllByRecursion};
 ghost use Rattle.audit_types.specs.Form.{InSpan, IsNarrow, IsReducedForm, pivot, pivot_entries, IsLeastCommonMultiple};
 ghost use Rattle.audit_types.specs.Truth.{number_at};
@@ -46,7 +46,7 @@ impl Model for Form {
 
 // What is left of a row when the rows of a form are taken from it.
 #[derive(Drop)]
-enum Left {
+pub(crate) enum Left {
     Nothing,
     // An entry of the primitive row is above the limit.
     Large,
@@ -94,7 +94,7 @@ impl Form {
     }
 
     // The primitive row that the form leaves of a row of zeros and ones.
-    fn settle(&self, row: &mut [i128]) -> Result<Left, NoMemory>
+    pub(crate) fn settle(&self, row: &mut [i128]) -> Result<Left, NoMemory>
         requires length { length row.old ≡ self.now.n }
         requires bits { (j : ℕ) → unsigned_abs (number_at row.old j) ≤ 1 }
         ensures left { IfOk result (λ left. IsLeft self.now row.old left) }
@@ -186,21 +186,23 @@ impl Form {
         Ok(Grown::Added)
     }
 
-    /// Adds a row of zeros and ones, which is used up, and with which the form is narrow.
-    pub(crate) fn insert(&mut self, row: &mut [i128]) -> Result<(), NoMemory>
+    /// Adds a row of zeros and ones, which is used up, and with which the form is narrow, and tells whether it lay outside the span.
+    pub(crate) fn insert(&mut self, row: &mut [i128]) -> Result<bool, NoMemory>
         requires length { length row.old ≡ self.old.n }
         requires bits { (j : ℕ) → unsigned_abs (number_at row.old j) ≤ 1 }
         requires narrow { ¬ (GrowsWide self.old row.old) }
         ensures reduced { OnOk result (IsReducedForm self.old.n (self.old.rows ++ row.old ∷ []) self.new.rows) }
         ensures n { self.new.n ≡ self.old.n }
+        ensures stays { result ≡ Ok false → self.new ≡ self.old }
         ensures err { OnErr result (self.new ≡ self.old) }
     {
         let new = match self.settle(row)? {
-            Left::Nothing => return Ok(()),
+            Left::Nothing => return Ok(false),
             Left::Large => unreachable!(),
             Left::Entries(new) => new,
         };
-        self.insert_list(new)
+        self.insert_list(new)?;
+        Ok(true)
     }
 
     /// Adds the list of a new row with which the form is narrow.

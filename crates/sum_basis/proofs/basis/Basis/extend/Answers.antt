@@ -9,6 +9,8 @@ use Rattle.sum_basis.proofs.Exactness.{grows_at, stands_for, same_told, wide_tol
 use Rattle.std.specs.Prelude.{Result, IfOk}
 use Rattle.std.proofs.lemmas.Result.{IfOk-weaker, on_err_weaker}
 use Rattle.audit_types.specs.Form.{Reduced}
+use Rattle.std.specs.List.{AllByRecursion}
+use Rattle.sum_basis.specs.Holding.{IsKeptOf}
 use Rattle.sum_basis.specs.declared.Grown.{Grown}
 use Rattle.sum_basis.specs.Growth.{Grows, GrowsFor}
 use Rattle.sum_basis.proofs.basis.Basis.extend.Goals as goal
@@ -46,7 +48,7 @@ stands_told r old new list =
     (λ grown g. stands_for old new list grown g)
 
 pub invariant_of-self : goal.invariant_of-self
-invariant_of-self c = (omega (arith, c.join.ensures.n, c.self.invariant.0), tt)
+invariant_of-self c = (omega (arith, c.join.ensures.n, c.self.invariant.0), tt, subst (AllByRecursion (IsKeptOf c.join.new.self)) (sym c.clear.ensures.items) tt)
 
 pub returns : goal.returns
 returns c =

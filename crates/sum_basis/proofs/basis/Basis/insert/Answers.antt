@@ -5,7 +5,8 @@ use Rattle.std.specs.Prelude.{Option, Some}
 use Rattle.audit_types.specs.Form.{set_row, IsReducedForm}
 use Rattle.sum_basis.specs.Basis.{Echelon}
 use Rattle.sum_basis.specs.Growth.{GrowsWide, StaysNarrow, IsLeft}
-use Rattle.sum_basis.specs.Holding.{IsHeld}
+use Rattle.std.specs.List.{AllByRecursion}
+use Rattle.sum_basis.specs.Holding.{IsHeld, IsKeptOf}
 use Rattle.sum_basis.specs.Sparse.{row_of}
 use Rattle.sum_basis.specs.declared.basis.Held.{Held}
 use Rattle.sum_basis.specs.declared.form.Left.TheVariants.{Entries}
@@ -85,10 +86,11 @@ insert-requires-clause-length c =
     ap length c.write_set.ensures ∙ length-set_row c.args.rows.now.n c.args.rows.now.list ∙ c.requires.n ∙ sym (ap (λ (e : Echelon). e.n) c.self.view_is)
 
 pub invariant_of-self : goal.invariant_of-self
-invariant_of-self c = (omega (arith, c.insert_list.ensures.n, c.self.invariant.0), rw c.take-held.ensures.after tt)
-
-pub invariant_of-self-2 : goal.invariant_of-self-2
-invariant_of-self-2 c = (omega (arith, c.insert.ensures.n, c.self.invariant.0), rw c.take-held.ensures.after tt)
+invariant_of-self c = (
+  omega (arith, c.insert_list.ensures.n, c.self.invariant.0),
+  rw c.take-held.ensures.after tt,
+  subst (AllByRecursion (IsKeptOf c.insert_list.new.self)) (sym c.clear.ensures.items) tt,
+)
 
 pub returns-in-Some : goal.returns-in-Some
 returns-in-Some c =
@@ -106,16 +108,14 @@ returns-in-Some c =
       err = on_err_weaker c.insert_list.result (λ same. same ∙ c.self.view_is) c.insert_list.ensures.err;
     }
 
-pub returns : goal.returns
-returns c =
-    let reduced =
-    on_ok_weaker c.insert.result
+pub returns-then-branch-clause-stands : goal.returns-then-branch-clause-stands
+returns-then-branch-clause-stands c =
+    stands_with c.args.self.now c.insert.new.self c.args.rows.now.list
     (reduced_at c.self.inside.form c.args.self.now c.insert.new.self.rows c.write_set.new.row c.args.rows.now.n c.args.rows.now.list c.self.view_is
-    c.write_set.ensures c.requires.n)
-    c.insert.ensures.reduced in
-    record {
-      reduced = reduced;
-      stands = on_ok_weaker c.insert.result (stands_with c.args.self.now c.insert.new.self c.args.rows.now.list) reduced;
-      n = c.insert.ensures.n ∙ ap (λ (e : Echelon). e.n) c.self.view_is;
-      err = on_err_weaker c.insert.result (λ same. same ∙ c.self.view_is) c.insert.ensures.err;
-    }
+    c.write_set.ensures c.requires.n c.in_ok-insert.ensures.reduced)
+
+pub returns-else-branch-clause-stands : goal.returns-else-branch-clause-stands
+returns-else-branch-clause-stands c =
+    stands_with c.args.self.now c.insert.new.self c.args.rows.now.list
+    (reduced_at c.self.inside.form c.args.self.now c.insert.new.self.rows c.write_set.new.row c.args.rows.now.n c.args.rows.now.list c.self.view_is
+    c.write_set.ensures c.requires.n c.in_ok-insert.ensures.reduced)

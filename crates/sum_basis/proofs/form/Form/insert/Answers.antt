@@ -1,4 +1,3 @@
-use Rattle.std.proofs.lemmas.Result.{on_ok_weaker}
 use Rattle.sum_basis.proofs.Joining.{same_form, not_wide_with, grown_with}
 use Rattle.sum_basis.proofs.form.Form.insert.Goals as goal
 
@@ -15,5 +14,4 @@ insert_list-requires-clause-narrow c =
 pub returns-clause-reduced : goal.returns-clause-reduced
 returns-clause-reduced c =
     let left = rw c.in-Entries.is at c.in_ok-settle.ensures.left in
-    on_ok_weaker c.insert_list.result
-    (grown_with c.args.self.now c.insert_list.new.self.rows c.in-Entries.new.items c.args.row.now left.1) c.insert_list.ensures.reduced
+    grown_with c.args.self.now c.insert_list.new.self.rows c.in-Entries.new.items c.args.row.now left.1 c.in_ok-insert_list.ensures.reduced

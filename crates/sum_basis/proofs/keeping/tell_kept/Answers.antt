@@ -1,0 +1,23 @@
+use Rattle.std.proofs.Common.{List, ℕ, sym, ap, ◌∙◌, subst, map}
+use Rattle.std.proofs.lemmas.Bool.{false≢true}
+use Rattle.audit_types.specs.Rows.{Rows}
+use Rattle.sum_basis.specs.Growth.{SpansOneAfter}
+use Rattle.sum_basis.specs.declared.keeping.KeptSet.{KeptSet}
+use Rattle.sum_basis.proofs.KeptSets.{lists_of_kept}
+use Rattle.sum_basis.proofs.SpansWithOneMore.{told_spanned, told_open}
+use Rattle.sum_basis.proofs.keeping.tell_kept.Goals as goal
+
+pub returns-then-spans_one_kept-clause-told : goal.returns-then-spans_one_kept-clause-told
+returns-then-spans_one_kept-clause-told c = λ asked is.
+    let lists = ap (map (λ (k : KeptSet). k.rows.list)) c.deref.ensures.value
+    ∙ lists_of_kept c.keep_all.new.kept.items c.args.apart.now c.in_ok-keep_all-in-Open.ensures.are in
+    told_spanned c.args.form.now asked c.args.weighed.now (map (λ (s : Rows). s.list) c.args.apart.now) is c.in-Open.is
+    (subst (λ (sets : List (List ℕ)). SpansOneAfter c.args.form.now c.args.weighed.now.list sets) lists (c.spans_one_kept.ensures.0 c.if-spans_one_kept.true))
+
+pub returns-else-spans_one_kept-clause-told : goal.returns-else-spans_one_kept-clause-told
+returns-else-spans_one_kept-clause-told c = λ asked is.
+    let lists = ap (map (λ (k : KeptSet). k.rows.list)) c.deref.ensures.value
+    ∙ lists_of_kept c.keep_all.new.kept.items c.args.apart.now c.in_ok-keep_all-in-Open.ensures.are in
+    told_open c.args.form.now asked c.args.weighed.now (map (λ (s : Rows). s.list) c.args.apart.now) is c.in-Open.is
+    (λ found. false≢true (sym c.if-spans_one_kept.false ∙ c.spans_one_kept.ensures.1
+    (subst (λ (sets : List (List ℕ)). SpansOneAfter c.args.form.now c.args.weighed.now.list sets) (sym lists) found)))
