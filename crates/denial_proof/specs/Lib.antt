@@ -1,0 +1,4 @@
+pub mod Weights
+pub mod Lone
+pub mod Certificates
+pub mod Laws
