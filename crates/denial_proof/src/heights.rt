@@ -28,12 +28,12 @@ fn greatest_over(numbers: &[i128], rows: &RowSet) -> i128
     greatest
 }
 
-fn gives_answer(numbers: &[i128], record: &Answered) -> bool
-    requires within { record.now.rows.n ≤ length numbers.now }
-    requires some { record.now.rows.list ≢ [] }
-    ensures { IsTrue result ↔ IsGreatest numbers.now (answer_in record.now) }
+fn gives_answer(numbers: &[i128], answered: &Answered) -> bool
+    requires within { answered.now.rows.n ≤ length numbers.now }
+    requires some { answered.now.rows.list ≢ [] }
+    ensures { IsTrue result ↔ IsGreatest numbers.now (answer_in answered.now) }
 {
-    greatest_over(numbers, &record.rows) == record.answer as i128
+    greatest_over(numbers, &answered.rows) == answered.answer as i128
 }
 
 // Whether the numbers give each answer of the column.

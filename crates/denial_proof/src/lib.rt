@@ -7,10 +7,16 @@
 
 mod checking;
 mod heights;
+mod kept;
 pub mod laws;
 mod lone_rows;
+mod marking;
+mod marks;
+mod numbers;
 mod proof_parts;
+mod targets;
+mod terms;
 mod totals;
 
 pub use checking::check_proof;
-pub use proof_parts::{Heights, Proof, Target, Term, Terms};
+pub use proof_parts::{Heights, Proof, ProveFault, Target, Term, Terms};

@@ -65,11 +65,11 @@ fn holds_below(rows: &RowSet, answer: i128, value: i128, row: u16) -> bool
 }
 
 // Whether a record of the column does so.
-fn record_holds_below(record: &Answered, column: u8, value: i128, row: u16) -> bool
-    requires within { row < record.now.rows.n }
-    ensures { IsTrue result ↔ RecordHoldsBelow column value row record.now }
+fn record_holds_below(answered: &Answered, column: u8, value: i128, row: u16) -> bool
+    requires within { row < answered.now.rows.n }
+    ensures { IsTrue result ↔ RecordHoldsBelow column value row answered.now }
 {
-    record.column == column && holds_below(&record.rows, record.answer as i128, value, row)
+    answered.column == column && holds_below(&answered.rows, answered.answer as i128, value, row)
 }
 
 // Whether a lower answer is over a set that holds the row.

@@ -1,5 +1,8 @@
 //! Proofs that a question is dangerous.
+ghost use Rattle.std.specs.Prelude.{◌≡◌};
+ghost use Rattle.denial_proof.specs.declared.proof_parts.ProveFault.TheVariants as fault;
 
+use audit_types::NoMemory;
 use std::marker::Model;
 
 /// What a sum would give away.
@@ -66,4 +69,20 @@ pub enum Proof {
         pair: Option<u32>,
         high: Heights,
     },
+}
+
+/// Why no proof was given.
+#[derive(Clone, Copy, Debug, PartialEq, Eq)]
+pub enum ProveFault {
+    /// The marked sets aren't narrow, or a number for a group is too large.
+    Wide,
+    NoMemory,
+}
+
+impl From<NoMemory> for ProveFault {
+    ghost from_gives = { λ _ e. e ≡ fault.NoMemory };
+
+    fn from(_e: NoMemory) -> ProveFault {
+        ProveFault::NoMemory
+    }
 }
