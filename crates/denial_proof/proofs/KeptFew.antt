@@ -1,6 +1,5 @@
 -- There are fewer kept records than rows, where the records leave some row's number open.
-use Rattle.std.proofs.Common.{◌≡◌, ℕ, ◌+◌, ◌<◌, ◌≤◌, ℤ, List, [], ◌∷◌, ◌++◌, map, length, ◌∙◌, ap, arith, length-append}
-use Rattle.std.specs.List.{AllByRecursion}
+use Rattle.std.proofs.Common.{◌≡◌, ℕ, ◌+◌, ◌≤◌, ℤ, List, [], ◌∷◌, ◌++◌, map, length, ◌∙◌, arith, length-append}
 use Rattle.std.proofs.lemmas.List.{length-map}
 use Rattle.audit_types.specs.declared.records.Answered.{Answered}
 use Rattle.audit_types.specs.FilteredRows.{rows_within}
@@ -9,7 +8,7 @@ use Rattle.audit_types.specs.Form.{set_row, InSpan}
 use Rattle.sum_basis.specs.Spans.{span_trans}
 use Rattle.denial_proof.specs.Weights.{rows_at}
 use Rattle.denial_proof.specs.Kept.{sets_before, AreKept}
-use Rattle.denial_proof.proofs.ReadOff.{AreIndependent}
+use Rattle.denial_proof.specs.Kept.{AreIndependent}
 use Rattle.denial_proof.proofs.Independence.{independent_push}
 use Rattle.denial_proof.proofs.KeptIndependent.{kept_independent, spanned_before, all_kept}
 use Rattle.denial_proof.proofs.Dimension.{at_most, as_sum}

@@ -18,14 +18,14 @@ use Rattle.sum_basis.specs.Spans.{span_trans}
 use Rattle.denial_proof.specs.Certificates.{IsOwnRecord}
 use Rattle.denial_proof.specs.Weights.{rows_at}
 use Rattle.denial_proof.specs.Kept.{sets_before, IsKept, AreKept}
-use Rattle.denial_proof.proofs.ReadOff.{AreIndependent}
+use Rattle.denial_proof.specs.Kept.{AreIndependent}
 use Rattle.denial_proof.proofs.Independence.{independent_nil, independent_push}
 
 -- a row lies in the span of a list that begins with it, and of one that goes on with others
-span_first : (row : List ℤ) (rows : List (List ℤ)) → InSpan (row ∷ rows) row
+pub span_first : (row : List ℤ) (rows : List (List ℤ)) → InSpan (row ∷ rows) row
 span_first row rows = record { multiple = 1; positive = omega arith; coefficients = pos 1 ∷ []; is = λ j. omega (arith, ints) }
 
-span_more : (first row : List ℤ) (rows : List (List ℤ)) → InSpan rows row → InSpan (first ∷ rows) row
+pub span_more : (first row : List ℤ) (rows : List (List ℤ)) → InSpan rows row → InSpan (first ∷ rows) row
 span_more first row rows span = record {
   multiple = span.multiple;
   positive = span.positive;
@@ -66,7 +66,7 @@ earlier_places low end (p ∷ places) (suc k) ascends l =
     (let rest = at_least (p + 1) end places k ascends.2 (omega arith) in omega arith, earlier_places (p + 1) end places k ascends.2 (omega arith))
 
 -- what holds of each place that a list has holds of its items
-all_held : (P : ℕ → Type 0) (places : List ℕ) → ((q : ℕ) → has_row places q ≡ true → P q) → AllByRecursion P places
+pub all_held : (P : ℕ → Type 0) (places : List ℕ) → ((q : ℕ) → has_row places q ≡ true → P q) → AllByRecursion P places
 all_held P [] each = tt
 all_held P (p ∷ places) each = (each p (or_left (p == p) (has_row places p) (eq-eqb p p refl)), all_held P places (λ q there. each q (or_right (p == q) (has_row places q) there)))
 
@@ -82,7 +82,7 @@ take_none [] = refl
 take_none (s ∷ sets) = refl
 
 -- the rows of a record that is there
-rows_of_record : (history : List Answered) (column place : ℕ) (r : Answered) → IsOwnRecord history column place r → rows_at history place ≡ r.rows.list
+pub rows_of_record : (history : List Answered) (column place : ℕ) (r : Answered) → IsOwnRecord history column place r → rows_at history place ≡ r.rows.list
 rows_of_record history column place r is =
     get_or-map (λ (x : Answered). x.rows.list) history place r [] (slice_get_within history place r is.there) ∙ ap (λ (x : Answered). x.rows.list) (get_or_from_slice_get history place r r is.there)
 

@@ -23,3 +23,9 @@ pub mod Dividing
 pub mod TermsSoFar
 pub mod FirstTargets
 pub mod MultipliersRead
+pub mod FirstPairs
+pub mod HighestShows
+pub mod LonePairs
+pub mod CanonicalSums
+pub mod TargetProofs
+pub mod KeptSpan

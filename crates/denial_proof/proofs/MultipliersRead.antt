@@ -1,13 +1,13 @@
 -- The common multiple and the numbers at the marks, read off a form and divided.
 use Rattle.std.proofs.Common.{◌≡◌, ℕ, suc, ◌+◌, ◌<◌, ◌≤◌, ◌^◌, ℤ, pos, List, [], ◌∷◌, ◌++◌, length, take, drop, refl, sym, ap, ◌∙◌, subst, arith, inl, inr, add-one, length-append}
-use Rattle.std.specs.Prelude.{◌<ℤ◌, unsigned_abs}
+use Rattle.std.specs.Prelude.{◌*ℤ◌, ◌<ℤ◌, unsigned_abs}
 use Rattle.std.specs.List.{AllByRecursion}
 use Rattle.std.proofs.lemmas.Bool.{cases_eq}
-use Rattle.std.proofs.lemmas.List.{get_or_append_left, get_or-append-add, take-append-le, take_all}
+use Rattle.std.proofs.lemmas.List.{get_or_append_left, get_or-append-add, length-map, take-append-le, take_all}
 use Rattle.audit_types.specs.ListLaws.{all-push}
 use Rattle.audit_types.specs.Truth.{number_at}
 use Rattle.audit_types.specs.Form.{combined}
-use Rattle.denial_proof.specs.Numbers.{AreTaken, IsTakenSmall, IsDivided, AreRead, AreMultipliers}
+use Rattle.denial_proof.specs.Numbers.{AreTaken, IsTakenSmall, IsDivided, AreMultipliers}
 
 -- a row for each row is taken
 pub length_taken : (common : ℤ) (f : ℕ → ℤ) (form : List (List ℤ)) (taken : List ℤ) → AreTaken common f form taken → length taken ≡ length form
@@ -59,6 +59,15 @@ multipliers_from form target n m common taken old new positive small are few rea
       };
       divided = subst (λ list. IsDivided list new) whole divided;
     }
+
+-- there is one more than marks
+pub length_multipliers : (form : List (List ℤ)) (target : List ℤ) (n m : ℕ) (list : List ℤ) → AreMultipliers form target n m list → length list ≡ m + 1
+length_multipliers form target n m list are =
+    let factor = are.divided.factor in
+    let whole = ap length are.divided.is_multiple in
+    let count = length-map list (λ x. factor *ℤ x) in
+    let each = are.read.one_each in
+    omega arith
 
 -- what a write through a whole list leaves
 pub written_whole : (len : ℕ) (new old : List ℤ) → len ≡ length new → take len (new ++ drop (length new) old) ≡ new

@@ -2,7 +2,7 @@
 --
 -- Sums: each list that gives the earlier answers and the same answer as another has the same sum as it over each counted set,
 -- so the same total over the target. Maxima: `high` gives all answers, and every list that does has the pair's answer at the row.
-use Rattle.std.proofs.Common.{◌≡◌, ◌≢◌, ℕ, zero, suc, ℤ, Bool, true, false, cond, List, [], ◌∷◌, map, refl, sym, ap, ◌∙◌, subst, arith}
+use Rattle.std.proofs.Common.{◌≡◌, ◌≢◌, ℕ, zero, suc, ℤ, Bool, true, false, cond, List, [], ◌∷◌, map, sym, ap, ◌∙◌, subst, arith}
 use Rattle.std.specs.Prelude.{All, Contains, slice_get, Option, Some, ◌==◌}
 use Rattle.std.specs.List.{AllByRecursion, filter}
 use Rattle.std.proofs.lemmas.Int.{ints}
@@ -14,7 +14,6 @@ use Rattle.audit_types.specs.declared.records.Answered.{Answered}
 use Rattle.audit_types.specs.declared.records.Asked.{Asked}
 use Rattle.std.proofs.lemmas.List.Elements.{recursion_from_All}
 use Rattle.audit_types.specs.declared.shapes.Kind.{Kind}
-use Rattle.audit_types.specs.Shapes.{kind_at}
 use Rattle.audit_types.specs.Rows.{Rows, AreRows}
 use Rattle.audit_types.specs.Truth.{number_at, sum_over, greatest_over}
 use Rattle.audit_types.specs.Laws.{GreatestIsBoundAndReached}

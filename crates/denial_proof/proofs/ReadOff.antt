@@ -19,16 +19,12 @@ use Rattle.audit_types.specs.ListLaws.{all-weaker}
 use Rattle.audit_types.specs.Products.{times_assoc, zero_factor}
 use Rattle.audit_types.specs.PrimitiveLines.{times, number_at-times}
 use Rattle.sum_basis.specs.Spans.{Spans, combined-times, spans_combined}
-use Rattle.denial_proof.specs.Kept.{marked_rows}
+use Rattle.denial_proof.specs.Kept.{AreIndependent, marked_rows}
 use Rattle.denial_proof.specs.Numbers.{AreTaken}
 use Rattle.std.proofs.lemmas.List.{length-map}
 use Rattle.denial_proof.proofs.TotalsFollow.{cancelled}
 use Rattle.denial_proof.proofs.MarkedRows.{combined_columns, coefficient_at, same_combination}
 use Rattle.denial_proof.proofs.Expansion.{expansion, taken_times}
-
--- no sets but with zeros come to nothing
-abbrev pub AreIndependent : ℕ → List (List ℕ) → Type 0
-AreIndependent n sets = (a : List ℤ) → ((j : ℕ) → j < n → combined a (map (set_row n) sets) j ≡ pos 0) → (k : ℕ) → k < length sets → number_at a k ≡ pos 0
 
 -- a row is 0 before its pivot
 zero_before : (row : List ℤ) (j : ℕ) → j < pivot row → number_at row j ≡ pos 0

@@ -1,5 +1,5 @@
 -- A walk over places and their numbers that lists the terms.
-use Rattle.std.proofs.Common.{◌≡◌, ℕ, suc, ◌+◌, ◌<◌, true, false, ℤ, pos, List, [], ◌∷◌, ◌++◌, length, drop, get_or, sym, ap, ◌∙◌, add-one, drop-cons, append_assoc}
+use Rattle.std.proofs.Common.{◌≡◌, ℕ, suc, ◌+◌, ◌<◌, true, false, ℤ, pos, List, [], ◌∷◌, ◌++◌, length, drop, get_or, ◌∙◌, add-one, drop-cons, append_assoc}
 use Rattle.audit_types.specs.Truth.{is_zero}
 use Rattle.denial_proof.specs.declared.proof_parts.Term.{Term}
 use Rattle.denial_proof.specs.Numbers.{terms_of}

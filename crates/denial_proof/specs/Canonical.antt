@@ -23,8 +23,9 @@ use Rattle.denial_proof.specs.declared.proof_parts.Target.TheVariants.{Row, Grou
 use Rattle.denial_proof.specs.declared.proof_parts.Term.{Term}
 use Rattle.denial_proof.specs.declared.proof_parts.Proof.{Proof}
 use Rattle.denial_proof.specs.declared.proof_parts.Proof.TheVariants.{Sum, Max}
+use Rattle.denial_proof.specs.Lone.{IsOnly}
 use Rattle.denial_proof.specs.Weights.{adds, sum_at, weights_of}
-use Rattle.denial_proof.specs.Certificates.{IsOwnRecord, IsSmall, rows_of, answers_after}
+use Rattle.denial_proof.specs.Certificates.{IsOwnRecord, IsSmall, rows_of, answers_after, ShowsTotal, ShowsRow}
 use Rattle.denial_proof.specs.Kept.{AreKept, kept_sets, HasWideMarks}
 
 -- ---- sums
@@ -70,6 +71,10 @@ pub record IsFirstAnswer (known : Known) (rows : List ℕ) (answer : ℤ) : Type
 abbrev pub IsLoneAt : List Answered → Asked → ℤ → ℕ → ℕ → Type 0
 IsLoneAt history asked answer row place = (r : Answered) × IsOwnRecord history asked.column place r × (extremes (answers_after history asked answer) (answer_in r) ≡ row ∷ [])
 
+-- the row is the only one of its set that has its answer among these numbers
+abbrev pub IsOnlyAt : List Answered → ℕ → List ℤ → ℕ → ℕ → Type 0
+IsOnlyAt history column numbers row place = (r : Answered) × IsOwnRecord history column place r × IsOnly numbers r.rows.list r.answer row
+
 -- the first record for which the row is lone, and the asked set where there is none
 abbrev pub IsFirstPair : List Answered → Asked → ℤ → ℕ → Option ℕ → Type 0
 IsFirstPair history asked answer row place = IsLeast (IsLoneAt history asked answer row) place
@@ -80,6 +85,17 @@ pub record IsCanonicalMax (n : ℕ) (history : List Answered) (asked : Asked) (a
   pub least_row : IsLeastLone (answers_after history asked answer) (Some row)
   pub first_pair : IsFirstPair history asked answer row place
   pub highest_is : high ≡ highest n (answers_after history asked answer)
+
+-- a proof for a column of sums that is the canonical one, and passes the check
+abbrev pub IsSumProof : ℕ → List Answered → List Protected → Asked → Proof → Type 0
+IsSumProof n history protected asked (Sum target times terms own) =
+    IsCanonicalSum n history protected asked target times terms own × ShowsTotal n history protected asked target times terms own
+IsSumProof n history protected asked (Max answer row place high) = ⊥
+
+-- a proof for a column of maxima that is the canonical one, and passes the check
+abbrev pub IsMaxProof : ℕ → List Answered → Asked → Proof → Type 0
+IsMaxProof n history asked (Sum target times terms own) = ⊥
+IsMaxProof n history asked (Max answer row place high) = IsCanonicalMax n history asked answer row place high × ShowsRow n history asked answer row place high
 
 -- ---- both
 

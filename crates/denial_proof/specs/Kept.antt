@@ -1,10 +1,11 @@
 -- The sets that a canonical proof may count, those of the records that earlier ones don't imply and the asked one, and their marks.
-use Rattle.std.specs.Prelude.{◌≡◌, ◌↔◌, ℕ, ◌+◌, ◌≤◌, ℤ, true, List, [], ◌∷◌, ◌++◌, map, length, take}
+use Rattle.std.specs.Prelude.{◌≡◌, ◌↔◌, ℕ, ◌+◌, ◌<◌, ◌≤◌, ℤ, pos, true, List, [], ◌∷◌, ◌++◌, map, length, take}
 use Rattle.audit_types.specs.declared.records.Answered.{Answered}
 use Rattle.audit_types.specs.declared.records.Asked.{Asked}
 use Rattle.audit_types.specs.Rows.{Rows, AscendsFrom, has_row}
+use Rattle.audit_types.specs.Truth.{number_at}
 use Rattle.sum_basis.specs.Basis.{Echelon}
-use Rattle.audit_types.specs.Form.{set_row, InSpan, IsReducedForm, IsNarrow}
+use Rattle.audit_types.specs.Form.{set_row, combined, InSpan, IsReducedForm, IsNarrow}
 use Rattle.audit_types.specs.History.{answers_of}
 use Rattle.denial_proof.specs.Weights.{rows_at}
 use Rattle.denial_proof.specs.Certificates.{IsOwnRecord}
@@ -27,6 +28,10 @@ pub record AreKept (n column : ℕ) (history : List Answered) (places : List ℕ
 -- their sets, and after them the asked one
 abbrev pub kept_sets : List Answered → List ℕ → List ℕ → List (List ℕ)
 kept_sets history places rows = map (rows_at history) places ++ rows ∷ []
+
+-- no sets come to nothing, but each taken 0 times
+abbrev pub AreIndependent : ℕ → List (List ℕ) → Type 0
+AreIndependent n sets = (a : List ℤ) → ((j : ℕ) → j < n → combined a (map (set_row n) sets) j ≡ pos 0) → (k : ℕ) → k < length sets → number_at a k ≡ pos 0
 
 -- the row of a set over n columns, and after it one over m marks: 1 at its own mark, 0 at the others
 abbrev pub marked_row : ℕ → ℕ → ℕ → List ℕ → List ℤ

@@ -44,3 +44,10 @@ abbrev pub terms_of : List ℕ → List ℤ → List Term
 terms_of [] numbers = []
 terms_of (place ∷ places) [] = []
 terms_of (place ∷ places) (x ∷ numbers) = cond (is_zero x) (terms_of places numbers) (record { place = place; times = x } ∷ terms_of places numbers)
+
+-- the sets, each as often as its number says, come to a row `times` times, and the numbers have no common divisor
+pub record ComeTo (n : ℕ) (sets : List (List ℕ)) (target : List ℤ) (times : ℤ) (numbers : List ℤ) : Type 0 where
+  pub positive : pos 0 <ℤ times
+  pub one_each : length numbers ≡ length sets
+  pub add_up : (j : ℕ) → j < n → combined numbers (map (set_row n) sets) j ≡ times *ℤ number_at target j
+  pub content : IsContent (times ∷ numbers) 1

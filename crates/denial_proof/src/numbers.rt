@@ -112,7 +112,8 @@ pub(crate) fn multipliers(
 ) -> Result<Vec<i128>, NoMemory>
     requires columns { target.now.n + m ≡ form.now.n }
     requires below { AllByRecursion (λ row. pivot row < target.now.n) form.now.rows }
-    ensures { IfOk result (λ list. AreMultipliers form.now.rows (set_row target.now.n target.now.list) target.now.n m list.items) }
+    ensures are { IfOk result (λ list. AreMultipliers form.now.rows (set_row target.now.n target.now.list) target.now.n m list.items) }
+    ensures one_each { IfOk result (λ list. length list.items ≡ m + 1) }
 {
     // A form says of itself that its pivot entries are positive.
     let _ = form.columns();

@@ -13,7 +13,8 @@ const LIMIT: u128 = 1 << 112;
 // The most terms of a proof.
 const MOST_TERMS: usize = 1_024;
 
-fn is_small(number: i128) -> bool
+/// Whether the number has a size of at most 2^112.
+pub(crate) fn is_small(number: i128) -> bool
     ensures { IsTrue result ↔ IsSmall number }
 {
     number.unsigned_abs() <= LIMIT

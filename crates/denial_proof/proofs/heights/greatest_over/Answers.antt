@@ -1,4 +1,4 @@
-use Rattle.std.proofs.Common.{◌≡◌, pos, rules, get_or, sym, ◌∙◌, SFits}
+use Rattle.std.proofs.Common.{pos, rules, get_or, sym, ◌∙◌, SFits}
 use Rattle.std.specs.Int.{w128}
 use Rattle.std.proofs.lemmas.Int.{to_z-of_z}
 use Rattle.denial_proof.proofs.GreatestSoFar.{greatest_begins}

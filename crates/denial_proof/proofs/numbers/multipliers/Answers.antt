@@ -1,4 +1,4 @@
-use Rattle.std.proofs.Common.{◌≡◌, ◌+◌, ◌≤◌, ◌<◌, ◌^◌, ℕ, ℤ, List, pos, length, sym, ap, ◌∙◌, subst, SFits, rules, arith, to_z, of_z}
+use Rattle.std.proofs.Common.{◌≡◌, ◌+◌, ◌≤◌, ◌<◌, ◌^◌, ℕ, ℤ, pos, length, sym, ap, ◌∙◌, subst, SFits, rules, arith, to_z, of_z}
 use Rattle.std.specs.Prelude.{unsigned_abs, ◌<ℤ◌}
 use Rattle.std.specs.Int.{w128, ◌∣◌}
 use Rattle.std.specs.List.{AllByRecursion}
@@ -7,7 +7,7 @@ use Rattle.audit_types.specs.ListLaws.{all-weaker, all-unmap}
 use Rattle.audit_types.specs.Truth.{number_at}
 use Rattle.audit_types.specs.Form.{set_row, combined, pivot_entry}
 use Rattle.denial_proof.specs.Numbers.{AreTaken, IsTakenSmall, IsDivided, AreMultipliers}
-use Rattle.denial_proof.proofs.MultipliersRead.{length_taken, multipliers_from, written_whole}
+use Rattle.denial_proof.proofs.MultipliersRead.{length_taken, length_multipliers, multipliers_from, written_whole}
 use Rattle.denial_proof.proofs.numbers.multipliers.Goals as goal
 
 pub take_rows-requires-clause-divides : goal.take_rows-requires-clause-divides
@@ -49,11 +49,12 @@ returns c =
     let read = c.in_ok-numbers.ensures in
     let divided : IsDivided items new = subst (λ old. IsDivided old new) c.deref_mut.ensures.value c.divide.ensures in
     let size : c.in_ok-numbers.numbers.len ≡ length new = omega arith in
-    subst (AreMultipliers form target n c.args.m) (sym (written_whole c.in_ok-numbers.numbers.len new items size))
+    let are = subst (AreMultipliers form target n c.args.m) (sym (written_whole c.in_ok-numbers.numbers.len new items size))
     (multipliers_from form target n c.args.m common taken items new positive small are few
     (record {
       one_each = read.one_each;
       first = read.first;
       exact = λ k l. read.exact k l ∙ ap (λ x. combined taken form (x + k)) c.n.ensures.n;
       small = read.small;
-    }) divided)
+    }) divided) in
+    record { are = are; one_each = length_multipliers form target n c.args.m _ are }

@@ -1,8 +1,8 @@
-use Rattle.std.proofs.Common.{◌≡◌, ℕ, ℤ, ◌+◌, ◌++◌, ◌∷◌, [], ap, ◌∙◌, subst, SFits, rules}
+use Rattle.std.proofs.Common.{◌≡◌, ℕ, ℤ, ◌+◌, ◌++◌, ◌∷◌, [], ap, ◌∙◌, SFits, rules}
 use Rattle.std.specs.Int.{w128}
 use Rattle.std.proofs.lemmas.Int.{to_z-of_z}
 use Rattle.audit_types.specs.Form.{combined}
-use Rattle.denial_proof.proofs.MultipliersRead.{AreReadSoFar, read_push}
+use Rattle.denial_proof.proofs.MultipliersRead.{read_push}
 use Rattle.denial_proof.proofs.numbers.read_marks.Goals as goal
 
 pub loop-mark-preserved : goal.loop-mark-preserved

@@ -1,11 +1,11 @@
-use Rattle.std.proofs.Common.{◌≡◌, ◌<◌, length, [], sym, ap, ◌∙◌, subst}
+use Rattle.std.proofs.Common.{◌≡◌, [], sym, ap, ◌∙◌, subst}
 use Rattle.std.proofs.lemmas.List.{get_or-map}
 use Rattle.std.proofs.lemmas.Option.{slice_get_within}
 use Rattle.audit_types.specs.declared.records.Protected.{Protected}
 use Rattle.audit_types.specs.Rows.{with_row}
 use Rattle.audit_types.specs.ListLaws.{all-get_or}
 use Rattle.denial_proof.specs.declared.proof_parts.Target.TheVariants.{Group}
-use Rattle.denial_proof.specs.Certificates.{IsTarget, rows_of}
+use Rattle.denial_proof.specs.Certificates.{IsTarget}
 use Rattle.denial_proof.proofs.FirstTargets.{only_row}
 use Rattle.denial_proof.proofs.targets.rows_of.Goals as goal
 
