@@ -29,3 +29,6 @@ pub mod LonePairs
 pub mod CanonicalSums
 pub mod TargetProofs
 pub mod KeptSpan
+pub mod SpannedTargets
+pub mod AskedIsNew
+pub mod SumParts

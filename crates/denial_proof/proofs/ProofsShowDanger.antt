@@ -43,7 +43,7 @@ rows_there (x ∷ history) zero r there = let same : x ≡ r = cc in ap (λ (y :
 rows_there (x ∷ history) (suc place) r there = rows_there history place r there
 
 -- the same of a protected entry
-group_there : (protected : List Protected) (place : ℕ) (p : Protected) → slice_get protected place ≡ Some p → rows_of protected (Group place) ≡ p.rows.list
+pub group_there : (protected : List Protected) (place : ℕ) (p : Protected) → slice_get protected place ≡ Some p → rows_of protected (Group place) ≡ p.rows.list
 group_there [] place p there = absurd cc
 group_there (x ∷ protected) zero p there = let same : x ≡ p = cc in ap (λ (y : Protected). y.rows.list) same
 group_there (x ∷ protected) (suc place) p there = group_there protected place p there
