@@ -122,11 +122,11 @@ module _ (greatest : GreatestIsBoundAndReached) (bounds : UpperBoundIsLeast) whe
           let at = extreme_at p hit.0 hit.1 in
           greatest_is (map f (range_with_len 0 n)) p.rows p.value hit.0 (some_of p one)
           (λ r there.
-              let bound = (bounds answers r).0 p one there in
-              let under = low r bound.0 bound.1 in
-              let least = bound.2 in
-              let is = number_is f r (row_below n p.rows r (rows_of p one) there) in
-              omega (arith, ints))
+          let bound = (bounds answers r).0 p one there in
+          let under = low r bound.0 bound.1 in
+          let least = bound.2 in
+          let is = number_is f r (row_below n p.rows r (rows_of p one) there) in
+          omega (arith, ints))
           at.0 (number_is f hit.0 (row_below n p.rows hit.0 (rows_of p one) at.0) ∙ hit.2));
     }
       where
@@ -246,9 +246,12 @@ module _ (greatest : GreatestIsBoundAndReached) (bounds : UpperBoundIsLeast) whe
 
 pub implied_by_extremes : GreatestIsBoundAndReached → UpperBoundIsLeast → PossibleByExtremes → ImpliedByExtremes
 implied_by_extremes greatest bounds consistent n answers a well are some possible = (
-  is_forced greatest bounds n answers well a are some ((consistent n answers well).0 (possible.0, record {
-    one_each = possible.1.one_each;
-    same = (all-front (λ b. greatest_over possible.0 b.rows ≡ b.value) answers (record { rows = a.rows; value = a.value }) possible.1.same).0;
-  })),
+  is_forced greatest bounds n answers well a are some ((consistent n answers well).0 (
+    possible.0,
+    record {
+      one_each = possible.1.one_each;
+      same = (all-front (λ b. greatest_over possible.0 b.rows ≡ b.value) answers (record { rows = a.rows; value = a.value }) possible.1.same).0;
+    },
+  )),
   forced greatest bounds n answers well a are some,
 )

@@ -1,10 +1,9 @@
 -- A sum is implied by those before it exactly when the row of its set lies in their span: then, and only then, all lists that
 -- give the answers before it have one total over its set.
-use Rattle.std.proofs.Common.{◌≡◌, ℕ, List, map, sym, ◌∙◌}
+use Rattle.std.proofs.Common.{◌≡◌, ℕ, List, sym, ◌∙◌}
 use Rattle.std.specs.List.{AllByRecursion}
 use Rattle.audit_types.specs.Rows.{AreRows}
 use Rattle.audit_types.specs.Truth.{sum_over}
-use Rattle.audit_types.specs.Form.{set_row, InSpan}
 use Rattle.audit_types.specs.Column.{Answer, Agrees, IsPossible, known_sum, with_answer}
 use Rattle.audit_types.specs.ListLaws.{all-front, all-map}
 use Rattle.sum_audit.specs.Laws.{FixedTotalsBySpan, IsFixedTotal}

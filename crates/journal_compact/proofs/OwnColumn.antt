@@ -40,11 +40,13 @@ module _ (audited : Audited) (r : Answered) (fits : FitsShape audited.setting.sh
   own_possible kind is =
       let w = list_of possible.0 r.column in
       let agrees = possible.2 r.column fits.column_below in
-      let P : Kind → Type 0 = λ k. Agrees (knows k (own ++ answer_in r ∷ [])) w in
-      (w, subst P is (record {
-        one_each = agrees.one_each;
-        same = subst (AllByRecursion (λ a. truth (kind_at audited.setting.shape r.column) w a.rows ≡ a.value)) (own_answers r.column audited.history r refl) agrees.same;
-      }))
+      let P : Kind → Type 0 = λ k. Agrees (knows k (own ++ answer_in r ∷ [])) w in (
+        w,
+        subst P is (record {
+          one_each = agrees.one_each;
+          same = subst (AllByRecursion (λ a. truth (kind_at audited.setting.shape r.column) w a.rows ≡ a.value)) (own_answers r.column audited.history r refl) agrees.same;
+        }),
+      )
 
   -- implied by what a column of this kind knows
   abbrev ImpliedAs : Kind → Type 0

@@ -1,5 +1,5 @@
 -- What was written whole and opened is a journal of its list, with the shape's rows in force from its front on.
-use Rattle.std.proofs.Common.{◌≡◌, ℕ, ◌+◌, ◌<◌, ◌≤◌, inl, List, [], ◌∷◌, ◌++◌, length, refl, sym, ap, ◌∙◌, subst, arith, append_assoc, length-append}
+use Rattle.std.proofs.Common.{◌≡◌, ℕ, ◌<◌, ◌≤◌, inl, List, [], ◌∷◌, ◌++◌, length, refl, sym, ap, ◌∙◌, subst, arith, append_assoc, length-append}
 use Rattle.std.specs.Prelude.{All}
 use Rattle.std.specs.List.{AllByRecursion}
 use Rattle.std.proofs.lemmas.List.Elements.{All-head, All-tail}
@@ -9,7 +9,7 @@ use Rattle.audit_types.specs.History.{FitsShape}
 use Rattle.audit_types.specs.Widening.{over, widened}
 use Rattle.audit_types.specs.WideningLaws.{widened-same}
 use Rattle.journal_form.specs.Header.{header, named}
-use Rattle.journal_form.specs.Journal.{Written, AreGroups, rows_after, texts, records, StandsFor, gate_behind}
+use Rattle.journal_form.specs.Journal.{Written, AreGroups, rows_after, texts, StandsFor, gate_behind}
 use Rattle.answer_journal.specs.Moments.{IsOpened}
 use Rattle.journal_compact.specs.Whole.{AreBehindGate, IsOfRecords}
 

@@ -1,5 +1,5 @@
 -- A history that is legal where groups are protected is legal where none is: fewer questions are dangerous.
-use Rattle.std.proofs.Common.{◌≡◌, ℕ, ◌<◌, ℤ, List, [], arith}
+use Rattle.std.proofs.Common.{ℕ, ℤ, List, [], arith}
 use Rattle.audit_types.specs.declared.shapes.Kind.{Kind}
 use Rattle.audit_types.specs.declared.shapes.Kind.TheVariants.{Sum, Max}
 use Rattle.audit_types.specs.declared.records.Answered.{Answered}

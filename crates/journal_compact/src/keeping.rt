@@ -1,5 +1,6 @@
 //! The records of a history that say something that those before them didn't.
-ghost use Rattle.std.specs.Prelude.{◌↔◌, ◌++◌, [], ◌∷◌, IsTrue, IfOk};
+ghost use Rattle.std.specs.Prelude.{◌↔◌, ◌≤◌, ◌++◌, [], ◌∷◌, length, All, IsTrue, IfOk};
+ghost use Rattle.audit_types.specs.Limits.{most_records};
 ghost use Rattle.audit_types.specs.History.{FitsShape, IsPossibleHistory};
 ghost use Rattle.journal_compact.specs.Kept.{IsKeptOf, IsImpliedBy};
 ghost use Rattle.journal_compact.specs.Laws.{IsLegalForSome};
@@ -33,7 +34,11 @@ fn is_implied(core: &Core, answered: &Answered) -> bool
 /// The history without the records that the records before them imply. After these every question is decided as after all.
 pub fn kept(alloc: Global, shape: &Shape, history: &[Answered]) -> Result<Vec<Answered>, NoMemory>
     requires { IsLegalForSome shape.now history.now }
-    ensures { IfOk result (λ list. IsKeptOf shape.now history.now list.items) }
+    ensures kept { IfOk result (λ list. IsKeptOf shape.now history.now list.items) }
+
+    // They fit a journal.
+    ensures fit { IfOk result (λ list. All (λ r. FitsShape shape.now r.column r.rows) list.items) }
+    ensures few { IfOk result (λ list. length list.items ≤ most_records) }
 {
     true_answers();
     released_records();
