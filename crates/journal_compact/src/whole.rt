@@ -131,7 +131,7 @@ pub fn write_whole<B: Bench>(
 
     // It is refused exactly where a journal is made, and then nothing was written.
     ensures already { B.told → IsErrOf result WholeFault.AlreadyThere → IsMade (B.file bench.old) }
-    ensures refused { B.told → IsMade (B.file bench.old) → IsErr result }
+    ensures refused { B.told → IsMade (B.file bench.old) → IsErr result × (B.file bench.new ≡ B.file bench.old) }
     ensures untouched { B.told → IsMade (B.file bench.old) → IsQuiet B.Bench bench.old → LeavesOnly B.Bench bench.old bench.new (IsUntouched (B.file bench.old) (B.sent bench.old)) }
     ensures no_memory { IsErrOf result WholeFault.NoMemory → bench.new ≡ bench.old }
 
