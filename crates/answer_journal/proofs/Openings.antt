@@ -1,10 +1,10 @@
 -- What a crash leaves while a journal's first bytes are written behind its closed header gate.
-use Rattle.std.proofs.Common.{◌≡◌, ◌≢◌, ℕ, ◌+◌, ◌<◌, ◌≤◌, zero, suc, inl, inr, List, [], ◌∷◌, ◌++◌, length, slice_index, get_or, take, drop, refl, sym, ap, ◌∙◌, arith, length-take, length-drop}
+use Rattle.std.proofs.Common.{◌≡◌, ◌≢◌, ℕ, ◌+◌, ◌<◌, zero, suc, inl, inr, List, [], ◌∷◌, ◌++◌, length, slice_index, get_or, take, drop, refl, sym, ap, ◌∙◌, arith, length-take, length-drop}
 use Rattle.std.proofs.Math.Seq.{drop-cons}
 use Rattle.std.proofs.lemmas.Bool.{cases_eq}
 use Rattle.std.proofs.lemmas.List.{take-append-drop, get_or-take}
 use Rattle.answer_journal.specs.Append.{Appending, Writing, appended}
-use Rattle.answer_journal.specs.Moments.{IsMade, IsOpened, IsShort, IsShut, IsUnmadeOrOpened}
+use Rattle.answer_journal.specs.Moments.{IsShort, IsShut, IsUnmadeOrOpened}
 
 -- an image that has the bytes in their place has them behind an open gate, or isn't made
 placed : (behind before image sent : List ℕ) → 0 < length behind → sent ≡ before → take (length behind) (drop 1 image) ≡ behind → IsUnmadeOrOpened behind before image sent
