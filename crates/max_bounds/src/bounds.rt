@@ -161,13 +161,17 @@ impl Bounds {
     pub fn consistent(&self) -> bool
         ensures { IsTrue result ↔ IsConsistent self.now.answers }
     {
-        survey(&self.pairs).consistent
+        self.fewest > 0
     }
 
     /// The least row that is the only extreme row of some answer.
     pub fn lone_extreme(&self) -> Option<u16>
         ensures { IsLeastLone self.now.answers result }
     {
+        if self.fewest > 1 {
+            // Each answer has two extreme rows or more.
+            return None;
+        }
         survey(&self.pairs).lone
     }
 
