@@ -79,7 +79,7 @@ class TableHandlers:
             ("GET", prefix + "/schema.json"): sender(public / "schema.json", JSON),
             ("GET", prefix + "/notes.json"): sender(public / "notes.json", JSON),
             ("GET", prefix + "/table.csv"): sender(public / "table.csv", CSV),
-            ("GET", prefix + "/report.jsonl"): sender(self.table.reports.path, JSONL),
+            ("GET", prefix + "/report.jsonl"): sender_of_whole(self.table.reports.path, JSONL),
             ("GET", prefix + "/transcript.jsonl"): self.transcript}
 
     async def ask(self, line):
@@ -154,6 +154,18 @@ def sender(path, kind):
         if not os.path.isfile(path):
             return error(404, "not made yet")
         return web.FileResponse(path, headers={"Content-Type": kind, **SAFE})
+    return send
+
+
+def sender_of_whole(path, kind):
+    """Sends a file whose place another one may take at any time: it is read in one piece, so that the size of one never goes with the
+    bytes of the other."""
+    async def send(_):
+        try:
+            body = await asyncio.to_thread(path.read_bytes)
+        except FileNotFoundError:
+            return error(404, "not made yet")
+        return web.Response(body=body, headers={"Content-Type": kind, **SAFE})
     return send
 
 
