@@ -29,7 +29,7 @@ write_schema() {
         if (groups > 0) printf ",\"protect\":["
         for (bit = 0; bit < 12; bit++) for (other = 0; other < bit; other++) if (number < groups)
             printf "%s{\"column\":\"pay\",\"where\":\"h%d = 0 and h%d = 0 or h%d = 1 and h%d = 1\"}", number++ ? "," : "", bit, other, bit, other
-        print groups > 0 ? "]}" : "}" }' >schema.json
+        print (groups > 0 ? "]}" : "}") }' >schema.json
 }
 
 write_questions() {
