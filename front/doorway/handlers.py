@@ -157,15 +157,23 @@ def sender(path, kind):
     return send
 
 
+def whole(path):
+    """The bytes of a file, and when it was last changed."""
+    with open(path, "rb") as file:
+        return file.read(), os.fstat(file.fileno()).st_mtime
+
+
 def sender_of_whole(path, kind):
     """Sends a file whose place another one may take at any time: it is read in one piece, so that the size of one never goes with the
     bytes of the other."""
     async def send(_):
         try:
-            body = await asyncio.to_thread(path.read_bytes)
+            body, changed = await asyncio.to_thread(whole, path)
         except FileNotFoundError:
             return error(404, "not made yet")
-        return web.Response(body=body, headers={"Content-Type": kind, **SAFE})
+        response = web.Response(body=body, headers={"Content-Type": kind, **SAFE})
+        response.last_modified = changed
+        return response
     return send
 
 
