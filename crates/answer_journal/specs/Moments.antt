@@ -1,5 +1,5 @@
 -- What a crash within the journal's calls leaves.
-use Rattle.std.specs.Prelude.{◌≡◌, ◌≢◌, ◌⊎◌, ℕ, ◌≤◌, List, [], ◌++◌, length, slice_index}
+use Rattle.std.specs.Prelude.{◌≡◌, ◌≢◌, ◌⊎◌, ℕ, ◌≤◌, List, [], ◌∷◌, ◌++◌, length, drop, slice_index}
 use Rattle.audit_types.specs.declared.shapes.Shape.{Shape}
 use Rattle.audit_types.specs.declared.records.Answered.{Answered}
 use Rattle.answer_journal.specs.declared.make.Found.{Found}
@@ -23,6 +23,15 @@ IsMade file = (21 ≤ length file) × (slice_index file 0 ≡ 1)
 abbrev pub IsAlready : List ℕ → Type 0
 IsAlready file = (22 ≤ length file) ⊎ ((length file ≡ 21) × (slice_index file 0 ≡ 1))
 
+-- the file begins with these bytes behind an open gate; what stands after them has no meaning
+pub record IsOpened (behind file : List ℕ) : Type 0 where
+  pub rest : List ℕ
+  pub file_is : file ≡ 1 ∷ (behind ++ rest)
+
+-- nothing was sent, and the image isn't a made journal, or these bytes stand in it behind an open gate
+abbrev pub IsUnmadeOrOpened : List ℕ → List ℕ → List ℕ → List ℕ → Type 0
+IsUnmadeOrOpened behind before image sent = (sent ≡ before) × ((IsMade image → ⊥) ⊎ IsOpened behind image)
+
 -- nothing was sent, and the image isn't a made journal, or stands for the empty history
 abbrev pub IsUnmadeOrEmpty : Shape → List ℕ → List ℕ → List ℕ → Type 0
 IsUnmadeOrEmpty shape before image sent = (sent ≡ before) × ((IsMade image → ⊥) ⊎ StandsFor image shape [])
@@ -30,6 +39,10 @@ IsUnmadeOrEmpty shape before image sent = (sent ≡ before) × ((IsMade image �
 -- the file has fewer bytes than a journal
 abbrev pub IsShort : List ℕ → Type 0
 IsShort file = length file ≤ 20
+
+-- the same file with a closed gate in its first byte
+abbrev pub IsShut : List ℕ → List ℕ → Type 0
+IsShut old new = new ≡ 0 ∷ drop 1 old
 
 -- what is found of a file
 abbrev pub IsFound : Found → List ℕ → Type 0
