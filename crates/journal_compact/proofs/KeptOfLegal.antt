@@ -1,0 +1,233 @@
+-- What is kept of a legal history has the same reduced forms, decides every question alike, and is legal.
+--
+-- A sum that is left out has its row in the span of those before it, so the form is as it was; one set more changes two equal forms in the
+-- same way. Danger, of a number or of a group's total, asks for nothing but the lists that agree, and these are the same.
+use Rattle.std.proofs.Common.{◌≡◌, ℕ, ◌<◌, ℤ, List, [], ◌∷◌, ◌++◌, map, length, refl, sym, ap, ◌∙◌, subst, arith, inl, inr}
+use Rattle.std.specs.Prelude.{◌↔◌}
+use Rattle.std.specs.List.{AllByRecursion}
+use Rattle.std.proofs.lemmas.Bool.{cases_eq}
+use Rattle.std.proofs.lemmas.List.{map-append}
+use Rattle.audit_types.specs.declared.shapes.Kind.{Kind}
+use Rattle.audit_types.specs.declared.shapes.Kind.TheVariants.{Sum, Max}
+use Rattle.audit_types.specs.declared.records.Answered.{Answered}
+use Rattle.audit_types.specs.declared.records.Verdict.{Verdict}
+use Rattle.audit_types.specs.declared.records.Verdict.TheVariants.{Released, DeniedUnsafe, DeniedWide}
+use Rattle.audit_types.specs.Rows.{AreRows}
+use Rattle.audit_types.specs.Shapes.{columns, kind_at}
+use Rattle.audit_types.specs.Form.{set_row, InSpan, IsReducedForm, Reduced, HasNarrowForm, HasWideForm}
+use Rattle.audit_types.specs.FormRows.{lengths_of_form}
+use Rattle.audit_types.specs.RowNumbers.{length-set_row, lengths_of_sets}
+use Rattle.audit_types.specs.Column.{Known, Answer, Agrees, IsPossible, IsGuarded, number, total, IsDangerous, known_sum, with_answer}
+use Rattle.audit_types.specs.Judgement.{IsWideFor, IsWithinWidthFor, IsDecision}
+use Rattle.audit_types.specs.History.{Table, AreSecrets, IsLegal, IsDecisionAfter, setting_of, known_of, groups_of, answers_of, answer_in, list_of}
+use Rattle.audit_types.specs.Laws.{LegalIsPossible}
+use Rattle.audit_types.specs.ListLaws.{all-push, all_by_place}
+use Rattle.sum_basis.specs.Laws.{FormsAreUnique, EveryRowSpaceHasAForm, SpanKeepsForm, OneMoreSet}
+use Rattle.audit_core.specs.Laws.{LegalGrows}
+use Rattle.journal_compact.specs.Kept.{IsKeptOf, IsImplied, IsImpliedBy}
+use Rattle.journal_compact.specs.Kept.IsKeptOf.{none, left_out, stays}
+use Rattle.journal_compact.specs.Laws.{ImpliedBySpan, SameForms, SameDecisions, KeptIsLegal, sets_in}
+use Rattle.journal_compact.proofs.Pushes.{own_answers, other_answers, all_answers, legal_front, legal_last, room_before}
+use Rattle.journal_compact.proofs.KeptRecords.{same_lists, no_more}
+
+-- two lists of sets have the same reduced forms
+abbrev pub AreAlike : ℕ → List (List ℕ) → List (List ℕ) → Type 0
+AreAlike n sets others = (form : List (List ℤ)) → Reduced n sets form ↔ Reduced n others form
+
+-- the laws of reduced forms
+pub record FormLaws : Type 0 where
+  pub unique : FormsAreUnique
+  pub exist : EveryRowSpaceHasAForm
+  pub span_keeps : SpanKeepsForm
+  pub one_more : OneMoreSet
+
+module _ (laws : FormLaws) (n : ℕ) where
+  -- the form of a set more, where the forms without it are the same
+  moved : (sets others : List (List ℕ)) (rows : List ℕ) (form : List (List ℤ)) → ((f : List (List ℤ)) → Reduced n sets f → Reduced n others f) →
+      Reduced n (sets ++ rows ∷ []) form → Reduced n (others ++ rows ∷ []) form
+  moved sets others rows form to is =
+      let old = laws.exist n (map (set_row n) sets) (lengths_of_sets n sets) in
+      let lengths = all-push (λ r. length r ≡ n) old.0 (set_row n rows) (lengths_of_form n old.0 old.1.primitive) (length-set_row n rows) in
+      let new = laws.exist n (old.0 ++ set_row n rows ∷ []) lengths in
+      let here = laws.one_more n sets rows old.0 new.0 old.1 new.1 in
+      let there = laws.one_more n others rows old.0 new.0 (to old.0 old.1) new.1 in
+      subst (λ f. Reduced n (others ++ rows ∷ []) f) (laws.unique n (map (set_row n) (sets ++ rows ∷ [])) new.0 form here is) there
+
+  push_alike : (sets others : List (List ℕ)) (rows : List ℕ) → AreAlike n sets others → AreAlike n (sets ++ rows ∷ []) (others ++ rows ∷ [])
+  push_alike sets others rows alike form = (moved sets others rows form (λ f. (alike f).0), moved others sets rows form (λ f. (alike f).1))
+
+  -- a set in the span leaves the form as it is
+  with_spanned : (sets : List (List ℕ)) (rows : List ℕ) (form : List (List ℤ)) → InSpan (map (set_row n) sets) (set_row n rows) → Reduced n sets form → Reduced n (sets ++ rows ∷ []) form
+  with_spanned sets rows form span is =
+      subst (λ l. IsReducedForm n l form) (sym (map-append (set_row n) sets (rows ∷ []))) (laws.span_keeps n (map (set_row n) sets) form (set_row n rows) is span)
+
+  span_alike : (sets : List (List ℕ)) (rows : List ℕ) → InSpan (map (set_row n) sets) (set_row n rows) → AreAlike n (sets ++ rows ∷ []) sets
+  span_alike sets rows span form = (
+    λ is.
+        let old = laws.exist n (map (set_row n) sets) (lengths_of_sets n sets) in
+        subst (λ f. Reduced n sets f) (laws.unique n (map (set_row n) (sets ++ rows ∷ [])) old.0 form (with_spanned sets rows old.0 span old.1) is) old.1,
+    λ is. with_spanned sets rows form span is,
+  )
+
+  -- with one set more they are narrow, or wide, together
+  narrow_alike : (sets others : List (List ℕ)) (rows : List ℕ) → AreAlike n sets others → HasNarrowForm n (sets ++ rows ∷ []) → HasNarrowForm n (others ++ rows ∷ [])
+  narrow_alike sets others rows alike has = record {
+    form = has.form;
+    reduced = (push_alike sets others rows alike has.form).0 has.reduced;
+    narrow = has.narrow;
+  }
+
+  wide_alike : (sets others : List (List ℕ)) (rows : List ℕ) → AreAlike n sets others → HasWideForm n (sets ++ rows ∷ []) → HasWideForm n (others ++ rows ∷ [])
+  wide_alike sets others rows alike has = record {
+    form = has.form;
+    reduced = (push_alike sets others rows alike has.form).0 has.reduced;
+    wide = has.wide;
+  }
+
+-- the sets of answers
+abbrev sets_of : List Answer → List (List ℕ)
+sets_of answers = map (λ a. a.rows) answers
+
+-- what is known of a column
+abbrev knows : ℕ → List (List ℕ) → Kind → List Answer → Known
+knows n groups kind answers = record { kind = kind; n = n; answers = answers; groups = groups }
+
+module _ (n : ℕ) (groups : List (List ℕ)) where
+  guarded : (kind : Kind) (answers others : List Answer) {value : List ℤ → ℤ} → IsGuarded (knows n groups kind answers) value → IsGuarded (knows n groups kind others) value
+  guarded kind answers others (number row below) = number row below
+  guarded kind answers others (total group protected) = total group protected
+
+  -- where the same lists agree, the same questions are dangerous
+  dangerous : (kind : Kind) (answers others : List Answer) (rows : List ℕ) →
+      ((w : List ℤ) → Agrees (knows n groups kind answers) w ↔ Agrees (knows n groups kind others) w) →
+      IsDangerous (knows n groups kind answers) rows → IsDangerous (knows n groups kind others) rows
+  dangerous kind answers others rows lists danger = record {
+    w = danger.w;
+    agrees = (lists danger.w).0 danger.agrees;
+    value = danger.value;
+    guarded = guarded kind answers others danger.guarded;
+    disclosed = λ v gives. danger.disclosed v (record { agrees = (lists v).1 gives.agrees; same = gives.same });
+  }
+
+  module _ (laws : FormLaws) where
+    within_width : (kind : Kind) (answers others : List Answer) (rows : List ℕ) → (kind ≡ Sum → AreAlike n (sets_of answers) (sets_of others)) →
+        IsWithinWidthFor kind (knows n groups kind answers) rows → IsWithinWidthFor kind (knows n groups kind others) rows
+    within_width Sum answers others rows alike has = narrow_alike laws n (sets_of answers) (sets_of others) rows (alike refl) has
+    within_width Max answers others rows alike has = has
+
+    too_wide : (kind : Kind) (answers others : List Answer) (rows : List ℕ) → (kind ≡ Sum → AreAlike n (sets_of answers) (sets_of others)) →
+        IsWideFor kind (knows n groups kind answers) rows → IsWideFor kind (knows n groups kind others) rows
+    too_wide Sum answers others rows alike has = wide_alike laws n (sets_of answers) (sets_of others) rows (alike refl) has
+    too_wide Max answers others rows alike has = has
+
+    -- a question is decided after some answers as after others
+    decided : (kind : Kind) (answers others : List Answer) (rows : List ℕ) (verdict : Verdict) →
+        ((w : List ℤ) → Agrees (knows n groups kind answers) w ↔ Agrees (knows n groups kind others) w) →
+        (kind ≡ Sum → AreAlike n (sets_of answers) (sets_of others)) → IsDecision (knows n groups kind answers) rows verdict → IsDecision (knows n groups kind others) rows verdict
+    decided kind answers others rows DeniedWide lists alike is = too_wide kind answers others rows alike is
+    decided kind answers others rows DeniedUnsafe lists alike is = (
+      within_width kind answers others rows alike is.0,
+      dangerous kind answers others rows lists is.1,
+    )
+    decided kind answers others rows Released lists alike is = (
+      within_width kind answers others rows alike is.0,
+      λ danger. is.1 (dangerous kind others answers rows (λ w. ((lists w).1, (lists w).0)) danger),
+    )
+
+-- the set of a record of the column, after those before it
+sets_push : (column : ℕ) (before : List Answered) (r : Answered) → r.column ≡ column → sets_in column (before ++ r ∷ []) ≡ sets_in column before ++ r.rows.list ∷ []
+sets_push column before r own =
+    ap (map (λ (a : Answer). a.rows)) (own_answers column before r own) ∙ map-append (λ (a : Answer). a.rows) (answers_of column before) (answer_in r ∷ [])
+
+-- the laws that legal histories want
+pub record LegalLaws : Type 0 where
+  pub forms : FormLaws
+  pub spanned : ImpliedBySpan
+  pub possible : LegalIsPossible
+  pub grows : LegalGrows
+
+module _ (laws : LegalLaws) (table : Table) (secrets : AreSecrets table.setting.shape table.secrets) where
+  -- the number of rows
+  abbrev rows_in : ℕ
+  rows_in = table.setting.shape.rows
+
+  -- the sets of a column are over the rows of the table
+  sets_are : (column : ℕ) (history : List Answered) → IsLegal table history → AllByRecursion (λ b. AreRows rows_in b.rows) (answers_of column history)
+  sets_are column history legal = all_answers (λ b. AreRows rows_in b.rows) column history (all_by_place (λ r. AreRows rows_in r.rows.list) history
+      (λ i r here. let fits = (legal.each i r here).fits in subst (λ m. AreRows m r.rows.list) fits.same_n fits.are_rows))
+
+  -- some list gives the sums of a legal history with one more
+  sums_possible : (column : ℕ) (before : List Answered) (r : Answered) → IsLegal table (before ++ r ∷ []) → column < columns table.setting.shape → kind_at table.setting.shape column ≡ Sum →
+      r.column ≡ column → IsPossible (with_answer (known_sum rows_in (answers_of column before)) r.rows.list r.answer)
+  sums_possible column before r legal below is own =
+      let possible = laws.possible table (before ++ r ∷ []) secrets legal in
+      let agrees = possible.2 column below in
+      let of_sums = subst (λ (k : Kind). Agrees (knows rows_in [] k (answers_of column (before ++ r ∷ []))) (list_of possible.0 column)) is
+      (record { one_each = agrees.one_each; same = agrees.same }) in
+      (list_of possible.0 column, subst (λ l. Agrees (known_sum rows_in l) (list_of possible.0 column)) (own_answers column before r own) of_sums)
+
+  -- an implied sum of a legal history has its row in the span of those before it
+  in_span : (column : ℕ) (before : List Answered) (r : Answered) → IsLegal table (before ++ r ∷ []) → column < columns table.setting.shape → kind_at table.setting.shape column ≡ Sum →
+      r.column ≡ column → IsImpliedBy table.setting.shape before r → InSpan (map (set_row rows_in) (sets_in column before)) (set_row rows_in r.rows.list)
+  in_span column before r legal below is own implied =
+      let fits = (legal_last table before r legal).fits in
+      let of_column = subst (λ c. IsImplied (known_of (setting_of table.setting.shape []) before c) (answer_in r)) own implied in
+      let of_sums = subst (λ (k : Kind). IsImplied (knows rows_in [] k (answers_of column before)) (answer_in r)) is of_column in
+      (laws.spanned rows_in (answers_of column before) (answer_in r) (sets_are column before (legal_front table before r legal))
+      (subst (λ m. AreRows m r.rows.list) fits.same_n fits.are_rows) (sums_possible column before r legal below is own)).0 of_sums
+
+  module _ (column : ℕ) (below : column < columns table.setting.shape) (is : kind_at table.setting.shape column ≡ Sum) where
+    forms : {history kept : List Answered} → IsKeptOf table.setting.shape history kept → IsLegal table history → AreAlike rows_in (sets_in column history) (sets_in column kept)
+    forms none legal form = (λ f. f, λ f. f)
+    forms (left_out {before} {kept} r so_far implied) legal form =
+        let rest = forms so_far (legal_front table before r legal) form in
+        elim (cases_eq r.column column) [
+          | inl own ↦
+              let span = span_alike laws.forms rows_in (sets_in column before) r.rows.list (in_span column before r legal below is own implied) form in
+              let pushed = sets_push column before r own in
+              subst (λ l. Reduced rows_in l form ↔ Reduced rows_in (sets_in column kept) form) (sym pushed) (λ f. rest.0 (span.0 f), λ f. span.1 (rest.1 f))
+          | inr apart ↦ subst (λ l. Reduced rows_in (map (λ a. a.rows) l) form ↔ Reduced rows_in (sets_in column kept) form) (sym (other_answers column before r apart)) rest
+        ]
+    forms (stays {before} {kept} r so_far new) legal form =
+        let rest = forms so_far (legal_front table before r legal) in
+        elim (cases_eq r.column column) [
+          | inl own ↦ subst (λ l. Reduced rows_in l form ↔ Reduced rows_in (sets_in column (kept ++ r ∷ [])) form) (sym (sets_push column before r own))
+              (subst (λ l. Reduced rows_in (sets_in column before ++ r.rows.list ∷ []) form ↔ Reduced rows_in l form) (sym (sets_push column kept r own))
+              (push_alike laws.forms rows_in (sets_in column before) (sets_in column kept) r.rows.list rest form))
+          | inr apart ↦ subst (λ l. Reduced rows_in (map (λ a. a.rows) l) form ↔ Reduced rows_in (sets_in column (kept ++ r ∷ [])) form) (sym (other_answers column before r apart))
+              (subst (λ l. Reduced rows_in (sets_in column before) form ↔ Reduced rows_in (map (λ a. a.rows) l) form) (sym (other_answers column kept r apart)) (rest form))
+        ]
+
+  decisions : {history kept : List Answered} → IsKeptOf table.setting.shape history kept → IsLegal table history → (column : ℕ) (rows : List ℕ) (verdict : Verdict) → column < columns table.setting.shape →
+      IsDecisionAfter table.setting history column rows verdict ↔ IsDecisionAfter table.setting kept column rows verdict
+  decisions {history} {kept} is legal column rows verdict below =
+      let kind = kind_at table.setting.shape column in
+      let groups = groups_of column table.setting.protected in
+      let answers = answers_of column history in
+      let others = answers_of column kept in (
+        λ d. decided rows_in groups laws.forms kind answers others rows verdict (λ w. same_lists table.setting column w is) (λ sum. forms column below sum is legal) d,
+        λ d. decided rows_in groups laws.forms kind others answers rows verdict
+            (λ w. let both = same_lists table.setting column w is in (both.1, both.0))
+            (λ sum form. let both = forms column below sum is legal form in (both.1, both.0)) d,
+      )
+
+  kept_legal : {history kept : List Answered} → IsKeptOf table.setting.shape history kept → IsLegal table history → IsLegal table kept
+  kept_legal none legal = legal
+  kept_legal (left_out {before} {kept} r so_far implied) legal = kept_legal so_far (legal_front table before r legal)
+  kept_legal (stays {before} {kept} r so_far new) legal =
+      let front = legal_front table before r legal in
+      let last = legal_last table before r legal in
+      laws.grows table kept r (kept_legal so_far front) (omega (arith, no_more table.setting.shape so_far, room_before table before r legal)) (record {
+        fits = last.fits;
+        true_answer = last.true_answer;
+        released = (decisions so_far front r.column r.rows.list Released last.fits.column_below).0 last.released;
+      })
+
+pub same_forms : LegalLaws → SameForms
+same_forms laws table history kept column form secrets legal is below sum = forms laws table secrets column below sum is legal form
+
+pub same_decisions : LegalLaws → SameDecisions
+same_decisions laws table history kept column rows verdict secrets legal is below = decisions laws table secrets is legal column rows verdict below
+
+pub kept_is_legal : LegalLaws → KeptIsLegal
+kept_is_legal laws table history kept secrets legal is = kept_legal laws table secrets is legal

@@ -1,0 +1,12 @@
+pub mod ImpliedSums
+pub mod ImpliedMaxima
+pub mod Pushes
+pub mod KeptRecords
+pub mod KeptOfLegal
+pub mod WithoutGroups
+pub mod RowByRow
+pub mod OwnColumn
+pub mod NextRecord
+pub mod Gathering
+pub mod WholeJournals
+pub mod WholeMoments

@@ -1,0 +1,106 @@
+-- The next record of a legal history, after what is kept of those before it.
+use Rattle.std.proofs.Common.{◌≡◌, ℕ, zero, suc, ◌+◌, ◌<◌, List, [], ◌∷◌, ◌++◌, length, take, get_or, Some, refl, sym, ap, ◌∙◌, subst, arith, length-take}
+use Rattle.std.specs.Prelude.{slice_get}
+use Rattle.std.proofs.lemmas.List.{take_more}
+use Rattle.std.proofs.lemmas.Option.{none-some}
+use Rattle.audit_types.specs.declared.shapes.Shape.{Shape}
+use Rattle.audit_types.specs.declared.records.Answered.{Answered}
+use Rattle.audit_types.specs.declared.records.Verdict.TheVariants.{Released}
+use Rattle.audit_types.specs.Laws.{LegalIsPossible}
+use Rattle.audit_types.specs.History.{Setting, Table, FitsShape, IsLegal, IsLegalRecord, IsPossibleHistory, setting_of, known_of}
+use Rattle.audit_types.specs.Judgement.{IsWithinWidth}
+use Rattle.audit_core.specs.Laws.{LegalGrows}
+use Rattle.journal_compact.specs.Kept.{IsKeptOf, IsImpliedBy}
+use Rattle.journal_compact.specs.Kept.IsKeptOf.{left_out, stays}
+use Rattle.journal_compact.specs.Laws.{SameDecisions, KeptIsLegal, IsLegalForSome}
+use Rattle.journal_compact.proofs.Pushes.{legal_front, legal_last, room_before}
+use Rattle.journal_compact.proofs.KeptRecords.{same_lists, no_more}
+use Rattle.journal_compact.proofs.WithoutGroups.{without_groups, legal_without_groups}
+
+-- what stands among the first records stands there in all, after the same
+get-take : (h : List Answered) (k i : ℕ) (x : Answered) → slice_get (take k h) i ≡ Some x → (slice_get h i ≡ Some x) × (take i (take k h) ≡ take i h)
+get-take [] zero i x here = absurd (none-some x here)
+get-take [] (suc k) i x here = absurd (none-some x here)
+get-take (y ∷ h) zero i x here = absurd (none-some x here)
+get-take (y ∷ h) (suc k) zero x here = (here, refl)
+get-take (y ∷ h) (suc k) (suc i) x here = let rest = get-take h k i x here in (rest.0, ap (λ l. y ∷ l) rest.1)
+
+-- the first records of a legal history are legal
+legal_take : (table : Table) (h : List Answered) (k : ℕ) → IsLegal table h → IsLegal table (take k h)
+legal_take table h k legal = record {
+  few = omega (arith, legal.few, length-take k h);
+  each = λ i x here. let there = get-take h k i x here in subst (λ l. IsLegalRecord table l x) (sym there.1) (legal.each i x there.0);
+}
+
+-- one record more was taken
+pub taken : (h : List Answered) (k : ℕ) (r : Answered) → k < length h → r ≡ get_or h k r → take (k + 1) h ≡ take k h ++ r ∷ []
+taken h k r inside is = take_more h k r inside ∙ ap (λ x. take k h ++ x ∷ []) (sym is)
+
+-- what the records of a history imply, those that are kept of it do, and back
+implied_alike : (shape : Shape) (before kept : List Answered) (r : Answered) → IsKeptOf shape before kept → IsImpliedBy shape kept r → IsImpliedBy shape before r
+implied_alike shape before kept r is implied w agrees = implied w ((same_lists (setting_of shape []) r.column w is).0 agrees)
+
+implied_back : (shape : Shape) (before kept : List Answered) (r : Answered) → IsKeptOf shape before kept → IsImpliedBy shape before r → IsImpliedBy shape kept r
+implied_back shape before kept r is implied w agrees = implied w ((same_lists (setting_of shape []) r.column w is).1 agrees)
+
+-- the laws that it wants
+pub record NextLaws : Type 0 where
+  pub decisions : SameDecisions
+  pub legal : KeptIsLegal
+  pub possible : LegalIsPossible
+  pub grows : LegalGrows
+
+module _ (laws : NextLaws) (shape : Shape) (h : List Answered) (some : IsLegalForSome shape h) (setting : Setting) (setting_is : setting ≡ setting_of shape [])
+    (k : ℕ) (r : Answered) (inside : k < length h) (is : r ≡ get_or h k r) (kept : List Answered) (keeps : IsKeptOf shape (take k h) kept) where
+  -- the same table without protected groups, of which the core knows none
+  abbrev table : Table
+  table = without_groups some.table
+
+  legal : IsLegal table h
+  legal = legal_without_groups some.table h some.legal
+
+  -- its setting is the core's
+  same_setting : table.setting ≡ setting
+  same_setting = ap (λ s. setting_of s []) some.same_shape ∙ sym setting_is
+
+  with_it : IsLegal table (take k h ++ r ∷ [])
+  with_it = subst (IsLegal table) (taken h k r inside is) (legal_take table h (k + 1) legal)
+
+  kept_of_table : IsKeptOf table.setting.shape (take k h) kept
+  kept_of_table = subst (λ s. IsKeptOf s (take k h) kept) (sym some.same_shape) keeps
+
+  -- it may follow the kept ones
+  may_follow : IsLegalRecord table kept r
+  may_follow =
+      let front = legal_front table (take k h) r with_it in
+      let last = legal_last table (take k h) r with_it in
+      record {
+        fits = last.fits;
+        true_answer = last.true_answer;
+        released = (laws.decisions table (take k h) kept r.column r.rows.list Released some.are_secrets front kept_of_table last.fits.column_below).0 last.released;
+      }
+
+  pub fits : FitsShape setting.shape r.column r.rows
+  fits = subst (λ (s : Setting). FitsShape s.shape r.column r.rows) same_setting may_follow.fits
+
+  pub narrow : IsWithinWidth (known_of setting kept r.column) r.rows.list
+  narrow = subst (λ (s : Setting). IsWithinWidth (known_of s kept r.column) r.rows.list) same_setting may_follow.released.0
+
+  pub possible : IsPossibleHistory setting (kept ++ r ∷ [])
+  possible =
+      let front = legal_front table (take k h) r with_it in
+      let kept_legal = laws.legal table (take k h) kept some.are_secrets front kept_of_table in
+      let few : length kept < 65536 = omega (arith, no_more table.setting.shape kept_of_table, room_before table (take k h) r with_it) in
+      subst (λ s. IsPossibleHistory s (kept ++ r ∷ [])) same_setting (laws.possible table (kept ++ r ∷ []) some.are_secrets (laws.grows table kept r kept_legal few may_follow))
+
+  -- and it stays where the kept ones don't imply it
+  pub one_stays : ¬ (IsImpliedBy setting.shape kept r) → IsKeptOf shape (take (k + 1) h) (kept ++ r ∷ [])
+  one_stays new =
+      subst (λ l. IsKeptOf shape l (kept ++ r ∷ [])) (sym (taken h k r inside is))
+      (stays r keeps (λ implied. new (subst (λ (s : Setting). IsImpliedBy s.shape kept r) (sym setting_is) (implied_back shape (take k h) kept r keeps implied))))
+
+  -- and is left out where they do
+  pub one_left_out : IsImpliedBy setting.shape kept r → IsKeptOf shape (take (k + 1) h) kept
+  one_left_out implied =
+      subst (λ l. IsKeptOf shape l kept) (sym (taken h k r inside is))
+      (left_out r keeps (implied_alike shape (take k h) kept r keeps (subst (λ (s : Setting). IsImpliedBy s.shape kept r) setting_is implied)))

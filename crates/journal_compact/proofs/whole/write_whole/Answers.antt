@@ -1,0 +1,65 @@
+use Rattle.std.proofs.Common.{subst, sym}
+use Rattle.bench_core.specs.Moments.{still_quiet}
+use Rattle.journal_compact.specs.Whole.{AreBehindGate}
+use Rattle.journal_compact.proofs.WholeMoments.{all_moments, stands_appended}
+use Rattle.journal_compact.proofs.whole.write_whole.Goals as goal
+
+-- ---- opening the closed gate failed, or not
+
+pub returns-in_err-open_over_closed-in-Closed-clause-any_moment : goal.returns-in_err-open_over_closed-in-Closed-clause-any_moment
+returns-in_err-open_over_closed-in-Closed-clause-any_moment g c = λ told unmade quiet.
+    let bench = c.args.bench.now in
+    let shape = c.args.shape.now in
+    let list = c.args.list.now in
+    let are = subst (AreBehindGate shape list) (sym c.deref.ensures.value) c.in_ok-behind.ensures in
+    let calm = still_quiet g.B.Bench bench c.look.new.bench c.look.ensures.reads quiet in
+    all_moments shape list c.deref.result.now c.requires.few c.requires.fit are g.B.Bench bench c.look.new.bench c.open_over_closed.new.bench unmade c.look.ensures.reads quiet
+    (c.open_over_closed.ensures.any_moment told calm)
+
+pub returns-in-Closed-clause-any_moment : goal.returns-in-Closed-clause-any_moment
+returns-in-Closed-clause-any_moment g c = λ told unmade quiet.
+    let bench = c.args.bench.now in
+    let shape = c.args.shape.now in
+    let list = c.args.list.now in
+    let are = subst (AreBehindGate shape list) (sym c.deref.ensures.value) c.in_ok-behind.ensures in
+    let calm = still_quiet g.B.Bench bench c.look.new.bench c.look.ensures.reads quiet in
+    all_moments shape list c.deref.result.now c.requires.few c.requires.fit are g.B.Bench bench c.look.new.bench c.open_over_closed.new.bench unmade c.look.ensures.reads quiet
+    (c.open_over_closed.ensures.any_moment told calm)
+
+pub returns-in-Closed-clause-done : goal.returns-in-Closed-clause-done
+returns-in-Closed-clause-done g c = λ told.
+    let shape = c.args.shape.now in
+    let list = c.args.list.now in
+    let are = subst (AreBehindGate shape list) (sym c.deref.ensures.value) c.in_ok-behind.ensures in
+    stands_appended shape list c.deref.result.now c.requires.few c.requires.fit are (g.B.Bench.file c.look.new.bench) (g.B.Bench.file c.open_over_closed.new.bench)
+    (c.in_ok-open_over_closed-in-Closed.ensures.done told)
+
+-- ---- over a short file
+
+pub returns-in_err-open_over_short-in-Short-clause-any_moment : goal.returns-in_err-open_over_short-in-Short-clause-any_moment
+returns-in_err-open_over_short-in-Short-clause-any_moment g c = λ told unmade quiet.
+    let bench = c.args.bench.now in
+    let shape = c.args.shape.now in
+    let list = c.args.list.now in
+    let are = subst (AreBehindGate shape list) (sym c.deref-in-Short.ensures.value) c.in_ok-behind.ensures in
+    let calm = still_quiet g.B.Bench bench c.look.new.bench c.look.ensures.reads quiet in
+    all_moments shape list c.deref-in-Short.result.now c.requires.few c.requires.fit are g.B.Bench bench c.look.new.bench c.open_over_short.new.bench unmade c.look.ensures.reads quiet
+    (c.open_over_short.ensures.any_moment told calm)
+
+pub returns-clause-any_moment : goal.returns-clause-any_moment
+returns-clause-any_moment g c = λ told unmade quiet.
+    let bench = c.args.bench.now in
+    let shape = c.args.shape.now in
+    let list = c.args.list.now in
+    let are = subst (AreBehindGate shape list) (sym c.deref-in-Short.ensures.value) c.in_ok-behind.ensures in
+    let calm = still_quiet g.B.Bench bench c.look.new.bench c.look.ensures.reads quiet in
+    all_moments shape list c.deref-in-Short.result.now c.requires.few c.requires.fit are g.B.Bench bench c.look.new.bench c.open_over_short.new.bench unmade c.look.ensures.reads quiet
+    (c.open_over_short.ensures.any_moment told calm)
+
+pub returns-clause-done : goal.returns-clause-done
+returns-clause-done g c = λ told.
+    let shape = c.args.shape.now in
+    let list = c.args.list.now in
+    let are = subst (AreBehindGate shape list) (sym c.deref-in-Short.ensures.value) c.in_ok-behind.ensures in
+    stands_appended shape list c.deref-in-Short.result.now c.requires.few c.requires.fit are (g.B.Bench.file c.look.new.bench) (g.B.Bench.file c.open_over_short.new.bench)
+    (c.in_ok-open_over_short-in-Short.ensures.done told)

@@ -1,0 +1,13 @@
+//! A fresh journal of the records that say something that those before them didn't.
+//!
+//! `kept` gives these records (`IsKeptOf`), and `write_whole` writes a journal of them where none is made. That every question is
+//! decided after them as after all is a law: see `laws::kept_of_legal`.
+#![tactic(auto)]
+
+mod forcing;
+mod keeping;
+pub mod laws;
+mod whole;
+
+pub use keeping::kept;
+pub use whole::{WholeFault, write_whole};
