@@ -17,7 +17,7 @@ use crate::guarding::spans_after;
 use crate::sparse::FreeEntry;
 use audit_types::{NoMemory, RowSet};
 
-/// A set, and the list that the form leaves of its row. Where that is known, there is none if the row lies in the span, or has an entry
+/// A set, and the list that the form leaves of its row, if that is known. There is none if the row lies in the span, or has an entry
 /// above the limit.
 #[derive(Drop)]
 pub(crate) struct KeptSet {
@@ -80,7 +80,7 @@ fn settle(form: &Form, kept: &mut KeptSet, row: &mut [i128]) -> Result<(), NoMem
     Ok(())
 }
 
-// Finds what the form leaves of the rows of all sets of which that isn't known.
+// Finds what the form leaves of each set's row, if that isn't known.
 fn settle_all(form: &Form, kept: &mut Vec<KeptSet>, row: &mut [i128]) -> Result<(), NoMemory>
     requires length { length row.old ≡ form.now.n }
     requires kept { AllByRecursion (IsKeptOf form.now) kept.old.items }
@@ -111,7 +111,7 @@ fn forget(form: &Form, kept: &mut KeptSet, place: u16)
     }
 }
 
-// The same with all sets.
+// Forgets what the form leaves of each set's row, unless it is a list with 0 at the place.
 fn forget_all(form: &Form, kept: &mut Vec<KeptSet>, place: u16)
     requires { AllByRecursion (IsKeptOf form.now) kept.old.items }
     ensures kept { AllByRecursion (IsKeptOf form.now) kept.new.items }
@@ -122,8 +122,8 @@ fn forget_all(form: &Form, kept: &mut Vec<KeptSet>, place: u16)
     }
 }
 
-/// Adds the list of a new row with which the form is narrow. What the form left of a set's row it leaves of it still, where that is
-/// 0 at the new pivot.
+/// Adds the list of a new row with which the form is narrow. A list that is 0 at its pivot is what the form leaves of a set then too,
+/// and stays; the others are forgotten.
 pub(crate) fn join_list(
     form: &mut Form,
     kept: &mut Vec<KeptSet>,
