@@ -173,13 +173,17 @@ still_echelon n new [] (s ∷ ss) all z h = absurd all
 still_echelon n new (r ∷ rows) [] all z h = absurd all
 still_echelon n new (r ∷ rows) (s ∷ ss) all z h = (still_before n new r s rows ss all.0 z.0 all.1 z.1 h.0, still_echelon n new rows ss all.1 z.1 h.1)
 
--- the new row is 0 at the pivots of the cleared rows
+-- what is 0 at the pivots of the rows is 0 at those of the cleared rows
+pub zeros_stay : (f : ℕ → ℤ) (n : ℕ) (new : List ℤ) (rows rows' : List (List ℤ)) → AreCleared n new rows rows' → ZeroAtPivots f rows → ZeroAtPivots f rows'
+zeros_stay f n new [] [] all z = tt
+zeros_stay f n new [] (s ∷ ss) all z = absurd all
+zeros_stay f n new (r ∷ rows) [] all z = absurd all
+zeros_stay f n new (r ∷ rows) (s ∷ ss) all z = (ap f all.0.same_pivot ∙ z.0, zeros_stay f n new rows ss all.1 z.1)
+
+-- so is the new row
 pub still_zero : (n : ℕ) (new : List ℤ) (rows rows' : List (List ℤ)) → AreCleared n new rows rows' → ZeroAtPivots (number_at new) rows →
     ZeroAtPivots (number_at new) rows'
-still_zero n new [] [] all z = tt
-still_zero n new [] (s ∷ ss) all z = absurd all
-still_zero n new (r ∷ rows) [] all z = absurd all
-still_zero n new (r ∷ rows) (s ∷ ss) all z = (ap (number_at new) all.0.same_pivot ∙ z.0, still_zero n new rows ss all.1 z.1)
+still_zero n new = zeros_stay (number_at new) n new
 
 -- cleared rows are primitive
 pub primitives : (n : ℕ) (new : List ℤ) (rows rows' : List (List ℤ)) → AreCleared n new rows rows' → AllByRecursion (IsPrimitive n) rows'

@@ -1,11 +1,12 @@
 -- What a basis keeps of the set that was weighed last, and of sets that are to stay out of its span.
-use Rattle.std.specs.Prelude.{◌≡◌, Option, IfSome}
+use Rattle.std.specs.Prelude.{◌≡◌, ℕ, pos, Option, IfSome}
 use Rattle.audit_types.specs.Form.{set_row}
 use Rattle.sum_basis.specs.Basis.{Echelon}
 use Rattle.sum_basis.specs.Growth.{IsLeft}
 use Rattle.sum_basis.specs.declared.basis.Held.{Held}
 use Rattle.sum_basis.specs.declared.keeping.KeptSet.{KeptSet}
 use Rattle.sum_basis.specs.declared.form.Left.TheVariants.{Entries}
+use Rattle.sum_basis.specs.Sparse.{entry_at}
 
 -- a held list is what the form leaves of the row of its set
 abbrev pub IsHeld : Echelon → Option Held → Type 0
@@ -14,3 +15,7 @@ IsHeld form held = IfSome held (λ h. IsLeft form (set_row form.n h.rows.list) (
 -- a list kept with a set of the form's columns is what the form leaves of its row
 abbrev pub IsKeptOf : Echelon → KeptSet → Type 0
 IsKeptOf form kept = (kept.rows.n ≡ form.n) × IfSome kept.list (λ list. IsLeft form (set_row form.n kept.rows.list) (Entries list))
+
+-- a list kept with a set has 0 at the place
+abbrev pub IsKeptWithout : ℕ → KeptSet → Type 0
+IsKeptWithout place kept = IfSome kept.list (λ list. entry_at list.items place ≡ pos 0)

@@ -1,38 +1,29 @@
-//! What a form leaves of the rows of sets that are to stay out of its span, kept while the form stays.
-ghost use Rattle.std.specs.Prelude.{◌≡◌, ◌↔◌, ℤ, List, length, map, All, IfOk, OnOk, IfSome, IsTrue};
+//! What a form leaves of the rows of sets that are to stay out of its span, kept until it would leave something else.
+ghost use Rattle.std.specs.Prelude.{◌≡◌, ◌↔◌, ◌≤◌, ◌++◌, ℤ, List, [], ◌∷◌, length, map, All, IfOk, OnOk, OnErr, IfSome, IsTrue};
 ghost use Rattle.std.specs.List.{AllByRecursion};
-ghost use Rattle.audit_types.specs.Form.{set_row};
-ghost use Rattle.sum_basis.specs.Growth.{ForeseesApart, IsLeftOver, IsWeighed, SpansAfter, SpansOneAfter};
-ghost use Rattle.sum_basis.specs.Holding.{IsKeptOf};
+ghost use Rattle.std.specs.Vec.{vec_capacity};
+ghost use Rattle.audit_types.specs.Form.{set_row, IsReducedForm};
+ghost use Rattle.sum_basis.specs.Basis.{Echelon};
+ghost use Rattle.sum_basis.specs.Elimination.{IsZeroAtPivots};
+ghost use Rattle.sum_basis.specs.Growth.{ForeseesApart, GrowsWide, IsLeftOver, IsWeighed, SpansAfter, SpansOneAfter};
+ghost use Rattle.sum_basis.specs.Holding.{IsKeptOf, IsKeptWithout};
+ghost use Rattle.sum_basis.specs.Sparse.{row_of, IsNew};
 
 use crate::Prospect;
+use crate::cleared_list::value_at;
 use crate::elimination::write_set;
 use crate::form::{Form, Left, Weighed};
 use crate::guarding::spans_after;
 use crate::sparse::FreeEntry;
 use audit_types::{NoMemory, RowSet};
 
-/// A set, and the list that the form leaves of its row. There is none where the row lies in the span, or has an entry above the limit.
+/// A set, and the list that the form leaves of its row, if that is known. There is none if the row lies in the span, or has an entry
+/// above the limit.
 #[derive(Drop)]
 pub(crate) struct KeptSet {
     pub rows: RowSet,
+    pub known: bool,
     pub list: Option<Vec<FreeEntry>>,
-}
-
-// The set with the list that the form leaves of its row.
-fn kept_of(form: &Form, set: &RowSet, row: &mut [i128]) -> Result<KeptSet, NoMemory>
-    requires length { length row.old ≡ form.now.n }
-    requires same_n { set.now.n ≡ form.now.n }
-    ensures rows { IfOk result (λ k. k.rows ≡ set.now) }
-    ensures kept { IfOk result (IsKeptOf form.now) }
-{
-    write_set(row, set);
-    let list = match form.settle(row)? {
-        Left::Nothing => None,
-        Left::Large => None,
-        Left::Entries(list) => Some(list),
-    };
-    Ok(KeptSet { rows: *set, list })
 }
 
 // Whether these are the kept sets, in order.
@@ -50,17 +41,9 @@ fn are_kept(kept: &[KeptSet], sets: &[RowSet]) -> bool
     true
 }
 
-// Has these sets kept, if they aren't.
-fn keep_all(
-    form: &Form,
-    kept: &mut Vec<KeptSet>,
-    sets: &[RowSet],
-    row: &mut [i128],
-) -> Result<(), NoMemory>
-    requires length { length row.old ≡ form.now.n }
-    requires same_n { All (λ s. s.n ≡ form.now.n) sets.now }
-    requires kept { AllByRecursion (IsKeptOf form.now) kept.old.items }
-    ensures kept { AllByRecursion (IsKeptOf form.now) kept.new.items }
+// Has these sets kept, if they aren't. Of a new one nothing is known yet.
+fn keep_all(kept: &mut Vec<KeptSet>, sets: &[RowSet]) -> Result<(), NoMemory>
+    ensures kept { (form : Echelon) → All (λ s. s.n ≡ form.n) sets.now → AllByRecursion (IsKeptOf form) kept.old.items → AllByRecursion (IsKeptOf form) kept.new.items }
     ensures are { OnOk result (map (λ k. k.rows) kept.new.items ≡ sets.now) }
 {
     if are_kept(kept, sets) {
@@ -68,10 +51,98 @@ fn keep_all(
     }
     kept.clear();
     for set in sets {
-        let new = kept_of(form, set, row)?;
-        kept.push(new)?;
+        kept.push(KeptSet {
+            rows: *set,
+            known: false,
+            list: None,
+        })?;
     }
     Ok(())
+}
+
+// Finds what the form leaves of the row of a set, if that isn't known.
+fn settle(form: &Form, kept: &mut KeptSet, row: &mut [i128]) -> Result<(), NoMemory>
+    requires length { length row.old ≡ form.now.n }
+    requires kept { IsKeptOf form.now kept.old }
+    ensures rows { kept.new.rows ≡ kept.old.rows }
+    ensures kept { IsKeptOf form.now kept.new }
+{
+    if kept.known {
+        return Ok(());
+    }
+    write_set(row, &kept.rows);
+    kept.list = match form.settle(row)? {
+        Left::Nothing => None,
+        Left::Large => None,
+        Left::Entries(list) => Some(list),
+    };
+    kept.known = true;
+    Ok(())
+}
+
+// Finds what the form leaves of each set's row, if that isn't known.
+fn settle_all(form: &Form, kept: &mut Vec<KeptSet>, row: &mut [i128]) -> Result<(), NoMemory>
+    requires length { length row.old ≡ form.now.n }
+    requires kept { AllByRecursion (IsKeptOf form.now) kept.old.items }
+    ensures kept { AllByRecursion (IsKeptOf form.now) kept.new.items }
+    ensures are { map (λ k. k.rows) kept.new.items ≡ map (λ k. k.rows) kept.old.items }
+{
+    for k in 0..kept.len() {
+        settle(form, &mut kept[k], row)?;
+    }
+    Ok(())
+}
+
+// Forgets what the form leaves of the row of a set, unless it is a list with 0 at the place.
+fn forget(form: &Form, kept: &mut KeptSet, place: u16)
+    requires { IsKeptOf form.now kept.old }
+    ensures kept { IsKeptOf form.now kept.new }
+    ensures without { IsKeptWithout place kept.new }
+{
+    // What every form is: it has at most 2,048 columns.
+    let _ = form.columns();
+    let stays = match &kept.list {
+        Some(list) => value_at(list, place) == 0,
+        None => false,
+    };
+    if !stays {
+        kept.known = false;
+        kept.list = None;
+    }
+}
+
+// Forgets what the form leaves of each set's row, unless it is a list with 0 at the place.
+fn forget_all(form: &Form, kept: &mut Vec<KeptSet>, place: u16)
+    requires { AllByRecursion (IsKeptOf form.now) kept.old.items }
+    ensures kept { AllByRecursion (IsKeptOf form.now) kept.new.items }
+    ensures without { AllByRecursion (IsKeptWithout place) kept.new.items }
+{
+    for k in 0..kept.len() {
+        forget(form, &mut kept[k], place);
+    }
+}
+
+/// Adds the list of a new row with which the form is narrow. A list that is 0 at its pivot is what the form leaves of a set then too,
+/// and stays; the others are forgotten.
+pub(crate) fn join_list(
+    form: &mut Form,
+    kept: &mut Vec<KeptSet>,
+    new: Vec<FreeEntry>,
+) -> Result<(), NoMemory>
+    requires new { IsNew form.old.n new.items }
+    requires new_room { form.old.n ≤ vec_capacity new }
+    requires zero { IsZeroAtPivots form.old.rows (row_of form.old.n new.items) }
+    requires narrow { ¬ (GrowsWide form.old (row_of form.old.n new.items)) }
+    requires kept { AllByRecursion (IsKeptOf form.old) kept.old.items }
+    ensures reduced { OnOk result (IsReducedForm form.old.n (form.old.rows ++ row_of form.old.n new.items ∷ []) form.new.rows) }
+    ensures n { form.new.n ≡ form.old.n }
+    ensures err { OnErr result (form.new ≡ form.old) }
+    ensures kept { AllByRecursion (IsKeptOf form.new) kept.new.items }
+{
+    // What every form is: its rows are a form.
+    let _ = form.columns();
+    forget_all(form, kept, new[0].place);
+    form.insert_list(new)
 }
 
 // Whether the lists have the same entries.
@@ -148,7 +219,8 @@ pub(crate) fn tell_kept(
         Prospect::Wide => Ok(Prospect::Wide),
         Prospect::Fixing => Ok(Prospect::Fixing),
         Prospect::Open => {
-            keep_all(form, kept, apart, row)?;
+            keep_all(kept, apart)?;
+            settle_all(form, kept, row)?;
             if spans_one_kept(form, &weighed.list, row, kept) {
                 Ok(Prospect::Fixing)
             } else {

@@ -1,5 +1,5 @@
 use Rattle.std.proofs.Common.{◌≡◌, ◌<◌, length, get_or, sym, ◌∙◌, subst, arith}
-use Rattle.std.specs.Prelude.{None}
+use Rattle.std.specs.Prelude.{false, None}
 use Rattle.std.proofs.lemmas.Bool.{false≢true}
 use Rattle.std.proofs.lemmas.List.{get_or-map, length-map}
 use Rattle.audit_types.specs.Form.{set_row}
@@ -13,7 +13,7 @@ returns c = (
   λ found.
       let set = found.0 in
       let k = found.1.0 in
-      let d : KeptSet = record { rows = record { n = 0; list = set }; list = None } in
+      let d : KeptSet = record { rows = record { n = 0; list = set }; known = false; list = None } in
       let long = length-map c.args.kept.now (λ (s : KeptSet). s.rows.list) in
       let inside : k < length c.args.kept.now = let below = found.1.1 in omega arith in
       let is : (get_or c.args.kept.now k d).rows.list ≡ set = sym (get_or-map (λ (s : KeptSet). s.rows.list) c.args.kept.now k d set inside) ∙ found.1.2 in

@@ -10,14 +10,20 @@ use Rattle.sum_basis.proofs.keeping.tell_kept.Goals as goal
 pub returns-then-spans_one_kept-clause-told : goal.returns-then-spans_one_kept-clause-told
 returns-then-spans_one_kept-clause-told c = λ asked is.
     let lists = ap (map (λ (k : KeptSet). k.rows.list)) c.deref.ensures.value
-    ∙ lists_of_kept c.keep_all.new.kept.items c.args.apart.now c.in_ok-keep_all-in-Open.ensures.are in
+    ∙ lists_of_kept c.settle_all.new.kept.items c.args.apart.now (c.settle_all.ensures.are ∙ c.in_ok-keep_all-in-Open.ensures.are) in
     told_spanned c.args.form.now asked c.args.weighed.now (map (λ (s : Rows). s.list) c.args.apart.now) is c.in-Open.is
     (subst (λ (sets : List (List ℕ)). SpansOneAfter c.args.form.now c.args.weighed.now.list sets) lists (c.spans_one_kept.ensures.0 c.if-spans_one_kept.true))
 
 pub returns-else-spans_one_kept-clause-told : goal.returns-else-spans_one_kept-clause-told
 returns-else-spans_one_kept-clause-told c = λ asked is.
     let lists = ap (map (λ (k : KeptSet). k.rows.list)) c.deref.ensures.value
-    ∙ lists_of_kept c.keep_all.new.kept.items c.args.apart.now c.in_ok-keep_all-in-Open.ensures.are in
+    ∙ lists_of_kept c.settle_all.new.kept.items c.args.apart.now (c.settle_all.ensures.are ∙ c.in_ok-keep_all-in-Open.ensures.are) in
     told_open c.args.form.now asked c.args.weighed.now (map (λ (s : Rows). s.list) c.args.apart.now) is c.in-Open.is
     (λ found. false≢true (sym c.if-spans_one_kept.false ∙ c.spans_one_kept.ensures.1
     (subst (λ (sets : List (List ℕ)). SpansOneAfter c.args.form.now c.args.weighed.now.list sets) (sym lists) found)))
+
+pub returns-in_err-keep_all-in-Open-clause-kept : goal.returns-in_err-keep_all-in-Open-clause-kept
+returns-in_err-keep_all-in-Open-clause-kept c = c.keep_all.ensures.kept c.args.form.now c.requires.same_n c.requires.kept
+
+pub settle_all-requires-clause-kept : goal.settle_all-requires-clause-kept
+settle_all-requires-clause-kept c = c.keep_all.ensures.kept c.args.form.now c.requires.same_n c.requires.kept

@@ -5,8 +5,7 @@ use Rattle.std.specs.Prelude.{Option, Some}
 use Rattle.audit_types.specs.Form.{set_row, IsReducedForm}
 use Rattle.sum_basis.specs.Basis.{Echelon}
 use Rattle.sum_basis.specs.Growth.{GrowsWide, StaysNarrow, IsLeft}
-use Rattle.std.specs.List.{AllByRecursion}
-use Rattle.sum_basis.specs.Holding.{IsHeld, IsKeptOf}
+use Rattle.sum_basis.specs.Holding.{IsHeld}
 use Rattle.sum_basis.specs.Sparse.{row_of}
 use Rattle.sum_basis.specs.declared.basis.Held.{Held}
 use Rattle.sum_basis.specs.declared.form.Left.TheVariants.{Entries}
@@ -42,29 +41,29 @@ module _ (form seen : Echelon) (held : Option Held) (m : ℕ) (list : List ℕ) 
   with_list rows reduced =
       reduced_at form seen rows (set_row form.n list) m list view row_is n (grown_with form rows new.list.items (set_row form.n list) left.1 reduced)
 
-pub insert_list-requires-clause-narrow : goal.insert_list-requires-clause-narrow
-insert_list-requires-clause-narrow c =
+pub join_list-requires-clause-narrow : goal.join_list-requires-clause-narrow
+join_list-requires-clause-narrow c =
     let is = rw c.in-Some.is at c.list_of_set.ensures in
     list_not_wide c.self.inside.form c.args.self.now c.self.inside.held c.args.rows.now.n c.args.rows.now.list
     (record { rows = c.args.rows.now; list = c.in-Some.list }) c.self.view_is c.self.invariant.1
     (sym c.take-held.ensures.value ∙ is) refl c.requires.n c.requires.narrow
 
-pub insert_list-requires-clause-new : goal.insert_list-requires-clause-new
-insert_list-requires-clause-new c =
+pub join_list-requires-clause-new : goal.join_list-requires-clause-new
+join_list-requires-clause-new c =
     let is = rw c.in-Some.is at c.list_of_set.ensures in
     (left c.self.inside.form c.args.self.now c.self.inside.held c.args.rows.now.n c.args.rows.now.list
     (record { rows = c.args.rows.now; list = c.in-Some.list }) c.self.view_is c.self.invariant.1
     (sym c.take-held.ensures.value ∙ is) refl c.requires.n).0
 
-pub insert_list-requires-clause-new_room : goal.insert_list-requires-clause-new_room
-insert_list-requires-clause-new_room c =
+pub join_list-requires-clause-new_room : goal.join_list-requires-clause-new_room
+join_list-requires-clause-new_room c =
     let is = rw c.in-Some.is at c.list_of_set.ensures in
     (left c.self.inside.form c.args.self.now c.self.inside.held c.args.rows.now.n c.args.rows.now.list
     (record { rows = c.args.rows.now; list = c.in-Some.list }) c.self.view_is c.self.invariant.1
     (sym c.take-held.ensures.value ∙ is) refl c.requires.n).2
 
-pub insert_list-requires-clause-zero : goal.insert_list-requires-clause-zero
-insert_list-requires-clause-zero c =
+pub join_list-requires-clause-zero : goal.join_list-requires-clause-zero
+join_list-requires-clause-zero c =
     let is = rw c.in-Some.is at c.list_of_set.ensures in
     (left c.self.inside.form c.args.self.now c.self.inside.held c.args.rows.now.n c.args.rows.now.list
     (record { rows = c.args.rows.now; list = c.in-Some.list }) c.self.view_is c.self.invariant.1
@@ -87,25 +86,25 @@ insert-requires-clause-length c =
 
 pub invariant_of-self : goal.invariant_of-self
 invariant_of-self c = (
-  omega (arith, c.insert_list.ensures.n, c.self.invariant.0),
+  omega (arith, c.join_list.ensures.n, c.self.invariant.0),
   rw c.take-held.ensures.after tt,
-  subst (AllByRecursion (IsKeptOf c.insert_list.new.self)) (sym c.clear.ensures.items) tt,
+  c.join_list.ensures.kept,
 )
 
 pub returns-in-Some : goal.returns-in-Some
 returns-in-Some c =
     let is = rw c.in-Some.is at c.list_of_set.ensures in
     let reduced =
-    on_ok_weaker c.insert_list.result
+    on_ok_weaker c.join_list.result
     (with_list c.self.inside.form c.args.self.now c.self.inside.held c.args.rows.now.n c.args.rows.now.list
     (record { rows = c.args.rows.now; list = c.in-Some.list }) c.self.view_is c.self.invariant.1
-    (sym c.take-held.ensures.value ∙ is) refl c.requires.n c.insert_list.new.self.rows)
-    c.insert_list.ensures.reduced in
+    (sym c.take-held.ensures.value ∙ is) refl c.requires.n c.join_list.new.form.rows)
+    c.join_list.ensures.reduced in
     record {
       reduced = reduced;
-      stands = on_ok_weaker c.insert_list.result (stands_with c.args.self.now c.insert_list.new.self c.args.rows.now.list) reduced;
-      n = c.insert_list.ensures.n ∙ ap (λ (e : Echelon). e.n) c.self.view_is;
-      err = on_err_weaker c.insert_list.result (λ same. same ∙ c.self.view_is) c.insert_list.ensures.err;
+      stands = on_ok_weaker c.join_list.result (stands_with c.args.self.now c.join_list.new.form c.args.rows.now.list) reduced;
+      n = c.join_list.ensures.n ∙ ap (λ (e : Echelon). e.n) c.self.view_is;
+      err = on_err_weaker c.join_list.result (λ same. same ∙ c.self.view_is) c.join_list.ensures.err;
     }
 
 pub returns-then-branch-clause-stands : goal.returns-then-branch-clause-stands
