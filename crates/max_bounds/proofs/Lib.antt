@@ -14,3 +14,4 @@ pub mod NextExtremes
 pub mod DangerCases
 pub mod FailedCalls
 pub mod HeldExtremes
+pub mod WithinSets

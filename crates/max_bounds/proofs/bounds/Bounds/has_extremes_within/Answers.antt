@@ -5,6 +5,7 @@ use Rattle.std.specs.List.{AllByRecursion}
 use Rattle.std.proofs.lemmas.Int.{to_z-of_z}
 use Rattle.max_bounds.specs.Maxima.{Maxima, answers_of}
 use Rattle.max_bounds.specs.Outside.{HasWithin, HasExtremesWithin}
+use Rattle.max_bounds.specs.Kept.{Descend}
 use Rattle.max_bounds.proofs.HeldExtremes.{extremes_of_set, set_of_extremes}
 use Rattle.max_bounds.proofs.bounds.Bounds.has_extremes_within.Goals as goal
 
@@ -14,6 +15,7 @@ has_within-requires c =
     record {
       same_n = subst (AllByRecursion (λ p. p.rows.n ≡ c.args.rows.now.n)) (sym c.deref.ensures.value)
           (subst (λ n. AllByRecursion (λ p. p.rows.n ≡ n) c.self.inside.least.items) same_n c.self.invariant.same_n_least);
+      descend = subst (λ l. Descend (answers_of l)) (sym c.deref.ensures.value) c.self.invariant.descend;
     }
 
 pub returns : goal.returns
