@@ -140,20 +140,20 @@ module _ (greatest : GreatestIsBoundAndReached) (bounds : UpperBoundIsLeast) whe
       -- what bounds and extreme rows force is implied
       forced : IsForced answers a → IsImplied (known_max n answers) a
       forced t w agrees =
-          let e = t.earlier in
-          let given = all_at (λ b. greatest_over w b.rows ≡ b.value) answers e agrees.same t.one in
-          let reached = (greatest w e.rows (some_of e t.one)).1 in
+          let e = t.reached.answer in
+          let given = all_at (λ b. greatest_over w b.rows ≡ b.value) answers e agrees.same t.reached.one in
+          let reached = (greatest w e.rows (some_of e t.reached.one)).1 in
           let q = reached.0 in
-          let bound = (bounds answers q).0 e t.one reached.1 in
+          let bound = (bounds answers q).0 e t.reached.one reached.1 in
           let most = at_most_bound w agrees q bound.0 bound.1 in
           let low = bound.2 in
           let has_it = reached.2 in
           let same : bound.0 ≡ e.value = omega (arith, ints) in
           let extreme = has-filter (λ r. is_bound (upper_bound answers r) e.value) e.rows q reached.1 (bound_is (upper_bound answers q) bound.0 e.value bound.1 same) in
-          let equal = t.equal in
+          let equal = t.reached.same in
           greatest_is w a.rows a.value q some
           (λ r there. let b = t.bounded r there in let under = at_most_bound w agrees r b.0 b.1 in let least = b.2 in omega (arith, ints))
-          (t.within q extreme) (omega (arith, ints))
+          (t.reached.within q extreme) (omega (arith, ints))
 
       module _ (consistent : IsConsistent answers) (implied : IsImplied (known_max n answers) a) where
         -- each row at its bound, the others above the answer
@@ -240,7 +240,10 @@ module _ (greatest : GreatestIsBoundAndReached) (bounds : UpperBoundIsLeast) whe
         is_forced : IsForced answers a
         unfolding Within
         is_forced = elim (one_or_none Within Outside within_or_outside answers) [
-          | inl (p, one, (equal, within)) ↦ record { bounded = bounded; earlier = p; one = one; equal = equal; within = within }
+          | inl (p, one, (equal, within)) ↦ record {
+            bounded = bounded;
+            reached = record { answer = p; one = one; same = equal; within = within };
+          }
           | inr outside ↦ absurd (not_all_outside outside)
         ]
 

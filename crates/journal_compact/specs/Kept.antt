@@ -4,9 +4,10 @@ use Rattle.audit_types.specs.declared.shapes.Shape.{Shape}
 use Rattle.audit_types.specs.declared.records.Answered.{Answered}
 use Rattle.audit_types.specs.Rows.{has_row}
 use Rattle.audit_types.specs.Truth.{truth}
-use Rattle.audit_types.specs.Column.{Known, Answer, Agrees, IsOneOf}
-use Rattle.audit_types.specs.Extremes.{upper_bound, extremes}
+use Rattle.audit_types.specs.Column.{Known, Answer, Agrees}
+use Rattle.audit_types.specs.Extremes.{upper_bound}
 use Rattle.audit_types.specs.History.{answer_in, known_of, setting_of}
+use Rattle.max_bounds.specs.Outside.{HasExtremesWithin}
 
 -- every list that gives the answers gives this one too
 abbrev pub IsImplied : Known → Answer → Type 0
@@ -36,7 +37,4 @@ IsBounded answers rows answer = (r : ℕ) → has_row rows r ≡ true → IsAtMo
 -- earlier answer of the same number has all its extreme rows in the set
 pub record IsForced (answers : List Answer) (a : Answer) : Type 0 where
   pub bounded : IsBounded answers a.rows a.value
-  pub earlier : Answer
-  pub one : IsOneOf earlier answers
-  pub equal : earlier.value ≡ a.value
-  pub within : (r : ℕ) → has_row (extremes answers earlier) r ≡ true → has_row a.rows r ≡ true
+  pub reached : HasExtremesWithin answers a.rows a.value

@@ -10,12 +10,8 @@ use Rattle.audit_types.specs.RowLaws.{has_first}
 use Rattle.max_bounds.specs.Outside.{outside, HasOneHighest, HasStranded, IsDangerousByExtremes}
 use Rattle.max_bounds.specs.Kept.{fewest_of, TellsExtremes}
 use Rattle.max_bounds.specs.AnswerLaws.{all_at, all_from}
+use Rattle.max_bounds.proofs.OutsideRows.{in_set, none_outside}
 use Rattle.max_bounds.specs.RowListLaws.{filter-has, has-filter, filter-ascends, only_or_not, other_row, first_or_later, one_row, some_length}
-
--- a list without a row is empty
-no_row : (rows : List ℕ) → ((r : ℕ) → has_row rows r ≡ true → ⊥) → rows ≡ []
-no_row [] none = refl
-no_row (r ∷ rows) none = absurd (none r (has_first r rows))
 
 -- the least count is at most each
 fewest_below : (count : Answer → ℕ) (answers : List Answer) (a : Answer) → IsOneOf a answers → fewest_of (map count answers) ≤ count a
@@ -86,9 +82,7 @@ module _ (answers : List Answer) (counts : List ℕ) (fewest : ℕ) (sets : List
       )
     where
       fewer_outside : (set few many : List ℕ) → ((r : ℕ) → has_row few r ≡ true → has_row many r ≡ true) → outside set many ≡ [] → outside set few ≡ []
-      fewer_outside set few many all none = no_row (outside set few) (λ r there.
-          let found = filter-has (λ q. not (has_row set q)) few r there in
-          true≢false (sym (has-filter (λ q. not (has_row set q)) many r (all r found.0) found.1) ∙ ap (λ l. has_row l r) none))
+      fewer_outside set few many all none = none_outside set few (λ r there. in_set set many r none (all r there))
 
   module _ (n : ℕ) (are : AllByRecursion (λ a. AreRows n a.rows) answers) where
     -- and an answer that is stranded has a set that is

@@ -1,6 +1,6 @@
 -- Sets with descending answers, as a new one goes among them.
 use Rattle.std.proofs.Common.{◌≡◌, ℕ, ◌<◌, ◌≤◌, zero, suc, ℤ, true, false, cond, List, [], ◌∷◌, ◌++◌, length, map, take, drop, get_or, refl, sym, ap, ◌∙◌, subst, inl, inr, ◌⊎◌, arith}
-use Rattle.std.specs.Prelude.{◌≤ℤ◌, int_lt}
+use Rattle.std.specs.Prelude.{◌≤ℤ◌, ◌<ℤ◌, int_lt}
 use Rattle.std.specs.List.{AllByRecursion}
 use Rattle.std.proofs.Math.Seq.{split_at}
 use Rattle.std.specs.List.Sorted.{IsPartitionPoint, IsPartitionedBy}
@@ -56,7 +56,7 @@ place_after sets x i point =
     record { front = before sets i (λ k d first. point.0 k d (omega arith) first); rest = after sets i (λ k d late within. point.1 k d late within) }
   where
     before : (sets : List AnsweredMax) (i : ℕ) → ((k : ℕ) (d : AnsweredMax) → k < i → int_lt x (get_or sets k d).answer ≡ true) →
-        AllByRecursion (λ b. x ≤ℤ b.value) (answers_of (take i sets))
+        AllByRecursion (λ b. x <ℤ b.value) (answers_of (take i sets))
     before [] zero above = tt
     before [] (suc i) above = tt
     before (y ∷ sets) zero above = tt
@@ -107,7 +107,7 @@ inserted_descend [] (suc i) y h at = (tt, tt)
 inserted_descend (z ∷ least) zero y h at = (at.rest, h)
 inserted_descend (z ∷ least) (suc i) y h at = (
   subst (AllByRecursion (λ b. b.value ≤ℤ z.answer)) (sym (answers_inserted least i y))
-      (all_inserted (λ b. b.value ≤ℤ z.answer) (answers_of least) i (answer_of y) h.0 at.front.0),
+      (all_inserted (λ b. b.value ≤ℤ z.answer) (answers_of least) i (answer_of y) h.0 (let above = at.front.0 in omega (arith, ints))),
   inserted_descend least i y h.1 (record { front = at.front.1; rest = at.rest }),
 )
 

@@ -9,6 +9,9 @@ pub mod Ranges
 pub mod FallingCounts
 pub mod LoweredSets
 pub mod Descending
+pub mod OutsideRows
 pub mod NextExtremes
 pub mod DangerCases
 pub mod FailedCalls
+pub mod HeldExtremes
+pub mod WithinSets

@@ -21,6 +21,7 @@ use Rattle.max_bounds.specs.BoundLaws.{upper_bound-push, exact_bound}
 use Rattle.max_bounds.specs.OneMoreLaws.{filters_agree_on, asked, bound_in_set, keeps_extremes, lower_keeps, higher_loses}
 use Rattle.max_bounds.proofs.Walks.{filter-none}
 use Rattle.max_bounds.proofs.LoweredSets.{same_test}
+use Rattle.max_bounds.proofs.OutsideRows.{in_set}
 use Rattle.max_bounds.proofs.Descending.{inserted_is, inserted_has, one_of_inserted}
 use Rattle.audit_types.specs.FilteredRows.{has_filtered}
 
@@ -243,13 +244,6 @@ module _ (answers : List Answer) (rows : List ℕ) (x : ℤ) where
     ];
   }
 
-  -- a list of which nothing is outside a set is in it
-  in_set : (l : List ℕ) (r : ℕ) → outside rows l ≡ [] → has_row l r ≡ true → has_row rows r ≡ true
-  in_set l r none there = elim (has_row rows r) as (λ b. has_row rows r ≡ b → b ≡ true) [
-    | true ↦ λ e. refl
-    | false ↦ λ e. absurd (true≢false (sym (has-filter (λ q. not (has_row rows q)) l r there (ap not e)) ∙ ap (λ k. has_row k r) none))
-  ] refl
-
   -- or without it, where a set of its value lies within its rows
   pub least_within : (sets : List Answer) → HasWithin sets rows x → AreLeast (extremes more) answers sets → AreLeast (extremes more) more sets
   least_within sets (w, within, is) h = record {
@@ -265,5 +259,5 @@ module _ (answers : List Answer) (rows : List ℕ) (x : ℤ) where
           let found = h.each w within in
           let extreme : has_row (extremes more found.0) r ≡ true = ap (λ l. has_row l r) found.3 ∙ there in
           let bound = filter-has (λ q. is_bound (upper_bound more q) found.0.value) found.0.rows r extreme in
-          has-filter (λ q. is_bound (upper_bound more q) x) rows r (in_set w.rows r is.none_left there)
+          has-filter (λ q. is_bound (upper_bound more q) x) rows r (in_set rows w.rows r is.none_left there)
           (ap (is_bound (upper_bound more r)) (sym (found.2 ∙ is.same)) ∙ bound.1)

@@ -110,9 +110,9 @@ abbrev pub Descend : List Answer → Type 0
 Descend [] = Unit {0}
 Descend (a ∷ sets) = AllByRecursion (λ b. b.value ≤ℤ a.value) sets × Descend sets
 
--- at this place an answer goes among descending ones
+-- at this place an answer goes among descending ones: after those above it
 pub record IsPlaceOf (answer : ℤ) (least : List AnsweredMax) (place : ℕ) : Type 0 where
-  pub front : AllByRecursion (λ b. answer ≤ℤ b.value) (answers_of (take place least))
+  pub front : AllByRecursion (λ b. answer <ℤ b.value) (answers_of (take place least))
   pub rest : AllByRecursion (λ b. b.value ≤ℤ answer) (answers_of (drop place least))
 
 -- sets that stand for the extreme rows of all answers: each is those of an answer, and each answer has such a set of its value, with no other row

@@ -38,6 +38,13 @@ pub record IsWithin (rows : List ℕ) (value : ℤ) (a : Answer) : Type 0 where
 abbrev pub HasWithin : List Answer → List ℕ → ℤ → Type 0
 HasWithin answers rows value = (a : Answer) × IsOneOf a answers × IsWithin rows value a
 
+-- an answer of this value has all its extreme rows in the set
+pub record HasExtremesWithin (answers : List Answer) (rows : List ℕ) (value : ℤ) : Type 0 where
+  pub answer : Answer
+  pub one : IsOneOf answer answers
+  pub same : answer.value ≡ value
+  pub within : (r : ℕ) → has_row (extremes answers answer) r ≡ true → has_row rows r ≡ true
+
 -- each answer has an extreme row; and some row is lone, or one row of the set is highest, or all extreme rows of some answer but
 -- one lie in the set while each answer that loses all of them is lower
 pub record IsDangerousByExtremes (answers : List Answer) (rows : List ℕ) : Type 0 where

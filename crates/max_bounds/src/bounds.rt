@@ -5,14 +5,14 @@ ghost use Rattle.audit_types.specs.Column.{Answer};
 ghost use Rattle.audit_types.specs.Extremes.{upper_bound, extremes, IsConsistent, IsLeastLone};
 ghost use Rattle.std.specs.List.{AllByRecursion};
 ghost use Rattle.max_bounds.specs.Maxima.{Maxima, answers_of, and_answer};
-ghost use Rattle.max_bounds.specs.Outside.{IsDangerousByExtremes};
+ghost use Rattle.max_bounds.specs.Outside.{HasExtremesWithin, IsDangerousByExtremes};
 ghost use Rattle.max_bounds.specs.Kept.{extreme_counts};
 
 use crate::answered::AnsweredMax;
 use crate::high_rows::{HighRows, one_highest_of, reach_high, renew_high};
 use crate::kept::{fall, insert};
 use crate::reach::settle;
-use crate::stranding::strands;
+use crate::stranding::{has_within, strands};
 use crate::survey::{Trial, survey, survey_with};
 use audit_types::{NoMemory, RowSet};
 use std::alloc::Global;
@@ -161,13 +161,17 @@ impl Bounds {
     pub fn consistent(&self) -> bool
         ensures { IsTrue result ↔ IsConsistent self.now.answers }
     {
-        survey(&self.pairs).consistent
+        self.fewest > 0
     }
 
     /// The least row that is the only extreme row of some answer.
     pub fn lone_extreme(&self) -> Option<u16>
         ensures { IsLeastLone self.now.answers result }
     {
+        if self.fewest > 1 {
+            // Each answer has two extreme rows or more.
+            return None;
+        }
         survey(&self.pairs).lone
     }
 
@@ -181,6 +185,14 @@ impl Bounds {
         ensures lone { IsLeastLone (and_answer self.now.answers rows.now.list answer) result.lone }
     {
         survey_with(&self.pairs, rows, answer)
+    }
+
+    /// Whether all extreme rows of some answer with this number are in the set. It takes no memory.
+    pub fn has_extremes_within(&self, rows: &RowSet, answer: i64) -> bool
+        requires same_n { rows.now.n ≡ self.now.n }
+        ensures { IsTrue result ↔ HasExtremesWithin self.now.answers rows.now.list answer }
+    {
+        has_within(&self.least, rows, answer)
     }
 
     /// Whether some answer to a question on these rows would be possible and leave a lone row, told from the extreme rows of

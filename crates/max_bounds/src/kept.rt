@@ -5,11 +5,11 @@ ghost use Rattle.audit_types.specs.Rows.{AreRows};
 ghost use Rattle.audit_types.specs.Extremes.{upper_bound, extremes};
 ghost use Rattle.max_bounds.specs.Maxima.{answer_of, answers_of, and_answer};
 ghost use Rattle.max_bounds.specs.Reaching.{bound_at};
-ghost use Rattle.max_bounds.specs.Kept.{rows_above, AreLeast, Descend, IsPlaceOf, TellsExtremes};
+ghost use Rattle.max_bounds.specs.Kept.{rows_above, AreLeast, Descend, TellsExtremes};
 
 use crate::answered::AnsweredMax;
 use crate::counts::{fewest, lower_counts};
-use crate::sets::lower_sets;
+use crate::sets::{lower_sets, place_of};
 use crate::stranding::has_within;
 use audit_types::RowSet;
 
@@ -44,15 +44,6 @@ pub(crate) fn fall(
     lower_counts(counts, pairs, upper, falling);
     lower_sets(least, &latest.rows, latest.answer);
     fewest(counts)
-}
-
-// Where an answer goes among descending ones.
-fn place_of(least: &[AnsweredMax], answer: i64) -> usize
-    requires descend { Descend (answers_of least.now) }
-    ensures at_most { result ≤ length least.now }
-    ensures place { IsPlaceOf answer least.now result }
-{
-    least.partition_point(|set| answer < set.answer)
 }
 
 /// Puts a new answer's own extreme rows among the least sets, unless one of this answer lies in its set.

@@ -1,12 +1,21 @@
-//! Sets of extreme rows, lowered.
-ghost use Rattle.std.specs.Prelude.{◌≡◌, ℕ, List, map};
+//! Sets of extreme rows in descending order of answers: an answer's place among them, and how they are lowered.
+ghost use Rattle.std.specs.Prelude.{◌≡◌, ◌≤◌, ℕ, List, map, length};
 ghost use Rattle.std.specs.List.{AllByRecursion};
 ghost use Rattle.audit_types.specs.Rows.{complement};
 ghost use Rattle.max_bounds.specs.Maxima.{answer_of, answers_of};
-ghost use Rattle.max_bounds.specs.Kept.{lowered_set};
+ghost use Rattle.max_bounds.specs.Kept.{lowered_set, Descend, IsPlaceOf};
 
 use crate::answered::AnsweredMax;
 use audit_types::RowSet;
+
+/// Where an answer goes among descending ones: after those above it.
+pub(crate) fn place_of(least: &[AnsweredMax], answer: i64) -> usize
+    requires descend { Descend (answers_of least.now) }
+    ensures at_most { result ≤ length least.now }
+    ensures place { IsPlaceOf answer least.now result }
+{
+    least.partition_point(|set| answer < set.answer)
+}
 
 // Takes the rows of a new answer from a set with a higher one. The others are the rows that the new answer's set lacks.
 fn lower_set(set: &mut AnsweredMax, others: &RowSet, answer: i64)

@@ -7,6 +7,7 @@ ghost use Rattle.max_bounds.specs.Outside.{outside, HasStranded, IsWithin, HasWi
 ghost use Rattle.max_bounds.specs.Kept.{IsLeft, Matters, IsLost, Descend};
 
 use crate::answered::AnsweredMax;
+use crate::sets::place_of;
 use audit_types::RowSet;
 
 /// How many rows of a set are left outside another, as far as it matters.
@@ -101,11 +102,17 @@ fn is_within(set: &AnsweredMax, others: &RowSet, answer: i64) -> bool
 /// Whether some set with this answer lies in the question's.
 pub(crate) fn has_within(least: &[AnsweredMax], rows: &RowSet, answer: i64) -> bool
     requires same_n { AllByRecursion (λ p. p.rows.n ≡ rows.now.n) least.now }
+    requires descend { Descend (answers_of least.now) }
     ensures { IsTrue result ↔ HasWithin (answers_of least.now) rows.now.list answer }
 {
     let mut others = *rows;
     others.flip();
-    for set in least {
+    let place = place_of(least, answer);
+    for set in &least[place..] {
+        if set.answer < answer {
+            // No later answer is higher.
+            return false;
+        }
         if is_within(set, &others, answer) {
             return true;
         }

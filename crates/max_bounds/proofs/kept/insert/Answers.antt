@@ -55,8 +55,10 @@ returns-else-not-has_within-clause-tells c =
     c.requires.told
 
 pub has_within-requires : goal.has_within-requires
-has_within-requires c =
-    record { same_n = subst (AllByRecursion (λ (p : AnsweredMax). p.rows.n ≡ c.args.latest.now.rows.n)) (sym c.deref.ensures.value) c.requires.same_n_least }
+has_within-requires c = record {
+  same_n = subst (AllByRecursion (λ (p : AnsweredMax). p.rows.n ≡ c.args.latest.now.rows.n)) (sym c.deref.ensures.value) c.requires.same_n_least;
+  descend = subst (λ l. Descend (answers_of l)) (sym c.deref.ensures.value) c.requires.descend;
+}
 
 pub place_of-place-requires : goal.place_of-place-requires
 place_of-place-requires c = record { descend = subst (λ l. Descend (answers_of l)) (sym c.deref-then-not-has_within.ensures.value) c.requires.descend }
