@@ -30,10 +30,10 @@ MOST = {
     "disclosure": 70,
     "decision": 110,
     "lines and conditions": 380,
-    "formats of files": 245,
+    "formats of files": 195,
     "journal and crash": 95,
-    "lives": 240,
-    "the promise": 1130,
+    "lives": 232,
+    "the promise": 1080,
 }
 
 IMPORT = re.compile(r"(?:ghost )?use (?:Rattle\.)?([\w.]+?)(?:\.\{(.*)\}| as (\w+));?$")

@@ -12,12 +12,12 @@ use Rattle.bench_core.specs.declared.bench.Bench.{Ghosts}
 use Rattle.bench_core.specs.Calls.{IsQuiet}
 use Rattle.journal_form.specs.Journal.{StandsFor}
 use Rattle.audit_store.specs.Stores.{StoreContents}
-use Rattle.audit_session.specs.Ends.{Ends, Reads, Rests, Serves, ServesWhole, ServesSome, ServesLimited, limited}
+use Rattle.audit_session.specs.Ends.{Ends, Reads, Rests, Serves, ServesWhole, ServesSome, limited}
 
 pub ends_by : {X : Type 0} (batch : ℕ) (base : Database) (history : List Answered) (input left : List ℕ) (now : List Answered) (before after : List ℕ)
     (fault : EndFault)
     → (IsErrOf {T = X} (Err fault) end.Input → ServesWhole base history batch input left now before after)
-    → (IsErrOf {T = X} (Err fault) end.Limit → ServesLimited base history batch input now before after) →
+    → (IsErrOf {T = X} (Err fault) end.Limit → ServesWhole base history batch (limited input) [] now before after) →
     (IsErrOf {T = X} (Err fault) end.NoMemory → ServesSome base history batch (counted_lines input) now before after)
     → Ends batch (Err fault) base history input left now before after
 ends_by batch base history input left now before after end.Input whole limit some = whole refl

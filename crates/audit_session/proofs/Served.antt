@@ -1,5 +1,7 @@
 -- What the loop over groups keeps from turn to turn.
 use Rattle.std.proofs.Common.{◌≡◌, ℕ, ◌+◌, ◌*◌, ◌<◌, ◌≤◌, Bool, true, false, List, [], ◌++◌, length, refl, sym, ◌∙◌, ap, subst, arith, inl, ◌⊎◌, ⊎_elim, append_assoc, length-append}
+use Rattle.std.specs.Prelude.{◌/◌}
+use Rattle.std.proofs.lemmas.Nat.{div-mul-add}
 use Rattle.std.proofs.Math.Nat.{suc-mul}
 use Rattle.std.proofs.lemmas.Bool.{false≢true}
 use Rattle.std.proofs.lemmas.List.{append-nil}
@@ -21,7 +23,7 @@ use Rattle.question_plan.specs.declared.planning.Plan.{Plan}
 use Rattle.question_plan.specs.Session.{Replied, records_of, bytes_of, AreReplies, commits, groups}
 use Rattle.question_plan.specs.Replies.{IsDue, IsReplyOf}
 use Rattle.audit_session.specs.Stops.{StopsOver}
-use Rattle.audit_session.specs.Ends.{Serves, ServesWhole, ServesSome, ServesLimited, TakesCalls, limited}
+use Rattle.audit_session.specs.Ends.{Serves, ServesWhole, ServesSome, TakesCalls, limited}
 use Rattle.audit_session.specs.Groups.{CutsShort, Gathers, InGroup, AnswersGroup, StandsOn, StopsAmong, stands_of}
 use Rattle.question_plan.specs.InTurn.{bytes_of-append, length-replies}
 use Rattle.audit_session.proofs.FirstStop.{stops_first}
@@ -170,25 +172,17 @@ module _ {P B : Type 0} (source : SourceGhosts P) (bench : Ghosts B) (columns : 
         ap (λ (ls : List CountedLine). groups batch served.answered.count ls) lines_are
         ∙ first_groups batch served.answered.count served.answered.lines (whole_lines cut.read) served.answered.many
 
-    begun : served.answered.count * batch ≤ length (whole_lines read)
-    begun = omega (arith, many_lines)
+    count_is : length (whole_lines read) / batch ≡ served.answered.count
+    count_is = ap (λ (n : ℕ). n / batch) many_lines ∙ div-mul-add served.answered.count batch (length (whole_lines cut.read)) cut.few
 
-    rest : length (whole_lines read) < (served.answered.count + 1) * batch
-    rest =
-        let size : (served.answered.count + 1) * batch ≡ served.answered.count * batch + batch = ap (λ (n : ℕ). n * batch) (omega arith)
-        ∙ suc-mul served.answered.count batch in
-        omega (arith, many_lines, size, cut.few)
+    serves_whole : Serves base first_store.history (groups batch (length (whole_lines read) / batch) (whole_lines read)) store.history (bench.sent first)
+        (bench.sent at)
+    serves_whole =
+        subst (λ (n : ℕ). Serves base first_store.history (groups batch n (whole_lines read)) store.history (bench.sent first) (bench.sent at)) (sym count_is)
+        (groups_served u (whole_lines read) whole_groups)
 
     pub served_whole : ServesWhole base first_store.history batch (source.left first_source) left store.history (bench.sent first) (bench.sent at)
-    served_whole =
-        record {
-          read = read;
-          split = split;
-          count = served.answered.count;
-          begun = begun;
-          rest = rest;
-          serves = groups_served u (whole_lines read) whole_groups;
-        }
+    served_whole = (read, split, serves_whole)
 
     below_limit : (pending behind : List ℕ) (taken : ℕ) → left ≡ pending ++ behind → taken ≡ most_input + length pending →
         taken + length behind ≡ length (source.left first_source) → limited (source.left first_source) ≡ read
@@ -197,14 +191,9 @@ module _ {P B : Type 0} (source : SourceGhosts P) (bench : Ghosts B) (columns : 
 
     pub served_limited : (pending behind : List ℕ) (taken : ℕ) → left ≡ pending ++ behind → taken ≡ most_input + length pending →
         taken + length behind ≡ length (source.left first_source) →
-        ServesLimited base first_store.history batch (source.left first_source) store.history (bench.sent first) (bench.sent at)
+        ServesWhole base first_store.history batch (limited (source.left first_source)) [] store.history (bench.sent first) (bench.sent at)
     served_limited pending behind taken left_is over total =
-        let is = below_limit pending behind taken left_is over total in
-        let P : List ℕ → Type 0 = λ l. (served.answered.count * batch ≤ length (whole_lines l)) ×
-        (length (whole_lines l) < (served.answered.count + 1) * batch) ×
-        Serves base first_store.history (groups batch served.answered.count (whole_lines l)) store.history (bench.sent first) (bench.sent at) in
-        let here : P (limited (source.left first_source)) = subst P (sym is) (begun, rest, groups_served u (whole_lines read) whole_groups) in
-        record { count = served.answered.count; begun = here.0; rest = here.1; serves = here.2 }
+        (read, below_limit pending behind taken left_is over total ∙ sym (append-nil read), serves_whole)
 
   -- ---- a group more
 

@@ -1,5 +1,5 @@
 -- How a session ends.
-use Rattle.std.specs.Prelude.{◌≡◌, ℕ, ◌+◌, ◌*◌, ◌≤◌, ◌<◌, List, [], ◌++◌, length, take, Result, Ok, Err}
+use Rattle.std.specs.Prelude.{◌≡◌, ℕ, ◌+◌, ◌*◌, ◌/◌, ◌≤◌, ◌<◌, List, [], ◌++◌, length, take, Result, Ok, Err}
 use Rattle.audit_types.specs.declared.records.Answered.{Answered}
 use Rattle.table_load.specs.Database.{Database}
 use Rattle.bench_core.specs.declared.bench.Bench.{Ghosts}
@@ -24,13 +24,9 @@ pub record Serves (base : Database) (history : List Answered) (lines : List Coun
   pub sent_is : after ≡ before ++ bytes_of replies
 
 -- the whole groups of lines whose last line feed stands among the bytes that were read were answered, and no other
-pub record ServesWhole (base : Database) (history : List Answered) (batch : ℕ) (input left : List ℕ) (now : List Answered) (before after : List ℕ) : Type 0 where
-  pub read : List ℕ
-  pub split : input ≡ read ++ left
-  pub count : ℕ
-  pub begun : count * batch ≤ length (whole_lines read)
-  pub rest : length (whole_lines read) < (count + 1) * batch
-  pub serves : Serves base history (groups batch count (whole_lines read)) now before after
+abbrev pub ServesWhole : Database → List Answered → ℕ → List ℕ → List ℕ → List Answered → List ℕ → List ℕ → Type 0
+ServesWhole base history batch input left now before after =
+    (read : List ℕ) × (input ≡ read ++ left) × Serves base history (groups batch (length (whole_lines read) / batch) (whole_lines read)) now before after
 
 -- some groups of lines were answered
 pub record ServesSome (base : Database) (history : List Answered) (batch : ℕ) (lines : List CountedLine) (now : List Answered) (before after : List ℕ) : Type 0 where
@@ -41,18 +37,11 @@ pub record ServesSome (base : Database) (history : List Answered) (batch : ℕ) 
 unfoldable pub limited : List ℕ → List ℕ
 limited input = take most_input input
 
--- the whole groups of lines whose last line feed stands among the bytes that may be read were answered, and no other
-pub record ServesLimited (base : Database) (history : List Answered) (batch : ℕ) (input : List ℕ) (now : List Answered) (before after : List ℕ) : Type 0 where
-  pub count : ℕ
-  pub begun : count * batch ≤ length (whole_lines (limited input))
-  pub rest : length (whole_lines (limited input)) < (count + 1) * batch
-  pub serves : Serves base history (groups batch count (whole_lines (limited input))) now before after
-
 -- which lines were answered, by the end
 abbrev pub Ends : ℕ → Result (Unit {0}) EndFault → Database → List Answered → List ℕ → List ℕ → List Answered → List ℕ → List ℕ → Type 0
 Ends batch (Ok done) base history input left now before after = Serves base history (counted_lines input) now before after
 Ends batch (Err end.Input) base history input left now before after = ServesWhole base history batch input left now before after
-Ends batch (Err end.Limit) base history input left now before after = ServesLimited base history batch input now before after
+Ends batch (Err end.Limit) base history input left now before after = ServesWhole base history batch (limited input) [] now before after
 Ends batch (Err end.NoMemory) base history input left now before after = ServesSome base history batch (counted_lines input) now before after
 Ends batch (Err end.Bench) base history input left now before after = Unit {0}
 

@@ -3,21 +3,20 @@ use Rattle.std.specs.Prelude.{◌≢◌, ℕ, ◌<◌, ℤ, List, map, take}
 use Rattle.audit_types.specs.Shapes.{columns}
 use Rattle.audit_types.specs.Column.{IsGuarded}
 use Rattle.audit_types.specs.History.{Secrets, AreSecrets, known_of, list_of}
-use Rattle.table_load.specs.Database.{Database, base_of}
+use Rattle.table_load.specs.Database.{Database}
 use Rattle.audit_session.specs.Lives.{Standing, Run, IsLife, in_force}
 
 -- the table with these secrets, as many as it has rows
 abbrev pub with_secrets : Secrets → Database → Database
-with_secrets lists base =
-    base_of base.columns base.public base.protected (record { shape = base.secret.shape; lists = map (take base.secret.shape.rows) lists })
+with_secrets lists base = record base { secret = record { shape = base.secret.shape; lists = map (take base.secret.shape.rows) lists } }
 
 -- the same moment of a life over these secrets
 abbrev pub standing_with : Secrets → Standing → Standing
-standing_with lists at = record { base = with_secrets lists at.base; rows = at.rows; history = at.history }
+standing_with lists at = record at { base = with_secrets lists at.base }
 
 -- the same run over these secrets: it does, leaves and sends the same
 abbrev pub run_with : Secrets → Run → Run
-run_with lists run = record { deed = run.deed; left = standing_with lists run.left; sent = run.sent }
+run_with lists run = record run { left = standing_with lists run.left }
 
 -- other secrets of the last table differ in this of a column, and every byte that was sent, and every history that was left, is
 -- one that they lead to

@@ -10,7 +10,7 @@ ghost use Rattle.journal_form.specs.Journal.{StandsFor};
 ghost use Rattle.audit_store.specs.Stores.{IsAsLeft, IsStore, table_of};
 ghost use Rattle.line_wire.specs.Lines.{counted_lines, most_input};
 ghost use Rattle.audit_session.specs.Stops.{IsBatch, IsHarmless, StopsOver};
-ghost use Rattle.audit_session.specs.Ends.{Serves, ServesWhole, ServesSome, ServesLimited, TakesCalls, Ends, Reads, Rests, store_end, plan_end};
+ghost use Rattle.audit_session.specs.Ends.{Serves, ServesWhole, ServesSome, TakesCalls, limited, Ends, Reads, Rests, store_end, plan_end};
 ghost use Rattle.audit_session.specs.Groups.{StopsAmong};
 
 use crate::answering::answer;
@@ -157,7 +157,7 @@ pub fn serve<P: Source, B: Bench>(
     // The ends: which lines were answered. The file stands for the history, unless the bench failed.
     ensures done { P.told → B.told → OnOk result (Serves (base_of schema.now.columns index.now.public index.now.protected store.old.secret) store.old.history (counted_lines (P.left source.old)) store.new.history (B.sent bench.old) (B.sent bench.new)) }
     ensures input_end { P.told → B.told → result ≡ Err EndFault.Input → ServesWhole (base_of schema.now.columns index.now.public index.now.protected store.old.secret) store.old.history batch (P.left source.old) (P.left source.new) store.new.history (B.sent bench.old) (B.sent bench.new) }
-    ensures limit_end { P.told → B.told → result ≡ Err EndFault.Limit → ServesLimited (base_of schema.now.columns index.now.public index.now.protected store.old.secret) store.old.history batch (P.left source.old) store.new.history (B.sent bench.old) (B.sent bench.new) }
+    ensures limit_end { P.told → B.told → result ≡ Err EndFault.Limit → ServesWhole (base_of schema.now.columns index.now.public index.now.protected store.old.secret) store.old.history batch (limited (P.left source.old)) [] store.new.history (B.sent bench.old) (B.sent bench.new) }
     ensures memory_end { P.told → B.told → result ≡ Err EndFault.NoMemory → ServesSome (base_of schema.now.columns index.now.public index.now.protected store.old.secret) store.old.history batch (counted_lines (P.left source.old)) store.new.history (B.sent bench.old) (B.sent bench.new) }
     ensures stands { B.told → result ≢ Err EndFault.Bench → StandsFor (B.file bench.new) store.new.secret.shape store.new.history }
     ensures quiet { B.told → IsQuiet B.Bench bench.old → result ≢ Err EndFault.Bench → IsQuiet B.Bench bench.new }

@@ -9,6 +9,7 @@ use Rattle.schema_json.specs.declared.faults.SchemaFault.TheVariants as schema_f
 use Rattle.table_load.specs.Cells.{PublicView, TableView}
 use Rattle.table_load.specs.Database.{Database}
 use Rattle.table_load.specs.Reading.{most_table}
+use Rattle.table_load.specs.MeaningLaws.{means_read}
 use Rattle.table_load.specs.Tables.{table_of, public_of}
 use Rattle.table_load.specs.declared.faults.TableFault.{TableFault}
 use Rattle.table_load.specs.declared.faults.TableFault.TheVariants as table_fault
@@ -174,7 +175,7 @@ pub gives_up_over : (fault : OpenFault) (schema table : List ℕ) (base : Databa
 gives_up_over fault schema table base given schema_cause table_cause =
     (file_refusal fault).gives_up TableView (record { columns = base.columns; groups = given.groups }) (record { public = base.public; secret = base.secret })
     (subst (λ (r : Result SchemaView SchemaFault). SchemaCause (open_status fault) r) given.schema_is schema_cause)
-    (subst (λ (r : Result TableView TableFault). TableCause (open_status fault) r) given.table_is (table_cause (record { columns = base.columns; groups = given.groups }) given.schema_is))
+    (subst (λ (r : Result TableView TableFault). TableCause (open_status fault) r) (means_read given.table_means) (table_cause (record { columns = base.columns; groups = given.groups }) given.schema_is))
 
 pub gives_up_public : (fault : OpenFault) (schema table : List ℕ) (columns : List Column) (index : IndexView) → ArePublicFilesOf schema table columns index →
     SchemaCause (open_status fault) (schema_of schema) →

@@ -13,6 +13,7 @@ use Rattle.schema_json.specs.Reading.{schema_of}
 use Rattle.schema_json.specs.declared.faults.SchemaFault.{SchemaFault}
 use Rattle.table_load.specs.Cells.{PublicView, TableView}
 use Rattle.table_load.specs.Database.{Database, base_of}
+use Rattle.table_load.specs.MeaningLaws.{means_read}
 use Rattle.table_load.specs.Tables.{table_of}
 use Rattle.journal_form.specs.Journal.{StandsFor, StandsAt}
 use Rattle.bench_core.specs.Calls.{IsUntouched}
@@ -38,7 +39,7 @@ same_files schema table a b first second =
     same_ok (schema_of schema) _ _ first.schema_is second.schema_is in (
       one,
       same_ok (table_of b.columns table) _ _
-          (subst (λ (v : SchemaView). table_of v.columns table ≡ Ok (record { public = a.public; secret = a.secret })) one first.table_is) second.table_is,
+          (subst (λ (v : SchemaView). table_of v.columns table ≡ Ok (record { public = a.public; secret = a.secret })) one (means_read first.table_means)) (means_read second.table_means),
     )
 
 -- so they have one secret part

@@ -7,6 +7,7 @@ use Rattle.schema_json.specs.Reading.{schema_of}
 use Rattle.schema_json.specs.SecretShape.{shape_of}
 use Rattle.table_load.specs.Cells.{TableView, IsPublic, IsSecret}
 use Rattle.table_load.specs.Database.{Database, IsDatabase}
+use Rattle.table_load.specs.MeaningLaws.{means_read}
 use Rattle.table_load.specs.Tables.{table_of}
 use Rattle.set_index.specs.Indexed.{EntriesFit}
 use Rattle.auditor_top.specs.Commands.{AreSoundFilesOf}
@@ -27,15 +28,15 @@ module _ (fit : MeaningsFit) (schema table : List ℕ) (base : Database) (sound 
   is_schema = fit.schema schema (record { columns = base.columns; groups = sound.files.groups }) sound.files.schema_is
 
   pub is_secret : IsSecret base.secret
-  is_secret = fit.secret base.columns table meant is_schema.columns sound.files.table_is
+  is_secret = fit.secret base.columns table meant is_schema.columns (means_read sound.files.table_means)
 
   pub is_database : IsDatabase base
   is_database =
-      let shape : base.secret.shape ≡ shape_of base.columns base.public.rows = fit.shape base.columns table meant sound.files.table_is in
+      let shape : base.secret.shape ≡ shape_of base.columns base.public.rows = fit.shape base.columns table meant (means_read sound.files.table_means) in
       record {
         schema = is_schema.columns;
         shape = shape;
         protected = subst (λ (s : Shape). AreProtected s base.protected) (sym shape)
             (fit.entries base.columns base.public sound.files.groups base.protected is_schema.columns
-            (fit.public base.columns table meant sound.files.table_is) is_schema.few sound.entries);
+            (fit.public base.columns table meant (means_read sound.files.table_means)) is_schema.few sound.entries);
       }

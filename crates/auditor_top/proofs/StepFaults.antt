@@ -10,7 +10,7 @@ use Rattle.answer_journal.specs.Moments.{IsAlready, IsMade}
 use Rattle.answer_journal.specs.declared.make.MakeFault.{MakeFault}
 use Rattle.answer_journal.specs.declared.make.MakeFault.TheVariants as make
 use Rattle.line_wire.specs.Lines.{counted_lines, most_input}
-use Rattle.audit_session.specs.Ends.{Serves, ServesWhole, ServesSome, ServesLimited}
+use Rattle.audit_session.specs.Ends.{Serves, ServesWhole, ServesSome, limited}
 use Rattle.audit_session.specs.declared.serving.EndFault.{EndFault}
 use Rattle.audit_session.specs.declared.serving.EndFault.TheVariants as end
 use Rattle.auditor_top.specs.declared.words.Command.TheVariants.{Init, Serve}
@@ -98,14 +98,14 @@ session_cause (Err end.NoMemory) batch file table legal = tt
 pub session_ends : {X : Type 0} (ended : Result X EndFault) (base : Database) (batch : ℕ) (history now : List Answered) (before after : Outside)
     → OnOk ended (Serves base history (counted_lines before.input) now before.sent after.sent)
     → (ended ≡ Err end.Input → ServesWhole base history batch before.input after.input now before.sent after.sent) →
-    (ended ≡ Err end.Limit → ServesLimited base history batch before.input now before.sent after.sent)
+    (ended ≡ Err end.Limit → ServesWhole base history batch (limited before.input) [] now before.sent after.sent)
     → (ended ≡ Err end.NoMemory → ServesSome base history batch (counted_lines before.input) now before.sent after.sent) →
     (ended ≢ Err end.Bench → StandsFor after.file base.secret.shape now) → ServeEnds batch (session_status ended) base history before after
-session_ends (Ok done) base batch history now before after all whole limited some stands = (now, all, stands (not_both done end.Bench))
-session_ends (Err end.Input) base batch history now before after all whole limited some stands = (now, whole refl, stands (search rules))
-session_ends (Err end.Bench) base batch history now before after all whole limited some stands = tt
-session_ends (Err end.Limit) base batch history now before after all whole limited some stands = (now, limited refl, stands (search rules))
-session_ends (Err end.NoMemory) base batch history now before after all whole limited some stands = (now, some refl, stands (search rules))
+session_ends (Ok done) base batch history now before after all whole below some stands = (now, all, stands (not_both done end.Bench))
+session_ends (Err end.Input) base batch history now before after all whole below some stands = (now, whole refl, stands (search rules))
+session_ends (Err end.Bench) base batch history now before after all whole below some stands = tt
+session_ends (Err end.Limit) base batch history now before after all whole below some stands = (now, below refl, stands (search rules))
+session_ends (Err end.NoMemory) base batch history now before after all whole below some stands = (now, some refl, stands (search rules))
 
 -- the count of what failed rose, and no other changed
 pub session_faults : {X : Type 0} (ended : Result X EndFault) (before : FaultCounts) (input bench : ℕ) → (ended ≡ Err end.Input → Rose before.input input)

@@ -15,6 +15,7 @@ use Rattle.schema_json.specs.Reading.{schema_of}
 use Rattle.schema_json.specs.declared.faults.SchemaFault.{SchemaFault}
 use Rattle.table_load.specs.Cells.{PublicView, TableView}
 use Rattle.table_load.specs.Database.{Database, base_of, secret_table, table_in}
+use Rattle.table_load.specs.MeaningLaws.{read_means}
 use Rattle.table_load.specs.Tables.{table_of, public_of}
 use Rattle.table_load.specs.declared.faults.TableFault.{TableFault}
 use Rattle.set_index.specs.Groups.{AreEntries, AreSound, IsFirstBad}
@@ -219,7 +220,7 @@ module _ {P B : Type 0} (files : source.Ghosts P) (bench : Ghosts B) (law : OneL
   sound_files : files.told → (protected : List Protected) → AreEntries read.columns meant.public read.groups protected →
       AreSoundFilesOf (files.left schema) (files.left table) (seen protected)
   sound_files ptold protected entries =
-      record { files = record { groups = read.groups; schema_is = schema_is ptold; table_is = table_is ptold }; entries = entries }
+      record { files = record { groups = read.groups; schema_is = schema_is ptold; table_means = read_means _ _ meant (table_is ptold) }; entries = entries }
 
   table_ok : files.told → (other : SchemaView) → schema_of (files.left schema) ≡ Ok other → IsOk (table_of other.columns (files.left table))
   table_ok ptold other is =

@@ -18,7 +18,7 @@ use Rattle.audit_core.specs.declared.outcome.Outcome.TheVariants.{Answer, Denied
 use Rattle.audit_core.specs.Outcomes.{IsOutcome, record_of}
 use Rattle.schema_json.specs.Columns.{Column}
 use Rattle.table_load.specs.Cells.{PublicView, SecretView}
-use Rattle.table_load.specs.Database.{base_of, secret_table, table_in}
+use Rattle.table_load.specs.Database.{Database, base_of, secret_table, table_in}
 use Rattle.line_wire.specs.Lines.{CountedLine}
 use Rattle.line_wire.specs.Reply.{reply_bytes}
 use Rattle.line_wire.specs.declared.question.Take.{Take}
@@ -140,15 +140,15 @@ replies_alike forms (Ask take asked) table twin same history a b some first seco
     (some take asked refl) first.outcome second.outcome first.answer second.answer a b first.due second.due first.tells second.tells first.replied_is
     second.replied_is
 
-pub due_alike : NarrowOrWide → OneMeaning → (columns : List Column) (public : PublicView) (protected others : List Protected) (secret twin : SecretView)
-    → twin.shape ≡ secret.shape → others ≡ protected → (history : List Answered) (line : CountedLine) (a b : Replied Answered)
-    → IsDue (base_of columns public protected secret) history line a → IsDue (base_of columns public others twin) history line b →
-    (a ≡ b) ⊎ AreAnswersAlike (secret_table secret protected) (secret_table twin others) a b
-due_alike forms meanings columns public protected others secret twin same groups history line a b first second =
-    replies_alike forms first.plan (secret_table secret protected) (secret_table twin others)
-    (ap (λ (shape : Shape). setting_of shape others) same ∙ ap (setting_of secret.shape) groups) history a b
+pub due_alike : NarrowOrWide → OneMeaning → (columns : List Column) (public : PublicView) (protected : List Protected) (secret twin : SecretView)
+    → twin.shape ≡ secret.shape → (history : List Answered) (line : CountedLine) (a b : Replied Answered)
+    → IsDue (base_of columns public protected secret) history line a → IsDue (base_of columns public protected twin) history line b →
+    (a ≡ b) ⊎ AreAnswersAlike (secret_table secret protected) (secret_table twin protected) a b
+due_alike forms meanings columns public protected secret twin same history line a b first second =
+    replies_alike forms first.plan (secret_table secret protected) (secret_table twin protected)
+    (ap (λ (shape : Shape). setting_of shape protected) same) history a b
     (λ take asked is. asked_some columns public line take asked (subst (λ (p : Plan). IsPlan columns public line p) is first.planned)) first.reply
-    (subst (λ (p : Plan). IsReplyOf (secret_table twin others) history p b)
+    (subst (λ (p : Plan). IsReplyOf (secret_table twin protected) history p b)
     (one_plan meanings columns public line second.plan first.plan second.planned first.planned) second.reply)
 
 -- two replies that tell equal answers are equal
@@ -167,10 +167,9 @@ pub one_due : NarrowOrWide → OneMeaning → OneReplyIsDue
 one_due forms meanings base history line a b first second =
     ⊎_elim (λ same. same)
     (λ alike. equal_answers (table_in base) (table_in base) a b alike (alike.first.is_true ∙ sym alike.second.is_true))
-    (due_alike forms meanings base.columns base.public base.protected base.protected base.secret base.secret refl refl history line a b first second)
+    (due_alike forms meanings base.columns base.public base.protected base.secret base.secret refl history line a b first second)
 
 pub decided_alike : NarrowOrWide → OneMeaning → DecidedAlike
 decided_alike forms meanings base twin history line a b twins first second =
-    due_alike forms meanings base.columns base.public base.protected twin.protected base.secret twin.secret twins.shape twins.protected history line a b first
-    (subst (λ (p : PublicView). IsDue (base_of base.columns p twin.protected twin.secret) history line b) twins.public
-    (subst (λ (cs : List Column). IsDue (base_of cs twin.public twin.protected twin.secret) history line b) twins.columns second))
+    subst (λ (other : Database). IsDue other history line b → (a ≡ b) ⊎ AreAnswersAlike (table_in base) (table_in other) a b) (sym twins.0)
+    (due_alike forms meanings base.columns base.public base.protected base.secret twin.secret twins.1 history line a b first) second

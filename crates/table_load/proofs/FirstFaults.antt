@@ -1,19 +1,14 @@
 -- The first fault of a file, by how far its records were read.
-use Rattle.std.proofs.Common.{◌≡◌, ℕ, zero, suc, ◌+◌, ◌-◌, ◌<◌, ◌≤◌, true, false, cond, List, [], ◌∷◌, ◌++◌, length, take, Option, Some, None, refl, ap, ◌∙◌, arith, append-nil, length-append}
+use Rattle.std.proofs.Common.{◌≡◌, ℕ, zero, suc, ◌+◌, ◌-◌, ◌<◌, ◌≤◌, false, cond, List, [], ◌∷◌, ◌++◌, length, take, Some, None, refl, ap, ◌∙◌, arith, append-nil, length-append}
 use Rattle.std.specs.Prelude.{not, if◌then◌else◌}
-use Rattle.std.proofs.lemmas.Bool.{lt-ltb, le-ltb}
-use Rattle.std.proofs.lemmas.List.{take_all}
+use Rattle.std.proofs.lemmas.Bool.{lt-ltb}
 use Rattle.schema_json.specs.Columns.{Column}
 use Rattle.schema_json.specs.declared.roles.Role.{Role}
 use Rattle.std.specs.Option.{option_or}
 use Rattle.table_load.specs.Reading.{Fields, record_fault, records_fault, count_fault, data_fault, header_fault, names_are, roles_of, file_fault, records_of}
+use Rattle.table_load.specs.MeaningLaws.{none_first}
 use Rattle.table_load.specs.declared.faults.TableFault.{TableFault}
 use Rattle.table_load.specs.declared.faults.TableFault.TheVariants.{TooLong, Header, TooManyRows, NoRows}
-
--- where the first of two is none, so is the other or it counts
-pub none_first : (a b : Option TableFault) → option_or a b ≡ None → (a ≡ None) × (b ≡ None)
-none_first None b is = (refl, is)
-none_first (Some fault) b is = absurd (cc)
 
 -- records without a fault before others
 pub good-append : (roles : List Role) (line : ℕ) (xs ys : List Fields) → records_fault roles line xs ≡ None →
@@ -68,35 +63,10 @@ many_rows roles rows r rest full good =
     ∙ ap (λ f. option_or f (count_fault (rows ++ r ∷ rest))) good
     ∙ count_many rows r rest full
 
--- 1 to 1,024 records are few enough
-count_fine : (rows : List Fields) → 0 < length rows → length rows ≤ 1024 → count_fault rows ≡ None
-count_fine [] some few = absurd (omega (arith, some))
-count_fine (x ∷ rows) some few = ap (λ b. cond b (Some TooManyRows) None) (le-ltb 1024 (length (x ∷ rows)) few)
-
--- 1 to 1,024 records without a fault
-pub good_rows : (roles : List Role) (rows : List Fields) → 0 < length rows → length rows ≤ 1024 → records_fault roles 2 rows ≡ None →
-    data_fault roles rows ≡ None
-good_rows roles rows some few good =
-    ap (λ rs. option_or (records_fault roles 2 rs) (count_fault rows)) (take_all 1024 rows few)
-    ∙ ap (λ f. option_or f (count_fault rows)) good
-    ∙ count_fine rows some few
-
--- a file that is short enough is judged by its records
-pub short_file : (columns : List Column) (bytes : List ℕ) (rs : List Fields) → length bytes ≤ 16777216 → records_of bytes ≡ rs →
-    file_fault columns bytes ≡ header_fault columns rs
-unfolding file_fault
-short_file columns bytes rs short is =
-    ap (λ b. if b then Some TooLong else header_fault columns (records_of bytes)) (le-ltb 16777216 (length bytes) short) ∙ ap (header_fault columns) is
-
 -- a file that is too long
 pub long_file : (columns : List Column) (bytes : List ℕ) → 16777216 < length bytes → file_fault columns bytes ≡ Some TooLong
 unfolding file_fault
 long_file columns bytes long = ap (λ b. if b then Some TooLong else header_fault columns (records_of bytes)) (lt-ltb 16777216 (length bytes) long)
-
--- after a good header the data records are judged
-pub good_header : (columns : List Column) (h : Fields) (rs : List Fields) → names_are h columns ≡ true →
-    header_fault columns (h ∷ rs) ≡ data_fault (roles_of columns) rs
-good_header columns h rs good = ap (λ b. if not b then Some Header else data_fault (roles_of columns) rs) good
 
 -- a header with other names
 pub bad_header : (columns : List Column) (h : Fields) (rs : List Fields) → names_are h columns ≡ false → header_fault columns (h ∷ rs) ≡ Some Header

@@ -12,7 +12,7 @@ use Rattle.table_load.specs.Reading.{Fields, has_numbers, number_fault, cell_fau
 use Rattle.table_load.specs.Tables.{HasCell, is_number}
 use Rattle.table_load.specs.declared.faults.TableFault.TheVariants as fault
 use Rattle.table_load.specs.declared.numerals.Numeral.TheVariants as numeral
-use Rattle.table_load.proofs.FirstFaults.{none_first}
+use Rattle.table_load.specs.MeaningLaws.{none_first}
 use Rattle.audit_types.specs.ListLaws.{all-get_or, all-unmap}
 
 -- a number in range is not too large

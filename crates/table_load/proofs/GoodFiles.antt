@@ -1,73 +1,29 @@
 -- A file without a fault has 1 to 1,024 good data records, and both parts of the table that it means are made of them.
-use Rattle.std.proofs.Common.{◌≡◌, ℕ, ◌<◌, ◌≤◌, Bool, true, false, cond, List, [], ◌∷◌, length, take, drop, Option, Some, None, refl, sym, ap, ◌∙◌, arith, subst}
-use Rattle.std.specs.Prelude.{nat_lt, not, if◌then◌else◌, Ok}
-use Rattle.std.proofs.lemmas.Bool.{ltb-false}
-use Rattle.std.proofs.lemmas.List.{take_all}
+use Rattle.std.proofs.Common.{◌≡◌, ℕ, ◌<◌, ◌≤◌, List, length, None, refl, sym, ap, ◌∙◌, subst}
+use Rattle.std.specs.Prelude.{Ok}
 use Rattle.audit_types.specs.Shapes.{IsShape, columns}
 use Rattle.schema_json.specs.Columns.{Column, secret_count}
 use Rattle.schema_json.specs.SecretShape.{shape_of}
 use Rattle.table_load.specs.Cells.{TableView, IsPublic, IsSecret, FitsSchema}
-use Rattle.table_load.specs.Faults.{unless_fault}
-use Rattle.table_load.specs.Reading.{Fields, names_are, records_of, records_fault, count_fault, data_fault, header_fault, file_fault, file_columns, roles_of}
+use Rattle.table_load.specs.Reading.{Fields, records_fault, file_fault, file_columns, roles_of}
 use Rattle.table_load.specs.Steps.{AreData}
 use Rattle.table_load.specs.Tables.{data_of, public_in, secret_in, table_of}
-use Rattle.table_load.specs.declared.faults.TableFault.{TableFault}
-use Rattle.table_load.specs.declared.faults.TableFault.TheVariants.{TooLong, Header, TooManyRows}
 use Rattle.table_load.specs.declared.layout.FileColumns.TheVariants as file
-use Rattle.table_load.proofs.FirstFaults.{none_first}
+use Rattle.table_load.specs.MeaningLaws.{answered, file_is, records_fine}
 use Rattle.table_load.specs.SchemaFits.{cells_fit}
 use Rattle.table_load.proofs.ColumnSteps.{all_cells_are, all_secrets_are, all_roles_from, secrets_counted}
-
--- 1 to 1,024 records
-record AreSome (rows : List Fields) : Type 0 where
-  some : 0 < length rows
-  at_most : length rows ≤ 1024
-
--- records whose number is no fault are 1 to 1,024
-fine_count : (rows : List Fields) → count_fault rows ≡ None → AreSome rows
-fine_count [] fine = absurd (cc)
-fine_count (r ∷ rows) fine = by (nat_lt 1024 (length (r ∷ rows))) refl fine
-  where
-    by : (many : Bool) → nat_lt 1024 (length (r ∷ rows)) ≡ many → cond many (Some TooManyRows) None ≡ None → AreSome (r ∷ rows)
-    by true many fine = absurd (cc)
-    by false few fine = record { some = omega arith; at_most = ltb-false 1024 (length (r ∷ rows)) few }
-
--- after a header without a fault the data records have none
-fine_header : (columns : List Column) (rs : List Fields) → header_fault columns rs ≡ None → data_fault (roles_of columns) (drop 1 rs) ≡ None
-fine_header columns [] fine = absurd (cc)
-fine_header columns (h ∷ rs) fine = by (names_are h columns) fine
-  where
-    by : (named : Bool) → (if not named then Some Header else data_fault (roles_of columns) rs) ≡ None → data_fault (roles_of columns) rs ≡ None
-    by true fine = fine
-    by false fine = absurd (cc)
-
--- a file without a fault has data records without one
-fine_file : (columns : List Column) (bytes : List ℕ) → file_fault columns bytes ≡ None → data_fault (roles_of columns) (data_of bytes) ≡ None
-unfolding file_fault
-fine_file columns bytes fine = by (nat_lt 16777216 (length bytes)) fine
-  where
-    by : (long : Bool) → (if long then Some TooLong else header_fault columns (records_of bytes)) ≡ None → data_fault (roles_of columns) (data_of bytes) ≡ None
-    by true fine = absurd (cc)
-    by false fine = fine_header columns (records_of bytes) fine
 
 -- a file without a fault has 1 to 1,024 data records, none of which has one
 fine_data : (columns : List Column) (bytes : List ℕ) → file_fault columns bytes ≡ None → AreData columns bytes (data_of bytes)
 fine_data columns bytes fine =
-    let rows = data_of bytes in
-    let parts = none_first (records_fault (roles_of columns) 2 (take 1024 rows)) (count_fault rows) (fine_file columns bytes fine) in
-    let number = fine_count rows parts.1 in
+    let fine_file = file_is columns bytes fine in
     record {
       no_fault = fine;
       data_are = refl;
-      good = sym (ap (records_fault (roles_of columns) 2) (take_all 1024 rows number.at_most)) ∙ parts.0;
-      some = number.some;
-      at_most = number.at_most;
+      good = records_fine 2 columns (data_of bytes) fine_file.headed.rows.each;
+      some = fine_file.headed.rows.some;
+      at_most = fine_file.headed.rows.at_most;
     }
-
--- a value is answered where there is no fault, and it is the one that is meant
-answered : {X : Type 0} (fault : Option TableFault) (x y : X) → unless_fault fault x ≡ Ok y → (fault ≡ None) × (x ≡ y)
-answered None x y is = (refl, cc)
-answered (Some f) x y is = absurd (cc)
 
 -- both parts of a table are made of the same 1 to 1,024 records, none of which has a fault
 pub record HasParts (schema : List Column) (t : TableView) : Type 0 where

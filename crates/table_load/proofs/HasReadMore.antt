@@ -15,7 +15,8 @@ use Rattle.schema_json.specs.Columns.{Column}
 use Rattle.table_load.specs.Reading.{Fields, records_of, records_fault, roles_of, data_fault, file_fault}
 use Rattle.table_load.specs.Steps.{HasRead, HasOpened, IsOfMemory, ReadsData, SomeRows}
 use Rattle.table_load.specs.declared.faults.TableFault.{TableFault}
-use Rattle.table_load.proofs.FirstFaults.{short_file, good_header, good_rows, no_rows}
+use Rattle.table_load.specs.MeaningLaws.{short_file, good_header, good_rows}
+use Rattle.table_load.proofs.FirstFaults.{no_rows}
 use Rattle.table_load.proofs.RecordsOfBytes.{all_of_records, front_of_records}
 
 -- a reader of bytes, and what it knows of them

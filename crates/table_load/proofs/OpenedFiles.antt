@@ -11,7 +11,8 @@ use Rattle.table_load.specs.Reading.{file_fault}
 use Rattle.table_load.specs.Steps.{ChecksHeader, HasRead, HasOpened, IsOfMemory, Opens}
 use Rattle.table_load.specs.declared.faults.TableFault.{TableFault}
 use Rattle.table_load.proofs.AddedRows.{of_memory}
-use Rattle.table_load.proofs.FirstFaults.{bad_header, short_file}
+use Rattle.table_load.specs.MeaningLaws.{short_file}
+use Rattle.table_load.proofs.FirstFaults.{bad_header}
 use Rattle.table_load.proofs.HasReadMore.{read_all, read_front, read_more}
 
 -- a reader of bytes, and what it knows of them

@@ -24,12 +24,9 @@ pub record IsDatabase (base : Database) : Type 0 where
   pub shape : base.secret.shape ≡ shape_of base.columns base.public.rows
   pub protected : AreProtected base.secret.shape base.protected
 
--- tables that differ in their secrets alone
-pub record AreTwins (base twin : Database) : Type 0 where
-  pub columns : twin.columns ≡ base.columns
-  pub public : twin.public ≡ base.public
-  pub protected : twin.protected ≡ base.protected
-  pub shape : twin.secret.shape ≡ base.secret.shape
+-- tables that differ in their secrets alone, which are of one shape
+abbrev pub AreTwins : Database → Database → Type 0
+AreTwins base twin = (twin ≡ record base { secret = twin.secret }) × (twin.secret.shape ≡ base.secret.shape)
 
 -- the table whose secrets these are, where these groups are protected
 abbrev pub secret_table : SecretView → List Protected → Table
@@ -53,8 +50,7 @@ first_secrets n secret = record { shape = over n secret.shape; lists = map (take
 
 -- the first n rows of a table, with the groups among them
 abbrev pub first_of : ℕ → Database → Database
-first_of n base =
-    base_of base.columns (record { rows = n; columns = map (first_cells n) base.public.columns }) (groups_among n base.protected) (first_secrets n base.secret)
+first_of n base = record base { public = record { rows = n; columns = map (first_cells n) base.public.columns }; protected = groups_among n base.protected; secret = first_secrets n base.secret }
 
 -- a table over the same schema with more rows, the first of which are those of this one
 abbrev pub Grows : Database → Database → Type 0

@@ -12,3 +12,5 @@ pub mod SecretLists
 pub mod SchemaPlaces
 pub mod SchemaFits
 pub mod FirstFaults
+pub mod Meaning
+pub mod MeaningLaws

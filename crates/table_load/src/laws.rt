@@ -8,12 +8,13 @@ ghost use Rattle.audit_types.specs.History.{list_of, AreSecrets};
 ghost use Rattle.schema_json.specs.Columns.{Column, AreColumns};
 ghost use Rattle.schema_json.specs.declared.roles.Role.{Role};
 ghost use Rattle.schema_json.specs.SecretShape.{shape_of};
-ghost use Rattle.table_load.specs.Cells.{SecretView, TableView, IsPublic, IsSecret, FitsSchema};
+ghost use Rattle.table_load.specs.Cells.{PublicView, SecretView, TableView, IsPublic, IsSecret, FitsSchema};
 ghost use Rattle.table_load.specs.Numerals.{number_in, IsNumeral};
 ghost use Rattle.table_load.specs.declared.faults.TableFault.{TableFault};
 ghost use Rattle.table_load.specs.Reading.{Fields, records_fault, cells_fault};
 ghost use Rattle.table_load.specs.FirstFaults.{IsFirstRecord, IsFirstField};
 ghost use Rattle.table_load.specs.Tables.{table_of};
+ghost use Rattle.table_load.specs.Meaning.{MeansTable};
 
 /// A field spells a number exactly where it is spaces, a sign or none, digits, spaces.
 pub fn spells()
@@ -27,6 +28,12 @@ pub fn first_faults()
     ensures from_record { (roles : List Role) (records : List Fields) (place : ℕ) (fault : TableFault) → IsFirstRecord roles records place fault → records_fault roles 2 records ≡ Some fault }
     ensures first_field { (roles : List Role) (line : ℕ) (fields : Fields) (fault : TableFault) → cells_fault line 0 roles fields ≡ Some fault → (column : ℕ) × IsFirstField roles line fields column fault }
     ensures from_field { (roles : List Role) (line : ℕ) (fields : Fields) (column : ℕ) (fault : TableFault) → IsFirstField roles line fields column fault → cells_fault line 0 roles fields ≡ Some fault }
+{}
+
+/// Bytes are read as a table exactly where they mean it, so the words in which they mean it need no fault.
+pub fn meaning_of_a_table()
+    ensures read { (columns : List Column) (bytes : List ℕ) (t : TableView) → table_of columns bytes ≡ Ok t → MeansTable columns bytes t.public t.secret }
+    ensures meant { (columns : List Column) (bytes : List ℕ) (public : PublicView) (secret : SecretView) → MeansTable columns bytes public secret → table_of columns bytes ≡ Ok (record { public = public; secret = secret }) }
 {}
 
 /// A sum over secrets has a size of at most 1,024 times 10^12, and a greatest one of at most 10^12.

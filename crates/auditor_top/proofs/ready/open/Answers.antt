@@ -21,6 +21,7 @@ use Rattle.audit_types.specs.History.{AreProtected}
 use Rattle.audit_types.specs.declared.records.Protected.{Protected}
 use Rattle.schema_json.specs.Columns.{Column, SchemaView}
 use Rattle.table_load.specs.Loaded.{table_view}
+use Rattle.table_load.specs.MeaningLaws.{read_means}
 use Rattle.table_load.specs.Tables.{table_of, public_of}
 use Rattle.set_index.specs.Groups.{AreEntries}
 use Rattle.set_index.specs.Indexed.{IndexView}
@@ -95,7 +96,7 @@ returns-in-Ok g c =
       ready = subst IsShape (sym c.shape.ensures.shape) c.shape.ensures.is.shape;
       over = λ ptold. (
         base_of opened.schema.columns opened.table.public [] opened.table.secret,
-        record { groups = opened.schema.groups; schema_is = e.schema_is ptold; table_is = e.table_is ptold },
+        record { groups = opened.schema.groups; schema_is = e.schema_is ptold; table_means = read_means _ _ _ (e.table_is ptold) },
         c.shape.ensures.shape,
       );
       steady = (e.steady.0, e.steady.1, refl);
@@ -290,7 +291,7 @@ returns-in-Ok-start g c =
           (subst (λ (v : SecretView). AreSoundFilesOf (g.P.Source.left c.args.schema.now) (g.P.Source.left c.args.table.now)
           (base_of opened.schema.columns opened.table.public s.index.protected v)) (sym a.same.2)
           (record {
-            files = record { groups = opened.schema.groups; schema_is = e.schema_is ptold; table_is = e.table_is ptold };
+            files = record { groups = opened.schema.groups; schema_is = e.schema_is ptold; table_means = read_means _ _ _ (e.table_is ptold) };
             entries = subst (λ (l : List Protected). AreEntries opened.schema.columns opened.table.public opened.schema.groups l) (sym a.same.3) a.entries;
           })));
       steady = (e.steady.0, e.steady.1, a.fault.steady (not_both _ _));
@@ -345,7 +346,7 @@ returns-in-Ok-start-2 g c =
             (base_of v.columns opened.table.public s.store.protected s.store.secret)) (sym a.same.0)
             (subst (λ (v : SecretView). AreSoundFilesOf (g.P.Source.left c.args.schema.now) (g.P.Source.left c.args.table.now)
             (base_of opened.schema.columns opened.table.public s.store.protected v)) (sym a.same.2)
-            (record { files = record { groups = opened.schema.groups; schema_is = e.schema_is ptold; table_is = e.table_is ptold }; entries = a.entries })),
+            (record { files = record { groups = opened.schema.groups; schema_is = e.schema_is ptold; table_means = read_means _ _ _ (e.table_is ptold) }; entries = a.entries })),
       );
       steady = (e.steady.0, e.steady.1, a.fault.steady (not_both _ _));
       ticks = λ told opens. a.ticks told;
@@ -427,7 +428,7 @@ returns-in-Ok-entries g c =
         schema.columns,
         table.public,
         record {
-          files = record { groups = schema.groups; schema_is = e.schema_is ptold; table_is = e.table_is ptold };
+          files = record { groups = schema.groups; schema_is = e.schema_is ptold; table_means = read_means _ _ _ (e.table_is ptold) };
           entries = made.entries;
         },
       );

@@ -7,6 +7,7 @@ use Rattle.bench_core.specs.Moments.{joins, weakens}
 use Rattle.schema_json.specs.Columns.{Column}
 use Rattle.table_load.specs.Cells.{SecretView}
 use Rattle.table_load.specs.Database.{Database, base_of, table_in, secret_table}
+use Rattle.table_load.specs.MeaningLaws.{means_read}
 use Rattle.table_load.specs.Tables.{table_of}
 use Rattle.bench_core.specs.Calls.{IsUntouched}
 use Rattle.audit_store.specs.Stores.{IsAsLeft}
@@ -151,7 +152,7 @@ audit_ends g c =
       words = reported_words g c;
       schema = λ ptold command asked reads. schema_read status _ last (schema_is_ok _ _ (are ptold).1.files.schema_is);
       table = λ ptold command asked reads meant is. table_read status _ last
-          (table_is_ok (λ (cs : List Column). table_of cs (g.P.Source.left c.args.table.now)) _ _ meant _ (are ptold).1.files.schema_is (are ptold).1.files.table_is is);
+          (table_is_ok (λ (cs : List Column). table_of cs (g.P.Source.left c.args.table.now)) _ _ meant _ (are ptold).1.files.schema_is (means_read (are ptold).1.files.table_means) is);
       public = λ ptold asked. not_asked _ _ _ is_named asked refl;
       groups = λ ptold command asked reads meant is. groups_read status _ _ last
           (groups_are_sound c.groups_of_a_schema.ensures.entries _ _ (are ptold).0 _ store.protected meant (are ptold).1.files.schema_is (are ptold).1.entries is);

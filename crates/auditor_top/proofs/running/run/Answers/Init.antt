@@ -6,6 +6,7 @@ use Rattle.bench_core.specs.Calls.{IsQuiet, IsUntouched, LeavesOnly}
 use Rattle.schema_json.specs.Columns.{Column}
 use Rattle.table_load.specs.Cells.{SecretView}
 use Rattle.table_load.specs.Database.{Database, table_in}
+use Rattle.table_load.specs.MeaningLaws.{means_read}
 use Rattle.table_load.specs.Tables.{table_of}
 use Rattle.journal_form.specs.Journal.{StandsFor}
 use Rattle.answer_journal.specs.Make.{calls_to_make}
@@ -118,7 +119,7 @@ init_ends g c =
       words = made_words g c;
       schema = λ ptold command asked reads. schema_read status _ last (schema_is_ok _ _ (are ptold).1.schema_is);
       table = λ ptold command asked reads meant is. table_read status _ last
-          (table_is_ok (λ (cs : List Column). table_of cs (g.P.Source.left c.args.table.now)) _ _ meant _ (are ptold).1.schema_is (are ptold).1.table_is is);
+          (table_is_ok (λ (cs : List Column). table_of cs (g.P.Source.left c.args.table.now)) _ _ meant _ (are ptold).1.schema_is (means_read (are ptold).1.table_means) is);
       public = λ ptold asked. not_asked _ _ _ is_named asked refl;
       groups = λ ptold command asked reads. lacks_step reads_groups _ _ command is_named asked refl reads;
       own_schema_fault = no_schema_fault status last;

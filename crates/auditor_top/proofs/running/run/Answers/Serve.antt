@@ -6,6 +6,7 @@ use Rattle.bench_core.specs.Calls.{LeavesOnly}
 use Rattle.schema_json.specs.Columns.{Column}
 use Rattle.table_load.specs.Cells.{SecretView}
 use Rattle.table_load.specs.Database.{Database, base_of, table_in, secret_table}
+use Rattle.table_load.specs.MeaningLaws.{means_read}
 use Rattle.table_load.specs.Tables.{table_of}
 use Rattle.journal_form.specs.Journal.{StandsFor}
 use Rattle.audit_store.specs.Stores.{IsAsLeft}
@@ -169,7 +170,7 @@ serve_ends g c =
       words = served_words g c;
       schema = λ ptold command asked reads. schema_read status _ last (schema_is_ok _ _ (are ptold).files.schema_is);
       table = λ ptold command asked reads meant is. table_read status _ last
-          (table_is_ok (λ (cs : List Column). table_of cs (g.P.Source.left c.args.table.now)) _ _ meant _ (are ptold).files.schema_is (are ptold).files.table_is is);
+          (table_is_ok (λ (cs : List Column). table_of cs (g.P.Source.left c.args.table.now)) _ _ meant _ (are ptold).files.schema_is (means_read (are ptold).files.table_means) is);
       public = λ ptold asked. not_asked _ _ _ is_named asked refl;
       groups = λ ptold command asked reads meant is. groups_read status _ _ last
           (groups_are_sound c.groups_of_a_schema.ensures.entries _ _ _ _ _ meant (are ptold).files.schema_is (are ptold).entries is);
