@@ -8,6 +8,7 @@ pub mod Promise
 pub mod Reading
 pub mod Ready
 pub mod Runs
+pub mod Shown
 pub mod Stages
 pub mod Status
 pub mod Words

@@ -7,17 +7,18 @@
 -- front of the replies due to its lines (IsDue of question_plan), whose records are all in the last history. What it hides is IsHidden
 -- there: other secrets, with another number or protected total, lead to the very same bytes. The clause `lives` of `run` is GoesOn:
 -- whatever moment a run over a life is stopped at, the life with that run keeps the promise.
-use Rattle.std.specs.Prelude.{◌≡◌, ◌⊎◌, List, ℕ, [], ◌∷◌, ◌++◌}
+use Rattle.std.specs.Prelude.{◌≡◌, ◌⊎◌, ◌<◌, List, ℕ, [], ◌∷◌, ◌++◌}
 use Rattle.audit_types.specs.Widening.{over, widened}
 use Rattle.audit_types.specs.declared.records.Answered.{Answered}
-use Rattle.table_load.specs.Database.{Database, AreTwins, table_in}
+use Rattle.table_load.specs.Database.{Database, Grows, AreTwins, table_in}
+use Rattle.journal_form.specs.Journal.{StandsFor}
 use Rattle.answer_journal.specs.Moments.{IsBeforeOrGrown}
 use Rattle.line_wire.specs.Lines.{CountedLine}
 use Rattle.question_plan.specs.Laws.{AreAnswersAlike}
 use Rattle.question_plan.specs.Replies.{IsDue}
 use Rattle.question_plan.specs.Session.{Replied}
 use Rattle.audit_session.specs.Stops.{StopsOver, stands_over}
-use Rattle.audit_session.specs.Lives.{Standing, Run, GoesFrom, IsLife, KeepsPromise, AreAlike, over_all}
+use Rattle.audit_session.specs.Lives.{Standing, Run, GoesFrom, IsLife, KeepsPromise, AreAlike, over_all, in_force}
 use Rattle.audit_session.specs.Hidden.{IsHidden}
 use Rattle.auditor_top.specs.Commands.{AreSoundFilesOf, GrowsOver, ServesOver}
 
@@ -62,6 +63,14 @@ abbrev pub LivesGoOn : Type 0
 LivesGoOn =
     (schema table image : List ℕ) (base now : Database) (runs : List Run) (history : List Answered) → AreSoundFilesOf schema table now → IsLife base runs (over_all now history) → stands_over now image history →
     ServesOver schema table image now history
+
+-- after every life the next run of `grow` is given what it has to be given, whatever image the last run left: its table is the life's
+-- last one, or extends it, with its protected groups, and has more rows than are in force
+abbrev pub LivesGrow : Type 0
+LivesGrow =
+    (schema table image : List ℕ) (base now : Database) (runs : List Run) (last : Standing) → AreSoundFilesOf schema table now → IsLife base runs last →
+    (now ≡ last.base) ⊎ Grows last.base now → last.rows < now.secret.shape.rows → StandsFor image (in_force last).setting.shape last.history →
+    GrowsOver schema table image now last.rows last.history
 
 -- a run after a life makes it one run longer
 abbrev pub RunsMakeLives : Type 0

@@ -11,7 +11,8 @@ ghost use Rattle.auditor_top.specs.Commands.{AreSoundFilesOf};
 ghost use Rattle.auditor_top.specs.Compactions.{DecideAlike, IsUnmadeOrKept};
 ghost use Rattle.auditor_top.specs.declared.words.Command.TheVariants.{Init, Serve, Audit, Simulate, Drill, Grow, Compact};
 ghost use Rattle.auditor_top.specs.Words.{command_of, number_of};
-ghost use Rattle.auditor_top.specs.Promise.{LivesKeepPromise, LivesGoOn, GrowthsAreTaken, MadeIsTaken, StopsAreTaken, RunsMakeLives};
+ghost use Rattle.auditor_top.specs.Promise.{LivesKeepPromise, LivesGoOn, LivesGrow, GrowthsAreTaken, MadeIsTaken, StopsAreTaken, RunsMakeLives};
+ghost use Rattle.auditor_top.specs.Shown.{TwinsAreShownAlike, TwinsHaveOneReport, LivesTellNothingMore};
 
 /// Every history for which a stop over a legal history of a table leaves an image is a legal history of it, and discloses nothing of
 /// it that is guarded.
@@ -59,14 +60,37 @@ pub fn lives()
     audit_session::laws::two_worlds();
 }
 
+/// Whoever sees every reply of a life, every report and every verdict, learns nothing more from them together: for each number and
+/// each protected total other secrets, which differ there, lead the same life, byte for byte, and `audit` and `simulate` send of
+/// them what they send of the table, whatever the secrets are.
+pub fn nothing_more()
+    ensures alike { TwinsAreShownAlike }
+    ensures one { TwinsHaveOneReport }
+    ensures lives { LivesTellNothingMore }
+{
+    schema_json::laws::columns_of_a_schema();
+    table_load::laws::secrets_of_a_table();
+    set_index::groups_of_a_schema();
+    audit_types::laws::canonical_direction();
+    sum_basis::laws::forms_are_unique();
+    audit_session::laws::hidden();
+}
+
 /// What `init` made, and what a stop of `serve` or of `grow` at any moment left, is never refused: with the files of the table it is
-/// what the clauses `served`, `audited` and `grown` of `run` take, whose ends have no status that refuses it.
+/// what the clauses `served`, `audited` and `grown` of `run` take, whose ends have no status that refuses it. Nor is what a life left
+/// refused by `grow` over a table with more rows.
 pub fn never_refused()
     ensures made { MadeIsTaken }
     ensures left { StopsAreTaken }
     ensures grown { GrowthsAreTaken }
+    ensures grows { LivesGrow }
 {
     stops_are_legal();
+    schema_json::laws::columns_of_a_schema();
+    table_load::laws::secrets_of_a_table();
+    set_index::groups_of_a_schema();
+    audit_core::laws::growing_tables();
+    lives();
 }
 
 /// The plain spellings of the commands are never refused: each command as one word, and `serve` with every number of 1 to 64

@@ -1,0 +1,32 @@
+use Rattle.std.proofs.Common.{refl}
+use Rattle.table_load.specs.Database.{table_in}
+use Rattle.audit_session.specs.Hidden.{with_secrets}
+use Rattle.auditor_top.specs.declared.status.Status.TheVariants.{Done}
+use Rattle.auditor_top.specs.Ends.{audit_over}
+use Rattle.auditor_top.proofs.OneReport.{one_report, rows_of_legal}
+use Rattle.auditor_top.proofs.ShownAlike.{twins_alike}
+use Rattle.auditor_top.proofs.SoundFiles.{MeaningsFit, is_database, is_secret}
+use Rattle.auditor_top.proofs.laws.nothing_more.Goals as goal
+
+pub returns-clause-alike : goal.returns-clause-alike
+returns-clause-alike c = twins_alike
+
+pub returns-clause-one : goal.returns-clause-one
+returns-clause-one c = λ base other history before after sent twins legal here there.
+    one_report c.forms_are_unique.ensures c.canonical_direction.ensures (audit_over base history) (rows_of_legal (table_in base) history legal) before after sent here
+    (((twins_alike base other history twins).report Done before sent).1 there)
+
+pub returns-clause-lives : goal.returns-clause-lives
+returns-clause-lives c = λ schema table base runs last column value files life below guarded.
+    let fit : MeaningsFit = record {
+      schema = c.columns_of_a_schema.ensures;
+      secret = c.secrets_of_a_table.ensures.secret;
+      public = c.secrets_of_a_table.ensures.public;
+      shape = c.secrets_of_a_table.ensures.shape;
+      entries = c.groups_of_a_schema.ensures.fit;
+    } in
+    let twin = c.hidden.ensures base runs last (is_database fit schema table last.base files) (is_secret fit schema table last.base files) life column value below guarded in
+    record {
+      twin = twin;
+      alike = λ at. twins_alike at.base (with_secrets twin.lists at.base) at.history (record { columns = refl; public = refl; protected = refl; shape = refl });
+    }

@@ -1,0 +1,59 @@
+-- What is shown of a table beside the replies, and that it tells nothing more than they do: a report follows from the schema, the number of
+-- rows and the history, and a verdict from the public part and its transcript.
+--
+-- The other commands show nothing of a table: `init` and `grow` send no byte (`unsent` of their records in Runs.antt), and `drill` reads
+-- no file (`no_files` of `run`).
+use Rattle.std.specs.Prelude.{◌≡◌, ◌↔◌, ℕ, ◌<◌, ℤ, List}
+use Rattle.audit_types.specs.declared.records.Answered.{Answered}
+use Rattle.audit_types.specs.Shapes.{columns}
+use Rattle.audit_types.specs.Column.{IsGuarded}
+use Rattle.audit_types.specs.History.{IsLegal, known_of}
+use Rattle.set_index.specs.Indexed.{IndexView}
+use Rattle.table_load.specs.Database.{Database, AreTwins, table_in}
+use Rattle.line_wire.specs.Lines.{CountedLine}
+use Rattle.question_plan.specs.Session.{Replied}
+use Rattle.audit_session.specs.Lives.{Standing, Run, IsLife, in_force}
+use Rattle.audit_session.specs.Hidden.{HasTwinLife, with_secrets}
+use Rattle.journal_audit.specs.Reports.{SendsMeanwhile, subjects}
+use Rattle.transcript_sim.specs.Verdicts.{AreVerdicts}
+use Rattle.auditor_top.specs.declared.status.Status.{Status}
+use Rattle.auditor_top.specs.declared.status.Status.TheVariants.{Done}
+use Rattle.auditor_top.specs.Commands.{AreSoundFilesOf, ArePublicFilesOf}
+use Rattle.auditor_top.specs.Ends.{AuditEnds, audit_over}
+
+-- what `simulate` reads of a table: its public columns, and the entries of the protected groups
+abbrev pub public_part : Database → IndexView
+public_part base = record { public = base.public; protected = base.protected }
+
+-- after one history the same is shown of both tables: `audit` may send of the one what it may send of the other, and nothing else, by each
+-- status and at every moment; and `simulate` takes the same files, and has the same verdicts on every transcript
+pub record AreShownAlike (base other : Database) (history : List Answered) : Type 0 where
+  pub report : (status : Status) (before after : List ℕ) → AuditEnds status base history before after ↔ AuditEnds status other history before after
+  pub meanwhile : (file before image sent : List ℕ) →
+      SendsMeanwhile (audit_over base history) (subjects base.secret.shape) file before image sent
+      ↔ SendsMeanwhile (audit_over other history) (subjects other.secret.shape) file before image sent
+  pub files : (schema table : List ℕ) →
+      ArePublicFilesOf schema table base.columns (public_part base) ↔ ArePublicFilesOf schema table other.columns (public_part other)
+  pub verdicts : (lines : List CountedLine) (verdicts : List (Replied Answered)) →
+      AreVerdicts base.columns (public_part base) lines verdicts ↔ AreVerdicts other.columns (public_part other) lines verdicts
+
+-- other secrets, which differ in this of a column, lead the same life, byte for byte, and wherever it stands the same is shown of them
+pub record TellsNothingMore (base : Database) (runs : List Run) (last : Standing) (column : ℕ) (value : List ℤ → ℤ) : Type 0 where
+  pub twin : HasTwinLife base runs last column value
+  pub alike : (at : Standing) → AreShownAlike at.base (with_secrets twin.lists at.base) at.history
+
+-- the same is shown of all tables that differ in their secrets alone, after every history
+abbrev pub TwinsAreShownAlike : Type 0
+TwinsAreShownAlike = (base other : Database) (history : List Answered) → AreTwins base other → AreShownAlike base other history
+
+-- and where `audit` is done over two of them, after one legal history, it sent the very same bytes
+abbrev pub TwinsHaveOneReport : Type 0
+TwinsHaveOneReport =
+    (base other : Database) (history : List Answered) (before after sent : List ℕ) → AreTwins base other → IsLegal (table_in base) history →
+    AuditEnds Done base history before after → AuditEnds Done other history before sent → sent ≡ after
+
+-- every life whose last table is that of two files tells nothing more of any number or protected total of the rows in force
+abbrev pub LivesTellNothingMore : Type 0
+LivesTellNothingMore =
+    (schema table : List ℕ) (base : Database) (runs : List Run) (last : Standing) (column : ℕ) (value : List ℤ → ℤ) → AreSoundFilesOf schema table last.base → IsLife base runs last →
+    column < columns last.base.secret.shape → IsGuarded (known_of (in_force last).setting last.history column) value → TellsNothingMore base runs last column value
