@@ -4,7 +4,7 @@ use Rattle.std.proofs.lemmas.Bool.{false≢true}
 use Rattle.audit_types.specs.declared.records.Answered.{Answered}
 use Rattle.audit_types.specs.History.{Table as Guarded}
 use Rattle.bench_core.specs.Causes.{Rose}
-use Rattle.table_load.specs.Database.{Database}
+use Rattle.audit_types.specs.declared.shapes.Shape.{Shape}
 use Rattle.answer_journal.specs.Moments.{IsMade}
 use Rattle.auditor_top.specs.declared.compacting.CompactFault.{CompactFault}
 use Rattle.auditor_top.specs.declared.compacting.CompactFault.TheVariants as compact
@@ -102,15 +102,15 @@ compact_faults (Err compact.NoMemory) before bench spare rose same spare_rose sp
     both_same before bench spare (same (search rules)) (spare_same (search rules))
 
 -- over a legal history: what the spare stands for, and what was sent
-pub compact_ends : (ended : Result (Unit {0}) CompactFault) (base : Database) (history : List Answered) (spare before after : List ℕ) →
-    OnOk ended (Compacts base.secret.shape history spare before after) →
-    (IsErrOf ended compact.Bench → CompactsFront base.secret.shape history spare before after) →
-    OnErr ended (ended ≢ Err compact.Bench → after ≡ before) → CompactEnds (compacting_status ended) base history spare before after
-compact_ends (Ok done) base history spare before after all part unsent = all
-compact_ends (Err compact.AlreadyThere) base history spare before after all part unsent = unsent (λ is. cc)
-compact_ends (Err compact.Spare) base history spare before after all part unsent = unsent (λ is. cc)
-compact_ends (Err compact.Bench) base history spare before after all part unsent = inr (part refl)
-compact_ends (Err compact.NoMemory) base history spare before after all part unsent = unsent (λ is. cc)
+pub compact_ends : (ended : Result (Unit {0}) CompactFault) (shape : Shape) (history : List Answered) (spare before after : List ℕ) →
+    OnOk ended (Compacts shape history spare before after) →
+    (IsErrOf ended compact.Bench → CompactsFront shape history spare before after) →
+    OnErr ended (ended ≢ Err compact.Bench → after ≡ before) → CompactEnds (compacting_status ended) shape history spare before after
+compact_ends (Ok done) shape history spare before after all part unsent = all
+compact_ends (Err compact.AlreadyThere) shape history spare before after all part unsent = unsent (λ is. cc)
+compact_ends (Err compact.Spare) shape history spare before after all part unsent = unsent (λ is. cc)
+compact_ends (Err compact.Bench) shape history spare before after all part unsent = inr (part refl)
+compact_ends (Err compact.NoMemory) shape history spare before after all part unsent = unsent (λ is. cc)
 
 -- where no journal is made there and nothing failed, it is done, or there was no memory
 pub compact_wants : {X : Type 0} (ended : Result X CompactFault) (before after : FaultCounts) → (IsErrOf ended compact.AlreadyThere → ⊥) →

@@ -183,7 +183,7 @@ module _ {P I B : Type 0} (files : source.Ghosts P) (lines : source.Ghosts I) (b
       let still : IsQuiet bench spare → LeavesOnly bench spare spare (IsUntouched (bench.file spare) (bench.sent spare)) = spared.untouched in
       record {
         compacted = λ ptold told base history over.
-            by_giving_up (λ (s : Status). CompactEnds s base history (bench.file spare) (bench.sent at) (bench.sent later)) status
+            by_giving_up (λ (s : Status). CompactEnds s base.secret.shape history (bench.file spare) (bench.sent at) (bench.sent later)) status
             (gives_up Compact is ptold (λ opens. told) (base, history, over)) reads.sent reads.sent (inl reads.sent) reads.sent;
         compacting = λ ptold told unmade quiet base history over.
             weakens bench spare spare (IsUntouched (bench.file spare) (bench.sent spare)) _

@@ -2,11 +2,8 @@
 use Rattle.std.proofs.Common.{◌≡◌, ℕ, List, sym, ◌∙◌, ap, subst}
 use Rattle.std.specs.Prelude.{◌↔◌}
 use Rattle.audit_types.specs.declared.records.Answered.{Answered}
-use Rattle.audit_types.specs.declared.records.Protected.{Protected}
 use Rattle.audit_types.specs.declared.shapes.Shape.{Shape}
 use Rattle.schema_json.specs.Columns.{Column}
-use Rattle.set_index.specs.Indexed.{IndexView}
-use Rattle.table_load.specs.Cells.{PublicView}
 use Rattle.table_load.specs.Database.{Database, AreTwins}
 use Rattle.journal_audit.specs.Reports.{Audit, Reports, ReportsFront, SendsMeanwhile, subjects}
 use Rattle.transcript_sim.specs.Verdicts.{AreVerdicts}
@@ -14,6 +11,7 @@ use Rattle.auditor_top.specs.declared.status.Which.TheVariants.{Schema, Table, I
 use Rattle.auditor_top.specs.declared.status.Status.{Status}
 use Rattle.auditor_top.specs.declared.status.Status.TheVariants.{Done, SourceFault, BenchFault, NoMemory}
 use Rattle.auditor_top.specs.Commands.{ArePublicFilesOf}
+use Rattle.auditor_top.specs.Compactions.{CompactEnds, SendsCounts}
 use Rattle.auditor_top.specs.Ends.{AuditEnds, audit_over}
 use Rattle.auditor_top.specs.Shown.{AreShownAlike, public_part}
 
@@ -36,30 +34,22 @@ same_report status base other history same before after = (λ x. x, λ x. x)
 abbrev an_audit : List Column → Shape → List Answered → Audit
 an_audit columns shape history = record { schema = columns; shape = shape; history = history }
 
--- an index of this public part, with these groups
-abbrev an_index : PublicView → List Protected → IndexView
-an_index public protected = record { public = public; protected = protected }
-
 pub twins_alike : (base other : Database) (history : List Answered) → AreTwins base other → AreShownAlike base other history
 twins_alike base other history twins =
     let audit : audit_over other history ≡ audit_over base history =
-    ap (λ (cs : List Column). an_audit cs other.secret.shape history) twins.columns ∙ ap (λ (s : Shape). an_audit base.columns s history) twins.shape in
-    let part : public_part other ≡ public_part base =
-    ap (λ (p : PublicView). an_index p other.protected) twins.public ∙ ap (an_index base.public) twins.protected in
+    ap (λ (d : Database). audit_over d history) twins.0 ∙ ap (λ (s : Shape). an_audit base.columns s history) twins.1 in
     record {
       report = λ status before after. same_report status base other history audit before after;
       meanwhile = λ file before image sent. same_said (λ (a : Audit). SendsMeanwhile a (subjects a.shape) file before image sent)
           (audit_over base history) (audit_over other history) audit;
+      compacted = λ status spare before after. same_said (λ (s : Shape). CompactEnds status s history spare before after) base.secret.shape other.secret.shape twins.1;
+      compacting = λ file before image sent. same_said (λ (s : Shape). SendsCounts s history file before image sent) base.secret.shape other.secret.shape twins.1;
       files = λ schema table. (
-        λ fits. subst (λ (cs : List Column). ArePublicFilesOf schema table cs (public_part other)) (sym twins.columns)
-            (subst (λ (i : IndexView). ArePublicFilesOf schema table base.columns i) (sym part) fits),
-        λ fits. subst (λ (i : IndexView). ArePublicFilesOf schema table base.columns i) part
-            (subst (λ (cs : List Column). ArePublicFilesOf schema table cs (public_part other)) twins.columns fits),
+        λ fits. subst (λ (d : Database). ArePublicFilesOf schema table d.columns (public_part d)) (sym twins.0) fits,
+        λ fits. subst (λ (d : Database). ArePublicFilesOf schema table d.columns (public_part d)) twins.0 fits,
       );
       verdicts = λ lines verdicts. (
-        λ are. subst (λ (cs : List Column). AreVerdicts cs (public_part other) lines verdicts) (sym twins.columns)
-            (subst (λ (i : IndexView). AreVerdicts base.columns i lines verdicts) (sym part) are),
-        λ are. subst (λ (i : IndexView). AreVerdicts base.columns i lines verdicts) part
-            (subst (λ (cs : List Column). AreVerdicts cs (public_part other) lines verdicts) twins.columns are),
+        λ are. subst (λ (d : Database). AreVerdicts d.columns (public_part d) lines verdicts) (sym twins.0) are,
+        λ are. subst (λ (d : Database). AreVerdicts d.columns (public_part d) lines verdicts) twins.0 are,
       );
     }

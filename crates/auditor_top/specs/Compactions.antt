@@ -11,7 +11,6 @@ use Rattle.journal_compact.specs.Kept.{IsKeptOf}
 use Rattle.journal_compact.specs.declared.whole.WholeFault.{WholeFault}
 use Rattle.journal_compact.specs.declared.whole.WholeFault.TheVariants as whole
 use Rattle.answer_journal.specs.Moments.{IsMade}
-use Rattle.table_load.specs.Database.{Database}
 use Rattle.auditor_top.specs.declared.compacting.CompactFault.{CompactFault}
 use Rattle.auditor_top.specs.declared.compacting.CompactFault.TheVariants as compact
 use Rattle.auditor_top.specs.declared.status.Which.TheVariants.{Schema, Table as TableFile}
@@ -48,15 +47,15 @@ SendsCounts shape history file before image sent = (image ≡ file) × ((sent �
     AppendsFront before (compact_line (length history) (length kept)) sent))
 
 -- what the spare stands for then, and what was sent. Files without fault and a legal journal are never refused
-abbrev pub CompactEnds : Status → Database → List Answered → List ℕ → List ℕ → List ℕ → Type 0
-CompactEnds Done base history spare before after = Compacts base.secret.shape history spare before after
-CompactEnds (SourceFault Schema) base history spare before after = after ≡ before
-CompactEnds (SourceFault TableFile) base history spare before after = after ≡ before
-CompactEnds BenchFault base history spare before after = (after ≡ before) ⊎ CompactsFront base.secret.shape history spare before after
-CompactEnds SpareThere base history spare before after = after ≡ before
-CompactEnds SpareFault base history spare before after = after ≡ before
-CompactEnds NoMemory base history spare before after = after ≡ before
-CompactEnds status base history spare before after = ⊥
+abbrev pub CompactEnds : Status → Shape → List Answered → List ℕ → List ℕ → List ℕ → Type 0
+CompactEnds Done shape history spare before after = Compacts shape history spare before after
+CompactEnds (SourceFault Schema) shape history spare before after = after ≡ before
+CompactEnds (SourceFault TableFile) shape history spare before after = after ≡ before
+CompactEnds BenchFault shape history spare before after = (after ≡ before) ⊎ CompactsFront shape history spare before after
+CompactEnds SpareThere shape history spare before after = after ≡ before
+CompactEnds SpareFault shape history spare before after = after ≡ before
+CompactEnds NoMemory shape history spare before after = after ≡ before
+CompactEnds status shape history spare before after = ⊥
 
 -- other records are legal for the table, and every question is decided after them as after the history
 pub record DecideAlike (table : Table) (history others : List Answered) : Type 0 where

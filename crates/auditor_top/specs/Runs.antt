@@ -171,7 +171,7 @@ pub record Compacting {P I B : Type 0} (files : source.Ghosts P) (lines : source
   -- it, and the spare stood for what is kept before the first byte
   pub compacted : files.told → bench.told → (base : Database) (history : List Answered) →
       ServesOver (files.left old.schema) (files.left old.table) (bench.file old.bench) base history →
-      CompactEnds status base history (bench.file new.spare) (bench.sent old.bench) (bench.sent new.bench)
+      CompactEnds status base.secret.shape history (bench.file new.spare) (bench.sent old.bench) (bench.sent new.bench)
   -- at every moment the spare isn't made, or stands for what is kept; a crash once it is done leaves what it reads
   pub compacting : files.told → bench.told → (IsMade (bench.file old.spare) → ⊥) → IsQuiet bench old.spare → (base : Database) (history : List Answered) →
       ServesOver (files.left old.schema) (files.left old.table) (bench.file old.bench) base history →

@@ -61,8 +61,8 @@ pub fn lives()
 }
 
 /// Whoever sees every reply of a life, every report and every verdict, learns nothing more from them together: for each number and
-/// each protected total other secrets, which differ there, lead the same life, byte for byte, and `audit` and `simulate` send of
-/// them what they send of the table, whatever the secrets are.
+/// each protected total other secrets, which differ there, lead the same life, byte for byte, and `audit`, `compact` and `simulate`
+/// send of them what they send of the table, whatever the secrets are.
 pub fn nothing_more()
     ensures alike { TwinsAreShownAlike }
     ensures one { TwinsHaveOneReport }

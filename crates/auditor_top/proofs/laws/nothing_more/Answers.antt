@@ -28,5 +28,5 @@ returns-clause-lives c = λ schema table base runs last column value files life 
     let twin = c.hidden.ensures base runs last (is_database fit schema table last.base files) (is_secret fit schema table last.base files) life column value below guarded in
     record {
       twin = twin;
-      alike = λ at. twins_alike at.base (with_secrets twin.lists at.base) at.history (record { columns = refl; public = refl; protected = refl; shape = refl });
+      alike = λ at. twins_alike at.base (with_secrets twin.lists at.base) at.history (refl, refl);
     }

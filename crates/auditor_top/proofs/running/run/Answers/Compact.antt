@@ -90,9 +90,9 @@ compacting g c asked =
     (seen ptold) base history records (given ptold told base records over) (does.any_moment told unmade quiet) in
     subst (λ (s : Status). Compacting g.P.Source g.I.Source g.B.Bench s old new) (sym c.compacted.ensures) (record {
       compacted = λ ptold told base records over.
-          carried (λ (b : Database) (h : List Answered). CompactEnds (compacting_status c.compact.result) b h (g.B.Bench.file spare_later) sent (g.B.Bench.sent later))
+          carried (λ (b : Database) (h : List Answered). CompactEnds (compacting_status c.compact.result) b.secret.shape h (g.B.Bench.file spare_later) sent (g.B.Bench.sent later))
           (seen ptold) base history records (given ptold told base records over)
-          (compact_ends c.compact.result (seen ptold) history (g.B.Bench.file spare_later) sent (g.B.Bench.sent later)
+          (compact_ends c.compact.result shape history (g.B.Bench.file spare_later) sent (g.B.Bench.sent later)
           (subst (λ (bytes : List ℕ). OnOk c.compact.result (Compacts shape history (g.B.Bench.file spare_later) bytes (g.B.Bench.sent later))) reads.sent (does.done told))
           (subst (λ (bytes : List ℕ). IsErrOf c.compact.result compact.Bench → CompactsFront shape history (g.B.Bench.file spare_later) bytes (g.B.Bench.sent later))
           reads.sent (does.part told))
