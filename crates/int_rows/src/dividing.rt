@@ -73,7 +73,7 @@ impl Divisor {
         self.size == 1
     }
 
-    // What the size is a multiple by, where the guess is right.
+    // What the size is a multiple by, if the guess is right.
     fn guess(&self, size: u128) -> Option<u64>
         ensures { IfSome result (λ q. size ≡ self.now * q) }
     {
