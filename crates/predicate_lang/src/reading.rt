@@ -24,7 +24,7 @@ enum Step {
     Whole(Pred),
 }
 
-// Takes the next token, or ends where there is none.
+// Takes the next token, or ends if there is none.
 fn take_token(
     alloc: Global,
     schema: &Schema,
@@ -82,8 +82,8 @@ fn take_tokens(
     }
 }
 
-/// The predicate that a text means, after the grammar of docs/FORMATS.md. A refusal names the byte at which the text
-/// goes wrong: a name that is no public column, a token that doesn't fit there, the `not` or bracket that is one too
+/// The predicate that a text means, by the grammar of docs/FORMATS.md. A refusal names the byte at which the text
+/// goes wrong: a name that isn't a public column, a token that doesn't fit there, the `not` or bracket that is one too
 /// deep, token 513, a byte at which no token begins, or the end of the text.
 pub fn read_where(alloc: Global, schema: &Schema, text: &str) -> Result<Pred, WhereFault>
     requires { length text.now ≤ 16384 }
