@@ -83,7 +83,7 @@ impl Planner {
         })
     }
 
-    /// What the next counted line comes to. No line is left where there is none. A line that was read when memory ran out is
+    /// What the next counted line comes to; `None` if none is left. A line that was read when memory ran out is
     /// passed.
     pub fn next<P: Source>(
         &mut self,
