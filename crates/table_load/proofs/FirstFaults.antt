@@ -10,7 +10,7 @@ use Rattle.table_load.specs.Reading.{Fields, record_fault, records_fault, count_
 use Rattle.table_load.specs.declared.faults.TableFault.{TableFault}
 use Rattle.table_load.specs.declared.faults.TableFault.TheVariants.{TooLong, Header, TooManyRows, NoRows}
 
--- where the first of two is none, so is the other or it counts
+-- if the first of two is none, so is the other or it counts
 pub none_first : (a b : Option TableFault) → option_or a b ≡ None → (a ≡ None) × (b ≡ None)
 none_first None b is = (refl, is)
 none_first (Some fault) b is = absurd (cc)

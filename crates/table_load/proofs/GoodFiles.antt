@@ -23,7 +23,7 @@ record AreSome (rows : List Fields) : Type 0 where
   some : 0 < length rows
   at_most : length rows ≤ 1024
 
--- records whose number is no fault are 1 to 1,024
+-- records whose number isn't a fault are 1 to 1,024
 fine_count : (rows : List Fields) → count_fault rows ≡ None → AreSome rows
 fine_count [] fine = absurd (cc)
 fine_count (r ∷ rows) fine = by (nat_lt 1024 (length (r ∷ rows))) refl fine
@@ -64,7 +64,7 @@ fine_data columns bytes fine =
       at_most = number.at_most;
     }
 
--- a value is answered where there is no fault, and it is the one that is meant
+-- a value is answered if there is no fault, and it is the one that is meant
 answered : {X : Type 0} (fault : Option TableFault) (x y : X) → unless_fault fault x ≡ Ok y → (fault ≡ None) × (x ≡ y)
 answered None x y is = (refl, cc)
 answered (Some f) x y is = absurd (cc)

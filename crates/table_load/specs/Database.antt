@@ -31,7 +31,7 @@ pub record AreTwins (base twin : Database) : Type 0 where
   pub protected : twin.protected ≡ base.protected
   pub shape : twin.secret.shape ≡ base.secret.shape
 
--- the table whose secrets these are, where these groups are protected
+-- the table whose secrets these are, with these groups protected
 abbrev pub secret_table : SecretView → List Protected → Table
 secret_table secret protected = record { setting = setting_of secret.shape protected; secrets = secret.lists }
 

@@ -38,7 +38,7 @@ fn split_sign(bytes: &[u8]) -> (bool, &[u8])
     }
 }
 
-// A size with its sign, where it is small enough.
+// A size with its sign, if it is small enough.
 fn signed(minus: bool, size: Option<u64>) -> Numeral
     ensures { (n : Option ℕ) → size ≡ option_map capped n → IsNumeralOf result (option_sign minus n) }
 {
