@@ -1,4 +1,4 @@
--- The free column of a row, as the code looks for it, and that there is one where the row isn't pinned.
+-- The free column of a row, as the code looks for it, and that there is one if the row isn't pinned.
 use Rattle.std.proofs.Common.{◌≡◌, ◌≢◌, ℕ, zero, suc, ◌+◌, ◌<◌, ◌≤◌, Bool, true, false, cond, ◌||◌, ◌==◌, ℤ, pos, List, [], ◌∷◌, length, get_or, drop, refl, sym, ap, ◌∙◌, arith, inl, inr, ◌⊎◌, add-one, drop-cons}
 use Rattle.std.specs.Prelude.{◌*ℤ◌, ◌<ℤ◌}
 use Rattle.std.specs.List.{AllByRecursion}
@@ -134,7 +134,7 @@ pub record IsFreeColumn (form rows : List (List ℤ)) (n i j : ℕ) : Type 0 whe
   pub free : is_pivot form j ≡ false
   pub reaches : (j ≡ i) ⊎ Reaches rows i j
 
--- what a row that isn't pinned may suppose of the rows of the form
+-- what a row that isn't pinned may assume of the rows of the form
 record IsOpen (n : ℕ) (sets : List (List ℕ)) (form rows : List (List ℤ)) (i : ℕ) : Type 0 where
   primitive : AllByRecursion (IsPrimitive n) rows
   zeros : AllByRecursion (IsZeroAtOthers form) rows

@@ -44,7 +44,7 @@ fn free_column(basis: &Basis, n: u16, row: u16) -> u16
     row
 }
 
-// What stands at a row's pivot, where `common` stands at the free column and the row's entry there is `entry`.
+// What stands at a row's pivot, if `common` stands at the free column and the row's entry there is `entry`.
 fn solution(entry: i128, pivot_entry: i128, common: i128) -> i128
     requires entry { unsigned_abs entry ≤ 2 ^ 56 }
     requires positive { pos 0 <ℤ pivot_entry }
