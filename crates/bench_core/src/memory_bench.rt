@@ -13,7 +13,7 @@ use audit_types::NoMemory;
 use std::alloc::Global;
 use std::marker::Model;
 
-/// Keeps the file, what is sent, and the record of its calls, from which a crash at any moment is told. Calls are
+/// Keeps the file, what is sent, and the record of its calls, from which a crash at any moment follows. Calls are
 /// numbered from 0; one fails if its number is among those to fail, if it has reached the stop, or if it would
 /// pass the room.
 #[derive(Drop)]
