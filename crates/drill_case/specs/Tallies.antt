@@ -1,4 +1,4 @@
--- How many of the lines that were sent tell what.
+-- How many of the lines that were sent say what.
 use Rattle.std.specs.Prelude.{◌≡◌, ◌⊎◌, ℕ, Bool, true, false, not, List, ◌++◌, length, filter, count_by, codes, decimal, ◌==◌}
 use Rattle.std.specs.List.{AllZip, slice_split}
 use Rattle.line_wire.specs.Lines.{is_feed}
