@@ -1,4 +1,4 @@
-//! A row over its content.
+//! A row divided by its content.
 ghost use Rattle.std.specs.Prelude.{◌≡◌, ◌≢◌, ◌↔◌, pos, ◌≤◌, ◌^◌, ◌*ℤ◌, ◌<ℤ◌, unsigned_abs, map, IsTrue};
 ghost use Rattle.std.specs.Int.{◌∣◌};
 ghost use Rattle.std.specs.List.{AllByRecursion};
