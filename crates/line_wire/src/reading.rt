@@ -101,7 +101,7 @@ fn value_of(alloc: Global, line: &[u8]) -> Result<Value, LineFault>
     }
 }
 
-/// The request that a line means, after docs/FORMATS.md. The refusals come in the order of `LineFault`.
+/// The request that a line means, by docs/FORMATS.md. The refusals come in the order of `LineFault`.
 ///
 /// The scratch is the memory of the reader of JSON, which is kept from line to line.
 pub fn read_line_request(
