@@ -119,7 +119,7 @@ impl Planner {
         next_line(&mut self.lines, source)
     }
 
-    /// The line that was read last, without its carriage return. It is empty where that was a long one, or none.
+    /// The line that was read last, without its carriage return. It is empty if that was a long one, or there was none.
     pub fn text(&self) -> &[u8]
         ensures { result.now ≡ self.now.text }
     {
