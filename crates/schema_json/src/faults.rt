@@ -7,9 +7,9 @@ ghost use Rattle.schema_json.specs.Faults.{fault_number};
 pub enum SchemaFault {
     /// More than 65,536 bytes.
     TooLong,
-    /// No JSON, as `serde_json` reads it.
+    /// Not JSON, as `serde_json` reads it.
     NotJson,
-    /// No object with a list of columns, each with a name and a role, some of them public.
+    /// Not an object with a list of columns, each with a name and a role, some of them public.
     Shape,
     /// A name that no column may have.
     BadName,
