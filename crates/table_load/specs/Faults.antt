@@ -32,7 +32,7 @@ UnlessMemory (OutOfRange line column) P = P
 UnlessMemory TooManyRows P = P
 UnlessMemory NoRows P = P
 
--- what was read is what the bytes mean, unless memory was wanting
+-- what was read is what the bytes mean, unless memory ran out
 abbrev pub Loads : {X : Type 0} → Result X TableFault → Result X TableFault → Type 0
 Loads (Ok x) meant = meant ≡ Ok x
 Loads (Err fault) meant = UnlessMemory fault (meant ≡ Err fault)
