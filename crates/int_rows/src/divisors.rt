@@ -67,6 +67,7 @@ fn is_short(x: i128) -> bool
     x.unsigned_abs() < 1 << 62
 }
 
+// A quotient of numbers of 64 bits, which takes less time. It is a function so that a clause says what it is.
 fn short_quotient(multiple: i64, of: i64) -> i64
     requires divides { unsigned_abs of ∣ unsigned_abs multiple }
     requires not_zero { of ≢ pos 0 }
