@@ -272,9 +272,5 @@ pub(crate) fn next_token(
     if at == text.len() {
         return Ok(None);
     }
-    match token_at(alloc, schema, text, at) {
-        Ok(lexeme) => Ok(Some(lexeme)),
-        Err(WhereFault::Bad { at }) => Err(WhereFault::Bad { at }),
-        Err(WhereFault::NoMemory) => Err(WhereFault::NoMemory),
-    }
+    Ok(Some(token_at(alloc, schema, text, at)?))
 }

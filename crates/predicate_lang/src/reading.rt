@@ -39,21 +39,15 @@ fn take_token(
     requires read { HasRead schema.now.columns text.now from count (build_of state.old) }
     ensures { Steps schema.now.columns text.now from count (build_of state.new) result }
 {
-    match next_token(alloc, schema, text, from) {
-        Ok(Some(Lexeme { token, at, end })) => {
+    match next_token(alloc, schema, text, from)? {
+        Some(Lexeme { token, at, end }) => {
             if count == MOST_TOKENS {
                 return Err(WhereFault::Bad { at });
             }
-            match state.put(alloc, schema, token, at) {
-                Ok(()) => Ok(Step::More(end)),
-                Err(fault) => Err(fault),
-            }
+            state.put(alloc, schema, token, at)?;
+            Ok(Step::More(end))
         }
-        Ok(None) => match state.finish(alloc, text.len() as u32) {
-            Ok(p) => Ok(Step::Whole(p)),
-            Err(fault) => Err(fault),
-        },
-        Err(fault) => Err(fault),
+        None => Ok(Step::Whole(state.finish(alloc, text.len() as u32)?)),
     }
 }
 
@@ -71,13 +65,12 @@ fn take_tokens(
     let mut from = 0usize;
     let mut count = 0usize;
     'tokens: loop {
-        match take_token(alloc, schema, text, from, count, state) {
-            Ok(Step::More(end)) => {
+        match take_token(alloc, schema, text, from, count, state)? {
+            Step::More(end) => {
                 from = end;
                 count += 1;
             }
-            Ok(Step::Whole(p)) => return Ok(p),
-            Err(fault) => return Err(fault),
+            Step::Whole(p) => return Ok(p),
         }
     }
 }
