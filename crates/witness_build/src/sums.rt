@@ -21,13 +21,10 @@ fn first_free(basis: &Basis, n: u16, k: u16) -> u16
     requires k { k < length basis.now.rows }
     ensures { result ≡ first_free basis.now.rows (slice_index_or basis.now.rows k []) 0 }
 {
-    let pivot = basis.pivot(k);
-    for column in 0..n {
-        if column != pivot && basis.entry(k, column) != 0 {
-            return column;
-        }
+    match basis.form().free(k).first() {
+        Some(entry) => entry.place,
+        None => n,
     }
-    n
 }
 
 // The free column whose direction belongs to the row.
