@@ -106,6 +106,3 @@ has_failed (Err e) fails = cc
 
 pub already_no_failed : {X P : Type 0} → IsErrOf {T = X} (Err fault.AlreadyThere) fault.Failed → P
 already_no_failed is = let none : ⊥ = cc in absurd none
-
-pub made_no_fault : {X P : Type 0} (x : X) (e : MakeFault) → IsErrOf (Ok x) e → P
-made_no_fault x e is = let none : ⊥ = cc in absurd none

@@ -85,13 +85,8 @@ impl Journal {
         one_break();
         no_break_in_a_journal();
         bytes_of_records();
-        match contents_of(alloc, bench) {
-            Ok(contents) => {
-                let Contents { shape, list, gate } = contents;
-                let count = list.len() as u32;
-                Ok((Journal::ending_at(alloc, shape, count, gate as u64), list))
-            }
-            Err(fault) => Err(fault),
-        }
+        let Contents { shape, list, gate } = contents_of(alloc, bench)?;
+        let count = list.len() as u32;
+        Ok((Journal::ending_at(alloc, shape, count, gate as u64), list))
     }
 }
