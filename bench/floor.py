@@ -4,7 +4,7 @@
     floor.py PROGRAM COUNTS [--write]
 
 Works in the folder that it is called in. A way to be fast that no clause asks for shows here when it is gone: the exit status is 1
-where a workload takes more than a tenth above its count. One that takes a tenth less is named, and may be written down. Nothing is
+if a workload takes more than a tenth above its count. One that takes a tenth less is named, and may be written down. Nothing is
 said of time: what the system does for the program isn't counted."""
 import os
 import re

@@ -6,8 +6,8 @@
 Works in the folder that it is called in. Each pair of tables gives the same replies, byte for byte, to the same lines: two rows next to
 each other make a couple, and the lines ask of whole couples, or are denied. Printed are the lines and how many were denied, the
 instructions of a run without lines (the opening) and how many more the second table takes, and the same of the lines, which are those
-of a run with them less those of a run without. The exit status is 1 if replies differ, or if the lines differ by more than 0 where the files
-of both tables are equally long, and by more than a thousandth where they aren't. Nothing is said of time: what the system does for the
+of a run with them less those of a run without. The exit status is 1 if replies differ, or if the lines differ by more than 0 if the files
+of both tables are equally long, and by more than a thousandth if they aren't. Nothing is said of time: what the system does for the
 program isn't counted."""
 import json
 import os

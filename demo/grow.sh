@@ -11,7 +11,7 @@ folder=$(mktemp -d) || exit 1
 trap 'rm -rf "$folder"' EXIT
 cp "$demo/schema.json" "$demo/table.csv" "$folder" && cd "$folder" || exit 1
 
-# Runs the program with these words; its status has to be the first, and what it says on its standard error the second.
+# Runs the program with these arguments; its status has to be the first, and what it says on its standard error the second.
 ends() {
     wanted=$1 text=$2
     shift 2

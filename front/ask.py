@@ -126,7 +126,7 @@ def answer_lines(there):
 
 
 def main(words):
-    """Asks what the words or the terminal say."""
+    """Asks what the arguments or the terminal say."""
     if words in (["-h"], ["--help"]):
         print(__doc__.strip())
         return 0

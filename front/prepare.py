@@ -28,7 +28,7 @@ OPTIONS = ("encoding", "separator", "untitled")
 
 
 def options_of(words):
-    """The words KEY=VALUE after the file, by key."""
+    """The arguments KEY=VALUE after the file, by key."""
     found = {}
     for word in words:
         key, mark, value = word.partition("=")
@@ -48,7 +48,7 @@ def program():
 
 
 def run(words):
-    """Does what the words say."""
+    """Does what the arguments say."""
     match words:
         case ["look", path, *options]:
             look(path, **options_of(options))
@@ -67,7 +67,7 @@ def run(words):
 
 
 def main(words):
-    """Does what the words say; what can't be done ends with a sentence and status 1."""
+    """Does what the arguments say; what can't be done ends with a sentence and status 1."""
     try:
         return run(words)
     except Fault as fault:

@@ -5,7 +5,7 @@
     >>> table = auditor.connect("http://127.0.0.1:8087")        # or unix:PATH of the door's socket
     >>> table.sum("salary", where="age >= 41")
     176500
-    >>> table.sum("salary", where="age = 41")                   # not answered: a value that is no number
+    >>> table.sum("salary", where="age = 41")                   # not answered: a value that isn't a number
     Denied('unsafe')
     >>> table.totals("salary", by="team")                       # a DataFrame, if pandas is there
 
@@ -447,7 +447,7 @@ def terminal(asker, lines):
 
 
 def typed():
-    """Lines as somebody types them, with the arrow keys where there are any."""
+    """Lines as somebody types them, with the arrow keys if there are any."""
     try:
         import readline                     # noqa: F401, its import is what does it
     except ImportError:

@@ -92,7 +92,7 @@ def write(path, choices, fresh):
 
 
 def open_choices(choices):
-    """What is still to be chosen, in the words that `choose` takes: the columns before the totals that are over them.
+    """What is still to be chosen, in the arguments that `choose` takes: the columns before the totals that are over them.
 
     A column that is left out asks no more.
     """

@@ -1,4 +1,4 @@
-"""`choose`: sets choices in their file from words, or asks for each open one at a terminal."""
+"""`choose`: sets choices in their file from arguments, or asks for each open one at a terminal."""
 
 import re
 
@@ -13,7 +13,7 @@ LISTS = ("split by", "missing is")
 
 
 def choose(path, words):
-    """Follows each word in turn, writes the file once, and says what is still open."""
+    """Follows each argument in turn, writes the file once, and says what is still open."""
     choices = choosing.read(path)
     for word in words:
         key, mark, value = word.partition("=")

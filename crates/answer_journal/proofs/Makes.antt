@@ -74,7 +74,7 @@ untouched_unmade shape file before unmade image sent (same, is) = (
   ]),
 )
 
--- where the header gate is closed no journal is there, and neither is where the file is short
+-- if the header gate is closed no journal is there, nor if the file is short
 pub closed_not_already : (file : List ℕ) → IsFound Closed file → IsAlready file → ⊥
 closed_not_already file found (inl long) = absurd (omega (arith, found.0, long))
 closed_not_already file found (inr made) = found.1 made.1
@@ -83,7 +83,7 @@ pub short_not_already : (file : List ℕ) → IsFound Short file → IsAlready f
 short_not_already file found (inl long) = absurd (omega (arith, found, long))
 short_not_already file found (inr made) = absurd (omega (arith, found, made.0))
 
--- how many calls it takes where the header gate is closed, and where the file is short
+-- how many calls it takes if the header gate is closed, and if the file is short
 pub closed_calls : (file : List ℕ) (before mid now : ℕ) → IsFound Closed file → mid ≡ before + 2 → now ≡ mid + 4 → now ≡ before + calls_to_make file
 closed_calls file before mid now found look opening =
     let calls : calls_to_make file ≡ 6 = ap (λ (n : ℕ). if nat_lt n 21 then 7 else 6) found.0 in
@@ -106,6 +106,3 @@ has_failed (Err e) fails = cc
 
 pub already_no_failed : {X P : Type 0} → IsErrOf {T = X} (Err fault.AlreadyThere) fault.Failed → P
 already_no_failed is = let none : ⊥ = cc in absurd none
-
-pub made_no_fault : {X P : Type 0} (x : X) (e : MakeFault) → IsErrOf (Ok x) e → P
-made_no_fault x e is = let none : ⊥ = cc in absurd none

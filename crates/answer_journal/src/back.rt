@@ -67,11 +67,11 @@ impl Journal {
         ensures fit { IfOk result (λ r. All (λ a. FitsShape r.0.shape a.column a.rows) r.1.items) }
         ensures few { IfOk result (λ r. length r.1.items ≤ most_records) }
 
-        // A journal is there exactly where the file is long enough and its header gate is open.
+        // A journal is there exactly if the file is long enough and its header gate is open.
         ensures not_made { B.told → result ≡ Err BackFault.NotMade → IsMade (B.file bench.old) → ⊥ }
         ensures made { B.told → (IsMade (B.file bench.old) → ⊥) → MatchResult result (λ _. ⊥) (λ fault. IsDueOrGaveUp BackFault.NotMade fault) }
 
-        // It is damaged exactly where a byte breaks it, and is read back exactly where it stands for a history.
+        // It is damaged exactly if a byte breaks it, and is read back exactly if it stands for a history.
         ensures damaged { (at : ℕ) → B.told → result ≡ Err (BackFault.Damaged at) → IsMade (B.file bench.old) × BreaksAt (B.file bench.old) at }
         ensures damaged_only { (at : ℕ) → B.told → IsMade (B.file bench.old) → BreaksAt (B.file bench.old) at → MatchResult result (λ _. ⊥) (λ fault. IsDueOrGaveUp (BackFault.Damaged at) fault) }
         ensures whole { (shape : Shape) (history : List Answered) (gate : ℕ) → B.told → StandsAt (B.file bench.old) shape history gate
@@ -85,13 +85,8 @@ impl Journal {
         one_break();
         no_break_in_a_journal();
         bytes_of_records();
-        match contents_of(alloc, bench) {
-            Ok(contents) => {
-                let Contents { shape, list, gate } = contents;
-                let count = list.len() as u32;
-                Ok((Journal::ending_at(alloc, shape, count, gate as u64), list))
-            }
-            Err(fault) => Err(fault),
-        }
+        let Contents { shape, list, gate } = contents_of(alloc, bench)?;
+        let count = list.len() as u32;
+        Ok((Journal::ending_at(alloc, shape, count, gate as u64), list))
     }
 }

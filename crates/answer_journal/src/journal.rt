@@ -55,7 +55,7 @@ impl From<Failed> for AppendFault {
 pub enum BackFault {
     /// The file is shorter than a journal, or its header gate isn't open.
     NotMade,
-    /// The place of the first byte that breaks the grammar, or the file's length where it ends too early.
+    /// The place of the first byte that breaks the grammar, or the file's length if it ends too early.
     Damaged { at: u64 },
     /// A call of the bench failed.
     Failed,
@@ -240,7 +240,7 @@ impl Journal {
         ensures sent { B.sent bench.new ≡ B.sent bench.old }
         ensures ticks { B.told → OnOk result (B.moment bench.new ≡ B.moment bench.old + 4) }
 
-        // Where memory is wanted nothing was called and nothing changed. It doesn't fail by itself.
+        // If memory runs out, nothing was called and nothing changed. It doesn't fail by itself.
         ensures no_memory { IsErrOf result AppendFault.NoMemory → (bench.new ≡ bench.old) × (self.new ≡ self.old) }
         ensures fault { TellsFault B.Bench bench.old bench.new (IsErrOf result AppendFault.Failed) }
 

@@ -1,4 +1,4 @@
--- The total over a group changes where the number of one of its rows does.
+-- The total over a group changes if the number of one of its rows does.
 use Rattle.std.proofs.Common.{◌≡◌, ℕ, ◌+◌, ◌<◌, Bool, true, false, ◌==◌, ◌||◌, ℤ, pos, List, [], ◌∷◌, length, refl, sym, ap, ◌∙◌, arith, inl, inr}
 use Rattle.std.specs.Prelude.{◌+ℤ◌, slice_set}
 use Rattle.std.proofs.lemmas.Int.{ints}

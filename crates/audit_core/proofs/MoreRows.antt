@@ -49,7 +49,7 @@ module _ (w v : List ℤ) (m : ℕ) (same : (r : ℕ) → r < m → number_at w 
 
 -- ---- what of a column is guarded
 
--- the same over n rows, where these groups are protected
+-- the same over n rows, with these groups protected
 abbrev pub grown : ℕ → List (List ℕ) → Known → Known
 grown n groups known = with_groups (over_rows n known) groups
 
@@ -57,7 +57,7 @@ grown n groups known = with_groups (over_rows n known) groups
 abbrev pub ReadsFirst : ℕ → (List ℤ → ℤ) → Type 0
 ReadsFirst m value = (w v : List ℤ) → ((r : ℕ) → r < m → number_at w r ≡ number_at v r) → value w ≡ value v
 
--- what changes where the number of a new row is one more
+-- what changes if the number of a new row is one more
 pub record ReadsNew (m n : ℕ) (value : List ℤ → ℤ) : Type 0 where
   pub row : ℕ
   pub new : m ≤ row
@@ -230,7 +230,7 @@ module _ (law : NarrowOrWide) (known : Known) (rows : List ℕ) (n : ℕ) (are :
     )
     within_for Max = (λ h. h, λ h. h)
 
-    -- what was released is released over more rows, where each group with old rows alone was protected
+    -- what was released is released over more rows, if each group with old rows alone was protected
     pub released_stays : ((group : List ℕ) → Contains groups group → IsOldOrNew known n group) → IsDecision known rows Released →
         IsDecision (grown n groups known) rows Released
     released_stays each d = ((within_for known.kind).0 d.0, λ bad. d.1 (danger_was known rows n are le groups each bad))

@@ -22,7 +22,7 @@ pub record HasLast (column : ℕ) (history : List Answered) : Type 0 where
   pub own : last.column ≡ column
   pub answers : answers_of column history ≡ answers_of column (take place history) ++ answer_in last ∷ []
 
--- the answers with one more in front, where it is the column's
+-- the answers with one more in front, if it is the column's
 abbrev pub led_by : Answer → Bool → List Answer → List Answer
 led_by a b answers = cond b (a ∷ answers) answers
 
@@ -54,7 +54,7 @@ later column r history found =
           ∙ ap (λ l. l ++ last ∷ []) (sym (answers_of-cons column r front));
     }
 
--- where none is after it, the first record is the last, unless it is another column's
+-- if none is after it, the first record is the last, unless it is another column's
 only : (column : ℕ) (r : Answered) (history : List Answered) (b : Bool) → (r.column == column) ≡ b → answers_of column history ≡ [] →
     (answers_of column (r ∷ history) ≡ []) ⊎ HasLast column (r ∷ history)
 only column r history true own none = inr (record {

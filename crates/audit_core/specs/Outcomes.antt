@@ -16,7 +16,7 @@ use Rattle.audit_core.specs.declared.outcome.Outcome.TheVariants.{Answer, Denied
 abbrev pub true_answer : Table → ℕ → Rows → ℤ
 true_answer table column rows = truth (kind_at table.setting.shape column) (list_of table.secrets column) rows.list
 
--- what becomes of a question after a history: it is refused where the history is full, else denied where the decision
+-- what becomes of a question after a history: it is refused if the history is full, else denied if the decision
 -- is a denial, else answered truly
 abbrev pub IsOutcome : Table → List Answered → Asked → Outcome → Type 0
 IsOutcome table history asked Full = most_records ≤ length history

@@ -30,7 +30,7 @@ use Rattle.audit_session.proofs.Planned.{replies_to, replies_are, records_are, b
 use Rattle.audit_session.proofs.ToldPlans.{can_all, some_replies}
 use Rattle.audit_session.proofs.Sending.{SendsPart}
 
--- a refusal is want of memory or another
+-- a refusal is for lack of memory, or another
 pub by_fault : {X Claim : Type 0} (fault : StoreFault) → (IsErrOf {T = X} (Err fault) NoMemory → Claim) → ((IsErrOf {T = X} (Err fault) NoMemory → ⊥) → Claim) →
     Claim
 by_fault NoMemory same other = same refl
@@ -83,7 +83,7 @@ module _ {B : Type 0} (bench : Ghosts B) (old mid : B) (secret : SecretView) (pr
       ))
       found.1) keeps.moments
 
-  -- where nothing was called
+  -- if nothing was called
   pub nothing_called : mid ≡ old → ((image bytes : List ℕ) → bench.since old (bench.moment old) image bytes → bench.leaves old image × (bytes ≡ bench.sent old))
       → IsQuiet bench old → stands_of secret.shape (bench.file old) history
       → LeavesOnly bench old mid (InGroup (IsReplyOf (secret_table secret protected)) (stands_of secret.shape) history plans (bench.sent old))

@@ -53,7 +53,7 @@ pub all_read : (input pending left : List ℕ) (taken : ℕ) → pending ++ left
 all_read input [] left taken none read within = (none, omega (arith, read, within, ap (λ (l : List ℕ). length l) none))
 all_read input (byte ∷ pending) left taken none read within = let never : ⊥ = cc in absurd never
 
--- an answer that refused for want of memory alone leaves all as it stood
+-- an answer that refused only because memory ran out leaves all as it stood
 pub rests_by : {B X : Type 0} (fault : EndFault) → (IsErrOf {T = X} (Err fault) end.Input → ⊥) → (IsErrOf {T = X} (Err fault) end.Limit → ⊥) →
     (IsErrOf {T = X} (Err fault) end.Bench → ⊥)
     → (bench : Ghosts B) (old mid new : B) (was now : StoreContents) → (IsErrOf {T = X} (Err fault) end.NoMemory → (new ≡ mid) × (now.history ≡ was.history))

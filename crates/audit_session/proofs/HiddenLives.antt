@@ -60,7 +60,7 @@ module _ (w v : List ℤ) (m : ℕ) (same : (r : ℕ) → r < m → number_at w 
 
 -- ---- secrets that go on with zeros
 
--- each list with so many zeros behind it
+-- each list with so many zeros after it
 abbrev pub longer_by : ℕ → Secrets → Secrets
 longer_by k lists = map (λ w. w ++ replicate k (pos 0)) lists
 
@@ -108,7 +108,7 @@ lengths_behind m k [] all = tt
 lengths_behind m k (w ∷ lists) all =
     (length-append w (replicate k (pos 0)) ∙ omega (arith, all.0, length-replicate k (pos 0)), lengths_behind m k lists all.1)
 
--- with zeros behind them the lists of the first rows are secrets of the table
+-- with zeros after them the lists of the first rows are secrets of the table
 pub are_longer : (shape : Shape) (m : ℕ) (lists : Secrets) → m ≤ shape.rows → AreSecrets (over m shape) lists →
     AreSecrets shape (longer_by (shape.rows - m) lists)
 are_longer shape m lists le are = record {

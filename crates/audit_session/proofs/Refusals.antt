@@ -16,7 +16,7 @@ no_more is = let none : ⊥ = cc in absurd none
 pub no_end : {E P : Type 0} → (let given : Result Bool E = Ok true in given) ≡ Ok false → P
 no_end is = let none : ⊥ = cc in absurd none
 
--- a refusal is no answer
+-- a refusal isn't an answer
 pub no_answer : {X E P : Type 0} (answer : Result X E) (x : X) → IsErr answer → answer ≡ Ok x → P
 no_answer (Ok y) x is same = absurd (false≢true is)
 no_answer (Err e) x is same = let none : ⊥ = cc in absurd none
@@ -26,7 +26,7 @@ pub refusal : {X E : Type 0} (answer : Result X E) (fault : E) → IsErr answer 
 refusal (Ok x) fault is = absurd (false≢true is.0)
 refusal (Err e) fault is = cc
 
--- want of memory is no other fault
+-- running out of memory isn't another fault
 pub memory_no_input : {X : Type 0} (answer : Result X EndFault) → answer ≡ Err end.NoMemory → answer ≡ Err end.Input → ⊥
 memory_no_input answer same is = cc
 
@@ -57,7 +57,7 @@ pub no_call : {X Y : Type 0} (given : StoreFault) (answer : Result X EndFault) �
 no_call store.Failed answer same other is = other same
 no_call store.NoMemory answer same other is = cc
 
--- a call that failed is no want of memory
+-- a call that failed isn't running out of memory
 pub bench_no_memory : {X P : Type 0} (answer : Result X EndFault) → answer ≡ Err end.Bench → answer ≡ Err end.NoMemory → P
 bench_no_memory answer same is = let none : ⊥ = cc in absurd none
 

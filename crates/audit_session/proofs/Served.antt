@@ -129,7 +129,7 @@ module _ {P B : Type 0} (source : SourceGhosts P) (bench : Ghosts B) (columns : 
 
   -- ---- ends before the next group
 
-  -- the groups so far, where these are the first lines
+  -- the groups so far, if these are the first lines
   groups_served : bench.told → (more : List CountedLine) → groups batch served.answered.count more ≡ served.answered.lines →
       Serves base first_store.history (groups batch served.answered.count more) store.history (bench.sent first) (bench.sent at)
   groups_served told more is = record {

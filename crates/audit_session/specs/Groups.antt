@@ -46,7 +46,7 @@ ArePlans columns public [] (plan ∷ plans) = ⊥
 ArePlans columns public (line ∷ lines) [] = ⊥
 ArePlans columns public (line ∷ lines) (plan ∷ plans) = IsPlan columns public line plan × ArePlans columns public lines plans
 
--- lines were read, where the source tells them the first of the rest, and these are their plans
+-- lines were read, if the source tells them the first of the rest, and these are their plans
 pub record Gathers (told : Type 0) (columns : List Column) (public : PublicView) (rest left : List ℕ) (ended : Bool) (plans : List Plan) : Type 0 where
   pub lines : List CountedLine
   pub planned : ArePlans columns public lines plans
@@ -138,7 +138,7 @@ pub record AnswersGroup {B : Type 0} (bench : Ghosts B) (old new : B) (table : T
   pub sent_is : bench.told → bench.sent new ≡ bench.sent old ++ bytes_of replies
   pub calls : bench.told → bench.moment new ≡ bench.moment old + length plans + calls_for (records_of replies)
 
--- a stop of a session over the lines that were read; they are the first of these where the source tells them
+-- a stop of a session over the lines that were read; they are the first of these if the source tells them
 abbrev pub StopsAmong : Type 0 → Database → ℕ → List Answered → List CountedLine → List ℕ → List ℕ → List ℕ → Type 0
 StopsAmong told base batch history lines before image sent =
     ((read : List CountedLine) × StopsOver base batch history read before image sent) × (told → StopsOver base batch history lines before image sent)

@@ -106,7 +106,7 @@ pub(crate) fn gather<P: Source>(
     ensures room { vec_capacity group.new.replies ≡ vec_capacity group.old.replies }
     ensures steady { OnOk result (P.faults source.new ≡ P.faults source.old) }
 
-    // Where it is cut short, by a failed read or at the limit, there are fewer lines than a group has.
+    // If it is cut short, by a failed read or at the limit, there are fewer lines than a group has.
     ensures ungathered { IfErr result (IsUngathered P.Source batch planner.old planner.new source.old source.new) }
     ensures cuts { Cuts P.Source planner.old planner.new source.old source.new }
 {

@@ -162,7 +162,7 @@ pub fn serve<P: Source, B: Bench>(
     ensures stands { B.told → result ≢ Err EndFault.Bench → StandsFor (B.file bench.new) store.new.secret.shape store.new.history }
     ensures quiet { B.told → IsQuiet B.Bench bench.old → result ≢ Err EndFault.Bench → IsQuiet B.Bench bench.new }
 
-    // After Ok it may be called again. Only where the bench failed or memory was wanted may the store be left unusable, and
+    // After Ok it may be called again. Only if the bench failed or memory ran out may the store be left unusable, and
     // while it is usable the file is as the store left it.
     ensures again { OnOk result ((store.new.usable ≡ true) × (B.told → IsAsLeft (B.file bench.new) store.new)) }
     ensures usable { result ≢ Err EndFault.Bench → result ≢ Err EndFault.NoMemory → store.new.usable ≡ true }

@@ -124,7 +124,7 @@ module _ (shape : Shape) (history : List Answered) (table : Table) where
   legal_has_no_cause NoMemory same legal cause = tt
 
 module _ (file : List ℕ) (table : Table) where
-  -- where the journal was not read back, what is due of the start is due of the reading
+  -- if the journal wasn't read back, what is due of the start is due of the reading
   pub due_of_reading : (fault : BackFault) (due : StartFault) → ((IsMade file → ⊥) → IsDueOrGaveUp back.NotMade fault)
       → ((at : ℕ) → IsMade file → BreaksAt file at → IsDueOrGaveUp (back.Damaged at) fault)
       → ((shape : Shape) (history : List Answered) (gate : ℕ) → StandsAt file shape history gate → GaveUp fault) → (GivesUp due → ⊥) →
@@ -137,7 +137,7 @@ module _ (file : List ℕ) (table : Table) where
   due_of_reading fault Failed unmade damaged whole some cause = absurd (some tt)
   due_of_reading fault NoMemory unmade damaged whole some cause = absurd (some tt)
 
-  -- where it was, the cause lies in its history
+  -- if it was, the cause lies in its history
   pub due_of_history : (shape : Shape) (history : List Answered) (due : StartFault) → ((IsMade file → ⊥) → ⊥) → ((at : ℕ) → IsMade file → BreaksAt file at → ⊥)
       → ((other : Shape) (others : List Answered) (gate : ℕ) → StandsAt file other others gate → (shape ≡ other) × (history ≡ others)) → (GivesUp due → ⊥) →
       StartCause due file table → HistoryCause due shape history table

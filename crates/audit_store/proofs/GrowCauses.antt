@@ -1,4 +1,4 @@
--- Why a journal doesn't grow: one cause at most holds, and none where its history goes on over all rows.
+-- Why a journal doesn't grow: one cause at most holds, and none if its history goes on over all rows.
 use Rattle.std.proofs.Common.{◌≡◌, ◌⊎◌, ℕ, ◌<◌, inl, inr, List, refl, sym, ap, subst, ◌∙◌, arith, Result, Err}
 use Rattle.std.specs.Prelude.{IsErrOf}
 use Rattle.audit_types.specs.declared.shapes.Shape.{Shape}
@@ -68,7 +68,7 @@ grow_cause_in_file file shape history gate table (Illegal place) stands cause = 
 grow_cause_in_file file shape history gate table Failed stands cause = absurd cause
 grow_cause_in_file file shape history gate table NoMemory stands cause = tt
 
--- and it can grow where its history goes on
+-- and it can grow if its history goes on
 abbrev pub can_grow : (file : List ℕ) (shape : Shape) (history : List Answered) (gate : ℕ) (table : Table) → StandsAt file shape history gate →
     GrowsFrom shape history table → CanGrow file table
 can_grow file shape history gate table stands grows = record {
@@ -127,7 +127,7 @@ module _ (shape : Shape) (history : List Answered) (table : Table) where
   one_grow_cause (Illegal a) (Illegal b) some cause other =
       inl (ap grow_fault (illegal_once table (widened table.setting.shape.rows history) a b cause.1 other.1))
 
-  -- where the history goes on there is none
+  -- if the history goes on there is none
   pub grows_has_no_cause : (fault : GrowFault) → GrowsFrom shape history table → GrowHistoryCause fault shape history table → GivesUpGrowing fault
   grows_has_no_cause NotMade grows cause = absurd cause
   grows_has_no_cause (Damaged at) grows cause = absurd cause
@@ -140,7 +140,7 @@ module _ (shape : Shape) (history : List Answered) (table : Table) where
   grows_has_no_cause NoMemory grows cause = tt
 
 module _ (file : List ℕ) (table : Table) where
-  -- where the journal was not read back, what is due is due of the reading
+  -- if the journal wasn't read back, what is due is due of the reading
   pub grow_due_of_reading : (fault : BackFault) (due : GrowFault) → ((IsMade file → ⊥) → IsDueOrGaveUp back.NotMade fault)
       → ((at : ℕ) → IsMade file → BreaksAt file at → IsDueOrGaveUp (back.Damaged at) fault)
       → ((shape : Shape) (history : List Answered) (gate : ℕ) → StandsAt file shape history gate → GaveUp fault) → (GivesUpGrowing due → ⊥) →
@@ -173,7 +173,7 @@ module _ (file : List ℕ) (table : Table) where
         let read = fewer_is_read can.rows can.history can.fewer can.stands in
         record { fewer = read.0; legal = subst (λ (h : List Answered). IsLegal table (widened table.setting.shape.rows h)) (sym read.1) can.has }
 
-    -- where it was, the cause lies in its history
+    -- if it was, the cause lies in its history
     pub grow_due_of_history : (due : GrowFault) → ((IsMade file → ⊥) → ⊥) → ((at : ℕ) → IsMade file → BreaksAt file at → ⊥) → (GivesUpGrowing due → ⊥) →
         GrowCause due file table → GrowHistoryCause due shape history table
     grow_due_of_history NotMade made whole some cause = made cause
@@ -191,7 +191,7 @@ module _ (file : List ℕ) (table : Table) where
     grow_due_of_history Failed made whole some cause = absurd (some tt)
     grow_due_of_history NoMemory made whole some cause = absurd (some tt)
 
--- what a history is found to be is no failed call
+-- what a history is found to be isn't a failed call
 pub history_no_call : {X : Type 0} (shape : Shape) (history : List Answered) (table : Table) (fault : GrowFault) → GrowHistoryCause fault shape history table →
     IsErrOf {T = X} (Err fault) Failed → ⊥
 history_no_call shape history table NotMade cause is = absurd cause

@@ -21,12 +21,12 @@ use Rattle.audit_store.specs.declared.outcome.StoreFault.TheVariants.{Failed, No
 abbrev pub Refuses : {X : Type 0} → Result X StoreFault → StoreFault → Type 0
 Refuses answer given = IsErr answer × IsErrAnd answer (λ e. e ≡ given)
 
--- what refuses for want of memory has that fault
+-- what refuses because memory ran out has that fault
 pub is_memory : {X : Type 0} (answer : Result X StoreFault) → Refuses answer NoMemory → IsErrOf answer NoMemory
 is_memory (Ok x) refuses = absurd (false≢true refuses.0)
 is_memory (Err e) refuses = cc
 
--- want of memory is no failed call
+-- running out of memory isn't a failed call
 pub memory_no_call : {X P : Type 0} (answer : Result X StoreFault) → Refuses answer NoMemory → IsErrOf answer Failed → P
 memory_no_call (Ok x) refuses is = absurd (false≢true refuses.0)
 memory_no_call (Err e) refuses is = let none : ⊥ = cc in absurd none
@@ -36,7 +36,7 @@ pub is_failed : {X : Type 0} (answer : Result X StoreFault) → Refuses answer F
 is_failed (Ok x) refuses = absurd (false≢true refuses.0)
 is_failed (Err e) refuses = cc
 
--- a failed call is no want of memory
+-- nor is a failed call running out of memory
 pub failed_no_memory : {X P : Type 0} (answer : Result X StoreFault) → Refuses answer Failed → IsErrOf answer NoMemory → P
 failed_no_memory (Ok x) refuses is = absurd (false≢true refuses.0)
 failed_no_memory (Err e) refuses is = let none : ⊥ = cc in absurd none
@@ -68,7 +68,7 @@ read_failed (back.Damaged at) fault same is = let none : ⊥ = cc in absurd none
 read_failed back.Failed fault same is = refl
 read_failed back.NoMemory fault same is = let none : ⊥ = cc in absurd none
 
--- and where that call failed, the start did
+-- and if that call failed, the start did
 pub start_failed : {X Y : Type 0} (read : BackFault) (fault : StartFault) → fault ≡ start_fault read → IsErrOf {T = Y} (Err read) back.Failed →
     IsErrOf {T = X} (Err fault) start.Failed
 start_failed back.NotMade fault same is = let none : ⊥ = cc in absurd none
@@ -110,7 +110,7 @@ is_refusal {X} {E} (Err e) given refuses = ap (λ (f : E). refusal f) refuses.1
     refusal : E → Result X E
     refusal f = Err f
 
--- a fault that is told of one answer is told of another that fails alike
+-- a fault that is reported of one answer is reported of another that fails alike
 pub told_as : {D : Type 0} (bench : Ghosts D) (old new : D) (Told Answered : Type 0) → (Told → Answered) → (Answered → Told) → TellsFault bench old new Told →
     TellsFault bench old new Answered
 told_as bench old new Told Answered to from tells = record {

@@ -86,7 +86,7 @@ pub more_released : (old new shown made : List Answered) (released now : ℕ) �
 more_released old new shown made released now all is now_is view =
     ap (λ n. take n new) now_is ∙ take-length new ∙ is ∙ ap (λ h. h ++ made) (sym (take-length old) ∙ ap (λ n. take n old) (sym all) ∙ view)
 
--- where nothing is called the file stands for the history before
+-- if nothing is called the file stands for the history before
 pub nothing_appended : {D : Type 0} (bench : Ghosts D) (at : D) (shape : Shape) (history group : List Answered) (gate : ℕ)
     → ((image sent : List ℕ) → bench.since at (bench.moment at) image sent → bench.leaves at image × (sent ≡ bench.sent at)) → IsQuiet bench at
     → StandsAt (bench.file at) shape history gate → LeavesOnly bench at at (IsBeforeOrAfter shape history group (bench.sent at))

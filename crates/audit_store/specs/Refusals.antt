@@ -2,7 +2,7 @@
 use Rattle.std.proofs.Common.{◌≡◌, Result, Ok, Err, ap}
 use Rattle.std.specs.Prelude.{IsErrOf}
 
--- what was given is no refusal
+-- what was given isn't a refusal
 pub no_refusal : {X E P : Type 0} (x : X) (e : E) → IsErrOf (Ok x) e → P
 no_refusal x e is = let none : ⊥ = cc in absurd none
 

@@ -49,12 +49,12 @@ pub record IsAuditedBy (table : Table) (core : Audited) (released : ℕ) (usable
 abbrev pub IsAsLeft : List ℕ → StoreContents → Type 0
 IsAsLeft file store = StandsAt file store.secret.shape store.history store.journal.gate
 
--- the calls of the bench for a group of records: four, and none where there is no record
+-- the calls of the bench for a group of records: four, and none if there is no record
 abbrev pub calls_for : List Answered → ℕ
 calls_for [] = 0
 calls_for (r ∷ records) = 4
 
--- the file is as it was where there is no record, and else has the records as one group behind the gate
+-- the file is as it was if there is no record, and else has the records as one group behind the gate
 abbrev pub HasGroup : Shape → List Answered → ℕ → List ℕ → List ℕ → Type 0
 HasGroup shape [] gate old new = new ≡ old
 HasGroup shape (r ∷ records) gate old new = AppendsGroup shape (r ∷ records) gate old new

@@ -97,7 +97,7 @@ pub fn decide_all(
     Ok(outcomes)
 }
 
-/// Appends records to the journal as one group, where there are any. All memory is taken before the first call of the
+/// Appends records to the journal as one group, if there are any. All memory is taken before the first call of the
 /// bench.
 pub fn keep<B: Bench>(
     journal: &mut Journal,

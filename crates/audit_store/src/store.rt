@@ -50,7 +50,7 @@ impl Model for Store {
     ghost invariant = { λ s. IsStore (record { secret = s.secret; protected = s.core.setting.protected; history = take s.released s.core.history; journal = s.journal; usable = s.usable }) × IsAuditedBy (secret_table s.secret s.core.setting.protected) s.core s.released s.usable };
 }
 
-// The store of a history that was read back, where it is that of the secrets' table.
+// The store of a history that was read back, if it is that of the secrets' table.
 fn opened(
     alloc: Global,
     secret: Secret,
@@ -139,7 +139,7 @@ impl Store {
         ensures any_moment { B.told → IsQuiet B.Bench bench.old → (grown : CanGrow (B.file bench.old) (secret_table secret protected.items))
             → LeavesOnly B.Bench bench.old bench.new (IsBeforeOrGrown (over grown.rows secret.shape) grown.history secret.shape.rows (B.sent bench.old)) }
 
-        // Where it can't grow nothing is written, at any moment; nor where memory runs out.
+        // If it can't grow, nothing is written, at any moment; nor if memory runs out.
         ensures untouched { B.told → IsQuiet B.Bench bench.old → (CanGrow (B.file bench.old) (secret_table secret protected.items) → ⊥)
             → LeavesOnly B.Bench bench.old bench.new (IsUntouched (B.file bench.old) (B.sent bench.old)) }
         ensures kept { OnErr result (result ≢ Err GrowFault.Failed → B.file bench.new ≡ B.file bench.old) }
@@ -188,7 +188,7 @@ impl Store {
         ensures protected { self.new.protected ≡ self.old.protected }
         ensures is { IsStore self.new }
 
-        // A crash at any moment leaves the history before, or that with the records of the group; where outcomes are given,
+        // A crash at any moment leaves the history before, or that with the records of the group; if outcomes are given,
         // with theirs. A group that makes no record leaves the bench as it was, any other takes four calls.
         ensures any_moment { B.told → IsQuiet B.Bench bench.old → (IsErrOf result StoreFault.NoMemory → ⊥)
             → Keeps B.Bench bench.old bench.new (table_of self.old) self.old.history asked.now (B.sent bench.old) }

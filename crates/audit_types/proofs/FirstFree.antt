@@ -14,7 +14,7 @@ not_before form (x ∷ row) j = at_least (is_pivot form j || is_zero x) j (first
     at_least true j later h = omega arith
     at_least false j later h = omega arith
 
--- the row is not 0 at its first free column, where it has one
+-- the row is not 0 at its first free column, if it has one
 pub first_free_entry : (form : List (List ℤ)) (row : List ℤ) (j k : ℕ) → first_free form row j ≡ j + k → k < length row → number_at row k ≢ pos 0
 first_free_entry form [] j k e l = absurd (omega arith)
 first_free_entry form (x ∷ row) j k e l =

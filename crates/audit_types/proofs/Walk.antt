@@ -44,11 +44,11 @@ module _ (words : List ℕ) (spot : Spot) (place : ℕ) (done : spot.word ≡ 0)
     ]
   ]
 
-  -- none is left at all where no word has one
+  -- none is left at all if no word has one
   pub nothing_left : place ≡ 16 → rows_from words spot ≡ []
   nothing_left end = rows_that_none (is_left words spot) 1024 (λ r l. none_before r (omega arith))
 
-  -- and where one has, the same rows are left from there on
+  -- and if one has, the same rows are left from there on
   pub same_left : (next : Spot) → next.place ≡ place → spot.place < place → next.word ≡ get_or words place 0 → rows_from words next ≡ rows_from words spot
   same_left next is behind word = rows_that_agree (is_left words next) (is_left words spot) 1024 (λ r l. elim (cases_lt (r / 64) place) [
     | inl before ↦ before_spot words next r (omega arith) ∙ sym (none_before r before)

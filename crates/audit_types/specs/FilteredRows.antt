@@ -34,7 +34,7 @@ has_kept b x r rest p later e h = elim (cases_eq x r) [
   | inr other ↦ has_there b x r rest p later h (ne_eqb x r other)
 ]
 
--- a row is there where it was and passes
+-- a row is there if it was and passes
 pub has_filtered : (p : ℕ → Bool) (rows : List ℕ) (r : ℕ) → has_row (filter p rows) r ≡ (has_row rows r && p r)
 has_filtered p [] r = refl
 has_filtered p (x ∷ rows) r = has_kept (p x) x r (filter p rows) p (has_row rows r) refl (has_filtered p rows r)

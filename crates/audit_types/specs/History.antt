@@ -43,7 +43,7 @@ pub record Setting : Type 0 where
   pub shape : Shape
   pub protected : List Protected
 
--- what may be read of a table of this shape, where these groups are protected
+-- what may be read of a table of this shape, with these groups protected
 abbrev pub setting_of : Shape → List Protected → Setting
 setting_of shape protected = record { shape = shape; protected = protected }
 

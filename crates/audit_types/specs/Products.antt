@@ -64,7 +64,7 @@ times_assoc (negsuc (suc n)) c r =
     let minus = neg-times c r in
     omega (arith, ints)
 
--- a product with a positive number is 0 only where the other factor is
+-- a product with a positive number is 0 only if the other factor is
 pub zero_factor : (c p : ℤ) → c *ℤ p ≡ pos 0 → pos 0 <ℤ p → c ≡ pos 0
 zero_factor c p e h =
     let sizes : unsigned_abs c * unsigned_abs p ≡ 0 = sym (unsigned_abs-mul c p) ∙ ap unsigned_abs e in
@@ -73,7 +73,7 @@ zero_factor c p e h =
       | inr n ↦ let more = le-mul_of_pos_right {m = unsigned_abs c} (unsigned_abs p) (omega arith) in absurd (let some = size_positive p h in omega arith)
     ])
 
--- a product is 0 only where a factor is
+-- a product is 0 only if a factor is
 pub zero_product : (c p : ℤ) → c *ℤ p ≡ pos 0 → c ≢ pos 0 → p ≡ pos 0
 zero_product c p e h = zero_size p (elim (cases_eq (unsigned_abs p) 0) [
   | inl z ↦ z

@@ -42,7 +42,7 @@ pub total-times : (k : ℤ) (f : ℕ → ℤ) (n : ℕ) → total (λ j. k *ℤ 
 total-times k f zero = sym (*ℤ-zero k)
 total-times k f (suc n) = let front = total-times k f n in let last = times-add k (total f n) (f n) in omega (arith, ints)
 
--- where only one value is not 0, the total is that value
+-- if only one value isn't 0, the total is that value
 pub total-single : (f : ℕ → ℤ) (n p : ℕ) → p < n → ((j : ℕ) → j < n → j ≢ p → f j ≡ pos 0) → total f n ≡ f p
 total-single f zero p l h = absurd (omega arith)
 total-single f (suc n) p l h = elim (cases_eq p n) [

@@ -287,7 +287,7 @@ turned a b p q = grind (arith, nat_tests)
 
 module _ (a words : List ℕ) (n : ℕ) (p : AreWords n a) (l : length words ≡ 16)
     (flipped : (k : ℕ) → k < 16 → get_or words k 0 ≡ bit_and (bit_not w64 (get_or a k 0)) (row_mask n k)) where
-  -- a row is there where it is below n and was not
+  -- a row is there if it is below n and wasn't
   bit-flip : (r : ℕ) → r < 1024 → has_bit words r ≡ (nat_lt r n && not (has_bit a r))
   bit-flip r small =
       let bit : r % 64 < 64 = omega arith in

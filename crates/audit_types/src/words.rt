@@ -56,7 +56,7 @@ pub(crate) fn count_bits(words: &[u64; 16]) -> u16
     count
 }
 
-// The first place from here on whose word has a bit, and 16 where none has.
+// The first place from here on whose word has a bit, and 16 if none has.
 pub(crate) fn first_word(words: &[u64; 16], from: usize) -> usize
     requires { from ≤ 16 }
     ensures from { from ≤ result }

@@ -13,7 +13,7 @@ fn main(rt: HostRuntime) -> ExitCode {
     let status = match words_of(&rt) {
         Ok(words) => run_on_files(&rt, &words),
         Err(error) if error.kind() == io::ErrorKind::OutOfMemory => Status::NoMemory,
-        // A word that is no text is in no command.
+        // An argument that isn't text is in no command.
         Err(_) => Status::BadWords,
     };
     if status != Status::Done {
@@ -22,7 +22,7 @@ fn main(rt: HostRuntime) -> ExitCode {
     ExitCode::from(status_code(&status))
 }
 
-// The words after the program's name.
+// The arguments after the program's name.
 fn words_of(rt: &HostRuntime) -> io::Result<Vec<String>> {
     let mut words = Vec::new(rt.alloc());
     for word in std::env::args(rt)?.skip(1) {
@@ -31,7 +31,7 @@ fn words_of(rt: &HostRuntime) -> io::Result<Vec<String>> {
     Ok(words)
 }
 
-// The journal. `audit` only reads it, so a copy will do that may only be read: no other command has this word.
+// The journal. `audit` only reads it, so a copy will do that may only be read: no other command has this argument.
 fn journal<'a>(rt: &'a HostRuntime, words: &Vec<String>) -> FileBench<'a, HostRuntime> {
     if words.iter().any(|word| word.as_str() == "audit") {
         FileBench::to_read(rt, JOURNAL)
@@ -59,7 +59,7 @@ fn run_on_files(rt: &HostRuntime, words: &Vec<String>) -> Status {
     )
 }
 
-// Prints the text of a status to standard error, where there is memory for it.
+// Prints the text of a status to standard error, if there is memory for it.
 fn tell(rt: &HostRuntime, status: &Status) {
     if let Ok(text) = status_text(rt.alloc(), status) {
         let _ = eprintln!(rt; "{text}");

@@ -36,14 +36,14 @@ report_ends (Ok done) base history before after all part = all
 report_ends (Err report.Failed) base history before after all part = part
 report_ends (Err report.NoMemory) base history before after all part = part
 
--- the count of the bench rose where a send failed, and no other count changed
+-- the count of the bench rose if a send failed, and no other count changed
 pub report_faults : {X : Type 0} (ended : Result X AuditFault) (before : FaultCounts) (bench : ℕ) → (ended ≡ Err report.Failed → Rose before.bench bench) →
     (ended ≢ Err report.Failed → bench ≡ before.bench) → FaultCause (audit_status ended) before (record before { bench = bench })
 report_faults (Ok done) before bench rose same = ap (λ (n : ℕ). record before { bench = n }) (same (not_both done report.Failed))
 report_faults (Err report.Failed) before bench rose same = (rose refl, refl)
 report_faults (Err report.NoMemory) before bench rose same = ap (λ (n : ℕ). record before { bench = n }) (same (search rules))
 
--- where nothing failed, it is done, or there was no memory
+-- if nothing failed, it is done, or there was no memory
 pub report_wants : {X : Type 0} (ended : Result X AuditFault) (before after : FaultCounts) → FaultCause (audit_status ended) before after →
     NothingFailed before after → IsDoneOrWants (audit_status ended)
 report_wants (Ok done) before after rose none = inl refl

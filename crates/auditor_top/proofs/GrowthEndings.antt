@@ -42,7 +42,7 @@ growth_words (Err (grow.Illegal place)) = refl
 growth_words (Err grow.Failed) = tt
 growth_words (Err grow.NoMemory) = tt
 
--- the file is the cause of a refusal, and can grow where it is done
+-- the file is the cause of a refusal, and can grow if it is done
 pub growth_file : {X : Type 0} (ended : Result X GrowFault) (file : List ℕ) (table : Guarded) → OnOk ended (CanGrow file table) →
     ((fault : GrowFault) → ended ≡ Err fault → GrowCause fault file table) → FileCause (growing_status ended) Grow file table
 growth_file (Ok done) file table can cause = can
@@ -78,7 +78,7 @@ growth_no_input (Err (grow.Illegal place)) is = cc
 growth_no_input (Err grow.Failed) is = cc
 growth_no_input (Err grow.NoMemory) is = cc
 
--- the count of the bench rose where a call of it failed, and no other count changed
+-- the count of the bench rose if a call of it failed, and no other count changed
 pub growth_faults : {X : Type 0} (ended : Result X GrowFault) (before : FaultCounts) (bench : ℕ) → (IsErrOf ended grow.Failed → Rose before.bench bench) →
     ((IsErrOf ended grow.Failed → ⊥) → bench ≡ before.bench) → FaultCause (growing_status ended) before (record before { bench = bench })
 growth_faults (Ok done) before bench rose same = same_counts before before.input bench refl (same (search rules))
@@ -136,7 +136,7 @@ growth_at_lines (Err (grow.Illegal place)) follows kept = follows (kept (λ is. 
 growth_at_lines (Err grow.Failed) follows kept = tt
 growth_at_lines (Err grow.NoMemory) follows kept = tt
 
--- what holds where it is done
+-- what holds if it is done
 pub growth_done : {X P : Type 0} (ended : Result X GrowFault) → growing_status ended ≡ Done → OnOk ended P → P
 growth_done (Ok done) is holds = holds
 growth_done (Err grow.NotMade) is holds = cc

@@ -25,7 +25,7 @@ one_more n = omega arith
 pub later_still : (a b c : ℕ) → a ≤ b → b ≤ c → a ≤ c
 later_still a b c first second = omega arith
 
--- ---- the fault is told as it is
+-- ---- the fault is reported as it is
 
 pub same_schema_fault : {X Y : Type 0} (a b : FileFault SchemaFault) → ◌≡◌ {A = Result X OpenFault} (Err (opening.Schema a)) (Err (opening.Schema b))
     → ◌≡◌ {A = Result Y (FileFault SchemaFault)} (Err a) (Err b)

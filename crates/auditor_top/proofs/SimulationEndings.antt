@@ -110,7 +110,7 @@ simulation_faults (Err (verdict.Disagrees line due)) before input bench input_ro
 simulation_faults (Err verdict.NoMemory) before input bench input_rose input_same bench_rose bench_same =
     same_counts before input bench (input_same (search rules)) (bench_same (search rules))
 
--- where every reply agrees, the input is within its limit and nothing failed, it is done, or there was no memory
+-- if every reply agrees, the input is within its limit and nothing failed, it is done, or there was no memory
 pub simulation_wants : FirstLinesHaveVerdicts
     → (ended : Result (Unit {0}) SimulationFault) (columns : List Column) (public : IndexView) (input left : List ℕ)
     (verdicts others : List (Replied Answered)) (before after : FaultCounts)

@@ -38,7 +38,7 @@ long_file : (columns : List Column) (bytes : List ℕ) → 16777216 < length byt
 unfolding file_fault
 long_file columns bytes long = cond-true _ _ _ (lt-ltb 16777216 (length bytes) long)
 
--- a fault is told
+-- a fault is reported
 told : {X : Type 0} (x : X) (found fault : Option TableFault) → found ≡ fault → unless_fault found x ≡ unless_fault fault x
 told x found fault is = ap (λ f. unless_fault f x) is
 
@@ -58,7 +58,7 @@ pub same_public : (columns : List Column) (before after bytes : List ℕ) → Re
     public_of columns bytes ≡ public_of columns before
 same_public columns before after bytes read = same_meaning (public_of columns) 16777216 (Err table_fault.TooLong) (long_public columns) before after bytes read
 
--- a fault that isn't want of memory is the table's own
+-- a fault that isn't running out of memory is the table's own
 pub own_table_fault : {X : Type 0} (fault : TableFault) (meant : Result X TableFault) → (fault ≡ table_fault.NoMemory → ⊥) →
     UnlessMemory fault (meant ≡ Err fault) → meant ≡ Err fault
 own_table_fault table_fault.TooLong meant other is = is

@@ -204,7 +204,7 @@ pub fn drill<B: Bench>(alloc: Global, number: u32, bench: &mut B) -> Status
     ensures complete { (schema table input spare : ℕ) → NothingFailed (counts schema table input (B.faults bench.old) spare) (counts schema table input (B.faults bench.new) spare)
         → IsDoneOrWants result }
 
-    // One send of the bench, at most one call where it failed, and none where memory is wanting.
+    // One send of the bench, at most one call if it failed, and none if memory runs out.
     ensures ends { B.told → DrillEnds result number (B.sent bench.old) (B.sent bench.new) }
     ensures calls { B.told → result ≡ Status.Done → B.moment bench.new ≡ B.moment bench.old + 1 }
     ensures one_call { B.moment bench.new ≤ B.moment bench.old + 1 }

@@ -1,4 +1,4 @@
-//! The two files that a run stands on: each is read whole, and then told what its bytes mean.
+//! The two files that a run stands on, each read whole, and what its bytes mean.
 ghost use Rattle.std.specs.Prelude.{◌≡◌, ◌≢◌, ◌≤◌, ◌+◌, true, length, IfOk, Err};
 ghost use Rattle.bench_core.specs.Causes.{Rose};
 ghost use Rattle.schema_json.specs.Reading.{schema_of, most_schema};
@@ -21,7 +21,7 @@ pub enum FileFault<F: Drop> {
     Failed,
     /// Memory ran out.
     NoMemory,
-    /// The bytes have this fault. It is never want of memory.
+    /// The bytes have this fault. It is never that memory ran out.
     Bad(F),
 }
 
@@ -110,7 +110,7 @@ fn public_in(alloc: Global, schema: &Schema, bytes: &[u8]) -> Result<Public, Fil
     }
 }
 
-/// The public part that a source's bytes mean over the columns of a schema, where the file has the public columns alone. It reads until
+/// The public part that a source's bytes mean over the columns of a schema, if the file has the public columns alone. It reads until
 /// the bytes are more than a table may have.
 pub fn public_from<P: Source>(
     alloc: Global,

@@ -86,7 +86,7 @@ pub fn start<B: Bench>(alloc: Global, opened: Opened, bench: &mut B) -> Result<S
         × (B.told → StartCause fault (B.file bench.old) (secret_table opened.table.secret protected)
         × ((history : List Answered) → StandsFor (B.file bench.old) opened.table.secret.shape history → IsLegal (secret_table opened.table.secret protected) history → GivesUp fault)) }
 
-    // The journal is only read, in two calls. One that failed is told.
+    // The journal is only read, in two calls. One that failed is reported.
     ensures reads { OnlyReads B.Bench bench.old bench.new }
     ensures uncalled { (fault : IndexFault) → result ≡ Err (NotStarted.Groups fault) → bench.new ≡ bench.old }
     ensures ticks { B.told → OnOk result (B.moment bench.new ≡ B.moment bench.old + 2) }

@@ -2,7 +2,7 @@
 use Rattle.std.proofs.Common.{◌≡◌, ◌↔◌, ℕ, ◌+◌, ◌<◌, min, List, [], ◌++◌, length, take, drop, sym, ap, ◌∙◌, arith}
 use Rattle.std.proofs.lemmas.List.{drop-drop, take-append-drop, nil_from_length}
 
--- they stand before what is left behind them, and there are none exactly where none is left
+-- they stand before what is left after them, and there are none exactly if none is left
 pub next_bytes : (bytes left buf : List ℕ) (from count room most : ℕ) → drop from bytes ≡ left → 0 < room → 0 < most
     → count ≡ min (min room most) (length left) → take count buf ≡ take count left
     → (left ≡ take count buf ++ drop (from + count) bytes) × ((count ≡ 0) ↔ (left ≡ []))

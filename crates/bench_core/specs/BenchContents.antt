@@ -67,7 +67,7 @@ passed bench call = record bench { past = bench.past ++ call ∷ []; calls = ben
 abbrev pub failed : BenchContents → BenchContents
 failed bench = record bench { calls = next_count bench.calls; faults = next_count bench.faults; last_failed = true }
 
--- a write fails: where there was room for a call, its range was touched
+-- a write fails: if there was room for a call, its range was touched
 abbrev pub failed_write : BenchContents → ℕ → ℕ → BenchContents
 failed_write bench at count = if nat_lt bench.calls bench.room.calls then record (failed bench) { past = bench.past ++ unwritten at count ∷ [] } else failed bench
 
@@ -76,7 +76,7 @@ abbrev pub failed_send : BenchContents → List ℕ → BenchContents
 failed_send bench [] = failed bench
 failed_send bench (b ∷ front) = record (failed bench) { past = bench.past ++ sending (b ∷ front) ∷ [] }
 
--- a byte that is there now, or 0x37 where it isn't stable
+-- a byte that is there now, or 0x37 if it isn't stable
 abbrev pub torn_byte : State → ℕ → ℕ
 torn_byte s place = if nat_lt place (length s.stable) && not (s.dirty place) then slice_index s.stable place else 0x37
 

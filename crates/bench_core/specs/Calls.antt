@@ -26,7 +26,7 @@ pub record OnlyReads {D : Type 0} (bench : Ghosts D) (old new : D) : Type 0 wher
   pub crash : (image : List ℕ) → bench.leaves new image → bench.leaves old image
   pub untouched : IsQuiet bench old → LeavesOnly bench old new (IsUntouched (bench.file old) (bench.sent old))
 
--- where it is answered that a call of the bench failed, exactly one did, the last; else none did
+-- if it is answered that a call of the bench failed, exactly one did, the last; else none did
 pub record TellsFault {D : Type 0} (bench : Ghosts D) (old new : D) (Answered : Type 0) : Type 0 where
   pub later : bench.faults old ≤ bench.faults new
   pub failed : Answered → Rose (bench.faults old) (bench.faults new)

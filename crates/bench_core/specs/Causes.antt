@@ -9,7 +9,7 @@ next_count count = min (count + 1) (2 ^ 64 - 1)
 abbrev pub Rose : ℕ → ℕ → Type 0
 Rose before now = now ≡ next_count before
 
--- the count of faults is one more where the call failed, and is as it was where it didn't
+-- the count of faults is one more if the call failed, and is as it was if it didn't
 pub record HasCause {T E : Type 0} (before now : ℕ) (result : Result T E) : Type 0 where
   pub later : before ≤ now
   pub failed : OnErr result (Rose before now)

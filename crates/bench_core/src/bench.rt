@@ -11,16 +11,16 @@ pub trait Bench {
     /// Its kind tells its content, as an object in memory does. A file and a terminal don't.
     ghost told: { Type 0 };
 
-    /// The file as it reads, where it tells it.
+    /// The file as it reads, if it tells it.
     ghost file: { Self → List ℕ };
 
-    /// The bytes that were sent, where it tells them.
+    /// The bytes that were sent, if it tells them.
     ghost sent: { Self → List ℕ };
 
     /// The images of the file that a crash at this moment may leave.
     ghost leaves: { Self → List ℕ → Type 0 };
 
-    /// The moment on its clock, where it tells it. A call that succeeds takes one; one that fails takes one or none.
+    /// The moment on its clock, if it tells it. A call that succeeds takes one; one that fails takes one or none.
     ghost moment: { Self → ℕ };
 
     /// The pairs of image and bytes sent that a crash at some moment from that one on might have found, within a call or

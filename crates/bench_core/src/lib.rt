@@ -2,7 +2,7 @@
 //!
 //! `Source` and `Bench` are the two traits that everything above reads and sends through. An object whose kind doesn't
 //! tell its content, as a file, promises nothing of it; an object in memory promises all. A call answers `Failed`
-//! exactly where the object's count of faults rose, unless that stands at its type's end (`cause`).
+//! exactly if the object's count of faults rose, unless that stands at its type's end (`cause`).
 #![tactic(auto)]
 
 mod bench;

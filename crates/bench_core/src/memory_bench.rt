@@ -1,4 +1,4 @@
-//! A bench in memory that fails at stated calls, and where its room is full.
+//! A bench in memory that fails at stated calls, and if its room is full.
 ghost use Rattle.std.specs.Prelude.{◌≡◌, ◌≢◌, ◌↔◌, ◌⊎◌, ◌<◌, ◌≤◌, ◌+◌, ◌-◌, ◌/◌, ◌^◌, ◌++◌, ◌∷◌, [], List, ℕ, length, IfOk, IsErr, OnErr, OnOk, IsTrue, is_err, min, take, drop, None, Some, false};
 ghost use Rattle.bench_core.specs.Causes.{HasCause, next_count};
 ghost use Rattle.bench_core.specs.Bench.{AppendsFront, Holds, Torn, Follows, Unsent, Sending, Elapses, Stays};
@@ -13,8 +13,8 @@ use audit_types::NoMemory;
 use std::alloc::Global;
 use std::marker::Model;
 
-/// Keeps the file, what is sent, and the record of its calls, from which a crash at any moment is told. Calls are
-/// numbered from 0; one fails where its number is among those to fail, where it has reached the stop, or where it would
+/// Keeps the file, what is sent, and the record of its calls, from which a crash at any moment follows. Calls are
+/// numbered from 0; one fails if its number is among those to fail, if it has reached the stop, or if it would
 /// pass the room.
 #[derive(Drop)]
 pub struct MemoryBench {
@@ -288,7 +288,7 @@ impl MemoryBench {
         self.disk.is_dirty(place)
     }
 
-    // The stable byte at a place of the file, or 0x37 where it isn't stable.
+    // The stable byte at a place of the file, or 0x37 if it isn't stable.
     fn torn_byte(&self, place: usize) -> u8
         requires { place < length (file_of self.now) }
         ensures { result ≡ torn_byte (state_of self.now) place }
@@ -343,7 +343,7 @@ impl Bench for MemoryBench {
         ensures cause { HasCause self.old.faults self.new.faults result }
         ensures last_call { self.new.last_failed ≡ is_err result }
 
-        // It fails exactly at the calls that it was given, and where no call is left.
+        // It fails exactly at the calls that it was given, and if no call is left.
         ensures fails { IsErr result ↔ IsTrue (call_fails self.old) }
         ensures done { OnOk result (self.new ≡ passed self.old other) }
         ensures failed { OnErr result (self.new ≡ failed self.old) }
@@ -366,7 +366,7 @@ impl Bench for MemoryBench {
         ensures cause { HasCause self.old.faults self.new.faults result }
         ensures last_call { self.new.last_failed ≡ is_err result }
 
-        // It fails exactly at the calls that it was given, and where no call is left.
+        // It fails exactly at the calls that it was given, and if no call is left.
         ensures fails { IsErr result ↔ IsTrue (call_fails self.old) }
         ensures done { OnOk result (self.new ≡ passed self.old other) }
         ensures failed { OnErr result (self.new ≡ failed self.old) }
@@ -391,7 +391,7 @@ impl Bench for MemoryBench {
         ensures cause { HasCause self.old.faults self.new.faults result }
         ensures last_call { self.new.last_failed ≡ is_err result }
 
-        // It fails exactly at the calls that it was given, and where its room is full. Then it touches its range alone.
+        // It fails exactly at the calls that it was given, and if its room is full. Then it touches its range alone.
         ensures fails { IsErr result ↔ IsTrue (write_fails self.old at (length piece.now)) }
         ensures done { OnOk result (self.new ≡ record (passed self.old (wrote at piece.now)) { written = self.old.written + length piece.now }) }
         ensures failed { OnErr result (self.new ≡ failed_write self.old at (length piece.now)) }
@@ -412,7 +412,7 @@ impl Bench for MemoryBench {
         ensures cause { HasCause self.old.faults self.new.faults result }
         ensures last_call { self.new.last_failed ≡ is_err result }
 
-        // It fails exactly at the calls that it was given, and where no call is left.
+        // It fails exactly at the calls that it was given, and if no call is left.
         ensures fails { IsErr result ↔ IsTrue (call_fails self.old) }
         ensures done { OnOk result (self.new ≡ passed self.old synced) }
         ensures failed { OnErr result (self.new ≡ failed self.old) }
@@ -437,7 +437,7 @@ impl Bench for MemoryBench {
         ensures cause { HasCause self.old.faults self.new.faults result }
         ensures last_call { self.new.last_failed ≡ is_err result }
 
-        // It fails exactly at the calls that it was given, and where its room is full. Then it sends half of the piece.
+        // It fails exactly at the calls that it was given, and if its room is full. Then it sends half of the piece.
         ensures fails { IsErr result ↔ IsTrue (send_fails self.old (length piece.now)) }
         ensures done { OnOk result (self.new ≡ passed self.old (sending piece.now)) }
         ensures half { OnErr result (self.new ≡ failed_send self.old (take (min (length piece.now / 2) (self.old.room.sent - length (sent_of self.old))) piece.now)) }

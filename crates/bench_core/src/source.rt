@@ -12,7 +12,7 @@ pub trait Source {
     /// Its kind tells its bytes, as an object in memory does. A file doesn't.
     ghost told: { Type 0 };
 
-    /// The bytes that are left, where it tells them.
+    /// The bytes that are left, if it tells them.
     ghost left: { Self → List ℕ };
 
     /// How often it has failed. The count never falls, and stands still at its type's end.

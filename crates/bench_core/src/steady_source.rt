@@ -6,7 +6,7 @@ ghost use Rattle.bench_core.specs.Source.{Reads};
 use crate::{Failed, Source};
 use std::marker::Model;
 
-/// Gives at each read as many of its bytes as the buffer takes, or all that are left where these are fewer.
+/// Gives at each read as many of its bytes as the buffer takes, or all that are left if these are fewer.
 #[derive(Drop)]
 pub struct SteadySource {
     bytes: Vec<u8>,

@@ -24,7 +24,7 @@ as_many (line ∷ lines) (kind ∷ kinds) are = omega (arith, as_many lines kind
 abbrev pub lines_of : List (List ℕ) → List (List ℕ)
 lines_of parts = filter (λ part. not (length part == 0)) parts
 
--- the lines of the next part, behind those of the parts before it
+-- the lines of the next part, after those of the parts before it
 one_more_part : (parts : List (List ℕ)) (count : ℕ) (part : List ℕ) → (count < length parts) × (part ≡ get_or parts count part)
     → lines_of (take (count + 1) parts) ≡ lines_of (take count parts) ++ lines_of (part ∷ [])
 one_more_part parts count part next =

@@ -23,7 +23,7 @@ pub means : schema_of schema_text ≡ Ok drill_meant
 unfolding value_of column_of columns_of groups_of items_at is_utf8 chars encode value punctuate lex content
 means = refl
 
--- a good schema has no fault but want of memory
+-- a good schema has no fault but running out of memory
 good : {X : Type 0} (fault : SchemaFault) (schema : SchemaView) → IsFaultOf fault (Ok schema) → fault ≢ NoMemory → X
 good TooLong schema is other = cc
 good NotJson schema is other = cc

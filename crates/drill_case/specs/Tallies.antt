@@ -1,4 +1,4 @@
--- How many of the lines that were sent tell what.
+-- How many of the lines that were sent say what.
 use Rattle.std.specs.Prelude.{◌≡◌, ◌⊎◌, ℕ, Bool, true, false, not, List, ◌++◌, length, filter, count_by, codes, decimal, ◌==◌}
 use Rattle.std.specs.List.{AllZip, slice_split}
 use Rattle.line_wire.specs.Lines.{is_feed}
@@ -27,7 +27,7 @@ kind_of (reply.Condition at) = Other
 kind_of reply.Empty = Other
 kind_of reply.Full = Other
 
--- a line is of the kind of its reply; one that is no reply is another
+-- a line is of the kind of its reply; one that isn't a reply is another
 abbrev pub HasKind : List ℕ → ReplyKind → Type 0
 HasKind line kind = ((r : Reply) × IsReply line r × (kind ≡ kind_of r)) ⊎ (((r : Reply) → IsReply line r → ⊥) × (kind ≡ Other))
 
@@ -69,7 +69,7 @@ pub record IsTallyOf (lines : List (List ℕ)) (tally : Tally) : Type 0 where
 
 -- ---- the lines of some bytes
 
--- what stands between line feeds, where it isn't empty
+-- what stands between line feeds, if it isn't empty
 abbrev pub lines_in : List ℕ → List (List ℕ)
 lines_in bytes = filter (λ part. not (length part == 0)) (slice_split is_feed bytes)
 

@@ -1,10 +1,10 @@
-//! What the lines tell that were sent.
+//! What the lines that were sent say.
 ghost use Rattle.std.specs.Prelude.{◌≡◌};
 ghost use Rattle.drill_case.specs.Tallies.{HasKind, kind_of};
 
 use line_wire::{Reply, read_reply};
 
-/// What a line tells that was sent.
+/// What a line that was sent says.
 #[derive(Clone, Copy)]
 pub(crate) enum ReplyKind {
     /// A sum, an average or a maximum.

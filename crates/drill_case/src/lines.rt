@@ -41,7 +41,7 @@ fn put_number(lines: &mut Vec<u8>, words: &[u8], number: u8) -> Result<(), Alloc
     lines.extend_from_slice(buffer.format(number).as_bytes())
 }
 
-// Appends the band whose rows are taken in, where the draw is for one.
+// Appends the band whose rows are taken in, if the draw is for one.
 fn put_band(lines: &mut Vec<u8>, draw: u32) -> Result<(), AllocError>
     ensures exact { OnOk result (lines.new.items ≡ lines.old.items ++ band_text draw) }
     ensures short { OnOk result (length lines.new.items ≤ length lines.old.items + 14) }

@@ -1,4 +1,4 @@
-//! How many of the lines that were sent tell what.
+//! How many of the lines that were sent say what.
 ghost use Rattle.std.specs.Prelude.{◌<◌, ◌++◌, ◌∷◌, [], List, length};
 ghost use Rattle.drill_case.specs.declared.kinds.ReplyKind.{ReplyKind};
 ghost use Rattle.drill_case.specs.Tallies.{Counts};

@@ -42,7 +42,7 @@ impl<'a, R: Files + Print> FileBench<'a, R> {
     }
 }
 
-// Where a write takes nothing, `write_all` answers an error.
+// If a write takes nothing, `write_all` answers an error.
 fn write_out<R: Print>(rt: &R, piece: &[u8]) -> io::Result<()> {
     let mut out = io::writer(rt);
     out.write_all(piece)?;

@@ -1,4 +1,4 @@
-//! The journal's file, opened at the first call on it and made at the first write where it isn't there.
+//! The journal's file, opened at the first call on it and made at the first write if it isn't there.
 ghost use Rattle.std.specs.Io.{ReadsAtMost};
 
 use crate::counting::read_on;
@@ -82,7 +82,7 @@ where
         Ok(self.opened.as_mut())
     }
 
-    // The open file to be written, which is made where it isn't there.
+    // The open file to be written, which is made if it isn't there.
     fn found_or_made(&mut self) -> io::Result<&mut Opened<R::File>> {
         self.may_write()?;
         if self.found()?.is_none() {
@@ -101,7 +101,7 @@ where
         }
     }
 
-    /// Its length, which is 0 where there is none.
+    /// Its length, which is 0 if there is none.
     pub(crate) fn length(&mut self) -> io::Result<u64> {
         match self.found()? {
             Some(opened) => Ok(opened.length),
@@ -123,13 +123,13 @@ where
     pub(crate) fn write_at(&mut self, at: u64, piece: &[u8]) -> io::Result<()> {
         let opened = self.found_or_made()?;
         is_as_long(&opened.file.metadata()?, opened.length)?;
-        // One call of the system, where a seek and a write are two.
+        // One call of the system, and not two, a seek and a write.
         opened.file.write_all_at(piece, at)?;
         opened.length = opened.length.max(at.saturating_add(piece.len() as u64));
         Ok(())
     }
 
-    /// Leaves nothing to a power cut, if the path still names the file, and it is as long as this run left it. Where there is no
+    /// Leaves nothing to a power cut, if the path still names the file, and it is as long as this run left it. If there is no
     /// file, there is nothing to keep.
     pub(crate) fn sync(&mut self) -> io::Result<()> {
         self.may_write()?;

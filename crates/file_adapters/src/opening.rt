@@ -6,7 +6,7 @@ use std::{fs, io};
 
 /// A file that one program at a time can have for itself, or several that only read it.
 pub trait TryLock {
-    /// Takes the lock, which ends with the program, or fails where another open of the file has it. It waits for nothing.
+    /// Takes the lock, which ends with the program, or fails if another open of the file has it. It waits for nothing.
     fn try_lock(&self) -> io::Result<()>;
 
     /// The same beside others that only read.
@@ -35,7 +35,7 @@ const SHUT: u32 = 0o400;
 // The owner's leave to write.
 const WRITABLE: u32 = 0o200;
 
-// What a path names, if anything. A link, a folder or a pipe is no journal.
+// What a path names, if anything. A link, a folder or a pipe isn't a journal.
 fn named<R: Files>(rt: &R, path: &str) -> io::Result<Option<Metadata>> {
     match fs::symlink_metadata(rt, path) {
         Ok(named) if named.is_file() => Ok(Some(named)),

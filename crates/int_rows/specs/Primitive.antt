@@ -1,4 +1,4 @@
--- Primitive rows: rows over their content.
+-- Primitive rows: rows divided by their content.
 use Rattle.std.specs.Prelude.{◌≡◌, ℤ, pos, ◌*ℤ◌, ◌<ℤ◌, ◌≤ℤ◌, List, map, unsigned_abs}
 use Rattle.std.specs.Bool.{MatchBool}
 use Rattle.std.specs.List.{list_all}
@@ -11,7 +11,7 @@ pub record IsMadePrimitive (old new : List ℤ) : Type 0 where
   pub is_multiple : old ≡ map (λ x. factor *ℤ x) new
   pub primitive : MatchBool (list_all is_zero old) (new ≡ old) (IsContent new 1 × (pos 0 <ℤ pivot_entry new))
 
--- the content of a row, negative where the first entry that is not 0 is
+-- the content of a row, negative if the first entry that isn't 0 is
 pub record IsSignedContent (row : List ℤ) (c : ℤ) : Type 0 where
   pub content : IsContent row (unsigned_abs c)
   pub negative : pivot_entry row <ℤ pos 0 → c ≤ℤ pos 0

@@ -22,7 +22,8 @@ impl Model for Divisor {
     ghost invariant = { λ d. (d.size ≤ 2 ^ 126) × (d.shift ≤ 64) };
 }
 
-// The inverse of an odd number modulo 2^64. Each turn doubles the bits that are right, from 5 on.
+// The inverse of an odd number modulo 2^64. The first guess is right in 5 bits, as trying the 16 odd numbers below 32 shows,
+// and each turn doubles them.
 fn inverse_of(odd: u64) -> u64 {
     let mut inverse = odd.wrapping_mul(3) ^ 2;
     for _ in 0..4 {
@@ -73,7 +74,7 @@ impl Divisor {
         self.size == 1
     }
 
-    // What the size is a multiple by, where the guess is right.
+    // What the size is a multiple by, if the guess is right.
     fn guess(&self, size: u128) -> Option<u64>
         ensures { IfSome result (λ q. size ≡ self.now * q) }
     {

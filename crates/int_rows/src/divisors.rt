@@ -67,6 +67,7 @@ fn is_short(x: i128) -> bool
     x.unsigned_abs() < 1 << 62
 }
 
+// A quotient of numbers of 64 bits, which takes less time. It is a function so that a clause says what it is.
 fn short_quotient(multiple: i64, of: i64) -> i64
     requires divides { unsigned_abs of ∣ unsigned_abs multiple }
     requires not_zero { of ≢ pos 0 }
@@ -93,7 +94,7 @@ pub fn quotient(multiple: i128, of: i128) -> i128
     }
 }
 
-/// The least common multiple of two numbers, both at least 1. `None` exactly where it passes the limit.
+/// The least common multiple of two numbers, both at least 1. `None` exactly if it passes the limit.
 pub fn lcm_within(a: i128, b: i128, limit: i128) -> Option<i128>
     requires a { (pos 0 <ℤ a) × (a ≤ℤ pos (2 ^ 56)) }
     requires b { (pos 0 <ℤ b) × (b ≤ℤ pos (2 ^ 56)) }
@@ -123,7 +124,7 @@ fn size_of_content(row: &[i128]) -> u128
     divisor
 }
 
-/// The greatest common divisor of all entries, 0 where all are 0.
+/// The greatest common divisor of all entries, 0 if all are 0.
 pub fn content(row: &[i128]) -> i128
     requires { AllByRecursion (λ x. unsigned_abs x ≤ 2 ^ 126) row.now }
     ensures { (g : ℕ) × (result ≡ pos g) × IsContent row.now g × (g ≤ 2 ^ 126) }

@@ -1,4 +1,4 @@
-//! A row over its content.
+//! A row divided by its content.
 ghost use Rattle.std.specs.Prelude.{◌≡◌, ◌≢◌, ◌↔◌, pos, ◌≤◌, ◌^◌, ◌*ℤ◌, ◌<ℤ◌, unsigned_abs, map, IsTrue};
 ghost use Rattle.std.specs.Int.{◌∣◌};
 ghost use Rattle.std.specs.List.{AllByRecursion};
@@ -42,7 +42,7 @@ fn signed_content(row: &[i128]) -> i128
     if is_led_by_negative(row) { -size } else { size }
 }
 
-/// Divides a row by its content, and turns all signs where the first entry that is not 0 is negative. A row of zeros stays.
+/// Divides a row by its content, and turns all signs if the first entry that isn't 0 is negative. A row of zeros stays.
 pub fn make_primitive(row: &mut [i128])
     requires { AllByRecursion (λ x. unsigned_abs x ≤ 2 ^ 126) row.old }
     ensures { IsMadePrimitive row.old row.new }

@@ -48,7 +48,7 @@ module _ {D : Type 0} (bench : Ghosts D) (only_now : NowOnly bench) (audit : Aud
     steady = λ other. refl;
   }
 
-  -- want of memory before the next line
+  -- memory runs out before the next line
   pub no_memory : (about : List Subject) (old : D) → SendsLinesOn bench audit about old old (Err fault.NoMemory)
   no_memory about old = record {
     sends = λ told. tt;

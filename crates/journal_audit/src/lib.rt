@@ -1,6 +1,6 @@
 //! The report of an audit: each secret number is shown to be free by a list that passes a plain check.
 //!
-//! `audit` is the one call. What its lines say is `Reports` of the specs; docs/FORMATS.md has their form.
+//! `audit` is the one call. What its lines say is `Reports` of the specs; docs/FORMATS.md describes their form.
 #![tactic(auto)]
 
 mod checking;

@@ -80,6 +80,7 @@ fn send_highest<B: Bench>(
 {
     lists_of_secrets();
     free_numbers();
+    // By the law no row is fixed; `fixed` says so in the words that the lists ask for.
     if let Some(_) = maxima.fixed() {
         unreachable!();
     }

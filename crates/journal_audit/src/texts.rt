@@ -22,7 +22,7 @@ fn comma_unless(first: bool) -> &'static [u8]
     if first { b"" } else { b"," }
 }
 
-// What stands before a row: a bracket, behind a comma unless the row would be the first of a list.
+// What stands before a row: a bracket, after a comma unless the row would be the first of a list.
 fn row_start(first: bool) -> &'static [u8]
     ensures { result.now ≡ spec.comma_unless first ++ codes "[" }
 {

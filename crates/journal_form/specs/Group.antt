@@ -71,6 +71,6 @@ pub record BreaksInGrowth (rows : ℕ) (bytes : List ℕ) (at : ℕ) : Type 0 wh
   pub breaks : FirstBad (IsGoodGrowthByte rows number) 2 number place
   pub at_is : at ≡ 1 + place
 
--- the place of the first byte that breaks a group, from its count byte on, where the journal may still hold so many records
+-- the place of the first byte that breaks a group, from its count byte on, if the journal may still hold so many records
 abbrev pub GroupBreaks : Shape → ℕ → List ℕ → ℕ → Type 0
 GroupBreaks shape left bytes at = ((at ≡ 0) × CountBreaks shape.rows left bytes) ⊎ (BreaksInRecord shape left bytes at ⊎ BreaksInGrowth shape.rows bytes at)

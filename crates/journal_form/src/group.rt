@@ -53,7 +53,7 @@ impl<T: Drop> From<AllocFailed<T>> for GroupFault {
     }
 }
 
-/// Writes the bytes of a group from its count byte on, and behind them the next gate, closed.
+/// Writes the bytes of a group from its count byte on, and after them the next gate, closed.
 pub fn write_group(alloc: Global, shape: &Shape, list: &[Answered]) -> Result<Vec<u8>, NoMemory>
     requires some { 0 < length list.now }
     requires few { length list.now ≤ 64 }
@@ -90,7 +90,7 @@ pub fn write_growth(rows: u16, out: &mut [u8; GROWTH_SIZE])
 }
 
 /// Reads the group that stands at the front, from its count byte on: records, or a growth of the shape's rows. `left` is how
-/// many records the journal may still hold. The gate behind the group isn't read.
+/// many records the journal may still hold. The gate after the group isn't read.
 pub fn read_group(
     alloc: Global,
     shape: &Shape,

@@ -24,7 +24,7 @@ fn tries(bench: &mut FileBench<'_, HostRuntime>) -> [bool; 4] {
     ]
 }
 
-// The length of the journal's file, and what stands in it behind its first byte.
+// The length of the journal's file, and what stands in it after its first byte.
 type Found = (Result<u64, Failed>, Result<usize, Failed>, [u8; 8]);
 
 fn found(bench: &mut FileBench<'_, HostRuntime>) -> Found {

@@ -1,4 +1,4 @@
-//! The system's files, over which each call is told, and one is refused.
+//! The system's files, of which each call is written down, and one is refused.
 ghost use Rattle.std.specs.Prelude.{◌≤◌, length, IfOk};
 
 use file_adapters::TryLock;
@@ -96,7 +96,7 @@ impl Calls {
     }
 }
 
-/// The system's files. Each call of them is told to `calls`, and a read, a write or a send moves at most two bytes.
+/// The system's files. `calls` lists each call of them, and a read, a write or a send moves at most two bytes.
 #[derive(Drop)]
 pub(crate) struct CountedFiles<'a> {
     pub(crate) rt: &'a HostRuntime,

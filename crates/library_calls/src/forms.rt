@@ -1,5 +1,5 @@
-//! Reduced forms of rows that are no row sets, over the most columns: by hand, and of the cycle by a program that reckons with
-//! fractions.
+//! Reduced forms of rows that aren't row sets, over the most columns: by hand, and of the cycle by a program that computes
+//! with fractions.
 ghost use Rattle.std.specs.Prelude.{◌≡◌, ◌≤◌, length};
 ghost use Rattle.std.specs.List.{AllByRecursion};
 

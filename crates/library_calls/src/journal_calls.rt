@@ -4,7 +4,7 @@ use bench_core::Bench;
 use file_adapters::FileBench;
 use std::fs;
 
-// A call of the system, the first of the five calls of the bench that fails where it is refused, and the last one.
+// A call of the system, the first of the five calls of the bench that fails if it is refused, and the last one.
 type Step = (Call, usize, usize);
 
 // Over a path that names nothing. The write makes the file, locks and syncs it, and syncs its folder. After a refused sync
@@ -59,7 +59,7 @@ const FINDING: [Step; 21] = [
     (Call::Send, 4, 4),
 ];
 
-// The calls of a bench that only reads, over the same file: its length, and its bytes. They are done also where the lock is
+// The calls of a bench that only reads, over the same file: its length, and its bytes. They are done also if the lock is
 // refused, as on a file system that has none.
 const READING: [Call; 9] = [
     Call::Name,
@@ -102,7 +102,7 @@ fn answers(rt: &HostRuntime, calls: &Calls, is_there: bool) -> [(bool, bool); 5]
     five_calls(&mut FileBench::new(&files, "calls.journal"), calls)
 }
 
-// Whether these calls of the bench fail, and no others, the first of them at once, where this one of the system's is refused.
+// Whether these calls of the bench fail, and no others, the first of them at once, if this one of the system's is refused.
 fn fail(rt: &HostRuntime, is_there: bool, refused: usize, first: usize, last: usize) -> bool {
     let calls = Calls::new(rt.alloc(), refused);
     let wanted = [0, 1, 2, 3, 4].map(|call| (call < first || last < call, call == first));

@@ -49,7 +49,7 @@ pub taken_answers : (columns : List Column) (k : Take) (name text : List ℕ) (c
 taken_answers columns k name text c p r found read is =
     record { tree = tree_of p; good = found.0; means = read; is = taken_is columns k name text c (tree_of p) r is found.1 }
 
--- where the column was found, a fault of the condition answers so
+-- if the column was found, a fault of the condition answers so
 pub taken_fault : (columns : List Column) (k : Take) (name text : List ℕ) (c : ℕ) (f : LineFault) → FindsColumn columns k name (Ok c)
     → ReadsCondition columns text (Err f) → Answers columns (taken k name text) (Err f)
 taken_fault columns k name text c fault.Line found read = read

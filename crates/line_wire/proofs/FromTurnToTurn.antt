@@ -77,15 +77,15 @@ shows_last next.Line shown piece gives = is_short shown piece gives
 shows_last next.Long shown piece gives = gives.1
 shows_last next.End shown piece gives = gives.1
 
--- an answer is no refusal
+-- an answer isn't a refusal
 pub answer_is_no_refusal : {answer : Next} → Ok answer ≡ Err stop.Input → ⊥
 answer_is_no_refusal is = cc
 
--- a refusal at the limit is none of a failed read
+-- a refusal at the limit isn't one of a failed read
 pub limit_is_no_input : (result : Result Next LineStop) → result ≡ Err stop.Limit → result ≡ Err stop.Input → ⊥
 limit_is_no_input result limit input = cc
 
--- where a whole line is at hand, nothing was read
+-- if a whole line is at hand, nothing was read
 pub nothing_read : {S : Type 0} (old now : Cutter) (first source : S) →
     ((source ≡ first) × Reached (old.pending ++ []) now []) ⊎ (whole_lines (old.pending ++ []) ≡ []) →
     whole_lines old.pending ≢ [] → source ≡ first
@@ -102,7 +102,7 @@ advances_last next.Long old now new grown taken pending gives =
     omega (arith, grown, taken, ap (λ (l : List ℕ). length l) pending, some_byte now.text long gives.0)
 advances_last next.End old now new grown taken pending gives = tt
 
--- where all bytes at hand were passed without a read, no whole line was among them
+-- if all bytes at hand were passed without a read, no whole line was among them
 pub none_at_hand : (rest : List ℕ) (old now : Cutter) → Reached rest old [] → PassesNone old now → now.pending ≡ [] → whole_lines rest ≡ []
 none_at_hand rest old now so_far passes dry =
     let stop = no_whole rest now [] (to_more rest old now [] so_far passes) in

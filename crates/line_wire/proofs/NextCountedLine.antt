@@ -139,7 +139,7 @@ answers_last next.End rest old new left so_far dry none same ended gives = (
       ∙ so_far.passed.counted so_far.line ∙ counted-last so_far.line so_far.feedless ∙ sym (line_of-kept so_far.line) ∙ ap line_of (sym so_far.text) ∙ gives.0,
 )
 
--- where nothing was left, nothing is
+-- if nothing was left, nothing is
 pub none_left : (before pending after : List ℕ) → before ≡ pending ++ after → before ≡ [] → after ≡ []
 none_left before [] after is none = sym is ∙ none
 none_left before (b ∷ pending) after is none = let no : b ∷ (pending ++ after) ≡ [] = sym is ∙ none in cc

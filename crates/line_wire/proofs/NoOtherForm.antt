@@ -1,4 +1,4 @@
--- A line that is read as no form of reply is no reply.
+-- A line that is read as no form of reply isn't a reply.
 use Rattle.std.proofs.Common.{◌≡◌, ℕ, ℤ, List, [], ◌∷◌, Option, Some, None, IfSome, IfNone, sym, ap, subst, arith}
 use Rattle.std.specs.List.{All}
 use Rattle.std.specs.Option.{option_or}
@@ -7,7 +7,7 @@ use Rattle.line_wire.specs.declared.reply.Reply.{Reply}
 use Rattle.line_wire.specs.declared.reply.Reply.TheVariants.{Count, Sum, Avg, Max, Unsafe, Wide, Line, Long, Column, Kind, Condition, Empty, Full}
 use Rattle.line_wire.proofs.OneReply.{one_reply}
 
--- a reply that is read is the line's, and where none is, this holds
+-- a reply that is read is the line's, and if none is, this holds
 pub record IsTried (line : List ℕ) (r : Option Reply) (otherwise : Type 0) : Type 0 where
   pub found : IfSome r (IsReply line)
   pub none : IfNone r otherwise

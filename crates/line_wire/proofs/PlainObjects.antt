@@ -1,4 +1,4 @@
--- Where json reads an object of texts, serde_json reads the same, and finds the same texts in it.
+-- If json reads an object of texts, serde_json reads the same, and finds the same texts in it.
 use Rattle.std.proofs.Common.{◌≡◌, ℕ, zero, suc, Bool, true, false, cond, List, [], ◌∷◌, length, codes, Option, Some, None, option_map, option_and_then, Ordering, Less, Equal, Greater, refl, sym, ap, ◌∙◌, subst, Bor, IfSome}
 use Rattle.std.specs.Prelude.{⊤, is_some, unwrap_or, if◌then◌else◌}
 use Rattle.std.specs.Str.{bytes_eq}
@@ -22,7 +22,7 @@ use Rattle.line_wire.specs.Kept.{written_of}
 
 -- ---- how deep it nests doesn't matter
 
--- where o is an answer of this form, p is the same
+-- if o is an answer of this form, p is the same
 abbrev Keeps : {A : Type 0} → (A → Bool) → Option (A × List Token) → Option (A × List Token) → Type 0
 Keeps form None p = ⊤
 Keeps form (Some x) p = form x.0 ≡ true → p ≡ Some x
@@ -102,7 +102,7 @@ module _ (p q : json.Parse json.Json) (each : (ts : List Token) → Keeps is_tex
   text_members zero ts = tt
   text_members (suc turns) ts = turn (json.members p turns) (json.members q turns) (text_members turns) (json.read_key ts)
 
--- an object of texts is read alike where its members are
+-- an object of texts is read alike if its members are
 either_plain : (a b : json.Parse json.Items) (o p : json.Parse json.Members) → ((ts : List Token) → Keeps are_texts (o ts) (p ts)) → (ts : List Token) →
     Keeps is_plain (json.value_with a o ts) (json.value_with b p ts)
 either_plain a b o p both [] = tt

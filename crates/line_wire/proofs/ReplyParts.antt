@@ -20,7 +20,7 @@ pub mag_below : (z : ℤ) → unsigned_abs z < 2 ^ 63 → mag z < 2 ^ 63
 mag_below (pos n) small = small
 mag_below (negsuc n) small = omega arith
 
--- bytes are a line and its line feed where the line feed put aside leaves the line
+-- bytes are a line and its line feed if the line feed put aside leaves the line
 pub same_line : (line written bytes : List ℕ) (end : ℕ) (same : Bool) → written ≡ bytes ++ end ∷ [] → end ≡ 10 → same ≡ bytes_eq bytes line →
     IsTrue same ↔ (written ≡ line ++ 10 ∷ [])
 same_line line written bytes end same ends feed tests = (to, from)
@@ -34,7 +34,7 @@ same_line line written bytes end same ends feed tests = (to, from)
     from : written ≡ line ++ 10 ∷ [] → IsTrue same
     from is = tests ∙ (bytes_eq-Decides bytes line).1 (append_cancel_right bytes line (10 ∷ []) (sym with_feed ∙ is))
 
--- a reply in range is the line's where its bytes are the line and a line feed
+-- a reply in range is the line's if its bytes are the line and a line feed
 pub written_line : (line written : List ℕ) (reply : Reply) (same : Bool) → IsInRange reply → written ≡ reply_bytes reply →
     IsTrue same ↔ (written ≡ line ++ 10 ∷ []) → IsTrue same ↔ IsReply line reply
 written_line line written reply same range is tests = (

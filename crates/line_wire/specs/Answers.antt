@@ -14,7 +14,7 @@ use Rattle.line_wire.specs.declared.request.Request.TheVariants.{Sum, Avg, Max}
 use Rattle.line_wire.specs.declared.request.LineFault.{LineFault}
 use Rattle.line_wire.specs.declared.request.LineFault.TheVariants as fault
 
--- a line that is refused for want of a value has none
+-- a line that is refused for lack of a value has none
 abbrev pub HasNoValue : List ℕ → LineFault → Type 0
 HasNoValue line fault.Line = value_of line ≡ None
 HasNoValue line fault.Column = ⊥

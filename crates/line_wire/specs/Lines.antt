@@ -15,7 +15,7 @@ pub data CountedLine : Type 0 where
 abbrev pub is_feed : ℕ → Bool
 is_feed b = b == 10
 
--- one carriage return at the end is no part of the text
+-- one carriage return at the end isn't part of the text
 abbrev pub without_return : List ℕ → List ℕ
 without_return piece = if slice_index piece (length piece - 1) == 13 then take (length piece - 1) piece else piece
 
@@ -28,7 +28,7 @@ unless_empty (b ∷ bytes) = text (b ∷ bytes) ∷ []
 abbrev pub line_of : List ℕ → List CountedLine
 line_of piece = if nat_lt 8192 (length piece) then long ∷ [] else unless_empty (without_return piece)
 
--- the counted lines; what stands after the last line feed is one where it isn't empty
+-- the counted lines; what stands after the last line feed is one if it isn't empty
 abbrev pub counted_lines : List ℕ → List CountedLine
 counted_lines input = flat_map line_of (slice_split is_feed input)
 

@@ -41,7 +41,7 @@ has_known_keys members = unwrap_or (option_map keys_are_known members) false
 abbrev pub may_be_text : Option Data → Bool
 may_be_text value = unwrap_or (option_map (λ d. is_some (as_str d)) value) true
 
--- a column stands exactly where something is taken of it
+-- a column stands exactly if something is taken of it
 abbrev pub with_column : Ask → Option Data → List ℕ → Option Written
 with_column Count None text = Some (counted text)
 with_column Count (Some d) text = None

@@ -1,4 +1,4 @@
--- What a line means as a request, and why a line is refused: each refusal is tested only where those before it do not hold.
+-- What a line means as a request, and why a line is refused: each refusal is tested only if those before it don't hold.
 use Rattle.std.specs.Prelude.{◌≡◌, ◌≤◌, ℕ, true, cond, List, Option, Some, None, option_and_then, Result, Ok, Err}
 use Rattle.schema_json.specs.Columns.{Column, place_of, role_at, secret_place}
 use Rattle.audit_types.specs.declared.shapes.Kind.{Kind}

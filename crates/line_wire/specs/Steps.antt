@@ -21,7 +21,7 @@ Gives next.Line shown lines = lines ≡ text shown ∷ []
 Gives next.Long shown lines = (lines ≡ long ∷ []) × (shown ≡ [])
 Gives next.End shown lines = ⊥
 
--- what the bytes behind the last line feed count as: one line, or none, and then the input has ended
+-- what the bytes after the last line feed count as: one line, or none, and then the input has ended
 abbrev pub GivesLast : Next → List ℕ → List CountedLine → Type 0
 GivesLast next.Line shown lines = lines ≡ text shown ∷ []
 GivesLast next.Long shown lines = (lines ≡ long ∷ []) × (shown ≡ [])

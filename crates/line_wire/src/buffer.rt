@@ -78,7 +78,7 @@ impl Buffer {
         self.stop = self.from;
     }
 
-    /// Gives one byte that is no part of the line.
+    /// Gives one byte that isn't part of the line.
     pub fn skip(&mut self)
         requires { 0 < length self.old.pending }
         ensures line { self.new.line ≡ self.old.line }

@@ -77,7 +77,7 @@ impl Lines {
         })
     }
 
-    /// The line that was given last, without its carriage return, where `Line` was the last answer. Otherwise it is
+    /// The line that was given last, without its carriage return, if `Line` was the last answer. Otherwise it is
     /// empty.
     pub fn text(&self) -> &[u8]
         ensures { result.now ≡ self.now.text }
@@ -140,7 +140,7 @@ impl Lines {
         self.buffer.clear();
     }
 
-    // Refuses what is behind the limit. No line is begun.
+    // Refuses what is past the limit. No line is begun.
     fn stop_at_limit(&mut self) -> Result<Next, LineStop>
         ensures refuses { result ≡ Err LineStop.Limit }
         ensures text { self.new.text ≡ [] }
@@ -150,7 +150,7 @@ impl Lines {
         Err(LineStop::Limit)
     }
 
-    // Gives the bytes at hand up to the first line feed, or all of them where there is none.
+    // Gives the bytes at hand up to the first line feed, or all of them if there is none.
     fn absorb(&mut self) -> Step
         ensures passes { Passes result self.old self.new }
         ensures within { IsWithin self.old × IsWithin self.new }

@@ -48,7 +48,7 @@ fn ask_at(value: &Value) -> Option<Ask>
     }
 }
 
-// The question that a value writes, where it is an object of known keys with texts.
+// The question that a value writes, if it is an object of known keys with texts.
 fn plain_question<'a>(value: &Value<'a>) -> Option<Question<'a>>
     ensures plain { OnSome result (is_plain (value_view value.now) ≡ true) }
     ensures writes { IfSome result (λ question. question_in_json (value_view value.now) ≡ Some (written_of question)) }

@@ -19,7 +19,7 @@ use schema_json::Schema;
 use serde_json::Value;
 use std::alloc::Global;
 
-// The place of a column among the secret ones, where the question takes it.
+// The place of a column among the secret ones, if the question takes it.
 #[tactic(auto, using(crate::proofs::FoundColumns::place_below))]
 fn column_of(schema: &Schema, take: Take, name: &str) -> Result<u8, LineFault>
     ensures finds { FindsColumn schema.now.columns take name.now result }
@@ -101,7 +101,7 @@ fn value_of(alloc: Global, line: &[u8]) -> Result<Value, LineFault>
     }
 }
 
-/// The request that a line means, after docs/FORMATS.md. The refusals come in the order of `LineFault`.
+/// The request that a line means, by docs/FORMATS.md. The refusals come in the order of `LineFault`.
 ///
 /// The scratch is the memory of the reader of JSON, which is kept from line to line.
 pub fn read_line_request(

@@ -20,11 +20,11 @@ pub enum Reply {
     Unsafe,
     /// The answer would need numbers that are too wide to decide over.
     Wide,
-    /// The line is no question.
+    /// The line isn't a question.
     Line,
     /// The line is too long to be read.
     Long,
-    /// The question's column is none of the schema's.
+    /// The question's column isn't one of the schema's.
     Column,
     /// The question's column is not of the kind that the question takes.
     Kind,

@@ -14,9 +14,9 @@ pub enum Request {
 /// Why a line is refused.
 #[derive(Clone, Copy, Drop)]
 pub enum LineFault {
-    /// The line is no question.
+    /// The line isn't a question.
     Line,
-    /// The question's column is none of the schema's.
+    /// The question's column isn't one of the schema's.
     Column,
     /// The question's column is not of the kind that the question takes.
     Kind,

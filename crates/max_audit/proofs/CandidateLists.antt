@@ -125,7 +125,7 @@ gathered answers lowest is x = (
     among all low x below_all (above a one) = later (a.value +ℤ pos 1) low (around all) (to_around all (a.value +ℤ pos 1) a one (inr refl))
     among all low x below_all (below a one least) = here (a.value -ℤ pos 1) low (around all) (candidate_below all low a one least below_all)
 
--- the number below one of 64 bits, as the code reckons it
+-- the number below one of 64 bits, as the code computes it
 pub one_below : (z : ℤ) → SFits w64 z → to_z w128 (of_z w128 (to_z w128 (of_z w128 z) -ℤ pos 1)) ≡ z -ℤ pos 1
 one_below z fits = omega (arith, ints)
 
@@ -160,7 +160,7 @@ ascends (x ∷ []) sorted k within = absurd (omega arith)
 ascends (x ∷ y ∷ list) sorted zero within = subst (λ r. MatchOrdering r (x <ℤ y) (x ≡ y) (y <ℤ x)) sorted.0.0 (int_ranked x y (int_cmp x y) refl)
 ascends (x ∷ y ∷ list) sorted (suc k) within = rw add-one (rw add-one at (ascends (y ∷ list) sorted.1 k (omega arith)))
 
--- equal exactly where neither is less
+-- equal exactly if neither is less
 tied : (x y : ℤ) → int_eq x y ≡ eq_by_cmp int_cmp x y
 tied x y = same_from_decides (int_eq x y) (eq_by_cmp int_cmp x y) (Decides-int_eq x y) (ranked_equal x y (int_cmp x y) (int_ranked x y (int_cmp x y) refl))
 

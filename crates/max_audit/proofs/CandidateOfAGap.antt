@@ -1,6 +1,6 @@
 -- Every number lies, to the earlier answers, like some candidate.
 --
--- A number that is an earlier answer is one itself. Otherwise take the greatest earlier answer below it, and the number above that; where
+-- A number that is an earlier answer is one itself. Otherwise take the greatest earlier answer below it, and the number above that; if
 -- no earlier answer is below it, take the least of all, and the number below that.
 use Rattle.std.proofs.Common.{◌≡◌, ℤ, pos, List, [], ◌∷◌, refl, arith, inl, inr, ◌⊎◌}
 use Rattle.std.specs.Prelude.{◌≤ℤ◌, ◌<ℤ◌, ◌+ℤ◌, ◌-ℤ◌}

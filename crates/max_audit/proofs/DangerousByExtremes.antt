@@ -1,8 +1,8 @@
--- A maximum is dangerous exactly where the extreme rows of the answers before it tell so.
+-- A maximum is dangerous exactly if the extreme rows of the answers before it tell so.
 --
--- A question is dangerous exactly where some answer to it is possible and leaves a lone row. A lone row of the new answer is the one highest row of
+-- A question is dangerous exactly if some answer to it is possible and leaves a lone row. A lone row of the new answer is the one highest row of
 -- the set. One of an earlier answer was lone, or is the one that the set leaves; then an answer that loses all its rows cannot be above the
--- new one. Conversely the greatest bound in the set, or a number above all bounds where a row has none, leaves every extreme row; and the
+-- new one. Conversely the greatest bound in the set, or a number above all bounds if a row has none, leaves every extreme row; and the
 -- number below a stranded answer does for that.
 use Rattle.std.proofs.Common.{◌≡◌, ◌≢◌, ℕ, ◌<◌, ℤ, pos, Bool, true, false, cond, not, List, [], ◌∷◌, length, refl, sym, ap, ◌∙◌, subst, arith, inl, inr, ◌⊎◌, Option, Some, None}
 use Rattle.std.specs.Prelude.{◌<ℤ◌, ◌≤ℤ◌, ◌+ℤ◌, ◌-ℤ◌}
@@ -116,7 +116,7 @@ module _ (answers : List Answer) (rows : List ℕ) where
       ];
     }
 
-  -- an answer that takes no extreme row: no bound in the set is above it, a row is at least it, and bounds are below it where a row has none
+  -- an answer that takes no extreme row: no bound in the set is above it, a row is at least it, and bounds are below it if a row has none
   record IsTop (x : ℤ) : Type 0 where
     under : (q : ℕ) (b : ℤ) → has_row rows q ≡ true → upper_bound answers q ≡ Some b → b ≤ℤ x
     row : ℕ

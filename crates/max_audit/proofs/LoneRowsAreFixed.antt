@@ -1,7 +1,7 @@
 -- A lone row has the value of its answer, in every list that agrees.
 --
--- Where a list gives all answers, the row of a set that has the greatest number has its bound there: it is at most the bound,
--- and the bound is at most the answer. So each answer has an extreme row with its value; where only one row is extreme, it is that one.
+-- If a list gives all answers, the row of a set that has the greatest number has its bound there: it is at most the bound,
+-- and the bound is at most the answer. So each answer has an extreme row with its value; if only one row is extreme, it is that one.
 use Rattle.std.proofs.Common.{◌≡◌, ◌≢◌, ℕ, ℤ, true, List, [], ◌∷◌, sym, ap, ◌∙◌, arith, inl, inr}
 use Rattle.std.proofs.lemmas.Int.{ints}
 use Rattle.std.proofs.lemmas.Bool.{true≢false}
@@ -17,7 +17,7 @@ use Rattle.max_audit.proofs.Greatest.{reached}
 use Rattle.max_bounds.specs.BoundLaws.{bound_below, bound_is}
 use Rattle.max_audit.proofs.UpperBounds.{Gives, below_bound}
 
--- where a list gives all answers, each answer has an extreme row with its value
+-- if a list gives all answers, each answer has an extreme row with its value
 pub extreme_row : (w : List ℤ) (answers : List Answer) (a : Answer) → Gives w answers → IsOneOf a answers → a.rows ≢ [] →
     (q : ℕ) × (has_row (extremes answers a) q ≡ true) × (number_at w q ≡ a.value)
 extreme_row w answers a gives one some =

@@ -116,7 +116,7 @@ lone_or_free n answers i well consistent below = elim (lone_or_lowered n answers
   )
 ]
 
--- possible exactly where each answer has an extreme row
+-- possible exactly if each answer has an extreme row
 pub possible_by_extremes : PossibleByExtremes
 possible_by_extremes n answers well = (
   (λ possible. all_from (λ a. 0 < length (extremes answers a)) answers (λ a one.
@@ -125,7 +125,7 @@ possible_by_extremes n answers well = (
   (λ consistent. (highest n answers, highest_agrees_law n answers well consistent)),
 )
 
--- fixed exactly where lone
+-- fixed exactly if lone
 pub fixed_by_lone_rows : FixedByLoneRows
 fixed_by_lone_rows n answers i well possible below = (
   (λ fixed. elim (lone_or_free n answers i well ((possible_by_extremes n answers well).0 possible) below) [

@@ -33,7 +33,7 @@ below_bound w (a ∷ answers) q b gives e =
     (λ there. let most = at_most w a.rows q there in subst (λ z. number_at w q ≤ℤ z) gives.0 most)
     (λ c f. below_bound w answers q c gives.1 f) e
 
--- where the bound is this number, it is the number that stands for it
+-- if the bound is this number, it is the number that stands for it
 pub bound_from : (o : Option ℤ) (a : ℤ) → is_bound o a ≡ true → bound_or_zero o ≡ a
 bound_from None a h = absurd (true≢false (sym h))
 bound_from (Some b) a h = (Decides-int_eq b a).0 h

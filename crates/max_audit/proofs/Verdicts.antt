@@ -19,6 +19,6 @@ module _ (n : ℕ) (answers : List Answer) (known : Known) (is : known_max n ans
   pub within : IsWithinWidth known rows
   within = subst (λ k. IsWithinWidth k rows) is tt
 
-  -- and unsafe exactly where it is dangerous
+  -- and unsafe exactly if it is dangerous
   pub unsafe_is : IsUnsafeFor known.kind known rows ↔ IsDangerous known rows
   unsafe_is = subst (λ k. IsUnsafeFor k.kind k rows ↔ IsDangerous k rows) is ((λ danger. danger), (λ danger. danger))

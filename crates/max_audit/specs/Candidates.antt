@@ -9,7 +9,7 @@ pub record AreCandidates (answers : List Answer) (list : List ℤ) : Type 0 wher
   pub ascending : (k : ℕ) → k + 1 < length list → slice_index_or list k (pos 0) <ℤ slice_index_or list (k + 1) (pos 0)
   pub each : (a : ℤ) → Contains list a ↔ IsCandidate answers a
 
--- the number below all answers, and 0 where there is none
+-- the number below all answers, and 0 if there is none
 abbrev pub IsBelowAll : List Answer → ℤ → Type 0
 IsBelowAll answers x = ((answers ≡ []) × (x ≡ pos 0))
     ⊎ ((a : Answer) × IsOneOf a answers × AllByRecursion (λ b. a.value ≤ℤ b.value) answers × (x ≡ a.value -ℤ pos 1))

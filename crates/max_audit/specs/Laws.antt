@@ -7,7 +7,7 @@ use Rattle.audit_types.specs.Extremes.{IsConsistent, IsLone, IsCandidate}
 use Rattle.max_bounds.specs.Outside.{IsDangerousByExtremes}
 use Rattle.max_audit.specs.Witnesses.{highest, lowered_at}
 
--- answered maxima are possible exactly where each has an extreme row
+-- answered maxima are possible exactly if each has an extreme row
 abbrev pub PossibleByExtremes : Type 0
 PossibleByExtremes = (n : ℕ) (answers : List Answer) → IsWellFormed (known_max n answers) →
     IsPossible (known_max n answers) ↔ IsConsistent answers
@@ -20,12 +20,12 @@ IsFixed known i = (w v : List ℤ) → Agrees known w → Agrees known v → num
 abbrev pub IsLeastFixed : Known → Option ℕ → Type 0
 IsLeastFixed known least = IsLeast (λ i. (i < known.n) × IsFixed known i) least
 
--- where they are possible, exactly the lone rows are fixed
+-- if they are possible, exactly the lone rows are fixed
 abbrev pub FixedByLoneRows : Type 0
 FixedByLoneRows = (n : ℕ) (answers : List Answer) (i : ℕ) → IsWellFormed (known_max n answers) → IsPossible (known_max n answers) → i < n →
     IsFixed (known_max n answers) i ↔ IsLone answers i
 
--- where they are consistent, the list with each row at its bound agrees
+-- if they are consistent, the list with each row at its bound agrees
 abbrev pub HighestAgrees : Type 0
 HighestAgrees = (n : ℕ) (answers : List Answer) → IsWellFormed (known_max n answers) → IsConsistent answers →
     Agrees (known_max n answers) (highest n answers)
@@ -52,12 +52,12 @@ pub record HasBadCandidate (known : Known) (rows : List ℕ) : Type 0 where
   pub candidate : IsCandidate known.answers answer
   pub leaves : LeavesLoneRow known rows answer
 
--- a maximum is dangerous exactly where one of finitely many candidates is bad
+-- a maximum is dangerous exactly if one of finitely many candidates is bad
 abbrev pub DangerousByCandidates : Type 0
 DangerousByCandidates = (n : ℕ) (answers : List Answer) (rows : List ℕ) → IsWellFormed (known_max n answers) → AreRows n rows → rows ≢ [] →
     IsDangerous (known_max n answers) rows ↔ HasBadCandidate (known_max n answers) rows
 
--- a maximum is dangerous exactly where the extreme rows of the answers before it tell so, with no number beyond these answers
+-- a maximum is dangerous exactly if the extreme rows of the answers before it tell so, with no number beyond these answers
 abbrev pub DangerousByExtremes : Type 0
 DangerousByExtremes = (n : ℕ) (answers : List Answer) (rows : List ℕ) → IsWellFormed (known_max n answers) → AreRows n rows → rows ≢ [] →
     IsDangerous (known_max n answers) rows ↔ IsDangerousByExtremes answers rows

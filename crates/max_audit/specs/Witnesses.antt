@@ -5,12 +5,12 @@ use Rattle.audit_types.specs.Truth.{number_at}
 use Rattle.audit_types.specs.Column.{Answer}
 use Rattle.audit_types.specs.Extremes.{upper_bound}
 
--- a bound, and 0 where there is none
+-- a bound, and 0 if there is none
 abbrev pub bound_or_zero : Option ℤ → ℤ
 bound_or_zero None = pos 0
 bound_or_zero (Some b) = b
 
--- each row at its upper bound, and at 0 where it has none
+-- each row at its upper bound, and at 0 if it has none
 unfoldable pub highest : ℕ → List Answer → List ℤ
 highest n answers = map (λ r. bound_or_zero (upper_bound answers r)) (range_with_len 0 n)
 

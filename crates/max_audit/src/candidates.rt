@@ -8,7 +8,7 @@ use audit_types::NoMemory;
 use max_bounds::AnsweredMax;
 use std::alloc::Global;
 
-// The number below all answers, and 0 where there is none.
+// The number below all answers, and 0 if there is none.
 fn below_all(pairs: &[AnsweredMax]) -> i128
     ensures exact { IsBelowAll (answers_of pairs.now) result }
     ensures near { IsNearRange result }
@@ -30,7 +30,7 @@ fn push(list: &mut Vec<i128>, number: i128) -> Result<(), NoMemory>
     Ok(())
 }
 
-/// Each earlier answer, the number above it, and the number below all; 0 where there is none.
+/// Each earlier answer, the number above it, and the number below all; 0 if there is none.
 pub(crate) fn candidates_of(alloc: Global, pairs: &[AnsweredMax]) -> Result<Vec<i128>, NoMemory>
     ensures exact { IfOk result (λ list. AreCandidates (answers_of pairs.now) list.items) }
     ensures near { IfOk result (λ list. All IsNearRange list.items) }

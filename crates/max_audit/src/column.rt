@@ -45,7 +45,7 @@ impl MaxColumn {
     }
 
     /// The answers that stand for all whole numbers: each earlier one, the number above it, and the number below all; 0
-    /// where nothing was answered.
+    /// if nothing was answered.
     pub fn candidates(&self) -> Result<Vec<i128>, NoMemory>
         ensures exact { IfOk result (λ list. AreCandidates self.now.answers list.items) }
         ensures near { IfOk result (λ list. All IsNearRange list.items) }

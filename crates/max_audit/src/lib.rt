@@ -1,6 +1,6 @@
 //! The audit of a column of maxima.
 //!
-//! Start with `MaxColumn`: its `probe` denies a question exactly where some answer that is still possible would fix a number.
+//! Start with `MaxColumn`: its `probe` denies a question exactly if some answer that is still possible would fix a number.
 #![tactic(auto)]
 
 mod candidates;

@@ -19,7 +19,7 @@ fewest_below count [] a one = absurd one
 fewest_below count (b ∷ answers) a (inl same) = let is = ap count same in omega arith
 fewest_below count (b ∷ answers) a (inr later) = let rest = fewest_below count answers a later in omega arith
 
--- and one of them, where it is small
+-- and one of them, if it is small
 fewest_reached : (count : Answer → ℕ) (answers : List Answer) → fewest_of (map count answers) < 65535 →
     (a : Answer) × IsOneOf a answers × (count a ≡ fewest_of (map count answers))
 fewest_reached count [] small = absurd (omega arith)
@@ -33,12 +33,12 @@ module _ (answers : List Answer) (counts : List ℕ) (fewest : ℕ) (sets : List
   is : fewest ≡ fewest_of (map (λ a. length (extremes answers a)) answers)
   is = tells.fewest_is ∙ ap fewest_of tells.counted
 
-  -- where it is not 0, each answer has an extreme row
+  -- if it isn't 0, each answer has an extreme row
   pub consistent : 0 < fewest → IsConsistent answers
   consistent some = all_from (λ a. 0 < length (extremes answers a)) answers (λ a one.
       let low = fewest_below (λ b. length (extremes answers b)) answers a one in let same = is in omega arith)
 
-  -- where it is 0, some answer has none
+  -- if it is 0, some answer has none
   pub not_consistent : fewest ≡ 0 → IsConsistent answers → ⊥
   not_consistent none all =
       let same = is in
@@ -47,7 +47,7 @@ module _ (answers : List Answer) (counts : List ℕ) (fewest : ℕ) (sets : List
       let short = found.2 in
       absurd (omega arith)
 
-  -- where it is 1, some row is lone
+  -- if it is 1, some row is lone
   pub some_lone : fewest ≡ 1 → (r : ℕ) × IsLone answers r
   some_lone one =
       let same = is in
@@ -56,7 +56,7 @@ module _ (answers : List Answer) (counts : List ℕ) (fewest : ℕ) (sets : List
       let only = one_row (extremes answers found.0) (omega arith) in
       (only.0, (found.0, found.1, only.1))
 
-  -- and where it is more, none is
+  -- and if it is more, none is
   pub none_lone : 1 < fewest → (r : ℕ) → IsLone answers r → ⊥
   none_lone more r (a, one, only) =
       let same = is in

@@ -23,7 +23,7 @@ module _ {X : Type 0} where
       let rest : drop (suc i) xs ≡ drop (suc i) ys = cc in
       ap (λ k. drop k xs) (add-one i) ∙ rest ∙ ap (λ k. drop k ys) (sym (add-one i))
 
-  -- so they do where the element here is changed
+  -- so they do if the element here is changed
   pub set_after : (xs ys : List X) (i : ℕ) (d y : X) → i < length xs → i < length ys → drop i xs ≡ drop i ys → drop (i + 1) (set xs i y) ≡ drop (i + 1) ys
   set_after xs ys i d y one other same = drop-set-lt (i + 1) xs i y (omega arith) ∙ same_after xs ys i d one other same
 

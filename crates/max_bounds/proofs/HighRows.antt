@@ -1,4 +1,4 @@
--- The rows with high bounds stand for all where one of them counts.
+-- The rows with high bounds stand for all if one of them counts.
 use Rattle.std.proofs.Common.{◌≡◌, ◌⊎◌, ℕ, zero, suc, ◌<◌, ℤ, Bool, true, false, cond, not, ◌&&◌, List, [], ◌∷◌, ◌++◌, take, drop, refl, sym, ap, ◌∙◌, arith, inl, inr, Option, Some, None}
 use Rattle.std.specs.Prelude.{◌↔◌, ◌<ℤ◌, ◌≤ℤ◌, int_lt}
 use Rattle.std.specs.Int.{int_min}
@@ -59,7 +59,7 @@ narrow n test rows high are covers = ascending_same 0 n n (filter test (intersec
     has-filter test (intersection n rows high) r (in_both n rows high r are found.0 (covers r (row_below n rows r are found.0) found.1)) found.1))
 
 module _ (n : ℕ) (bound : ℕ → Option ℤ) (high : HighRows) (is : IsHigh n bound high) (rows : List ℕ) (are : AreRows n rows) where
-  -- where an answer is not below the cut, what it does to the high rows is all
+  -- if an answer isn't below the cut, what it does to the high rows is all
   pub same_at_least : (answer : ℤ) → high.cut ≤ℤ answer → rows_at_least bound answer (intersection n rows high.rows.list) ≡ rows_at_least bound answer rows
   same_at_least answer low =
       narrow n (λ r. is_at_least answer (bound r)) rows high.rows.list are
@@ -94,7 +94,7 @@ module _ (n : ℕ) (bound : ℕ → Option ℤ) (high : HighRows) (is : IsHigh n
         | false ↦ λ e. inr refl
       ] refl
 
-  -- where one of the high rows reaches the cut, they tell whether one row is highest
+  -- if one of the high rows reaches the cut, they tell whether one row is highest
   pub same_highest : (q : ℕ) → has_row (intersection n rows high.rows.list) q ≡ true → is_at_least high.cut (bound q) ≡ true →
       HasOneHighest bound (intersection n rows high.rows.list) ↔ HasOneHighest bound rows
   same_highest q there reaches =

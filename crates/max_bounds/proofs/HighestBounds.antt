@@ -167,7 +167,7 @@ module _ (bound : ℕ → Option ℤ) where
           | inr apart ↦ subst (λ o. IsBelowBound o (bound r)) (found.2 ∙ free) (alone' found.0 (within found.0 (has-front seen q found.0 found.1)) apart)
         ]
 
-  -- at the end one row has it alone exactly where it is above the others
+  -- at the end one row has it alone exactly if it is above the others
   pub highest_ends : (rows : List ℕ) (highest : Option ℤ) (alone : Bool) → IsHighest bound rows highest alone → IsTrue alone ↔ HasOneHighest bound rows
   highest_ends rows highest true h = (
     (λ yes. (h.have.row, h.have.has, λ q there apart. subst (IsBelowBound (bound q)) (sym h.have.is) (h.have.others q there apart))),

@@ -104,7 +104,7 @@ lost_after seen (x ∷ rest) rows top lost h not low =
     subst (λ l. IsLost l rows lost) (append_assoc seen (x ∷ []) rest)
     (lost_after (seen ++ x ∷ []) rest rows top lost (lost_passed seen rows x lost h (λ matters. not (matters_above lost x.value top low.0 matters))) not low.1)
 
--- no set lies within, where neither one before nor the last does
+-- no set lies within if neither one before nor the last does
 pub within-push : (seen : List Answer) (x : Answer) (rows : List ℕ) (value : ℤ) → (HasWithin seen rows value → ⊥) → (IsWithin rows value x → ⊥) →
     HasWithin (seen ++ x ∷ []) rows value → ⊥
 within-push seen x rows value before last (a, one, is) = elim (front_or_last seen x a one) [

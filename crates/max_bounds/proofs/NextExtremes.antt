@@ -94,7 +94,7 @@ module _ (answers : List Answer) (rows : List ℕ) (x : ℤ) where
       ap (λ b. cond b (Some x) (upper_bound answers r)) (has_filtered (λ q. is_at_least x (upper_bound answers q)) rows r)
       ∙ settled_is (has_row rows r) (upper_bound answers r) x ∙ sym (upper_bound-push answers (asked answers rows x) r)
 
-  -- where no row falls, each answer keeps its extreme rows
+  -- if no row falls, each answer keeps its extreme rows
   pub none_falls : rows_above (upper_bound answers) x rows ≡ [] → (a : Answer) → IsOneOf a answers → extremes more a ≡ extremes answers a
   none_falls none a one = keeps_extremes answers rows x a one (λ r b there in_set is. by_lt_z x b
       (λ less.
@@ -184,7 +184,7 @@ module _ (answers : List Answer) (rows : List ℕ) (x : ℤ) where
       ap (λ l. has_row l r) (lower_keeps answers rows x a one (omega (arith, ints)))
       ∙ fewer r (ap (λ (b : Answer). has_row b.rows r) (sym (lowered_other e (omega (arith, ints)))) ∙ there))
 
-  -- least sets stay so where the extreme rows do
+  -- least sets stay so if the extreme rows do
   pub least_same : (sets : List Answer) → ((a : Answer) → IsOneOf a answers → extremes more a ≡ extremes answers a) → AreLeast (extremes answers) answers sets →
       AreLeast (extremes more) answers sets
   least_same sets same h = record {
@@ -192,7 +192,7 @@ module _ (answers : List Answer) (rows : List ℕ) (x : ℤ) where
     covered = λ a one. let found = h.covered a one in (found.0, found.1, found.2, λ r there. ap (λ l. has_row l r) (same a one) ∙ found.3 r there);
   }
 
-  -- and where both are lowered
+  -- and if both are lowered
   pub least_lowered : (sets : List Answer) → AreLeast (extremes answers) answers sets → AreLeast (extremes more) answers (map (lowered_set x rows) sets)
   least_lowered sets h = record {
     each = λ e' one.
@@ -244,7 +244,7 @@ module _ (answers : List Answer) (rows : List ℕ) (x : ℤ) where
     ];
   }
 
-  -- or without it, where a set of its value lies within its rows
+  -- or without it, if a set of its value lies within its rows
   pub least_within : (sets : List Answer) → HasWithin sets rows x → AreLeast (extremes more) answers sets → AreLeast (extremes more) more sets
   least_within sets (w, within, is) h = record {
     each = λ e one. let found = h.each e one in (found.0, one_of_front answers (asked answers rows x) found.0 found.1, found.2, found.3);

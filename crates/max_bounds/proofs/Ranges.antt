@@ -24,7 +24,7 @@ range_more bound yielded r range wider holds widens q b there is = elim (has-pus
   | inr last ↦ widens.holds b (ap bound last ∙ is)
 ]
 
--- an answer outside them is no bound of the rows
+-- an answer outside them isn't a bound of the rows
 pub falls-outside : (bound : ℕ → Option ℤ) (falling : List ℕ) (range : Range) (a : Answer) → IsRange bound falling range →
     (a.value <ℤ range.low) ⊎ (range.high <ℤ a.value) → falls_of bound falling a ≡ []
 falls-outside bound falling range a holds beyond = filter-none (λ r. has_row a.rows r && is_bound (bound r) a.value) falling (λ r there.

@@ -25,7 +25,7 @@ extreme_counts answers = map (λ a. length (extremes answers a)) answers
 abbrev pub reaching_counts : (ℕ → Option ℤ) → List Answer → List ℕ
 reaching_counts bound answers = map (λ a. length (reaching bound a.rows a.value)) answers
 
--- the least count, and the largest 16-bit number where there is none
+-- the least count, and the largest 16-bit number if there is none
 abbrev pub fewest_of : List ℕ → ℕ
 fewest_of [] = 65535
 fewest_of (c ∷ counts) = min c (fewest_of counts)

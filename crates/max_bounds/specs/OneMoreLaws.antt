@@ -42,7 +42,7 @@ abbrev pub IsAtLeast : ℤ → Option ℤ → Type 0
 IsAtLeast x None = Unit {0}
 IsAtLeast x (Some b) = x ≤ℤ b
 
--- a bound stays where the new answer is not below it, or is not that of its row
+-- a bound stays if the new answer isn't below it, or isn't that of its row
 stays : (has : Bool) (o : Option ℤ) (b x : ℤ) → o ≡ Some b → (has ≡ true → b ≤ℤ x) → cond has (Some (least_of x o)) o ≡ o
 stays true None b x e low = absurd cc
 stays true (Some c) b x e low = let same : c ≡ b = cc in let under = low refl in ap Some (omega (arith, ints, clamps))
@@ -62,12 +62,12 @@ too_low o v x less = fails (least_of x o) v (below o)
     below None = less
     below (Some c) = omega (arith, ints, clamps)
 
--- a bound is that of a higher answer where it was, outside the new set
+-- a bound is that of a higher answer if it was, outside the new set
 higher_test : (has : Bool) (o : Option ℤ) (v x : ℤ) → x <ℤ v → is_bound (cond has (Some (least_of x o)) o) v ≡ (not has && is_bound o v)
 higher_test true o v x less = too_low o v x less
 higher_test false o v x less = refl
 
--- the new answer is the bound where there was none, or none below it
+-- the new answer is the bound if there was none, or none below it
 reaches : (o : Option ℤ) (x : ℤ) → IsAtLeast x o → is_bound (Some (least_of x o)) x ≡ true
 reaches None x high = (Decides-int_eq x x).1 refl
 reaches (Some b) x high = (Decides-int_eq (int_min x b) x).1 (omega (arith, ints, clamps))

@@ -9,7 +9,7 @@ use Rattle.audit_types.specs.Extremes.{upper_bound, extremes, IsConsistent, IsLo
 abbrev pub outside : List ℕ → List ℕ → List ℕ
 outside set rows = filter (λ r. not (has_row set r)) rows
 
--- a bound is below another, where a row without a bound stands above all
+-- a bound is below another; a row without a bound stands above all
 abbrev pub IsBelowBound : Option ℤ → Option ℤ → Type 0
 IsBelowBound None bound = ⊥
 IsBelowBound (Some b) None = Unit {0}

@@ -6,7 +6,7 @@ use Rattle.audit_types.specs.Column.{Answer, IsOneOf}
 use Rattle.audit_types.specs.Extremes.{least_of, is_bound}
 use Rattle.max_bounds.specs.declared.survey.Trial.{Trial}
 
--- the bound of a row, where a list has one for each row
+-- the bound of a row, in a list with one for each row
 abbrev pub bound_at : List (Option ℤ) → ℕ → Option ℤ
 bound_at bounds r = slice_index_or bounds r None
 
@@ -24,7 +24,7 @@ lone_of [] = None
 lone_of (r ∷ []) = Some r
 lone_of (r ∷ q ∷ rows) = None
 
--- the lesser of two rows, where there are two
+-- the lesser of two rows, if there are two
 abbrev pub lesser_of : Option ℕ → Option ℕ → Option ℕ
 lesser_of None b = b
 lesser_of (Some a) None = Some a

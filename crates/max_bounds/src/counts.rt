@@ -53,7 +53,7 @@ fn range_of(upper: &[Option<i64>], falling: &RowSet) -> Range
     range
 }
 
-// How many of the falling rows are extreme for an answer: none, where the answer is outside of the range of their bounds.
+// How many of the falling rows are extreme for an answer: none, if the answer is outside the range of their bounds.
 fn falls(upper: &[Option<i64>], falling: &RowSet, range: Range, pair: &AnsweredMax) -> u16
     requires holds { IsRange (bound_at upper.now) falling.now.list range }
     requires same_n { pair.now.rows.n ≡ falling.now.n }
@@ -93,7 +93,7 @@ pub(crate) fn lower_counts(
     }
 }
 
-/// The least of the counts, and the largest number where there is none.
+/// The least of the counts, and the largest number if there is none.
 pub(crate) fn fewest(counts: &[u16]) -> u16
     ensures { result ≡ fewest_of counts.now }
 {

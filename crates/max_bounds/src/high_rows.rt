@@ -49,7 +49,7 @@ fn has_at_least(upper: &[Option<i64>], rows: &RowSet, cut: i64) -> bool
 }
 
 impl HighRows {
-    // What an answer over these rows does to them, where it isn't below the cut.
+    // What an answer over these rows does to them, if it isn't below the cut.
     fn reach(&self, upper: &[Option<i64>], rows: &RowSet, answer: i64) -> Affected
         requires within { rows.now.n ≤ length upper.now }
         requires high { IsHigh rows.now.n (bound_at upper.now) self.now }
@@ -67,7 +67,7 @@ impl HighRows {
         reach(upper, &high, answer)
     }
 
-    // Whether one row of the set is above the others, where the set has one of the high rows.
+    // Whether one row of the set is above the others, if the set has one of the high rows.
     fn one_highest(&self, upper: &[Option<i64>], rows: &RowSet) -> Option<bool>
         requires within { rows.now.n ≤ length upper.now }
         requires high { IsHigh rows.now.n (bound_at upper.now) self.now }
@@ -107,7 +107,7 @@ pub(crate) fn reach_high(
     reach(upper, rows, answer)
 }
 
-/// Whether the bound of one row of the set is above those of its other rows, where a row without a bound stands above all.
+/// Whether the bound of one row of the set is above those of its other rows; a row without a bound stands above all.
 pub(crate) fn one_highest_of(high: &[HighRows], upper: &[Option<i64>], rows: &RowSet) -> bool
     requires within { rows.now.n ≤ length upper.now }
     requires high { AllByRecursion (IsHigh rows.now.n (bound_at upper.now)) high.now }

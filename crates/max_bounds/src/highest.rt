@@ -16,7 +16,7 @@ fn is_higher(bound: Option<i64>, other: Option<i64>) -> bool
     }
 }
 
-/// Whether the bound of one row of the set is above those of its other rows, where a row without a bound stands above all.
+/// Whether the bound of one row of the set is above those of its other rows; a row without a bound stands above all.
 pub(crate) fn one_highest(upper: &[Option<i64>], rows: &RowSet) -> bool
     requires within { rows.now.n ≤ length upper.now }
     ensures { IsTrue result ↔ HasOneHighest (bound_at upper.now) rows.now.list }

@@ -29,11 +29,11 @@ least_turn : (a b : ℤ) (bound : Option ℤ) → least_of a (Some (least_of b b
 least_turn a b None = min_swap a b
 least_turn a b (Some c) = min_turn a b c
 
--- the bound of a row after an answer: the least of both where the answer's set has the row
+-- the bound of a row after an answer: the least of both if the answer's set has the row
 abbrev pub bound_with : Bool → ℤ → Option ℤ → Option ℤ
 bound_with has a bound = cond has (Some (least_of a bound)) bound
 
--- two answers lower a bound in either order, where their sets have the row
+-- two answers lower a bound in either order, if their sets have the row
 turn : (has also : Bool) (a b : ℤ) (bound : Option ℤ) → bound_with has a (bound_with also b bound) ≡ bound_with also b (bound_with has a bound)
 turn true true a b bound = ap Some (least_turn a b bound)
 turn true false a b bound = refl

@@ -54,7 +54,7 @@ frames_under_not os h =
           (first_not (frame_of (get_or os (length os - 1) opened.Not)) (frames_of (take (length os - 1) os)) (ap is_under_not (sym last) ∙ h)),
     )
 
--- where no `not` stands before the operand, none ends with it
+-- if no `not` stands before the operand, none ends with it
 pub without_nots_bracket : (fs : List Frame) → is_under_not fs ≡ false → without_nots fs ≡ fs
 without_nots_bracket [] h = refl
 without_nots_bracket (a_not ∷ fs) h = cc

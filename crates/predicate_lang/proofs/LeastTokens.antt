@@ -77,9 +77,9 @@ module _ (columns : List Column) where
     raise_unit room ts t (compare place takes of_role) = compare place takes of_role
     raise_unit room ts t (one_of place of_role) = one_of place of_role
 
-  -- ---- what is no `or`, and what is neither
+  -- ---- what isn't an `or`, and what is neither
 
-  -- what is no `or` is a conjunction
+  -- what isn't an `or` is a conjunction
   no_or : (room : ℕ) (ts : List Token) (t : Tree) → is_or t ≡ false → Disjunction columns room ts t → Conjunction columns room ts t
   no_or room ts t plain (conj c) = c
   no_or room ts t plain (or_conj d c) = absurd (false≢true (sym plain))
@@ -89,7 +89,7 @@ module _ (columns : List Column) where
   no_and room ts t plain (unit u) = u
   no_and room ts t plain (and_unit c u) = absurd (false≢true (sym plain))
 
-  -- what stands in brackets where it has to, where one more may be open
+  -- what stands in brackets where it has to, if one more may be open
   in_or : (room : ℕ) (ts : List Token) (t : Tree) → Disjunction columns room ts t → Conjunction columns (suc room) (bracketed (is_or t) ts) t
   in_or room ts t d = go (is_or t) refl
     where
@@ -97,7 +97,7 @@ module _ (columns : List Column) where
       go true is = unit (in_brackets d)
       go false is = raise_conj room ts t (no_or room ts t is d)
 
-  -- what is neither is no `or`
+  -- what is neither isn't an `or`
   less_or : (t : Tree) → is_or_and t ≡ false → is_or t ≡ false
   less_or all_rows is = refl
   less_or (negation p) is = refl

@@ -6,7 +6,7 @@ use Rattle.predicate_lang.specs.Tokens.{Front, Lexed, is_blank, front_token, lex
 abbrev one_step : ℕ → ℕ → ℕ → List ℕ → Lexed
 one_step t at b bytes = cond (is_blank b) (lex_from t (at + 1) bytes) (lex_front at (front_token b bytes) (λ n. lex_from t (at + 1 + n) (drop n bytes)))
 
--- a step is the same where what follows is
+-- a step is the same if what follows is
 same_step : (t u at b : ℕ) (bytes : List ℕ) → ((n a : ℕ) → lex_from t a (drop n bytes) ≡ lex_from u a (drop n bytes)) →
     one_step t at b bytes ≡ one_step u at b bytes
 same_step t u at b bytes same = at_blank (is_blank b)

@@ -1,16 +1,18 @@
 -- The token at an offset is the next one, and the bytes there tell its kind.
-use Rattle.std.proofs.Common.{◌≡◌, ℕ, ℤ, ◌+◌, ◌<◌, ◌≤◌, Bool, true, false, ◌||◌, cond, List, length, drop, get_or, Option, Some, None, refl, sym, ap, ◌∙◌, subst, arith, ◌⊎◌, inl, inr}
+use Rattle.std.proofs.Common.{◌≡◌, ℕ, ℤ, ◌+◌, ◌<◌, ◌≤◌, Bool, true, false, ◌||◌, cond, List, length, drop, get_or, Option, Some, None, Err, refl, sym, ap, ◌∙◌, subst, arith, ◌⊎◌, inl, inr}
 use Rattle.std.specs.Prelude.{◌==◌, option_map}
 use Rattle.std.specs.List.{take_while}
 use Rattle.std.specs.Char.{is_ascii_alphabetic, is_ascii_digit}
 use Rattle.std.proofs.lemmas.Bool.{eq-eqb}
 use Rattle.schema_json.specs.Columns.{Column}
 use Rattle.predicate_lang.specs.Tokens.{Front, is_blank, front_token, word_front, number_at, number_front, number_token, taking, text_front, quoted, mark_front, lexed_from, no_tokens}
-use Rattle.predicate_lang.specs.Lexing.{seen, seen_front, lexeme, IsNext}
+use Rattle.predicate_lang.specs.Lexing.{seen, seen_front, lexeme, Takes, Lexes, IsNext}
 use Rattle.predicate_lang.specs.declared.tokens.Lexeme.{Lexeme}
 use Rattle.predicate_lang.specs.declared.tokens.Token.{Token}
 use Rattle.predicate_lang.specs.declared.tokens.Token.TheVariants.{Value}
 use Rattle.predicate_lang.specs.declared.trees.Literal.TheVariants.{Number, Text}
+use Rattle.predicate_lang.specs.declared.trees.WhereFault.{WhereFault}
+use Rattle.predicate_lang.specs.declared.trees.WhereFault.TheVariants.{Bad, NoMemory}
 use Rattle.predicate_lang.proofs.Lexed.{lexed_from_token, lexed_from_no_token}
 
 -- ---- the kinds
@@ -139,3 +141,9 @@ refused_is columns text from at n first is =
     let behind : from ≤ at = first.behind in
     let inside : at < length text = first.inside in
     (none_is columns text from at first is.0 ∙ ap (λ k. no_tokens (Some k)) (sym here), omega (arith, here, behind), omega (arith, here, inside))
+
+-- and so is what a refused token says
+pub refused_token_is : (columns : List Column) (text : List ℕ) (from at : ℕ) (fault : WhereFault) → IsFirst text from at →
+    Takes (lexeme columns at (front_token (get_or text at 0) (drop (at + 1) text))) at (Err fault) → Lexes columns text from (Err fault)
+refused_token_is columns text from at (Bad n) first is = refused_is columns text from at n first is
+refused_token_is columns text from at NoMemory first is = tt

@@ -36,7 +36,7 @@ role_public (Some role.Sum) l h = h
 role_public (Some role.Max) l h = h
 role_public None l h = h
 
--- after a whole operand where no `not` waits for it
+-- after a whole operand if no `not` waits for it
 plain_whole : (fs : List Frame) (ors ands : Option Tree) (t : Tree) → is_under_not fs ≡ false →
     whole fs ors ands t ≡ build fs ors None (behind (add_and ands t))
 plain_whole fs ors ands t plain =

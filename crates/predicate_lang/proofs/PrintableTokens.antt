@@ -90,7 +90,7 @@ length-take_while p (x ∷ xs) = go (p x) refl (length-take_while p xs)
     go true e rest = omega (arith, rest, ap (length {A = ℕ}) (take_while-cons p x xs ∙ ap (λ t. cond t (x ∷ take_while p xs) []) e))
     go false e rest = omega (arith, ap (length {A = ℕ}) (take_while-cons p x xs ∙ ap (λ t. cond t (x ∷ take_while p xs) []) e))
 
--- a word is printed as it stands, and is a name if it is no keyword
+-- a word is printed as it stands, and is a name if it isn't a keyword
 word_facts : (b : ℕ) (bytes : List ℕ) → is_ascii_alphabetic b ≡ true → list_all is_name_byte bytes ≡ true →
     (is_printable (word_token (b ∷ bytes)) ≡ true) × (token_text (word_token (b ∷ bytes)) ≡ b ∷ bytes)
 word_facts b bytes letter rest =

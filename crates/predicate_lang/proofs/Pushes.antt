@@ -18,7 +18,7 @@ pub then_ok : {A E : Type 0} (r : Result A E) (P Q : Type 0) → OnOk r P → (P
 then_ok (Ok u) P Q h f = f h
 then_ok (Err e) P Q h f = tt
 
--- nothing is claimed where a push failed
+-- nothing is claimed if a push failed
 pub where_refused : {A E : Type 0} (r : Result A E) (P : Type 0) → IsErr r → OnOk r P
 where_refused (Ok u) P failed = absurd cc
 where_refused (Err e) P failed = tt

@@ -19,7 +19,7 @@ abbrev quote_before : Bool → List ℕ → List ℕ
 quote_before false bytes = bytes
 quote_before true bytes = 39 ∷ bytes
 
--- one byte more that is no quote
+-- one byte more that isn't a quote
 with_plain : (b : ℕ) (bytes : List ℕ) (p q : Quoted) → (b == 39) ≡ false → IsQuoted bytes p → with_front (b ∷ []) 1 (Some p) ≡ Some q → IsQuoted (b ∷ bytes) q
 with_plain b bytes p q plain is h =
     let same : record { text = b ∷ p.text; bytes = 1 + p.bytes } ≡ q = cc in
@@ -113,7 +113,7 @@ undoubled (b ∷ t) xs utf8 = go (b == 39) refl utf8 (undoubled t (xs ++ b ∷ [
         let after : IsUtf8 t = rest (cut_behind [] (doubled t) (cut_behind xs (39 ∷ doubled t) u)) in
         subst (λ x. IsUtf8 (xs ++ x ∷ t)) (sym (eqb-true b 39 e)) (subst IsUtf8 (append_assoc xs (39 ∷ []) t) (IsUtf8-append (xs ++ 39 ∷ []) t front after))
 
--- a quoted text and what follows it are UTF-8 where the bytes are
+-- a quoted text and what follows it are UTF-8 if the bytes are
 pub quoted_utf8 : (bytes : List ℕ) (q : Quoted) → IsUtf8 bytes → quoted false bytes ≡ Some q → IsUtf8 q.text × IsUtf8 (drop q.bytes bytes)
 quoted_utf8 bytes q utf8 h =
     let is : IsQuoted bytes q = quoted_is bytes q h in
@@ -141,13 +141,13 @@ doubled-append (b ∷ xs) ys = go (b == 39) (doubled-append xs ys)
     go true e = ap (λ zs. 39 ∷ 39 ∷ zs) e
     go false e = ap (λ zs. b ∷ zs) e
 
--- where a text is split at its first quote
+-- if a text is split at its first quote
 pub split_quote : (text : List ℕ) (x : Bor (List ℕ) × Bor (List ℕ)) → IsSplitOnceResult 39 text (Some x) → doubled text ≡ x.0.now ++ 39 ∷ 39 ∷ doubled x.1.now
 split_quote text x h =
     let parts : (text ≡ x.0.now ++ (39 ∷ x.1.now)) × ((i : ℕ) → i < length x.0.now → get_or x.0.now i 0 ≢ 39) = split_parts 39 text (Some x) h (omega arith) in
     ap doubled parts.0 ∙ doubled-append x.0.now (39 ∷ x.1.now) ∙ ap (λ ys. ys ++ 39 ∷ 39 ∷ doubled x.1.now) (doubled_plain x.0.now parts.1)
 
--- where there is no quote
+-- if there is no quote
 pub split_nowhere : (text : List ℕ) → IsSplitOnceResult 39 text None → doubled text ≡ text
 split_nowhere text h = doubled_plain text (split_parts 39 text None h (omega arith))
 

@@ -5,7 +5,7 @@ use Rattle.std.proofs.lemmas.List.{drop_more}
 use Rattle.std.proofs.lemmas.Bool.{ne_eqb}
 use Rattle.predicate_lang.specs.Tokens.{Quoted, quoted, with_front}
 
--- where nothing stands in front
+-- if nothing stands in front
 pub with_front-nothing : (q : Option Quoted) → q ≡ with_front [] 0 q
 with_front-nothing None = refl
 with_front-nothing (Some q) = let none : q.bytes ≡ 0 + q.bytes = omega arith in ap (λ n. Some (record { text = q.text; bytes = n })) none
@@ -17,7 +17,7 @@ with_front-with_front xs ys n m (Some q) =
     ap (λ t. Some (record { text = t; bytes = n + (m + q.bytes) })) (sym (append_assoc xs ys q.text))
     ∙ ap (λ k. Some (record { text = (xs ++ ys) ++ q.text; bytes = k })) (sym (add_assoc n m q.bytes))
 
--- a byte that is no quote
+-- a byte that isn't a quote
 pub plain_byte : (rest xs ys : List ℕ) (i : ℕ) → i < length rest → (get_or rest i 0 ≡ 39 → ⊥) → ys ≡ xs ++ get_or rest i 0 ∷ []
     → quoted false rest ≡ with_front xs i (quoted false (drop i rest))
     → quoted false rest ≡ with_front ys (i + 1) (quoted false (drop (i + 1) rest))

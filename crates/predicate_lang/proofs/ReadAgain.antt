@@ -62,7 +62,7 @@ take_while-append p (b ∷ bytes) rest all stop = go (p b) refl all (λ more. ta
 
 -- ---- the token at the front
 
--- a token is read where its text stands before these bytes
+-- a token is read if its text stands before these bytes
 record IsReadBefore (t : Token) (rest : List ℕ) : Type 0 where
   first : ℕ
   more : List ℕ
@@ -89,7 +89,7 @@ digit_no_letter b h = grind (arith, nat_tests)
 digit_no_minus : (b : ℕ) → is_ascii_digit b ≡ true → (b == 45) ≡ false
 digit_no_minus b h = grind (arith, nat_tests)
 
--- a name is no keyword
+-- a name isn't a keyword
 name_token : (w : List ℕ) → is_keyword w ≡ false → word_token w ≡ name w
 name_token w h = go (bytes_eq w (codes "and")) (bytes_eq w (codes "or")) (bytes_eq w (codes "not")) (bytes_eq w (codes "all")) (bytes_eq w (codes "in")) h
   where
@@ -315,7 +315,7 @@ gap_stop true y s h = refl
 gap_stop false true s h = h refl
 gap_stop false false s h = refl
 
--- where none of the tokens is unprintable, the first one is not
+-- if none of the tokens is unprintable, the first one isn't
 printable_first : (b : Bool) (n : ℕ) → cond b 0 1 + n ≡ 0 → (b ≡ true) × (n ≡ 0)
 printable_first true n h = (refl, omega arith)
 printable_first false n h = absurd (omega arith)

@@ -32,7 +32,7 @@ refused_token columns text from NoMemory h place = tt
 pub read_only : (columns : List Column) (text : List ℕ) (p : Pred) → Means columns text (tree_of p) → (t : Tree) → Means columns text t → ReadsTree t (Ok p)
 read_only columns text p means t other = one_tree columns text (tree_of p) t means other
 
--- and is refused for want of memory alone
+-- and is refused only if memory runs out
 pub refused_only : (columns : List Column) (text : List ℕ) (fault : WhereFault) → IsWhereFault columns text fault → (t : Tree) → Means columns text t →
     ReadsTree t (Err fault)
 refused_only columns text (Bad at) place t means = refused_means_nothing columns text t at means place.refuses

@@ -17,7 +17,7 @@ use Rattle.predicate_lang.proofs.PredicatesRunThrough.{run-none}
 
 -- ---- before an operand
 
--- these tokens leave this open, and these parts of the innermost `or` and `and`, where so many more may be opened
+-- these tokens leave this open, and these parts of the innermost `or` and `and`, if so many more may be opened
 pub data Before (columns : List Column) : ℕ → List Token → List Frame → Option Tree → Option Tree → Type 0 where
   begin : Before columns most_depth [] [] None None
   after_or : {room : ℕ} {ts us : List Token} {fs : List Frame} {d : Tree} → is_under_not fs ≡ false → Before columns room ts fs None None →
@@ -102,7 +102,7 @@ module _ (columns : List Column) where
 
   -- ---- after a whole operand
 
-  -- where no `not` waits for the operand
+  -- if no `not` waits for the operand
   plain_whole : (room : ℕ) (us vs : List Token) (fs : List Frame) (ors ands : Option Tree) (p : Tree) → is_under_not fs ≡ false →
       Before columns room us fs ors None → Conjunction columns room vs (add_and ands p) → Written columns (us ++ vs) (whole fs ors ands p)
   plain_whole room us vs fs ors ands p plain before c =
@@ -182,7 +182,7 @@ module _ (columns : List Column) where
   more_named : (c : ℕ) (part rest : List Token) (t : Token) → Named columns c part rest → Named columns c (part ++ t ∷ []) (rest ++ t ∷ [])
   more_named c part rest t n = record { word = n.word; place = n.place; public = n.public; split = ap (λ xs. xs ++ t ∷ []) n.split }
 
-  -- where one more may be open
+  -- if one more may be open
   opened_not : (room : ℕ) (ts : List Token) (fs : List Frame) (ors ands : Option Tree) → Before columns room ts fs ors ands → has_room fs ≡ true →
       Written columns (ts ++ not_word ∷ []) (build (a_not ∷ fs) ors ands at_operand)
   opened_not zero ts fs ors ands before may = let low = ltb-true (length fs) 64 may in absurd (omega (arith, rooms zero ts fs ors ands before, low))
@@ -419,7 +419,7 @@ module _ (columns : List Column) where
 
   -- ---- at the end
 
-  -- where nothing is open, and no `or` waits
+  -- if nothing is open, and no `or` waits
   record AtBegin (room : ℕ) (us : List Token) : Type 0 where
     all_room : room ≡ most_depth
     none : us ≡ []

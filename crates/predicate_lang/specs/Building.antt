@@ -49,7 +49,7 @@ build_of s = build_at s (stand_of s.spot s.literals.items)
 
 -- ---- what private calls answer
 
--- what is left is this where the test holds, and else a refusal at the offset
+-- what is left is this if the test holds, and else a refusal at the offset
 abbrev pub Goes : {X : Type 0} → Bool → Build → ℕ → Result X WhereFault → (X → Build) → Type 0
 Goes test b at (Ok x) left = (test ≡ true) × (left x ≡ b)
 Goes test b at (Err (Bad n)) left = (test ≡ false) × (n ≡ at)

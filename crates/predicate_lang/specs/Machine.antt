@@ -83,7 +83,7 @@ closed [] ors p = build [] ors None (behind p)
 closed (a_not ∷ fs) ors p = build (a_not ∷ fs) ors None (behind p)
 closed (a_bracket o a ∷ fs) ors p = whole fs o a (add_or ors p)
 
--- with one token more at this place, where it may stand there
+-- with one token more at this place, if it may stand there
 abbrev pub put_at : Build → Stand → Token → Build
 put_at b at_operand Not = build (a_not ∷ b.frames) b.ors b.ands at_operand
 put_at b at_operand All = whole b.frames b.ors b.ands all_rows
@@ -101,7 +101,7 @@ put_at b (behind p) Or = build b.frames (Some (add_or b.ors p)) None at_operand
 put_at b (behind p) CloseBracket = closed b.frames b.ors p
 put_at b stand t = b
 
--- with one token more, where it may stand there
+-- with one token more, if it may stand there
 abbrev pub put : Build → Token → Build
 put b t = put_at b b.stand t
 
@@ -147,22 +147,22 @@ may_put columns b t = may_stand columns b.frames b.stand t
 
 -- ---- runs
 
--- after one token more, where it may stand there
+-- after one token more, if it may stand there
 abbrev pub step : List Column → Build → Token → Option Build
 step columns b t = cond (may_put columns b t) (Some (put b t)) None
 
--- after these tokens, where they may all stand there
+-- after these tokens, if they may all stand there
 abbrev pub run : List Column → List text.Token → Option Build → Option Build
 run columns [] b = b
 run columns (t ∷ ts) None = None
 run columns (t ∷ ts) (Some b) = run columns ts (step columns b (seen columns t))
 
--- the tree, where nothing is open or wanting
+-- the tree, if nothing is open or wanting
 abbrev pub tree_at : List Frame → Option Tree → Stand → Option Tree
 tree_at [] ors (behind p) = Some (add_or ors p)
 tree_at fs ors stand = None
 
--- the tree of a state, where it has one
+-- the tree of a state, if it has one
 abbrev pub built : Build → Option Tree
 built b = tree_at b.frames b.ors b.stand
 

@@ -10,7 +10,7 @@ use Rattle.predicate_lang.specs.declared.trees.Op.{Op}
 use Rattle.predicate_lang.specs.declared.trees.Literal.{Literal}
 use Rattle.predicate_lang.specs.declared.trees.Literal.TheVariants.{Number, Text}
 
--- in brackets where they are wanted
+-- in brackets if they are wanted
 abbrev pub bracketed : Bool → List Token → List Token
 bracketed false ts = ts
 bracketed true ts = open_bracket ∷ (ts ++ close_bracket ∷ [])

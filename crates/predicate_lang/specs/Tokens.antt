@@ -42,7 +42,7 @@ pub record Front : Type 0 where
   pub token : Token
   pub more : ℕ
 
--- such a front, where there is a token
+-- such a front, if there is a token
 abbrev pub taking : ℕ → Option Token → Option Front
 taking n token = option_map (λ t. record { token = t; more = n }) token
 
@@ -50,7 +50,7 @@ taking n token = option_map (λ t. record { token = t; more = n }) token
 abbrev pub within_most : ℕ → Option ℕ
 within_most n = cond (nat_le n most_number) (Some n) None
 
--- the number of one or more digits after a minus sign or none, where it is not too large
+-- the number of one or more digits after a minus sign or none, if it isn't too large
 abbrev pub number_of : Bool → List ℕ → Option ℤ
 number_of minus [] = None
 number_of minus (d ∷ digits) = option_map (signed minus) (within_most (decimal_after 0 (d ∷ digits)))
@@ -101,7 +101,7 @@ number_at b bytes = if b == 45 then number_of true (take_while is_ascii_digit by
 abbrev pub number_front : ℕ → List ℕ → Option Front
 number_front b bytes = taking (length (take_while is_ascii_digit bytes)) (number_token (number_at b bytes))
 
--- the longest token that begins with this byte and goes on with those, and None where no token begins
+-- the longest token that begins with this byte and goes on with those, and None if no token begins
 unfoldable pub front_token : ℕ → List ℕ → Option Front
 front_token b bytes =
     if is_ascii_alphabetic b then word_front b bytes

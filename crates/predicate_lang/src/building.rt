@@ -1,4 +1,4 @@
-//! The tree as it grows, token by token. What is open is kept in a list: no call goes deeper where brackets do.
+//! The tree as it grows, token by token. What is open is kept in a list: no call goes deeper if brackets do.
 ghost use Rattle.std.specs.Prelude.{◌≡◌, [], ◌∷◌, ◌++◌, ◌<◌, length, List, Some, None, OnOk, true};
 ghost use Rattle.schema_json.specs.Columns.{Column, role_at};
 ghost use Rattle.predicate_lang.specs.Trees.{tree_of, negation, is_of_role, has_operator};
@@ -479,7 +479,7 @@ impl State {
         }
     }
 
-    /// The predicate, where nothing is open or wanting, and else a refusal at the end of the text.
+    /// The predicate, if nothing is open or wanting, and else a refusal at the end of the text.
     pub(crate) fn finish(&mut self, alloc: Global, end: u32) -> Result<Pred, WhereFault>
         ensures { Finishes (built (build_of self.old)) end result }
     {

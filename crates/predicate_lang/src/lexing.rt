@@ -28,7 +28,7 @@ fn is_name_byte(byte: u8) -> bool
     byte.is_ascii_alphanumeric() || byte == b'_'
 }
 
-// The offset of the first byte from an offset on that is no blank.
+// The offset of the first byte from an offset on that isn't a blank.
 #[tactic(auto, using(crate::proofs::Lexed::lexed_from_blank))]
 fn skip_blanks(bytes: &[u8], from: usize) -> usize
     requires { from ≤ length bytes.now }
@@ -63,7 +63,7 @@ fn digits_length(bytes: &[u8]) -> usize
         .count()
 }
 
-// The number that digits mean, where it is not too large.
+// The number that digits mean, if it isn't too large.
 #[tactic(auto, using(crate::proofs::Numbers::decimal_after_grows))]
 fn magnitude(digits: &[u8]) -> Option<u64>
     ensures { result ≡ within_most (decimal_after 0 digits.now) }
@@ -272,9 +272,5 @@ pub(crate) fn next_token(
     if at == text.len() {
         return Ok(None);
     }
-    match token_at(alloc, schema, text, at) {
-        Ok(lexeme) => Ok(Some(lexeme)),
-        Err(WhereFault::Bad { at }) => Err(WhereFault::Bad { at }),
-        Err(WhereFault::NoMemory) => Err(WhereFault::NoMemory),
-    }
+    Ok(Some(token_at(alloc, schema, text, at)?))
 }

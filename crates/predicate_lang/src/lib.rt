@@ -2,8 +2,8 @@
 //!
 //! Start with `read_where`: its clauses say that it reads what a text means, and else names the byte at which the text
 //! goes wrong. `print_where` writes a predicate; its clause `again` says that what is printed of a predicate that was
-//! read means it again. `grammar_runs` ties the grammar to the machine that reads it; docs/FORMATS.md has the grammar in
-//! words.
+//! read means it again. `grammar_runs` ties the grammar to the machine that reads it; docs/FORMATS.md gives the
+//! grammar in words.
 #![tactic(auto)]
 
 mod building;

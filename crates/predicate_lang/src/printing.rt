@@ -173,7 +173,7 @@ fn close(out: &mut String, wanted: bool) -> Result<(), AllocError>
     if wanted { out.push(')') } else { Ok(()) }
 }
 
-// Writes a word, and the bracket of the part after it where one is wanted.
+// Writes a word, and the bracket of the part after it if one is wanted.
 fn lead(out: &mut String, word: &str, wanted: bool) -> Result<(), AllocError>
     ensures { OnOk result (string_bytes out.new ≡ (string_bytes out.old ++ word.now) ++ cond wanted (codes "(") []) }
 {
@@ -181,7 +181,7 @@ fn lead(out: &mut String, word: &str, wanted: bool) -> Result<(), AllocError>
     open(out, wanted)
 }
 
-// Writes the bracket that closes the part before a word, the word, and the bracket of the part after it, where they are
+// Writes the bracket that closes the part before a word, the word, and the bracket of the part after it, if they are
 // wanted.
 fn write_between(out: &mut String, closes: bool, word: &str, opens: bool) -> Result<(), AllocError>
     ensures { OnOk result (string_bytes out.new ≡ ((string_bytes out.old ++ cond closes (codes ")") []) ++ word.now) ++ cond opens (codes "(") []) }
@@ -236,7 +236,7 @@ pub fn print_where(alloc: Global, schema: &Schema, pred: &Pred) -> Result<String
     requires fitting { fits schema.now.columns (tree_of pred.now) ≡ true }
     requires texts { AreTexts (tree_of pred.now) }
     ensures exact { IfOk result (λ s. string_bytes s ≡ printed schema.now.columns (tree_of pred.now)) }
-    // Where the predicate is what some text means, it is what the printed text means too.
+    // If the predicate is what some text means, it is what the printed text means too.
     ensures again { (text : List ℕ) → Means schema.now.columns text (tree_of pred.now)
         → IfOk result (λ s. Means schema.now.columns (string_bytes s) (tree_of pred.now)) }
     // The printed text has at most 511 bytes more than any text that means the predicate.

@@ -24,7 +24,7 @@ enum Step {
     Whole(Pred),
 }
 
-// Takes the next token, or ends where there is none.
+// Takes the next token, or ends if there is none.
 fn take_token(
     alloc: Global,
     schema: &Schema,
@@ -39,21 +39,15 @@ fn take_token(
     requires read { HasRead schema.now.columns text.now from count (build_of state.old) }
     ensures { Steps schema.now.columns text.now from count (build_of state.new) result }
 {
-    match next_token(alloc, schema, text, from) {
-        Ok(Some(Lexeme { token, at, end })) => {
+    match next_token(alloc, schema, text, from)? {
+        Some(Lexeme { token, at, end }) => {
             if count == MOST_TOKENS {
                 return Err(WhereFault::Bad { at });
             }
-            match state.put(alloc, schema, token, at) {
-                Ok(()) => Ok(Step::More(end)),
-                Err(fault) => Err(fault),
-            }
+            state.put(alloc, schema, token, at)?;
+            Ok(Step::More(end))
         }
-        Ok(None) => match state.finish(alloc, text.len() as u32) {
-            Ok(p) => Ok(Step::Whole(p)),
-            Err(fault) => Err(fault),
-        },
-        Err(fault) => Err(fault),
+        None => Ok(Step::Whole(state.finish(alloc, text.len() as u32)?)),
     }
 }
 
@@ -71,19 +65,18 @@ fn take_tokens(
     let mut from = 0usize;
     let mut count = 0usize;
     'tokens: loop {
-        match take_token(alloc, schema, text, from, count, state) {
-            Ok(Step::More(end)) => {
+        match take_token(alloc, schema, text, from, count, state)? {
+            Step::More(end) => {
                 from = end;
                 count += 1;
             }
-            Ok(Step::Whole(p)) => return Ok(p),
-            Err(fault) => return Err(fault),
+            Step::Whole(p) => return Ok(p),
         }
     }
 }
 
-/// The predicate that a text means, after the grammar of docs/FORMATS.md. A refusal names the byte at which the text
-/// goes wrong: a name that is no public column, a token that doesn't fit there, the `not` or bracket that is one too
+/// The predicate that a text means, by the grammar of docs/FORMATS.md. A refusal names the byte at which the text
+/// goes wrong: a name that isn't a public column, a token that doesn't fit there, the `not` or bracket that is one too
 /// deep, token 513, a byte at which no token begins, or the end of the text.
 pub fn read_where(alloc: Global, schema: &Schema, text: &str) -> Result<Pred, WhereFault>
     requires { length text.now ≤ 16384 }

@@ -70,7 +70,7 @@ pub enum Pred {
     },
 }
 
-/// Why a text is no predicate.
+/// Why a text isn't a predicate.
 #[derive(Clone, Copy, Drop)]
 pub enum WhereFault {
     Bad { at: u32 },

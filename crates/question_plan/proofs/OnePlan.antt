@@ -127,7 +127,7 @@ module _ (columns : List Column) (o : Option Written) where
   one_fault : (f g : LineFault) (a b : Plan) → Refuses columns o f → Refuses columns o g → refusal f ≡ Some a → refusal g ≡ Some b → a ≡ b
   one_fault f g a b first second a_is b_is = let both : Some a ≡ Some b = sym a_is ∙ ap refusal (same_fault f g a b first second a_is b_is) ∙ b_is in cc
 
-  -- and none where it is asked
+  -- and none if it is asked
   asked_or_refused : OneMeaning → (f : LineFault) (a : Plan) (r : Request) → Refuses columns o f → refusal f ≡ Some a → Requests columns o r → ⊥
   asked_or_refused meanings fault.Line a r refuses is asks = none-some asks.question (sym refuses ∙ asks.writes)
   asked_or_refused meanings fault.Column a r refuses is asks = good_column fault.Column asks.question refuses asks.writes asks.good

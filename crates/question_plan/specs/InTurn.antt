@@ -49,7 +49,7 @@ module _ {R L : Type 0} (rule : List R → L → Replied R → Type 0) where
         (subst (λ (r : Replied R). AreReplies rule (history ++ option_to_list r.added) lines others) (sym e) those.1) in
         ap (λ (rs : List (Replied R)). a ∷ rs) rest ∙ ap (λ (r : Replied R). r ∷ others) e
 
-    -- where no reply is due to the line after them, lines with that one have no replies
+    -- if no reply is due to the line after them, lines with that one have no replies
     pub none_behind : (history : List R) (lines : List L) (next : L) (replies : List (Replied R)) → AreReplies rule history lines replies → ((reply : Replied R) → rule (history ++ records_of replies) next reply → ⊥)
         → (all : List (Replied R)) → AreReplies rule history (lines ++ next ∷ []) all → ⊥
     none_behind history [] next [] are none [] those = those

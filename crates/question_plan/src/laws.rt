@@ -45,7 +45,7 @@ pub fn one_reply()
 }
 
 /// Over tables that differ in their secrets alone the replies to a line after one history are equal, or both tell the answer
-/// to one question: whether it is answered doesn't depend on the secrets. Where the answers are equal, so are the replies.
+/// to one question: whether it is answered doesn't depend on the secrets. If the answers are equal, so are the replies.
 pub fn decided_alike()
     ensures alike { DecidedAlike }
     ensures equal { EqualAnswersEqualReplies }

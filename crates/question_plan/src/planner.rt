@@ -83,7 +83,7 @@ impl Planner {
         })
     }
 
-    /// What the next counted line comes to. No line is left where there is none. A line that was read when memory ran out is
+    /// What the next counted line comes to; `None` if none is left. A line that was read when memory ran out is
     /// passed.
     pub fn next<P: Source>(
         &mut self,
@@ -119,7 +119,7 @@ impl Planner {
         next_line(&mut self.lines, source)
     }
 
-    /// The line that was read last, without its carriage return. It is empty where that was a long one, or none.
+    /// The line that was read last, without its carriage return. It is empty if that was a long one, or there was none.
     pub fn text(&self) -> &[u8]
         ensures { result.now ≡ self.now.text }
     {

@@ -20,7 +20,7 @@ any_of_entries : (name : List ℕ) (es : List (String Global × Role)) →
 any_of_entries name [] = refl
 any_of_entries name (e ∷ es) = ap (λ b. bytes_eq (string_bytes e.0) name || b) (any_of_entries name es)
 
--- a first entry and those after it repeat a name where one of these has that of the first, or they repeat one
+-- a first entry and those after it repeat a name if one of these has that of the first, or they repeat one
 repeats_first : (e : String Global × Role) (es : List (String Global × Role)) (name : List ℕ) → name ≡ string_bytes e.0 →
     repeats (columns_of_entries (e ∷ es)) ≡ list_any (λ c. bytes_eq (string_bytes c.0) name) es || repeats (columns_of_entries es)
 repeats_first e es name is =
@@ -34,7 +34,7 @@ first_and_later [] e some is = absurd (omega arith)
 first_and_later (x ∷ xs) e some is =
     ap (λ y. y ∷ take (length (x ∷ xs) - 1) xs) is ∙ ap (λ ys. x ∷ ys) (take_all (length (x ∷ xs) - 1) xs (omega arith))
 
--- entries repeat a name where a later one has that of the first, or the later ones repeat one
+-- entries repeat a name if a later one has that of the first, or the later ones repeat one
 pub repeats_next : (es : List (String Global × Role)) (e : String Global × Role) (name : List ℕ) → 1 ≤ length es → e ≡ get_or es 0 e → name ≡ string_bytes e.0
     → repeats (columns_of_entries es)
     ≡ list_any (λ c. bytes_eq (string_bytes c.0) name) (take (length es - 1) (drop 1 es)) || repeats (columns_of_entries (take (length es - 1) (drop 1 es)))

@@ -22,7 +22,7 @@ secrets_suc (c ∷ cs) (suc k) r is =
     let b = filtered c (filter (λ d. is_secret d.role) (take k cs)) (is_secret c.role) in
     omega (arith, a, b, more)
 
--- one column more is counted where it is secret
+-- one column more is counted if it is secret
 pub secrets_more : (cs : List Column) (k : ℕ) (r : Role) → Some r ≡ role_at cs k →
     secret_count (take (k + 1) cs) ≡ secret_count (take k cs) + cond (is_secret r) 1 0
 secrets_more cs k r is = ap (λ n. secret_count (take n cs)) (add-one k) ∙ secrets_suc cs k r is

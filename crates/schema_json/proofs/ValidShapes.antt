@@ -63,7 +63,7 @@ counted_before role.Max bytes zero n later fits = absurd (omega (arith, fits))
 counted_before role.Max bytes (suc m) n later fits =
     sum_by-cons (λ b. cond (nat_lt 0 b) 1 0) 2 (take m (bytes ++ replicate n 0)) ∙ ap (λ n. 1 + n) (later m (omega (arith, fits))) ∙ one-add (length bytes)
 
--- the bytes count the secret columns, where there is room for them
+-- the bytes count the secret columns, if there is room for them
 counted : (cs : List Column) (m n : ℕ) → length (kind_bytes cs) ≤ m →
     count_by (λ b. nat_lt 0 b) (take m (kind_bytes cs ++ replicate n 0)) ≡ length (kind_bytes cs)
 counted [] m n fits = none_counted m n
@@ -73,7 +73,7 @@ counted (c ∷ cs) m n fits = counted_before c.role (kind_bytes cs) m n (λ k. c
 abbrev place_after : Option Column → ℕ → Option ℕ
 place_after o n = option_and_then (λ c. cond (is_secret c.role) (Some n) None) o
 
--- the first column, where it is secret, has place 0
+-- the first column, if it is secret, has place 0
 below_first : (b : Bool) (c : Column) (xs : List Column) (k : ℕ) → cond b (Some 0) None ≡ Some k → k < length (cond b (c ∷ xs) xs)
 below_first true c xs k is = let e : 0 ≡ k = ap (λ o. unwrap_or o 0) is in omega arith
 below_first false c xs k is = absurd (cc)

@@ -29,7 +29,7 @@ key_count d = unwrap_or (option_map members_len (as_object d)) 0
 abbrev pub role_of : List ℕ → Option Role
 role_of word = if bytes_eq word (codes "text") then Some role.Text else (if bytes_eq word (codes "number") then Some role.Number else (if bytes_eq word (codes "sum") then Some role.Sum else (if bytes_eq word (codes "max") then Some role.Max else None)))
 
--- what is made of two parts, where both are there
+-- what is made of two parts, if both are there
 abbrev pub made_of : {X Y Z : Type 0} → (X → Y → Z) → Option X → Option Y → Option Z
 made_of make (Some x) (Some y) = Some (make x y)
 made_of make x y = None
@@ -59,7 +59,7 @@ with_public columns = if has_public columns then Some columns else None
 unfoldable pub columns_of : Data → Option (List Column)
 columns_of d = option_and_then with_public (option_and_then (each_as column_of) (items_at (codes "columns") d))
 
--- the groups that an object of the key `columns` lists: none where this is its one key, else those of the key `protect`
+-- the groups that an object of the key `columns` lists: none if this is its one key, else those of the key `protect`
 unfoldable pub groups_of : Data → Option (List Group)
 groups_of d = if key_count d == 1 then Some [] else (if key_count d == 2 then option_and_then (each_as group_of) (items_at (codes "protect") d) else None)
 
@@ -80,7 +80,7 @@ checked (Some schema) = if not (has_good_names schema.columns) then Err BadName 
 abbrev pub schema_of : List ℕ → Result SchemaView SchemaFault
 schema_of bytes = if nat_lt most_schema (length bytes) then Err TooLong else (if is_none (value_of bytes) then Err NotJson else checked (option_and_then listed_of (value_of bytes)))
 
--- a fault is the bytes' own, unless memory was wanting
+-- a fault is the bytes' own, unless memory ran out
 abbrev pub IsFaultOf : SchemaFault → Result SchemaView SchemaFault → Type 0
 IsFaultOf NoMemory meant = Unit {0}
 IsFaultOf TooLong meant = meant ≡ Err TooLong
@@ -90,7 +90,7 @@ IsFaultOf BadName meant = meant ≡ Err BadName
 IsFaultOf Repeated meant = meant ≡ Err Repeated
 IsFaultOf TooMany meant = meant ≡ Err TooMany
 
--- what was read is what the bytes mean, unless memory was wanting
+-- what was read is what the bytes mean, unless memory ran out
 abbrev pub ReadsSchema : Result SchemaView SchemaFault → List ℕ → Type 0
 ReadsSchema (Ok schema) bytes = schema_of bytes ≡ Ok schema
 ReadsSchema (Err fault) bytes = IsFaultOf fault (schema_of bytes)

@@ -12,7 +12,7 @@ pub value_of-read : (bytes : List ℕ) (d : Data) → IsUtf8 bytes → read byte
 unfolding value_of
 value_of-read bytes d text is = ap (λ b. if b then read bytes else None) (is_utf8-from_IsUtf8 bytes text) ∙ is
 
--- bytes have no value where a text of them would have none
+-- bytes have no value if a text of them would have none
 pub value_of-none : (bytes : List ℕ) → (IsUtf8 bytes → read bytes ≡ None) → value_of bytes ≡ None
 unfolding value_of
 value_of-none bytes none = by (is_utf8 bytes) refl

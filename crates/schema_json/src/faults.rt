@@ -1,15 +1,15 @@
-//! Why bytes are no schema.
+//! Why bytes aren't a schema.
 ghost use Rattle.std.specs.Prelude.{◌≡◌};
 ghost use Rattle.schema_json.specs.Faults.{fault_number};
 
-/// Why bytes are no schema, in the order in which the faults are looked for. docs/FORMATS.md tells each in words.
+/// Why bytes aren't a schema, in the order in which the faults are looked for. docs/FORMATS.md describes each.
 #[derive(Clone, Copy, PartialEq, Eq, Drop)]
 pub enum SchemaFault {
     /// More than 65,536 bytes.
     TooLong,
-    /// No JSON, as `serde_json` reads it.
+    /// Not JSON, as `serde_json` reads it.
     NotJson,
-    /// No object with a list of columns, each with a name and a role, some of them public.
+    /// Not an object with a list of columns, each with a name and a role, some of them public.
     Shape,
     /// A name that no column may have.
     BadName,
@@ -22,7 +22,7 @@ pub enum SchemaFault {
 }
 
 impl SchemaFault {
-    /// The number by which a fault is told to a user, from 1 on.
+    /// The number by which a fault is reported to a user, from 1 on.
     pub fn number(self) -> u8
         ensures { result ≡ fault_number self }
     {

@@ -1,7 +1,7 @@
 //! The schema of a table: which columns it has, which of them are secret, and which groups of rows are protected.
 //!
 //! Start with `read_schema`: its clause says that it answers what the bytes mean, or their first fault. docs/FORMATS.md
-//! has the format in words.
+//! describes the format.
 #![tactic(auto)]
 
 mod faults;

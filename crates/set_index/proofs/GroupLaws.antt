@@ -1,4 +1,4 @@
--- Laws of the entries of groups: they are one list, there is one where no group has a fault, and they fit the table.
+-- Laws of the entries of groups: they are one list, there is one if no group has a fault, and they fit the table.
 use Rattle.std.proofs.Common.{◌≡◌, ℕ, suc, ◌≤◌, List, [], ◌∷◌, ◌++◌, length, Option, Some, None, unwrap_or, refl, sym, ap, ◌∙◌, subst, arith}
 use Rattle.std.specs.Prelude.{option_and_then, All}
 use Rattle.std.proofs.lemmas.List.{length-append}

@@ -1,4 +1,4 @@
--- A row compares so with a literal where its value's order to the literal passes.
+-- A row compares so with a literal if its value's order to the literal passes.
 use Rattle.std.proofs.Common.{◌≡◌, ℕ, ℤ, pos, negsuc, Bool, true, false, cond, ◌&&◌, ◌||◌, not, List, [], get_or, int_lt, int_le, refl, sym, ap, subst, ◌∙◌, arith, ◌⊎◌, inl, inr}
 use Rattle.std.proofs.lemmas.Bool.Decides.{nat_tests}
 use Rattle.std.specs.Cmp.Lexicographic.{slice_cmp, texts_ties}

@@ -36,7 +36,7 @@ has-take order from to r le =
 has-order : (order : List ℕ) (to r : ℕ) → has_row order r ≡ (has_row (take to order) r || has_row (drop to order) r)
 has-order order to r = ap (λ xs. has_row xs r) (sym (take-append-drop to order)) ∙ list_any-append (λ x. x == r) (take to order) (drop to order)
 
--- ---- where the rows that pass stand between two places
+-- ---- if the rows that pass stand between two places
 
 before_fails : (test : ℕ → Bool) (order : List ℕ) (from to r : ℕ) → IsRange test order from to → has_row (take from order) r ≡ true → test r ≡ false
 before_fails test order from to r range =
@@ -106,7 +106,7 @@ first_more n order from to le =
     rows_that_agree (λ r. has_row (first_rows n order from) r || has_row (part order from to) r) (has_row (take to order)) n (λ r low.
     ap (λ b. b || has_row (part order from to) r) (has-rows_that (has_row (take from order)) n r low) ∙ sym (has-take order from to r le))
 
--- where the rows that pass are the first ones
+-- if the rows that pass are the first ones
 pub range_first : (n : ℕ) (order : List ℕ) (to : ℕ) (test : ℕ → Bool) → IsPermutation (rows_that (λ q. true) n) order → IsRange test order 0 to →
     first_rows n order to ≡ rows_that test n
 range_first n order to test once range =
@@ -123,7 +123,7 @@ rest_row t true back one f b = sym (f refl)
 rest_row t false true one f b = sym (b refl)
 rest_row t false false one f b = absurd (false≢true one)
 
--- and where they are all but the first ones
+-- and if they are all but the first ones
 pub range_rest : (n : ℕ) (order : List ℕ) (from : ℕ) (test : ℕ → Bool) → IsPermutation (rows_that (λ q. true) n) order →
     IsRange test order from (length order) → complement n (first_rows n order from) ≡ rows_that test n
 range_rest n order from test once range =

@@ -21,7 +21,7 @@ lesser Less q h = h
 lesser Equal q h = refl
 lesser Greater q h = refl
 
--- what is not less by value, and not by row where the values are equal, is not less by value and then by row
+-- what is not less by value, and not by row if the values are equal, is not less by value and then by row
 by_row : (p q : Ordering) → is_lt p ≡ false → (p ≡ Equal → is_lt q ≡ false) → is_lt (ordering_then p q) ≡ false
 by_row Less q h tie = h
 by_row Equal q h tie = tie refl

@@ -19,7 +19,7 @@ pub record AreMarks (n : ℕ) (order : List ℕ) (marks : List Rows) : Type 0 wh
   pub enough : length order < 16 * length marks
   pub sets : (k : ℕ) (d : Rows) → k < length marks → slice_index_or marks k d ≡ record { n = n; list = first_rows n order (16 * k) }
 
--- the rows of a column in ascending order, and nothing where it is hidden
+-- the rows of a column in ascending order, and nothing if it is hidden
 abbrev pub SortsColumn : ℕ → Cells → Option SortedView → Type 0
 SortsColumn n cells None = cells ≡ hidden
 SortsColumn n cells (Some s) = (s.rows ≡ n) × IsSorted (compare_rows cells) s.order

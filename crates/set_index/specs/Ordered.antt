@@ -14,7 +14,7 @@ compare_cells hidden r s = Equal
 compare_cells (numbers xs) r s = int_cmp (slice_index_or xs r (pos 0)) (slice_index_or xs s (pos 0))
 compare_cells (texts ts) r s = slice_cmp nat_cmp (slice_index_or ts r []) (slice_index_or ts s [])
 
--- how two rows compare: by their values, and where these are equal by their numbers
+-- how two rows compare: by their values, and if these are equal, by their numbers
 abbrev pub compare_rows : Cells → ℕ → ℕ → Ordering
 compare_rows cells = then_cmp (compare_cells cells) nat_cmp
 

@@ -33,7 +33,7 @@ const MOST_CONDITION: usize = 8192;
 /// Why a public part wasn't made ready.
 #[derive(Clone, Copy)]
 pub enum IndexFault {
-    /// The first group, from 0, whose column isn't one of sums, or whose text has more than 8,192 bytes or is no condition.
+    /// The first group, from 0, whose column isn't one of sums, or whose text is over 8,192 bytes or isn't a condition.
     BadGroup { place: u8 },
     NoMemory,
 }
@@ -219,7 +219,7 @@ impl Index {
         }
     }
 
-    /// The row numbers in ascending order of a column's values, and of the rows where values are equal, by the column's
+    /// The row numbers in ascending order of a column's values, and of the rows if values are equal, by the column's
     /// place in the schema.
     pub fn order(&self, place: u8) -> &[u16]
         requires { IsShown (cells_at self.now.public place) }

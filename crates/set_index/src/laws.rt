@@ -15,7 +15,7 @@ pub fn reads_what_fits()
     ensures { (columns : List Column) (p : PublicView) (t : Tree) → FitsSchema columns p → fits columns t ≡ true → fits_public p t ≡ true }
 {}
 
-/// Groups have at most one list of entries, and one exactly where none has a fault. It fits each table over the schema.
+/// Groups have at most one list of entries, and one exactly if none has a fault. It fits each table over the schema.
 pub fn groups_of_a_schema()
     ensures entries { OneListOfEntries }
     ensures fit { EntriesFit }

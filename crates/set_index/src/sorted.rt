@@ -85,7 +85,7 @@ impl Sorted {
         rows
     }
 
-    /// The rows from one place of the order up to another, where these are the rows that pass a test.
+    /// The rows from one place of the order up to another, if these are the rows that pass a test.
     pub(crate) fn range(&self, from: usize, to: usize) -> RowSet
         requires ascends { from ≤ to }
         requires within { to ≤ length self.now.order }

@@ -13,14 +13,14 @@ use std::alloc::Global;
 use std::cmp::Ordering;
 use table_load::Column;
 
-// The number of a row, 0 where there is none.
+// The number of a row, 0 if there is none.
 fn number_at(list: &[i64], row: u16) -> i64
     ensures { result ≡ slice_index_or list.now row (pos 0) }
 {
     list.get(row as usize).copied().unwrap_or(0)
 }
 
-// The text of a row, empty where there is none.
+// The text of a row, empty if there is none.
 fn text_at(list: &[Vec<u8>], row: u16) -> &[u8]
     ensures { result.now ≡ slice_index_or (map (λ t. t.items) list.now) row [] }
 {
@@ -56,7 +56,7 @@ pub(crate) fn sort_by_value(
     Ok(())
 }
 
-/// An end of the rows with some value: before the first of them, or behind the last.
+/// An end of the rows with some value: before the first of them, or after the last.
 #[derive(Clone, Copy)]
 pub(crate) enum End {
     Before,

@@ -1,4 +1,4 @@
--- A row is pinned exactly where its unit row lies in the span: of the sets' rows, or of their reduced form.
+-- A row is pinned exactly if its unit row lies in the span: of the sets' rows, or of their reduced form.
 use Rattle.std.proofs.Common.{◌≡◌, ℕ, ◌<◌, ℤ, List, [], ◌∷◌, length, map, sym, ◌∙◌, arith, inl, inr}
 use Rattle.std.specs.Prelude.{◌↔◌}
 use Rattle.std.specs.List.{AllByRecursion}

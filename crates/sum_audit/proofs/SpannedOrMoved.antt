@@ -95,7 +95,7 @@ back m c u k r w e =
     let turned = *ℤ_comm (pos m) (neg_ℤ (k *ℤ r)) ∙ neg-times (k *ℤ r) (pos m) ∙ ap neg_ℤ (*ℤ_comm (k *ℤ r) (pos m)) in
     omega (arith, ints)
 
--- where the rest is spanned, u is spanned with the first row
+-- if the rest is spanned, u is spanned with the first row
 with_first : (c : ℕ) (u : ℕ → ℤ) (k : ℤ) (r : List ℤ) (rows : List (List ℤ)) → 0 < c → Spans rows (rest_of (pos c) u k r) → Spans (r ∷ rows) u
 with_first c u k r rows h s = record {
   multiple = s.multiple * c;

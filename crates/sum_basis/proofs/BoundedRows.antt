@@ -121,7 +121,7 @@ module _ (n : ℕ) (r : SparseRow) (new : List FreeEntry) (kept : IsKept n r) (p
         let at = l.line j in
         omega (arith, ints)
 
-    -- it is lone exactly where the two lists are parallel
+    -- it is lone exactly if the two lists are parallel
     pub lone_by_parallel : by ≢ pos 0 → times ≢ pos 0 → (map (scaled by) r.free.items ≡ map (scaled times) new) ↔ IsLone made
     lone_by_parallel p q = (
       λ same j other. elim (zero_or_not (number_at made j)) [
@@ -171,7 +171,7 @@ module _ (n : ℕ) (r : SparseRow) (new : List FreeEntry) (kept : IsKept n r) (p
         ),
       )
 
-  -- where its list has another length than the new one it is lone exactly where it was
+  -- if its list has another length than the new one, it is lone exactly if it was
   pub by_length : (b : Bool) → IsSmall (row_of n (entries_of r)) → length r.free.items ≢ length new → unsigned_abs by * r.most + r.most * most ≤ 2 ^ 56
       → IsTrue b ↔ (length r.free.items ≡ 0)
       → (made : List ℤ) × IsCleared n (row_of n new) (row_of n (entries_of r)) made × (IsSmall made × (IsTrue b ↔ IsLone made))

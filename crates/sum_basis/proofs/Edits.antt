@@ -70,7 +70,7 @@ listed_set from n [] k v l h some = absurd (omega arith)
 listed_set from n (x ∷ es) zero v l h some = (h.0, h.1, some, h.3)
 listed_set from n (x ∷ es) (suc k) v l h some = (h.0, h.1, h.2, listed_set (x.place + 1) n es k v (omega arith) h.3 some)
 
--- where the list has a value from entry k on, at a column, that is entry k's
+-- if the list has a value at a column, from entry k on, it is entry k's
 record IsFound (es : List FreeEntry) (k place : ℕ) (v : ℤ) : Type 0 where
   within : k < length es
   at_place : (get_or es k none).place ≡ place
@@ -86,7 +86,7 @@ found (e ∷ es) zero place some = elim (cases_eq e.place place) [
 found (e ∷ es) (suc k) place some =
     let rest = found es k place some in record { within = let l = rest.within in omega arith; at_place = rest.at_place; value_is = rest.value_is }
 
--- where it has none, entry k stands elsewhere
+-- if it has none, entry k stands elsewhere
 missed : (from n : ℕ) (es : List FreeEntry) (k place : ℕ) (d : FreeEntry) → IsListed from n es → first_value (drop k es) place ≡ pos 0 → k < length es →
     (get_or es k d).place ≢ place
 missed from n [] k place d h gone l = absurd (omega arith)
@@ -218,7 +218,7 @@ parted_of list es k place e parted =
     let h = subst (λ l. IsPartitionPoint (λ (x : FreeEntry). x.place < place) (λ (x : FreeEntry). place ≤ x.place) l k) e parted in
     (λ i d p q. h.0 i d (omega arith) p, λ d q. h.1 k d (omega arith) q)
 
--- an entry can be put in only where the list is shorter than the columns
+-- an entry can be put in only if the list is shorter than the columns
 pub room_to_insert : (n : ℕ) (es : List FreeEntry) (k : ℕ) (e : FreeEntry) → k ≤ length es → IsListed 0 n (insert es k e) → length es < n
 room_to_insert n es k e l h = let all = listed_length 0 n (insert es k e) (omega arith) h in let more = length-insert es k e l in omega arith
 

@@ -76,13 +76,13 @@ never_wide old row f narrow p w =
     let kept = span_keeps_form old.n old.rows old.rows row (of_itself old.n old.rows f) p in
     w.2 (subst IsNarrow (forms_are_unique old.n (old.rows ++ row ∷ []) old.rows w.0 kept w.1) narrow)
 
--- Same comes exactly where the row lies in the span
+-- Same comes exactly if the row lies in the span
 pub same_exactly : (old new : Echelon) (row : List ℤ) (grown : Grown) → Grows old row grown new → (grown ≡ Same) ↔ InSpan old.rows row
 same_exactly old new row Same g = (λ e. g.0, λ p. refl)
 same_exactly old new row Added g = (λ e. absurd cc, λ p. absurd (g.0 p))
 same_exactly old new row Wide g = (λ e. absurd cc, λ p. absurd (g.0 p))
 
--- Wide comes exactly where the form with the row is not narrow
+-- Wide comes exactly if the form with the row isn't narrow
 pub wide_exactly : (old new : Echelon) (row : List ℤ) (grown : Grown) → IsSmallForm old.n old.rows → IsNarrow old.rows → Grows old row grown new →
     (grown ≡ Wide) ↔ GrowsWide old row
 wide_exactly old new row Same f narrow g = (λ e. absurd cc, λ w. absurd (never_wide old row f narrow g.0 w))

@@ -15,7 +15,7 @@ use Rattle.audit_types.specs.Numbers.{positive_not_zero}
 use Rattle.sum_basis.proofs.Exactness.{other_row}
 
 module _ (old : Echelon) (v left : List ℤ) (f : IsSmallForm old.n old.rows) (rest : (m : ℕ) × (0 < m) × IsRemainder old.rows (times (pos m) v) left) where
-  -- where nothing is left, the row of the set lies in the span
+  -- if nothing is left, the row of the set lies in the span
   pub nothing_new : ((j : ℕ) → number_at left j ≡ pos 0) → InSpan old.rows v
   nothing_new none = in_span old.rows v left rest.0 rest.1 rest.2 none
 

@@ -38,7 +38,7 @@ pivot_is row p before here =
       | inr l ↦ absurd (here (get_or_past row p (pos 0) l))
     ]
 
--- the rows behind a row are 0 before its pivot
+-- the rows after a row are 0 before its pivot
 all_zero_before : (row : List ℤ) (rows : List (List ℤ)) (j : ℕ) → j < pivot row → AllByRecursion (StandsBefore row) rows →
     AllByRecursion (λ r. number_at r j ≡ pos 0) rows
 all_zero_before row [] j h later = tt
@@ -88,7 +88,7 @@ leads_above [] row leads among = absurd among
 leads_above (r ∷ rows) row leads (inl e) = subst (λ x. pos 0 <ℤ pivot_entry x) e leads.0
 leads_above (r ∷ rows) row leads (inr among) = leads_above rows row leads.1 among
 
--- a row stands before each row behind it
+-- a row stands before each row after it
 pub stands_before : (row : List ℤ) (rows : List (List ℤ)) (other : List ℤ) → AllByRecursion (StandsBefore row) rows → IsRowOf other rows →
     StandsBefore row other
 stands_before row [] other h among = absurd among
@@ -131,7 +131,7 @@ pub zeros_walk : (f : ℕ → ℤ) (rows rest : List (List ℤ)) → ((g : List 
 zeros_walk f rows [] into none = tt
 zeros_walk f rows (r ∷ rest) into none = (none r (into r (inl refl)), zeros_walk f rows rest (λ g q. into g (inr q)) none)
 
--- each of the rows lies in the span where all do
+-- each of the rows lies in the span if all do
 pub in_span_at : (rows others : List (List ℤ)) (g : List ℤ) → AllByRecursion (InSpan rows) others → IsRowOf g others → InSpan rows g
 in_span_at rows [] g h among = absurd among
 in_span_at rows (r ∷ others) g h (inl e) = subst (InSpan rows) e h.0
@@ -204,7 +204,7 @@ on_one_line rows others alike f g p q same j =
               ∙ ap (λ z. z +ℤ neg_ℤ (pivot_entry f) *ℤ pos 0) (*ℤ-zero (pivot_entry g)) ∙ ap (λ z. pos 0 +ℤ z) (*ℤ-zero (neg_ℤ (pivot_entry f)))
         ]
 
--- each of the rows is primitive where all are
+-- each of the rows is primitive if all are
 pub primitive_at : (n : ℕ) (rows : List (List ℤ)) (f : List ℤ) → AllByRecursion (IsPrimitive n) rows → IsRowOf f rows → IsPrimitive n f
 primitive_at n [] f h among = absurd among
 primitive_at n (r ∷ rows) f h (inl e) = subst (IsPrimitive n) e h.0

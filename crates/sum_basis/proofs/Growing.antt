@@ -56,7 +56,7 @@ before_place n new [] (suc k) p z h = tt
 before_place n new (row ∷ form) zero p z h = tt
 before_place n new (row ∷ form) (suc k) p z h = let other = apart n new row p z.0 in let most = h.0 in (omega arith, before_place n new form k p z.1 h.1)
 
--- rows behind a later row are later
+-- rows after a later row are later
 later_rows : (at_pivot : ℕ) (row : List ℤ) (form : List (List ℤ)) → at_pivot < pivot row → AllByRecursion (StandsBefore row) form →
     AllByRecursion (λ other. at_pivot < pivot other) form
 later_rows at_pivot row [] h k = tt

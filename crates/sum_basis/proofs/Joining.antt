@@ -179,7 +179,7 @@ without_list form v Wide other left = absurd (other refl)
 without_list form v Fixing other left = left
 without_list form v Open other left = left
 
--- the form with the row, once its list has joined, where it was told not to be wide
+-- the form with the row, once its list has joined, if it was said not to be wide
 pub grown_to : (old new : Echelon) (list : List FreeEntry) (v : List ℤ) (p : Prospect) → Foresees old v p → ¬ (p ≡ Wide) → new.n ≡ old.n
     → IsNewRow old v (row_of old.n list) → IsReducedForm old.n (old.rows ++ row_of old.n list ∷ []) new.rows → GrowsTo old v new
 grown_to old new list v p told other n row reduced =

@@ -94,7 +94,7 @@ module _ (n : ℕ) (rows : List SparseRow) (seen : Echelon) (view_is : record { 
     is = λ j apart. free_seen j (λ same. All-from_recursion (λ other. pivot other ≢ j) seen.rows apart k [] h (sym (same ∙ pivot_seen)));
   }
 
-  -- it is lone exactly where its list is empty
+  -- it is lone exactly if its list is empty
   pub lone_seen : (len : ℕ) (b : Bool) → len ≡ length r.free.items → b ≡ nat_eq len 0 → IsTrue b ↔ IsLone (get_or seen.rows k [])
   lone_seen len b l e =
       let lone = lone_list n (record { place = r.pivot; value = r.head }) r.free.items kept_row.listed in

@@ -39,7 +39,7 @@ module _ (n : ℕ) (r : SparseRow) (new : List FreeEntry) (kept : IsKept n r) (i
       cleared_already n (row_of n new) (row_of n (entries_of r)) primitive
       (ap (number_at (row_of n (entries_of r))) led.at_pivot ∙ number_at-row_of 0 n (entries_of r) kept.listed place ∙ sum)
 
--- a row is lone exactly where it has no entry after its pivot
+-- a row is lone exactly if it has no entry after its pivot
 pub lone_list : (n : ℕ) (e : FreeEntry) (es : List FreeEntry) → IsListed 0 n (e ∷ es) → (length es ≡ 0) ↔ IsLone (row_of n (e ∷ es))
 lone_list n e [] h = (
   λ l j other.
@@ -106,7 +106,7 @@ nothing_at n r new kept is_new z =
     sym (number_at-row_of 0 n new is_new.listed r.pivot)
     ∙ ap (number_at (row_of n new)) (sym (pivot-row_of 0 n (record { place = r.pivot; value = r.head }) r.free.items kept.listed)) ∙ z
 
--- the new row is lone exactly where it has one entry
+-- the new row is lone exactly if it has one entry
 pub lone_new : (n : ℕ) (new : List FreeEntry) → IsNew n new → (length new ≡ 1) ↔ IsLone (row_of n new)
 lone_new n [] is_new = let some = is_new.some in absurd (omega arith)
 lone_new n (e ∷ es) is_new = let lone = lone_list n e es is_new.listed in (λ one. lone.0 (omega arith), λ is. let l = lone.1 is in omega arith)

@@ -92,7 +92,7 @@ entry_at-scaled by (e ∷ es) j =
     value true = refl
     value false = sym (*ℤ-zero by)
 
--- a list is listed where its multiple is
+-- a list is listed if its multiple is
 pub listed_scaled : (by : ℤ) (from n : ℕ) (es : List FreeEntry) → IsListed from n (map (scaled by) es) → IsListed from n es
 listed_scaled by from n [] h = tt
 listed_scaled by from n (e ∷ es) h = (h.0, h.1, λ z. h.2 (ap (λ x. by *ℤ x) z ∙ *ℤ-zero by), listed_scaled by (e.place + 1) n es h.3)

@@ -89,7 +89,7 @@ all_before : (P : List ℤ → Type 0) (made rest : List (List ℤ)) (row : List
 all_before P [] rest row h = (tt, h.0)
 all_before P (r ∷ made) rest row h = let more = all_before P made rest row h.1 in ((h.0, more.0), more.1)
 
--- the same, where the pivot entries are only known to divide the product of the new one and any multiple of the form's
+-- the same, if the pivot entries are only known to divide the product of the new one and any multiple of the form's
 pub record IsGlanced (n : ℕ) (form : List (List ℤ)) (new : List ℤ) (k : ℕ) (fixing : Bool) : Type 0 where
   pub made : List (List ℤ)
   pub clears : ClearsFirst n form new k made
@@ -149,7 +149,7 @@ glanced_at_once n form new made cleared small lone = record {
   none = λ no. absurd (no refl);
 }
 
--- where that product is within the limit, so is the least common multiple
+-- if that product is within the limit, so is the least common multiple
 pub glanced_is_looked : (n : ℕ) (form : List (List ℤ)) (new : List ℤ) (k m : ℕ) (fixing : Bool) → IsPrimitive n new → 0 < m
     → AllByRecursion (λ x. x ∣ m) (pivot_entries form) → unsigned_abs (pivot_entry new) * m ≤ 2 ^ 56 → IsGlanced n form new k fixing
     → (common : ℤ) × IsLooked n form new k common fixing

@@ -60,7 +60,7 @@ rest_drop : (es : List FreeEntry) (i : ℕ) (b : Bool) → drop (cond b i (i + 1
 rest_drop es i true = refl
 rest_drop es i false = sym (drop-drop 1 i es)
 
--- a list behind another
+-- a list after another
 listed_append : (from next n : ℕ) (xs ys : List FreeEntry) → next ≤ n → IsListed from next xs → IsListed next n ys → from ≤ next → IsListed from n (xs ++ ys)
 listed_append from next n [] ys l h k low = listed_from next from n ys low k
 listed_append from next n (x ∷ xs) ys l h k low = let inside = h.1 in (h.0, omega arith, h.2, listed_append (x.place + 1) next n xs ys l h.3 k (omega arith))
@@ -278,7 +278,7 @@ module _ (n : ℕ) (by : ℤ) (first : List FreeEntry) (times : ℤ) (second out
   abbrev with_entry : ℕ → ℤ → List FreeEntry
   with_entry place v = cond (is_zero v) out (out ++ record { place = place; value = v } ∷ [])
 
-  -- an index goes on where there is a value, and stays where there is none
+  -- an index goes on if there is a value, and stays if there is none
   on : (x y : ℤ) (k : ℕ) → x ≡ y → y ≢ pos 0 → cond (is_zero x) k (k + 1) ≡ k + 1
   on x y k e some = ap (λ z. cond (is_zero z) k (k + 1)) e ∙ ap (λ b. cond b k (k + 1)) (test_of_not_zero y some)
 

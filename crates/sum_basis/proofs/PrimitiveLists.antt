@@ -29,7 +29,7 @@ minus_one x = neg-times (pos 1) x ∙ ap neg_ℤ (one-times x)
 pub turned : (e : FreeEntry) (x : ℤ) → x ≡ neg_ℤ e.value → e ≡ scaled (neg_ℤ (pos 1)) (record { place = e.place; value = x })
 turned e x is = ap (λ (z : ℤ). record { place = e.place; value = z }) (sym (minus_one x ∙ ap neg_ℤ is ∙ neg_ℤ-neg_ℤ e.value))
 
--- the values of a list over a number are no greater
+-- the values of a list divided by a number are no greater
 pub no_greater : (by : ℤ) (old made : List FreeEntry) (most : ℕ) → by ≢ pos 0 → old ≡ map (scaled by) made →
     AllByRecursion (λ (e : FreeEntry). unsigned_abs e.value ≤ most) old → AllByRecursion (λ (e : FreeEntry). unsigned_abs e.value ≤ most) made
 no_greater by old made most n is all = go made (subst (AllByRecursion (λ (e : FreeEntry). unsigned_abs e.value ≤ most)) is all)
@@ -46,7 +46,7 @@ scaled_twice a b (e ∷ es) =
     ap (λ (z : ℤ). record { place = e.place; value = z } ∷ map (scaled a) (map (scaled b) es)) (sym (times_assoc a b e.value))
     ∙ ap (λ l. scaled (a *ℤ b) e ∷ l) (scaled_twice a b es)
 
--- a list over its content, where the size of its first value is divided too
+-- a list divided by its content; the size of its first value is divided too
 module _ (old mid : List FreeEntry) (size head : ℤ) (over : IsOverContent size old head mid) (some : 0 < length old)
     (size_is : size ≡ pos (unsigned_abs (get_or old 0 none).value)) where
   first_is : (get_or old 0 none).value ≡ over.by *ℤ (get_or mid 0 none).value

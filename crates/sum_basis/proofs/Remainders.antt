@@ -16,14 +16,14 @@ module _ (form : List (List ℤ)) (v left : List ℤ) (m : ℕ) (above : 0 < m) 
   multiple_is : (j : ℕ) → pos m *ℤ number_at v j ≡ number_at left j +ℤ combined r.coefficients form j
   multiple_is j = sym (number_at-times (pos m) v j) ∙ r.is j
 
-  -- a space with the form has the row where it has what is left
+  -- a space with the form has the row if it has what is left
   pub span_from_left : (span : List (List ℤ)) → AllByRecursion (InSpan span) form → InSpan span left → InSpan span v
   span_from_left span h p =
       in_span_from span v (spans_down span m (number_at v) above
       (spans_same span (λ j. number_at left j +ℤ combined r.coefficients form j) (λ j. pos m *ℤ number_at v j) (λ j. sym (multiple_is j))
       (spans_add span (number_at left) (combined r.coefficients form) (spans_from span left p) (spans_combined span r.coefficients form h))))
 
-  -- and what is left where it has the row
+  -- and what is left if it has the row
   pub span_to_left : (span : List (List ℤ)) → AllByRecursion (InSpan span) form → InSpan span v → InSpan span left
   span_to_left span h p =
       in_span_from span left (spans_same span (λ j. pos m *ℤ number_at v j +ℤ neg_ℤ (pos 1) *ℤ combined r.coefficients form j) (number_at left) difference
@@ -38,7 +38,7 @@ module _ (form : List (List ℤ)) (v left : List ℤ) (m : ℕ) (above : 0 < m) 
           let once = one-times (combined r.coefficients form j) in
           omega (arith, ints)
 
-  -- where nothing is left the row lies in the span
+  -- if nothing is left the row lies in the span
   pub in_span : ((j : ℕ) → number_at left j ≡ pos 0) → InSpan form v
   in_span none = record {
     multiple = m;

@@ -6,7 +6,7 @@ use Rattle.audit_types.specs.Truth.{number_at}
 use Rattle.audit_types.specs.Form.{pivot}
 use Rattle.sum_basis.proofs.FormsAreUnique.{zero_before}
 
--- a row has no pivot exactly where it is all zeros
+-- a row has no pivot exactly if it is all zeros
 pub no_pivot : (row : List ℤ) → pivot row ≡ length row → (j : ℕ) → number_at row j ≡ pos 0
 no_pivot row e j = elim (cases_lt j (length row)) [
   | inl lt ↦ zero_before row j (omega arith)

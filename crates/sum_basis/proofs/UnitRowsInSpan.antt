@@ -1,4 +1,4 @@
--- A unit row lies in the span exactly where a row of the form has its only entry that is not 0 there.
+-- A unit row lies in the span exactly if a row of the form has its only entry that isn't 0 there.
 use Rattle.std.proofs.Common.{◌≡◌, ◌≢◌, ℕ, zero, suc, ◌+◌, ◌<◌, ◌≤◌, false, cond, ◌||◌, ℤ, pos, List, [], ◌∷◌, length, take, get_or, refl, sym, ap, ◌∙◌, arith, subst, inl, inr}
 use Rattle.std.specs.Prelude.{◌+ℤ◌, ◌*ℤ◌, neg_ℤ, ◌<ℤ◌}
 use Rattle.std.specs.List.{AllByRecursion}
@@ -114,7 +114,7 @@ not_before (r ∷ form) zero row h e none (inr among) lone = let later = (stands
 not_before (r ∷ form) (suc k) row h e none (inl same) lone = absurd (none.0 (subst IsLone (sym same) lone))
 not_before (r ∷ form) (suc k) row h e none (inr among) lone = not_before form k row (omega arith) e.1 none.1 among lone
 
--- where no row has a lone entry none is found
+-- if no row has a lone entry, none is found
 not_among : (form : List (List ℤ)) (k : ℕ) (row : List ℤ) → length form ≤ k → AllByRecursion (λ r. ¬ (IsLone r)) (take k form) → IsRowOf row form → IsLone row →
     ⊥
 not_among [] k row h none among lone = among

@@ -1,4 +1,4 @@
--- Whether a list over its content is within the limit, told by the content alone.
+-- Whether a list divided by its content is within the limit, by the content alone.
 use Rattle.std.proofs.Common.{◌≡◌, ℕ, ◌+◌, ◌*◌, ◌<◌, ◌≤◌, ◌^◌, ℤ, pos, List, [], ◌∷◌, map, take, refl, sym, ap, ◌∙◌, subst, arith}
 use Rattle.std.specs.Prelude.{◌*ℤ◌, ◌<ℤ◌, int_div, unsigned_abs}
 use Rattle.std.specs.Int.{◌∣◌}
@@ -84,7 +84,7 @@ were_within g es made e all = subst (AllByRecursion (λ (e : FreeEntry). unsigne
     go [] h = tt
     go (x ∷ xs) h = (was_within g (pos g *ℤ x.value) x.value refl h.0, go xs h.1)
 
--- where the content brings the greatest size within the limit, all are
+-- if the content brings the greatest size within the limit, all are
 pub small_enough : (head over_head : ℤ) (es : List FreeEntry) (g most least : ℕ) → 0 < g → IsContent (head ∷ values es) g → head ≡ pos g *ℤ over_head
     → unsigned_abs head ≤ most → AllByRecursion (λ (e : FreeEntry). unsigned_abs e.value ≤ most) es → most ≤ least * 2 ^ 56 → least ≤ g
     → (unsigned_abs over_head ≤ 2 ^ 56) × AllByRecursion (λ (e : FreeEntry). unsigned_abs e.value ≤ 2 ^ 56) (over g es)
@@ -95,7 +95,7 @@ small_enough head over_head es g most least p content e at_head at_values enough
           (over_is g es (all-unmap (λ (e : FreeEntry). e.value) (λ x. g ∣ unsigned_abs x) es content.divides.1)) at_values within,
     )
 
--- and where it is less than that needs, not all are
+-- and if it is less than that needs, not all are
 pub too_large : (head over_head : ℤ) (es : List FreeEntry) (g most least : ℕ) → IsContent (head ∷ values es) g → head ≡ pos g *ℤ over_head
     → ((m : ℕ) → unsigned_abs head ≤ m → AllByRecursion (λ (e : FreeEntry). unsigned_abs e.value ≤ m) es → most ≤ m) → least * 2 ^ 56 < most + 2 ^ 56
     → g < least

@@ -45,7 +45,7 @@ combined_zero (x ∷ a) (row ∷ rows) j h =
 abbrev pub ZeroAtPivots : (ℕ → ℤ) → List (List ℤ) → Type 0
 ZeroAtPivots f rows = AllByRecursion (λ row. f (pivot row) ≡ pos 0) rows
 
--- the first row is left out where its coefficient is 0
+-- the first row is left out if its coefficient is 0
 without_first : (c : ℤ) (row : List ℤ) (cs : List ℤ) (rows others : List (List ℤ)) → c ≡ pos 0 → ZeroAtPivots (λ j. c *ℤ number_at row j +ℤ combined cs rows j) others → ZeroAtPivots (λ j. combined cs rows j) others
 without_first c row cs rows [] none h = tt
 without_first c row cs rows (other ∷ others) none h =

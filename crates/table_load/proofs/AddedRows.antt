@@ -21,7 +21,7 @@ use Rattle.table_load.proofs.HasReadMore.{judged, opened_more, only_memory}
 abbrev Reads : Type 0
 Reads = ByteRecordsIntoIter (Bor (List ℕ))
 
--- a read from memory fails for want of memory alone
+-- a read from memory fails only if memory runs out
 pub of_memory : (a b : Reads) (read : Result Row Error) → is_flexible a.rdr ≡ true → RowStep (λ (s : Bor (List ℕ)). Some s.now) a.rdr b.rdr b.left (Some read) →
     IfErr read (λ error. IsOfMemory (error_kind error))
 of_memory a b (Ok row) flexible step = tt

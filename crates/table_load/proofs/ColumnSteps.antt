@@ -1,4 +1,4 @@
--- The columns of a table, one after another, and what they are where no record has a fault.
+-- The columns of a table, one after another, and what they are if no record has a fault.
 use Rattle.std.proofs.Common.{◌≡◌, ℕ, zero, suc, ◌+◌, ◌<◌, Bool, true, false, cond, List, [], ◌∷◌, length, drop, filter, Option, Some, None, refl, sym, ap, ◌∙◌, add-one}
 use Rattle.std.specs.Prelude.{ℤ, pos, unwrap_or}
 use Rattle.std.specs.List.{AllByRecursion}
@@ -121,7 +121,7 @@ all_cells_are which roles rows k (c ∷ cs) good at_k = (
   all_cells_are which roles rows (place_after which c.role k) cs good (next_roles which roles k c cs (is_in_file which c.role) at_k),
 )
 
--- a list joins the others where its column is secret
+-- a list joins the others if its column is secret
 secret_of : (b : Bool) (list : List ℤ) (lists : Secrets) (n : ℕ) → (b ≡ true → AreNumbers n list) → AllByRecursion (AreNumbers n) lists →
     AllByRecursion (AreNumbers n) (cond b (list ∷ lists) lists)
 secret_of true list lists n first others = (first refl, others)

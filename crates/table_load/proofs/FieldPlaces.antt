@@ -23,7 +23,7 @@ field_at_within (f ∷ fields) (suc k) within = field_at_within fields k (omega 
 pub text_is : (bytes : List ℕ) → IsUtf8 bytes → is_utf8 bytes ≡ true
 text_is bytes text = is_utf8-from_IsUtf8 bytes text
 
--- what is no text fails it
+-- what isn't text fails it
 pub text_is_not : (bytes : List ℕ) → ¬ (IsUtf8 bytes) → is_utf8 bytes ≡ false
 text_is_not bytes none = false_from_ne_true (is_utf8 bytes) (λ is. none (IsUtf8-from_is_utf8 bytes is))
 
@@ -31,7 +31,7 @@ text_is_not bytes none = false_from_ne_true (is_utf8 bytes) (λ is. none (IsUtf8
 pub drop_here : {X : Type 0} (xs : List X) (k : ℕ) (d : X) → k < length xs → drop k xs ≡ get_or xs k d ∷ drop (k + 1) xs
 drop_here xs k d within = drop-cons xs k d within ∙ ap (λ n. get_or xs k d ∷ drop n xs) (sym (add-one k))
 
--- the fields from a place on are texts where the one there is and the later ones are
+-- the fields from a place on are texts if the one there is and the later ones are
 pub texts_from : (fields : List (List ℕ)) (k : ℕ) → k < length fields →
     list_all is_utf8 (drop k fields) ≡ (is_utf8 (get_or fields k []) && list_all is_utf8 (drop (k + 1) fields))
 texts_from fields k within = ap (list_all is_utf8) (drop_here fields k [] within)
@@ -56,7 +56,7 @@ fault_here line k roles fields role fault one_each within is some =
     first (Some f) some = refl
     first None some = absurd cc
 
--- where there is none, it is that of the later ones
+-- if there is none, it is that of the later ones
 pub fault_later : (line k : ℕ) (roles : List Role) (fields : List (List ℕ)) (role : Role) (fault : Option TableFault) → length fields ≡ length roles
     → k < length roles → fault ≡ cell_fault (get_or roles k role) line k (get_or fields k []) → is_some fault ≡ false
     → cells_fault line k (drop k roles) (drop k fields) ≡ cells_fault line (k + 1) (drop (k + 1) roles) (drop (k + 1) fields)

@@ -28,12 +28,12 @@ in_range_from : (line column : ℕ) (z : ℤ) (b : Bool) → cond b None (Some (
 in_range_from line column z true is = refl
 in_range_from line column z false is = absurd (cc)
 
--- where a field that should be a number has no fault, it is one in range
+-- if a field that should be a number has no fault, it is one in range
 fine_number : (line column : ℕ) (meant : Option ℤ) → number_fault line column meant ≡ None → is_number meant ≡ true
 fine_number line column None is = absurd (cc)
 fine_number line column (Some z) is = in_range_from line column z (in_range z) is
 
--- a field without a fault spells a number in range where its role wants one
+-- a field without a fault spells a number in range if its role wants one
 fine_cell : (role : Role) (line column : ℕ) (field : List ℕ) → cell_fault role line column field ≡ None → has_numbers role ≡ true →
     is_number (number_in field) ≡ true
 fine_cell role line column field fine numeric =
@@ -65,7 +65,7 @@ record FineRecord (roles : List Role) (line : ℕ) (fields : Fields) : Type 0 wh
   same : length fields ≡ length roles
   cells : cells_fault line 0 roles fields ≡ None
 
--- what each test of a record says where it has no fault
+-- what each test of a record says if it has no fault
 fine_parts : (roles : List Role) (line : ℕ) (fields : Fields) (a b : Bool) → (length fields == length roles) ≡ a
     → (if not a then Some (fault.Length line) else (if not b then Some (fault.NotText line) else cells_fault line 0 roles fields)) ≡ None →
     FineRecord roles line fields

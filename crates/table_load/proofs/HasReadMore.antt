@@ -48,7 +48,7 @@ read_all bytes rows a b has step =
     all_of_records bytes rows a.rdr.state has.left has.reached
     (rows-end (λ (s : Bor (List ℕ)). Some s.now) a.rdr b.rdr [] default_config has.left has.as_usual has.source step)
 
--- a reader of records of any length that reads no text fails for want of memory alone
+-- a reader of records of any length that reads no text fails only if memory runs out
 pub only_memory : {R : Type 0} (remaining : R → Option (List ℕ)) (a b : Reader R) (why : ErrorKind) → is_flexible a ≡ true →
     ExplainsRead remaining a b false why → IsOfMemory why
 only_memory remaining a b (kind.Io e) flexible explains = tt

@@ -1,4 +1,4 @@
--- A field spells a number exactly where it is spaces, a sign or none, digits, spaces.
+-- A field spells a number exactly if it is spaces, a sign or none, digits, spaces.
 use Rattle.std.proofs.Common.{◌≡◌, ◌≢◌, ℕ, zero, suc, ◌+◌, ◌-◌, ◌*◌, Bool, true, false, cond, List, [], ◌∷◌, ◌++◌, length, replicate, Option, Some, None, refl, sym, ap, ◌∙◌}
 use Rattle.std.specs.Prelude.{ℤ, pos, neg_ℤ, unwrap_or, ◌==◌}
 use Rattle.std.specs.List.{list_all}

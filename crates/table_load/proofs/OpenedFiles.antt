@@ -19,7 +19,7 @@ use Rattle.table_load.proofs.HasReadMore.{read_all, read_front, read_more}
 abbrev Reads : Type 0
 Reads = ByteRecordsIntoIter (Bor (List ℕ))
 
--- the first read from memory fails for want of memory alone
+-- the first read from memory fails only if memory runs out
 pub first_of_memory : (a b : Reads) (first : Option (Result Row Error)) → is_flexible a.rdr ≡ true →
     RowStep (λ (s : Bor (List ℕ)). Some s.now) a.rdr b.rdr b.left first → IfSome first (λ read. IfErr read (λ error. IsOfMemory (error_kind error)))
 first_of_memory a b None flexible step = tt

@@ -10,7 +10,7 @@ use Rattle.csv.specs.declared.parser.State.TheVariants as st
 use Rattle.csv.specs.declared.parser.Action.{Action}
 use Rattle.csv.specs.declared.parser.Action.TheVariants as act
 
--- where a step ends a record, the next one has not begun
+-- if a step ends a record, the next one hasn't begun
 abbrev Rests : State × Action → Type 0
 Rests p = is_end p.1 ≡ true → ends_at_end p.0 ≡ false
 
@@ -121,7 +121,7 @@ short_more s f p c rest =
     short_step s f p c rest
     (short (step default_config s c).0 (fields_after (step default_config s c).1 f p) (field_after (step default_config s c).1 c p) rest)
 
--- a read that gave a record, where none had begun, took at least one byte
+-- a read that gave a record, if none had begun, took at least one byte
 took : (s : State) (xs : List ℕ) (p : Read) → ends_at_end s ≡ false → next_record default_config s [] [] xs ≡ Some p →
     (length p.2 < length xs) × (ends_at_end p.1 ≡ false)
 unfolding next_record
@@ -151,7 +151,7 @@ reached_front (r ∷ rs) (suc n) s xs s2 ys fresh short_of reached =
           ∙ ap (λ x. r ∷ x) later.2,
     )
 
--- nothing follows where no record is left
+-- nothing follows if no record is left
 none_left : (m : ℕ) (s : State) (ys : List ℕ) → 0 < m → next_record default_config s [] [] ys ≡ None → records_from default_config m s ys ≡ []
 unfolding records_from
 none_left zero s ys some none = absurd (omega (arith, some))
@@ -165,7 +165,7 @@ front_of_records bytes rows s2 ys reached =
     let front = reached_front rows (length (strip_bom bytes) + 1) st.StartRecord (strip_bom bytes) s2 ys refl (omega arith) reached in
     (records_from default_config front.0 s2 ys, front.2)
 
--- all the records, where none is left
+-- all the records, if none is left
 pub all_of_records : (bytes : List ℕ) (rows : List (List (List ℕ))) (s2 : State) (ys : List ℕ)
     → Reached default_config st.StartRecord (strip_bom bytes) rows s2 ys → next_record default_config s2 [] [] ys ≡ None
     → records_of bytes ≡ rows

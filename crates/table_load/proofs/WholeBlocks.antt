@@ -70,7 +70,7 @@ greatest_split f a p q (suc n) =
     one true false z l = refl
     one false d z l = refl
 
--- where a set has a block, its rows in the block are the block's
+-- if a set has a block, its rows in the block are the block's
 block_is : (n : ℕ) (rows : List ℕ) (block : ℕ) → ((r : ℕ) → r / 64 ≡ block → has_row rows r ≡ true) →
     rows_that (λ r. has_row rows r && (r / 64 == block)) n ≡ block_rows n block
 block_is n rows block whole = rows_that_agree _ _ n (λ r l. elim (cases_eq (r / 64) block) [

@@ -45,11 +45,11 @@ abbrev pub texts_of : Cells → List (List ℕ)
 texts_of (texts ts) = ts
 texts_of cells = []
 
--- the number of a row in a column, 0 where there is none
+-- the number of a row in a column, 0 if there is none
 abbrev pub number_of_cell : PublicView → ℕ → ℕ → ℤ
 number_of_cell p place row = slice_index_or (numbers_of (cells_at p place)) row (pos 0)
 
--- the text of a row in a column, empty where there is none
+-- the text of a row in a column, empty if there is none
 abbrev pub text_of_cell : PublicView → ℕ → ℕ → List ℕ
 text_of_cell p place row = slice_index_or (texts_of (cells_at p place)) row []
 

@@ -28,7 +28,7 @@ pub record IsDatabase (base : Database) : Type 0 where
 abbrev pub AreTwins : Database → Database → Type 0
 AreTwins base twin = (twin ≡ record base { secret = twin.secret }) × (twin.secret.shape ≡ base.secret.shape)
 
--- the table whose secrets these are, where these groups are protected
+-- the table whose secrets these are, with these groups protected
 abbrev pub secret_table : SecretView → List Protected → Table
 secret_table secret protected = record { setting = setting_of secret.shape protected; secrets = secret.lists }
 

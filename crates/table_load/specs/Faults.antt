@@ -3,7 +3,7 @@ use Rattle.std.specs.Prelude.{◌≡◌, ℕ, Option, Some, None, Result, Ok, Er
 use Rattle.table_load.specs.declared.faults.TableFault.{TableFault}
 use Rattle.table_load.specs.declared.faults.TableFault.TheVariants.{TooLong, Header, Length, NotText, NotNumber, OutOfRange, TooManyRows, NoRows, NoMemory}
 
--- the number by which a fault is told, from 1
+-- the number by which a fault is reported, from 1
 abbrev pub fault_number : TableFault → ℕ
 fault_number TooLong = 1
 fault_number Header = 2
@@ -20,7 +20,7 @@ abbrev pub unless_fault : {X : Type 0} → Option TableFault → X → Result X 
 unless_fault None x = Ok x
 unless_fault (Some fault) x = Err fault
 
--- where a fault is not want of memory, this holds
+-- if a fault isn't that memory ran out, this holds
 abbrev pub UnlessMemory : TableFault → Type 0 → Type 0
 UnlessMemory NoMemory P = Unit {0}
 UnlessMemory TooLong P = P
@@ -32,7 +32,7 @@ UnlessMemory (OutOfRange line column) P = P
 UnlessMemory TooManyRows P = P
 UnlessMemory NoRows P = P
 
--- what was read is what the bytes mean, unless memory was wanting
+-- what was read is what the bytes mean, unless memory ran out
 abbrev pub Loads : {X : Type 0} → Result X TableFault → Result X TableFault → Type 0
 Loads (Ok x) meant = meant ≡ Ok x
 Loads (Err fault) meant = UnlessMemory fault (meant ≡ Err fault)

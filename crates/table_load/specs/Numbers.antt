@@ -5,11 +5,11 @@ use Rattle.table_load.specs.Numerals.{in_range}
 use Rattle.table_load.specs.declared.numerals.Numeral.{Numeral}
 use Rattle.table_load.specs.declared.numerals.Numeral.TheVariants as numeral
 
--- a size, where all that are above the limit are one
+-- a size; all that are above the limit are one
 abbrev pub capped : ℕ → ℕ
 capped n = min n (most_number + 1)
 
--- what a field is read as: the number that is meant, where it is in range
+-- what a field is read as: the number that is meant, if it is in range
 abbrev pub IsNumeralOf : Numeral → Option ℤ → Type 0
 IsNumeralOf (numeral.Number z) meant = (meant ≡ Some z) × (in_range z ≡ true)
 IsNumeralOf numeral.TooLarge meant = (z : ℤ) × (meant ≡ Some z) × (in_range z ≡ false)

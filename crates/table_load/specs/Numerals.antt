@@ -14,12 +14,12 @@ abbrev pub after_spaces : List ℕ → List ℕ
 after_spaces [] = []
 after_spaces (b ∷ bytes) = cond (is_space b) (after_spaces bytes) (b ∷ bytes)
 
--- the number that digits make after those that made n, where spaces alone follow them
+-- the number that digits make after those that made n, if spaces alone follow them
 abbrev pub tail_number : ℕ → List ℕ → Option ℕ
 tail_number n [] = Some n
 tail_number n (b ∷ bytes) = cond (is_ascii_digit b) (tail_number (10 * n + (b - 48)) bytes) (cond (list_all is_space (b ∷ bytes)) (Some n) None)
 
--- the number that digits make, at least one, where spaces alone follow them
+-- the number that digits make, at least one, if spaces alone follow them
 abbrev pub digits_number : List ℕ → Option ℕ
 digits_number [] = None
 digits_number (b ∷ bytes) = cond (is_ascii_digit b) (tail_number 0 (b ∷ bytes)) None

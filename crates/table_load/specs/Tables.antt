@@ -17,7 +17,7 @@ use Rattle.table_load.specs.declared.layout.FileColumns.TheVariants.{All, Public
 abbrev pub field_of : ℕ → Fields → List ℕ
 field_of k fields = slice_index_or fields k []
 
--- the number that a field spells, 0 where it spells none
+-- the number that a field spells, 0 if it spells none
 abbrev pub number_of_field : List ℕ → ℤ
 number_of_field field = unwrap_or (number_in field) (pos 0)
 
@@ -26,7 +26,7 @@ abbrev pub is_number : Option ℤ → Bool
 is_number None = false
 is_number (Some z) = in_range z
 
--- a record with a field at a place, which spells a number in range where the role wants one
+-- a record with a field at a place, which spells a number in range if the role wants one
 pub record HasCell (role : Role) (k : ℕ) (fields : Fields) : Type 0 where
   pub within : k < length fields
   pub number : has_numbers role ≡ true → is_number (number_in (field_of k fields)) ≡ true
@@ -54,7 +54,7 @@ abbrev pub cells_from : FileColumns → ℕ → List Column → List Fields → 
 cells_from which k [] rows = []
 cells_from which k (c ∷ columns) rows = cells_of c.role k rows ∷ cells_from which (place_after which c.role k) columns rows
 
--- the numbers of the secret columns, where all columns stand in the file from column k on
+-- the numbers of the secret columns, if all columns stand in the file from column k on
 abbrev pub secrets_from : ℕ → List Column → List Fields → Secrets
 secrets_from k [] rows = []
 secrets_from k (c ∷ columns) rows = cond (is_secret c.role) (number_column k rows ∷ secrets_from (k + 1) columns rows) (secrets_from (k + 1) columns rows)

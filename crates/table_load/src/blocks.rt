@@ -1,4 +1,4 @@
-//! Sums and greatest numbers over sets of rows, where those of each 64 rows are known.
+//! Sums and greatest numbers over sets of rows, if those of each 64 rows are known.
 ghost use Rattle.std.specs.Prelude.{◌≡◌, ◌≢◌, ◌+◌, ◌*◌, ◌<◌, ◌≤◌, []};
 ghost use Rattle.audit_types.specs.Limits.{most_rows};
 ghost use Rattle.audit_types.specs.Truth.{sum_over, greatest_over};
@@ -9,7 +9,7 @@ ghost use Rattle.table_load.specs.Kept.{AreBlocks, block_rows};
 use crate::truth::{greatest_from, sum_over, truth_over};
 use audit_types::{Kind, RowSet};
 
-/// The true answer over each block of 64 rows, and 0 where a table has no whole block.
+/// The true answer over each block of 64 rows, and 0 if a table has no whole block.
 pub(crate) type Blocks = [i64; 16];
 
 // The rows of a block.

@@ -63,7 +63,7 @@ fn text_column(
     Ok(texts)
 }
 
-// What everybody may see of a column that stands at place k of the file, where it is public.
+// What everybody may see of a column that stands at place k of the file, if it is public.
 fn cells(alloc: Global, role: Role, k: usize, rows: &[ByteRecord]) -> Result<Column, NoMemory>
     requires { is_public role ≡ true → AllByRecursion (HasCell role k) (map fields_of rows.now) }
     ensures { IfOk result (λ v. cells_kept v ≡ cells_of role k (map fields_of rows.now)) }

@@ -1,9 +1,9 @@
-//! Why bytes are no table of a schema.
+//! Why bytes aren't a table of a schema.
 ghost use Rattle.std.specs.Prelude.{◌≡◌};
 ghost use Rattle.table_load.specs.Faults.{fault_number};
 
-/// Why bytes are no table of a schema. `line` is the number of the record, from 1 with the header; `column` is the place
-/// in the file, from 0. docs/FORMATS.md tells in words which fault is the first.
+/// Why bytes aren't a table of a schema. `line` is the number of the record, from 1 with the header; `column` is the
+/// place in the file, from 0. docs/FORMATS.md says which fault is the first.
 #[derive(Clone, Copy, PartialEq, Eq, Drop)]
 pub enum TableFault {
     /// More than 16,777,216 bytes.
@@ -12,7 +12,7 @@ pub enum TableFault {
     Header,
     /// Another number of fields than columns.
     Length { line: u32 },
-    /// A field that is no UTF-8.
+    /// A field that isn't UTF-8.
     NotText { line: u32 },
     /// A field that should spell a number and spells none.
     NotNumber { line: u32, column: u8 },
@@ -27,7 +27,7 @@ pub enum TableFault {
 }
 
 impl TableFault {
-    /// The number by which a fault is told to a user, from 1 on.
+    /// The number by which a fault is reported to a user, from 1 on.
     pub fn number(self) -> u8
         ensures { result ≡ fault_number self }
     {

@@ -16,7 +16,7 @@ ghost use Rattle.table_load.specs.FirstFaults.{IsFirstRecord, IsFirstField};
 ghost use Rattle.table_load.specs.Tables.{table_of};
 ghost use Rattle.table_load.specs.Meaning.{MeansTable};
 
-/// A field spells a number exactly where it is spaces, a sign or none, digits, spaces.
+/// A field spells a number exactly if it is spaces, a sign or none, digits, spaces.
 pub fn spells()
     ensures only { (field : List ℕ) (z : ℤ) → number_in field ≡ Some z → IsNumeral field z }
     ensures all { (field : List ℕ) (z : ℤ) → IsNumeral field z → number_in field ≡ Some z }

@@ -1,7 +1,7 @@
 //! Tables as CSV: what everybody may see of them, and what the auditor guards.
 //!
 //! Start with `load`: its clause says that it answers the table that the bytes mean, or their first fault. `Secret::truth`
-//! gives the true answer to a question. docs/FORMATS.md has the format in words.
+//! gives the true answer to a question. docs/FORMATS.md describes the format.
 #![tactic(auto)]
 
 mod blocks;

@@ -113,7 +113,7 @@ pub fn load(alloc: Global, schema: &Schema, bytes: &[u8]) -> Result<Table, Table
     }
 }
 
-/// The public part that bytes mean, or their first fault, where header and records hold the public columns alone. The
+/// The public part that bytes mean, or their first fault, if header and records hold the public columns alone. The
 /// places of the columns are those of the whole schema.
 pub fn load_public(alloc: Global, schema: &Schema, bytes: &[u8]) -> Result<Public, TableFault>
     ensures public { Loads result (public_of schema.now.columns bytes.now) }

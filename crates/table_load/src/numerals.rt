@@ -38,7 +38,7 @@ fn split_sign(bytes: &[u8]) -> (bool, &[u8])
     }
 }
 
-// A size with its sign, where it is small enough.
+// A size with its sign, if it is small enough.
 fn signed(minus: bool, size: Option<u64>) -> Numeral
     ensures { (n : Option ℕ) → size ≡ option_map capped n → IsNumeralOf result (option_sign minus n) }
 {
@@ -61,7 +61,7 @@ fn after_spaces(field: &[u8]) -> &[u8]
     &field[start..]
 }
 
-// The number of digits with nothing but spaces after them. All sizes above the limit are told as one above it.
+// The number of digits with nothing but spaces after them. Every size above the limit counts as one above it.
 fn size_in(bytes: &[u8]) -> Option<u64>
     ensures { result ≡ option_map capped (digits_number bytes.now) }
 {

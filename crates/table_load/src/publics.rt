@@ -20,7 +20,7 @@ pub enum Column {
     Texts(Vec<Vec<u8>>),
 }
 
-/// The public part of a table: its columns by their places in the schema, where a secret one shows nothing.
+/// The public part of a table: its columns by their places in the schema; a secret one shows nothing.
 #[derive(Drop)]
 pub struct Public {
     rows: u16,
@@ -76,7 +76,7 @@ impl Public {
         Public { rows, columns }
     }
 
-    /// The public part with these lists, one for each public column in order, where all public columns hold numbers. On
+    /// The public part with these lists, one for each public column in order, if all public columns hold numbers. On
     /// refusal the lists are dropped.
     pub fn of_numbers(
         alloc: Global,

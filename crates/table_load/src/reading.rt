@@ -80,7 +80,7 @@ fn read_header(
     check_header(schema, which, records.next())
 }
 
-// The fault of a record that stands behind so many.
+// The fault of a record after so many.
 fn next_fault(roles: &[Role], count: usize, row: &ByteRecord) -> Option<TableFault>
     requires few { length roles.now ≤ 32 }
     requires at_most { count ≤ 1024 }
@@ -158,7 +158,7 @@ fn data_records(
     some_rows(rows)
 }
 
-/// The data records of a file, where none of them has a fault. Records of another length are read too, and only want of
+/// The data records of a file, if none of them has a fault. Records of another length are read too, and only running out of
 /// memory is left as an error of a read.
 pub(crate) fn read_rows(
     alloc: Global,

@@ -3,7 +3,7 @@ use Rattle.std.proofs.Common.{◌≡◌, ℕ, ◌-◌, ◌*◌, List, [], ◌∷
 use Rattle.line_wire.specs.Lines.{CountedLine}
 use Rattle.transcript_sim.specs.Verdicts.{Exchange, exchanges}
 
--- where the lines before them are whole exchanges
+-- if the lines before them are whole exchanges
 pub exchanges-append : (lines more : List CountedLine) (half : ℕ) → length lines ≡ 2 * half → exchanges (lines ++ more) ≡ exchanges lines ++ exchanges more
 exchanges-append [] more half even = refl
 exchanges-append (question ∷ []) more half even = absurd (omega (arith, even))

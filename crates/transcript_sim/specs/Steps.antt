@@ -90,7 +90,7 @@ CanFollow setting history (Some (Agrees None)) = Unit {0}
 CanFollow setting history (Some Disagrees) = Unit {0}
 CanFollow setting history None = Unit {0}
 
--- whether a transcript goes on behind it: a line that disagrees is its end, and so is none
+-- whether a transcript goes on after it: a line that disagrees is its end, and so is none
 abbrev pub goes_on : Option Shown → ℕ → Due → Result Bool SimulationFault
 goes_on (Some (Agrees added)) line due = Ok true
 goes_on (Some Disagrees) line due = Err (fault.Disagrees line due)
@@ -117,7 +117,7 @@ pub record FailsSending {B : Type 0} (bench : BenchGhosts B) (old new : B) (due 
   pub rose : Rose (bench.faults old) (bench.faults new)
   pub last : bench.last_failed new ≡ true
 
--- the verdict on a question was sent, and where there was none, nothing
+-- the verdict on a question was sent, and if there was none, nothing
 abbrev pub SendsFor : {B : Type 0} → BenchGhosts B → B → B → Option Expected → Type 0
 SendsFor bench old new None = new ≡ old
 SendsFor bench old new (Some expected) = SendsVerdict bench old new (due_of expected)

@@ -9,7 +9,7 @@ use std::fmt;
 pub enum Due {
     /// A count, which the public columns answer.
     Counted,
-    /// It is no question, or none that can be decided.
+    /// It isn't a question, or not one that can be decided.
     Refused,
     /// A question of a secret column that is answered.
     Released,

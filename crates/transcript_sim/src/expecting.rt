@@ -20,7 +20,7 @@ pub(crate) enum Expected {
     Answer { take: Take, asked: Asked },
 }
 
-// The verdict that a reply tells which isn't an answer.
+// The verdict that a reply gives if it isn't an answer.
 fn due_of_reply(reply: &Reply) -> Due
     ensures { result ≡ due_of_reply reply.now }
 {

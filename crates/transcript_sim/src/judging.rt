@@ -66,7 +66,7 @@ impl Simulation {
         })
     }
 
-    /// What the next line calls for, which is a question, once its verdict was sent. No line is left where there is none.
+    /// What the next line calls for, which is a question, once its verdict was sent; `None` if no line is left.
     pub(crate) fn judge_question<P: Source, B: Bench>(
         &mut self,
         alloc: Global,
@@ -112,8 +112,8 @@ impl Simulation {
     }
 }
 
-/// Whether the transcript goes on behind what was shown to the last question, at this line. One that disagrees is told with
-/// the question's verdict.
+/// Whether the transcript goes on after what was shown to the last question, at this line. One that disagrees is reported
+/// with the question's verdict.
 pub(crate) fn goes_on(shown: Option<Shown>, line: u64, due: Due) -> Result<bool, SimulationFault>
     ensures { result ≡ goes_on shown line due }
 {

@@ -18,7 +18,7 @@ use set_index::Index;
 use std::alloc::Global;
 
 impl Simulation {
-    /// What the next line calls for, which is a question. No line is left where there is none.
+    /// What the next line calls for, which is a question; `None` if no line is left.
     pub(crate) fn next_question<P: Source>(
         &mut self,
         alloc: Global,
@@ -41,7 +41,7 @@ impl Simulation {
     }
 }
 
-/// What the next line comes to, which was shown to a question that calls for this. No line is left where there is none.
+/// What the next line comes to, which was shown to a question that calls for this; `None` if no line is left.
 pub(crate) fn next_shown<P: Source>(
     lines: &mut Planner,
     source: &mut P,

@@ -40,7 +40,7 @@ fn remainder(sum: i64, den: u16) -> i64
     sum % i64::from(den)
 }
 
-// The sum over so many rows of which this is the average, where it is a whole number.
+// The sum over so many rows of which this is the average, if it is a whole number.
 fn sum_of_average(num: i64, den: u16, size: u16) -> Option<i64>
     requires some { 0 < den }
     requires small { unsigned_abs num ≤ most_answer }

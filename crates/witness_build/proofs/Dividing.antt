@@ -97,12 +97,12 @@ module _ (old new : List ℤ) (row : ℕ) (moves : number_at old row ≢ pos 0) 
   still_moves : number_at new row ≢ pos 0
   still_moves e = moves (ap (λ l. number_at l row) made.is_multiple ∙ number_at-times made.factor new row ∙ ap (λ z. made.factor *ℤ z) e ∙ *ℤ-zero made.factor)
 
-  -- where the number at the row isn't negative, it is positive
+  -- if the number at the row isn't negative, it is positive
   pub divided_positive : pos 0 ≤ℤ number_at new row → IsDivided old row new
   divided_positive h =
       record { factor = made.factor; is_multiple = made.is_multiple; content = content_one.0; positive = let some = still_moves in omega (arith, ints) }
 
-  -- and where it is, the turned one is
+  -- and if it is, the turned one is
   pub divided_turned : (turned : List ℤ) → number_at new row <ℤ pos 0 → turned ≡ map neg_ℤ new → IsDivided old row turned
   divided_turned turned h e = subst (IsDivided old row) (sym e) (record {
     factor = neg_ℤ made.factor;

@@ -1,8 +1,8 @@
--- The free column of a row, as the code looks for it, and that there is one where the row isn't pinned.
-use Rattle.std.proofs.Common.{◌≡◌, ◌≢◌, ℕ, zero, suc, ◌+◌, ◌<◌, ◌≤◌, Bool, true, false, cond, ◌||◌, ◌==◌, ℤ, pos, List, [], ◌∷◌, length, get_or, drop, refl, sym, ap, ◌∙◌, arith, inl, inr, ◌⊎◌, add-one, drop-cons}
-use Rattle.std.specs.Prelude.{◌*ℤ◌, ◌<ℤ◌}
+-- The free column of a row, as the code looks for it, and that there is one if the row isn't pinned.
+use Rattle.std.proofs.Common.{◌≡◌, ◌≢◌, ℕ, zero, suc, ◌+◌, ◌<◌, ◌≤◌, Bool, true, false, cond, ◌||◌, ◌==◌, ℤ, pos, List, [], ◌∷◌, length, get_or, drop, Some, None, refl, sym, ap, ◌∙◌, arith, inl, inr, ◌⊎◌, add-one, drop-cons}
+use Rattle.std.specs.Prelude.{◌*ℤ◌, ◌<ℤ◌, slice_get}
 use Rattle.std.specs.List.{AllByRecursion}
-use Rattle.std.proofs.lemmas.Bool.{or_cases, eqb-true, ne_eqb, cases_lt, or_from, or_parts, false_from_ne_true}
+use Rattle.std.proofs.lemmas.Bool.{or_cases, eqb-true, eqb-false, eq-eqb, ne_eqb, cases_lt, or_from, or_parts, false≢true}
 use Rattle.std.proofs.lemmas.Int.{ints}
 use Rattle.std.proofs.lemmas.List.Elements.{All-from_recursion}
 use Rattle.std.proofs.Math.IntN.{*ℤ_comm, zero-*ℤ}
@@ -14,43 +14,12 @@ use Rattle.audit_types.specs.Products.{zero_factor}
 use Rattle.audit_types.specs.Numbers.{test_of_not_zero, zero_from_test, not_zero_from_test}
 use Rattle.audit_types.specs.FormRows.{IsZeroAtOthers, zero_at_others}
 use Rattle.audit_types.specs.Totals.{total-single}
+use Rattle.sum_basis.specs.declared.sparse.FreeEntry.{FreeEntry}
+use Rattle.sum_basis.specs.Sparse.{entry_at, IsListed}
+use Rattle.sum_basis.specs.Basis.{IsFreeList}
 use Rattle.sum_audit.specs.Dot.{dot}
 use Rattle.sum_audit.specs.Laws.{DirectionsByForm}
 use Rattle.witness_build.specs.Directions.{IsForm}
-
--- the search from column j on
-abbrev pub free_from : List (List ℤ) → List ℤ → ℕ → ℕ
-free_from form row j = first_free form (drop j row) j
-
-passes : (form : List (List ℤ)) (x : ℤ) (row : List ℤ) (j : ℕ) → (is_pivot form j || is_zero x) ≡ true →
-    first_free form (x ∷ row) j ≡ first_free form row (j + 1)
-passes form x row j e = ap (λ b. cond b (first_free form row (j + 1)) j) e
-
-stops : (form : List (List ℤ)) (x : ℤ) (row : List ℤ) (j : ℕ) → (is_pivot form j || is_zero x) ≡ false → first_free form (x ∷ row) j ≡ j
-stops form x row j e = ap (λ b. cond b (first_free form row (j + 1)) j) e
-
-module _ (form : List (List ℤ)) (k : ℕ) (below : k < length form) where
-  -- and any other one is the one
-  pub one_stops : (n : ℕ) → IsForm n form → (j : ℕ) → j < length (get_or form k []) → j ≢ pivot (get_or form k []) → number_at (get_or form k []) j ≢ pos 0 →
-      free_from form (get_or form k []) j ≡ j
-  one_stops n h j inside other some =
-      let row = get_or form k [] in
-      let zero_elsewhere = All-from_recursion (IsZeroAtOthers form) form (zero_at_others form h.echelon) k [] below in
-      let test = or_from (is_pivot form j) (is_zero (number_at row j)) (false_from_ne_true (is_pivot form j) (λ there. some (zero_elsewhere j there other)))
-      (test_of_not_zero (number_at row j) some) in
-      ap (λ l. first_free form l j) (drop-cons row j (pos 0) inside) ∙ stops form (number_at row j) (drop (suc j) row) j test
-
-pub none_left : (form : List (List ℤ)) (row : List ℤ) (j : ℕ) → length row ≤ j → free_from form row j ≡ j
-none_left form [] zero l = refl
-none_left form [] (suc j) l = refl
-none_left form (x ∷ row) zero l = absurd (omega arith)
-none_left form (x ∷ row) (suc j) l = past form row j (suc j) (omega arith)
-  where
-    past : (form : List (List ℤ)) (row : List ℤ) (i j : ℕ) → length row ≤ i → first_free form (drop i row) j ≡ j
-    past form [] zero j l = refl
-    past form [] (suc i) j l = refl
-    past form (x ∷ row) zero j l = absurd (omega arith)
-    past form (x ∷ row) (suc i) j l = past form row i j (omega arith)
 
 pub length_of_row : (n : ℕ) (form : List (List ℤ)) (k : ℕ) → IsForm n form → k < length form → length (get_or form k []) ≡ n
 length_of_row n form k h below = (All-from_recursion (IsPrimitive n) form h.primitive k [] below).one_each
@@ -123,6 +92,78 @@ found : (form : List (List ℤ)) (row : List ℤ) (s : ℕ) → IsFirstFree form
 found form [] s = record { from = omega arith; within = omega arith; hit = λ l. absurd (omega arith); before = λ i l. absurd (omega arith) }
 found form (x ∷ row) s = by_test form x row s (first_free form row (s + 1)) (is_pivot form s || is_zero x) refl (found form row (s + 1))
 
+-- a column that isn't a pivot is the pivot of no row
+no_pivot : (form : List (List ℤ)) (j : ℕ) → is_pivot form j ≡ false → AllByRecursion (λ row. pivot row ≢ j) form
+no_pivot [] j e = tt
+no_pivot (row ∷ rows) j e = let parts = or_parts (pivot row == j) (is_pivot rows j) e in (eqb-false (pivot row) j parts.0, no_pivot rows j parts.1)
+
+-- and the other way round
+free_place : (form : List (List ℤ)) (j : ℕ) → AllByRecursion (λ row. pivot row ≢ j) form → is_pivot form j ≡ false
+free_place [] j all = refl
+free_place (row ∷ rows) j all = or_from (pivot row == j) (is_pivot rows j) (ne_eqb (pivot row) j all.0) (free_place rows j all.1)
+
+-- entries have nothing before the first of them
+nothing_before : (from n : ℕ) (entries : List FreeEntry) (j : ℕ) → IsListed from n entries → j < from → entry_at entries j ≡ pos 0
+nothing_before from n [] j listed l = refl
+nothing_before from n (e ∷ entries) j listed l =
+    let start = listed.0 in
+    let here = ap (λ b. cond b e.value (pos 0)) (ne_eqb e.place j (λ same. omega arith)) in
+    let rest = nothing_before (e.place + 1) n entries j listed.3 (omega arith) in
+    omega (arith, ints)
+
+-- and its value where it stands
+first_value : (from n : ℕ) (e : FreeEntry) (entries : List FreeEntry) → IsListed from n (e ∷ entries) → entry_at (e ∷ entries) e.place ≡ e.value
+first_value from n e entries listed =
+    let here = ap (λ b. cond b e.value (pos 0)) (eq-eqb e.place e.place refl) in
+    let rest = nothing_before (e.place + 1) n entries e.place listed.3 (omega arith) in
+    omega (arith, ints)
+
+module _ (n : ℕ) (form : List (List ℤ)) (row : List ℤ) (long : length row ≡ n) where
+  -- a row without entries at free columns has none
+  no_entry : IsFreeList n form row [] → first_free form row 0 ≡ n
+  no_entry list =
+      let first = found form row 0 in
+      let end = first.within in
+      elim (cases_lt (first_free form row 0) n) [
+        | inl l ↦
+            let hit = first.hit (omega arith) in
+            absurd (hit.1 (first_free form row 0) (omega arith) (sym (list.is (first_free form row 0) (no_pivot form (first_free form row 0) hit.0))))
+        | inr past ↦ omega arith
+      ]
+
+  -- and the first of its entries at free columns stands at the first free one
+  first_entry : (e : FreeEntry) (entries : List FreeEntry) → IsFreeList n form row (e ∷ entries) → first_free form row 0 ≡ e.place
+  first_entry e entries list =
+      let first = found form row 0 in
+      let below : e.place < n = list.listed.1 in
+      let value : number_at row e.place ≢ pos 0 =
+      λ none. list.listed.2 (sym (first_value 0 n e entries list.listed) ∙ list.is e.place list.free.0 ∙ none) in
+      elim (cases_lt (first_free form row 0) (e.place + 1)) [
+        | inl l ↦ elim (cases_lt (first_free form row 0) e.place) [
+          | inl before ↦
+              let hit = first.hit (omega arith) in
+              absurd (hit.1 (first_free form row 0) (omega arith)
+              (sym (list.is (first_free form row 0) (no_pivot form (first_free form row 0) hit.0))
+              ∙ nothing_before e.place n (e ∷ entries) (first_free form row 0) (omega arith, list.listed.1, list.listed.2, list.listed.3) before))
+          | inr from ↦ omega arith
+        ]
+        | inr past ↦
+            let passed : (is_pivot form (0 + e.place) || is_zero (number_at row e.place)) ≡ true = first.before e.place (omega arith) in
+            let same : 0 + e.place ≡ e.place = omega arith in
+            let stops = or_from (is_pivot form e.place) (is_zero (number_at row e.place)) (free_place form e.place list.free.0) (test_of_not_zero (number_at row e.place) value) in
+            absurd (false≢true (sym stops ∙ ap (λ m. is_pivot form m || is_zero (number_at row e.place)) (sym same) ∙ passed))
+      ]
+
+  -- so the first of the entries at free columns says where the first free column is
+  pub first_is : (entries : List FreeEntry) (e : FreeEntry) → IsFreeList n form row entries → Some e ≡ slice_get entries 0 → e.place ≡ first_free form row 0
+  first_is [] e list is = absurd cc
+  first_is (f ∷ entries) e list is = let same : e ≡ f = cc in ap (λ (x : FreeEntry). x.place) same ∙ sym (first_entry f entries list)
+
+  -- and without one there is none
+  pub none_is : (entries : List FreeEntry) → IsFreeList n form row entries → None ≡ slice_get entries 0 → n ≡ first_free form row 0
+  none_is [] list is = sym (no_entry list)
+  none_is (f ∷ entries) list is = absurd cc
+
 -- some row has pivot i and is not 0 at column j
 abbrev pub Reaches : List (List ℤ) → ℕ → ℕ → Type 0
 Reaches [] i j = ⊥
@@ -134,7 +175,7 @@ pub record IsFreeColumn (form rows : List (List ℤ)) (n i j : ℕ) : Type 0 whe
   pub free : is_pivot form j ≡ false
   pub reaches : (j ≡ i) ⊎ Reaches rows i j
 
--- what a row that isn't pinned may suppose of the rows of the form
+-- what a row that isn't pinned may assume of the rows of the form
 record IsOpen (n : ℕ) (sets : List (List ℕ)) (form rows : List (List ℤ)) (i : ℕ) : Type 0 where
   primitive : AllByRecursion (IsPrimitive n) rows
   zeros : AllByRecursion (IsZeroAtOthers form) rows

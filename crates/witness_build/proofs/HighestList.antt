@@ -39,7 +39,7 @@ agrees_with known w kind agrees = record {
   same = subst (λ k. AllByRecursion (λ a. truth k w a.rows ≡ a.value) known.answers) (sym kind) agrees.same;
 }
 
--- where no row is lone, both lists agree, by the laws of maxima
+-- if no row is lone, both lists agree, by the laws of maxima
 pub both_agree : HighestAgrees → LoneOrLowered → (known : Known) (row : ℕ) → known.kind ≡ Max → IsWellFormed known → IsConsistent known.answers →
     ((r : ℕ) → ¬ (IsLone known.answers r)) →
     row < known.n → Agrees known (lowered_at (highest known.n known.answers) row) × Agrees known (highest known.n known.answers)

@@ -10,7 +10,7 @@ pub record IsForm (n : ℕ) (form : List (List ℤ)) : Type 0 where
   pub primitive : AllByRecursion (IsPrimitive n) form
   pub echelon : IsEchelon form
 
--- the number at the row's pivot makes the dot product with the row 0, where `common` stands at the free column
+-- the number at the row's pivot makes the dot product with the row 0, if `common` stands at the free column
 abbrev pub Solves : List ℤ → ℤ → ℕ → List ℤ → Type 0
 Solves d common free row = number_at d (pivot row) *ℤ pivot_entry row ≡ neg_ℤ (number_at row free *ℤ common)
 

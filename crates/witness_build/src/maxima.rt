@@ -60,7 +60,7 @@ fn lowered(alloc: Global, list: &[i128], row: u16) -> Result<Vec<i128>, NoMemory
     Ok(lowered)
 }
 
-/// The list with each row at its upper bound, and at 0 where it has none, and the same list with this row less by 1.
+/// The list with each row at its upper bound, and at 0 if it has none, and the same list with this row less by 1.
 /// Both give every answer of the column.
 pub fn max_witness(alloc: Global, column: &MaxColumn, row: u16) -> Result<Pair, NoMemory>
     requires row { row < column.now.n }

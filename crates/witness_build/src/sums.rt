@@ -21,13 +21,10 @@ fn first_free(basis: &Basis, n: u16, k: u16) -> u16
     requires k { k < length basis.now.rows }
     ensures { result ≡ first_free basis.now.rows (slice_index_or basis.now.rows k []) 0 }
 {
-    let pivot = basis.pivot(k);
-    for column in 0..n {
-        if column != pivot && basis.entry(k, column) != 0 {
-            return column;
-        }
+    match basis.form().free(k).first() {
+        Some(entry) => entry.place,
+        None => n,
     }
-    n
 }
 
 // The free column whose direction belongs to the row.
@@ -44,7 +41,7 @@ fn free_column(basis: &Basis, n: u16, row: u16) -> u16
     row
 }
 
-// What stands at a row's pivot, where `common` stands at the free column and the row's entry there is `entry`.
+// What stands at a row's pivot, if `common` stands at the free column and the row's entry there is `entry`.
 fn solution(entry: i128, pivot_entry: i128, common: i128) -> i128
     requires entry { unsigned_abs entry ≤ 2 ^ 56 }
     requires positive { pos 0 <ℤ pivot_entry }

@@ -3,7 +3,7 @@ use Rattle.bench_core.specs.Causes.{Rose}
 use Rattle.auditor_top.proofs.WholeFiles.{was_read, read_wanted, read_within}
 use Rattle.auditor_top.proofs.reading.read_all.Goals as goal
 
--- a failed read gives no bytes for the whole, and its fault is told
+-- a failed read gives no bytes for the whole, and its fault is reported
 
 pub returns-in-Err : goal.returns-in-Err
 returns-in-Err g c = record {
@@ -61,7 +61,7 @@ returns g c = record {
   steady = λ fine. c.loop-piece.invariant.steady;
 }
 
--- ---- what was read is put behind the bytes before it
+-- ---- what was read is put after the bytes before it
 
 pub loop-piece-preserved : goal.loop-piece-preserved
 loop-piece-preserved g c = record {

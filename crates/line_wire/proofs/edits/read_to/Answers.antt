@@ -6,12 +6,12 @@ use borrow.Rule.Slice.PartMut.{same_len_mid, take_put}
 use Rattle.bench_core.specs.Source.{Reads}
 use Rattle.line_wire.proofs.edits.read_to.Goals as goal
 
--- what was read behind a place ends within the whole
+-- what was read after a place ends within the whole
 within_whole : {E : Type 0} (r : Result ℕ E) (at size whole : ℕ) → at + size ≤ whole → IfOk r (λ count. count ≤ size) → IfOk r (λ count. at + count ≤ whole)
 within_whole (Ok count) at size whole fits within = omega arith
 within_whole (Err e) at size whole fits within = tt
 
--- a failed read is told
+-- a failed read is reported
 told_failed : {E : Type 0} (r : Result ℕ E) (failed : Bool) → failed ≡ is_err r → OnErr r (failed ≡ true)
 told_failed (Ok count) failed is = tt
 told_failed (Err e) failed is = is

@@ -1,4 +1,4 @@
 use Rattle.predicate_lang.proofs.reading.take_tokens.Goals as goal
 
-pub returns-in-Ok-Whole : goal.returns-in-Ok-Whole
-returns-in-Ok-Whole c = rw c.in-Ok-Whole.field-0-is at c.in-Ok-Whole.ensures
+pub returns-in-Whole : goal.returns-in-Whole
+returns-in-Whole c = rw c.in-Whole.is at c.in_ok-end.ensures

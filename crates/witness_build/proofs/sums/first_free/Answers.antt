@@ -1,10 +1,20 @@
-use Rattle.std.proofs.Common.{sym, ap, ◌∙◌, arith, of_z}
-use Rattle.std.specs.Int.{w128}
-use Rattle.witness_build.proofs.FreeColumns.{one_stops, length_of_row}
+use Rattle.std.proofs.Common.{ℕ, [], get_or, sym, subst}
+use Rattle.sum_basis.specs.Basis.{Echelon, IsFreeList}
+use Rattle.witness_build.proofs.FreeColumns.{length_of_row, first_is, none_is}
 use Rattle.witness_build.proofs.sums.first_free.Goals as goal
 
-pub returns-then-entry-ne0 : goal.returns-then-entry-ne0
-returns-then-entry-ne0 c =
-    let long = length_of_row c.args.n c.args.basis.now.rows c.args.k c.requires.form c.requires.k in
-    sym (c.loop-column.invariant ∙ one_stops c.args.basis.now.rows c.args.k c.requires.k c.args.n c.requires.form c.loop-column.column (omega arith)
-    (λ e. c.if-column-pivot.true (e ∙ sym c.pivot-pivot.ensures.pivot)) (λ e. c.if-entry-ne0.true (ap (of_z w128) (c.entry.ensures ∙ e))))
+pub returns-in-Some : goal.returns-in-Some
+returns-in-Some c =
+    let rows = c.args.basis.now.rows in
+    let row = get_or rows c.args.k [] in
+    let list = subst (λ (f : Echelon). IsFreeList f.n f.rows (get_or f.rows c.args.k []) c.free.result.now) c.form.ensures c.free.ensures in
+    first_is c.args.n rows row (length_of_row c.args.n rows c.args.k c.requires.form c.requires.k) c.free.result.now c.in-Some.entry.now
+    (subst (λ (n : ℕ). IsFreeList n rows row c.free.result.now) (sym c.requires.n) list) c.in-Some.ensures.value
+
+pub returns-in-None : goal.returns-in-None
+returns-in-None c =
+    let rows = c.args.basis.now.rows in
+    let row = get_or rows c.args.k [] in
+    let list = subst (λ (f : Echelon). IsFreeList f.n f.rows (get_or f.rows c.args.k []) c.free.result.now) c.form.ensures c.free.ensures in
+    none_is c.args.n rows row (length_of_row c.args.n rows c.args.k c.requires.form c.requires.k) c.free.result.now
+    (subst (λ (n : ℕ). IsFreeList n rows row c.free.result.now) (sym c.requires.n) list) c.in-None.ensures.value

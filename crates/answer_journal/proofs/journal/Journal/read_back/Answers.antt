@@ -1,22 +1,19 @@
-use Rattle.std.proofs.Common.{rules, ◌≡◌, ℕ, true, length, All, sym, ap, ◌∙◌, subst}
-use Rattle.std.proofs.lemmas.Result.{IfErr-at_err}
+use Rattle.std.proofs.Common.{rules, ◌≡◌, ℕ, true, length, All, Err, sym, ap, ◌∙◌, subst}
 use Rattle.audit_types.specs.declared.shapes.Shape.{Shape}
 use Rattle.audit_types.specs.declared.records.Answered.{Answered}
 use Rattle.audit_types.specs.History.{FitsShape}
 use Rattle.journal_form.specs.Journal.{StandsAt}
 use Rattle.answer_journal.specs.Contents.{IsJournal, JournalContents}
-use Rattle.answer_journal.specs.declared.journal.BackFault.{BackFault}
-use Rattle.answer_journal.specs.Faults.{IsFaultOf}
 use Rattle.answer_journal.proofs.Histories.{is_journal}
 use Rattle.answer_journal.proofs.RecordsFit.{history_fits, shape_is_valid}
-use Rattle.answer_journal.proofs.DueIsAnswered.{stands_is_made, not_made_is_due, damage_is_due, whole_has_no_fault}
+use Rattle.answer_journal.proofs.DueIsAnswered.{stands_is_made, damage_is_due, whole_has_no_fault}
 use Rattle.answer_journal.proofs.journal.Journal.read_back.Goals as goal
 
 pub ending_at-requires : goal.ending_at-requires
 ending_at-requires g c =
-    let contents = c.in-Ok.contents in
+    let contents = c.in_ok-shape.field-0 in
     let long : c.len-count.result ≡ length contents.list.items = search rules in
-    let some = c.in-Ok.ensures.journal in
+    let some = c.in_ok-shape.ensures.journal in
     subst (λ (n : ℕ). IsJournal (record { shape = contents.shape; count = n; gate = contents.gate; usable = true })) (sym long)
     (is_journal some.0 contents.shape contents.list.items contents.gate some.1
     (shape_is_valid some.0 contents.shape contents.list.items contents.gate some.1)
@@ -24,57 +21,50 @@ ending_at-requires g c =
 
 -- ---- it was read
 
-pub returns-in-Ok : goal.returns-in-Ok
-returns-in-Ok g c = record {
+pub returns : goal.returns
+returns g c = record {
   stands = λ told.
-      let contents = c.in-Ok.contents in
+      let contents = c.in_ok-shape.field-0 in
       let ended = λ (j : JournalContents). StandsAt (g.B.Bench.file c.args.bench.now) j.shape contents.list.items j.gate in
-      subst ended (sym c.ending_at.ensures) (c.in-Ok.ensures.ok told);
+      subst ended (sym c.ending_at.ensures) (c.in_ok-shape.ensures.ok told);
   usable = search rules;
   fit =
-      let contents = c.in-Ok.contents in
+      let contents = c.in_ok-shape.field-0 in
       let same : c.ending_at.result.shape ≡ contents.shape = search rules in
-      let some = c.in-Ok.ensures.journal in
+      let some = c.in_ok-shape.ensures.journal in
       subst (λ (shape : Shape). All (λ (r : Answered). FitsShape shape r.column r.rows) contents.list.items) (sym same)
       (history_fits some.0 contents.shape contents.list.items contents.gate some.1);
   few = search rules;
   not_made = search rules;
   made = λ told unmade.
-      let contents = c.in-Ok.contents in
-      unmade (stands_is_made (g.B.Bench.file c.args.bench.now) contents.shape contents.list.items contents.gate (c.in-Ok.ensures.ok told));
+      let contents = c.in_ok-shape.field-0 in
+      unmade (stands_is_made (g.B.Bench.file c.args.bench.now) contents.shape contents.list.items contents.gate (c.in_ok-shape.ensures.ok told));
   damaged = search rules;
   damaged_only = λ at told made breaks.
-      let contents = c.in-Ok.contents in
-      c.no_break_in_a_journal.ensures (g.B.Bench.file c.args.bench.now) contents.shape contents.list.items contents.gate at (c.in-Ok.ensures.ok told) breaks;
+      let contents = c.in_ok-shape.field-0 in
+      c.no_break_in_a_journal.ensures (g.B.Bench.file c.args.bench.now) contents.shape contents.list.items contents.gate at (c.in_ok-shape.ensures.ok told) breaks;
   whole = λ shape history gate told stands.
-      let contents = c.in-Ok.contents in
+      let contents = c.in_ok-shape.field-0 in
       let once =
       c.one_reading.ensures (g.B.Bench.file c.args.bench.now) contents.shape shape contents.list.items history contents.gate gate
-      (c.in-Ok.ensures.ok told) stands in
+      (c.in_ok-shape.ensures.ok told) stands in
       (ap (λ (j : JournalContents). j.shape) c.ending_at.ensures ∙ once.0, once.1, ap (λ (j : JournalContents). j.gate) c.ending_at.ensures ∙ once.2);
   reads = c.contents_of.ensures.reads;
-  ticks = c.in-Ok.ensures.ticks;
+  ticks = c.in_ok-shape.ensures.ticks;
   fault = search rules;
 }
 
 -- ---- it was not
 
-pub returns-in-Err : goal.returns-in-Err
-returns-in-Err g c = record {
-  stands = λ told. tt;
-  usable = tt;
-  fit = tt;
-  few = tt;
-  not_made = search rules;
-  made = λ told unmade. not_made_is_due (g.B.Bench.file c.args.bench.now) c.in-Err.fault (c.in-Err.ensures.err told) unmade;
-  damaged = λ at told is.
-      IfErr-at_err (λ (f : BackFault). IsFaultOf (g.B.Bench.file c.args.bench.now) f) is (c.in-Err.ensures.err told);
-  damaged_only =
-      λ at told made breaks. damage_is_due (g.B.Bench.file c.args.bench.now) c.in-Err.fault at c.one_break.ensures (c.in-Err.ensures.err told) made breaks;
-  whole =
-      λ shape history gate told stands. whole_has_no_fault (g.B.Bench.file c.args.bench.now) c.in-Err.fault shape history gate c.no_break_in_a_journal.ensures
-      (c.in-Err.ensures.err told) stands;
-  reads = c.contents_of.ensures.reads;
-  ticks = λ told. tt;
-  fault = search rules;
-}
+pub returns-in_err-shape-clause-damaged_only : goal.returns-in_err-shape-clause-damaged_only
+returns-in_err-shape-clause-damaged_only g c = λ at told made breaks.
+    let same : c.from_residual.result ≡ Err c.in_err-shape.field-0.0 = search rules in
+    rw same
+    (damage_is_due (g.B.Bench.file c.args.bench.now) c.in_err-shape.field-0.0 at c.one_break.ensures (c.in_err-shape.ensures.err told) made breaks)
+
+pub returns-in_err-shape-clause-whole : goal.returns-in_err-shape-clause-whole
+returns-in_err-shape-clause-whole g c = λ shape history gate told stands.
+    let same : c.from_residual.result ≡ Err c.in_err-shape.field-0.0 = search rules in
+    rw same
+    (whole_has_no_fault (g.B.Bench.file c.args.bench.now) c.in_err-shape.field-0.0 shape history gate c.no_break_in_a_journal.ensures
+    (c.in_err-shape.ensures.err told) stands)

@@ -35,7 +35,7 @@ module _ {P : Type 0} (source : Ghosts P) (old new : Cutter) (before after : P) 
   can_follow setting history (Some Disagrees) can shows = tt
   can_follow setting history None can shows = tt
 
-  -- no read failed where a line was given, or none was left
+  -- no read failed if a line was given, or none was left
   steady : (shown : Option Shown) → ShowsNext source old new before after expected shown → source.faults after ≡ source.faults before
   steady (Some shown) shows = shows.gives.steady
   steady None shows = shows.steady
