@@ -1,5 +1,5 @@
 -- What the steps of a compaction leave: the spare is written, and then the line is sent.
-use Rattle.std.proofs.Common.{◌≡◌, ◌++◌, ℕ, List, length, inl, inr, sym, ◌∙◌, ap, subst}
+use Rattle.std.proofs.Common.{◌≡◌, ◌++◌, ℕ, List, length, inl, inr, ◌∙◌, ap, subst}
 use Rattle.audit_types.specs.declared.shapes.Shape.{Shape}
 use Rattle.audit_types.specs.declared.records.Answered.{Answered}
 use Rattle.bench_core.specs.declared.bench.Bench.{Ghosts}

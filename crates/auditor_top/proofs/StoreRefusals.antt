@@ -1,6 +1,6 @@
 -- What a refusal says where the journal wasn't opened, or there was no memory to open it.
-use Rattle.std.proofs.Common.{rules, ◌≡◌, ℕ, Bool, true, false, List, Some, Result, Ok, Err, IsOk, IsErrOf, refl, sym, ◌∙◌, ap, subst}
-use Rattle.std.proofs.lemmas.Bool.{true≢false, false≢true}
+use Rattle.std.proofs.Common.{rules, ◌≡◌, ℕ, Bool, true, List, Some, Result, Ok, Err, IsOk, IsErrOf, refl, sym, ap, subst}
+use Rattle.std.proofs.lemmas.Bool.{false≢true}
 use Rattle.audit_types.specs.declared.records.Answered.{Answered}
 use Rattle.audit_types.specs.History.{IsLegal}
 use Rattle.std.specs.Bool.{OnTrue}
@@ -13,13 +13,13 @@ use Rattle.bench_core.specs.declared.source.Source as source
 use Rattle.schema_json.specs.Columns.{Column, Group, SchemaView}
 use Rattle.schema_json.specs.Reading.{schema_of}
 use Rattle.schema_json.specs.declared.faults.SchemaFault.{SchemaFault}
-use Rattle.table_load.specs.Cells.{PublicView, TableView}
+use Rattle.table_load.specs.Cells.{TableView}
 use Rattle.table_load.specs.Database.{Database, base_of, secret_table, table_in}
 use Rattle.table_load.specs.MeaningLaws.{read_means}
-use Rattle.table_load.specs.Tables.{table_of, public_of}
+use Rattle.table_load.specs.Tables.{table_of}
 use Rattle.table_load.specs.declared.faults.TableFault.{TableFault}
 use Rattle.set_index.specs.Groups.{AreEntries, AreSound, IsFirstBad}
-use Rattle.set_index.specs.Indexed.{IndexView, OneListOfEntries}
+use Rattle.set_index.specs.Indexed.{OneListOfEntries}
 use Rattle.set_index.specs.declared.index.IndexFault.{IndexFault}
 use Rattle.set_index.specs.declared.index.IndexFault.TheVariants as index
 use Rattle.journal_form.specs.Journal.{StandsFor}
@@ -32,16 +32,15 @@ use Rattle.auditor_top.specs.declared.starting.NotStarted.TheVariants as began
 use Rattle.auditor_top.specs.declared.words.Command.{Command}
 use Rattle.auditor_top.specs.declared.words.Command.TheVariants.{Init, Serve, Audit, Simulate, Drill, Grow, Compact}
 use Rattle.auditor_top.specs.declared.status.Status.{Status}
-use Rattle.auditor_top.specs.declared.status.Status.TheVariants.{BadGroup, BenchFault, NotMade, Damaged, OtherShape, Untrue, Illegal, NoMemory}
+use Rattle.auditor_top.specs.declared.status.Status.TheVariants.{BenchFault, NotMade, Damaged, OtherShape, Untrue, Illegal, NoMemory}
 use Rattle.auditor_top.specs.Status.{index_status, start_status, started_status}
 use Rattle.auditor_top.specs.Causes.{FaultCounts, FaultCause, WordCause, SchemaCause, TableCause, GroupCause, FileCause, OpeningCause, counts}
-use Rattle.auditor_top.specs.Commands.{AreSoundFilesOf, ArePublicFilesOf, ServesOver, opens_journal, opens_store, reads_files, reads_groups, reads_secrets}
+use Rattle.auditor_top.specs.Commands.{AreSoundFilesOf, ServesOver, opens_journal, opens_store, reads_files, reads_groups}
 use Rattle.auditor_top.specs.Ready.{EndsEarly, GivesUp, IsGiven, Refuses}
 use Rattle.auditor_top.specs.Stages.{Before, reading_table, opening_journal}
 use Rattle.auditor_top.proofs.GroupRefusals.{groups_refused, group_gives_up}
 use Rattle.auditor_top.proofs.OneTable.{same_ok, one_base, schema_is_ok, table_is_ok, groups_are_sound}
 use Rattle.auditor_top.proofs.StepFaults.{moved, same_counts}
-use Rattle.auditor_top.proofs.StepStatuses.{always_before}
 
 -- a run may end so where its journal is opened
 abbrev EndsOpening : Status → Type 0

@@ -1,4 +1,4 @@
-use Rattle.std.proofs.Common.{List, sym, ◌∙◌, subst, inl, inr}
+use Rattle.std.proofs.Common.{List, subst, inl, inr}
 use Rattle.audit_types.specs.declared.records.Answered.{Answered}
 use Rattle.table_load.specs.Database.{table_in}
 use Rattle.auditor_top.specs.Compactions.{DecideAlike}

@@ -2,9 +2,8 @@ use Rattle.std.proofs.Common.{◌≡◌, ℕ, List, [], Result, Ok, Err, refl, s
 use Rattle.audit_types.specs.Shapes.{IsShape}
 use Rattle.audit_types.specs.declared.shapes.Shape.{Shape}
 use Rattle.schema_json.specs.SecretShape.{shape_of}
-use Rattle.table_load.specs.Cells.{FitsSchema, PublicView, SecretView}
+use Rattle.table_load.specs.Cells.{FitsSchema, PublicView}
 use Rattle.table_load.specs.Database.{base_of}
-use Rattle.audit_store.specs.Stores.{IsAsLeft}
 use Rattle.auditor_top.specs.declared.opening.OpenFault.{OpenFault}
 use Rattle.auditor_top.specs.declared.opening.Opened.{Opened}
 use Rattle.auditor_top.specs.declared.opening.OpenedPublic.{OpenedPublic}
@@ -15,10 +14,9 @@ use Rattle.auditor_top.specs.Ready.{IsGiven, Refuses}
 use Rattle.auditor_top.proofs.FileRefusals.{files_refused, gives_up_over, gives_up_public}
 use Rattle.auditor_top.proofs.Openings.{stays}
 use Rattle.auditor_top.proofs.Refusals.{uncalled}
-use Rattle.auditor_top.proofs.StepFaults.{not_both}
 use Rattle.audit_types.specs.History.{AreProtected}
 use Rattle.audit_types.specs.declared.records.Protected.{Protected}
-use Rattle.schema_json.specs.Columns.{Column, SchemaView}
+use Rattle.schema_json.specs.Columns.{Column}
 use Rattle.table_load.specs.Loaded.{table_view}
 use Rattle.table_load.specs.MeaningLaws.{read_means}
 use Rattle.table_load.specs.Tables.{table_of, public_of}

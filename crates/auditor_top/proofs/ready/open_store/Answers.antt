@@ -1,22 +1,17 @@
-use Rattle.std.proofs.Common.{◌≡◌, ℕ, List, Result, Ok, Err, refl, sym, ◌∙◌, ap, subst}
-use Rattle.audit_types.specs.declared.records.Protected.{Protected}
+use Rattle.std.proofs.Common.{ℕ, List, Result, Err, sym, ◌∙◌, ap, subst}
 use Rattle.schema_json.specs.Columns.{SchemaView}
 use Rattle.schema_json.specs.SecretShape.{shape_of}
 use Rattle.table_load.specs.Cells.{FitsSchema, PublicView, SecretView}
 use Rattle.table_load.specs.Database.{base_of}
 use Rattle.table_load.specs.Loaded.{table_view}
 use Rattle.table_load.specs.MeaningLaws.{read_means}
-use Rattle.set_index.specs.Groups.{AreEntries}
 use Rattle.audit_store.specs.Stores.{IsAsLeft}
 use Rattle.auditor_top.specs.declared.opening.OpenFault.{OpenFault}
 use Rattle.auditor_top.specs.declared.opening.Opened.{Opened}
-use Rattle.auditor_top.specs.declared.words.Command.{Command}
 use Rattle.auditor_top.specs.declared.status.Status.{Status}
 use Rattle.auditor_top.specs.Commands.{AreSoundFilesOf}
 use Rattle.auditor_top.specs.Ready.{Refuses}
 use Rattle.auditor_top.proofs.FileRefusals.{files_refused, gives_up_over}
-use Rattle.auditor_top.proofs.Openings.{stays}
-use Rattle.auditor_top.proofs.Refusals.{uncalled}
 use Rattle.auditor_top.proofs.StepFaults.{not_both}
 use Rattle.auditor_top.proofs.StoreRefusals.{given_history, not_public, opens_files, not_started}
 use Rattle.auditor_top.proofs.ready.open_store.Goals as goal

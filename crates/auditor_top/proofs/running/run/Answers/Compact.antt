@@ -1,5 +1,5 @@
 -- What `run` says of `compact`.
-use Rattle.std.proofs.Common.{◌≡◌, ◌+◌, ℕ, List, Option, Some, Result, IsErr, IsErrOf, OnOk, OnErr, refl, sym, ◌∙◌, ap, subst, map, string_bytes, arith, inl}
+use Rattle.std.proofs.Common.{◌≡◌, ℕ, List, Option, Some, IsErrOf, OnOk, refl, sym, ◌∙◌, ap, subst, map, string_bytes, arith, inl}
 use Rattle.audit_types.specs.declared.records.Answered.{Answered}
 use Rattle.bench_core.specs.Causes.{Rose}
 use Rattle.bench_core.specs.Calls.{IsQuiet, IsUntouched, LeavesOnly}
