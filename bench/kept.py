@@ -166,7 +166,7 @@ class Draw:
 
     def __init__(self, seed):
         self.draw = random.Random(seed)
-        self.rows = self.draw.choice([3, 4, 4, 5, 7, 8, 9, 12, 16, 20])
+        self.rows = self.draw.choice([3, 4, 4, 6, 8, 9, 12, 16, 20, 24])
         self.kinds = [self.draw.choice([SUM, MAX]) for _ in range(self.draw.randint(1, 3))]
         self.most = self.draw.choice([2, 5, 1000])
         self.cells = []
@@ -249,7 +249,7 @@ def make_history(program, drawn):
 
 
 def ask(program, drawn):
-    run(program, f"serve --batch {drawn.draw.choice([1, 3, 64])}", drawn.questions(drawn.draw.choice([0, 5, 40, 200])))
+    run(program, f"serve --batch {drawn.draw.choice([1, 3, 64])}", drawn.questions(drawn.draw.choice([0, 20, 100, 400])))
 
 
 def compacts_as_defined(program):
