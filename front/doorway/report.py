@@ -8,6 +8,7 @@ import asyncio
 import json
 import os
 
+from . import compacted
 from .files import write_whole
 from .runs import Ended
 
@@ -78,10 +79,10 @@ class Reports:
             return None
 
     def _compare(self, counted):
-        given = self.table.transcript.records
+        given = self.table.transcript.records - self.table.left_out
         if counted < given:
-            text = (f"the journal holds {counted} answers and {given} were given: it is an older copy. "
-                    "Put the last one back, then remove this file")
+            text = (f"the journal holds {counted} answers and {given} were given: it is an older copy, or a compacted one that "
+                    f"{compacted.NAME} doesn't have. Put the last one back, or add the line, then remove this file")
             write_whole(self.stopped, text.encode() + b"\n")
             raise OlderJournal(f"{self.stopped}: {text}")
         if counted > given:

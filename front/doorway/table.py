@@ -9,6 +9,7 @@ import contextlib
 import math
 import sys
 
+from .compacted import left_out
 from .growth import carry_over, public_rows
 from .lines import HISTORY, Turned
 from .recovery import ask_again
@@ -58,6 +59,7 @@ class Table:
         self.name, self.groups, self.places, self.auditor = name, groups, places, auditor
         carry_over(places.public, places.keep, self.say)
         check_table(places.public, places.keep)
+        self.left_out = left_out(places.keep)
         self.transcript = Transcript(places.keep)
         self.reports = Reports(self, places.keep, report_every)
         self.queue, self.pending = collections.deque(), {}
@@ -104,7 +106,7 @@ class Table:
             self.verdicts -= 1
 
     def health(self):
-        records = self.transcript.records
+        records = self.transcript.records - self.left_out
         return {"state": self.state, "records": records, "room": max(HISTORY - records, 0), "asked": self.asked,
                 "groups": self.sent, "repeats": self.repeats, "restarts": self.restarts, "waiting": self.waiting}
 
