@@ -20,6 +20,10 @@ due() {
     printf '%s' "${text:+$text
 }" | cmp -s - said || complain "the text of $code is not '$text'"
     cmp -s replies sent || complain "what was sent at $code is not what was due"
+    case $* in
+    compact*) ;;
+    *) [ ! -e answers.spare ] || complain "there is a spare after $*" ;;
+    esac
 }
 
 # A fresh folder, with nothing to ask and nothing to reply.
