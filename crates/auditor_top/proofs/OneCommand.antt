@@ -5,7 +5,11 @@ use Rattle.auditor_top.specs.declared.words.Command.{Command}
 use Rattle.auditor_top.specs.declared.ready.Ready.{Ready}
 use Rattle.auditor_top.specs.declared.words.WordFault.{WordFault}
 use Rattle.auditor_top.specs.declared.words.WordFault.TheVariants.{Bad}
-use Rattle.auditor_top.specs.declared.words.Command.TheVariants.{Init, Serve, Audit, Simulate, Drill, Grow}
+use Rattle.auditor_top.specs.declared.words.Command.TheVariants.{Init, Serve, Audit, Simulate, Drill, Grow, Compact}
+use Rattle.auditor_top.specs.declared.status.Status.{Status}
+use Rattle.auditor_top.specs.declared.status.Status.TheVariants.{SpareFault}
+use Rattle.auditor_top.specs.Causes.{WordCause}
+use Rattle.auditor_top.specs.Commands.{calls_spare}
 use Rattle.auditor_top.specs.Ready.{command_for}
 
 pub one_command : (asked : Option Command) (a b : Command) → asked ≡ Some a → asked ≡ Some b → a ≡ b
@@ -17,7 +21,7 @@ one_batch asked a b is also = cc
 pub one_drill : (asked : Option Command) (a b : ℕ) → asked ≡ Some (Drill a) → asked ≡ Some (Drill b) → a ≡ b
 one_drill asked a b is also = cc
 
--- the place of a command among the six
+-- the place of a command among the seven
 abbrev place_of : Command → ℕ
 place_of Init = 0
 place_of (Serve batch) = 1
@@ -25,6 +29,7 @@ place_of Audit = 2
 place_of Simulate = 3
 place_of (Drill number) = 4
 place_of Grow = 5
+place_of Compact = 6
 
 -- one command has one place
 same_place : (a b : Command) → a ≡ b → nat_eq (place_of a) (place_of b) ≡ true
@@ -37,6 +42,7 @@ same_place a b is = subst (λ (k : Command). nat_eq (place_of a) (place_of k) �
     to_itself Simulate = refl
     to_itself (Drill number) = refl
     to_itself Grow = refl
+    to_itself Compact = refl
 
 -- words that name one command name no other
 pub not_asked : {Y : Type 0} (asked : Option Command) (one another : Command) → asked ≡ Some one → asked ≡ Some another →
@@ -69,3 +75,9 @@ takes_step step asked one another is also taken none = absurd (true≢false (sym
 pub lacks_step : {Y : Type 0} (step : Command → Bool) (asked : Option Command) (one another : Command) → asked ≡ Some one → asked ≡ Some another →
     step one ≡ false → step another ≡ true → Y
 lacks_step step asked one another is also none taken = takes_step step asked another one also is taken none
+
+-- the spare failed, so the command calls it
+pub spare_called : {Y : Type 0} (asked : Option Command) (one : Command) (status : Status) → asked ≡ Some one → calls_spare one ≡ false → WordCause status asked →
+    status ≡ SpareFault → Y
+spare_called asked one status is none words failed =
+    absurd (true≢false (sym (subst (λ (s : Status). WordCause s (Some one)) failed (subst (λ (k : Option Command). WordCause status k) is words)) ∙ none))

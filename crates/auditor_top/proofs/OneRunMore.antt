@@ -17,7 +17,7 @@ use Rattle.audit_session.specs.Stops.{IsBatch, Stop, StopsOver, stands_over}
 use Rattle.audit_session.specs.Lives.{Standing, serves, grows, Run, GoesFrom, Lead, IsLife, in_force}
 use Rattle.auditor_top.specs.declared.status.Status.{Status}
 use Rattle.auditor_top.specs.declared.words.Command.{Command}
-use Rattle.auditor_top.specs.declared.words.Command.TheVariants.{Init, Serve, Audit, Simulate, Drill, Grow}
+use Rattle.auditor_top.specs.declared.words.Command.TheVariants.{Init, Serve, Audit, Simulate, Drill, Grow, Compact}
 use Rattle.auditor_top.specs.Commands.{GoesOnOver, deed_of, reads_lines}
 use Rattle.auditor_top.specs.Promise.{GoesOn, RunsMakeLives}
 use Rattle.auditor_top.specs.Runs.{Objects, Serving, Growing}
@@ -97,6 +97,7 @@ goes_on files lines bench status old new longer Audit serving growing ptold told
 goes_on files lines bench status old new longer Simulate serving growing ptold told itold quiet base at goes first runs life image sent left is was stands = absurd goes
 goes_on files lines bench status old new longer (Drill number) serving growing ptold told itold quiet base at goes first runs life image sent left is was stands =
     absurd goes
+goes_on files lines bench status old new longer Compact serving growing ptold told itold quiet base at goes first runs life image sent left is was stands = absurd goes
 goes_on files lines bench status old new longer Grow serving growing ptold told itold quiet base at goes first runs life image sent left is was stands =
     grows_on files lines bench status old new longer quiet at first runs life image sent left was stands (growing refl) ptold told
     (subst (λ (b : Database). GoesOnOver Grow (files.left old.schema) (files.left old.table) (bench.file old.bench) at b) (sym is) goes)

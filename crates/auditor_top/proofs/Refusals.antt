@@ -7,7 +7,7 @@ use Rattle.audit_types.specs.History.{IsLegal, IsUndisclosed}
 use Rattle.audit_types.specs.Widening.{over}
 use Rattle.bench_core.specs.declared.bench.Bench.{Ghosts}
 use Rattle.bench_core.specs.declared.source.Source as source
-use Rattle.bench_core.specs.Calls.{IsQuiet, IsUntouched, OnlyReads}
+use Rattle.bench_core.specs.Calls.{IsQuiet, IsUntouched, LeavesOnly, OnlyReads}
 use Rattle.bench_core.specs.Moments.{started, weakens}
 use Rattle.table_load.specs.Database.{Database, table_in}
 use Rattle.journal_form.specs.Journal.{StandsFor}
@@ -18,14 +18,15 @@ use Rattle.audit_session.specs.Ends.{ServesSome}
 use Rattle.journal_audit.specs.Reports.{subjects, ReportsFront}
 use Rattle.journal_audit.specs.SendLaws.{none_front}
 use Rattle.auditor_top.specs.declared.words.Command.{Command}
-use Rattle.auditor_top.specs.declared.words.Command.TheVariants.{Init, Serve, Audit, Simulate, Grow}
+use Rattle.auditor_top.specs.declared.words.Command.TheVariants.{Init, Serve, Audit, Simulate, Grow, Compact}
 use Rattle.auditor_top.specs.declared.status.Status.{Status}
 use Rattle.auditor_top.specs.declared.status.Status.TheVariants.{Done}
 use Rattle.auditor_top.specs.Causes.{FaultCause, NothingFailed, IsDoneOrWants}
 use Rattle.auditor_top.specs.Commands.{AreSoundFilesOf, opens_store}
+use Rattle.auditor_top.specs.Compactions.{CompactEnds}
 use Rattle.auditor_top.specs.Ends.{AuditEnds, GrowEnds, LeavesFile, ServeEnds, SimulateEnds, SimulateSends, StandsForWhat, audit_over, outside}
 use Rattle.auditor_top.specs.Ready.{IsGiven, EndsEarly, GivesUp}
-use Rattle.auditor_top.specs.Runs.{Objects, objects, faults_of, Making, Serving, Auditing, Simulating, Growing}
+use Rattle.auditor_top.specs.Runs.{Objects, objects, faults_of, Making, Serving, Auditing, Simulating, Growing, Compacting}
 use Rattle.auditor_top.proofs.AuditEndings.{untouched_report}
 use Rattle.auditor_top.proofs.OneTable.{nothing_served, untouched_stops}
 use Rattle.auditor_top.proofs.SimulationEndings.{none_begun, no_verdict}
@@ -65,6 +66,7 @@ pub record Refused {P I B : Type 0} (files : source.Ghosts P) (lines : source.Gh
   pub audit : asked ≡ Some Audit → Auditing files lines bench status old new
   pub simulate : asked ≡ Some Simulate → Simulating files lines bench status old new
   pub grow : asked ≡ Some Grow → Growing files lines bench status old new
+  pub compact : asked ≡ Some Compact → Compacting files lines bench status old new
 
 module _ {P I B : Type 0} (files : source.Ghosts P) (lines : source.Ghosts I) (bench : Ghosts B) (schema later_schema table later_table : P) (input : I)
     (at later : B) (spare : B) (status : Status) (early : EndsEarly status) (reads : OnlyReads bench at later)
@@ -176,5 +178,33 @@ module _ {P I B : Type 0} (files : source.Ghosts P) (lines : source.Ghosts I) (b
     grows = λ ptold told base rows history given none. wants (gives_up Grow is ptold (λ opens. told) (base, given.files)) none;
   }
 
-  pub refused : StopsAreLegal → Refused files lines bench asked status old new
-  refused legal = record { init = unmade; serve = unserved legal; audit = unaudited; simulate = unsimulated; grow = ungrown }
+  uncompacted : OnlyReads bench spare spare → asked ≡ Some Compact → Compacting files lines bench status old new
+  uncompacted spared is =
+      let still : IsQuiet bench spare → LeavesOnly bench spare spare (IsUntouched (bench.file spare) (bench.sent spare)) = spared.untouched in
+      record {
+        compacted = λ ptold told base history over.
+            by_giving_up (λ (s : Status). CompactEnds s base history (bench.file spare) (bench.sent at) (bench.sent later)) status
+            (gives_up Compact is ptold (λ opens. told) (base, history, over)) reads.sent reads.sent (inl reads.sent) reads.sent;
+        compacting = λ ptold told unmade quiet base history over.
+            weakens bench spare spare (IsUntouched (bench.file spare) (bench.sent spare)) _
+            (λ image sent same. (same.0, inl (λ made. unmade (subst IsMade same.1 made)))) (still quiet);
+        stable = λ told done. never_done status early done;
+        alike = λ ptold told unmade quiet base history over image sent found was made stands.
+            absurd (unmade (subst IsMade ((still quiet).each image sent was).1 made));
+        sending = λ ptold told quiet base history over.
+            weakens bench at later (IsUntouched (bench.file at) (bench.sent at)) _ (λ image sent same. (same.1, inl same.0)) (reads.untouched quiet);
+        undisturbed = λ told quiet.
+            weakens bench at later (IsUntouched (bench.file at) (bench.sent at)) (LeavesFile (bench.file at)) (λ image sent same. same.1) (reads.untouched quiet);
+        kept = λ told made. (reads.sent, refl);
+        untouched = λ told made quiet. still quiet;
+        unsent = λ told made quiet. reads.untouched quiet;
+        uncalled = λ ptold told none. (refl, reads.sent);
+        no_memory = λ wanted. refl;
+        compact_calls = λ told done. never_done status early done;
+        spare_calls = λ told done. never_done status early done;
+        compacts = λ ptold told unmade base history over none fine. wants (gives_up Compact is ptold (λ opens. told) (base, history, over)) none;
+      }
+
+  pub refused : StopsAreLegal → OnlyReads bench spare spare → Refused files lines bench asked status old new
+  refused legal spared =
+      record { init = unmade; serve = unserved legal; audit = unaudited; simulate = unsimulated; grow = ungrown; compact = uncompacted spared }

@@ -7,7 +7,7 @@ use Rattle.table_load.specs.declared.faults.TableFault.{TableFault}
 use Rattle.transcript_sim.specs.declared.due.Due.{Due}
 use Rattle.auditor_top.specs.declared.status.Which.TheVariants.{Schema, Table, Input}
 use Rattle.auditor_top.specs.declared.status.Status.{Status}
-use Rattle.auditor_top.specs.declared.status.Status.TheVariants.{Done, BadWords, BadSchema, BadTable, SourceFault, BenchFault, NotMade, AlreadyThere, Damaged, OtherShape, NothingNew, Untrue, Illegal, InputLimit, Disagrees, BadGroup, NoMemory}
+use Rattle.auditor_top.specs.declared.status.Status.TheVariants.{Done, BadWords, BadSchema, BadTable, SourceFault, BenchFault, NotMade, AlreadyThere, Damaged, OtherShape, NothingNew, Untrue, Illegal, InputLimit, Disagrees, BadGroup, SpareThere, SpareFault, NoMemory}
 use Rattle.auditor_top.specs.Status.{words_of, status_text}
 
 pub tells_no_number : (status : Status)
@@ -39,4 +39,6 @@ tells_no_number (Illegal place) schema table damaged shape untrue illegal disagr
 tells_no_number InputLimit schema table damaged shape untrue illegal disagrees group nothing = refl
 tells_no_number (Disagrees line due) schema table damaged shape untrue illegal disagrees group nothing = absurd (disagrees line due refl)
 tells_no_number (BadGroup place) schema table damaged shape untrue illegal disagrees group nothing = absurd (group place refl)
+tells_no_number SpareThere schema table damaged shape untrue illegal disagrees group nothing = refl
+tells_no_number SpareFault schema table damaged shape untrue illegal disagrees group nothing = refl
 tells_no_number NoMemory schema table damaged shape untrue illegal disagrees group nothing = refl

@@ -23,7 +23,7 @@ use Rattle.auditor_top.specs.declared.words.Command.TheVariants.{Init, Serve, Au
 use Rattle.auditor_top.specs.declared.status.Which.{Which}
 use Rattle.auditor_top.specs.declared.status.Which.TheVariants.{Schema, Table, Input}
 use Rattle.auditor_top.specs.declared.status.Status.{Status}
-use Rattle.auditor_top.specs.declared.status.Status.TheVariants.{Done, BadWords, BadSchema, BadTable, SourceFault, BenchFault, NotMade, AlreadyThere, Damaged, OtherShape, NothingNew, Untrue, Illegal, InputLimit, Disagrees, BadGroup, NoMemory}
+use Rattle.auditor_top.specs.declared.status.Status.TheVariants.{Done, BadWords, BadSchema, BadTable, SourceFault, BenchFault, NotMade, AlreadyThere, Damaged, OtherShape, NothingNew, Untrue, Illegal, InputLimit, Disagrees, BadGroup, SpareThere, SpareFault, NoMemory}
 use Rattle.auditor_top.specs.Status.{making_status, session_status, audit_status, simulation_status}
 use Rattle.auditor_top.specs.Causes.{FaultCounts, counts, NeverFall, WordCause, SchemaCause, TableCause, GroupCause, FileCause, InputCause}
 use Rattle.auditor_top.specs.Ready.{EndsEarly, GivesUp}
@@ -47,12 +47,13 @@ before_so stage status follows holds = so_then (is_short_of stage (reached statu
 
 -- no count of faults fell where they are as they were
 pub never_fall : (before : FaultCounts) → NeverFall before before
-never_fall before = record { schema = omega arith; table = omega arith; input = omega arith; bench = omega arith }
+never_fall before = record { schema = omega arith; table = omega arith; input = omega arith; bench = omega arith; spare = omega arith }
 
 -- nor where the bench's alone rose
 pub bench_rose : (schema table input bench later spare : ℕ) → bench ≤ later →
     NeverFall (counts schema table input bench spare) (counts schema table input later spare)
-bench_rose schema table input bench later spare rose = record { schema = omega arith; table = omega arith; input = omega arith; bench = rose }
+bench_rose schema table input bench later spare rose =
+    record { schema = omega arith; table = omega arith; input = omega arith; bench = rose; spare = omega arith }
 
 -- ---- no command was taken
 
@@ -64,6 +65,7 @@ pub record IsNoStep (status : Status) : Type 0 where
   pub no_table : status ≢ SourceFault Table
   pub no_input : status ≢ SourceFault Input
   pub no_bench : status ≢ BenchFault
+  pub no_spare : status ≢ SpareFault
   pub undone : status ≢ Done
 
 pub bad_words_say : IsNoStep BadWords
@@ -74,6 +76,7 @@ bad_words_say = record {
   no_table = λ is. cc;
   no_input = λ is. cc;
   no_bench = λ is. cc;
+  no_spare = λ is. cc;
   undone = λ is. cc;
 }
 
@@ -85,6 +88,7 @@ no_memory_says = record {
   no_table = λ is. cc;
   no_input = λ is. cc;
   no_bench = λ is. cc;
+  no_spare = λ is. cc;
   undone = λ is. cc;
 }
 
@@ -120,6 +124,8 @@ by_giving_up P (Illegal place) gave_up schema table bench memory = absurd gave_u
 by_giving_up P InputLimit gave_up schema table bench memory = absurd gave_up
 by_giving_up P (Disagrees line due) gave_up schema table bench memory = absurd gave_up
 by_giving_up P (BadGroup place) gave_up schema table bench memory = absurd gave_up
+by_giving_up P SpareThere gave_up schema table bench memory = absurd gave_up
+by_giving_up P SpareFault gave_up schema table bench memory = absurd gave_up
 by_giving_up P NoMemory gave_up schema table bench memory = memory
 
 -- a run that ends early read nothing of the input, and isn't done
@@ -142,6 +148,8 @@ reads_nothing (Illegal place) bytes early = refl
 reads_nothing InputLimit bytes early = absurd early
 reads_nothing (Disagrees line due) bytes early = absurd early
 reads_nothing (BadGroup place) bytes early = refl
+reads_nothing SpareThere bytes early = absurd early
+reads_nothing SpareFault bytes early = absurd early
 reads_nothing NoMemory bytes early = tt
 
 -- ---- the last step of a command
@@ -160,47 +168,49 @@ EndsLastStep status = Unit {0}
 pub by_last_step : (P : Status → Type 0) (status : Status) → EndsLastStep status → P Done → P (SourceFault Input) → P BenchFault → P NotMade → P AlreadyThere →
     ((at : ℕ) → P (Damaged at)) → ((kept now : Shape) → P (OtherShape kept now)) → ((rows : ℕ) → P (NothingNew rows)) →
     ((place : ℕ) (kept now : ℤ) → P (Untrue place kept now)) → ((place : ℕ) → P (Illegal place)) → P InputLimit →
-    ((line : ℕ) (due : Due) → P (Disagrees line due)) → P NoMemory → P status
-by_last_step P Done last done input bench unmade there damaged other nothing untrue illegal limit disagrees memory = done
-by_last_step P BadWords last done input bench unmade there damaged other nothing untrue illegal limit disagrees memory = absurd last
-by_last_step P (BadSchema fault) last done input bench unmade there damaged other nothing untrue illegal limit disagrees memory = absurd last
-by_last_step P (BadTable fault) last done input bench unmade there damaged other nothing untrue illegal limit disagrees memory = absurd last
-by_last_step P (SourceFault Schema) last done input bench unmade there damaged other nothing untrue illegal limit disagrees memory = absurd last
-by_last_step P (SourceFault Table) last done input bench unmade there damaged other nothing untrue illegal limit disagrees memory = absurd last
-by_last_step P (SourceFault Input) last done input bench unmade there damaged other nothing untrue illegal limit disagrees memory = input
-by_last_step P BenchFault last done input bench unmade there damaged other nothing untrue illegal limit disagrees memory = bench
-by_last_step P NotMade last done input bench unmade there damaged other nothing untrue illegal limit disagrees memory = unmade
-by_last_step P AlreadyThere last done input bench unmade there damaged other nothing untrue illegal limit disagrees memory = there
-by_last_step P (Damaged at) last done input bench unmade there damaged other nothing untrue illegal limit disagrees memory = damaged at
-by_last_step P (OtherShape kept now) last done input bench unmade there damaged other nothing untrue illegal limit disagrees memory = other kept now
-by_last_step P (NothingNew rows) last done input bench unmade there damaged other nothing untrue illegal limit disagrees memory = nothing rows
-by_last_step P (Untrue place kept now) last done input bench unmade there damaged other nothing untrue illegal limit disagrees memory = untrue place kept now
-by_last_step P (Illegal place) last done input bench unmade there damaged other nothing untrue illegal limit disagrees memory = illegal place
-by_last_step P InputLimit last done input bench unmade there damaged other nothing untrue illegal limit disagrees memory = limit
-by_last_step P (Disagrees line due) last done input bench unmade there damaged other nothing untrue illegal limit disagrees memory = disagrees line due
-by_last_step P (BadGroup place) last done input bench unmade there damaged other nothing untrue illegal limit disagrees memory = absurd last
-by_last_step P NoMemory last done input bench unmade there damaged other nothing untrue illegal limit disagrees memory = memory
+    ((line : ℕ) (due : Due) → P (Disagrees line due)) → P SpareThere → P SpareFault → P NoMemory → P status
+by_last_step P Done last done input bench unmade there damaged other nothing untrue illegal limit disagrees made spare memory = done
+by_last_step P BadWords last done input bench unmade there damaged other nothing untrue illegal limit disagrees made spare memory = absurd last
+by_last_step P (BadSchema fault) last done input bench unmade there damaged other nothing untrue illegal limit disagrees made spare memory = absurd last
+by_last_step P (BadTable fault) last done input bench unmade there damaged other nothing untrue illegal limit disagrees made spare memory = absurd last
+by_last_step P (SourceFault Schema) last done input bench unmade there damaged other nothing untrue illegal limit disagrees made spare memory = absurd last
+by_last_step P (SourceFault Table) last done input bench unmade there damaged other nothing untrue illegal limit disagrees made spare memory = absurd last
+by_last_step P (SourceFault Input) last done input bench unmade there damaged other nothing untrue illegal limit disagrees made spare memory = input
+by_last_step P BenchFault last done input bench unmade there damaged other nothing untrue illegal limit disagrees made spare memory = bench
+by_last_step P NotMade last done input bench unmade there damaged other nothing untrue illegal limit disagrees made spare memory = unmade
+by_last_step P AlreadyThere last done input bench unmade there damaged other nothing untrue illegal limit disagrees made spare memory = there
+by_last_step P (Damaged at) last done input bench unmade there damaged other nothing untrue illegal limit disagrees made spare memory = damaged at
+by_last_step P (OtherShape kept now) last done input bench unmade there damaged other nothing untrue illegal limit disagrees made spare memory = other kept now
+by_last_step P (NothingNew rows) last done input bench unmade there damaged other nothing untrue illegal limit disagrees made spare memory = nothing rows
+by_last_step P (Untrue place kept now) last done input bench unmade there damaged other nothing untrue illegal limit disagrees made spare memory = untrue place kept now
+by_last_step P (Illegal place) last done input bench unmade there damaged other nothing untrue illegal limit disagrees made spare memory = illegal place
+by_last_step P InputLimit last done input bench unmade there damaged other nothing untrue illegal limit disagrees made spare memory = limit
+by_last_step P (Disagrees line due) last done input bench unmade there damaged other nothing untrue illegal limit disagrees made spare memory = disagrees line due
+by_last_step P (BadGroup place) last done input bench unmade there damaged other nothing untrue illegal limit disagrees made spare memory = absurd last
+by_last_step P SpareThere last done input bench unmade there damaged other nothing untrue illegal limit disagrees made spare memory = made
+by_last_step P SpareFault last done input bench unmade there damaged other nothing untrue illegal limit disagrees made spare memory = spare
+by_last_step P NoMemory last done input bench unmade there damaged other nothing untrue illegal limit disagrees made spare memory = memory
 
 -- the files were read before, the groups were made ready, and the journal was opened
 pub groups_read : (status : Status) (columns : List Column) (groups : List Group) → EndsLastStep status → AreSound columns groups → GroupCause status columns groups
 groups_read status columns groups last are = by_last_step (λ (s : Status). GroupCause s columns groups) status last are are are are are (λ at. are) (λ kept now. are) (λ rows. are)
-    (λ place kept now. are) (λ place. are) are (λ line due. are) tt
+    (λ place kept now. are) (λ place. are) are (λ line due. are) are are tt
 
 pub schema_read : (status : Status) (meant : Result SchemaView SchemaFault) → EndsLastStep status → IsOk meant → SchemaCause status meant
 schema_read status meant last is = by_last_step (λ (s : Status). SchemaCause s meant) status last is is is is is (λ at. is) (λ kept now. is) (λ rows. is)
-    (λ place kept now. is) (λ place. is) is (λ line due. is) tt
+    (λ place kept now. is) (λ place. is) is (λ line due. is) is is tt
 
 pub table_read : {X : Type 0} (status : Status) (meant : Result X TableFault) → EndsLastStep status → IsOk meant → TableCause status meant
 table_read status meant last is = by_last_step (λ (s : Status). TableCause s meant) status last is is is is is (λ at. is) (λ kept now. is) (λ rows. is)
-    (λ place kept now. is) (λ place. is) is (λ line due. is) tt
+    (λ place kept now. is) (λ place. is) is (λ line due. is) is is tt
 
 pub past_table : (P : Type 0) (status : Status) → EndsLastStep status → Before reading_table status P
 past_table P status last = by_last_step (λ (s : Status). Before reading_table s P) status last tt tt tt tt tt (λ at. tt) (λ kept now. tt) (λ rows. tt)
-    (λ place kept now. tt) (λ place. tt) tt (λ line due. tt) tt
+    (λ place kept now. tt) (λ place. tt) tt (λ line due. tt) tt tt tt
 
 pub past_journal : (P : Type 0) (status : Status) → EndsLastStep status → Before opening_journal status P
 past_journal P status last = by_last_step (λ (s : Status). Before opening_journal s P) status last tt tt tt tt tt (λ at. tt) (λ kept now. tt) (λ rows. tt)
-    (λ place kept now. tt) (λ place. tt) tt (λ line due. tt) tt
+    (λ place kept now. tt) (λ place. tt) tt (λ line due. tt) tt tt tt
 
 -- so it isn't one of theirs that failed
 pub no_schema_fault : (status : Status) → EndsLastStep status → status ≢ BadSchema schema_fault.NoMemory

@@ -1,6 +1,6 @@
 -- What a refusal says where the journal wasn't opened, or there was no memory to open it.
-use Rattle.std.proofs.Common.{rules, ◌≡◌, ℕ, Bool, true, false, List, Some, Result, Ok, Err, IsOk, IsErrOf, refl, sym, ◌∙◌, ap, subst}
-use Rattle.std.proofs.lemmas.Bool.{true≢false, false≢true}
+use Rattle.std.proofs.Common.{rules, ◌≡◌, ℕ, Bool, true, List, Some, Result, Ok, Err, IsOk, IsErrOf, refl, sym, ap, subst}
+use Rattle.std.proofs.lemmas.Bool.{false≢true}
 use Rattle.audit_types.specs.declared.records.Answered.{Answered}
 use Rattle.audit_types.specs.History.{IsLegal}
 use Rattle.std.specs.Bool.{OnTrue}
@@ -13,12 +13,12 @@ use Rattle.bench_core.specs.declared.source.Source as source
 use Rattle.schema_json.specs.Columns.{Column, Group, SchemaView}
 use Rattle.schema_json.specs.Reading.{schema_of}
 use Rattle.schema_json.specs.declared.faults.SchemaFault.{SchemaFault}
-use Rattle.table_load.specs.Cells.{PublicView, TableView}
+use Rattle.table_load.specs.Cells.{TableView}
 use Rattle.table_load.specs.Database.{Database, base_of, secret_table, table_in}
-use Rattle.table_load.specs.Tables.{table_of, public_of}
+use Rattle.table_load.specs.Tables.{table_of}
 use Rattle.table_load.specs.declared.faults.TableFault.{TableFault}
 use Rattle.set_index.specs.Groups.{AreEntries, AreSound, IsFirstBad}
-use Rattle.set_index.specs.Indexed.{IndexView, OneListOfEntries}
+use Rattle.set_index.specs.Indexed.{OneListOfEntries}
 use Rattle.set_index.specs.declared.index.IndexFault.{IndexFault}
 use Rattle.set_index.specs.declared.index.IndexFault.TheVariants as index
 use Rattle.journal_form.specs.Journal.{StandsFor}
@@ -29,24 +29,17 @@ use Rattle.audit_store.specs.declared.starting.StartFault.TheVariants as start
 use Rattle.auditor_top.specs.declared.starting.NotStarted.{NotStarted}
 use Rattle.auditor_top.specs.declared.starting.NotStarted.TheVariants as began
 use Rattle.auditor_top.specs.declared.words.Command.{Command}
-use Rattle.auditor_top.specs.declared.words.Command.TheVariants.{Init, Serve, Audit, Simulate, Drill, Grow}
+use Rattle.auditor_top.specs.declared.words.Command.TheVariants.{Init, Serve, Audit, Simulate, Drill, Grow, Compact}
 use Rattle.auditor_top.specs.declared.status.Status.{Status}
-use Rattle.auditor_top.specs.declared.status.Status.TheVariants.{BadGroup, BenchFault, NotMade, Damaged, OtherShape, Untrue, Illegal, NoMemory}
+use Rattle.auditor_top.specs.declared.status.Status.TheVariants.{BenchFault, NotMade, Damaged, OtherShape, Untrue, Illegal, NoMemory}
 use Rattle.auditor_top.specs.Status.{index_status, start_status, started_status}
 use Rattle.auditor_top.specs.Causes.{FaultCounts, FaultCause, WordCause, SchemaCause, TableCause, GroupCause, FileCause, OpeningCause, counts}
-use Rattle.auditor_top.specs.Commands.{AreSoundFilesOf, ArePublicFilesOf, ServesOver, opens_journal, opens_store, reads_groups, reads_secrets}
+use Rattle.auditor_top.specs.Commands.{AreSoundFilesOf, ServesOver, opens_journal, opens_store, reads_files, reads_groups}
 use Rattle.auditor_top.specs.Ready.{EndsEarly, GivesUp, IsGiven, Refuses}
 use Rattle.auditor_top.specs.Stages.{Before, reading_table, opening_journal}
+use Rattle.auditor_top.proofs.GroupRefusals.{groups_refused, group_gives_up}
 use Rattle.auditor_top.proofs.OneTable.{same_ok, one_base, schema_is_ok, table_is_ok, groups_are_sound}
 use Rattle.auditor_top.proofs.StepFaults.{moved, same_counts}
-use Rattle.auditor_top.proofs.StepStatuses.{always_before}
-
--- a command takes no step that its kind doesn't, and takes each that it does
-pub lacks : {Y : Type 0} (step : Command → Bool) {asked own : Command} → asked ≡ own → step own ≡ false → step asked ≡ true → Y
-lacks step is none taken = absurd (true≢false (sym taken ∙ ap step is ∙ none))
-
-pub no_step : {Y : Type 0} (step : Command → Bool) {asked own : Command} → asked ≡ own → step own ≡ true → step asked ≡ false → Y
-no_step step is taken none = absurd (true≢false (sym taken ∙ sym (ap step is) ∙ none))
 
 -- a run may end so where its journal is opened
 abbrev EndsOpening : Status → Type 0
@@ -85,6 +78,7 @@ opens_too Audit opens = refl
 opens_too Simulate opens = opens
 opens_too (Drill number) opens = opens
 opens_too Grow opens = refl
+opens_too Compact opens = refl
 
 refused_so : (fault : StartFault) (asked : Command) (file : List ℕ) (table : Guarded) → opens_store asked ≡ true → StartCause fault file table →
     OpeningCause fault asked file table
@@ -94,6 +88,7 @@ refused_so fault Audit file table opens cause = cause
 refused_so fault Simulate file table opens cause = absurd (false≢true opens)
 refused_so fault (Drill number) file table opens cause = absurd (false≢true opens)
 refused_so fault Grow file table opens cause = absurd (false≢true opens)
+refused_so fault Compact file table opens cause = cause
 
 start_words : (fault : StartFault) (asked : Command) → opens_store asked ≡ true → WordCause (start_status fault) (Some asked)
 start_words start.NotMade asked opens = opens_too asked opens
@@ -179,7 +174,7 @@ start_before P start.Failed = (tt, tt)
 start_before P start.NoMemory = (tt, tt)
 
 -- what is given to a command that opens a store
-given_history : (asked : Command) (schema table file : List ℕ) → opens_store asked ≡ true → IsGiven asked schema table file →
+pub given_history : (asked : Command) (schema table file : List ℕ) → opens_store asked ≡ true → IsGiven asked schema table file →
     (base : Database) × (history : List Answered) × ServesOver schema table file base history
 given_history Init schema table file opens given = absurd (false≢true opens)
 given_history (Serve batch) schema table file opens given = given
@@ -187,8 +182,22 @@ given_history Audit schema table file opens given = given
 given_history Simulate schema table file opens given = absurd (false≢true opens)
 given_history (Drill number) schema table file opens given = absurd (false≢true opens)
 given_history Grow schema table file opens given = absurd (false≢true opens)
+given_history Compact schema table file opens given = given
 
--- a command that opens a store makes the groups ready
+-- a command that opens a store reads the files of a table, not the public columns alone
+pub opens_files : (asked : Command) → opens_store asked ≡ true → reads_files asked ≡ true
+opens_files Init opens = refl
+opens_files (Serve batch) opens = refl
+opens_files Audit opens = refl
+opens_files Simulate opens = refl
+opens_files (Drill number) opens = opens
+opens_files Grow opens = refl
+opens_files Compact opens = refl
+
+pub not_public : {Y : Type 0} (asked : Command) → opens_store asked ≡ true → asked ≡ Simulate → Y
+not_public asked opens is = absurd (false≢true (subst (λ (k : Command). opens_store k ≡ true) is opens))
+
+-- and makes the groups ready
 opens_groups : (asked : Command) → opens_store asked ≡ true → reads_groups asked ≡ true
 opens_groups Init opens = opens
 opens_groups (Serve batch) opens = refl
@@ -196,20 +205,12 @@ opens_groups Audit opens = refl
 opens_groups Simulate opens = refl
 opens_groups (Drill number) opens = opens
 opens_groups Grow opens = refl
-
--- a run may end so where the groups are made ready
-abbrev EndsGroups : Status → Type 0
-EndsGroups (BadGroup place) = Unit {0}
-EndsGroups NoMemory = Unit {0}
-EndsGroups status = ⊥
+opens_groups Compact opens = refl
 
 module _ {P B : Type 0} (files : source.Ghosts P) (bench : Ghosts B) (law : OneListOfEntries) (asked : Command)
     (schema later_schema table later_table : P) (at later : B) (opens : opens_store asked ≡ true) (read : SchemaView) (meant : TableView)
     (schema_is : files.told → schema_of (files.left schema) ≡ Ok read) (table_is : files.told → table_of read.columns (files.left table) ≡ Ok meant)
     (same_schema : files.faults later_schema ≡ files.faults schema) (same_table : files.faults later_table ≡ files.faults table) where
-  not_public : {Y : Type 0} → asked ≡ Simulate → Y
-  not_public is = absurd (false≢true (subst (λ (k : Command). opens_store k ≡ true) is opens))
-
   grouped : reads_groups asked ≡ true
   grouped = opens_groups asked opens
 
@@ -234,7 +235,7 @@ module _ {P B : Type 0} (files : source.Ghosts P) (bench : Ghosts B) (law : OneL
     words = start_words fault asked opens;
     schema = λ ptold reads. start_schema fault _ (schema_is_ok _ read (schema_is ptold));
     table = λ ptold reads other is. start_table fault _ (table_ok ptold other is);
-    public = λ ptold is. not_public is;
+    public = λ ptold is. not_public asked opens is;
     groups = λ ptold reads other is.
         start_groups fault _ _ (groups_are_sound law _ read.columns meant.public read.groups protected other (schema_is ptold) entries is);
     file = λ ptold told base given sound.
@@ -264,108 +265,6 @@ module _ {P B : Type 0} (files : source.Ghosts P) (bench : Ghosts B) (law : OneL
     before_bench = (start_before (later ≡ at) fault).1;
   }
 
--- ---- the groups weren't made ready
-
--- what its status says
-record GroupRefusal (fault : IndexFault) : Type 1 where
-  pub words : (asked : Command) → reads_groups asked ≡ true → WordCause (index_status fault) (Some asked)
-  pub schema : (meant : Result SchemaView SchemaFault) → IsOk meant → SchemaCause (index_status fault) meant
-  pub table : (X : Type 0) (meant : Result X TableFault) → IsOk meant → TableCause (index_status fault) meant
-  pub journal : (asked : Command) (bytes : List ℕ) (table : Guarded) → FileCause (index_status fault) asked bytes table
-  pub early : EndsEarly (index_status fault)
-  pub ends : EndsGroups (index_status fault)
-  pub before : (P : Type 0) → Before reading_table (index_status fault) P
-  pub same : (before : FaultCounts) → FaultCause (index_status fault) before before
-
-group_refusal : (fault : IndexFault) → GroupRefusal fault
-group_refusal (index.BadGroup place) = record {
-  words = λ asked reads. reads;
-  schema = λ meant is. is;
-  table = λ X meant is. is;
-  journal = λ asked bytes table. tt;
-  early = tt;
-  ends = tt;
-  before = λ P. tt;
-  same = λ before. refl;
-}
-group_refusal index.NoMemory = record {
-  words = λ asked reads. tt;
-  schema = λ meant is. tt;
-  table = λ X meant is. tt;
-  journal = λ asked bytes table. tt;
-  early = tt;
-  ends = tt;
-  before = λ P. tt;
-  same = λ before. refl;
-}
-
--- the first bad group is told, and none is where none has a fault
-group_cause : (fault : IndexFault) (columns : List Column) (groups : List Group) →
-    ((place : ℕ) → fault ≡ index.BadGroup place → IsFirstBad columns groups place) → GroupCause (index_status fault) columns groups
-group_cause (index.BadGroup place) columns groups bad = bad place refl
-group_cause index.NoMemory columns groups bad = tt
-
-group_gives_up : OneListOfEntries → (fault : IndexFault) (columns : List Column) (public : PublicView) (groups : List Group) (protected : List Protected) →
-    AreEntries columns public groups protected → ((place : ℕ) → fault ≡ index.BadGroup place → IsFirstBad columns groups place) →
-    GivesUp (index_status fault)
-group_gives_up law (index.BadGroup place) columns public groups protected entries bad =
-    absurd (law.bad columns groups place (bad place refl) (law.sound columns public groups protected entries))
-group_gives_up law index.NoMemory columns public groups protected entries bad = tt
-
-module _ {P B : Type 0} (files : source.Ghosts P) (bench : Ghosts B) (asked : Command) (schema later_schema table later_table : P) (at : B)
-    (grouped : reads_groups asked ≡ true) (read : SchemaView) (schema_is : files.told → schema_of (files.left schema) ≡ Ok read)
-    (same_schema : files.faults later_schema ≡ files.faults schema) (same_table : files.faults later_table ≡ files.faults table)
-    (fault : IndexFault) (bad : (place : ℕ) → fault ≡ index.BadGroup place → IsFirstBad read.columns read.groups place) where
-  pub groups_refused : (files.told → reads_secrets asked ≡ true → (other : SchemaView) → schema_of (files.left schema) ≡ Ok other →
-      IsOk (table_of other.columns (files.left table))) →
-      (files.told → asked ≡ Simulate → (other : SchemaView) → schema_of (files.left schema) ≡ Ok other → IsOk (public_of other.columns (files.left table))) →
-      (files.told → (opens_store asked ≡ true → bench.told) → IsGiven asked (files.left schema) (files.left table) (bench.file at) →
-      GivesUp (index_status fault)) → Refuses files bench asked (index_status fault) schema later_schema table later_table at at
-  groups_refused table_ok public_ok gives_up =
-      let says = group_refusal fault in
-      record {
-        words = says.words asked grouped;
-        schema = λ ptold reads. says.schema _ (schema_is_ok _ read (schema_is ptold));
-        table = λ ptold reads other is. says.table _ _ (table_ok ptold reads other is);
-        public = λ ptold simulates other is. says.table _ _ (public_ok ptold simulates other is);
-        groups = λ ptold reads other is.
-            subst (λ (v : SchemaView). GroupCause (index_status fault) v.columns v.groups) (same_ok (schema_of (files.left schema)) read other (schema_is ptold) is)
-            (group_cause fault read.columns read.groups bad);
-        file = λ ptold told base given sound. says.journal asked (bench.file at) (table_in base);
-        own_schema_fault = λ is. subst EndsGroups is says.ends;
-        own_table_fault = λ is. subst EndsGroups is says.ends;
-        schema_within = λ ptold is. absurd (subst EndsGroups is says.ends);
-        table_within = λ ptold is. absurd (subst EndsGroups is says.ends);
-        early = says.early;
-        gives_up = gives_up;
-        faults = λ input spare.
-            moved (index_status fault) (counts (files.faults schema) (files.faults table) input (bench.faults at) spare) _ _ _ _ input (bench.faults at) spare
-            same_schema same_table (says.same _);
-        schema_last = λ is. absurd (subst EndsGroups is says.ends);
-        table_last = λ is. absurd (subst EndsGroups is says.ends);
-        bench_last = λ is. absurd (subst EndsGroups is says.ends);
-        before_table = says.before (later_table ≡ table);
-        before_bench = always_before opening_journal (index_status fault) refl;
-      }
-
-pub public_gives_up : OneListOfEntries → (fault : IndexFault) (schema table : List ℕ) (read : SchemaView) (public : PublicView) → schema_of schema ≡ Ok read →
-    public_of read.columns table ≡ Ok public → ((place : ℕ) → fault ≡ index.BadGroup place → IsFirstBad read.columns read.groups place) →
-    (columns : List Column) × (given : IndexView) × ArePublicFilesOf schema table columns given → GivesUp (index_status fault)
-public_gives_up law fault schema table read public schema_is public_is bad given =
-    let view : SchemaView = record { columns = given.0; groups = given.2.groups } in
-    let same : read ≡ view = same_ok (schema_of schema) read view schema_is given.2.schema_is in
-    group_gives_up law fault given.0 given.1.public given.2.groups given.1.protected given.2.entries
-    (subst (λ (v : SchemaView). (place : ℕ) → fault ≡ index.BadGroup place → IsFirstBad v.columns v.groups place) same bad)
-
-pub growth_gives_up : OneListOfEntries → (fault : IndexFault) (schema table : List ℕ) (read : SchemaView) → schema_of schema ≡ Ok read →
-    ((place : ℕ) → fault ≡ index.BadGroup place → IsFirstBad read.columns read.groups place) →
-    (base : Database) × AreSoundFilesOf schema table base → GivesUp (index_status fault)
-growth_gives_up law fault schema table read schema_is bad given =
-    let view : SchemaView = record { columns = given.0.columns; groups = given.1.files.groups } in
-    group_gives_up law fault view.columns given.0.public view.groups given.0.protected given.1.entries
-    (subst (λ (v : SchemaView). (place : ℕ) → fault ≡ index.BadGroup place → IsFirstBad v.columns v.groups place)
-    (same_ok (schema_of schema) read view schema_is given.1.files.schema_is) bad)
-
 -- ---- both in one
 
 pub same_journal : {X Y : Type 0} (a b : StartFault) → ◌≡◌ {A = Result X NotStarted} (Err (began.Journal a)) (Err (began.Journal b)) → IsErrOf {T = Y} (Err a) b
@@ -392,7 +291,7 @@ not_started {P} {B} {X} files bench law asked schema later_schema table later_ta
     (groups_refused files bench asked schema later_schema table later_table at (opens_groups asked opens) read schema_is same_schema same_table f first
     (λ ptold reads other is. table_is_ok (λ (cs : List Column). table_of cs (files.left table)) (files.left schema) read other meant (schema_is ptold)
     (table_is ptold) is)
-    (λ ptold simulates. absurd (false≢true (subst (λ (k : Command). opens_store k ≡ true) simulates opens)))
+    (λ ptold simulates. not_public asked opens simulates)
     (λ ptold told given.
     let all = given_history asked _ _ _ opens given in
     let view : SchemaView = record { columns = all.0.columns; groups = all.2.files.files.groups } in

@@ -1,5 +1,6 @@
 pub mod Causes
 pub mod Commands
+pub mod Compactions
 pub mod Drills
 pub mod Ends
 pub mod Files

@@ -19,12 +19,12 @@ use Rattle.table_load.specs.Tables.{table_of, public_of}
 use Rattle.table_load.specs.declared.faults.TableFault.TheVariants as table_fault
 use Rattle.audit_store.specs.Stores.{StoreContents, IsStore, IsAsLeft}
 use Rattle.auditor_top.specs.declared.ready.Ready.{Ready}
-use Rattle.auditor_top.specs.declared.ready.Ready.TheVariants.{Init, Serve, Audit, Simulate, Drill, Grow}
+use Rattle.auditor_top.specs.declared.ready.Ready.TheVariants.{Init, Serve, Audit, Simulate, Drill, Grow, Compact}
 use Rattle.auditor_top.specs.declared.words.Command.{Command}
 use Rattle.auditor_top.specs.declared.words.Command.TheVariants as command
 use Rattle.auditor_top.specs.declared.status.Which.TheVariants.{Schema, Table, Input}
 use Rattle.auditor_top.specs.declared.status.Status.{Status}
-use Rattle.auditor_top.specs.declared.status.Status.TheVariants.{Done, BadWords, BadSchema, BadTable, SourceFault, BenchFault, AlreadyThere, NothingNew, InputLimit, Disagrees, NoMemory}
+use Rattle.auditor_top.specs.declared.status.Status.TheVariants.{Done, BadWords, BadSchema, BadTable, SourceFault, BenchFault, AlreadyThere, NothingNew, InputLimit, Disagrees, SpareThere, SpareFault, NoMemory}
 use Rattle.auditor_top.specs.Causes.{WordCause, SchemaCause, TableCause, GroupCause, FileCause, FaultCause, counts}
 use Rattle.auditor_top.specs.Commands.{AreFilesOf, AreSoundFilesOf, ArePublicFilesOf, ServesOver, opens_store, reads_files, reads_groups, reads_secrets}
 use Rattle.auditor_top.specs.Stages.{Before, reading_table, opening_journal}
@@ -39,6 +39,7 @@ IsGiven command.Audit schema table file = (base : Database) × (history : List A
 IsGiven command.Simulate schema table file = (columns : List Column) × (index : IndexView) × ArePublicFilesOf schema table columns index
 IsGiven (command.Drill number) schema table file = Unit {0}
 IsGiven command.Grow schema table file = (base : Database) × AreSoundFilesOf schema table base
+IsGiven command.Compact schema table file = (base : Database) × (history : List Answered) × ServesOver schema table file base history
 
 -- the command that goes on with this
 abbrev pub command_for : Ready → Command
@@ -48,6 +49,7 @@ command_for (Audit schema store) = command.Audit
 command_for (Simulate schema index) = command.Simulate
 command_for (Drill number) = command.Drill number
 command_for (Grow secret protected) = command.Grow
+command_for (Compact store) = command.Compact
 
 -- a store that was just opened: the journal's file is as it left it
 pub record IsOpened {B : Type 0} (bench : Ghosts B) (now : B) (store : StoreContents) : Type 0 where
@@ -66,6 +68,7 @@ IsReady bench now (Simulate schema index) =
     FitsSchema schema.columns index.public × AreProtected (shape_of schema.columns index.public.rows) index.protected
 IsReady bench now (Drill number) = Unit {0}
 IsReady bench now (Grow secret protected) = AreProtected secret.shape protected.items
+IsReady bench now (Compact store) = IsOpened bench now store
 
 -- its parts are what the files mean
 abbrev pub IsReadyOver : List ℕ → List ℕ → Ready → Type 0
@@ -77,6 +80,8 @@ IsReadyOver schema_file table_file (Simulate schema index) = ArePublicFilesOf sc
 IsReadyOver schema_file table_file (Drill number) = Unit {0}
 IsReadyOver schema_file table_file (Grow secret protected) =
     (columns : List Column) × (public : PublicView) × AreSoundFilesOf schema_file table_file (base_of columns public protected.items secret)
+IsReadyOver schema_file table_file (Compact store) =
+    (columns : List Column) × (public : PublicView) × AreSoundFilesOf schema_file table_file (base_of columns public store.protected store.secret)
 
 -- ---- the statuses
 
@@ -89,6 +94,8 @@ EndsEarly AlreadyThere = ⊥
 EndsEarly (NothingNew rows) = ⊥
 EndsEarly InputLimit = ⊥
 EndsEarly (Disagrees line due) = ⊥
+EndsEarly SpareThere = ⊥
+EndsEarly SpareFault = ⊥
 EndsEarly status = Unit {0}
 
 -- before that a call failed, or memory ran out: that may come whatever is given

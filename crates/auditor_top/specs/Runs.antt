@@ -11,7 +11,7 @@ use Rattle.set_index.specs.Indexed.{IndexView}
 use Rattle.table_load.specs.Database.{Database, table_in}
 use Rattle.journal_form.specs.Journal.{StandsFor}
 use Rattle.answer_journal.specs.Make.{calls_to_make}
-use Rattle.answer_journal.specs.Moments.{IsAlready, IsBeforeOrGrown, IsUnmadeOrEmpty}
+use Rattle.answer_journal.specs.Moments.{IsAlready, IsMade, IsBeforeOrGrown, IsUnmadeOrEmpty}
 use Rattle.line_wire.specs.Lines.{counted_lines, most_input}
 use Rattle.question_plan.specs.Session.{Replied}
 use Rattle.audit_session.specs.Ends.{TakesCalls}
@@ -21,6 +21,8 @@ use Rattle.transcript_sim.specs.Ends.{SimulatesMeanwhile}
 use Rattle.transcript_sim.specs.Verdicts.{AreVerdicts, exchanges}
 use Rattle.auditor_top.specs.declared.status.Status.{Status}
 use Rattle.auditor_top.specs.declared.status.Status.TheVariants.{Done, BenchFault, NoMemory}
+use Rattle.bench_core.specs.Causes.{Rose}
+use Rattle.auditor_top.specs.Compactions.{CompactEnds, DecideAlike, IsUnmadeOrKept, SendsCounts}
 use Rattle.auditor_top.specs.Causes.{FaultCounts, counts, NothingFailed, IsDoneOrWants}
 use Rattle.auditor_top.specs.Commands.{AreFilesOf, ArePublicFilesOf, GrowsOver, ServesOver}
 use Rattle.auditor_top.specs.Drills.{DrillEnds}
@@ -162,3 +164,45 @@ pub record Growing {P I B : Type 0} (files : source.Ghosts P) (lines : source.Gh
   pub grows : files.told → bench.told → (base : Database) (rows : ℕ) (history : List Answered) →
       GrowsOver (files.left old.schema) (files.left old.table) (bench.file old.bench) base rows history →
       NothingFailed (faults_of files lines bench old) (faults_of files lines bench new) → IsDoneOrWants status
+
+-- a run of `compact`
+pub record Compacting {P I B : Type 0} (files : source.Ghosts P) (lines : source.Ghosts I) (bench : Ghosts B) (status : Status) (old new : Objects P I B) : Type 0 where
+  -- over the files of a table and a journal that stands for a legal history of it: the line on what is kept was sent, or a front of
+  -- it, and the spare stood for what is kept before the first byte
+  pub compacted : files.told → bench.told → (base : Database) (history : List Answered) →
+      ServesOver (files.left old.schema) (files.left old.table) (bench.file old.bench) base history →
+      CompactEnds status base history (bench.file new.spare) (bench.sent old.bench) (bench.sent new.bench)
+  -- at every moment the spare isn't made, or stands for what is kept; a crash once it is done leaves what it reads
+  pub compacting : files.told → bench.told → (IsMade (bench.file old.spare) → ⊥) → IsQuiet bench old.spare → (base : Database) (history : List Answered) →
+      ServesOver (files.left old.schema) (files.left old.table) (bench.file old.bench) base history →
+      LeavesOnly bench old.spare new.spare (IsUnmadeOrKept base.secret.shape history (bench.sent old.spare))
+  pub stable : bench.told → status ≡ Done → IsQuiet bench new.spare
+  -- so every journal that a crash at any moment leaves there is legal for the table, and decides every question as the history does
+  pub alike : files.told → bench.told → (IsMade (bench.file old.spare) → ⊥) → IsQuiet bench old.spare → (base : Database) (history : List Answered) →
+      ServesOver (files.left old.schema) (files.left old.table) (bench.file old.bench) base history →
+      (image sent : List ℕ) (found : List Answered) → bench.since new.spare (bench.moment old.spare) image sent → IsMade image →
+      StandsFor image base.secret.shape found → DecideAlike (table_in base) history found
+  -- the journal's own file stays at every moment, and fronts of the line are all that is sent
+  pub sending : files.told → bench.told → IsQuiet bench old.bench → (base : Database) (history : List Answered) →
+      ServesOver (files.left old.schema) (files.left old.table) (bench.file old.bench) base history →
+      LeavesOnly bench old.bench new.bench (SendsCounts base.secret.shape history (bench.file old.bench) (bench.sent old.bench))
+  pub undisturbed : bench.told → IsQuiet bench old.bench → LeavesOnly bench old.bench new.bench (LeavesFile (bench.file old.bench))
+  -- a journal that is made on the spare stays at every moment, and nothing is sent
+  pub kept : bench.told → IsMade (bench.file old.spare) → (bench.sent new.bench ≡ bench.sent old.bench) × (bench.file new.spare ≡ bench.file old.spare)
+  pub untouched : bench.told → IsMade (bench.file old.spare) → IsQuiet bench old.spare →
+      LeavesOnly bench old.spare new.spare (IsUntouched (bench.file old.spare) (bench.sent old.spare))
+  pub unsent : bench.told → IsMade (bench.file old.spare) → IsQuiet bench old.bench →
+      LeavesOnly bench old.bench new.bench (IsUntouched (bench.file old.bench) (bench.sent old.bench))
+  -- over any other files or journal the spare isn't called and nothing is sent, and where memory ran out it isn't called either
+  pub uncalled : files.told → bench.told → ((base : Database) (history : List Answered) →
+      ServesOver (files.left old.schema) (files.left old.table) (bench.file old.bench) base history → ⊥) →
+      (new.spare ≡ old.spare) × (bench.sent new.bench ≡ bench.sent old.bench)
+  pub no_memory : status ≡ NoMemory → new.spare ≡ old.spare
+  -- it took two calls of the bench to open the journal, and one to send the line; and of the spare those that make a journal
+  pub compact_calls : bench.told → status ≡ Done → bench.moment new.bench ≡ bench.moment old.bench + 3
+  pub spare_calls : bench.told → status ≡ Done → bench.moment new.spare ≡ bench.moment old.spare + calls_to_make (bench.file old.spare)
+  -- where nothing is wrong and nothing fails, it is done
+  pub compacts : files.told → bench.told → (IsMade (bench.file old.spare) → ⊥) → (base : Database) (history : List Answered) →
+      ServesOver (files.left old.schema) (files.left old.table) (bench.file old.bench) base history →
+      NothingFailed (faults_of files lines bench old) (faults_of files lines bench new) →
+      (Rose (bench.faults old.spare) (bench.faults new.spare) → ⊥) → IsDoneOrWants status

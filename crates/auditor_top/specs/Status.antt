@@ -20,6 +20,8 @@ use Rattle.journal_audit.specs.declared.faults.AuditFault.TheVariants as report
 use Rattle.transcript_sim.specs.Verdicts.{word_of}
 use Rattle.transcript_sim.specs.declared.simulating.SimulationFault.{SimulationFault}
 use Rattle.transcript_sim.specs.declared.simulating.SimulationFault.TheVariants as verdict
+use Rattle.auditor_top.specs.declared.compacting.CompactFault.{CompactFault}
+use Rattle.auditor_top.specs.declared.compacting.CompactFault.TheVariants as compact
 use Rattle.auditor_top.specs.declared.files.FileFault.TheVariants as file
 use Rattle.auditor_top.specs.declared.opening.OpenFault.{OpenFault}
 use Rattle.auditor_top.specs.declared.opening.OpenFault.TheVariants as opening
@@ -27,7 +29,7 @@ use Rattle.auditor_top.specs.declared.starting.NotStarted.{NotStarted}
 use Rattle.auditor_top.specs.declared.starting.NotStarted.TheVariants as starting
 use Rattle.auditor_top.specs.declared.status.Which.TheVariants.{Schema, Table, Input}
 use Rattle.auditor_top.specs.declared.status.Status.{Status}
-use Rattle.auditor_top.specs.declared.status.Status.TheVariants.{Done, BadWords, BadSchema, BadTable, SourceFault, BenchFault, NotMade, AlreadyThere, Damaged, OtherShape, NothingNew, Untrue, Illegal, InputLimit, Disagrees, BadGroup, NoMemory}
+use Rattle.auditor_top.specs.declared.status.Status.TheVariants.{Done, BadWords, BadSchema, BadTable, SourceFault, BenchFault, NotMade, AlreadyThere, Damaged, OtherShape, NothingNew, Untrue, Illegal, InputLimit, Disagrees, BadGroup, SpareThere, SpareFault, NoMemory}
 
 -- the exit status of the program
 abbrev pub status_code : Status → ℕ
@@ -48,6 +50,8 @@ status_code (Disagrees line due) = 14
 status_code NoMemory = 15
 status_code (BadGroup place) = 16
 status_code (NothingNew rows) = 17
+status_code SpareThere = 18
+status_code SpareFault = 19
 
 -- the place of a fault in a line
 abbrev pub at_line : ℕ → List ℕ
@@ -72,7 +76,7 @@ place_text fault.NoMemory = codes ""
 -- the words of a status that tells no number, none where it is done or tells one
 abbrev pub words_of : Status → List ℕ
 words_of Done = codes ""
-words_of BadWords = codes "usage: auditor init, serve [--batch N], audit, simulate, drill N, grow"
+words_of BadWords = codes "usage: auditor init, serve [--batch N], audit, simulate, drill N, grow, compact"
 words_of (BadSchema fault) = codes ""
 words_of (BadTable fault) = codes ""
 words_of (SourceFault Schema) = codes "cannot read schema"
@@ -89,6 +93,8 @@ words_of (Illegal place) = codes ""
 words_of InputLimit = codes "input is too long"
 words_of (Disagrees line due) = codes ""
 words_of (BadGroup place) = codes ""
+words_of SpareThere = codes "spare is already there"
+words_of SpareFault = codes "spare failed"
 words_of NoMemory = codes "out of memory"
 
 -- what the program tells of it
@@ -164,6 +170,13 @@ abbrev pub report_status : AuditFault → Status
 report_status report.Failed = BenchFault
 report_status report.NoMemory = NoMemory
 
+-- of a compaction
+abbrev pub compact_status : CompactFault → Status
+compact_status compact.AlreadyThere = SpareThere
+compact_status compact.Spare = SpareFault
+compact_status compact.Bench = BenchFault
+compact_status compact.NoMemory = NoMemory
+
 -- of reading a transcript
 abbrev pub verdict_status : SimulationFault → Status
 verdict_status verdict.Input = SourceFault Input
@@ -196,3 +209,8 @@ session_status (Err fault) = end_status fault
 abbrev pub simulation_status : {X : Type 0} → Result X SimulationFault → Status
 simulation_status (Ok done) = Done
 simulation_status (Err fault) = verdict_status fault
+
+-- of a compaction, by how it ended
+abbrev pub compacting_status : {X : Type 0} → Result X CompactFault → Status
+compacting_status (Ok done) = Done
+compacting_status (Err fault) = compact_status fault

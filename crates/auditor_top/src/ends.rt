@@ -1,7 +1,8 @@
 //! The status of the last step of a command, by how it ended.
 ghost use Rattle.std.specs.Prelude.{◌≡◌};
-ghost use Rattle.auditor_top.specs.Status.{making_status, session_status, audit_status, simulation_status, growing_status};
+ghost use Rattle.auditor_top.specs.Status.{making_status, session_status, audit_status, simulation_status, growing_status, compacting_status};
 
+use crate::compacting::CompactFault;
 use crate::status::Status;
 use answer_journal::MakeFault;
 use audit_session::EndFault;
@@ -54,6 +55,16 @@ pub fn grown(growth: Result<(), GrowFault>) -> Status
     ensures { result ≡ growing_status growth }
 {
     match growth {
+        Ok(()) => Status::Done,
+        Err(fault) => Status::from(fault),
+    }
+}
+
+/// The status of a compaction that ended so.
+pub fn compacted(compaction: Result<(), CompactFault>) -> Status
+    ensures { result ≡ compacting_status compaction }
+{
+    match compaction {
         Ok(()) => Status::Done,
         Err(fault) => Status::from(fault),
     }

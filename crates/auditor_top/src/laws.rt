@@ -4,10 +4,12 @@ ghost use Rattle.audit_types.specs.declared.records.Answered.{Answered};
 ghost use Rattle.audit_types.specs.History.{IsLegal, IsUndisclosed};
 ghost use Rattle.journal_form.specs.Journal.{StandsFor};
 ghost use Rattle.line_wire.specs.Lines.{CountedLine};
+ghost use Rattle.answer_journal.specs.Moments.{IsMade};
 ghost use Rattle.table_load.specs.Database.{Database, table_in};
 ghost use Rattle.audit_session.specs.Stops.{StopsOver, IsBatch};
 ghost use Rattle.auditor_top.specs.Commands.{AreSoundFilesOf};
-ghost use Rattle.auditor_top.specs.declared.words.Command.TheVariants.{Init, Serve, Audit, Simulate, Drill, Grow};
+ghost use Rattle.auditor_top.specs.Compactions.{DecideAlike, IsUnmadeOrKept};
+ghost use Rattle.auditor_top.specs.declared.words.Command.TheVariants.{Init, Serve, Audit, Simulate, Drill, Grow, Compact};
 ghost use Rattle.auditor_top.specs.Words.{command_of, number_of};
 ghost use Rattle.auditor_top.specs.Promise.{LivesKeepPromise, LivesGoOn, GrowthsAreTaken, MadeIsTaken, StopsAreTaken, RunsMakeLives};
 
@@ -23,6 +25,21 @@ pub fn stops_are_legal()
     table_load::laws::secrets_of_a_table();
     set_index::groups_of_a_schema();
     audit_session::laws::stops();
+}
+
+/// What a compaction leaves of a legal history of a table, once it is made, is legal for the table, and every question is decided
+/// after it as after the history.
+pub fn compactions()
+    ensures { (schema table before image sent : List ℕ) (base : Database) (history found : List Answered)
+        → AreSoundFilesOf schema table base → IsLegal (table_in base) history → IsUnmadeOrKept base.secret.shape history before image sent
+        → IsMade image → StandsFor image base.secret.shape found → DecideAlike (table_in base) history found }
+{
+    schema_json::laws::columns_of_a_schema();
+    table_load::laws::secrets_of_a_table();
+    table_load::lists_of_secrets();
+    set_index::groups_of_a_schema();
+    journal_form::laws::one_reading();
+    journal_compact::laws::kept_of_legal();
 }
 
 /// In every life over growing tables the last history is legal for the rows in force, discloses nothing of them that is guarded, and
@@ -60,6 +77,7 @@ pub fn plain_words()
     ensures audit { command_of (codes "audit" ∷ []) ≡ Some Audit }
     ensures simulate { command_of (codes "simulate" ∷ []) ≡ Some Simulate }
     ensures grow { command_of (codes "grow" ∷ []) ≡ Some Grow }
+    ensures compact { command_of (codes "compact" ∷ []) ≡ Some Compact }
     ensures batch { (word : List ℕ) (batch : ℕ) → number_of word ≡ Some batch → IsBatch batch
         → command_of (codes "serve" ∷ codes "--batch" ∷ word ∷ []) ≡ Some (Serve batch) }
     ensures batch_in_one_word { (word : List ℕ) (batch : ℕ) → number_of word ≡ Some batch → IsBatch batch

@@ -1,8 +1,11 @@
 //! What each command goes on with: its files are read, and its journal is opened.
 ghost use Rattle.std.specs.Prelude.{◌≡◌, ◌≤◌, ◌+◌, true, false, IfOk, IfErr, IsOk, OnOk};
-ghost use Rattle.auditor_top.specs.Commands.{opens_store, reads_files};
 ghost use Rattle.bench_core.specs.Calls.{OnlyReads};
-ghost use Rattle.auditor_top.specs.Ready.{IsReady, IsReadyOver, Refuses, command_for};
+ghost use Rattle.schema_json.specs.SecretShape.{shape_of};
+ghost use Rattle.table_load.specs.Cells.{FitsSchema};
+ghost use Rattle.table_load.specs.Database.{base_of};
+ghost use Rattle.auditor_top.specs.Commands.{AreSoundFilesOf, opens_store, reads_files};
+ghost use Rattle.auditor_top.specs.Ready.{IsOpened, IsReady, IsReadyOver, Refuses, command_for};
 
 use crate::opening::{Opened, OpenedPublic, open_public, open_table};
 use crate::starting::{Started, entries, start};
@@ -43,6 +46,44 @@ pub enum Ready {
         secret: Secret,
         protected: Vec<Protected>,
     },
+    Compact {
+        store: Store,
+    },
+}
+
+// Reads the files of a command that stands on a store, makes the groups ready, and opens the journal.
+fn open_store<P: Source, B: Bench>(
+    alloc: Global,
+    command: Command,
+    schema: &mut P,
+    table: &mut P,
+    bench: &mut B,
+) -> Result<Started, Status>
+    requires { opens_store command ≡ true }
+
+    // What is started is that of the files and the journal.
+    ensures over { P.told → IfOk result (λ started. AreSoundFilesOf (P.left schema.old) (P.left table.old)
+        (base_of started.schema.columns started.index.public started.store.protected started.store.secret)) }
+    ensures opened { IfOk result (λ started. IsOpened B.Bench bench.new started.store) }
+    ensures fits { IfOk result (λ started. FitsSchema started.schema.columns started.index.public) }
+    ensures shape { IfOk result (λ started. started.store.secret.shape ≡ shape_of started.schema.columns started.index.public.rows) }
+    ensures entries { IfOk result (λ started. started.index.protected ≡ started.store.protected) }
+    ensures steady { OnOk result ((P.faults schema.new ≡ P.faults schema.old) × (P.faults table.new ≡ P.faults table.old) × (B.faults bench.new ≡ B.faults bench.old)) }
+    ensures ticks { B.told → OnOk result (B.moment bench.new ≡ B.moment bench.old + 2) }
+
+    // A refusal has its cause. The journal is only read.
+    ensures refusal { IfErr result (λ status. Refuses P.Source B.Bench command status schema.old schema.new table.old table.new bench.old bench.new) }
+    ensures reads { OnlyReads B.Bench bench.old bench.new }
+    ensures later { (P.faults schema.old ≤ P.faults schema.new) × (P.faults table.old ≤ P.faults table.new) × (B.faults bench.old ≤ B.faults bench.new) }
+{
+    groups_of_a_schema();
+    match open_table(alloc, schema, table) {
+        Ok(opened) => match start(alloc, opened, bench) {
+            Ok(started) => Ok(started),
+            Err(fault) => Err(Status::from(fault)),
+        },
+        Err(fault) => Err(Status::from(fault)),
+    }
 }
 
 /// Reads the files that the command stands on, and opens the journal of its store.
@@ -86,30 +127,28 @@ pub fn open<P: Source, B: Bench>(
             },
             Err(fault) => Err(Status::from(fault)),
         },
-        Command::Serve { batch } => match open_table(alloc, schema, table) {
-            Ok(opened) => match start(alloc, opened, bench) {
-                Ok(
-                    Started {
-                        schema,
-                        index,
-                        store,
-                    },
-                ) => Ok(Ready::Serve {
+        Command::Serve { batch } => match open_store(alloc, command, schema, table, bench) {
+            Ok(
+                Started {
                     schema,
                     index,
                     store,
-                    batch,
-                }),
-                Err(fault) => Err(Status::from(fault)),
-            },
-            Err(fault) => Err(Status::from(fault)),
+                },
+            ) => Ok(Ready::Serve {
+                schema,
+                index,
+                store,
+                batch,
+            }),
+            Err(status) => Err(status),
         },
-        Command::Audit => match open_table(alloc, schema, table) {
-            Ok(opened) => match start(alloc, opened, bench) {
-                Ok(Started { schema, store, .. }) => Ok(Ready::Audit { schema, store }),
-                Err(fault) => Err(Status::from(fault)),
-            },
-            Err(fault) => Err(Status::from(fault)),
+        Command::Audit => match open_store(alloc, command, schema, table, bench) {
+            Ok(Started { schema, store, .. }) => Ok(Ready::Audit { schema, store }),
+            Err(status) => Err(status),
+        },
+        Command::Compact => match open_store(alloc, command, schema, table, bench) {
+            Ok(Started { store, .. }) => Ok(Ready::Compact { store }),
+            Err(status) => Err(status),
         },
         Command::Grow => match open_table(alloc, schema, table) {
             Ok(Opened { schema, table }) => match entries(alloc, &schema, table.public) {

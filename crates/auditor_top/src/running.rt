@@ -12,17 +12,18 @@ ghost use Rattle.table_load.specs.Tables.{table_of, public_of};
 ghost use Rattle.journal_form.specs.Journal.{StandsFor};
 ghost use Rattle.audit_session.specs.Lives.{Standing, Run, IsLife, in_force};
 ghost use Rattle.auditor_top.specs.declared.words.Command.{Command};
-ghost use Rattle.auditor_top.specs.declared.words.Command.TheVariants.{Init, Serve, Audit, Simulate, Drill, Grow};
+ghost use Rattle.auditor_top.specs.declared.words.Command.TheVariants.{Init, Serve, Audit, Simulate, Drill, Grow, Compact};
 ghost use Rattle.auditor_top.specs.Words.{command_of, NamesCommand};
-ghost use Rattle.auditor_top.specs.Commands.{AreFilesOf, AreSoundFilesOf, GoesOnOver, deed_of, opens_journal, reads_files, reads_groups, reads_secrets, reads_lines, writes};
-ghost use Rattle.auditor_top.specs.Causes.{FaultCause, WordCause, SchemaCause, TableCause, GroupCause, FileCause, InputCause, IsReadyFor, NeverFall, counts};
+ghost use Rattle.auditor_top.specs.Commands.{AreFilesOf, AreSoundFilesOf, GoesOnOver, deed_of, opens_journal, reads_files, reads_groups, reads_secrets, reads_lines, writes, calls_spare};
+ghost use Rattle.auditor_top.specs.Causes.{FaultCause, WordCause, SchemaCause, TableCause, GroupCause, FileCause, SpareCause, InputCause, IsReadyFor, NeverFall, counts};
 ghost use Rattle.auditor_top.specs.Promise.{GoesOn};
-ghost use Rattle.auditor_top.specs.Runs.{objects, Making, Serving, Auditing, Simulating, Drilling, Growing};
-ghost use Rattle.auditor_top.specs.Stages.{Before, reading_table, opening_journal, reading_lines};
+ghost use Rattle.auditor_top.specs.Runs.{objects, Making, Serving, Auditing, Simulating, Drilling, Growing, Compacting};
+ghost use Rattle.auditor_top.specs.Stages.{Before, reading_table, opening_journal, writing_spare, reading_lines};
 
+use crate::compacting::compact;
 use crate::drilling::drill;
-use crate::ends::{answered, grown, judged, made, reported};
-use crate::laws::{lives, stops_are_legal};
+use crate::ends::{answered, compacted, grown, judged, made, reported};
+use crate::laws::{compactions, lives, stops_are_legal};
 use crate::ready::{Ready, open};
 use crate::status::{Status, Which};
 use crate::words::{Command, WordFault, read_words};
@@ -35,8 +36,8 @@ use table_load::TableFault;
 use transcript_sim::laws::one_verdict;
 
 /// Does all that the program does: reads the words after the program's name, and takes the steps of their command over the
-/// schema, the table, the lines of the input, and the bench, which keeps the journal and takes what is sent. `spare` is never
-/// called: it is the place of a second journal, which no command keeps.
+/// schema, the table, the lines of the input, and the bench, which keeps the journal and takes what is sent. `spare` is the place
+/// of a second journal.
 pub fn run<P: Source, I: Source, B: Bench>(
     alloc: Global,
     words: &Vec<String>,
@@ -60,6 +61,7 @@ pub fn run<P: Source, I: Source, B: Bench>(
     ensures file { P.told → B.told → (command : Command) → NamesCommand words.now.items command
         → (base : Database) → (files : AreFilesOf (P.left schema.old) (P.left table.old) base)
         → OnTrue (reads_groups command) (AreEntries base.columns base.public files.groups base.protected) → FileCause result command (B.file bench.old) (table_in base) }
+    ensures spare_file { B.told → (command : Command) → NamesCommand words.now.items command → calls_spare command ≡ true → SpareCause result (B.file spare.old) }
     ensures input { I.told → (command : Command) → NamesCommand words.now.items command → reads_lines command ≡ true → InputCause result (I.left input.old) (I.left input.new) }
 
     // A failed call is told when it happens: it is the only call that failed, and the last one that was made, of the object
@@ -72,6 +74,7 @@ pub fn run<P: Source, I: Source, B: Bench>(
     ensures table_last { result ≡ Status.SourceFault Which.Table → P.last_failed table.new ≡ true }
     ensures input_last { result ≡ Status.SourceFault Which.Input → I.last_failed input.new ≡ true }
     ensures bench_last { result ≡ Status.BenchFault → B.last_failed bench.new ≡ true }
+    ensures spare_last { result ≡ Status.SpareFault → B.last_failed spare.new ≡ true }
     ensures later { NeverFall
         (counts (P.faults schema.old) (P.faults table.old) (I.faults input.old) (B.faults bench.old) (B.faults spare.old))
         (counts (P.faults schema.new) (P.faults table.new) (I.faults input.new) (B.faults bench.new) (B.faults spare.new)) }
@@ -99,6 +102,8 @@ pub fn run<P: Source, I: Source, B: Bench>(
         (objects schema.old table.old input.old bench.old spare.old) (objects schema.new table.new input.new bench.new spare.new) }
     ensures grow { NamesCommand words.now.items Grow → Growing P.Source I.Source B.Bench result
         (objects schema.old table.old input.old bench.old spare.old) (objects schema.new table.new input.new bench.new spare.new) }
+    ensures compact { NamesCommand words.now.items Compact → Compacting P.Source I.Source B.Bench result
+        (objects schema.old table.old input.old bench.old spare.old) (objects schema.new table.new input.new bench.new spare.new) }
     ensures drill { (number : ℕ) → NamesCommand words.now.items (Drill number) → Drilling P.Source I.Source B.Bench number result
         (objects schema.old table.old input.old bench.old spare.old) (objects schema.new table.new input.new bench.new spare.new) }
 
@@ -116,17 +121,19 @@ pub fn run<P: Source, I: Source, B: Bench>(
     ensures before_bench { Before opening_journal result (bench.new ≡ bench.old) }
     ensures before_lines { Before reading_lines result ((input.new ≡ input.old) × (B.sent bench.new ≡ B.sent bench.old)) }
     ensures unwritten { B.told → Before reading_lines result (B.file bench.new ≡ B.file bench.old) }
-    ensures unread { command_of (map string_bytes words.now.items) ≡ None → (schema.new ≡ schema.old) × (table.new ≡ table.old) × (input.new ≡ input.old) × (bench.new ≡ bench.old) }
+    ensures before_spare { Before writing_spare result (spare.new ≡ spare.old) }
+    ensures unread { command_of (map string_bytes words.now.items) ≡ None → (schema.new ≡ schema.old) × (table.new ≡ table.old) × (input.new ≡ input.old) × (bench.new ≡ bench.old) × (spare.new ≡ spare.old) }
     ensures no_files { (command : Command) → NamesCommand words.now.items command → reads_files command ≡ false → (schema.new ≡ schema.old) × (table.new ≡ table.old) }
     ensures no_lines { (command : Command) → NamesCommand words.now.items command → reads_lines command ≡ false → input.new ≡ input.old }
     ensures never_written { B.told → (command : Command) → NamesCommand words.now.items command → writes command ≡ false → B.file bench.new ≡ B.file bench.old }
-    ensures spare { spare.new ≡ spare.old }
+    ensures spare { (command : Command) → NamesCommand words.now.items command → calls_spare command ≡ false → spare.new ≡ spare.old }
 {
     journal_form::laws::one_reading();
     one_verdict();
     set_index::groups_of_a_schema();
     lives();
     stops_are_legal();
+    compactions();
     let command = match read_words(alloc, words) {
         Ok(command) => command,
         Err(WordFault::Bad) => return Status::BadWords,
@@ -155,5 +162,6 @@ pub fn run<P: Source, I: Source, B: Bench>(
         Ok(Ready::Grow { secret, protected }) => {
             grown(Store::grow(alloc, secret, protected, bench))
         }
+        Ok(Ready::Compact { store }) => compacted(compact(alloc, &store, bench, spare)),
     }
 }

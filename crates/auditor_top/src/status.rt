@@ -2,6 +2,7 @@
 ghost use Rattle.std.specs.Prelude.{◌≡◌, IfOk, string_bytes};
 ghost use Rattle.auditor_top.specs.Status as spec;
 
+use crate::compacting::CompactFault;
 use crate::files::FileFault;
 use crate::opening::OpenFault;
 use crate::starting::NotStarted;
@@ -60,6 +61,10 @@ pub enum Status {
     Disagrees { line: u64, due: Due },
     /// The first group of the schema, from 0, whose column isn't one of sums, or whose condition is none.
     BadGroup { place: u8 },
+    /// There is a made journal on the spare.
+    SpareThere,
+    /// A call on the spare failed.
+    SpareFault,
     /// Memory ran out.
     NoMemory,
 }
@@ -194,6 +199,22 @@ impl From<AuditFault> for Status {
     }
 }
 
+impl From<CompactFault> for Status {
+    ghost use Rattle.std.specs.Prelude.{◌≡◌};
+    ghost use Rattle.auditor_top.specs.Status.{compact_status};
+
+    ghost from_gives = { λ fault status. status ≡ compact_status fault };
+
+    fn from(fault: CompactFault) -> Status {
+        match fault {
+            CompactFault::AlreadyThere => Status::SpareThere,
+            CompactFault::Spare => Status::SpareFault,
+            CompactFault::Bench => Status::BenchFault,
+            CompactFault::NoMemory => Status::NoMemory,
+        }
+    }
+}
+
 impl From<SimulationFault> for Status {
     ghost use Rattle.std.specs.Prelude.{◌≡◌};
     ghost use Rattle.auditor_top.specs.Status.{verdict_status};
@@ -244,7 +265,7 @@ fn words_of(status: &Status) -> &'static str
 {
     match status {
         Status::BadWords => {
-            "usage: auditor init, serve [--batch N], audit, simulate, drill N, grow"
+            "usage: auditor init, serve [--batch N], audit, simulate, drill N, grow, compact"
         }
         Status::SourceFault(Which::Schema) => "cannot read schema",
         Status::SourceFault(Which::Table) => "cannot read table",
@@ -253,6 +274,8 @@ fn words_of(status: &Status) -> &'static str
         Status::NotMade => "no journal",
         Status::AlreadyThere => "journal is already there",
         Status::InputLimit => "input is too long",
+        Status::SpareThere => "spare is already there",
+        Status::SpareFault => "spare failed",
         Status::NoMemory => "out of memory",
         Status::Done
         | Status::BadSchema(_)
@@ -320,6 +343,8 @@ pub fn status_code(status: &Status) -> u8
         Status::Disagrees { .. } => 14,
         Status::BadGroup { .. } => 16,
         Status::NothingNew { .. } => 17,
+        Status::SpareThere => 18,
+        Status::SpareFault => 19,
         Status::NoMemory => 15,
     }
 }

@@ -1,5 +1,5 @@
 //! Writing a whole journal where none is made.
-ghost use Rattle.std.specs.Prelude.{◌≡◌, ◌<◌, ◌≤◌, ◌++◌, ◌∷◌, ℕ, List, true, length, All, IfOk, OnOk, OnErr, IsErr, IsErrOf};
+ghost use Rattle.std.specs.Prelude.{◌≡◌, ◌<◌, ◌≤◌, ◌+◌, ◌++◌, ◌∷◌, ℕ, List, true, length, All, Ok, IfOk, OnOk, OnErr, IsErr, IsErrOf};
 ghost use Rattle.audit_types.specs.Limits.{most_records};
 ghost use Rattle.audit_types.specs.Shapes.{IsShape};
 ghost use Rattle.audit_types.specs.History.{FitsShape};
@@ -7,6 +7,7 @@ ghost use Rattle.bench_core.specs.Causes.{HasCause};
 ghost use Rattle.bench_core.specs.Calls.{IsQuiet, LeavesOnly, IsUntouched, OnlyReads, TellsFault};
 ghost use Rattle.journal_form.specs.Group.{IsGroup};
 ghost use Rattle.journal_form.specs.Journal.{StandsFor};
+ghost use Rattle.answer_journal.specs.Make.{calls_to_make};
 ghost use Rattle.answer_journal.specs.Moments.{IsMade};
 ghost use Rattle.journal_compact.specs.Whole.{AreBehindGate, HoldsWhole, IsFound, IsUnmadeOrWhole};
 
@@ -58,6 +59,8 @@ pub enum Found {
 
 fn look<B: Bench>(bench: &mut B) -> Result<Found, Failed>
     ensures found { B.told → IfOk result (λ what. IsFound what (B.file bench.old)) }
+    ensures short { B.told → result ≡ Ok Found.Short → B.moment bench.new ≡ B.moment bench.old + 1 }
+    ensures closed { B.told → result ≡ Ok Found.Closed → B.moment bench.new ≡ B.moment bench.old + 2 }
     ensures reads { OnlyReads B.Bench bench.old bench.new }
     ensures cause { HasCause (B.faults bench.old) (B.faults bench.new) result }
     ensures last_call { OnErr result (B.last_failed bench.new ≡ true) }
@@ -139,6 +142,7 @@ pub fn write_whole<B: Bench>(
     ensures any_moment { B.told → (IsMade (B.file bench.old) → ⊥) → IsQuiet B.Bench bench.old → LeavesOnly B.Bench bench.old bench.new (IsUnmadeOrWhole shape.now list.now (B.sent bench.old)) }
     ensures done { B.told → OnOk result (StandsFor (B.file bench.new) shape.now list.now) }
     ensures written { B.told → OnOk result (HoldsWhole shape.now list.now (B.file bench.new)) }
+    ensures ticks { B.told → OnOk result (B.moment bench.new ≡ B.moment bench.old + calls_to_make (B.file bench.old)) }
     ensures quiet { B.told → OnOk result (IsQuiet B.Bench bench.new) }
     ensures sent { B.sent bench.new ≡ B.sent bench.old }
     ensures fault { TellsFault B.Bench bench.old bench.new (IsErrOf result WholeFault.Failed) }

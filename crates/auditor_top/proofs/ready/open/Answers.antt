@@ -2,9 +2,8 @@ use Rattle.std.proofs.Common.{◌≡◌, ℕ, List, [], Result, Ok, Err, refl, s
 use Rattle.audit_types.specs.Shapes.{IsShape}
 use Rattle.audit_types.specs.declared.shapes.Shape.{Shape}
 use Rattle.schema_json.specs.SecretShape.{shape_of}
-use Rattle.table_load.specs.Cells.{FitsSchema, PublicView, SecretView}
+use Rattle.table_load.specs.Cells.{FitsSchema, PublicView}
 use Rattle.table_load.specs.Database.{base_of}
-use Rattle.audit_store.specs.Stores.{IsAsLeft}
 use Rattle.auditor_top.specs.declared.opening.OpenFault.{OpenFault}
 use Rattle.auditor_top.specs.declared.opening.Opened.{Opened}
 use Rattle.auditor_top.specs.declared.opening.OpenedPublic.{OpenedPublic}
@@ -15,11 +14,9 @@ use Rattle.auditor_top.specs.Ready.{IsGiven, Refuses}
 use Rattle.auditor_top.proofs.FileRefusals.{files_refused, gives_up_over, gives_up_public}
 use Rattle.auditor_top.proofs.Openings.{stays}
 use Rattle.auditor_top.proofs.Refusals.{uncalled}
-use Rattle.auditor_top.proofs.StepFaults.{not_both}
-use Rattle.auditor_top.proofs.StoreRefusals.{no_step, lacks}
 use Rattle.audit_types.specs.History.{AreProtected}
 use Rattle.audit_types.specs.declared.records.Protected.{Protected}
-use Rattle.schema_json.specs.Columns.{Column, SchemaView}
+use Rattle.schema_json.specs.Columns.{Column}
 use Rattle.table_load.specs.Loaded.{table_view}
 use Rattle.table_load.specs.Tables.{table_of, public_of}
 use Rattle.set_index.specs.Groups.{AreEntries}
@@ -28,7 +25,7 @@ use Rattle.set_index.specs.declared.index.IndexFault.{IndexFault}
 use Rattle.set_index.specs.declared.index.IndexFault.TheVariants as index
 use Rattle.auditor_top.specs.Commands.{AreSoundFilesOf, reads_groups}
 use Rattle.auditor_top.proofs.OneTable.{table_is_ok}
-use Rattle.auditor_top.proofs.StoreRefusals.{groups_refused, public_gives_up, growth_gives_up, not_started}
+use Rattle.auditor_top.proofs.GroupRefusals.{no_step, lacks, groups_refused, public_gives_up, growth_gives_up}
 use Rattle.auditor_top.proofs.ready.open.Goals as goal
 
 abbrev index_refused : IndexFault → Result IndexView IndexFault
@@ -197,6 +194,120 @@ returns-in-Ok-new g c =
 
 pub returns-in-Serve : goal.returns-in-Serve
 returns-in-Serve g c =
+    let e = c.open_store.ensures in
+    record {
+      asked = tt;
+      ready = tt;
+      over = λ ptold. tt;
+      steady = tt;
+      ticks = λ told opens. tt;
+      refusal = subst (λ (k : Command). Refuses g.P.Source g.B.Bench k c.in-Err-open_store.status c.args.schema.now c.open_store.new.schema c.args.table.now
+          c.open_store.new.table c.args.bench.now c.open_store.new.bench) (sym c.in-Serve.is) c.in-Err-open_store.ensures.refusal;
+      taken = λ none. no_step reads_files c.in-Serve.is refl none;
+      reads = e.reads;
+      later = e.later;
+      unread = λ none. no_step reads_files c.in-Serve.is refl none;
+      unopened = λ none. no_step opens_store c.in-Serve.is refl none;
+    }
+
+pub returns-in-Ok-open_store : goal.returns-in-Ok-open_store
+returns-in-Ok-open_store g c =
+    let s = c.in-Ok-open_store.field-0 in
+    let a = c.in-Ok-open_store.ensures in
+    record {
+      asked = sym c.in-Serve.is;
+      ready = (a.opened, a.fits, a.shape, a.entries);
+      over = λ ptold.
+          subst (λ (l : List Protected). AreSoundFilesOf (g.P.Source.left c.args.schema.now) (g.P.Source.left c.args.table.now)
+          (base_of s.schema.columns s.index.public l s.store.secret)) (sym a.entries) (a.over ptold);
+      steady = a.steady;
+      ticks = λ told opens. a.ticks told;
+      refusal = tt;
+      taken = λ none. refl;
+      reads = c.open_store.ensures.reads;
+      later = c.open_store.ensures.later;
+      unread = λ none. no_step reads_files c.in-Serve.is refl none;
+      unopened = λ none. no_step opens_store c.in-Serve.is refl none;
+    }
+
+-- ---- `audit`
+
+pub returns-in-Audit : goal.returns-in-Audit
+returns-in-Audit g c =
+    let e = c.open_store-in-Audit.ensures in
+    record {
+      asked = tt;
+      ready = tt;
+      over = λ ptold. tt;
+      steady = tt;
+      ticks = λ told opens. tt;
+      refusal = c.in-Err-open_store-2.ensures.refusal;
+      taken = λ none. no_step reads_files c.in-Audit.is refl none;
+      reads = e.reads;
+      later = e.later;
+      unread = λ none. no_step reads_files c.in-Audit.is refl none;
+      unopened = λ none. no_step opens_store c.in-Audit.is refl none;
+    }
+
+pub returns-in-Ok-open_store-2 : goal.returns-in-Ok-open_store-2
+returns-in-Ok-open_store-2 g c =
+    let s = c.in-Ok-open_store-2.field-0 in
+    let a = c.in-Ok-open_store-2.ensures in
+    record {
+      asked = sym c.in-Audit.is;
+      ready = (a.opened, a.shape ∙ ap (λ (n : ℕ). shape_of s.schema.columns n) (sym (ap (λ (v : Shape). v.rows) a.shape)));
+      over = λ ptold. (s.index.public, a.over ptold);
+      steady = a.steady;
+      ticks = λ told opens. a.ticks told;
+      refusal = tt;
+      taken = λ none. refl;
+      reads = c.open_store-in-Audit.ensures.reads;
+      later = c.open_store-in-Audit.ensures.later;
+      unread = λ none. no_step reads_files c.in-Audit.is refl none;
+      unopened = λ none. no_step opens_store c.in-Audit.is refl none;
+    }
+
+-- ---- `compact`
+
+pub returns-in-Compact : goal.returns-in-Compact
+returns-in-Compact g c =
+    let e = c.open_store-in-Compact.ensures in
+    record {
+      asked = tt;
+      ready = tt;
+      over = λ ptold. tt;
+      steady = tt;
+      ticks = λ told opens. tt;
+      refusal = c.in-Err-open_store-3.ensures.refusal;
+      taken = λ none. no_step reads_files c.in-Compact.is refl none;
+      reads = e.reads;
+      later = e.later;
+      unread = λ none. no_step reads_files c.in-Compact.is refl none;
+      unopened = λ none. no_step opens_store c.in-Compact.is refl none;
+    }
+
+pub returns-in-Ok-open_store-3 : goal.returns-in-Ok-open_store-3
+returns-in-Ok-open_store-3 g c =
+    let s = c.in-Ok-open_store-3.field-0 in
+    let a = c.in-Ok-open_store-3.ensures in
+    record {
+      asked = sym c.in-Compact.is;
+      ready = a.opened;
+      over = λ ptold. (s.schema.columns, s.index.public, a.over ptold);
+      steady = a.steady;
+      ticks = λ told opens. a.ticks told;
+      refusal = tt;
+      taken = λ none. refl;
+      reads = c.open_store-in-Compact.ensures.reads;
+      later = c.open_store-in-Compact.ensures.later;
+      unread = λ none. no_step reads_files c.in-Compact.is refl none;
+      unopened = λ none. no_step opens_store c.in-Compact.is refl none;
+    }
+
+-- ---- `grow`
+
+pub returns : goal.returns
+returns g c =
     let e = c.in-Err-open_table.ensures in
     let fault = c.in-Err-open_table.fault in
     record {
@@ -205,172 +316,8 @@ returns-in-Serve g c =
       over = λ ptold. tt;
       steady = tt;
       ticks = λ told opens. tt;
-      refusal = subst (λ (s : Status). Refuses g.P.Source g.B.Bench c.args.command s c.args.schema.now c.open_table-in-Serve.new.schema c.args.table.now c.open_table-in-Serve.new.table
-          c.args.bench.now c.args.bench.now) (sym c.from-in-Err-open_table.ensures)
-          (files_refused g.P.Source g.B.Bench c.args.command c.args.schema.now c.open_table-in-Serve.new.schema c.args.table.now c.open_table-in-Serve.new.table c.args.bench.now fault
-          (ap reads_files c.in-Serve.is) e.schema_cause (λ is. e.own_schema_fault (ap table_unopened is)) (λ is. e.own_table_fault (ap table_unopened is))
-          (λ ptold is. e.schema_within ptold (ap table_unopened is)) (λ ptold is. e.table_within ptold (ap table_unopened is)) e.faults
-          (λ is. e.schema_last (ap table_unopened is)) (λ is. e.table_last (ap table_unopened is)) e.untouched
-          (λ ptold reads columns is. e.table_cause ptold columns is) (λ ptold is. no_step reads_secrets c.in-Serve.is refl (ap reads_secrets is)) (λ ptold given. gives_up_over fault _ _ _ (subst (λ (k : Command). IsGiven k (g.P.Source.left c.args.schema.now) (g.P.Source.left c.args.table.now) (g.B.Bench.file c.args.bench.now)) c.in-Serve.is given).2.files.files (e.schema_cause ptold) (e.table_cause ptold)));
-      taken = λ none. no_step reads_files c.in-Serve.is refl none;
-      reads = uncalled g.B.Bench c.args.bench.now (λ image sent was. g.met.B.Bench.only_now c.args.bench.now image sent was);
-      later = (e.later.0, e.later.1, stays _);
-      unread = λ none. no_step reads_files c.in-Serve.is refl none;
-      unopened = λ none. refl;
-    }
-
--- ---- `audit`
-
-pub returns-in-Audit : goal.returns-in-Audit
-returns-in-Audit g c =
-    let e = c.in-Err-open_table-2.ensures in
-    let fault = c.in-Err-open_table-2.fault in
-    record {
-      asked = tt;
-      ready = tt;
-      over = λ ptold. tt;
-      steady = tt;
-      ticks = λ told opens. tt;
-      refusal = subst (λ (s : Status). Refuses g.P.Source g.B.Bench c.args.command s c.args.schema.now c.open_table-in-Audit.new.schema c.args.table.now c.open_table-in-Audit.new.table
-          c.args.bench.now c.args.bench.now) (sym c.from-in-Err-open_table-2.ensures)
-          (files_refused g.P.Source g.B.Bench c.args.command c.args.schema.now c.open_table-in-Audit.new.schema c.args.table.now c.open_table-in-Audit.new.table c.args.bench.now fault
-          (ap reads_files c.in-Audit.is) e.schema_cause (λ is. e.own_schema_fault (ap table_unopened is)) (λ is. e.own_table_fault (ap table_unopened is))
-          (λ ptold is. e.schema_within ptold (ap table_unopened is)) (λ ptold is. e.table_within ptold (ap table_unopened is)) e.faults
-          (λ is. e.schema_last (ap table_unopened is)) (λ is. e.table_last (ap table_unopened is)) e.untouched
-          (λ ptold reads columns is. e.table_cause ptold columns is) (λ ptold is. no_step reads_secrets c.in-Audit.is refl (ap reads_secrets is)) (λ ptold given. gives_up_over fault _ _ _ (subst (λ (k : Command). IsGiven k (g.P.Source.left c.args.schema.now) (g.P.Source.left c.args.table.now) (g.B.Bench.file c.args.bench.now)) c.in-Audit.is given).2.files.files (e.schema_cause ptold) (e.table_cause ptold)));
-      taken = λ none. no_step reads_files c.in-Audit.is refl none;
-      reads = uncalled g.B.Bench c.args.bench.now (λ image sent was. g.met.B.Bench.only_now c.args.bench.now image sent was);
-      later = (e.later.0, e.later.1, stays _);
-      unread = λ none. no_step reads_files c.in-Audit.is refl none;
-      unopened = λ none. refl;
-    }
-
-pub returns-in-Ok-open_table : goal.returns-in-Ok-open_table
-returns-in-Ok-open_table g c =
-    let opened = c.in-Ok-open_table.opened in
-    let e = c.in-Ok-open_table.ensures in
-    record {
-      asked = tt;
-      ready = tt;
-      over = λ ptold. tt;
-      steady = tt;
-      ticks = λ told opens. tt;
-      refusal = subst (λ (s : Status). Refuses g.P.Source g.B.Bench c.args.command s c.args.schema.now c.open_table-in-Serve.new.schema c.args.table.now c.open_table-in-Serve.new.table
-          c.args.bench.now c.start.new.bench) (sym c.from-in-Err-start.ensures)
-          (not_started g.P.Source g.B.Bench c.groups_of_a_schema.ensures.entries c.args.command c.args.schema.now c.open_table-in-Serve.new.schema c.args.table.now
-          c.open_table-in-Serve.new.table c.args.bench.now c.start.new.bench (ap opens_store c.in-Serve.is) opened.schema (table_view opened.table) e.schema_is e.table_is e.steady.0
-          e.steady.1 c.in-Err-start.fault c.in-Err-start.ensures.bad c.in-Err-start.ensures.cause c.in-Err-start.ensures.fault c.in-Err-start.ensures.uncalled);
-      taken = λ none. no_step reads_files c.in-Serve.is refl none;
-      reads = c.start.ensures.reads;
-      later = (e.later.0, e.later.1, c.start.ensures.fault.later);
-      unread = λ none. no_step reads_files c.in-Serve.is refl none;
-      unopened = λ none. no_step opens_store c.in-Serve.is refl none;
-    }
-
-pub returns-in-Ok-start : goal.returns-in-Ok-start
-returns-in-Ok-start g c =
-    let opened = c.in-Ok-open_table.opened in
-    let e = c.in-Ok-open_table.ensures in
-    let s = c.in-Ok-start.field-0 in
-    let a = c.in-Ok-start.ensures in
-    record {
-      asked = sym c.in-Serve.is;
-      ready = (
-        record { is = a.store.1; usable = a.store.0; left = λ told. subst (λ (f : List ℕ). IsAsLeft f s.store) (sym c.start.ensures.reads.file) (a.stands told) },
-        subst (λ (p : PublicView). FitsSchema s.schema.columns p) (sym a.same.1) (subst (λ (v : SchemaView). FitsSchema v.columns opened.table.public) (sym a.same.0) e.fits),
-        ap (λ (v : SecretView). v.shape) a.same.2 ∙ e.shape ∙ ap (λ (v : SchemaView). shape_of v.columns opened.table.public.rows) (sym a.same.0)
-            ∙ ap (λ (p : PublicView). shape_of s.schema.columns p.rows) (sym a.same.1),
-        a.same.3,
-      );
-      over = λ ptold.
-          subst (λ (v : SchemaView). AreSoundFilesOf (g.P.Source.left c.args.schema.now) (g.P.Source.left c.args.table.now)
-          (base_of v.columns s.index.public s.index.protected s.store.secret)) (sym a.same.0)
-          (subst (λ (p : PublicView). AreSoundFilesOf (g.P.Source.left c.args.schema.now) (g.P.Source.left c.args.table.now)
-          (base_of opened.schema.columns p s.index.protected s.store.secret)) (sym a.same.1)
-          (subst (λ (v : SecretView). AreSoundFilesOf (g.P.Source.left c.args.schema.now) (g.P.Source.left c.args.table.now)
-          (base_of opened.schema.columns opened.table.public s.index.protected v)) (sym a.same.2)
-          (record {
-            files = record { groups = opened.schema.groups; schema_is = e.schema_is ptold; table_is = e.table_is ptold };
-            entries = subst (λ (l : List Protected). AreEntries opened.schema.columns opened.table.public opened.schema.groups l) (sym a.same.3) a.entries;
-          })));
-      steady = (e.steady.0, e.steady.1, a.fault.steady (not_both _ _));
-      ticks = λ told opens. a.ticks told;
-      refusal = tt;
-      taken = λ none. refl;
-      reads = c.start.ensures.reads;
-      later = (e.later.0, e.later.1, c.start.ensures.fault.later);
-      unread = λ none. no_step reads_files c.in-Serve.is refl none;
-      unopened = λ none. no_step opens_store c.in-Serve.is refl none;
-    }
-
-pub returns-in-Ok-open_table-2 : goal.returns-in-Ok-open_table-2
-returns-in-Ok-open_table-2 g c =
-    let opened = c.in-Ok-open_table-2.opened in
-    let e = c.in-Ok-open_table-2.ensures in
-    record {
-      asked = tt;
-      ready = tt;
-      over = λ ptold. tt;
-      steady = tt;
-      ticks = λ told opens. tt;
-      refusal = subst (λ (s : Status). Refuses g.P.Source g.B.Bench c.args.command s c.args.schema.now c.open_table-in-Audit.new.schema c.args.table.now c.open_table-in-Audit.new.table
-          c.args.bench.now c.start-in-Ok-open_table-2.new.bench) (sym c.from-in-Err-start-2.ensures)
-          (not_started g.P.Source g.B.Bench c.groups_of_a_schema.ensures.entries c.args.command c.args.schema.now c.open_table-in-Audit.new.schema c.args.table.now
-          c.open_table-in-Audit.new.table c.args.bench.now c.start-in-Ok-open_table-2.new.bench (ap opens_store c.in-Audit.is) opened.schema (table_view opened.table) e.schema_is e.table_is e.steady.0
-          e.steady.1 c.in-Err-start-2.fault c.in-Err-start-2.ensures.bad c.in-Err-start-2.ensures.cause c.in-Err-start-2.ensures.fault c.in-Err-start-2.ensures.uncalled);
-      taken = λ none. no_step reads_files c.in-Audit.is refl none;
-      reads = c.start-in-Ok-open_table-2.ensures.reads;
-      later = (e.later.0, e.later.1, c.start-in-Ok-open_table-2.ensures.fault.later);
-      unread = λ none. no_step reads_files c.in-Audit.is refl none;
-      unopened = λ none. no_step opens_store c.in-Audit.is refl none;
-    }
-
-pub returns-in-Ok-start-2 : goal.returns-in-Ok-start-2
-returns-in-Ok-start-2 g c =
-    let opened = c.in-Ok-open_table-2.opened in
-    let e = c.in-Ok-open_table-2.ensures in
-    let s = c.in-Ok-start-2.field-0 in
-    let a = c.in-Ok-start-2.ensures in
-    let shape : s.store.secret.shape ≡ shape_of s.schema.columns opened.table.public.rows = ap (λ (v : SecretView). v.shape) a.same.2 ∙ e.shape
-    ∙ ap (λ (v : SchemaView). shape_of v.columns opened.table.public.rows) (sym a.same.0) in
-    record {
-      asked = sym c.in-Audit.is;
-      ready = (
-        record { is = a.store.1; usable = a.store.0; left = λ told. subst (λ (f : List ℕ). IsAsLeft f s.store) (sym c.start-in-Ok-open_table-2.ensures.reads.file) (a.stands told) },
-        shape ∙ ap (λ (n : ℕ). shape_of s.schema.columns n) (sym (ap (λ (v : Shape). v.rows) shape)),
-      );
-      over = λ ptold. (
-        opened.table.public,
-        subst (λ (v : SchemaView). AreSoundFilesOf (g.P.Source.left c.args.schema.now) (g.P.Source.left c.args.table.now)
-            (base_of v.columns opened.table.public s.store.protected s.store.secret)) (sym a.same.0)
-            (subst (λ (v : SecretView). AreSoundFilesOf (g.P.Source.left c.args.schema.now) (g.P.Source.left c.args.table.now)
-            (base_of opened.schema.columns opened.table.public s.store.protected v)) (sym a.same.2)
-            (record { files = record { groups = opened.schema.groups; schema_is = e.schema_is ptold; table_is = e.table_is ptold }; entries = a.entries })),
-      );
-      steady = (e.steady.0, e.steady.1, a.fault.steady (not_both _ _));
-      ticks = λ told opens. a.ticks told;
-      refusal = tt;
-      taken = λ none. refl;
-      reads = c.start-in-Ok-open_table-2.ensures.reads;
-      later = (e.later.0, e.later.1, c.start-in-Ok-open_table-2.ensures.fault.later);
-      unread = λ none. no_step reads_files c.in-Audit.is refl none;
-      unopened = λ none. no_step opens_store c.in-Audit.is refl none;
-    }
-
--- ---- `grow`
-
-pub returns : goal.returns
-returns g c =
-    let e = c.in-Err-open_table-3.ensures in
-    let fault = c.in-Err-open_table-3.fault in
-    record {
-      asked = tt;
-      ready = tt;
-      over = λ ptold. tt;
-      steady = tt;
-      ticks = λ told opens. tt;
       refusal = subst (λ (s : Status). Refuses g.P.Source g.B.Bench c.args.command s c.args.schema.now c.open_table-in-Grow.new.schema c.args.table.now c.open_table-in-Grow.new.table
-          c.args.bench.now c.args.bench.now) (sym c.from-in-Err-open_table-3.ensures)
+          c.args.bench.now c.args.bench.now) (sym c.from-in-Err-open_table.ensures)
           (files_refused g.P.Source g.B.Bench c.args.command c.args.schema.now c.open_table-in-Grow.new.schema c.args.table.now c.open_table-in-Grow.new.table c.args.bench.now fault
           (ap reads_files c.in-Grow.is) e.schema_cause (λ is. e.own_schema_fault (ap table_unopened is)) (λ is. e.own_table_fault (ap table_unopened is))
           (λ ptold is. e.schema_within ptold (ap table_unopened is)) (λ ptold is. e.table_within ptold (ap table_unopened is)) e.faults
@@ -383,11 +330,11 @@ returns g c =
       unopened = λ none. refl;
     }
 
-pub returns-in-Ok-open_table-3 : goal.returns-in-Ok-open_table-3
-returns-in-Ok-open_table-3 g c =
-    let e = c.in-Ok-open_table-3.ensures in
-    let schema = c.in-Ok-open_table-3.field-0.schema in
-    let meant = table_view c.in-Ok-open_table-3.field-0.table in
+pub returns-in-Ok-open_table : goal.returns-in-Ok-open_table
+returns-in-Ok-open_table g c =
+    let e = c.in-Ok-open_table.ensures in
+    let schema = c.in-Ok-open_table.field-0.schema in
+    let meant = table_view c.in-Ok-open_table.field-0.table in
     let fault = c.in-Err-entries.fault in
     let bad = λ (place : ℕ) (is : fault ≡ index.BadGroup place). c.in-Err-entries.ensures.bad place (ap entries_refused is) in
     record {
@@ -416,9 +363,9 @@ returns-in-Ok-open_table-3 g c =
 
 pub returns-in-Ok-entries : goal.returns-in-Ok-entries
 returns-in-Ok-entries g c =
-    let e = c.in-Ok-open_table-3.ensures in
-    let schema = c.in-Ok-open_table-3.field-0.schema in
-    let table = c.in-Ok-open_table-3.field-0.table in
+    let e = c.in-Ok-open_table.ensures in
+    let schema = c.in-Ok-open_table.field-0.schema in
+    let table = c.in-Ok-open_table.field-0.table in
     let made = c.in-Ok-entries.ensures in
     record {
       asked = sym c.in-Grow.is;

@@ -4,6 +4,7 @@ mod Audit
 mod Simulate
 mod Drill
 mod Grow
+mod Compact
 use Rattle.std.proofs.Common.{◌≡◌, ◌≤◌, ◌+◌, ℕ, true, false, List, [], length, Option, Some, Result, Ok, Err, IsErr, IsErrOf, OnOk, OnErr, refl, sym, ◌∙◌, ap, subst, inr, map, string_bytes}
 use Rattle.audit_types.specs.declared.records.Answered.{Answered}
 use Rattle.audit_types.specs.declared.shapes.Shape.{Shape}
@@ -40,7 +41,7 @@ use Rattle.auditor_top.specs.Drills.{DrillEnds}
 use Rattle.auditor_top.specs.Ends.{ServeEnds, AuditEnds, SimulateEnds, SimulateSends, audit_over, outside}
 use Rattle.auditor_top.specs.Ready.{IsGiven, GivesUp, EndsEarly, IsReady, IsReadyOver, command_for}
 use Rattle.auditor_top.specs.Runs.{objects, faults_of, Making, Serving, Auditing, Simulating, Drilling}
-use Rattle.auditor_top.specs.Stages.{Before, reading_table, opening_journal, reading_lines}
+use Rattle.auditor_top.specs.Stages.{Before, reading_table, opening_journal, writing_spare, reading_lines}
 use Rattle.auditor_top.specs.Status.{making_status, session_status, audit_status, simulation_status}
 use Rattle.auditor_top.proofs.AuditEndings.{untouched_report, report_cause, report_ends, report_faults, report_wants}
 use Rattle.auditor_top.proofs.Calls.{making_done, session_done, report_done, simulation_done}
@@ -49,6 +50,7 @@ use Rattle.auditor_top.proofs.OneCommand.{one_command, one_batch, one_drill, sam
 use Rattle.auditor_top.proofs.OneTable.{one_base, same_given, carried, schema_is_ok, table_is_ok}
 use Rattle.auditor_top.proofs.Openings.{stays, one_more, later_still}
 use Rattle.auditor_top.proofs.Refusals.{uncalled, as_quiet, refused}
+use Rattle.auditor_top.proofs.SpareCauses.{spare_unread}
 use Rattle.auditor_top.proofs.Sessions.{ends_so, stops_so, harmless_so, calls_so}
 use Rattle.auditor_top.proofs.SimulationEndings.{carried_public, simulation_ends, simulation_sends, simulation_reads, simulation_faults, simulation_wants}
 use Rattle.auditor_top.proofs.StepFaults.{moved, making_cause, making_failed, making_faults, making_wants, made_or_there, there_is, session_cause, session_ends, session_faults, session_reads, session_wants}
@@ -59,6 +61,7 @@ use Rattle.auditor_top.proofs.running.run.Answers.Audit.{audit_ends}
 use Rattle.auditor_top.proofs.running.run.Answers.Simulate.{simulate_ends}
 use Rattle.auditor_top.proofs.running.run.Answers.Drill.{drill_ends}
 use Rattle.auditor_top.proofs.running.run.Answers.Grow.{grow_ends}
+use Rattle.auditor_top.proofs.running.run.Answers.Compact.{compaction_ends}
 use Rattle.std.specs.Bool.{OnTrue}
 use Rattle.set_index.specs.Groups.{AreEntries}
 use Rattle.table_load.specs.Database.{table_in}
@@ -84,6 +87,8 @@ returns-in-Err-Bad g c =
       table_last = λ is. absurd (bad_words_say.no_table is);
       input_last = λ is. absurd (bad_words_say.no_input is);
       bench_last = λ is. absurd (bad_words_say.no_bench is);
+      spare_last = λ is. absurd (bad_words_say.no_spare is);
+      spare_file = λ told command asked. none_asked _ _ none asked;
       later = never_fall _;
       schema_within = λ ptold is. absurd (bad_words_say.no_schema is);
       table_within = λ ptold is. absurd (bad_words_say.no_table is);
@@ -93,18 +98,20 @@ returns-in-Err-Bad g c =
       audit = λ asked. none_asked _ _ none asked;
       simulate = λ asked. none_asked _ _ none asked;
       grow = λ asked. none_asked _ _ none asked;
+      compact = λ asked. none_asked _ _ none asked;
       drill = λ number asked. none_asked _ _ none asked;
       nothing_began = λ ptold told command asked. none_asked _ _ none asked;
       quiet = λ told quiet fine. quiet;
       before_table = refl;
       before_bench = refl;
+      before_spare = refl;
       before_lines = (refl, refl);
       unwritten = λ told. refl;
-      unread = λ none. (refl, refl, refl, refl);
+      unread = λ none. (refl, refl, refl, refl, refl);
       no_files = λ command asked. none_asked _ _ none asked;
       no_lines = λ command asked. none_asked _ _ none asked;
       never_written = λ told command asked. none_asked _ _ none asked;
-      spare = refl;
+      spare = λ command asked none. refl;
     }
 
 -- ---- no memory for the words
@@ -114,7 +121,8 @@ returns-in-Err-NoMemory g c =
     let at = objects c.args.schema.now c.args.table.now c.args.input.now c.args.bench.now c.args.spare.now in
     let reads = uncalled g.B.Bench at.bench (λ image sent was. g.met.B.Bench.only_now at.bench image sent was) in
     let all = refused g.P.Source g.I.Source g.B.Bench at.schema at.schema at.table at.table at.input at.bench at.bench at.spare NoMemory tt reads refl
-    (command_of (map string_bytes c.args.words.now.items)) (λ command asked ptold told given. tt) (λ command asked none. refl) c.stops_are_legal.ensures in
+    (command_of (map string_bytes c.args.words.now.items)) (λ command asked ptold told given. tt) (λ command asked none. refl) c.stops_are_legal.ensures
+    (uncalled g.B.Bench at.spare (λ image sent was. g.met.B.Bench.only_now at.spare image sent was)) in
     record {
       words = tt;
       schema = λ ptold command asked reads. tt;
@@ -130,6 +138,8 @@ returns-in-Err-NoMemory g c =
       table_last = λ is. absurd (no_memory_says.no_table is);
       input_last = λ is. absurd (no_memory_says.no_input is);
       bench_last = λ is. absurd (no_memory_says.no_bench is);
+      spare_last = λ is. absurd (no_memory_says.no_spare is);
+      spare_file = λ told command asked calls. tt;
       later = never_fall _;
       schema_within = λ ptold is. absurd (no_memory_says.no_schema is);
       table_within = λ ptold is. absurd (no_memory_says.no_table is);
@@ -141,6 +151,7 @@ returns-in-Err-NoMemory g c =
       audit = all.audit;
       simulate = all.simulate;
       grow = all.grow;
+      compact = all.compact;
       drill = λ number asked. record {
         drilled = λ told. refl;
         drill_calls = λ told done. absurd (no_memory_says.undone done);
@@ -152,13 +163,14 @@ returns-in-Err-NoMemory g c =
       quiet = λ told quiet fine. quiet;
       before_table = tt;
       before_bench = tt;
+      before_spare = tt;
       before_lines = tt;
       unwritten = λ told. tt;
-      unread = λ none. (refl, refl, refl, refl);
+      unread = λ none. (refl, refl, refl, refl, refl);
       no_files = λ command asked none. (refl, refl);
       no_lines = λ command asked none. refl;
       never_written = λ told command asked none. refl;
-      spare = refl;
+      spare = λ command asked none. refl;
     }
 
 -- ---- the command was refused
@@ -178,7 +190,8 @@ returns-in-Err g c =
     (λ command asked ptold told given. subst (λ (k : Command). (opens_store k ≡ true → g.B.Bench.told)
     → IsGiven k (g.P.Source.left old.schema) (g.P.Source.left old.table) (g.B.Bench.file old.bench) → GivesUp status) (one_command words _ command is_named asked)
     (says.gives_up ptold) told given)
-    (λ command asked none. c.open.ensures.unopened (ap opens_store (one_command words _ command is_named asked) ∙ none)) c.stops_are_legal.ensures in
+    (λ command asked none. c.open.ensures.unopened (ap opens_store (one_command words _ command is_named asked) ∙ none)) c.stops_are_legal.ensures
+    (uncalled g.B.Bench old.spare (λ image sent was. g.met.B.Bench.only_now old.spare image sent was)) in
     record {
       words = subst (λ (asked : Option Command). WordCause status asked) (sym is_named) says.words;
       schema = λ ptold command asked reads. says.schema ptold (ap reads_files (one_command words _ command is_named asked) ∙ reads);
@@ -197,7 +210,9 @@ returns-in-Err g c =
       table_last = λ is. says.table_last is;
       input_last = λ is. absurd (subst EndsEarly is says.early);
       bench_last = λ is. says.bench_last is;
-      later = record { schema = c.open.ensures.later.0; table = c.open.ensures.later.1; input = stays _; bench = c.open.ensures.later.2 };
+      spare_last = λ is. absurd (subst EndsEarly is says.early);
+      spare_file = λ told command asked calls. spare_unread status (g.B.Bench.file old.spare) says.early;
+      later = record { schema = c.open.ensures.later.0; table = c.open.ensures.later.1; input = stays _; bench = c.open.ensures.later.2; spare = stays _ };
       schema_within = λ ptold is. says.schema_within ptold is;
       table_within = λ ptold is. says.table_within ptold is;
       lives = λ ptold told command asked itold quiet. goes_on g.P.Source g.I.Source g.B.Bench status old new c.lives.ensures.longer command
@@ -208,18 +223,20 @@ returns-in-Err g c =
       audit = all.audit;
       simulate = all.simulate;
       grow = all.grow;
+      compact = all.compact;
       drill = λ number asked. absurd (false≢true (c.in-Err.ensures.taken (ap reads_files (one_command words _ (command.Drill number) is_named asked))));
       nothing_began = λ ptold told command asked opens quiet none. reads.untouched quiet;
       quiet = λ told quiet fine. as_quiet g.B.Bench old.bench new.bench reads quiet;
       before_table = says.before_table;
       before_bench = says.before_bench;
+      before_spare = always_before writing_spare status refl;
       before_lines = always_before reading_lines status (refl, reads.sent);
       unwritten = λ told. always_before reading_lines status reads.file;
       unread = λ none. none_asked _ _ none is_named;
       no_files = λ command asked none. c.open.ensures.unread (ap reads_files (one_command words _ command is_named asked) ∙ none);
       no_lines = λ command asked none. refl;
       never_written = λ told command asked none. reads.file;
-      spare = refl;
+      spare = λ command asked none. refl;
     }
 
 -- ---- the command goes on
@@ -241,6 +258,9 @@ returns-in-Ok-Drill g c = drill_ends g c
 
 pub returns-in-Ok-Grow : goal.returns-in-Ok-Grow
 returns-in-Ok-Grow g c = grow_ends g c
+
+pub returns-in-Ok-Compact : goal.returns-in-Ok-Compact
+returns-in-Ok-Compact g c = compaction_ends g c
 
 -- ---- what the last steps want
 

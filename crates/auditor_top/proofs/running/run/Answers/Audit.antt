@@ -15,7 +15,7 @@ use Rattle.auditor_top.specs.declared.words.Command.{Command}
 use Rattle.auditor_top.specs.declared.words.Command.TheVariants as command
 use Rattle.auditor_top.specs.declared.status.Status.{Status}
 use Rattle.auditor_top.specs.Words.{command_of, NamesCommand}
-use Rattle.auditor_top.specs.Commands.{AreFilesOf, ServesOver, opens_store, reads_files, reads_groups, reads_lines}
+use Rattle.auditor_top.specs.Commands.{AreFilesOf, ServesOver, opens_store, reads_files, reads_groups, reads_lines, calls_spare}
 use Rattle.auditor_top.specs.Causes.{WordCause, FileCause, FaultCause, HoldsLegal, IsReadyFor, counts}
 use Rattle.auditor_top.specs.Ends.{AuditEnds, audit_over}
 use Rattle.auditor_top.specs.Ready.{IsReady, IsReadyOver}
@@ -23,13 +23,14 @@ use Rattle.auditor_top.specs.Runs.{objects, faults_of, Auditing}
 use Rattle.auditor_top.specs.Status.{audit_status}
 use Rattle.auditor_top.proofs.AuditEndings.{untouched_report, report_cause, report_ends, report_faults, report_wants}
 use Rattle.auditor_top.proofs.Calls.{report_done}
-use Rattle.auditor_top.proofs.OneCommand.{one_command, same_command, asked_for, not_asked, none_asked, takes_step, lacks_step}
+use Rattle.auditor_top.proofs.OneCommand.{one_command, same_command, asked_for, not_asked, none_asked, takes_step, lacks_step, spare_called}
 use Rattle.auditor_top.proofs.OneRunMore.{never_goes_on}
 use Rattle.auditor_top.proofs.OneTable.{one_base, same_given, carried, schema_is_ok, table_is_ok}
 use Rattle.auditor_top.proofs.Openings.{stays, later_still}
 use Rattle.auditor_top.proofs.Refusals.{as_quiet}
 use Rattle.auditor_top.proofs.StepFaults.{moved}
-use Rattle.auditor_top.proofs.StepStatuses.{at_lines, EndsLastStep, schema_read, table_read, past_table, past_journal, no_schema_fault, no_table_fault, schema_was_read, table_was_read, report_last, report_words, report_bench, report_no_input, report_at_lines}
+use Rattle.auditor_top.specs.Stages.{writing_spare}
+use Rattle.auditor_top.proofs.StepStatuses.{at_lines, EndsLastStep, schema_read, table_read, past_table, past_journal, no_schema_fault, no_table_fault, schema_was_read, table_was_read, report_last, report_words, report_bench, report_no_input, report_at_lines, always_before}
 use Rattle.std.specs.Bool.{OnTrue}
 use Rattle.set_index.specs.Groups.{AreEntries}
 use Rattle.auditor_top.proofs.OneTable.{one_secret, groups_are_sound}
@@ -164,11 +165,14 @@ audit_ends g c =
       table_last = table_was_read status last;
       input_last = λ is. absurd (report_no_input c.audit.result (sym c.reported.ensures ∙ is));
       bench_last = λ is. c.audit.ensures.last_call (report_bench c.audit.result (sym c.reported.ensures ∙ is));
+      spare_last = spare_called _ _ status is_named refl (reported_words g c);
+      spare_file = λ told command asked calls. lacks_step calls_spare _ _ command is_named asked refl calls;
       later = record {
         schema = c.open.ensures.later.0;
         table = c.open.ensures.later.1;
         input = stays _;
         bench = later_still _ _ _ c.open.ensures.later.2 c.audit.ensures.later;
+        spare = stays _;
       };
       schema_within = λ ptold. schema_was_read status last;
       table_within = λ ptold. table_was_read status last;
@@ -178,6 +182,7 @@ audit_ends g c =
       audit = reporting g c;
       simulate = λ asked. not_asked _ _ _ is_named asked refl;
       grow = λ asked. not_asked _ _ _ is_named asked refl;
+      compact = λ asked. not_asked _ _ _ is_named asked refl;
       drill = λ number asked. not_asked _ _ _ is_named asked refl;
       nothing_began = λ ptold told command asked opens quiet none.
           absurd (none _ (are ptold).1 (subst (λ (k : Command). IsReadyFor k file (secret_table store.secret store.protected))
@@ -186,11 +191,12 @@ audit_ends g c =
           as_quiet g.B.Bench _ _ reads quiet image (c.audit.ensures.crash image left) ∙ sym c.audit.ensures.file;
       before_table = past_table _ status last;
       before_bench = past_journal _ status last;
+      before_spare = always_before writing_spare status refl;
       before_lines = at_lines _ _ _ c.reported.ensures (report_at_lines _ c.audit.result);
       unwritten = λ told. at_lines _ _ _ c.reported.ensures (report_at_lines _ c.audit.result);
       unread = λ none. none_asked _ _ none is_named;
       no_files = λ command asked none. takes_step reads_files _ _ _ is_named asked refl none;
       no_lines = λ command asked none. refl;
       never_written = λ told command asked none. c.audit.ensures.file ∙ reads.file;
-      spare = refl;
+      spare = λ command asked none. refl;
     }

@@ -5,12 +5,12 @@ use Rattle.table_load.specs.Database.{table_in}
 use Rattle.auditor_top.specs.declared.words.Command.{Command}
 use Rattle.auditor_top.specs.declared.words.Command.TheVariants as command
 use Rattle.auditor_top.specs.Words.{command_of, NamesCommand}
-use Rattle.auditor_top.specs.Commands.{opens_journal, opens_store, reads_files, reads_groups, reads_lines, reads_secrets}
+use Rattle.auditor_top.specs.Commands.{opens_journal, opens_store, reads_files, reads_groups, reads_lines, reads_secrets, calls_spare}
 use Rattle.auditor_top.specs.Causes.{WordCause, FileCause, FaultCause, counts}
 use Rattle.auditor_top.specs.Drills.{DrillEnds}
 use Rattle.auditor_top.specs.Runs.{objects, Drilling}
-use Rattle.auditor_top.specs.Stages.{reading_table, opening_journal, reading_lines}
-use Rattle.auditor_top.proofs.OneCommand.{one_command, one_drill, same_command, asked_for, not_asked, none_asked, lacks_step}
+use Rattle.auditor_top.specs.Stages.{reading_table, opening_journal, reading_lines, writing_spare}
+use Rattle.auditor_top.proofs.OneCommand.{one_command, one_drill, same_command, asked_for, not_asked, none_asked, lacks_step, spare_called}
 use Rattle.auditor_top.proofs.Openings.{stays, later_still}
 use Rattle.auditor_top.proofs.Refusals.{as_quiet}
 use Rattle.auditor_top.proofs.StepFaults.{moved}
@@ -80,11 +80,14 @@ drill_ends g c =
       table_last = λ is. absurd (c.drill.ensures.no_source _ is);
       input_last = λ is. absurd (c.drill.ensures.no_source _ is);
       bench_last = c.drill.ensures.bench_last;
+      spare_last = spare_called _ _ status is_named refl (subst (λ (asked : Option Command). WordCause status asked) (sym is_named) c.drill.ensures.word_cause);
+      spare_file = λ told command asked calls. lacks_step calls_spare _ _ command is_named asked refl calls;
       later = record {
         schema = c.open.ensures.later.0;
         table = c.open.ensures.later.1;
         input = stays _;
         bench = later_still _ _ _ c.open.ensures.later.2 (c.drill.ensures.later schema table input spare).bench;
+        spare = stays _;
       };
       schema_within = λ ptold is. absurd (c.drill.ensures.no_source _ is);
       table_within = λ ptold is. absurd (c.drill.ensures.no_source _ is);
@@ -94,16 +97,18 @@ drill_ends g c =
       audit = λ asked. not_asked _ _ _ is_named asked refl;
       simulate = λ asked. not_asked _ _ _ is_named asked refl;
       grow = λ asked. not_asked _ _ _ is_named asked refl;
+      compact = λ asked. not_asked _ _ _ is_named asked refl;
       drill = drilling g c;
       nothing_began = λ ptold told command asked opens. lacks_step opens_journal _ _ command is_named asked refl opens;
       quiet = λ told quiet fine. c.drill.ensures.quiet (as_quiet g.B.Bench _ _ c.open.ensures.reads quiet);
       before_table = always_before reading_table status unread.1;
       before_bench = before_so opening_journal status (λ is. is ∙ unopened) c.drill.ensures.before_bench;
+      before_spare = always_before writing_spare status refl;
       before_lines = before_so reading_lines status (λ sent. (refl, sent ∙ c.open.ensures.reads.sent)) c.drill.ensures.before_lines;
       unwritten = λ told. always_before reading_lines status (c.drill.ensures.file ∙ c.open.ensures.reads.file);
       unread = λ none. none_asked _ _ none is_named;
       no_files = λ command asked none. unread;
       no_lines = λ command asked none. refl;
       never_written = λ told command asked none. c.drill.ensures.file ∙ c.open.ensures.reads.file;
-      spare = refl;
+      spare = λ command asked none. refl;
     }

@@ -16,15 +16,15 @@ use Rattle.auditor_top.specs.declared.words.Command.{Command}
 use Rattle.auditor_top.specs.declared.words.Command.TheVariants as command
 use Rattle.auditor_top.specs.declared.status.Status.{Status}
 use Rattle.auditor_top.specs.Words.{command_of, NamesCommand}
-use Rattle.auditor_top.specs.Commands.{AreFilesOf, AreSoundFilesOf, GrowsOver, opens_store, reads_files, reads_groups, reads_lines, writes}
+use Rattle.auditor_top.specs.Commands.{AreFilesOf, AreSoundFilesOf, GrowsOver, opens_store, reads_files, reads_groups, reads_lines, writes, calls_spare}
 use Rattle.auditor_top.specs.Causes.{WordCause, FileCause, FaultCause, IsReadyFor, counts}
 use Rattle.auditor_top.specs.Ends.{GrowEnds}
 use Rattle.auditor_top.specs.Ready.{IsReadyOver}
 use Rattle.auditor_top.specs.Runs.{objects, faults_of, Growing}
-use Rattle.auditor_top.specs.Stages.{reading_lines}
+use Rattle.auditor_top.specs.Stages.{reading_lines, writing_spare}
 use Rattle.auditor_top.specs.Status.{growing_status}
 use Rattle.auditor_top.proofs.GrowthEndings.{growth_last, growth_words, growth_file, growth_bench, growth_no_input, growth_faults, growth_ends, growth_wants, growth_kept, growth_at_lines, growth_done, done_so}
-use Rattle.auditor_top.proofs.OneCommand.{one_command, same_command, asked_for, not_asked, none_asked, takes_step, lacks_step}
+use Rattle.auditor_top.proofs.OneCommand.{one_command, same_command, asked_for, not_asked, none_asked, takes_step, lacks_step, spare_called}
 use Rattle.auditor_top.proofs.OneRunMore.{goes_on}
 use Rattle.auditor_top.proofs.OneTable.{one_base, schema_is_ok, table_is_ok, groups_are_sound}
 use Rattle.auditor_top.proofs.Openings.{stays, later_still}
@@ -165,11 +165,14 @@ grow_ends g c =
       table_last = table_was_read status last;
       input_last = λ is. absurd (growth_no_input c.grow.result (sym c.grown.ensures ∙ is));
       bench_last = λ is. c.grow.ensures.fault.last_call (growth_bench c.grow.result (sym c.grown.ensures ∙ is));
+      spare_last = spare_called _ _ status is_named refl (grew_words g c);
+      spare_file = λ told command asked calls. lacks_step calls_spare _ _ command is_named asked refl calls;
       later = record {
         schema = c.open.ensures.later.0;
         table = c.open.ensures.later.1;
         input = stays _;
         bench = later_still _ _ _ c.open.ensures.later.2 c.grow.ensures.fault.later;
+        spare = stays _;
       };
       schema_within = λ ptold. schema_was_read status last;
       table_within = λ ptold. table_was_read status last;
@@ -182,6 +185,7 @@ grow_ends g c =
       audit = λ asked. not_asked _ _ _ is_named asked refl;
       simulate = λ asked. not_asked _ _ _ is_named asked refl;
       grow = grew g c;
+      compact = λ asked. not_asked _ _ _ is_named asked refl;
       drill = λ number asked. not_asked _ _ _ is_named asked refl;
       nothing_began = λ ptold told command asked opens quiet none.
           subst (λ (b : g.row.B.Denot). LeavesOnly g.B.Bench b later (IsUntouched (g.B.Bench.file b) (g.B.Bench.sent b))) same
@@ -192,11 +196,12 @@ grow_ends g c =
       quiet = λ told quiet fine. c.grow.ensures.quiet told (quiet_then quiet) (λ is. fine (c.grown.ensures ∙ ap growing_status is));
       before_table = past_table _ status last;
       before_bench = past_journal _ status last;
+      before_spare = always_before writing_spare status refl;
       before_lines = always_before reading_lines status (refl, c.grow.ensures.sent ∙ reads.sent);
       unwritten = λ told. at_lines _ _ _ c.grown.ensures (growth_at_lines c.grow.result (λ is. is ∙ reads.file) c.grow.ensures.kept);
       unread = λ none. none_asked _ _ none is_named;
       no_files = λ command asked none. takes_step reads_files _ _ _ is_named asked refl none;
       no_lines = λ command asked none. refl;
       never_written = λ told command asked none. takes_step writes _ _ _ is_named asked refl none;
-      spare = refl;
+      spare = λ command asked none. refl;
     }

@@ -15,13 +15,13 @@ use Rattle.auditor_top.specs.declared.words.Command.{Command}
 use Rattle.auditor_top.specs.declared.words.Command.TheVariants as command
 use Rattle.auditor_top.specs.declared.status.Status.{Status}
 use Rattle.auditor_top.specs.Words.{command_of, NamesCommand}
-use Rattle.auditor_top.specs.Commands.{AreFilesOf, opens_journal, opens_store, reads_files, reads_groups, reads_lines, writes}
+use Rattle.auditor_top.specs.Commands.{AreFilesOf, opens_journal, opens_store, reads_files, reads_groups, reads_lines, writes, calls_spare}
 use Rattle.auditor_top.specs.Causes.{WordCause, FileCause, FaultCause, counts}
 use Rattle.auditor_top.specs.Ready.{IsReadyOver}
 use Rattle.auditor_top.specs.Runs.{objects, faults_of, Making}
-use Rattle.auditor_top.specs.Stages.{reading_lines}
+use Rattle.auditor_top.specs.Stages.{reading_lines, writing_spare}
 use Rattle.auditor_top.proofs.Calls.{making_done}
-use Rattle.auditor_top.proofs.OneCommand.{one_command, same_command, asked_for, not_asked, none_asked, takes_step, lacks_step}
+use Rattle.auditor_top.proofs.OneCommand.{one_command, same_command, asked_for, not_asked, none_asked, takes_step, lacks_step, spare_called}
 use Rattle.auditor_top.proofs.OneRunMore.{never_goes_on}
 use Rattle.auditor_top.proofs.OneTable.{schema_is_ok, table_is_ok}
 use Rattle.auditor_top.proofs.Openings.{stays, later_still}
@@ -130,11 +130,14 @@ init_ends g c =
       table_last = table_was_read status last;
       input_last = λ is. absurd (making_no_input c.make.result (sym c.made.ensures ∙ is));
       bench_last = λ is. c.make.ensures.fault.last_call (making_failed c.make.result (sym c.made.ensures ∙ is));
+      spare_last = spare_called _ _ status is_named refl (made_words g c);
+      spare_file = λ told command asked calls. lacks_step calls_spare _ _ command is_named asked refl calls;
       later = record {
         schema = c.open.ensures.later.0;
         table = c.open.ensures.later.1;
         input = stays _;
         bench = later_still _ _ _ c.open.ensures.later.2 c.make.ensures.fault.later;
+        spare = stays _;
       };
       schema_within = λ ptold. schema_was_read status last;
       table_within = λ ptold. table_was_read status last;
@@ -144,6 +147,7 @@ init_ends g c =
       audit = λ asked. not_asked _ _ _ is_named asked refl;
       simulate = λ asked. not_asked _ _ _ is_named asked refl;
       grow = λ asked. not_asked _ _ _ is_named asked refl;
+      compact = λ asked. not_asked _ _ _ is_named asked refl;
       drill = λ number asked. not_asked _ _ _ is_named asked refl;
       nothing_began = λ ptold told command asked opens. lacks_step opens_journal _ _ command is_named asked refl opens;
       quiet = λ told quiet fine.
@@ -156,6 +160,7 @@ init_ends g c =
           (g.B.Bench.moment c.open.new.bench) image moments.later left)).1 ∙ sym already.1);
       before_table = past_table _ status last;
       before_bench = past_journal _ status last;
+      before_spare = always_before writing_spare status refl;
       before_lines = always_before reading_lines status (refl, c.make.ensures.sent ∙ reads.sent);
       unwritten = λ told. at_lines _ _ _ c.made.ensures
           (making_at_lines c.make.result (λ there. (c.make.ensures.already told there).1 ∙ reads.file));
@@ -163,5 +168,5 @@ init_ends g c =
       no_files = λ command asked none. takes_step reads_files _ _ _ is_named asked refl none;
       no_lines = λ command asked none. refl;
       never_written = λ told command asked none. takes_step writes _ _ _ is_named asked refl none;
-      spare = refl;
+      spare = λ command asked none. refl;
     }

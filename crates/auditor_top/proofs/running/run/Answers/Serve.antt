@@ -14,7 +14,7 @@ use Rattle.auditor_top.specs.declared.words.Command.{Command}
 use Rattle.auditor_top.specs.declared.words.Command.TheVariants as command
 use Rattle.auditor_top.specs.declared.status.Status.{Status}
 use Rattle.auditor_top.specs.Words.{command_of, NamesCommand}
-use Rattle.auditor_top.specs.Commands.{AreFilesOf, AreSoundFilesOf, ServesOver, opens_store, reads_files, reads_groups, reads_lines, writes}
+use Rattle.auditor_top.specs.Commands.{AreFilesOf, AreSoundFilesOf, ServesOver, opens_store, reads_files, reads_groups, reads_lines, writes, calls_spare}
 use Rattle.auditor_top.specs.Causes.{WordCause, FileCause, InputCause, FaultCause, HoldsLegal, IsReadyFor, counts}
 use Rattle.auditor_top.specs.Ends.{outside}
 use Rattle.auditor_top.specs.Ready.{IsReady, IsReadyOver}
@@ -22,13 +22,14 @@ use Rattle.auditor_top.specs.Runs.{objects, faults_of, Serving}
 use Rattle.auditor_top.specs.Status.{session_status}
 use Rattle.auditor_top.proofs.Calls.{session_done}
 use Rattle.auditor_top.proofs.OneRunMore.{goes_on}
-use Rattle.auditor_top.proofs.OneCommand.{one_command, one_batch, same_command, asked_for, not_asked, none_asked, takes_step}
+use Rattle.auditor_top.proofs.OneCommand.{one_command, one_batch, same_command, asked_for, not_asked, none_asked, takes_step, lacks_step, spare_called}
 use Rattle.auditor_top.proofs.OneTable.{one_base, same_given, schema_is_ok, table_is_ok}
-use Rattle.auditor_top.proofs.Openings.{later_still}
+use Rattle.auditor_top.proofs.Openings.{later_still, stays}
 use Rattle.auditor_top.proofs.Refusals.{as_quiet}
 use Rattle.auditor_top.proofs.Sessions.{ends_so, stops_so, harmless_so, calls_so}
 use Rattle.auditor_top.proofs.StepFaults.{moved, session_cause, session_ends, session_faults, session_reads, session_wants}
-use Rattle.auditor_top.proofs.StepStatuses.{at_lines, EndsLastStep, schema_read, table_read, past_table, past_journal, no_schema_fault, no_table_fault, schema_was_read, table_was_read, session_last, session_words, session_bench, session_input, session_at_lines}
+use Rattle.auditor_top.specs.Stages.{writing_spare}
+use Rattle.auditor_top.proofs.StepStatuses.{at_lines, EndsLastStep, schema_read, table_read, past_table, past_journal, no_schema_fault, no_table_fault, schema_was_read, table_was_read, session_last, session_words, session_bench, session_input, session_at_lines, always_before}
 use Rattle.std.specs.Bool.{OnTrue}
 use Rattle.audit_types.specs.declared.records.Protected.{Protected}
 use Rattle.audit_types.specs.History.{IsLegal}
@@ -182,11 +183,14 @@ serve_ends g c =
       table_last = table_was_read status last;
       input_last = λ is. c.serve.ensures.last_read (session_input c.serve.result (sym c.answered.ensures ∙ is));
       bench_last = λ is. c.serve.ensures.fault.last_call (session_bench c.serve.result (sym c.answered.ensures ∙ is));
+      spare_last = spare_called _ _ status is_named refl (served_words g c);
+      spare_file = λ told command asked calls. lacks_step calls_spare _ _ command is_named asked refl calls;
       later = record {
         schema = c.open.ensures.later.0;
         table = c.open.ensures.later.1;
         input = c.serve.ensures.later;
         bench = later_still _ _ _ c.open.ensures.later.2 c.serve.ensures.fault.later;
+        spare = stays _;
       };
       schema_within = λ ptold. schema_was_read status last;
       table_within = λ ptold. table_was_read status last;
@@ -198,6 +202,7 @@ serve_ends g c =
       audit = λ asked. not_asked _ _ _ is_named asked refl;
       simulate = λ asked. not_asked _ _ _ is_named asked refl;
       grow = λ asked. not_asked _ _ _ is_named asked refl;
+      compact = λ asked. not_asked _ _ _ is_named asked refl;
       drill = λ number asked. not_asked _ _ _ is_named asked refl;
       nothing_began = λ ptold told command asked opens quiet none.
           absurd (none _ (are ptold) (subst (λ (k : Command). IsReadyFor k file (secret_table store.secret c.in-Ok-Serve.index.protected))
@@ -205,11 +210,12 @@ serve_ends g c =
       quiet = λ told quiet fine. c.serve.ensures.quiet told (as_quiet g.B.Bench _ _ reads quiet) (λ is. fine (c.answered.ensures ∙ ap session_status is));
       before_table = past_table _ status last;
       before_bench = past_journal _ status last;
+      before_spare = always_before writing_spare status refl;
       before_lines = at_lines _ _ _ c.answered.ensures (session_at_lines _ c.serve.result);
       unwritten = λ told. at_lines _ _ _ c.answered.ensures (session_at_lines _ c.serve.result);
       unread = λ none. none_asked _ _ none is_named;
       no_files = λ command asked none. takes_step reads_files _ _ _ is_named asked refl none;
       no_lines = λ command asked none. takes_step reads_lines _ _ _ is_named asked refl none;
       never_written = λ told command asked none. takes_step writes _ _ _ is_named asked refl none;
-      spare = refl;
+      spare = λ command asked none. refl;
     }

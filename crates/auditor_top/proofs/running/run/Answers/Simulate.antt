@@ -15,19 +15,20 @@ use Rattle.auditor_top.specs.declared.words.Command.{Command}
 use Rattle.auditor_top.specs.declared.words.Command.TheVariants as command
 use Rattle.auditor_top.specs.declared.status.Status.{Status}
 use Rattle.auditor_top.specs.Words.{command_of, NamesCommand}
-use Rattle.auditor_top.specs.Commands.{AreFilesOf, opens_journal, opens_store, reads_files, reads_groups, reads_lines, reads_secrets}
+use Rattle.auditor_top.specs.Commands.{AreFilesOf, opens_journal, opens_store, reads_files, reads_groups, reads_lines, reads_secrets, calls_spare}
 use Rattle.auditor_top.specs.Causes.{WordCause, FileCause, InputCause, FaultCause, counts}
 use Rattle.auditor_top.specs.Ready.{IsReadyOver}
 use Rattle.auditor_top.specs.Runs.{objects, faults_of, Simulating}
 use Rattle.auditor_top.proofs.Calls.{simulation_done}
-use Rattle.auditor_top.proofs.OneCommand.{one_command, same_command, asked_for, not_asked, none_asked, takes_step, lacks_step}
+use Rattle.auditor_top.proofs.OneCommand.{one_command, same_command, asked_for, not_asked, none_asked, takes_step, lacks_step, spare_called}
 use Rattle.auditor_top.proofs.OneRunMore.{never_goes_on}
 use Rattle.auditor_top.proofs.OneTable.{schema_is_ok, table_is_ok}
-use Rattle.auditor_top.proofs.Openings.{later_still}
+use Rattle.auditor_top.proofs.Openings.{later_still, stays}
 use Rattle.auditor_top.proofs.Refusals.{as_quiet}
 use Rattle.auditor_top.proofs.SimulationEndings.{carried_public, simulation_ends, simulation_sends, simulation_reads, simulation_faults, simulation_wants}
 use Rattle.auditor_top.proofs.StepFaults.{moved}
-use Rattle.auditor_top.proofs.StepStatuses.{at_lines, EndsLastStep, schema_read, table_read, past_table, past_journal, no_schema_fault, no_table_fault, schema_was_read, table_was_read, simulation_last, simulation_words, simulation_bench, simulation_input, simulation_file, simulation_at_lines}
+use Rattle.auditor_top.specs.Stages.{writing_spare}
+use Rattle.auditor_top.proofs.StepStatuses.{at_lines, EndsLastStep, schema_read, table_read, past_table, past_journal, no_schema_fault, no_table_fault, schema_was_read, table_was_read, simulation_last, simulation_words, simulation_bench, simulation_input, simulation_file, simulation_at_lines, always_before}
 use Rattle.std.specs.Bool.{OnTrue}
 use Rattle.set_index.specs.Groups.{AreEntries}
 use Rattle.set_index.specs.Indexed.{IndexView}
@@ -145,11 +146,14 @@ simulate_ends g c =
       table_last = table_was_read status last;
       input_last = λ is. c.simulate.ensures.last_call.0 (simulation_input c.simulate.result (sym c.judged.ensures ∙ is));
       bench_last = λ is. c.simulate.ensures.last_call.1 (simulation_bench c.simulate.result (sym c.judged.ensures ∙ is));
+      spare_last = spare_called _ _ status is_named refl (judged_words g c);
+      spare_file = λ told command asked calls. lacks_step calls_spare _ _ command is_named asked refl calls;
       later = record {
         schema = c.open.ensures.later.0;
         table = c.open.ensures.later.1;
         input = c.simulate.ensures.later.0;
         bench = later_still _ _ _ c.open.ensures.later.2 c.simulate.ensures.later.1;
+        spare = stays _;
       };
       schema_within = λ ptold. schema_was_read status last;
       table_within = λ ptold. table_was_read status last;
@@ -159,17 +163,19 @@ simulate_ends g c =
       audit = λ asked. not_asked _ _ _ is_named asked refl;
       simulate = judging g c;
       grow = λ asked. not_asked _ _ _ is_named asked refl;
+      compact = λ asked. not_asked _ _ _ is_named asked refl;
       drill = λ number asked. not_asked _ _ _ is_named asked refl;
       nothing_began = λ ptold told command asked opens. lacks_step opens_journal _ _ command is_named asked refl opens;
       quiet = λ told quiet fine image was.
           as_quiet g.B.Bench _ _ reads quiet image (c.simulate.ensures.crash image was) ∙ sym c.simulate.ensures.file;
       before_table = past_table _ status last;
       before_bench = past_journal _ status last;
+      before_spare = always_before writing_spare status refl;
       before_lines = at_lines _ _ _ c.judged.ensures (simulation_at_lines _ c.simulate.result);
       unwritten = λ told. at_lines _ _ _ c.judged.ensures (simulation_at_lines _ c.simulate.result);
       unread = λ none. none_asked _ _ none is_named;
       no_files = λ command asked none. takes_step reads_files _ _ _ is_named asked refl none;
       no_lines = λ command asked none. takes_step reads_lines _ _ _ is_named asked refl none;
       never_written = λ told command asked none. c.simulate.ensures.file ∙ reads.file;
-      spare = refl;
+      spare = λ command asked none. refl;
     }

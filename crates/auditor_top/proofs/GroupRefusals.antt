@@ -1,0 +1,143 @@
+-- What a refusal says where the groups of the schema weren't made ready, and which steps a command takes.
+use Rattle.std.proofs.Common.{◌≡◌, ℕ, Bool, true, false, List, Some, Result, Ok, IsOk, refl, sym, ◌∙◌, ap, subst}
+use Rattle.std.proofs.lemmas.Bool.{true≢false}
+use Rattle.audit_types.specs.History.{Table as Guarded}
+use Rattle.audit_types.specs.declared.records.Protected.{Protected}
+use Rattle.bench_core.specs.declared.bench.Bench.{Ghosts}
+use Rattle.bench_core.specs.declared.source.Source as source
+use Rattle.schema_json.specs.Columns.{Column, Group, SchemaView}
+use Rattle.schema_json.specs.Reading.{schema_of}
+use Rattle.schema_json.specs.declared.faults.SchemaFault.{SchemaFault}
+use Rattle.table_load.specs.Cells.{PublicView}
+use Rattle.table_load.specs.Database.{Database, table_in}
+use Rattle.table_load.specs.Tables.{table_of, public_of}
+use Rattle.table_load.specs.declared.faults.TableFault.{TableFault}
+use Rattle.set_index.specs.Groups.{AreEntries, IsFirstBad}
+use Rattle.set_index.specs.Indexed.{IndexView, OneListOfEntries}
+use Rattle.set_index.specs.declared.index.IndexFault.{IndexFault}
+use Rattle.set_index.specs.declared.index.IndexFault.TheVariants as index
+use Rattle.auditor_top.specs.declared.words.Command.{Command}
+use Rattle.auditor_top.specs.declared.words.Command.TheVariants.{Simulate}
+use Rattle.auditor_top.specs.declared.status.Status.{Status}
+use Rattle.auditor_top.specs.declared.status.Status.TheVariants.{BadGroup, NoMemory}
+use Rattle.auditor_top.specs.Status.{index_status}
+use Rattle.auditor_top.specs.Causes.{FaultCounts, FaultCause, WordCause, SchemaCause, TableCause, GroupCause, FileCause, counts}
+use Rattle.auditor_top.specs.Commands.{AreSoundFilesOf, ArePublicFilesOf, opens_store, reads_groups, reads_secrets}
+use Rattle.auditor_top.specs.Ready.{EndsEarly, GivesUp, IsGiven, Refuses}
+use Rattle.auditor_top.specs.Stages.{Before, reading_table, opening_journal}
+use Rattle.auditor_top.proofs.OneTable.{same_ok, schema_is_ok}
+use Rattle.auditor_top.proofs.StepFaults.{moved}
+use Rattle.auditor_top.proofs.StepStatuses.{always_before}
+
+-- a command takes no step that its kind doesn't, and takes each that it does
+pub lacks : {Y : Type 0} (step : Command → Bool) {asked own : Command} → asked ≡ own → step own ≡ false → step asked ≡ true → Y
+lacks step is none taken = absurd (true≢false (sym taken ∙ ap step is ∙ none))
+
+pub no_step : {Y : Type 0} (step : Command → Bool) {asked own : Command} → asked ≡ own → step own ≡ true → step asked ≡ false → Y
+no_step step is taken none = absurd (true≢false (sym taken ∙ sym (ap step is) ∙ none))
+
+-- a run may end so where the groups are made ready
+abbrev EndsGroups : Status → Type 0
+EndsGroups (BadGroup place) = Unit {0}
+EndsGroups NoMemory = Unit {0}
+EndsGroups status = ⊥
+
+-- what its status says
+record GroupRefusal (fault : IndexFault) : Type 1 where
+  pub words : (asked : Command) → reads_groups asked ≡ true → WordCause (index_status fault) (Some asked)
+  pub schema : (meant : Result SchemaView SchemaFault) → IsOk meant → SchemaCause (index_status fault) meant
+  pub table : (X : Type 0) (meant : Result X TableFault) → IsOk meant → TableCause (index_status fault) meant
+  pub journal : (asked : Command) (bytes : List ℕ) (table : Guarded) → FileCause (index_status fault) asked bytes table
+  pub early : EndsEarly (index_status fault)
+  pub ends : EndsGroups (index_status fault)
+  pub before : (P : Type 0) → Before reading_table (index_status fault) P
+  pub same : (before : FaultCounts) → FaultCause (index_status fault) before before
+
+group_refusal : (fault : IndexFault) → GroupRefusal fault
+group_refusal (index.BadGroup place) = record {
+  words = λ asked reads. reads;
+  schema = λ meant is. is;
+  table = λ X meant is. is;
+  journal = λ asked bytes table. tt;
+  early = tt;
+  ends = tt;
+  before = λ P. tt;
+  same = λ before. refl;
+}
+group_refusal index.NoMemory = record {
+  words = λ asked reads. tt;
+  schema = λ meant is. tt;
+  table = λ X meant is. tt;
+  journal = λ asked bytes table. tt;
+  early = tt;
+  ends = tt;
+  before = λ P. tt;
+  same = λ before. refl;
+}
+
+-- the first bad group is told, and none is where none has a fault
+group_cause : (fault : IndexFault) (columns : List Column) (groups : List Group) →
+    ((place : ℕ) → fault ≡ index.BadGroup place → IsFirstBad columns groups place) → GroupCause (index_status fault) columns groups
+group_cause (index.BadGroup place) columns groups bad = bad place refl
+group_cause index.NoMemory columns groups bad = tt
+
+pub group_gives_up : OneListOfEntries → (fault : IndexFault) (columns : List Column) (public : PublicView) (groups : List Group) (protected : List Protected) →
+    AreEntries columns public groups protected → ((place : ℕ) → fault ≡ index.BadGroup place → IsFirstBad columns groups place) →
+    GivesUp (index_status fault)
+group_gives_up law (index.BadGroup place) columns public groups protected entries bad =
+    absurd (law.bad columns groups place (bad place refl) (law.sound columns public groups protected entries))
+group_gives_up law index.NoMemory columns public groups protected entries bad = tt
+
+module _ {P B : Type 0} (files : source.Ghosts P) (bench : Ghosts B) (asked : Command) (schema later_schema table later_table : P) (at : B)
+    (grouped : reads_groups asked ≡ true) (read : SchemaView) (schema_is : files.told → schema_of (files.left schema) ≡ Ok read)
+    (same_schema : files.faults later_schema ≡ files.faults schema) (same_table : files.faults later_table ≡ files.faults table)
+    (fault : IndexFault) (bad : (place : ℕ) → fault ≡ index.BadGroup place → IsFirstBad read.columns read.groups place) where
+  pub groups_refused : (files.told → reads_secrets asked ≡ true → (other : SchemaView) → schema_of (files.left schema) ≡ Ok other →
+      IsOk (table_of other.columns (files.left table))) →
+      (files.told → asked ≡ Simulate → (other : SchemaView) → schema_of (files.left schema) ≡ Ok other → IsOk (public_of other.columns (files.left table))) →
+      (files.told → (opens_store asked ≡ true → bench.told) → IsGiven asked (files.left schema) (files.left table) (bench.file at) →
+      GivesUp (index_status fault)) → Refuses files bench asked (index_status fault) schema later_schema table later_table at at
+  groups_refused table_ok public_ok gives_up =
+      let says = group_refusal fault in
+      record {
+        words = says.words asked grouped;
+        schema = λ ptold reads. says.schema _ (schema_is_ok _ read (schema_is ptold));
+        table = λ ptold reads other is. says.table _ _ (table_ok ptold reads other is);
+        public = λ ptold simulates other is. says.table _ _ (public_ok ptold simulates other is);
+        groups = λ ptold reads other is.
+            subst (λ (v : SchemaView). GroupCause (index_status fault) v.columns v.groups) (same_ok (schema_of (files.left schema)) read other (schema_is ptold) is)
+            (group_cause fault read.columns read.groups bad);
+        file = λ ptold told base given sound. says.journal asked (bench.file at) (table_in base);
+        own_schema_fault = λ is. subst EndsGroups is says.ends;
+        own_table_fault = λ is. subst EndsGroups is says.ends;
+        schema_within = λ ptold is. absurd (subst EndsGroups is says.ends);
+        table_within = λ ptold is. absurd (subst EndsGroups is says.ends);
+        early = says.early;
+        gives_up = gives_up;
+        faults = λ input spare.
+            moved (index_status fault) (counts (files.faults schema) (files.faults table) input (bench.faults at) spare) _ _ _ _ input (bench.faults at) spare
+            same_schema same_table (says.same _);
+        schema_last = λ is. absurd (subst EndsGroups is says.ends);
+        table_last = λ is. absurd (subst EndsGroups is says.ends);
+        bench_last = λ is. absurd (subst EndsGroups is says.ends);
+        before_table = says.before (later_table ≡ table);
+        before_bench = always_before opening_journal (index_status fault) refl;
+      }
+
+pub public_gives_up : OneListOfEntries → (fault : IndexFault) (schema table : List ℕ) (read : SchemaView) (public : PublicView) → schema_of schema ≡ Ok read →
+    public_of read.columns table ≡ Ok public → ((place : ℕ) → fault ≡ index.BadGroup place → IsFirstBad read.columns read.groups place) →
+    (columns : List Column) × (given : IndexView) × ArePublicFilesOf schema table columns given → GivesUp (index_status fault)
+public_gives_up law fault schema table read public schema_is public_is bad given =
+    let view : SchemaView = record { columns = given.0; groups = given.2.groups } in
+    let same : read ≡ view = same_ok (schema_of schema) read view schema_is given.2.schema_is in
+    group_gives_up law fault given.0 given.1.public given.2.groups given.1.protected given.2.entries
+    (subst (λ (v : SchemaView). (place : ℕ) → fault ≡ index.BadGroup place → IsFirstBad v.columns v.groups place) same bad)
+
+pub growth_gives_up : OneListOfEntries → (fault : IndexFault) (schema table : List ℕ) (read : SchemaView) → schema_of schema ≡ Ok read →
+    ((place : ℕ) → fault ≡ index.BadGroup place → IsFirstBad read.columns read.groups place) →
+    (base : Database) × AreSoundFilesOf schema table base → GivesUp (index_status fault)
+growth_gives_up law fault schema table read schema_is bad given =
+    let view : SchemaView = record { columns = given.0.columns; groups = given.1.files.groups } in
+    group_gives_up law fault view.columns given.0.public view.groups given.0.protected given.1.entries
+    (subst (λ (v : SchemaView). (place : ℕ) → fault ≡ index.BadGroup place → IsFirstBad v.columns v.groups place)
+    (same_ok (schema_of schema) read view schema_is given.1.files.schema_is) bad)

@@ -1,0 +1,79 @@
+use Rattle.std.proofs.Common.{ℕ, List, Result, Err, sym, ◌∙◌, ap, subst}
+use Rattle.schema_json.specs.Columns.{SchemaView}
+use Rattle.schema_json.specs.SecretShape.{shape_of}
+use Rattle.table_load.specs.Cells.{FitsSchema, PublicView, SecretView}
+use Rattle.table_load.specs.Database.{base_of}
+use Rattle.table_load.specs.Loaded.{table_view}
+use Rattle.audit_store.specs.Stores.{IsAsLeft}
+use Rattle.auditor_top.specs.declared.opening.OpenFault.{OpenFault}
+use Rattle.auditor_top.specs.declared.opening.Opened.{Opened}
+use Rattle.auditor_top.specs.declared.status.Status.{Status}
+use Rattle.auditor_top.specs.Commands.{AreSoundFilesOf}
+use Rattle.auditor_top.specs.Ready.{Refuses}
+use Rattle.auditor_top.proofs.FileRefusals.{files_refused, gives_up_over}
+use Rattle.auditor_top.proofs.StepFaults.{not_both}
+use Rattle.auditor_top.proofs.StoreRefusals.{given_history, not_public, opens_files, not_started}
+use Rattle.auditor_top.proofs.ready.open_store.Goals as goal
+
+abbrev table_unopened : OpenFault → Result Opened OpenFault
+table_unopened fault = Err fault
+
+-- ---- the files weren't opened
+
+pub returns-in-Err-clause-refusal : goal.returns-in-Err-clause-refusal
+returns-in-Err-clause-refusal g c =
+    let e = c.in-Err.ensures in
+    let fault = c.in-Err.fault in
+    let asked = c.args.command in
+    subst (λ (s : Status). Refuses g.P.Source g.B.Bench asked s c.args.schema.now c.open_table.new.schema c.args.table.now c.open_table.new.table
+    c.args.bench.now c.args.bench.now) (sym c.from-in-Err.ensures)
+    (files_refused g.P.Source g.B.Bench asked c.args.schema.now c.open_table.new.schema c.args.table.now c.open_table.new.table c.args.bench.now fault
+    (opens_files asked c.requires) e.schema_cause (λ is. e.own_schema_fault (ap table_unopened is)) (λ is. e.own_table_fault (ap table_unopened is))
+    (λ ptold is. e.schema_within ptold (ap table_unopened is)) (λ ptold is. e.table_within ptold (ap table_unopened is)) e.faults
+    (λ is. e.schema_last (ap table_unopened is)) (λ is. e.table_last (ap table_unopened is)) e.untouched
+    (λ ptold reads columns is. e.table_cause ptold columns is) (λ ptold simulates. not_public asked c.requires simulates)
+    (λ ptold given. gives_up_over fault _ _ _ (given_history asked _ _ _ c.requires given).2.files.files (e.schema_cause ptold) (e.table_cause ptold)))
+
+-- ---- the groups weren't made ready, or the journal wasn't opened
+
+pub returns-in-Err-start-clause-refusal : goal.returns-in-Err-start-clause-refusal
+returns-in-Err-start-clause-refusal g c =
+    let opened = c.in-Ok.opened in
+    let e = c.in-Ok.ensures in
+    subst (λ (s : Status). Refuses g.P.Source g.B.Bench c.args.command s c.args.schema.now c.open_table.new.schema c.args.table.now c.open_table.new.table
+    c.args.bench.now c.start.new.bench) (sym c.from.ensures)
+    (not_started g.P.Source g.B.Bench c.groups_of_a_schema.ensures.entries c.args.command c.args.schema.now c.open_table.new.schema c.args.table.now
+    c.open_table.new.table c.args.bench.now c.start.new.bench c.requires opened.schema (table_view opened.table) e.schema_is e.table_is e.steady.0
+    e.steady.1 c.in-Err-start.fault c.in-Err-start.ensures.bad c.in-Err-start.ensures.cause c.in-Err-start.ensures.fault c.in-Err-start.ensures.uncalled)
+
+-- ---- the store was opened
+
+pub returns-in-Ok-start : goal.returns-in-Ok-start
+returns-in-Ok-start g c =
+    let opened = c.in-Ok.opened in
+    let e = c.in-Ok.ensures in
+    let s = c.in-Ok-start.started in
+    let a = c.in-Ok-start.ensures in
+    record {
+      over = λ ptold.
+          subst (λ (v : SchemaView). AreSoundFilesOf (g.P.Source.left c.args.schema.now) (g.P.Source.left c.args.table.now)
+          (base_of v.columns s.index.public s.store.protected s.store.secret)) (sym a.same.0)
+          (subst (λ (p : PublicView). AreSoundFilesOf (g.P.Source.left c.args.schema.now) (g.P.Source.left c.args.table.now)
+          (base_of opened.schema.columns p s.store.protected s.store.secret)) (sym a.same.1)
+          (subst (λ (v : SecretView). AreSoundFilesOf (g.P.Source.left c.args.schema.now) (g.P.Source.left c.args.table.now)
+          (base_of opened.schema.columns opened.table.public s.store.protected v)) (sym a.same.2)
+          (record {
+            files = record { groups = opened.schema.groups; schema_is = e.schema_is ptold; table_is = e.table_is ptold };
+            entries = a.entries;
+          })));
+      opened = record { is = a.store.1; usable = a.store.0; left = λ told. subst (λ (f : List ℕ). IsAsLeft f s.store) (sym c.start.ensures.reads.file) (a.stands told) };
+      fits = subst (λ (p : PublicView). FitsSchema s.schema.columns p) (sym a.same.1) (subst (λ (v : SchemaView). FitsSchema v.columns opened.table.public) (sym a.same.0) e.fits);
+      shape = ap (λ (v : SecretView). v.shape) a.same.2 ∙ e.shape ∙ ap (λ (v : SchemaView). shape_of v.columns opened.table.public.rows) (sym a.same.0)
+          ∙ ap (λ (p : PublicView). shape_of s.schema.columns p.rows) (sym a.same.1);
+      entries = a.same.3;
+      steady = (e.steady.0, e.steady.1, a.fault.steady (not_both _ _));
+      ticks = a.ticks;
+      refusal = tt;
+      reads = c.start.ensures.reads;
+      later = (e.later.0, e.later.1, c.start.ensures.fault.later);
+    }

@@ -1,0 +1,71 @@
+-- What `compact` writes on the spare, and what it sends: a journal of the records that are kept of the history, and a line on them.
+use Rattle.std.specs.Prelude.{◌≡◌, ◌⊎◌, ◌↔◌, ◌<◌, ◌++◌, ℕ, List, length, codes, decimal}
+use Rattle.audit_types.specs.declared.shapes.Shape.{Shape}
+use Rattle.audit_types.specs.declared.records.Answered.{Answered}
+use Rattle.audit_types.specs.declared.records.Verdict.{Verdict}
+use Rattle.audit_types.specs.Shapes.{columns}
+use Rattle.audit_types.specs.History.{Table, IsLegal, IsDecisionAfter}
+use Rattle.bench_core.specs.Bench.{AppendsFront}
+use Rattle.journal_form.specs.Journal.{StandsFor}
+use Rattle.journal_compact.specs.Kept.{IsKeptOf}
+use Rattle.journal_compact.specs.declared.whole.WholeFault.{WholeFault}
+use Rattle.journal_compact.specs.declared.whole.WholeFault.TheVariants as whole
+use Rattle.answer_journal.specs.Moments.{IsMade}
+use Rattle.table_load.specs.Database.{Database}
+use Rattle.auditor_top.specs.declared.compacting.CompactFault.{CompactFault}
+use Rattle.auditor_top.specs.declared.compacting.CompactFault.TheVariants as compact
+use Rattle.auditor_top.specs.declared.status.Which.TheVariants.{Schema, Table as TableFile}
+use Rattle.auditor_top.specs.declared.status.Status.{Status}
+use Rattle.auditor_top.specs.declared.status.Status.TheVariants.{Done, SourceFault, BenchFault, SpareThere, SpareFault, NoMemory}
+
+-- the line that tells how many records a history has, and how many of them are kept
+abbrev pub compact_line : ℕ → ℕ → List ℕ
+compact_line records kept = codes "{\"records\":" ++ (decimal records ++ (codes ",\"kept\":" ++ (decimal kept ++ codes "}\n")))
+
+-- the file stands for what is kept of the history, over the rows in force
+pub record HoldsKept (shape : Shape) (history : List Answered) (file : List ℕ) : Type 0 where
+  pub kept : List Answered
+  pub are : IsKeptOf shape history kept
+  pub stands : StandsFor file shape kept
+
+-- and the line on it was sent
+abbrev pub Compacts : Shape → List Answered → List ℕ → List ℕ → List ℕ → Type 0
+Compacts shape history spare before after =
+    (holds : HoldsKept shape history spare) × (after ≡ before ++ compact_line (length history) (length holds.kept))
+
+-- or a front of the line
+abbrev pub CompactsFront : Shape → List Answered → List ℕ → List ℕ → List ℕ → Type 0
+CompactsFront shape history spare before after =
+    (holds : HoldsKept shape history spare) × AppendsFront before (compact_line (length history) (length holds.kept)) after
+
+-- what a crash finds on the spare: nothing was sent there, and the image isn't a made journal, or stands for what is kept
+abbrev pub IsUnmadeOrKept : Shape → List Answered → List ℕ → List ℕ → List ℕ → Type 0
+IsUnmadeOrKept shape history before image sent = (sent ≡ before) × ((IsMade image → ⊥) ⊎ HoldsKept shape history image)
+
+-- what a crash finds on the bench: the file is as it was, and nothing was sent, or a front of the line
+abbrev pub SendsCounts : Shape → List Answered → List ℕ → List ℕ → List ℕ → List ℕ → Type 0
+SendsCounts shape history file before image sent = (image ≡ file) × ((sent ≡ before) ⊎ ((kept : List Answered) × IsKeptOf shape history kept ×
+    AppendsFront before (compact_line (length history) (length kept)) sent))
+
+-- what the spare stands for then, and what was sent. Files without fault and a legal journal are never refused
+abbrev pub CompactEnds : Status → Database → List Answered → List ℕ → List ℕ → List ℕ → Type 0
+CompactEnds Done base history spare before after = Compacts base.secret.shape history spare before after
+CompactEnds (SourceFault Schema) base history spare before after = after ≡ before
+CompactEnds (SourceFault TableFile) base history spare before after = after ≡ before
+CompactEnds BenchFault base history spare before after = (after ≡ before) ⊎ CompactsFront base.secret.shape history spare before after
+CompactEnds SpareThere base history spare before after = after ≡ before
+CompactEnds SpareFault base history spare before after = after ≡ before
+CompactEnds NoMemory base history spare before after = after ≡ before
+CompactEnds status base history spare before after = ⊥
+
+-- other records are legal for the table, and every question is decided after them as after the history
+pub record DecideAlike (table : Table) (history others : List Answered) : Type 0 where
+  pub legal : IsLegal table others
+  pub alike : (column : ℕ) (rows : List ℕ) (verdict : Verdict) → column < columns table.setting.shape →
+      IsDecisionAfter table.setting history column rows verdict ↔ IsDecisionAfter table.setting others column rows verdict
+
+-- the fault that a refusal to write the journal comes to
+abbrev pub whole_fault : WholeFault → CompactFault
+whole_fault whole.AlreadyThere = compact.AlreadyThere
+whole_fault whole.Failed = compact.Spare
+whole_fault whole.NoMemory = compact.NoMemory
