@@ -2,7 +2,9 @@
 # Times the built program when it opens a full journal, 65,536 records of sums and maxima in turn over random pairs of rows
 # joined, none of which separates the two rows of a pair, so that no question is denied: over 200 rows, and over 1,024 rows with
 # 64 protected groups of half of the rows each. Prints the seconds and the peak of memory of each, and ends with 1 if these
-# are more than 5 and 30 seconds, or 64 MiB, or if a journal isn't full. Build the program first: demo/run.sh does.
+# are more than 5 and 30 seconds, or 64 MiB, or if a journal isn't full. Then it opens a journal that grew 1,000 times, from 24
+# rows to 1,024, and one of the same records without a growth, three times each, and ends with 1 if the first takes more than twice as
+# long. Build the program first: demo/run.sh does.
 #
 #   bench/opening.sh
 # A sync is free in a folder that is kept in memory.
@@ -41,8 +43,8 @@ write_questions() {
         } }' >questions.jsonl
 }
 
-# measure ROWS GROUPS SECONDS: the journal is made by serving, and opened once more.
-measure() {
+# open_full ROWS GROUPS SECONDS: the journal is made by serving, and opened once more.
+open_full() {
     rm -f answers.journal
     write_table "$1" && write_schema "$2" && write_questions $(($1 / 2)) || return 1
     "$program" init || return 1
@@ -52,21 +54,26 @@ measure() {
         echo "opening: the journal isn't full" >&2
         return 1
     fi
-    begin=$(date +%s.%N)
-    "$program" serve </dev/null &
-    peak=0
-    while kill -0 $! 2>/dev/null; do
-        now=$(awk '/^VmHWM/ { print $2 }' /proc/$!/status 2>/dev/null)
-        [ "${now:-0}" -gt "$peak" ] && peak=$now
-        sleep 0.01
-    done
-    wait $! || return 1
-    end=$(date +%s.%N)
-    echo "$begin $end $peak $(wc -c <answers.journal) $*" | awk '{
-        seconds = $2 - $1; mebibytes = $3 / 1024
-        printf "65,536 records over %d rows with %d protected groups, %d bytes: %.2f s, %.1f MiB\n", $5, $6, $4, seconds, mebibytes
-        exit seconds > $7 || mebibytes > 64 }'
+    measure "$program" serve || return 1
+    echo "$seconds $mebibytes $(wc -c <answers.journal) $*" | awk '{
+        printf "65,536 records over %d rows with %d protected groups, %d bytes: %.2f s, %.1f MiB\n", $4, $5, $3, $1, $2
+        exit $1 > $6 || $2 > 64 }'
 }
 
-measure 200 0 5 || exit 1
-measure 1024 64 30
+# open_written KIND TEXT: the least of three times, to which `least` is set.
+open_written() {
+    python3 "$here/journals.py" "$1" || return 1
+    least=
+    for turn in 1 2 3; do
+        measure "$program" serve || return 1
+        least=$(echo "$seconds $least" | awk '{ print $2 == "" || $1 < $2 ? $1 : $2 }')
+    done
+    echo "65,536 records, $2, $(wc -c <answers.journal) bytes: $least s, $mebibytes MiB"
+}
+
+open_full 200 0 5 || exit 1
+open_full 1024 64 30 || exit 1
+open_written widened 'over 1,024 rows without a growth' || exit 1
+without=$least
+open_written grown 'over 24 to 1,024 rows with 1,000 growths' || exit 1
+echo "$least $without" | awk '{ exit $1 > 2 * $2 }'

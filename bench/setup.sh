@@ -1,4 +1,5 @@
-# Read by the scripts beside it: finds their folder and the built program, and goes to a fresh folder that is gone at the end.
+# Read by the scripts beside it: finds their folder and the built program, goes to a fresh folder that is gone at the end, and has what
+# times a run.
 set -u
 here=$(cd "$(dirname "$0")" && pwd)
 program=$here/../crates/auditor/out/auditor
@@ -10,3 +11,19 @@ fi
 folder=$(mktemp -d) || exit 1
 trap 'rm -rf "$folder"' EXIT
 cd "$folder" || exit 1
+
+# Runs a command over no input, and sets `seconds`, and `mebibytes` to its peak of memory.
+measure() {
+    begin=$(date +%s.%N)
+    "$@" </dev/null &
+    peak=0
+    while kill -0 $! 2>/dev/null; do
+        now=$(awk '/^VmHWM/ { print $2 }' /proc/$!/status 2>/dev/null)
+        [ "${now:-0}" -gt "$peak" ] && peak=$now
+        sleep 0.01
+    done
+    wait $! || return 1
+    end=$(date +%s.%N)
+    seconds=$(echo "$begin $end" | awk '{ printf "%.2f", $2 - $1 }')
+    mebibytes=$(echo "$peak" | awk '{ printf "%.1f", $1 / 1024 }')
+}

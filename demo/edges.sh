@@ -5,6 +5,9 @@
 #
 #   demo/edges.sh [PROGRAM]
 #
+# Then it runs replace.sh, which puts a compacted journal in the journal's place, kills it between each two of its steps, and lets other
+# runs come between.
+#
 # As root it also tries a full disk and one that may only be read, by small file systems in memory, and folders that the program may
 # not write.
 set -u
@@ -173,5 +176,121 @@ if can_be_nobody; then
         umount "$top/disk"
     }
 fi
+
+# replace.sh, stopped between each two of its steps, and with a run that comes between. In a folder before the others of the path stands
+# a script for a tool, which does something else first.
+mkdir "$top/instead"
+
+# Makes a tool, or the program, do something first if its arguments are these: `first TOOL ARGUMENTS COMMANDS`.
+first() {
+    tool=$(command -v "$1")
+    name=$(basename "$1")
+    {
+        echo '#!/bin/sh'
+        echo "case \"\$*\" in $2) $3 ;; esac"
+        echo "exec '$tool' \"\$@\""
+    } >"$top/instead/$name"
+    chmod +x "$top/instead/$name"
+}
+
+# A fresh folder, in whose journal each answer stands twice, and beside it what is to be kept of that.
+twice() {
+    rm -f "$top/instead"/*
+    fresh
+    "$program" serve --batch 64 <questions.jsonl >/dev/null || complain 'the questions were not answered'
+    cp answers.journal kept.journal
+    "$program" serve <questions.jsonl >/dev/null || complain 'the questions were not answered again'
+    cp answers.journal twice.journal
+}
+
+# Runs replace.sh, and reports its end by the first line that it said, which has to begin with this: `replacing NAME STATUS TEXT`.
+replacing() {
+    by=$program
+    [ ! -e "$top/instead/auditor" ] || by=$top/instead/auditor
+    { PATH=$top/instead:$PATH "$demo/replace.sh" . "$by" >sent 2>all; } 2>/dev/null
+    status=$?
+    sed -n 's/^replace: //p' all | head -n 1 >said
+    tell "$1" "$2" "$status"
+    case $(cat said) in
+    "$3"*) ;;
+    *) complain "replace.sh said something else than '$3'" ;;
+    esac
+}
+
+# Reports whether the journal is this one, and the program goes on over it.
+stands() {
+    cmp -s answers.journal "$1" || complain "answers.journal is not $1"
+    "$program" serve <questions.jsonl | cmp -s - "$demo/replies.jsonl" || complain "other replies over $1"
+}
+
+twice
+replacing 'the journal is replaced' 0 'answers.journal is compacted'
+[ "$(cat sent)" = '{"records":12,"kept":6}' ] || complain "compact sent $(cat sent)"
+cmp -s answers.journal.old twice.journal || complain 'answers.journal.old is not the journal of before'
+[ ! -e answers.spare ] || complain 'a spare is left'
+stands kept.journal
+
+killed='kill -9 $PPID; exit'
+for step in 'sync *old' 'auditor compact' 'flock *' 'cmp *' 'mv *' 'sync *.' 'auditor serve'; do
+    twice
+    tool=${step%% *}
+    [ "$tool" != auditor ] || tool=$program
+    first "$tool" "${step#* }" "$killed"
+    replacing "it is killed before: $step" 137 ''
+    rm "$top/instead"/*
+    case $step in
+    'sync *.' | 'auditor serve') cmp -s answers.journal kept.journal || complain 'the journal is not the compacted one' ;;
+    *) cmp -s answers.journal twice.journal || complain 'the journal is another one' ;;
+    esac
+    replacing '  and is run again' 1 'answers.journal.old is already there'
+    rm -f answers.journal.old answers.spare
+    replacing '  and once more, with these two removed' 0 'answers.journal is compacted'
+    stands kept.journal
+done
+
+twice
+open_run
+cp answers.journal twice.journal
+replacing 'a run has the journal open' 1 'auditor compact ended with code 6'
+end_run
+[ "$status" = 0 ] || complain 'the open run was disturbed'
+
+# Each of these asks for a sum more, or tries to.
+more='echo "{\"ask\":\"sum\",\"column\":\"salary\",\"where\":\"all\"}"'
+twice
+first flock '*' "$more | '$program' serve >more"
+replacing 'a run answers before the journal is locked' 1 'Answers were given since'
+[ "$(cat more)" = '{"sum":320500}' ] || complain 'that run had no answer'
+cmp -s answers.journal.old twice.journal || complain 'answers.journal.old is not the journal of before'
+[ "$(wc -c <answers.journal)" = $(($(wc -c <twice.journal) + 12)) ] || complain 'the journal lacks that answer'
+rm -f "$top/instead"/* answers.journal.old answers.spare
+replacing '  and again, once it has ended' 0 'answers.journal is compacted'
+
+twice
+mkfifo lines
+exec 4<>lines
+echo '{"ask":"count","where":"all"}' >&4
+first flock '*' "'$program' serve <lines >first 4>&- & echo \$! >run; while [ ! -s first ]; do sleep 0.05; done"
+replacing 'a run has it open when it is to be locked' 1 'A run has answers.journal open'
+kill "$(cat run)" || complain 'no run had it open'
+exec 4>&-
+cmp -s answers.journal twice.journal || complain 'the journal is another one'
+
+twice
+first mv '*' "$more | '$program' serve >more 2>refused"
+replacing 'a run comes once it is locked' 0 'answers.journal is compacted'
+[ ! -s more ] && [ "$(cat refused)" = 'journal or output failed' ] || complain 'that run was not refused'
+stands kept.journal
+
+twice
+cp answers.journal answers.spare
+replacing 'a spare stands' 1 'answers.spare is already there'
+rm answers.spare
+chmod 400 answers.journal
+replacing 'a run could not sync the journal' 1 "Nobody may write answers.journal"
+mv answers.journal elsewhere
+ln -s elsewhere answers.journal
+replacing 'the journal is a link' 2 'there is no answers.journal'
+cmp -s elsewhere twice.journal || complain 'what the link leads to was written'
 
 conclude

@@ -1,11 +1,11 @@
 #!/bin/sh
 # Makes a journal beside copies of the demo's files in a fresh folder, asks the demo's questions, compares the replies with
-# those due, has the report checked, and shows for each number another table that sends the same bytes, if there is a python3. Then,
-# in a folder with the public columns alone, computes the decisions of the transcript again: it agrees, and with one reply changed it
-# doesn't. Then a schema protects a team's total, and that total
-# is denied, and a table gets a row at its end. At last it prepares the table anew from its CSV, as with
-# a table of your own, and asks about it in plain words. The exit status is 0 if all is as it should be. If no program is given it is
-# built first, which takes the source and the kit; in a package it is bin/auditor.
+# those due, has the report checked, and shows for each number another table that sends the same bytes, if there is a python3. Then a
+# table gets a row at its end. The questions are asked twice, and the journal compacted, so that each answer stands in it once; the
+# replies stay. In a folder with the public columns alone the decisions of the transcript are computed again: it agrees, and with one
+# reply changed it doesn't. Then a schema protects a team's total, and that total is denied. At last the table is prepared anew from its
+# CSV, as with a table of your own, and asked about in plain words. The exit status is 0 if all is as it should be. If no program is
+# given it is built first, which takes the source and the kit; in a package it is bin/auditor.
 #
 #   demo/run.sh [PROGRAM]
 set -u
@@ -40,6 +40,15 @@ if command -v python3 >/dev/null; then
 fi
 
 "$demo/grow.sh" "$program" || { echo "demo: the table didn't grow" >&2; exit 1; }
+
+# Asked twice, each answer stands twice in the journal: of twelve records six say nothing new.
+mkdir twice && cp schema.json table.csv questions.jsonl answers.journal twice && cd twice || exit 1
+"$program" serve <questions.jsonl | cmp - "$demo/replies.jsonl" || exit 1
+"$demo/replace.sh" . "$program" >counts 2>said || { cat said >&2; echo "demo: the journal wasn't replaced" >&2; exit 1; }
+[ "$(cat counts)" = '{"records":12,"kept":6}' ] || { echo "demo: auditor compact sent $(cat counts)" >&2; exit 1; }
+"$program" serve <questions.jsonl | cmp - "$demo/replies.jsonl" || exit 1
+echo "the journal is compacted, and the replies stay: $(cat counts)" >&2
+cd ..
 
 # Blank lines have no reply.
 LC_ALL=C grep -av "^$(printf '\r')\{0,1\}$" questions.jsonl | paste -d '\n' - replies.jsonl >transcript.jsonl

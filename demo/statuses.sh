@@ -20,6 +20,10 @@ due() {
     printf '%s' "${text:+$text
 }" | cmp -s - said || complain "the text of $code is not '$text'"
     cmp -s replies sent || complain "what was sent at $code is not what was due"
+    case $* in
+    compact*) ;;
+    *) [ ! -e answers.spare ] || complain "there is a spare after $*" ;;
+    esac
 }
 
 # A fresh folder, with nothing to ask and nothing to reply.
@@ -37,9 +41,9 @@ cp questions.jsonl asked
 cp "$demo/replies.jsonl" replies
 due 0 '' serve
 
-usage='usage: auditor init, serve [--batch N], audit, simulate, drill N, grow'
+usage='usage: auditor init, serve [--batch N], audit, simulate, drill N, grow, compact'
 begin
-for words in '' help 'serve 3' '--batch 65 serve' 'audit --batch 2' 'grow 7' drill 'drill x' 'drill 4294967296'; do
+for words in '' help 'serve 3' '--batch 65 serve' 'audit --batch 2' 'grow 7' 'compact 3' drill 'drill x' 'drill 4294967296'; do
     due 2 "$usage" $words
 done
 
@@ -115,5 +119,13 @@ due 16 'schema: group 0 is bad' serve
 
 begin
 due 17 'nothing to grow: rows 6' grow
+
+begin
+"$program" compact >/dev/null || complain 'compact over no spare failed'
+due 18 'spare is already there' compact
+
+begin
+mkdir answers.spare
+due 19 'spare failed' compact
 
 conclude

@@ -9,6 +9,9 @@ pub enum Breach {
     NoHistory,
     Unrecorded,
     OtherAnswers,
+    SpareWritten,
+    PartlyMade,
+    SentTooSoon,
 }
 
 impl fmt::Display for Breach {
@@ -19,6 +22,9 @@ impl fmt::Display for Breach {
             Breach::NoHistory => "the file is none of the histories",
             Breach::Unrecorded => "a reply was sent whose record isn't in the file",
             Breach::OtherAnswers => "the lines asked then aren't answered as due",
+            Breach::SpareWritten => "the spare isn't as it was",
+            Breach::PartlyMade => "the spare is made, and isn't whole",
+            Breach::SentTooSoon => "a byte was sent, and the spare isn't whole",
         })
     }
 }

@@ -14,10 +14,10 @@ pub enum Due {
 }
 
 impl Due {
-    pub(crate) fn of(rt: &HostRuntime, run: Keys) -> Result<Due> {
+    pub(crate) fn of(rt: &HostRuntime, common: Keys, run: Keys) -> Result<Due> {
         match run.table("each", &Law::KEYS)? {
             Some(each) => Ok(Due::Each(Law::of(rt, run, each)?)),
-            None => Ok(Due::Once(Once::of(rt, run)?)),
+            None => Ok(Due::Once(Once::of(rt, common, run)?)),
         }
     }
 }

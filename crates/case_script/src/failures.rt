@@ -2,7 +2,8 @@
 use crate::keys::Keys;
 use crate::value_kind::ValueKind;
 
-/// The calls that fail, counted from 0: of each object one, and with `stop` all of the bench from that one on.
+/// The calls that fail, counted from 0: of each object one, and with `stop` and `spare_stop` all of the bench and of the spare from
+/// that one on.
 #[derive(Clone, Copy, Default)]
 pub struct Failures {
     pub schema: Option<u64>,
@@ -10,15 +11,19 @@ pub struct Failures {
     pub input: Option<u64>,
     pub bench: Option<u64>,
     pub stop: Option<u64>,
+    pub spare: Option<u64>,
+    pub spare_stop: Option<u64>,
 }
 
 impl Failures {
-    pub(crate) const KEYS: [(&'static str, ValueKind); 5] = [
+    pub(crate) const KEYS: [(&'static str, ValueKind); 7] = [
         ("schema", ValueKind::Count),
         ("table", ValueKind::Count),
         ("input", ValueKind::Count),
         ("bench", ValueKind::Count),
         ("stop", ValueKind::Count),
+        ("spare", ValueKind::Count),
+        ("spare_stop", ValueKind::Count),
     ];
 
     pub(crate) fn of(keys: Keys) -> Failures {
@@ -28,6 +33,8 @@ impl Failures {
             input: keys.count("input"),
             bench: keys.count("bench"),
             stop: keys.count("stop"),
+            spare: keys.count("spare"),
+            spare_stop: keys.count("spare_stop"),
         }
     }
 }

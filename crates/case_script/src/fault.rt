@@ -9,6 +9,10 @@ pub enum Fault {
     Stop,
     /// This call of the bench alone fails.
     Fail,
+    /// This call of the spare fails, and all after it.
+    SpareStop,
+    /// This call of the spare alone fails.
+    SpareFail,
     /// This read of the schema fails.
     Schema,
     /// This read of the table fails.
@@ -22,6 +26,8 @@ impl Fault {
         match each.text("fault")? {
             "stop" => Some(Fault::Stop),
             "fail" => Some(Fault::Fail),
+            "spare_stop" => Some(Fault::SpareStop),
+            "spare_fail" => Some(Fault::SpareFail),
             "schema" => Some(Fault::Schema),
             "table" => Some(Fault::Table),
             "input" => Some(Fault::Input),
@@ -35,6 +41,8 @@ impl Fault {
         let failing = match self {
             Fault::Stop => &mut failures.stop,
             Fault::Fail => &mut failures.bench,
+            Fault::SpareStop => &mut failures.spare_stop,
+            Fault::SpareFail => &mut failures.spare,
             Fault::Schema => &mut failures.schema,
             Fault::Table => &mut failures.table,
             Fault::Input => &mut failures.input,

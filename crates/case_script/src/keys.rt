@@ -64,6 +64,11 @@ impl<'a> Keys<'a> {
         matches!(self.value(key), Some(Value::Boolean(true)))
     }
 
+    /// The flag at a key, else the one that is common to all runs.
+    pub(crate) fn flag_or(self, common: Keys<'a>, key: &str) -> bool {
+        matches!(self.value_or(common, key), Some(Value::Boolean(true)))
+    }
+
     /// The most bytes that a source gives at a read.
     pub(crate) fn most(self) -> usize {
         let most = self.count("piece").unwrap_or(PIECE);

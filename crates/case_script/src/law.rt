@@ -5,13 +5,23 @@ use crate::fault::Fault;
 use crate::history::{History, history_of};
 use crate::keys::Keys;
 use crate::value_kind::ValueKind;
+use crate::whole_spare::{WholeSpare, is_made};
 use anyhow::{Context, Result};
 use std::alloc::{AllocError, Global};
 
-const BESIDE_NO_EACH: [&str; 6] = ["input", "sent", "ends", "file", "crash", "calls"];
+const BESIDE_NO_EACH: [&str; 8] = [
+    "input",
+    "sent",
+    "ends",
+    "file",
+    "crash",
+    "calls",
+    "stays",
+    "spare_crash",
+];
 
-/// What is due at each call: what the whole run is, the files that the journal may stand as, and what is answered over the
-/// last of these.
+/// What is due at each call: what the whole run is, the files that the journal and the spare may stand as, and what is answered
+/// over the last of the journal's.
 #[derive(Drop)]
 pub struct Law {
     pub fault: Fault,
@@ -22,6 +32,7 @@ pub struct Law {
     most: usize,
     histories: Vec<History>,
     then: Option<Exchange>,
+    spare: WholeSpare,
 }
 
 impl Law {
@@ -32,11 +43,12 @@ impl Law {
     ];
 
     pub(crate) fn of(rt: &HostRuntime, run: Keys, each: Keys) -> Result<Law> {
-        let mut law = Law::new(rt.alloc(), fault_of(each)?, run.most());
+        let spare = WholeSpare::of(rt, run)?;
+        let mut law = Law::new(rt.alloc(), fault_of(each)?, run.most(), spare);
         law.read(rt, run, each).and(Ok(law))
     }
 
-    fn new(alloc: Global, fault: Fault, most: usize) -> Law {
+    fn new(alloc: Global, fault: Fault, most: usize, spare: WholeSpare) -> Law {
         Law {
             fault,
             whole: Exchange::new(alloc),
@@ -44,6 +56,7 @@ impl Law {
             most,
             histories: Vec::new(alloc),
             then: None,
+            spare,
         }
     }
 
@@ -71,12 +84,14 @@ impl Law {
         Ok(())
     }
 
-    /// Whether a run that failed at a call may have sent this: a front of the replies where the bench failed, and where the
-    /// input did, those to the lines that came before.
+    /// Whether a run that failed at a call may have sent this: a front of the replies where the bench failed, nothing where the
+    /// spare did, and where the input did, those to the lines that came before.
     pub fn may_have_sent(&self, alloc: Global, call: u64, sent: &[u8]) -> Result<bool, AllocError> {
         match self.fault {
             Fault::Stop | Fault::Fail => Ok(self.whole.shown.starts_with(sent)),
-            Fault::Schema | Fault::Table => Ok(sent.is_empty()),
+            Fault::SpareStop | Fault::SpareFail | Fault::Schema | Fault::Table => {
+                Ok(sent.is_empty())
+            }
             Fault::Input => self.sends_by_then(alloc, call, sent),
         }
     }
@@ -99,15 +114,27 @@ impl Law {
         Some(Breach::NoHistory)
     }
 
-    /// What is typed over a file, and what is due in reply, where it holds the last history.
-    pub fn asked_over(&self, file: &[u8]) -> Option<&Exchange> {
+    /// The bytes of the spare that are due of the run that is done, over a spare with these at the start.
+    pub fn whole_spare<'a>(&'a self, start: &'a [u8]) -> &'a [u8] {
+        self.spare.due(start)
+    }
+
+    /// What is wrong with a spare that may be left after this was sent, over a spare with these bytes at the start.
+    pub fn breach_of_spare(&self, start: &[u8], sent: &[u8], file: &[u8]) -> Option<Breach> {
+        self.spare.breach(start, sent, file)
+    }
+
+    /// What is typed over both files, and what is due in reply, where the journal's holds the last history and no spare is made.
+    pub fn asked_over(&self, file: &[u8], spare: &[u8]) -> Option<&Exchange> {
         match self.histories.last() {
-            Some(last) if last.is_in(file) => self.then.as_ref(),
+            Some(last) if last.is_in(file) && !is_made(spare) => self.then.as_ref(),
             _ => None,
         }
     }
 }
 
 fn fault_of(each: Keys) -> Result<Fault> {
-    Fault::of(each).context("a fault is stop, fail, or the source of which a read fails")
+    Fault::of(each).context(
+        "a fault is stop, fail, spare_stop, spare_fail, or the source of which a read fails",
+    )
 }

@@ -19,6 +19,7 @@ mod run;
 mod script;
 mod terminal;
 mod value_kind;
+mod whole_spare;
 
 pub use breach::Breach;
 pub use due::Due;

@@ -14,7 +14,7 @@ const CRASH_KEYS: [(&str, ValueKind); 2] = [
     ("torn", ValueKind::Contents),
 ];
 
-/// The bytes of the journal's file that are due, as it reads or after a crash.
+/// The bytes of a file that are due, as it reads or after a crash.
 #[derive(Drop)]
 pub struct Left {
     pub over: Over,
@@ -30,10 +30,14 @@ pub struct Once {
     pub status: u8,
     /// The text of the status.
     pub text: String,
-    /// The files that are looked at.
+    /// The journal's files that are looked at.
     pub left: Vec<Left>,
     /// Whether the journal's file is to be as it was at the start.
     pub leaves_start: bool,
+    /// The spare's files that are looked at.
+    pub spare_left: Vec<Left>,
+    /// Whether the spare's file is to be as it was at the start.
+    pub leaves_spare: bool,
     /// How many calls of the bench are made.
     pub calls: Option<u64>,
 }
@@ -47,23 +51,27 @@ impl Once {
             text: String::new(alloc),
             left: Vec::new(alloc),
             leaves_start: false,
+            spare_left: Vec::new(alloc),
+            leaves_spare: false,
             calls: None,
         }
     }
 
-    pub(crate) fn of(rt: &HostRuntime, run: Keys) -> Result<Once> {
+    pub(crate) fn of(rt: &HostRuntime, common: Keys, run: Keys) -> Result<Once> {
         let mut once = Once::new(rt.alloc());
-        once.read(rt, run).and(Ok(once))
+        once.read(rt, common, run).and(Ok(once))
     }
 
-    fn read(&mut self, rt: &HostRuntime, run: Keys) -> Result<()> {
+    fn read(&mut self, rt: &HostRuntime, common: Keys, run: Keys) -> Result<()> {
         if let Some(fails) = run.table("fails", &Failures::KEYS)? {
             self.failures = Failures::of(fails);
         }
         self.calls = run.count("calls");
         self.exchange.read(rt, run)?;
         self.read_end(run)?;
-        self.read_files(rt, run)
+        self.read_files(rt, run)?;
+        self.leaves_start |= run.flag_or(common, "stays");
+        self.read_spare(rt, run)
     }
 
     // Reads the exit status and its text.
@@ -78,29 +86,41 @@ impl Once {
 
     fn read_files(&mut self, rt: &HostRuntime, run: Keys) -> Result<()> {
         match run.value("file") {
-            Some(contents) => self.add_left(rt, Over::Left, contents)?,
+            Some(contents) => add_left(rt, &mut self.left, Over::Left, contents)?,
             None => self.leaves_start = ends_before_lines(self.status),
         }
         match run.table("crash", &CRASH_KEYS)? {
-            Some(crash) => self.read_crash(rt, crash),
+            Some(crash) => add_crash(rt, &mut self.left, crash),
             None => Ok(()),
         }
     }
 
-    fn read_crash(&mut self, rt: &HostRuntime, crash: Keys) -> Result<()> {
-        let (synced, torn) = crash
-            .value("synced")
-            .zip(crash.value("torn"))
-            .context("a crash leaves a synced file and a torn one")?;
-        self.add_left(rt, Over::Synced, synced)?;
-        self.add_left(rt, Over::Torn, torn)
+    fn read_spare(&mut self, rt: &HostRuntime, run: Keys) -> Result<()> {
+        match run.value("spare_file") {
+            Some(contents) => add_left(rt, &mut self.spare_left, Over::Left, contents)?,
+            None => self.leaves_spare = true,
+        }
+        match run.table("spare_crash", &CRASH_KEYS)? {
+            Some(crash) => add_crash(rt, &mut self.spare_left, crash),
+            None => Ok(()),
+        }
     }
+}
 
-    fn add_left(&mut self, rt: &HostRuntime, over: Over, contents: &Value) -> Result<()> {
-        let file = bytes_of(rt, Some(contents))?;
-        self.left.push(Left { over, file })?;
-        Ok(())
-    }
+// Adds the two files that a crash leaves.
+fn add_crash(rt: &HostRuntime, left: &mut Vec<Left>, crash: Keys) -> Result<()> {
+    let (synced, torn) = crash
+        .value("synced")
+        .zip(crash.value("torn"))
+        .context("a crash leaves a synced file and a torn one")?;
+    add_left(rt, left, Over::Synced, synced)?;
+    add_left(rt, left, Over::Torn, torn)
+}
+
+fn add_left(rt: &HostRuntime, left: &mut Vec<Left>, over: Over, contents: &Value) -> Result<()> {
+    let file = bytes_of(rt, Some(contents))?;
+    left.push(Left { over, file })?;
+    Ok(())
 }
 
 // The statuses that come before the first line; the journal's file is then as it was.

@@ -1,4 +1,4 @@
-//! The files that a run may leave, one of which the next may be over.
+//! The files that a run may leave, of which the next may be over one.
 
 /// Which file a run leaves.
 #[derive(Clone, Copy)]

@@ -9,12 +9,13 @@ use anyhow::{Context, Result, bail};
 use std::alloc::Global;
 use toml::Value;
 
-const KEYS: [(&str, ValueKind); 17] = [
+const KEYS: [(&str, ValueKind); 21] = [
     ("shows", ValueKind::Text),
     ("words", ValueKind::List),
     ("schema", ValueKind::Contents),
     ("table", ValueKind::Contents),
     ("journal", ValueKind::Contents),
+    ("spare", ValueKind::Contents),
     ("over", ValueKind::Text),
     ("terminal", ValueKind::Text),
     ("input", ValueKind::Contents),
@@ -23,7 +24,10 @@ const KEYS: [(&str, ValueKind); 17] = [
     ("fails", ValueKind::Table),
     ("ends", ValueKind::List),
     ("file", ValueKind::Contents),
+    ("stays", ValueKind::Flag),
     ("crash", ValueKind::Table),
+    ("spare_file", ValueKind::Contents),
+    ("spare_crash", ValueKind::Table),
     ("calls", ValueKind::Count),
     ("each", ValueKind::Table),
     ("differs", ValueKind::Flag),
@@ -35,6 +39,8 @@ pub enum Start {
     Journal(Vec<u8>),
     /// What the run before left.
     After(Over),
+    /// The spare that the run before left, in the journal's place.
+    Spare,
 }
 
 /// A run of the program, and what is due.
@@ -50,6 +56,8 @@ pub struct Run {
     /// The most bytes that a source gives at a read.
     pub most: usize,
     pub start: Start,
+    /// The spare's file at the start, where it is given.
+    pub spare: Option<Vec<u8>>,
     pub due: Due,
 }
 
@@ -57,7 +65,7 @@ impl Run {
     /// Reads a run; what stands before the runs is common to all.
     pub(crate) fn of(rt: &HostRuntime, common: Keys, value: &Value) -> Result<Run> {
         let own = Keys::of_value(value, &KEYS)?;
-        let due = Due::of(rt, own)?;
+        let due = Due::of(rt, common, own)?;
         let mut run = Run::new(rt.alloc(), own, due);
         run.read(rt, common, own).and(Ok(run))
     }
@@ -71,6 +79,7 @@ impl Run {
             table: Vec::new(alloc),
             most: own.most(),
             start: Start::Journal(Vec::new(alloc)),
+            spare: None,
             due,
         }
     }
@@ -81,6 +90,7 @@ impl Run {
         add_pieces(rt, own.value_or(common, "schema"), &mut self.schema)?;
         add_pieces(rt, own.value_or(common, "table"), &mut self.table)?;
         self.start = start_of(rt, common, own)?;
+        self.spare = spare_of(rt, common, own)?;
         Ok(())
     }
 
@@ -96,8 +106,16 @@ impl Run {
 
 fn start_of(rt: &HostRuntime, common: Keys, own: Keys) -> Result<Start> {
     match own.text("over") {
+        Some("spare") => Ok(Start::Spare),
         Some(word) => Ok(Start::After(Over::of(word).context(format_args!("over {word}"))?)),
         None => Ok(Start::Journal(bytes_of(rt, own.value_or(common, "journal"))?)),
+    }
+}
+
+fn spare_of(rt: &HostRuntime, common: Keys, own: Keys) -> Result<Option<Vec<u8>>> {
+    match own.value_or(common, "spare") {
+        Some(contents) => Ok(Some(bytes_of(rt, Some(contents))?)),
+        None => Ok(None),
     }
 }
 

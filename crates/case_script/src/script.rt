@@ -7,11 +7,13 @@ use std::alloc::Global;
 use std::{fmt, fs};
 use toml::Table;
 
-const KEYS: [(&str, ValueKind); 5] = [
+const KEYS: [(&str, ValueKind); 7] = [
     ("words", ValueKind::List),
     ("schema", ValueKind::Contents),
     ("table", ValueKind::Contents),
     ("journal", ValueKind::Contents),
+    ("spare", ValueKind::Contents),
+    ("stays", ValueKind::Flag),
     ("run", ValueKind::List),
 ];
 

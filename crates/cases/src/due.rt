@@ -1,16 +1,17 @@
 //! What is due of a run beside what came.
 use crate::leaving::leaves_files;
+use crate::left::Files;
 use crate::stage::End;
 use crate::telling::{Bytes, Case, no_memory};
 use anyhow::Result;
 use auditor_top::{Status, status_code, status_text};
 use case_script::Once;
 
-/// Whether all that was due of a run over this file came; each difference is printed.
+/// Whether all that was due of a run over these files came; each difference is printed.
 pub fn is_as_due(
     rt: &HostRuntime,
     name: Case,
-    start: &[u8],
+    start: &Files,
     once: &Once,
     end: &End,
 ) -> Result<bool> {
@@ -19,10 +20,10 @@ pub fn is_as_due(
         rt,
         "sent",
         &Bytes(&once.exchange.shown),
-        &Bytes(end.bench.sent()),
+        &Bytes(end.benches.journal.sent()),
     )?;
-    met &= leaves_files(rt, name, start, once, &end.bench)?;
-    met &= calls(rt, name, once, end.bench.calls())?;
+    met &= leaves_files(rt, name, start, once, &end.benches)?;
+    met &= calls(rt, name, once, end.benches.journal.calls())?;
     Ok(met)
 }
 

@@ -1,12 +1,11 @@
 //! The runs of a script, one after another.
 use crate::due::is_as_due;
 use crate::left::start_of;
-use crate::stage::Stage;
+use crate::stage::{Benches, Stage};
 use crate::stopping::play_each;
 use crate::tally::Tally;
 use crate::telling::Case;
 use anyhow::Result;
-use bench_core::MemoryBench;
 use case_script::{Due, Once, Run};
 
 /// Runs each case of a script, and counts it.
@@ -19,12 +18,12 @@ pub fn play(rt: &HostRuntime, path: &str, runs: &[Run], tally: &mut Tally) -> Re
     Ok(())
 }
 
-// Whether what is due of a case came. The bench that it leaves stays for the next one.
+// Whether what is due of a case came. The benches that it leaves stay for the next one.
 fn play_case(
     rt: &HostRuntime,
     path: &str,
     run: &Run,
-    before: &mut Option<MemoryBench>,
+    before: &mut Option<Benches>,
 ) -> Result<bool> {
     let name = Case { script: path, run };
     let start = start_of(rt.alloc(), run, before)?;
@@ -35,16 +34,16 @@ fn play_case(
     }
 }
 
-// Whether what is due of a run came. Its bench then stands for the one before.
+// Whether what is due of a run came. Its benches then stand for those before.
 fn play_once(
     rt: &HostRuntime,
     name: Case,
     stage: Stage,
     once: &Once,
-    before: &mut Option<MemoryBench>,
+    before: &mut Option<Benches>,
 ) -> Result<bool> {
     let end = stage.run(rt.alloc(), stage.start, &once.exchange, once.failures)?;
     let met = is_as_due(rt, name, stage.start, once, &end);
-    *before = Some(end.bench);
+    *before = Some(end.benches);
     met
 }

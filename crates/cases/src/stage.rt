@@ -1,4 +1,5 @@
 //! What a run of the program is over, in memory, and how it ends.
+use crate::left::Files;
 use crate::telling::no_memory;
 use anyhow::Result;
 use auditor_top::{Status, run};
@@ -14,33 +15,44 @@ const SENT: u64 = 2_097_152;
 
 const CALLS: u64 = 131_072;
 
-/// A run, and the journal's file at its start.
+/// A run, and the files at its start.
 #[derive(Clone, Copy)]
 pub struct Stage<'a> {
     pub run: &'a Run,
-    pub start: &'a [u8],
+    pub start: &'a Files,
 }
 
-/// How a run ended, and the bench that it leaves.
+/// The bench of the journal and of what is sent, and that of the spare.
+#[derive(Drop)]
+pub struct Benches {
+    pub journal: MemoryBench,
+    pub spare: MemoryBench,
+}
+
+/// How a run ended, and the benches that it leaves.
 #[derive(Drop)]
 pub struct End {
     pub status: Status,
-    pub bench: MemoryBench,
+    pub benches: Benches,
 }
 
 impl Stage<'_> {
-    /// Runs the program over this file, with what is typed and the calls that fail.
+    /// Runs the program over these files, with what is typed and the calls that fail.
     pub fn run(
         self,
         alloc: Global,
-        file: &[u8],
+        files: &Files,
         exchange: &Exchange,
         failures: Failures,
     ) -> Result<End> {
-        let mut bench = bench_over(alloc, file, failures)?;
-        let mut spare = bench_over(alloc, b"", Failures::default())?;
+        let mut bench = bench_over(alloc, &files.journal, failures.bench, failures.stop)?;
+        let mut spare = bench_over(alloc, &files.spare, failures.spare, failures.spare_stop)?;
         let status = run_over(alloc, self.run, exchange, failures, &mut bench, &mut spare);
-        Ok(End { status, bench })
+        let benches = Benches {
+            journal: bench,
+            spare,
+        };
+        Ok(End { status, benches })
     }
 }
 
@@ -67,7 +79,12 @@ fn run_over(
 }
 
 // A bench with this file, of which one call fails, or all from one on.
-fn bench_over(alloc: Global, start: &[u8], failures: Failures) -> Result<MemoryBench> {
+fn bench_over(
+    alloc: Global,
+    start: &[u8],
+    fails: Option<u64>,
+    stop: Option<u64>,
+) -> Result<MemoryBench> {
     let room = Room {
         file: (start.len() as u64).saturating_add(ROOM),
         sent: SENT,
@@ -75,8 +92,8 @@ fn bench_over(alloc: Global, start: &[u8], failures: Failures) -> Result<MemoryB
         written: ROOM,
     };
     let mut failing = Vec::new(alloc);
-    if let Some(call) = failures.bench {
+    if let Some(call) = fails {
         failing.push(call)?;
     }
-    MemoryBench::new(alloc, start, room, failing, failures.stop).map_err(no_memory)
+    MemoryBench::new(alloc, start, room, failing, stop).map_err(no_memory)
 }

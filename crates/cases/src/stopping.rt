@@ -1,6 +1,6 @@
 //! One run of which each call of an object fails in turn, and what a crash then leaves.
-use crate::left::left_by;
-use crate::stage::{End, ROOM, Stage};
+use crate::left::{Files, files_left};
+use crate::stage::{Benches, End, ROOM, Stage};
 use crate::telling::{Bytes, Case};
 use anyhow::{Result, bail};
 use auditor_top::{Status, Which};
@@ -16,7 +16,7 @@ struct Trial<'a> {
     law: &'a Law,
 }
 
-// What is wrong with a run of which this call failed, and with the file that is left after it.
+// What is wrong with a run of which this call failed, and with the files that are left after it.
 #[derive(Clone, Copy)]
 struct Broken {
     call: u64,
@@ -46,6 +46,7 @@ impl fmt::Display for Broken {
 fn status_of(fault: Fault) -> Status {
     match fault {
         Fault::Stop | Fault::Fail => Status::BenchFault,
+        Fault::SpareStop | Fault::SpareFail => Status::SpareFault,
         Fault::Schema => Status::SourceFault(Which::Schema),
         Fault::Table => Status::SourceFault(Which::Table),
         Fault::Input => Status::SourceFault(Which::Input),
@@ -79,13 +80,16 @@ impl Trial<'_> {
             .run(alloc, self.stage.start, &self.law.whole, failures)
     }
 
-    // Whether the replies due were sent by a run that is done.
+    // Whether the replies due were sent by a run that is done, and the spare that is due is left.
     fn is_done(self, rt: &HostRuntime, end: &End) -> Result<bool> {
-        let (due, came) = (Bytes(&self.law.whole.shown), Bytes(end.bench.sent()));
-        self.name.agrees(rt, "sent", &due, &came)
+        let Benches { journal, spare } = &end.benches;
+        let (due, came) = (Bytes(&self.law.whole.shown), Bytes(journal.sent()));
+        let met = self.name.agrees(rt, "sent", &due, &came)?;
+        let due = Bytes(self.law.whole_spare(&self.stage.start.spare));
+        Ok(met & self.name.agrees(rt, "spare's file", &due, &Bytes(spare.file()))?)
     }
 
-    // Whether nothing is wrong with a run that failed at a call, in any file that it may leave.
+    // Whether nothing is wrong with a run that failed at a call, in any files that it may leave.
     fn is_kept(self, rt: &HostRuntime, call: u64, end: &End) -> Result<bool> {
         let mut kept = true;
         for over in Over::ALL {
@@ -97,36 +101,38 @@ impl Trial<'_> {
         Ok(kept)
     }
 
-    // What is wrong with a run that failed at a call, in the file that a crash leaves.
+    // What is wrong with a run that failed at a call, in the files that a crash leaves.
     fn breach(self, alloc: Global, call: u64, end: &End, over: Over) -> Result<Option<Breach>> {
-        let sent = end.bench.sent();
+        let sent = end.benches.journal.sent();
         if !self.law.may_have_sent(alloc, call, sent)? {
             return Ok(Some(Breach::OtherReplies));
         }
-        let left = left_by(over, &end.bench)?;
-        self.breach_of_file(alloc, sent, left.file())
+        let left = files_left(alloc, over, &end.benches)?;
+        self.breach_of_files(alloc, sent, &left)
     }
 
-    // What is wrong with a file that is left after this was sent, or with the answers to the lines that are asked over it.
-    fn breach_of_file(self, alloc: Global, sent: &[u8], file: &[u8]) -> Result<Option<Breach>> {
-        match (
-            self.law.breach_of_file(sent, file),
-            self.law.asked_over(file),
-        ) {
-            (None, Some(exchange)) => self.breach_of_answers(alloc, exchange, file),
+    // What is wrong with files that are left after this was sent, or with the answers to the lines that are asked over them.
+    fn breach_of_files(self, alloc: Global, sent: &[u8], left: &Files) -> Result<Option<Breach>> {
+        let start = &self.stage.start.spare;
+        let breach = self
+            .law
+            .breach_of_file(sent, &left.journal)
+            .or(self.law.breach_of_spare(start, sent, &left.spare));
+        match (breach, self.law.asked_over(&left.journal, &left.spare)) {
+            (None, Some(exchange)) => self.breach_of_answers(alloc, exchange, left),
             (breach, _) => Ok(breach),
         }
     }
 
-    // What is wrong with the answers to the lines that are asked over a file.
+    // What is wrong with the answers to the lines that are asked over the files that are left.
     fn breach_of_answers(
         self,
         alloc: Global,
         asked: &Exchange,
-        file: &[u8],
+        left: &Files,
     ) -> Result<Option<Breach>> {
-        let end = self.stage.run(alloc, file, asked, Failures::default())?;
-        if end.status == Status::Done && end.bench.sent() == asked.shown.as_slice() {
+        let end = self.stage.run(alloc, left, asked, Failures::default())?;
+        if end.status == Status::Done && end.benches.journal.sent() == asked.shown.as_slice() {
             Ok(None)
         } else {
             Ok(Some(Breach::OtherAnswers))
