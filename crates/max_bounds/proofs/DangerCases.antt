@@ -6,7 +6,6 @@ use Rattle.std.proofs.lemmas.Bool.{cases_lt, true≢false}
 use Rattle.audit_types.specs.Rows.{has_row, AreRows}
 use Rattle.audit_types.specs.Column.{Answer, IsOneOf}
 use Rattle.audit_types.specs.Extremes.{upper_bound, is_bound, extremes, IsConsistent, IsLone}
-use Rattle.audit_types.specs.RowLaws.{has_first}
 use Rattle.max_bounds.specs.Outside.{outside, HasOneHighest, HasStranded, IsDangerousByExtremes}
 use Rattle.max_bounds.specs.Kept.{fewest_of, TellsExtremes}
 use Rattle.max_bounds.specs.AnswerLaws.{all_at, all_from}

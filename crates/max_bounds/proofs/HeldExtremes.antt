@@ -1,5 +1,5 @@
 -- The extreme rows of an answer lie within a set exactly when one of the least sets does.
-use Rattle.std.proofs.Common.{◌≡◌, ℤ, ℕ, List, sym, ap, ◌∙◌}
+use Rattle.std.proofs.Common.{ℤ, ℕ, List, sym, ap, ◌∙◌}
 use Rattle.audit_types.specs.Rows.{has_row}
 use Rattle.audit_types.specs.Column.{Answer}
 use Rattle.audit_types.specs.Extremes.{extremes}

@@ -57,8 +57,8 @@ module _ (rows : List ℕ) (value : ℤ) (least : List AnsweredMax) where
     | inr other ↦
         let next : i + 1 ≡ suc i = omega arith in
         let low = all_at (λ b. b.value ≤ℤ x.answer) (answers_of (drop (suc i) least)) a
-            (descends_after (answers_of (take i least)) (answer_of x) (answers_of (drop (suc i) least)) (subst Descend (answers_split least i x within is) descend))
-            (subst (λ k. IsOneOf a (answers_of (drop k least))) next other) in
+        (descends_after (answers_of (take i least)) (answer_of x) (answers_of (drop (suc i) least)) (subst Descend (answers_split least i x within is) descend))
+        (subst (λ k. IsOneOf a (answers_of (drop k least))) next other) in
         let same = lies.same in absurd (omega (arith, ints))
   ]
     where

@@ -1,4 +1,4 @@
-use Rattle.std.proofs.Common.{◌≡◌, true, false, ℤ, ◌+◌, ◌-◌, ◌∷◌, ◌++◌, [], List, length, take, drop, sym, ap, ◌∙◌, subst, refl, SFits, rules, arith, to_z, of_z}
+use Rattle.std.proofs.Common.{◌≡◌, true, false, ℤ, ◌+◌, ◌-◌, ◌∷◌, ◌++◌, [], length, take, drop, sym, ap, ◌∙◌, subst, refl, SFits, rules, arith, to_z, of_z}
 use Rattle.std.specs.Prelude.{◌↔◌, ◌<ℤ◌, IsTrue, int_lt}
 use Rattle.std.specs.Int.{w64}
 use Rattle.std.proofs.lemmas.Int.{ints, to_z-of_z}
@@ -7,9 +7,8 @@ use Rattle.std.proofs.lemmas.Bool.{true≢false}
 use Rattle.audit_types.specs.Rows.{complement}
 use Rattle.max_bounds.specs.Maxima.{answer_of, answers_of}
 use Rattle.max_bounds.specs.Kept.{Descend}
-use Rattle.max_bounds.specs.Outside.{IsWithin, HasWithin}
+use Rattle.max_bounds.specs.Outside.{HasWithin}
 use Rattle.max_bounds.specs.AnswerLaws.{one_here}
-use Rattle.max_bounds.specs.declared.answered.AnsweredMax.{AnsweredMax}
 use Rattle.max_bounds.proofs.LostSets.{within-push}
 use Rattle.max_bounds.proofs.WithinSets.{from_place, descend_from, some_of_all, none_of_all, none_from_lower}
 use Rattle.max_bounds.proofs.stranding.has_within.Goals as goal

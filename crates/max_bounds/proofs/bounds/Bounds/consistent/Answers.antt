@@ -1,4 +1,4 @@
-use Rattle.std.proofs.Common.{◌≡◌, ◌<◌, ◌↔◌, arith, subst, inl, inr}
+use Rattle.std.proofs.Common.{◌↔◌, arith, subst, inl, inr}
 use Rattle.std.specs.Prelude.{IsTrue, nat_lt}
 use Rattle.std.proofs.lemmas.Bool.{cases_lt, ltb-true, lt-ltb}
 use Rattle.audit_types.specs.Extremes.{IsConsistent}

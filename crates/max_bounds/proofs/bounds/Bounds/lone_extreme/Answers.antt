@@ -1,4 +1,4 @@
-use Rattle.std.proofs.Common.{◌≡◌, ◌<◌, arith, ap, ◌∙◌, subst, None}
+use Rattle.std.proofs.Common.{◌≡◌, arith, ap, ◌∙◌, subst, None}
 use Rattle.audit_types.specs.Extremes.{IsLeastLone}
 use Rattle.max_bounds.specs.Maxima.{Maxima, answers_of}
 use Rattle.max_bounds.proofs.DangerCases.{none_lone}
