@@ -58,6 +58,7 @@ impl Leaving<'_> {
     fn is_left(self, rt: &HostRuntime, over: Over, due: &[u8]) -> Result<bool> {
         let left = left_by(rt.alloc(), over, self.bench)?;
         let what = format!(in rt.alloc(); "{}{}", self.what, over.name())?;
-        self.name.agrees(rt, what.as_str(), &Bytes(due), &Bytes(&left))
+        self.name
+            .agrees(rt, what.as_str(), &Bytes(due), &Bytes(&left))
     }
 }

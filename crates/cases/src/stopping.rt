@@ -86,7 +86,11 @@ impl Trial<'_> {
         let (due, came) = (Bytes(&self.law.whole.shown), Bytes(journal.sent()));
         let met = self.name.agrees(rt, "sent", &due, &came)?;
         let due = Bytes(self.law.whole_spare(&self.stage.start.spare));
-        Ok(met & self.name.agrees(rt, "spare's file", &due, &Bytes(spare.file()))?)
+        Ok(
+            met & self
+                .name
+                .agrees(rt, "spare's file", &due, &Bytes(spare.file()))?,
+        )
     }
 
     // Whether nothing is wrong with a run that failed at a call, in any files that it may leave.
