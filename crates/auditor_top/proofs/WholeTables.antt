@@ -11,7 +11,8 @@ use Rattle.audit_types.specs.Rows.{AreRows, has_row, rows_that}
 use Rattle.audit_types.specs.Widening.{groups_among, first_rows}
 use Rattle.audit_types.specs.History.{Table, Secrets, AreSecrets, AreProtected, IsProtected, entry_of, setting_of}
 
-whole_lists : (n : ℕ) (lists : List (List ℤ)) → AllByRecursion (λ w. length w ≡ n) lists → map (take n) lists ≡ lists
+-- the lists of the secrets, all rows of each
+pub whole_lists : (n : ℕ) (lists : List (List ℤ)) → AllByRecursion (λ w. length w ≡ n) lists → map (take n) lists ≡ lists
 whole_lists n [] all = refl
 whole_lists n (w ∷ lists) all = ap (λ v. v ∷ map (take n) lists) (take_all n w (omega (arith, all.0))) ∙ ap (λ vs. w ∷ vs) (whole_lists n lists all.1)
 

@@ -3,7 +3,7 @@
 --
 -- The other commands show nothing of a table: `init` and `grow` send no byte (`unsent` of their records in Runs.antt), and `drill` reads
 -- no file (`no_files` of `run`).
-use Rattle.std.specs.Prelude.{◌≡◌, ◌↔◌, ℕ, ◌<◌, ℤ, List}
+use Rattle.std.specs.Prelude.{◌≡◌, ◌↔◌, ℕ, ◌<◌, ℤ, List, map}
 use Rattle.audit_types.specs.declared.records.Answered.{Answered}
 use Rattle.audit_types.specs.Shapes.{columns}
 use Rattle.audit_types.specs.Column.{IsGuarded}
@@ -12,8 +12,8 @@ use Rattle.set_index.specs.Indexed.{IndexView}
 use Rattle.table_load.specs.Database.{Database, AreTwins, table_in}
 use Rattle.line_wire.specs.Lines.{CountedLine}
 use Rattle.question_plan.specs.Session.{Replied}
-use Rattle.audit_session.specs.Lives.{Standing, Run, IsLife, in_force}
-use Rattle.audit_session.specs.Hidden.{HasTwinLife, with_secrets}
+use Rattle.audit_session.specs.Lives.{Standing, Run, IsLife, KeepsPromise, in_force}
+use Rattle.audit_session.specs.Hidden.{HasTwinLife, with_secrets, run_with, standing_with}
 use Rattle.journal_audit.specs.Reports.{SendsMeanwhile, subjects}
 use Rattle.transcript_sim.specs.Verdicts.{AreVerdicts}
 use Rattle.auditor_top.specs.declared.status.Status.{Status}
@@ -42,9 +42,11 @@ pub record AreShownAlike (base other : Database) (history : List Answered) : Typ
   pub verdicts : (lines : List CountedLine) (verdicts : List (Replied Answered)) →
       AreVerdicts base.columns (public_part base) lines verdicts ↔ AreVerdicts other.columns (public_part other) lines verdicts
 
--- other secrets, which differ in this of a column, lead the same life, byte for byte, and wherever it stands the same is shown of them
+-- other secrets, which differ in this of a column, lead the same life, byte for byte, which keeps the promise of them too, so that `audit`
+-- takes its journal; and wherever it stands the same is shown of them
 pub record TellsNothingMore (base : Database) (runs : List Run) (last : Standing) (column : ℕ) (value : List ℤ → ℤ) : Type 0 where
   pub twin : HasTwinLife base runs last column value
+  pub keeps : KeepsPromise (with_secrets twin.lists base) (map (run_with twin.lists) runs) (standing_with twin.lists last)
   pub alike : (at : Standing) → AreShownAlike at.base (with_secrets twin.lists at.base) at.history
 
 -- the same is shown of all tables that differ in their secrets alone, after every history

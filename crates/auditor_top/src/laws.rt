@@ -74,6 +74,7 @@ pub fn nothing_more()
     audit_types::laws::canonical_direction();
     sum_basis::laws::forms_are_unique();
     audit_session::laws::hidden();
+    audit_session::laws::lives();
 }
 
 /// What `init` made, and what a stop of `serve` or of `grow` at any moment left, is never refused: with the files of the table it is

@@ -13,7 +13,7 @@ returns c = λ base runs last database numbers life column value below guarded.
     let good : IsGood last.base = record { database = database; secrets = c.lists_of_secrets.ensures last.base.secret numbers } in
     let begun = fresh_stands one keep stay base in
     let stands = last_stands one keep stay (over_all base []) runs last good begun life in
-    let found = (c.lives.ensures base runs last database numbers life).undisclosed column value below guarded in
+    let found = (c.lives.ensures base runs last database good.secrets life).undisclosed column value below guarded in
     let shape = last.base.secret.shape in
     let more = shape.rows - last.rows in
     let front = take_first last.rows shape.rows stands.within (longer_by more found.twin) ∙ are_first shape last.rows found.twin found.are_secrets in

@@ -5,11 +5,10 @@ use Rattle.audit_session.proofs.GrowingLives.{IsGood, last_stands, all_kept, fre
 use Rattle.audit_session.proofs.laws.lives.Goals as goal
 
 pub returns : goal.returns
-returns c = λ base runs last database numbers life.
+returns c = λ base runs last database are life.
     let one = c.one_reading.ensures in
     let keep = c.answered_lines.ensures in
     let stay = c.growing_tables.ensures.legal in
-    let are = c.lists_of_secrets.ensures last.base.secret numbers in
     let good : IsGood last.base = record { database = database; secrets = are } in
     let begun = fresh_stands one keep stay base in
     let stands = last_stands one keep stay (over_all base []) runs last good begun life in

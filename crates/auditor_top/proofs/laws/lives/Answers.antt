@@ -16,7 +16,8 @@ returns-clause-keep c = λ schema table base runs last files life.
       shape = c.secrets_of_a_table.ensures.shape;
       entries = c.groups_of_a_schema.ensures.fit;
     } in
-    c.lives.ensures base runs last (is_database fit schema table last.base files) (is_secret fit schema table last.base files) life
+    c.lives.ensures base runs last (is_database fit schema table last.base files)
+    (c.lists_of_secrets.ensures last.base.secret (is_secret fit schema table last.base files)) life
 
 pub returns-clause-go_on : goal.returns-clause-go_on
 returns-clause-go_on c = λ schema table image base now runs history files life stands.
@@ -29,11 +30,12 @@ returns-clause-go_on c = λ schema table image base now runs history files life 
     } in
     let numbers = is_secret fit schema table now files in
     let database = is_database fit schema table now files in
-    let whole = whole_table (table_in now) (c.lists_of_secrets.ensures now.secret numbers) database.protected in
+    let are = c.lists_of_secrets.ensures now.secret numbers in
+    let whole = whole_table (table_in now) are database.protected in
     record {
       files = files;
       stands = stands;
-      legal = subst (λ (t : Table). IsLegal t history) whole (c.lives.ensures base runs (over_all now history) database numbers life).legal;
+      legal = subst (λ (t : Table). IsLegal t history) whole (c.lives.ensures base runs (over_all now history) database are life).legal;
     }
 
 pub returns-clause-longer : goal.returns-clause-longer
@@ -50,7 +52,7 @@ returns-clause-longer c = λ schema table base runs at run files life goes.
     let longer = lead_push (over_all base []) runs at run life goes in
     record {
       life = longer;
-      keeps = c.lives.ensures base _ run.left database numbers longer;
+      keeps = c.lives.ensures base _ run.left database (c.lists_of_secrets.ensures run.left.base.secret numbers) longer;
       hides = c.hidden.ensures base _ run.left database numbers longer;
       alike = λ twin others final line a b twins other are. c.two_worlds.ensures.lives base twin _ others run.left final line a b twins longer other are;
     }

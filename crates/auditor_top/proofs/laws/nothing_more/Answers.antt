@@ -1,11 +1,13 @@
-use Rattle.std.proofs.Common.{refl}
-use Rattle.table_load.specs.Database.{table_in}
-use Rattle.audit_session.specs.Hidden.{with_secrets}
+use Rattle.std.proofs.Common.{refl, map, sym, subst, take}
+use Rattle.audit_types.specs.History.{Secrets, AreSecrets}
+use Rattle.table_load.specs.Database.{IsDatabase, table_in}
+use Rattle.audit_session.specs.Hidden.{with_secrets, run_with, standing_with}
 use Rattle.auditor_top.specs.declared.status.Status.TheVariants.{Done}
 use Rattle.auditor_top.specs.Ends.{audit_over}
 use Rattle.auditor_top.proofs.OneReport.{one_report, rows_of_legal}
 use Rattle.auditor_top.proofs.ShownAlike.{twins_alike}
 use Rattle.auditor_top.proofs.SoundFiles.{MeaningsFit, is_database, is_secret}
+use Rattle.auditor_top.proofs.WholeTables.{whole_lists}
 use Rattle.auditor_top.proofs.laws.nothing_more.Goals as goal
 
 pub returns-clause-alike : goal.returns-clause-alike
@@ -25,8 +27,14 @@ returns-clause-lives c = λ schema table base runs last column value files life 
       shape = c.secrets_of_a_table.ensures.shape;
       entries = c.groups_of_a_schema.ensures.fit;
     } in
-    let twin = c.hidden.ensures base runs last (is_database fit schema table last.base files) (is_secret fit schema table last.base files) life column value below guarded in
+    let database = is_database fit schema table last.base files in
+    let twin = c.hidden.ensures base runs last database (is_secret fit schema table last.base files) life column value below guarded in
+    let shape = last.base.secret.shape in
+    let there : IsDatabase (with_secrets twin.lists last.base) = record { schema = database.schema; shape = database.shape; protected = database.protected } in
+    let are : AreSecrets shape (map (take shape.rows) twin.lists) =
+    subst (λ (lists : Secrets). AreSecrets shape lists) (sym (whole_lists shape.rows twin.lists twin.are_secrets.numbers)) twin.are_secrets in
     record {
       twin = twin;
+      keeps = c.lives.ensures (with_secrets twin.lists base) (map (run_with twin.lists) runs) (standing_with twin.lists last) there are twin.life;
       alike = λ at. twins_alike at.base (with_secrets twin.lists at.base) at.history (refl, refl);
     }
