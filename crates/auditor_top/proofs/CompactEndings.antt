@@ -42,7 +42,7 @@ compact_file (Err compact.Spare) file table legal = legal
 compact_file (Err compact.Bench) file table legal = tt
 compact_file (Err compact.NoMemory) file table legal = tt
 
--- it is refused where a journal is made on the spare, and done where none is
+-- it is refused if a journal is made on the spare, and done if none is
 pub compact_spare : {X : Type 0} (ended : Result X CompactFault) (file : List ℕ) → (IsErrOf ended compact.AlreadyThere → IsMade file) →
     (IsMade file → IsErr ended) → SpareCause (compacting_status ended) file
 compact_spare (Ok done) file already refused = λ made. absurd (false≢true (refused made))
@@ -112,7 +112,7 @@ compact_ends (Err compact.Spare) shape history spare before after all part unsen
 compact_ends (Err compact.Bench) shape history spare before after all part unsent = inr (part refl)
 compact_ends (Err compact.NoMemory) shape history spare before after all part unsent = unsent (λ is. cc)
 
--- where no journal is made there and nothing failed, it is done, or there was no memory
+-- if no journal is made there and nothing failed, it is done, or there was no memory
 pub compact_wants : {X : Type 0} (ended : Result X CompactFault) (before after : FaultCounts) → (IsErrOf ended compact.AlreadyThere → ⊥) →
     FaultCause (compacting_status ended) before after → NothingFailed before after → (Rose before.spare after.spare → ⊥) →
     IsDoneOrWants (compacting_status ended)
@@ -130,7 +130,7 @@ compact_at_lines P (Err compact.Spare) unsent = unsent (λ is. cc)
 compact_at_lines P (Err compact.Bench) unsent = tt
 compact_at_lines P (Err compact.NoMemory) unsent = tt
 
--- what holds where it is done
+-- what holds if it is done
 pub compact_done : {X P : Type 0} (ended : Result X CompactFault) → compacting_status ended ≡ Done → OnOk ended P → P
 compact_done (Ok done) is holds = holds
 compact_done (Err compact.AlreadyThere) is holds = cc

@@ -1,4 +1,4 @@
--- What a refusal says where the groups of the schema weren't made ready, and which steps a command takes.
+-- What a refusal says if the groups of the schema weren't made ready, and which steps a command takes.
 use Rattle.std.proofs.Common.{◌≡◌, ℕ, Bool, true, false, List, Some, Result, Ok, IsOk, refl, sym, ◌∙◌, ap, subst}
 use Rattle.std.proofs.lemmas.Bool.{true≢false}
 use Rattle.audit_types.specs.History.{Table as Guarded}
@@ -36,7 +36,7 @@ lacks step is none taken = absurd (true≢false (sym taken ∙ ap step is ∙ no
 pub no_step : {Y : Type 0} (step : Command → Bool) {asked own : Command} → asked ≡ own → step own ≡ true → step asked ≡ false → Y
 no_step step is taken none = absurd (true≢false (sym taken ∙ sym (ap step is) ∙ none))
 
--- a run may end so where the groups are made ready
+-- a run may end so when the groups are made ready
 abbrev EndsGroups : Status → Type 0
 EndsGroups (BadGroup place) = Unit {0}
 EndsGroups NoMemory = Unit {0}
@@ -75,7 +75,7 @@ group_refusal index.NoMemory = record {
   same = λ before. refl;
 }
 
--- the first bad group is told, and none is where none has a fault
+-- the first bad group is reported, and none is if none has a fault
 group_cause : (fault : IndexFault) (columns : List Column) (groups : List Group) →
     ((place : ℕ) → fault ≡ index.BadGroup place → IsFirstBad columns groups place) → GroupCause (index_status fault) columns groups
 group_cause (index.BadGroup place) columns groups bad = bad place refl

@@ -1,4 +1,4 @@
--- Words name one command.
+-- Arguments name one command.
 use Rattle.std.proofs.Common.{◌≡◌, ℕ, Bool, true, false, Option, Some, None, Result, Err, nat_eq, refl, sym, ◌∙◌, ap, subst}
 use Rattle.std.proofs.lemmas.Bool.{true≢false}
 use Rattle.auditor_top.specs.declared.words.Command.{Command}
@@ -44,7 +44,7 @@ same_place a b is = subst (λ (k : Command). nat_eq (place_of a) (place_of k) �
     to_itself Grow = refl
     to_itself Compact = refl
 
--- words that name one command name no other
+-- arguments that name one command name no other
 pub not_asked : {Y : Type 0} (asked : Option Command) (one another : Command) → asked ≡ Some one → asked ≡ Some another →
     nat_eq (place_of one) (place_of another) ≡ false → Y
 not_asked asked one another is also apart = absurd (true≢false (sym (same_place one another (one_command asked one another is also)) ∙ apart))
@@ -57,7 +57,7 @@ pub asked_for : (words : Option Command) (asked : Command) (ready other : Ready)
     words ≡ Some (command_for other)
 asked_for words asked ready other named is own = named ∙ ap (λ (k : Command). Some k) (same_command asked ready other is own)
 
--- words that name no command name none
+-- arguments that name no command name none
 pub none_asked : {Y : Type 0} (asked : Option Command) (command : Command) → asked ≡ None → asked ≡ Some command → Y
 none_asked asked command none is = cc
 

@@ -1,4 +1,4 @@
--- What `clap` reads of the words is the command that they are.
+-- What `clap` reads of the arguments is the command that they are.
 use Rattle.std.proofs.Common.{◌≡◌, ◌⊎◌, ℕ, true, false, List, [], ◌∷◌, Option, Some, None, option_and_then, Result, Ok, Err, IfOk, refl, sym, ap, subst, codes, ◌∙◌, inl, inr}
 use Rattle.std.specs.Result.{result_ok}
 use Rattle.clap.specs.Words.{App, Rule, AddsArg, app_of, rule_of, with_rule, Kinds, HasMatchesOf, HasKind, IsAmong, kind_of, is_simple, is_simple_and_free, fault_of, matches_of, found_of, rows_of, first_of, first_value}
@@ -26,7 +26,7 @@ pub one_more : (old new : clap.Command) (argument : Arg) (app : App) (rule : Rul
 one_more old new argument app rule adds local was is =
     adds.shape local ∙ ap (λ (line : App). with_rule line (rule_of argument)) was ∙ ap (λ (r : Rule). with_rule app r) is
 
--- the same, where memory may run out
+-- the same, if memory may run out
 pub last_added : (old : clap.Command) (argument : Arg) (r : Result clap.Command AllocError) (app : App) (rule : Rule) → IfOk r (λ new. AddsArg old argument new)
     → argument.global ≡ false → app_of old ≡ app → rule_of argument ≡ rule → IfOk r (λ new. app_of new ≡ with_rule app rule)
 last_added old argument (Ok new) app rule adds local was is = one_more old new argument app rule adds local was is
@@ -70,7 +70,7 @@ parsed_is line words m is has free =
     let no_fault = sym (ap (λ (a : App). fault_of a words) is) ∙ free (ap is_simple_and_free is ∙ is_free) in
     ap (λ (kinds : Kinds). unless_refused kinds (command_in (matches_of auditor words))) no_fault ∙ sym (ap command_in rows)
 
--- where a kind of error is due, there is no command
+-- if a kind of error is due, there is no command
 refused_is : (kind : ErrorKind) (kinds : Kinds) (command : Option Command) → IsAmong kind kinds → unless_refused kinds command ≡ None
 refused_is kind [] command among = absurd among
 refused_is kind (k ∷ ks) command among = refl
@@ -94,12 +94,12 @@ failed_is line words e is free bad =
 pub same_fault : {T : Type 0} (r : Result T WordFault) (fault : WordFault) → r ≡ Err fault → r ≡ Err Bad → fault ≡ Bad
 same_fault r fault is bad = cc
 
--- a command is answered where the words are one
+-- a command is answered if the arguments are one
 pub command_given : (command asked : Option Command) (r : Result Command WordFault) → command ≡ result_ok r → asked ≡ command →
     IfOk r (λ named. asked ≡ Some named)
 command_given command asked (Ok named) part is = is ∙ part
 command_given command asked (Err fault) part is = tt
 
--- and a fault where they are none
+-- and a fault if they aren't
 pub none_given : (command asked : Option Command) (r : Result Command WordFault) → command ≡ result_ok r → asked ≡ command → r ≡ Err Bad → asked ≡ None
 none_given command asked r part is bad = is ∙ part ∙ ap result_ok bad

@@ -128,7 +128,7 @@ by_digit x xs =
     each_digit (λ (k : ℕ). command_of (codes "serve" ∷ codes "--batch" ∷ (k ∷ xs) ∷ []) ≡ serve_with (number_of (k ∷ xs)))
     (at_48 xs) (at_49 xs) (at_50 xs) (at_51 xs) (at_52 xs) (at_53 xs) (at_54 xs) (at_55 xs) (at_56 xs) (at_57 xs) x
 
--- where a number is chosen, it is by the test
+-- if a number is chosen, it is by the test
 some_if : (b : Bool) (x y : ℕ) → cond b (Some x) None ≡ Some y → b ≡ true
 some_if true x y is = refl
 some_if false x y is = cc

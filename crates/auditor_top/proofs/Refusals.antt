@@ -82,7 +82,7 @@ module _ {P I B : Type 0} (files : source.Ghosts P) (lines : source.Ghosts I) (b
   abbrev new : Objects P I B
   new = objects later_schema later_table input later spare
 
-  -- where nothing failed there was no memory
+  -- if nothing failed there was no memory
   wants : GivesUp status → NothingFailed (faults_of files lines bench old) (faults_of files lines bench new) → IsDoneOrWants status
   wants gave_up none =
       by_giving_up (λ (s : Status). FaultCause s (faults_of files lines bench old) (faults_of files lines bench new) → IsDoneOrWants s) status gave_up

@@ -1,4 +1,4 @@
--- The command of some words.
+-- The command of some arguments.
 use Rattle.std.proofs.Common.{◌≡◌, [], ◌∷◌, Some, None, refl, codes}
 use Rattle.clap.proofs.OnLiterals.{clap_on_literals}
 use Rattle.auditor_top.specs.declared.words.Command.TheVariants.{Serve, Drill}

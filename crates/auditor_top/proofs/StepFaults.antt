@@ -36,13 +36,13 @@ moved status before schema later_schema table later_table input bench spare is a
     subst (λ (s : ℕ). FaultCause status before (counts s later_table input bench spare)) (sym is)
     (subst (λ (t : ℕ). FaultCause status before (counts schema t input bench spare)) (sym also) cause)
 
--- a file that isn't there already is no made journal
+-- a file that isn't there already isn't a made journal
 pub not_made : (file : List ℕ) → (IsAlready file → ⊥) → IsMade file → ⊥
 not_made file absent made = grind arith
 
 -- ---- making a journal
 
--- the count of the bench rose where a call of it failed, and no other count changed
+-- the count of the bench rose if a call of it failed, and no other count changed
 pub making_faults : (making : Result (Unit {0}) MakeFault) (before : FaultCounts) (bench : ℕ) → (IsErrOf making make.Failed → Rose before.bench bench)
     → ((IsErrOf making make.Failed → ⊥) → bench ≡ before.bench)
     → FaultCause (making_status making) before (record before { bench = bench })
@@ -57,27 +57,27 @@ making_cause (Ok done) file table refused already = λ there. absurd (false≢tr
 making_cause (Err make.AlreadyThere) file table refused already = already refl
 making_cause (Err make.Failed) file table refused already = tt
 
--- where nothing was there and the bench didn't fail, it is done
+-- if nothing was there and the bench didn't fail, it is done
 pub making_wants : (making : Result (Unit {0}) MakeFault) (before after : FaultCounts) → (IsErrOf making make.AlreadyThere → ⊥)
     → FaultCause (making_status making) before after → NothingFailed before after → IsDoneOrWants (making_status making)
 making_wants (Ok done) before after absent rose none = inl refl
 making_wants (Err make.AlreadyThere) before after absent rose none = absurd (absent refl)
 making_wants (Err make.Failed) before after absent rose none = absurd (none.bench rose.0)
 
--- where the bench didn't fail, a journal was made, or one or another file was there
+-- if the bench didn't fail, a journal was made, or one or another file was there
 pub made_or_there : {P : Type 0} (making : Result (Unit {0}) MakeFault) → making_status making ≢ BenchFault → OnOk making P →
     (IsErrOf making make.AlreadyThere → P) → P
 made_or_there (Ok done) fine made there = made
 made_or_there (Err make.AlreadyThere) fine made there = there refl
 made_or_there (Err make.Failed) fine made there = absurd (fine refl)
 
--- where the bench didn't fail and it isn't done, one or another file was there
+-- if the bench didn't fail and it isn't done, one or another file was there
 pub there_is : (making : Result (Unit {0}) MakeFault) → making_status making ≢ Done → making_status making ≢ BenchFault → IsErrOf making make.AlreadyThere
 there_is (Ok done) undone fine = absurd (undone refl)
 there_is (Err make.AlreadyThere) undone fine = refl
 there_is (Err make.Failed) undone fine = absurd (fine refl)
 
--- it is told where the bench failed
+-- it is reported if the bench failed
 pub making_failed : (making : Result (Unit {0}) MakeFault) → making_status making ≡ BenchFault → IsErrOf making make.Failed
 making_failed (Ok done) is = cc
 making_failed (Err make.AlreadyThere) is = cc
@@ -133,7 +133,7 @@ session_reads (Err end.Bench) before after read within failed limit = tt
 session_reads (Err end.Limit) before after read within failed limit = limit refl
 session_reads (Err end.NoMemory) before after read within failed limit = tt
 
--- where the input is within its limit and nothing failed, it is done, or there was no memory
+-- if the input is within its limit and nothing failed, it is done, or there was no memory
 pub session_wants : {X : Type 0} (ended : Result X EndFault) (before after : FaultCounts) (input left : List ℕ) → FaultCause (session_status ended) before after
     → NothingFailed before after → InputCause (session_status ended) input left
     → length input ≤ most_input → IsDoneOrWants (session_status ended)

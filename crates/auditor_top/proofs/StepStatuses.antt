@@ -45,11 +45,11 @@ so_then false follows holds = tt
 pub before_so : {P Q : Type 0} (stage : Stage) (status : Status) → (P → Q) → Before stage status P → Before stage status Q
 before_so stage status follows holds = so_then (is_short_of stage (reached status)) follows holds
 
--- no count of faults fell where they are as they were
+-- no count of faults fell if they are as they were
 pub never_fall : (before : FaultCounts) → NeverFall before before
 never_fall before = record { schema = omega arith; table = omega arith; input = omega arith; bench = omega arith; spare = omega arith }
 
--- nor where the bench's alone rose
+-- nor if the bench's alone rose
 pub bench_rose : (schema table input bench later spare : ℕ) → bench ≤ later →
     NeverFall (counts schema table input bench spare) (counts schema table input later spare)
 bench_rose schema table input bench later spare rose =
@@ -57,7 +57,7 @@ bench_rose schema table input bench later spare rose =
 
 -- ---- no command was taken
 
--- a status that is no fault of a step
+-- a status that isn't a fault of a step
 pub record IsNoStep (status : Status) : Type 0 where
   pub own_schema : status ≢ BadSchema schema_fault.NoMemory
   pub own_table : status ≢ BadTable table_fault.NoMemory
@@ -92,7 +92,7 @@ no_memory_says = record {
   undone = λ is. cc;
 }
 
--- no source failed where the run is done, where the bench failed and where memory was wanting
+-- no source failed if the run is done, if the bench failed and if memory ran out
 pub done_no_source : (which : Which) → Done ≢ SourceFault which
 done_no_source which is = cc
 
@@ -251,7 +251,7 @@ simulation_last (Err verdict.Limit) = tt
 simulation_last (Err (verdict.Disagrees line due)) = tt
 simulation_last (Err verdict.NoMemory) = tt
 
--- ---- the words
+-- ---- the arguments
 
 -- a status of a command is one of its stages'
 pub making_words : {X : Type 0} (ended : Result X MakeFault) → WordCause (making_status ended) (Some Init)
@@ -330,13 +330,13 @@ simulation_input (Err verdict.Limit) is = cc
 simulation_input (Err (verdict.Disagrees line due)) is = cc
 simulation_input (Err verdict.NoMemory) is = cc
 
--- before the lines a making ends only where a journal or another file was there
+-- before the lines a making ends only if a journal or another file was there
 pub making_at_lines : {X P : Type 0} (ended : Result X MakeFault) → (IsErrOf ended make.AlreadyThere → P) → Before reading_lines (making_status ended) P
 making_at_lines (Ok done) there = tt
 making_at_lines (Err make.AlreadyThere) there = there refl
 making_at_lines (Err make.Failed) there = tt
 
--- a journal is made in no memory that could be wanting
+-- a journal is made without memory that could run out
 pub making_wants_no_memory : {X : Type 0} (ended : Result X MakeFault) → making_status ended ≢ NoMemory
 making_wants_no_memory (Ok done) is = cc
 making_wants_no_memory (Err make.AlreadyThere) is = cc

@@ -1,4 +1,4 @@
--- What a refusal says where the journal wasn't opened, or there was no memory to open it.
+-- What a refusal says if the journal wasn't opened, or there was no memory to open it.
 use Rattle.std.proofs.Common.{rules, ◌≡◌, ℕ, Bool, true, List, Some, Result, Ok, Err, IsOk, IsErrOf, refl, sym, ap, subst}
 use Rattle.std.proofs.lemmas.Bool.{false≢true}
 use Rattle.audit_types.specs.declared.records.Answered.{Answered}
@@ -42,7 +42,7 @@ use Rattle.auditor_top.proofs.GroupRefusals.{groups_refused, group_gives_up}
 use Rattle.auditor_top.proofs.OneTable.{same_ok, one_base, schema_is_ok, table_is_ok, groups_are_sound}
 use Rattle.auditor_top.proofs.StepFaults.{moved, same_counts}
 
--- a run may end so where its journal is opened
+-- a run may end so when its journal is opened
 abbrev EndsOpening : Status → Type 0
 EndsOpening NotMade = Unit {0}
 EndsOpening (Damaged at) = Unit {0}

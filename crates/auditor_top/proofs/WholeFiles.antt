@@ -91,7 +91,7 @@ wants_not_bad f is = cc
 pub wants_not_failed : {X F : Type 0} → ◌≢◌ {A = Result X (FileFault F)} (Err file.NoMemory) (Err file.Failed)
 wants_not_failed is = cc
 
--- what was read before a read that failed is no more than may be
+-- what was read before a read that failed isn't more than may be
 pub read_within : (most : ℕ) (before bytes now after : List ℕ) → before ≡ bytes ++ now → after ≡ now → length bytes ≤ most → length before ≤ most + length after
 read_within most before bytes now after is same few = omega (
   arith,

@@ -36,7 +36,7 @@ pub record GoesOn (base : Database) (runs : List Run) (run : Run) : Type 0 where
   pub hides : IsHidden base (runs ++ run ∷ []) run.left
   pub alike : DecidesAlike (runs ++ run ∷ []) run.left
 
--- what `init` made over the files of a table is taken by `serve` and by `audit`, where no group has a fault
+-- what `init` made over the files of a table is taken by `serve` and by `audit`, if no group has a fault
 abbrev pub MadeIsTaken : Type 0
 MadeIsTaken = (schema table image : List ℕ) (base : Database) → AreSoundFilesOf schema table base → stands_over base image [] → ServesOver schema table image base []
 
@@ -57,7 +57,7 @@ GrowthsAreTaken =
 abbrev pub LivesKeepPromise : Type 0
 LivesKeepPromise = (schema table : List ℕ) (base : Database) (runs : List Run) (last : Standing) → AreSoundFilesOf schema table last.base → IsLife base runs last → KeepsPromise base runs last
 
--- where all rows of the last table are in force, the next run of `serve` is given what it has to be given, whatever image the last
+-- if all rows of the last table are in force, the next run of `serve` is given what it has to be given, whatever image the last
 -- run left
 abbrev pub LivesGoOn : Type 0
 LivesGoOn =

@@ -106,7 +106,7 @@ GivesUp BenchFault = Unit {0}
 GivesUp NoMemory = Unit {0}
 GivesUp status = ⊥
 
--- what is said of a refusal: of the words, the files and the journal, and of the call that failed, the last one
+-- what is said of a refusal: of the arguments, the files and the journal, and of the call that failed, the last one
 pub record Refuses {P B : Type 0} (files : source.Ghosts P) (bench : Ghosts B) (asked : Command) (status : Status) (old_schema new_schema old_table new_table : P)
     (old new : B) : Type 0 where
   pub words : WordCause status (Some asked)
@@ -124,7 +124,7 @@ pub record Refuses {P B : Type 0} (files : source.Ghosts P) (bench : Ghosts B) (
   pub schema_within : files.told → status ≡ SourceFault Schema → length (files.left old_schema) ≤ most_schema + length (files.left new_schema)
   pub table_within : files.told → status ≡ SourceFault Table → length (files.left old_table) ≤ most_table + length (files.left new_table)
   pub early : EndsEarly status
-  -- where what is given has no fault, a call failed or memory ran out
+  -- if what is given has no fault, a call failed or memory ran out
   pub gives_up : files.told → (opens_store asked ≡ true → bench.told) → IsGiven asked (files.left old_schema) (files.left old_table) (bench.file old) →
       GivesUp status
   pub faults : (input spare : ℕ) → FaultCause status (counts (files.faults old_schema) (files.faults old_table) input (bench.faults old) spare)

@@ -66,7 +66,7 @@ pub record Serving {P I B : Type 0} (files : source.Ghosts P) (lines : source.Gh
   pub serve_calls : files.told → lines.told → bench.told → status ≡ Done → (base : Database) (history : List Answered) →
       ServesOver (files.left old.schema) (files.left old.table) (bench.file old.bench) base history →
       TakesCalls base history batch (counted_lines (lines.left old.input)) (bench.moment old.bench + 2) (bench.moment new.bench)
-  -- where nothing is wrong and nothing fails, it is done
+  -- if nothing is wrong and nothing fails, it is done
   pub complete : files.told → lines.told → bench.told → (base : Database) (history : List Answered) →
       ServesOver (files.left old.schema) (files.left old.table) (bench.file old.bench) base history →
       length (lines.left old.input) ≤ most_input → NothingFailed (faults_of files lines bench old) (faults_of files lines bench new) → IsDoneOrWants status
@@ -84,7 +84,7 @@ pub record Auditing {P I B : Type 0} (files : source.Ghosts P) (lines : source.G
   -- it took two calls of the bench to open the journal, and one for each line of the report
   pub audit_calls : files.told → bench.told → status ≡ Done → (base : Database) → AreFilesOf (files.left old.schema) (files.left old.table) base →
       bench.moment new.bench ≡ bench.moment old.bench + 2 + length (subjects base.secret.shape)
-  -- where nothing is wrong and nothing fails, it is done
+  -- if nothing is wrong and nothing fails, it is done
   pub audits : files.told → bench.told → (base : Database) (history : List Answered) →
       ServesOver (files.left old.schema) (files.left old.table) (bench.file old.bench) base history →
       NothingFailed (faults_of files lines bench old) (faults_of files lines bench new) → IsDoneOrWants status
@@ -107,7 +107,7 @@ pub record Simulating {P I B : Type 0} (files : source.Ghosts P) (lines : source
   -- it took one call of the bench for each question
   pub simulate_calls : lines.told → bench.told → status ≡ Done →
       bench.moment new.bench ≡ bench.moment old.bench + length (exchanges (counted_lines (lines.left old.input)))
-  -- where nothing is wrong, all replies agree and nothing fails, it is done
+  -- if nothing is wrong, all replies agree and nothing fails, it is done
   pub simulates : files.told → lines.told → (columns : List Column) (index : IndexView) →
       ArePublicFilesOf (files.left old.schema) (files.left old.table) columns index → (verdicts : List (Replied Answered)) →
       AreVerdicts columns index (counted_lines (lines.left old.input)) verdicts → length (lines.left old.input) ≤ most_input →
@@ -129,7 +129,7 @@ pub record Making {P I B : Type 0} (files : source.Ghosts P) (lines : source.Gho
   pub unmade : status ≡ NoMemory → new.bench ≡ old.bench
   -- it took seven calls of the bench, or six over a file of 21 bytes
   pub init_calls : bench.told → status ≡ Done → bench.moment new.bench ≡ bench.moment old.bench + calls_to_make (bench.file old.bench)
-  -- where nothing is wrong and nothing fails, it is done
+  -- if nothing is wrong and nothing fails, it is done
   pub makes : files.told → bench.told → (base : Database) → AreFilesOf (files.left old.schema) (files.left old.table) base →
       ¬ (IsAlready (bench.file old.bench)) → NothingFailed (faults_of files lines bench old) (faults_of files lines bench new) → IsDoneOrWants status
 
@@ -138,11 +138,11 @@ pub record Drilling {P I B : Type 0} (files : source.Ghosts P) (lines : source.G
     (old new : Objects P I B) : Type 0 where
   -- it sends the summary of the replies that are due to the drill's lines, or a front of it
   pub drilled : bench.told → DrillEnds status number (bench.sent old.bench) (bench.sent new.bench)
-  -- that is one call of the bench, at most one where it failed, and where memory is wanting there is none
+  -- that is one call of the bench, at most one if it failed, and none if memory ran out
   pub drill_calls : bench.told → status ≡ Done → bench.moment new.bench ≡ bench.moment old.bench + 1
   pub drill_call : bench.moment new.bench ≤ bench.moment old.bench + 1
   pub undrilled : status ≡ NoMemory → new.bench ≡ old.bench
-  -- where nothing fails, it is done
+  -- if nothing fails, it is done
   pub drills : NothingFailed (faults_of files lines bench old) (faults_of files lines bench new) → IsDoneOrWants status
 
 -- a run of `grow`
@@ -155,12 +155,12 @@ pub record Growing {P I B : Type 0} (files : source.Ghosts P) (lines : source.Gh
   pub growing : files.told → bench.told → IsQuiet bench old.bench → (base : Database) (rows : ℕ) (history : List Answered) →
       GrowsOver (files.left old.schema) (files.left old.table) (bench.file old.bench) base rows history →
       LeavesOnly bench old.bench new.bench (IsBeforeOrGrown (over rows base.secret.shape) history base.secret.shape.rows (bench.sent old.bench))
-  -- nothing is sent, and the file is written only where it is done, or where the bench failed
+  -- nothing is sent, and the file is written only if it is done, or if the bench failed
   pub unsent : bench.sent new.bench ≡ bench.sent old.bench
   pub kept : status ≢ Done → status ≢ BenchFault → bench.file new.bench ≡ bench.file old.bench
   -- it took two calls of the bench to open the journal, and four for the growth
   pub grow_calls : bench.told → status ≡ Done → bench.moment new.bench ≡ bench.moment old.bench + 6
-  -- where nothing is wrong and nothing fails, it is done
+  -- if nothing is wrong and nothing fails, it is done
   pub grows : files.told → bench.told → (base : Database) (rows : ℕ) (history : List Answered) →
       GrowsOver (files.left old.schema) (files.left old.table) (bench.file old.bench) base rows history →
       NothingFailed (faults_of files lines bench old) (faults_of files lines bench new) → IsDoneOrWants status
@@ -193,7 +193,7 @@ pub record Compacting {P I B : Type 0} (files : source.Ghosts P) (lines : source
       LeavesOnly bench old.spare new.spare (IsUntouched (bench.file old.spare) (bench.sent old.spare))
   pub unsent : bench.told → IsMade (bench.file old.spare) → IsQuiet bench old.bench →
       LeavesOnly bench old.bench new.bench (IsUntouched (bench.file old.bench) (bench.sent old.bench))
-  -- over any other files or journal the spare isn't called and nothing is sent, and where memory ran out it isn't called either
+  -- over any other files or journal the spare isn't called and nothing is sent, and if memory ran out it isn't called either
   pub uncalled : files.told → bench.told → ((base : Database) (history : List Answered) →
       ServesOver (files.left old.schema) (files.left old.table) (bench.file old.bench) base history → ⊥) →
       (new.spare ≡ old.spare) × (bench.sent new.bench ≡ bench.sent old.bench)
@@ -201,7 +201,7 @@ pub record Compacting {P I B : Type 0} (files : source.Ghosts P) (lines : source
   -- it took two calls of the bench to open the journal, and one to send the line; and of the spare those that make a journal
   pub compact_calls : bench.told → status ≡ Done → bench.moment new.bench ≡ bench.moment old.bench + 3
   pub spare_calls : bench.told → status ≡ Done → bench.moment new.spare ≡ bench.moment old.spare + calls_to_make (bench.file old.spare)
-  -- where nothing is wrong and nothing fails, it is done
+  -- if nothing is wrong and nothing fails, it is done
   pub compacts : files.told → bench.told → (IsMade (bench.file old.spare) → ⊥) → (base : Database) (history : List Answered) →
       ServesOver (files.left old.schema) (files.left old.table) (bench.file old.bench) base history →
       NothingFailed (faults_of files lines bench old) (faults_of files lines bench new) →

@@ -53,7 +53,7 @@ pub record TellsNothingMore (base : Database) (runs : List Run) (last : Standing
 abbrev pub TwinsAreShownAlike : Type 0
 TwinsAreShownAlike = (base other : Database) (history : List Answered) → AreTwins base other → AreShownAlike base other history
 
--- and where `audit` is done over two of them, after one legal history, it sent the very same bytes
+-- and if `audit` is done over two of them, after one legal history, it sent the very same bytes
 abbrev pub TwinsHaveOneReport : Type 0
 TwinsHaveOneReport =
     (base other : Database) (history : List Answered) (before after sent : List ℕ) → AreTwins base other → IsLegal (table_in base) history →

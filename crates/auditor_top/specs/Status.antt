@@ -61,7 +61,7 @@ at_line line = codes " at line " ++ decimal line
 abbrev pub at_cell : ℕ → ℕ → List ℕ
 at_cell line column = codes " at line " ++ decimal line ++ codes " column " ++ decimal column
 
--- where a fault is, where it has a place
+-- where a fault is, if it has a place
 abbrev pub place_text : TableFault → List ℕ
 place_text fault.TooLong = codes ""
 place_text fault.Header = codes ""
@@ -73,7 +73,7 @@ place_text fault.TooManyRows = codes ""
 place_text fault.NoRows = codes ""
 place_text fault.NoMemory = codes ""
 
--- the words of a status that tells no number, none where it is done or tells one
+-- the words of a status that tells no number, none if it is done or tells one
 abbrev pub words_of : Status → List ℕ
 words_of Done = codes ""
 words_of BadWords = codes "usage: auditor init, serve [--batch N], audit, simulate, drill N, grow, compact"

@@ -83,7 +83,7 @@ pub fn compact<B: Bench>(
         → CompactsFront store.now.secret.shape store.now.history (B.file spare.new) (B.sent bench.old) (B.sent bench.new) }
     ensures unsent { OnErr result (result ≢ Err CompactFault.Bench → bench.new ≡ bench.old) }
 
-    // It is refused exactly where a journal is made on the spare, which stays as it was.
+    // It is refused exactly if a journal is made on the spare, which stays as it was.
     ensures already { B.told → IsErrOf result CompactFault.AlreadyThere → IsMade (B.file spare.old) }
     ensures refused { B.told → IsMade (B.file spare.old) → IsErr result × (bench.new ≡ bench.old) × (B.file spare.new ≡ B.file spare.old) }
     ensures untouched { B.told → IsMade (B.file spare.old) → IsQuiet B.Bench spare.old → LeavesOnly B.Bench spare.old spare.new (IsUntouched (B.file spare.old) (B.sent spare.old)) }
@@ -98,7 +98,7 @@ pub fn compact<B: Bench>(
     ensures quiet { B.told → OnOk result (IsQuiet B.Bench spare.new) }
     ensures spare_sent { B.sent spare.new ≡ B.sent spare.old }
 
-    // One send, and the calls of the spare that make a journal. One that failed is told.
+    // One send, and the calls of the spare that make a journal. One that failed is reported.
     ensures ticks { B.told → OnOk result (B.moment bench.new ≡ B.moment bench.old + 1) }
     ensures spare_ticks { B.told → OnOk result (B.moment spare.new ≡ B.moment spare.old + calls_to_make (B.file spare.old)) }
     ensures no_memory { IsErrOf result CompactFault.NoMemory → spare.new ≡ spare.old }

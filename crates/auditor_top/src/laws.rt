@@ -45,7 +45,7 @@ pub fn compactions()
 
 /// In every life over growing tables the last history is legal for the rows in force, discloses nothing of them that is guarded, and
 /// keeps all that was sent. A run makes the life one run longer, which hides what is guarded, and is decided as over all tables that
-/// differ in their secrets alone; where all rows are in force, the next run of `serve` is given what it has to be given.
+/// differ in their secrets alone; if all rows are in force, the next run of `serve` is given what it has to be given.
 pub fn lives()
     ensures keep { LivesKeepPromise }
     ensures go_on { LivesGoOn }

@@ -35,7 +35,7 @@ use std::alloc::Global;
 use table_load::TableFault;
 use transcript_sim::laws::one_verdict;
 
-/// Does all that the program does: reads the words after the program's name, and takes the steps of their command over the
+/// Does all that the program does: reads the arguments after the program's name, and takes the steps of their command over the
 /// schema, the table, the lines of the input, and the bench, which keeps the journal and takes what is sent. `spare` is the place
 /// of a second journal.
 pub fn run<P: Source, I: Source, B: Bench>(
@@ -64,7 +64,7 @@ pub fn run<P: Source, I: Source, B: Bench>(
     ensures spare_file { B.told → (command : Command) → NamesCommand words.now.items command → calls_spare command ≡ true → SpareCause result (B.file spare.old) }
     ensures input { I.told → (command : Command) → NamesCommand words.now.items command → reads_lines command ≡ true → InputCause result (I.left input.old) (I.left input.new) }
 
-    // A failed call is told when it happens: it is the only call that failed, and the last one that was made, of the object
+    // A failed call is reported when it happens: it is the only call that failed, and the last one that was made, of the object
     // that the status says has failed, and of no other did one fail. A file whose read failed had not been read past what it
     // may have.
     ensures faults { FaultCause result
@@ -90,8 +90,8 @@ pub fn run<P: Source, I: Source, B: Bench>(
         → StandsFor image (in_force left).setting.shape left.history
         → GoesOn first runs (record { deed = deed_of command (I.left input.old); left = left; sent = sent }) }
 
-    // What a run of each command does, by its status: the words, how it ends, what is found at every moment, its calls of the
-    // bench, and that it is done where nothing is wrong and nothing fails.
+    // What a run of each command does, by its status: the arguments, how it ends, what is found at every moment, its calls of the
+    // bench, and that it is done if nothing is wrong and nothing fails.
     ensures init { NamesCommand words.now.items Init → Making P.Source I.Source B.Bench result
         (objects schema.old table.old input.old bench.old spare.old) (objects schema.new table.new input.new bench.new spare.new) }
     ensures serve { (batch : ℕ) → NamesCommand words.now.items (Serve batch) → Serving P.Source I.Source B.Bench batch result
@@ -112,7 +112,7 @@ pub fn run<P: Source, I: Source, B: Bench>(
         → ((base : Database) → AreSoundFilesOf (P.left schema.old) (P.left table.old) base → IsReadyFor command (B.file bench.old) (table_in base) → ⊥)
         → LeavesOnly B.Bench bench.old bench.new (IsUntouched (B.file bench.old) (B.sent bench.old)) }
 
-    // Where it ends without a failed call, a crash leaves the file that reads.
+    // If it ends without a failed call, a crash leaves the file that reads.
     ensures quiet { B.told → IsQuiet B.Bench bench.old → result ≢ Status.BenchFault → IsQuiet B.Bench bench.new }
 
     // What it doesn't come to, it doesn't call, and before the lines nothing is written or sent. A step that isn't one of the

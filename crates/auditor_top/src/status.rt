@@ -31,11 +31,11 @@ pub enum Which {
 pub enum Status {
     /// Each step of the command was taken to its end. Of `serve` that is: the input was read, and each line has its reply.
     Done,
-    /// The words are no command.
+    /// The arguments aren't a command.
     BadWords,
-    /// The schema's bytes have this fault. It is never want of memory.
+    /// The schema's bytes have this fault. It is never that memory ran out.
     BadSchema(SchemaFault),
-    /// The table's bytes have this fault. It is never want of memory.
+    /// The table's bytes have this fault. It is never that memory ran out.
     BadTable(TableFault),
     /// A source failed.
     SourceFault(Which),
@@ -45,7 +45,7 @@ pub enum Status {
     NotMade,
     /// There is a journal or another file where one was to be made.
     AlreadyThere,
-    /// The first byte that breaks the journal's grammar, or the file's length where it ends too early.
+    /// The first byte that breaks the journal's grammar, or the file's length if it ends too early.
     Damaged { at: u64 },
     /// The journal is that of a table of another shape.
     OtherShape { kept: Shape, now: Shape },
@@ -232,7 +232,7 @@ impl From<SimulationFault> for Status {
     }
 }
 
-// Where a fault of the table is, as it is told after the fault's number.
+// Where a fault of the table is, as it is reported after the fault's number.
 #[derive(Clone, Copy, Drop)]
 struct Place(TableFault);
 
@@ -259,7 +259,7 @@ impl fmt::Display for Place {
     }
 }
 
-// The words of a status that tells no number, none where it is done or tells one.
+// The words of a status that tells no number, none if it is done or tells one.
 fn words_of(status: &Status) -> &'static str
     ensures { result.now ≡ spec.words_of status.now }
 {

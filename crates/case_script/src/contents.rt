@@ -16,14 +16,14 @@ const KEYS: [(&str, ValueKind); 6] = [
     ("times", ValueKind::Count),
 ];
 
-/// All the bytes of contents, where there are any.
+/// All the bytes of contents, if there are any.
 pub(crate) fn bytes_of(rt: &HostRuntime, contents: Option<&Value>) -> Result<Vec<u8>> {
     let mut pieces = Vec::new(rt.alloc());
     add_pieces(rt, contents, &mut pieces)?;
     whole(rt.alloc(), &pieces).map_err(Error::from)
 }
 
-/// Adds the pieces of contents, where there are any: of one part, or of parts one after another.
+/// Adds the pieces of contents, if there are any: of one part, or of parts one after another.
 pub(crate) fn add_pieces(
     rt: &HostRuntime,
     contents: Option<&Value>,
@@ -43,7 +43,7 @@ fn add_parts(rt: &HostRuntime, parts: &[Value], pieces: &mut Vec<Piece>) -> Resu
     Ok(())
 }
 
-// Adds the piece of a part, where it has bytes.
+// Adds the piece of a part, if it has bytes.
 fn add_part(rt: &HostRuntime, part: &Value, pieces: &mut Vec<Piece>) -> Result<()> {
     let piece = piece_of(rt, part)?;
     if !piece.is_empty() {

@@ -35,7 +35,7 @@ impl Fault {
         }
     }
 
-    /// What fails where it befalls the call of this number.
+    /// What fails if it befalls the call of this number.
     pub fn at(self, call: u64) -> Failures {
         let mut failures = Failures::default();
         let failing = match self {

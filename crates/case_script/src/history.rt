@@ -8,7 +8,7 @@ use toml::Value;
 
 const KEYS: [(&str, ValueKind); 2] = [("records", ValueKind::Count), ("file", ValueKind::Contents)];
 
-/// The file of a journal, and how many records it has, where that is asked.
+/// The file of a journal, and how many records it has, if that is asked.
 #[derive(Drop)]
 pub(crate) struct History {
     records: Option<u64>,
@@ -16,7 +16,7 @@ pub(crate) struct History {
 }
 
 impl History {
-    /// What is wrong where this was sent: a history has a record for each reply of which a byte was.
+    /// What is wrong if this was sent: a history has a record for each reply of which a byte was.
     pub(crate) fn breach(&self, sent: &[u8]) -> Option<Breach> {
         match self.records {
             Some(records) if records < lines_begun(sent) => Some(Breach::Unrecorded),

@@ -3,7 +3,7 @@ use crate::value_kind::{ValueKind, count_of};
 use anyhow::{Result, bail};
 use toml::{Table, Value};
 
-// The most bytes that a source gives at a read, where the run doesn't say.
+// The most bytes that a source gives at a read, if the run doesn't say.
 const PIECE: u64 = 65_536;
 
 /// A table that has no keys but those it may have, each with a value of its kind.

@@ -84,8 +84,8 @@ impl Law {
         Ok(())
     }
 
-    /// Whether a run that failed at a call may have sent this: a front of the replies where the bench failed, nothing where the
-    /// spare did, and where the input did, those to the lines that came before.
+    /// Whether a run that failed at a call may have sent this: a front of the replies if the bench failed, nothing if the
+    /// spare did, and if the input did, those to the lines that came before.
     pub fn may_have_sent(&self, alloc: Global, call: u64, sent: &[u8]) -> Result<bool, AllocError> {
         match self.fault {
             Fault::Stop | Fault::Fail => Ok(self.whole.shown.starts_with(sent)),
@@ -124,7 +124,7 @@ impl Law {
         self.spare.breach(start, sent, file)
     }
 
-    /// What is typed over both files, and what is due in reply, where the journal's holds the last history and no spare is made.
+    /// What is typed over both files, and what is due in reply, if the journal's holds the last history and no spare is made.
     pub fn asked_over(&self, file: &[u8], spare: &[u8]) -> Option<&Exchange> {
         match self.histories.last() {
             Some(last) if last.is_in(file) && !is_made(spare) => self.then.as_ref(),

@@ -24,7 +24,7 @@ impl Over {
         }
     }
 
-    /// What it is called where a difference is told.
+    /// What it is called if a difference is reported.
     pub fn name(self) -> &'static str {
         match self {
             Over::Left => "file",

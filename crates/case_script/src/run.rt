@@ -49,14 +49,14 @@ pub struct Run {
     pub shows: String,
     /// Whether it is there to differ.
     pub differs: bool,
-    /// The words after the program's name.
+    /// The arguments after the program's name.
     pub words: Vec<String>,
     pub schema: Vec<Piece>,
     pub table: Vec<Piece>,
     /// The most bytes that a source gives at a read.
     pub most: usize,
     pub start: Start,
-    /// The spare's file at the start, where it is given.
+    /// The spare's file at the start, if it is given.
     pub spare: Option<Vec<u8>>,
     pub due: Due,
 }
@@ -84,7 +84,7 @@ impl Run {
         }
     }
 
-    // Reads what it shows, the words, and the files at the start.
+    // Reads what it shows, the arguments, and the files at the start.
     fn read(&mut self, rt: &HostRuntime, common: Keys, own: Keys) -> Result<()> {
         self.read_words(rt.alloc(), common, own)?;
         add_pieces(rt, own.value_or(common, "schema"), &mut self.schema)?;

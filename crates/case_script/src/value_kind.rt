@@ -33,12 +33,12 @@ pub(crate) fn count_of(value: &Value) -> Option<u64> {
     u64::try_from(value.as_integer()?).ok()
 }
 
-/// The number that a value is, where it may be the place of a byte.
+/// The number that a value is, if it may be the place of a byte.
 pub(crate) fn place_of(value: &Value) -> Option<usize> {
     usize::try_from(value.as_integer()?).ok()
 }
 
-/// The number that a value is, where it is one of a byte.
+/// The number that a value is, if it is one of a byte.
 pub(crate) fn byte_of(value: &Value) -> Option<u8> {
     u8::try_from(value.as_integer()?).ok()
 }

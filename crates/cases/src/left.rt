@@ -36,7 +36,7 @@ pub fn files_left(alloc: Global, over: Over, benches: &Benches) -> Result<Files>
     })
 }
 
-/// The files at the start of a run, where a run before left these benches.
+/// The files at the start of a run, if a run before left these benches.
 pub fn start_of(alloc: Global, run: &Run, before: &Option<Benches>) -> Result<Files> {
     let mut files = match (&run.start, before) {
         (Start::Journal(file), _) => made_of(alloc, file.to_vec(alloc)?),

@@ -1,10 +1,10 @@
-//! How a difference is told.
+//! How a difference is reported.
 use anyhow::{Error, Result, anyhow};
 use audit_types::NoMemory;
 use case_script::Run;
 use std::{fmt, io};
 
-/// Want of memory, as the program tells it.
+/// That memory ran out, as the program reports it.
 pub fn no_memory(_: NoMemory) -> Error {
     anyhow!("out of memory")
 }
@@ -54,7 +54,7 @@ impl<T: fmt::Display> fmt::Display for Difference<'_, T> {
     }
 }
 
-/// Bytes that are shown as text, where they are text without a byte 0, and else in hex.
+/// Bytes that are shown as text, if they are text without a byte 0, and else in hex.
 #[derive(Clone, Copy, PartialEq, Eq)]
 pub struct Bytes<'a>(pub &'a [u8]);
 

@@ -203,7 +203,7 @@ module _ (greatest : GreatestIsBoundAndReached) (bounds : UpperBoundIsLeast) whe
         abbrev lowered : ℕ → ℤ
         lowered r = held (has_row a.rows r) (a.value -ℤ pos 1) (high r)
 
-        -- a number where a row is in the set or not
+        -- a number, whether a row is in the set or not
         in_or_out : (r : ℕ) → (has_row a.rows r ≡ true) ⊎ (has_row a.rows r ≡ false)
         in_or_out r = elim (has_row a.rows r) as (λ b. (b ≡ true) ⊎ (b ≡ false)) [ true ↦ inl refl | false ↦ inr refl ]
 

@@ -42,7 +42,7 @@ pub record FormLaws : Type 0 where
   pub one_more : OneMoreSet
 
 module _ (laws : FormLaws) (n : ℕ) where
-  -- the form of a set more, where the forms without it are the same
+  -- the form of a set more, if the forms without it are the same
   moved : (sets others : List (List ℕ)) (rows : List ℕ) (form : List (List ℤ)) → ((f : List (List ℤ)) → Reduced n sets f → Reduced n others f) →
       Reduced n (sets ++ rows ∷ []) form → Reduced n (others ++ rows ∷ []) form
   moved sets others rows form to is =
@@ -97,7 +97,7 @@ module _ (n : ℕ) (groups : List (List ℕ)) where
   guarded kind answers others (number row below) = number row below
   guarded kind answers others (total group protected) = total group protected
 
-  -- where the same lists agree, the same questions are dangerous
+  -- if the same lists agree, the same questions are dangerous
   dangerous : (kind : Kind) (answers others : List Answer) (rows : List ℕ) →
       ((w : List ℤ) → Agrees (knows n groups kind answers) w ↔ Agrees (knows n groups kind others) w) →
       IsDangerous (knows n groups kind answers) rows → IsDangerous (knows n groups kind others) rows

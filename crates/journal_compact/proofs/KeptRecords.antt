@@ -20,7 +20,7 @@ module _ (setting : Setting) (column : ℕ) (w : List ℤ) where
   abbrev Gives : Answer → Type 0
   Gives a = truth (kind_at setting.shape column) w a.rows ≡ a.value
 
-  -- a list agrees with one record more of the column where it agreed and gives its answer
+  -- a list agrees with one record more of the column if it agreed and gives its answer
   agrees_own : (history : List Answered) (r : Answered) → r.column ≡ column → Agrees (known_of setting history column) w → Gives (answer_in r) →
       Agrees (known_of setting (history ++ r ∷ []) column) w
   agrees_own history r own agrees gives = record {
@@ -34,7 +34,7 @@ module _ (setting : Setting) (column : ℕ) (w : List ℤ) where
       let parts = all-front Gives (answers_of column history) (answer_in r) (subst (AllByRecursion Gives) (own_answers column history r own) agrees.same) in
       (record { one_each = agrees.one_each; same = parts.0 }, parts.1)
 
-  -- and with one of another column where it agreed
+  -- and with one of another column if it agreed
   agrees_other : (history : List Answered) (r : Answered) → r.column ≢ column → Agrees (known_of setting history column) w →
       Agrees (known_of setting (history ++ r ∷ []) column) w
   agrees_other history r apart agrees = record {

@@ -93,13 +93,13 @@ module _ (laws : NextLaws) (shape : Shape) (h : List Answered) (some : IsLegalFo
       let few : length kept < 65536 = omega (arith, no_more table.setting.shape kept_of_table, room_before table (take k h) r with_it) in
       subst (λ s. IsPossibleHistory s (kept ++ r ∷ [])) same_setting (laws.possible table (kept ++ r ∷ []) some.are_secrets (laws.grows table kept r kept_legal few may_follow))
 
-  -- and it stays where the kept ones don't imply it
+  -- and it stays if the kept ones don't imply it
   pub one_stays : ¬ (IsImpliedBy setting.shape kept r) → IsKeptOf shape (take (k + 1) h) (kept ++ r ∷ [])
   one_stays new =
       subst (λ l. IsKeptOf shape l (kept ++ r ∷ [])) (sym (taken h k r inside is))
       (stays r keeps (λ implied. new (subst (λ (s : Setting). IsImpliedBy s.shape kept r) (sym setting_is) (implied_back shape (take k h) kept r keeps implied))))
 
-  -- and is left out where they do
+  -- and is left out if they do
   pub one_left_out : IsImpliedBy setting.shape kept r → IsKeptOf shape (take (k + 1) h) kept
   one_left_out implied =
       subst (λ l. IsKeptOf shape l kept) (sym (taken h k r inside is))

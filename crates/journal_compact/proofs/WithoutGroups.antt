@@ -1,4 +1,4 @@
--- A history that is legal where groups are protected is legal where none is: fewer questions are dangerous.
+-- A history that is legal if groups are protected is legal if none is: fewer questions are dangerous.
 use Rattle.std.proofs.Common.{ℕ, ℤ, List, [], arith}
 use Rattle.audit_types.specs.declared.shapes.Kind.{Kind}
 use Rattle.audit_types.specs.declared.shapes.Kind.TheVariants.{Sum, Max}
@@ -8,7 +8,7 @@ use Rattle.audit_types.specs.Column.{Known, IsGuarded, number, total, IsDangerou
 use Rattle.audit_types.specs.Judgement.{IsWithinWidthFor, IsDecision}
 use Rattle.audit_types.specs.History.{Table, IsLegal, setting_of}
 
--- the same table where no group is protected
+-- the same table if no group is protected
 abbrev pub without_groups : Table → Table
 without_groups table = record table { setting = setting_of table.setting.shape [] }
 

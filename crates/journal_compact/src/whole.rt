@@ -121,7 +121,7 @@ fn behind_gate(alloc: Global, shape: &Shape, list: &[Answered]) -> Result<Vec<u8
 
 /// Writes a journal of these records, unless one is made: behind a closed header gate, which is opened once all is stable. Its
 /// header has the shape's rows, and no growth follows. All memory is taken before the first call of the bench. After `Failed` it
-/// may be called again; what a crash leaves is then promised where the bench is quiet again.
+/// may be called again; what a crash leaves is then promised if the bench is quiet again.
 pub fn write_whole<B: Bench>(
     alloc: Global,
     bench: &mut B,
@@ -132,7 +132,7 @@ pub fn write_whole<B: Bench>(
     requires fit { All (λ r. FitsShape shape.now r.column r.rows) list.now }
     requires few { length list.now ≤ most_records }
 
-    // It is refused exactly where a journal is made, and then nothing was written.
+    // It is refused exactly if a journal is made, and then nothing was written.
     ensures already { B.told → IsErrOf result WholeFault.AlreadyThere → IsMade (B.file bench.old) }
     ensures refused { B.told → IsMade (B.file bench.old) → IsErr result × (B.file bench.new ≡ B.file bench.old) }
     ensures untouched { B.told → IsMade (B.file bench.old) → IsQuiet B.Bench bench.old → LeavesOnly B.Bench bench.old bench.new (IsUntouched (B.file bench.old) (B.sent bench.old)) }

@@ -5,7 +5,7 @@ ghost use Rattle.max_bounds.specs.Reaching.{bound_at, reaching, lone_of};
 use crate::upper_bounds::UpperBounds;
 use audit_types::RowSet;
 
-/// How many rows of an answer are extreme, and which one where it is only one.
+/// How many rows of an answer are extreme, and which one if it is only one.
 #[derive(Clone, Copy)]
 pub(crate) struct ExtremeRows {
     pub count: u16,

@@ -40,7 +40,7 @@ fn lesser(one: Option<u16>, other: Option<u16>) -> Option<u16>
     }
 }
 
-// What these answers tell where the bounds are given.
+// What these answers tell if the bounds are given.
 fn survey_under(bounds: &UpperBounds, pairs: &[AnsweredMax]) -> Trial
     ensures tells { TellsOf (bound_at bounds.now) (answers_of pairs.now) result }
 {

@@ -58,7 +58,7 @@ pub(crate) enum Left {
 #[derive(Drop)]
 pub(crate) struct Weighed {
     pub prospect: Prospect,
-    // None where nothing is left, or an entry above the limit.
+    // None if nothing is left, or an entry above the limit.
     pub list: Option<Vec<FreeEntry>>,
 }
 
@@ -77,7 +77,7 @@ impl Form {
         })
     }
 
-    // What the form leaves of a multiple of a row of zeros and ones: zeros exactly where the row lies in the span.
+    // What the form leaves of a multiple of a row of zeros and ones: zeros exactly if the row lies in the span.
     pub(crate) fn remainder(&self, row: &mut [i128])
         requires length { length row.old ≡ self.now.n }
         requires bits { (j : ℕ) → unsigned_abs (number_at row.old j) ≤ 1 }

@@ -25,7 +25,7 @@ fn changes_few(row: &SparseRow, new: &[FreeEntry]) -> bool
     new.len() < row.free.len() / 8
 }
 
-// Clears the row at the new row's pivot by changing its list, where both pivot entries are 1.
+// Clears the row at the new row's pivot by changing its list, if both pivot entries are 1.
 fn clear_in_place(row: &mut SparseRow, columns: u16, new: &[FreeEntry], times: i128)
     requires kept { IsKept columns row.old }
     requires primitive { IsPrimitive columns (row_of columns (entries_of row.old)) }

@@ -199,8 +199,8 @@ fn spans_one_kept(
     false
 }
 
-/// What is told of the form with a row that was weighed, where the rows of these sets are to stay out of its span too, as `tell_apart`
-/// tells it. It keeps what the form leaves of the sets. They are looked at only where no unit row would lie in the span.
+/// What is told of the form with a row that was weighed, if the rows of these sets are to stay out of its span too, as `tell_apart`
+/// tells it. It keeps what the form leaves of the sets. They are looked at only if no unit row would lie in the span.
 pub(crate) fn tell_kept(
     form: &Form,
     kept: &mut Vec<KeptSet>,

@@ -23,7 +23,7 @@ struct Cleared {
     lone: bool,
 }
 
-// The row cleared at the new row's pivot, which stays as it is. None where an entry is above the limit.
+// The row cleared at the new row's pivot, which stays as it is. None if an entry is above the limit.
 fn clear_aside(
     row: &SparseRow,
     columns: u16,
@@ -117,7 +117,7 @@ fn is_surely_small(by: i128, most: u128, times: u128, new_most: u128) -> bool
     weight(by.unsigned_abs(), most) + weight(times, new_most) <= LIMIT
 }
 
-// Whether the row, cleared at the new row's pivot, has one entry that is not 0. None where an entry is above the limit.
+// Whether the row, cleared at the new row's pivot, has one entry that is not 0. None if an entry is above the limit.
 fn look_closely(
     row: &SparseRow,
     columns: u16,
@@ -147,7 +147,7 @@ fn look_closely(
     Some(cleared.lone)
 }
 
-// Whether the row, cleared at the new row's pivot, has one entry that is not 0. None where an entry is above the limit. Where
+// Whether the row, cleared at the new row's pivot, has one entry that is not 0. None if an entry is above the limit. If
 // the row's bound suffices, and its list is longer or shorter than the new one, the list is not read.
 fn look_at(
     row: &SparseRow,
@@ -173,7 +173,7 @@ fn look_at(
     look_closely(row, columns, new, most, room)
 }
 
-// Tells what the form would become with a new row, where the multiple of the pivot entries is surely within the limit: few rows
+// Tells what the form would become with a new row, if the multiple of the pivot entries is surely within the limit: few rows
 // have to be cleared.
 fn look_by_bounds(
     rows: &[SparseRow],

@@ -47,7 +47,7 @@ fn turn(entries: &mut Vec<FreeEntry>)
     }
 }
 
-/// Divides the values by their content, and turns all signs where the first is negative.
+/// Divides the values by their content, and turns all signs if the first is negative.
 pub fn make_primitive(entries: &mut Vec<FreeEntry>)
     requires some { 0 < vec_len entries.old }
     requires first { (slice_index_or entries.old.items 0 (record { place = 0; value = pos 0 })).value ≢ pos 0 }

@@ -47,7 +47,7 @@ fn content_from(head: i128, entries: &[FreeEntry], least: u128) -> Option<Diviso
     Some(divisor)
 }
 
-/// The pivot entry over the content of it and the values. None where it or a value, over the content, is above the limit.
+/// The pivot entry over the content of it and the values. None if it or a value, over the content, is above the limit.
 pub fn head_within(head: i128, entries: &[FreeEntry]) -> Option<i128>
     requires head { (pos 0 <ℤ head) × (unsigned_abs head ≤ 2 ^ 126) }
     requires entries { AllByRecursion (λ e. unsigned_abs e.value ≤ 2 ^ 126) entries.now }

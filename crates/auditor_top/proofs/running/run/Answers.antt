@@ -67,7 +67,7 @@ use Rattle.set_index.specs.Groups.{AreEntries}
 use Rattle.table_load.specs.Database.{table_in}
 use Rattle.auditor_top.proofs.running.run.Goals as goal
 
--- ---- the words are no command
+-- ---- the arguments are no command
 
 pub returns-in-Err-Bad : goal.returns-in-Err-Bad
 returns-in-Err-Bad g c =
