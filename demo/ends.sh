@@ -44,6 +44,7 @@ tell_unwritten() {
 # Starts a run on a pipe, which is open as number 4, and waits for the replies to three lines of the demo.
 open_run() {
     mkfifo lines
+    : >first
     "$program" serve <lines >first 2>said &
     run=$!
     exec 4>lines
