@@ -1,0 +1,24 @@
+//! Why a question is denied: a proof that its answer could give a number or a protected total away, and a plain check of such
+//! a proof.
+//!
+//! `check_proof` reads public facts alone, the records, the groups and the question, and knows nothing of how a proof was
+//! made. That its yes shows the denial right is the law of `laws::proofs_show_danger`.
+#![tactic(auto)]
+
+mod checking;
+mod heights;
+mod kept;
+pub mod laws;
+mod lone_rows;
+mod marking;
+mod marks;
+mod maxima;
+mod numbers;
+mod proof_parts;
+mod sums;
+mod targets;
+mod terms;
+mod totals;
+
+pub use checking::check_proof;
+pub use proof_parts::{Heights, Proof, ProveFault, Target, Term, Terms};
