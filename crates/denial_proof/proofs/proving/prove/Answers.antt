@@ -105,13 +105,13 @@ pub returns-in_ok-prove_max-in-Max-clause-canonical : goal.returns-in_ok-prove_m
 returns-in_ok-prove_max-in-Max-clause-canonical c =
     (max_is c.args.core.now.setting c.args.core.now.history c.args.asked.now c.in-Max.maxima.now.n c.history-history.result.now c.in-Max.ensures.n c.history-history.ensures.is
     c.in-Max.ensures.own_kind
-    _ c.in_ok-prove_max.ensures).0
+    _ c.in_ok-prove_max-in-Max.ensures).0
 
 pub returns-in_ok-prove_max-in-Max-clause-proof : goal.returns-in_ok-prove_max-in-Max-clause-proof
 returns-in_ok-prove_max-in-Max-clause-proof c =
     (max_is c.args.core.now.setting c.args.core.now.history c.args.asked.now c.in-Max.maxima.now.n c.history-history.result.now c.in-Max.ensures.n c.history-history.ensures.is
     c.in-Max.ensures.own_kind
-    _ c.in_ok-prove_max.ensures).1
+    _ c.in_ok-prove_max-in-Max.ensures).1
 
 pub returns-in_ok-prove_max-in-Max-clause-narrow : goal.returns-in_ok-prove_max-in-Max-clause-narrow
 returns-in_ok-prove_max-in-Max-clause-narrow c =
