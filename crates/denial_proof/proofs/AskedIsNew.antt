@@ -23,7 +23,7 @@ use Rattle.denial_proof.proofs.KeptIndependent.{span_first, span_more}
 use Rattle.denial_proof.proofs.KeptSpan.{still_in_span}
 
 -- rows lie in their own span
-span_self : (rows : List (List ℤ)) → AllByRecursion (InSpan rows) rows
+pub span_self : (rows : List (List ℤ)) → AllByRecursion (InSpan rows) rows
 span_self [] = tt
 span_self (row ∷ rows) = (span_first row rows, all-weaker (InSpan rows) (InSpan (row ∷ rows)) (λ r span. span_more row r rows span) rows (span_self rows))
 
@@ -67,7 +67,7 @@ module _ (laws : LegalLaws) (table : Table) (history : List Answered) (secrets :
         let of_sums = subst AgreesAs sums agrees in
         record { one_each = of_sums.one_each; same = of_sums.same }
 
-    own_agrees : Agrees (known_sum table.setting.shape.rows (answers_of column history)) (list_of table.secrets column)
+    pub own_agrees : Agrees (known_sum table.setting.shape.rows (answers_of column history)) (list_of table.secrets column)
     own_agrees =
         as_sums (list_of table.secrets column)
         (subst (λ (h : List Answered). AgreeWithHistory table.setting h table.secrets) (take_all (length history) history (omega arith)) (front_agrees (length history) (omega arith)) column below)

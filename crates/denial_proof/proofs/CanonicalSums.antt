@@ -121,7 +121,7 @@ all_from_terms P none (p ∷ places) (x ∷ numbers) size all last = go (is_zero
     go false e later h = (h.0, later h.1)
 
 -- they add up to what the numbers of the kept sets come to
-terms_add_up : (n : ℕ) (history : List Answered) (places : List ℕ) (numbers : List ℤ) (j : ℕ) → j < n →
+pub terms_add_up : (n : ℕ) (history : List Answered) (places : List ℕ) (numbers : List ℤ) (j : ℕ) → j < n →
     sum_at (map (weight_of history) (terms_of places numbers)) j ≡ combined numbers (map (set_row n) (map (rows_at history) places)) j
 terms_add_up n history [] numbers j l = sym (combined-none numbers j)
 terms_add_up n history (p ∷ places) [] j l = refl

@@ -7,7 +7,8 @@ use Rattle.audit_types.specs.Truth.{number_at}
 use Rattle.audit_types.specs.Form.{set_row, InSpan}
 use Rattle.sum_basis.specs.Spans.{span_trans}
 use Rattle.denial_proof.specs.Weights.{rows_at}
-use Rattle.denial_proof.specs.Kept.{sets_before, AreKept}
+use Rattle.audit_core.specs.Laws.{sets_before}
+use Rattle.denial_proof.specs.Kept.{AreKept}
 use Rattle.denial_proof.specs.Kept.{AreIndependent}
 use Rattle.denial_proof.proofs.Independence.{independent_push}
 use Rattle.denial_proof.proofs.KeptIndependent.{kept_independent, spanned_before, all_kept}

@@ -17,7 +17,8 @@ use Rattle.audit_types.specs.ListLaws.{all-weaker, all-take, all-get_or}
 use Rattle.sum_basis.specs.Spans.{span_trans}
 use Rattle.denial_proof.specs.Certificates.{IsOwnRecord}
 use Rattle.denial_proof.specs.Weights.{rows_at}
-use Rattle.denial_proof.specs.Kept.{sets_before, IsKept, AreKept}
+use Rattle.audit_core.specs.Laws.{sets_before}
+use Rattle.denial_proof.specs.Kept.{IsKept, AreKept}
 use Rattle.denial_proof.specs.Kept.{AreIndependent}
 use Rattle.denial_proof.proofs.Independence.{independent_nil, independent_push}
 

@@ -17,9 +17,10 @@ use Rattle.sum_audit.specs.Laws.{SpannedOrMoved}
 use Rattle.sum_basis.specs.Spans.{span_trans}
 use Rattle.denial_proof.specs.Certificates.{IsOwnRecord}
 use Rattle.denial_proof.specs.Weights.{rows_at}
-use Rattle.denial_proof.specs.Kept.{sets_before, IsKept, AreKept}
+use Rattle.audit_core.specs.Laws.{sets_before}
+use Rattle.denial_proof.specs.Kept.{IsKept, AreKept}
 use Rattle.denial_proof.proofs.KeptIndependent.{span_first, span_more, rows_of_record}
-use Rattle.denial_proof.proofs.KeptSoFar.{sets_after_own, sets_after_other}
+use Rattle.audit_core.specs.FrontLaws.{sets_after_own, sets_after_other}
 
 -- a set of these places lies in the span of their sets
 member_spanned : (n : ℕ) (history : List Answered) (places : List ℕ) (q : ℕ) → has_row places q ≡ true → InSpan (map (set_row n) (map (rows_at history) places)) (set_row n (rows_at history q))

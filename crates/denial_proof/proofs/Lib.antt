@@ -16,7 +16,6 @@ pub mod MarkedBits
 pub mod OneRowTaken
 pub mod KeptSoFar
 pub mod MarkedFronts
-pub mod LegalIsNarrow
 pub mod KeptIndependent
 pub mod KeptFew
 pub mod Dividing
@@ -32,3 +31,6 @@ pub mod KeptSpan
 pub mod SpannedTargets
 pub mod AskedIsNew
 pub mod SumParts
+pub mod OneCanonicalSum
+pub mod UnsafeSums
+pub mod ByKind

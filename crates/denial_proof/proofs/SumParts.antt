@@ -19,7 +19,8 @@ use Rattle.sum_basis.specs.Spans.{span_trans}
 use Rattle.denial_proof.specs.Weights.{rows_at}
 use Rattle.denial_proof.specs.declared.proof_parts.Target.{Target}
 use Rattle.denial_proof.specs.Certificates.{IsTarget, rows_of}
-use Rattle.denial_proof.specs.Kept.{sets_before, AreKept, AreIndependent, kept_sets}
+use Rattle.audit_core.specs.Laws.{sets_before}
+use Rattle.denial_proof.specs.Kept.{AreKept, AreIndependent, kept_sets}
 use Rattle.denial_proof.specs.Targets.{IsSpannedTarget, SpansNothing}
 use Rattle.denial_proof.specs.Canonical.{sets_with_asked, IsFirstTarget, IsSpannedGroup}
 use Rattle.denial_proof.proofs.SpannedTargets.{first_of_sets, target_is, target_spanned, some_target}

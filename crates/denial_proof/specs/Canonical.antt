@@ -121,8 +121,10 @@ pub record AreNumbersWide (n : ℕ) (history : List Answered) (protected : List 
   pub canonical : IsCanonicalSum n history protected asked (Group place) times terms own
   pub large : ¬ (AllByRecursion IsSmall (times ∷ own ∷ map (λ t. t.times) terms))
 
--- no proof is given: the question is a sum, and its marks aren't narrow, or a number for its group is too large
+-- a sum whose marks aren't narrow, or for whose group a number is too large
+abbrev pub IsSumTooWide : ℕ → List Answered → List Protected → Asked → Type 0
+IsSumTooWide n history protected asked = AreMarksWide n history asked ⊎ AreNumbersWide n history protected asked
+
+-- no proof is given: only sums can be too wide
 abbrev pub IsTooWide : Setting → List Answered → Asked → Type 0
-IsTooWide setting history asked =
-    (kind_at setting.shape asked.column ≡ kind.Sum)
-    × (AreMarksWide setting.shape.rows history asked ⊎ AreNumbersWide setting.shape.rows history setting.protected asked)
+IsTooWide setting history asked = (kind_at setting.shape asked.column ≡ kind.Sum) × IsSumTooWide setting.shape.rows history setting.protected asked

@@ -6,13 +6,9 @@ use Rattle.audit_types.specs.Rows.{Rows, AscendsFrom, has_row}
 use Rattle.audit_types.specs.Truth.{number_at}
 use Rattle.sum_basis.specs.Basis.{Echelon}
 use Rattle.audit_types.specs.Form.{set_row, combined, InSpan, IsReducedForm, IsNarrow}
-use Rattle.audit_types.specs.History.{answers_of}
+use Rattle.audit_core.specs.Laws.{sets_before}
 use Rattle.denial_proof.specs.Weights.{rows_at}
 use Rattle.denial_proof.specs.Certificates.{IsOwnRecord}
-
--- the sets of the column's records before a place
-abbrev pub sets_before : ℕ → List Answered → ℕ → List (List ℕ)
-sets_before column history place = map (λ a. a.rows) (answers_of column (take place history))
 
 -- the record at this place is of the column, and its set doesn't lie in the span of the column's sets before it
 pub record IsKept (n column : ℕ) (history : List Answered) (place : ℕ) : Type 0 where

@@ -5,4 +5,5 @@ pub mod Kept
 pub mod Targets
 pub mod Numbers
 pub mod Canonical
+pub mod Denied
 pub mod Laws

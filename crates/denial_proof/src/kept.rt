@@ -4,7 +4,8 @@ ghost use Rattle.std.specs.List.{AllByRecursion};
 ghost use Rattle.audit_types.specs.Limits.{most_rows};
 ghost use Rattle.audit_types.specs.Form.{set_row, InSpan, Reduced, IsReducedForm, HasNarrowForm, IsNarrow};
 ghost use Rattle.sum_basis.specs.Growth.{GrowsWide};
-ghost use Rattle.denial_proof.specs.Kept.{AreKept, sets_before, marked_rows, MarksNext, IsMarked, HasWideFormOf, HasWideFront};
+ghost use Rattle.audit_core.specs.Laws.{sets_before};
+ghost use Rattle.denial_proof.specs.Kept.{AreKept, marked_rows, MarksNext, IsMarked, HasWideFormOf, HasWideFront};
 ghost use Rattle.denial_proof.specs.Weights.{rows_at};
 
 use crate::marking::write_marked;

@@ -3,7 +3,8 @@ ghost use Rattle.std.specs.Prelude.{◌≡◌, ◌≤◌, ◌<◌, [], ◌∷◌
 ghost use Rattle.std.specs.List.{AllByRecursion};
 ghost use Rattle.audit_types.specs.Limits.{most_rows};
 ghost use Rattle.audit_types.specs.Form.{set_row, InSpan, HasNarrowForm};
-ghost use Rattle.denial_proof.specs.Kept.{sets_before, AreMarks};
+ghost use Rattle.audit_core.specs.Laws.{sets_before};
+ghost use Rattle.denial_proof.specs.Kept.{AreMarks};
 ghost use Rattle.denial_proof.specs.Canonical.{AreMarksWide};
 
 use crate::kept::{kept_places, mark_all, mark_asked};

@@ -1,14 +1,14 @@
 //! The canonical proof of a sum.
-ghost use Rattle.std.specs.Prelude.{◌≡◌, ◌↔◌, ◌⊎◌, ◌<◌, ◌≤◌, ◌+◌, ℕ, [], ◌∷◌, Err, IsTrue, IfOk, length, map};
+ghost use Rattle.std.specs.Prelude.{◌≡◌, ◌↔◌, ◌<◌, ◌≤◌, Err, IsTrue, IfOk, length, map};
 ghost use Rattle.std.specs.List.{AllByRecursion};
 ghost use Rattle.audit_types.specs.Limits.{most_rows, most_groups};
 ghost use Rattle.audit_types.specs.Rows.{AreRows};
-ghost use Rattle.audit_types.specs.Direction.{PinSomeRow};
 ghost use Rattle.audit_types.specs.History.{answers_of};
-ghost use Rattle.audit_types.specs.Form.{set_row, InSpan, HasNarrowForm};
+ghost use Rattle.audit_types.specs.Form.{set_row, InSpan};
 ghost use Rattle.denial_proof.specs.Certificates.{IsSmall, IsTarget, rows_of};
-ghost use Rattle.denial_proof.specs.Kept.{AreMarks, AreIndependent, kept_sets, sets_before};
-ghost use Rattle.denial_proof.specs.Canonical.{IsFirstTarget, IsSpannedGroup, IsSumProof, AreMarksWide, AreNumbersWide, sets_with_asked};
+ghost use Rattle.denial_proof.specs.Kept.{AreMarks, AreIndependent, kept_sets};
+ghost use Rattle.denial_proof.specs.Canonical.{IsFirstTarget, IsSumProof, AreNumbersWide, IsSumTooWide, sets_with_asked};
+ghost use Rattle.denial_proof.specs.Denied.{IsUnsafeSum};
 
 use crate::marks::{Marks, marks_of};
 use crate::numbers::multipliers;
@@ -66,7 +66,7 @@ pub(crate) fn prove_target(
     })
 }
 
-/// The canonical proof that a sum is dangerous, after records that leave row 0 open and don't span the asked set.
+/// The canonical proof that a sum is dangerous.
 pub(crate) fn prove_sum(
     alloc: Global,
     sums: &SumColumn,
@@ -81,13 +81,10 @@ pub(crate) fn prove_sum(
     requires answers { sums.now.answers ≡ answers_of asked.now.column history.now }
     requires entries { AllByRecursion (λ p. p.rows.n ≡ sums.now.n) protected.now }
     requires few_groups { length protected.now ≤ most_groups }
-    requires narrow { (place : ℕ) → place ≤ length history.now → HasNarrowForm sums.now.n (sets_before asked.now.column history.now place) }
-    requires open { ¬ (InSpan (map (set_row sums.now.n) (sets_before asked.now.column history.now (length history.now))) (set_row sums.now.n (0 ∷ []))) }
-    requires new { ¬ (InSpan (map (set_row sums.now.n) (sets_before asked.now.column history.now (length history.now))) (set_row sums.now.n asked.now.rows.list)) }
-    requires width { HasNarrowForm sums.now.n (sets_with_asked history.now asked.now) }
-    requires dangerous { PinSomeRow sums.now.n (sets_with_asked history.now asked.now) ⊎ ((place : ℕ) × IsSpannedGroup sums.now.n protected.now asked.now.column (sets_with_asked history.now asked.now) place) }
+    requires denied { IsUnsafeSum sums.now.n history.now protected.now asked.now }
     ensures is { IfOk result (IsSumProof sums.now.n history.now protected.now asked.now) }
-    ensures wide { result ≡ Err ProveFault.Wide → AreMarksWide sums.now.n history.now asked.now ⊎ AreNumbersWide sums.now.n history.now protected.now asked.now }
+    ensures wide { result ≡ Err ProveFault.Wide → IsSumTooWide sums.now.n history.now protected.now asked.now }
+    ensures narrow { IfOk result (λ proof. ¬ (IsSumTooWide sums.now.n history.now protected.now asked.now)) }
 {
     pinned_rows();
     directions_of_a_form();
