@@ -1,0 +1,178 @@
+-- What a denial as unsafe says after a legal history: of a column of sums what its canonical proof is made from, of a column of
+-- maxima that some candidate is bad.
+use Rattle.std.proofs.Common.{◌≡◌, ◌≢◌, ℕ, zero, suc, ◌+◌, ◌<◌, ◌≤◌, Bool, true, false, cond, ◌==◌, ℤ, List, [], ◌∷◌, map, length, get_or, Some, refl, sym, ap, ◌∙◌, subst, arith, inl, inr, ◌⊎◌}
+use Rattle.std.specs.Prelude.{All, Contains, slice_get}
+use Rattle.std.specs.List.{AllByRecursion, filter}
+use Rattle.std.proofs.lemmas.Bool.{eqb-true}
+use Rattle.std.proofs.lemmas.List.{get_or_default}
+use Rattle.std.proofs.lemmas.List.Elements.{recursion_from_All}
+use Rattle.std.proofs.lemmas.Option.{get_or_from_slice_get, slice_get_within}
+use Rattle.audit_types.specs.declared.records.Answered.{Answered}
+use Rattle.audit_types.specs.declared.records.Asked.{Asked}
+use Rattle.audit_types.specs.declared.records.Protected.{Protected}
+use Rattle.audit_types.specs.declared.records.Verdict.TheVariants.{DeniedUnsafe}
+use Rattle.audit_types.specs.declared.shapes.Kind.{Kind}
+use Rattle.audit_types.specs.declared.shapes.Shape.{Shape}
+use Rattle.audit_types.specs.declared.shapes.Kind.TheVariants.{Sum, Max}
+use Rattle.audit_types.specs.Rows.{AreRows}
+use Rattle.audit_types.specs.Shapes.{kind_at}
+use Rattle.audit_types.specs.Column.{Answer, Known, IsPossible, IsDangerous, IsWellFormed, known_sum, known_max}
+use Rattle.audit_types.specs.Direction.{PinSomeRow}
+use Rattle.audit_types.specs.Form.{set_row, InSpan, HasNarrowForm}
+use Rattle.audit_types.specs.Judgement.{SpanSomeGroup, IsWithinWidthFor}
+use Rattle.audit_types.specs.History.{Setting, Table, FitsShape, IsProtected, AreProtected, IsDecisionAfter, list_of, answers_of, answer_in, groups_of, known_of}
+use Rattle.audit_types.specs.ListLaws.{all-map, all-filter, all-push, all-weaker}
+use Rattle.audit_core.specs.Laws.{LegalIsNarrow, sets_before}
+use Rattle.max_audit.specs.Laws.{DangerousByCandidates, HasBadCandidate}
+use Rattle.sum_audit.specs.Laws.{PinnedByUnitRow}
+use Rattle.denial_proof.specs.Canonical.{sets_with_asked, IsSpannedGroup}
+use Rattle.denial_proof.specs.Denied.{IsLegalIn, IsUnsafeSum}
+use Rattle.denial_proof.proofs.AskedIsNew.{LegalLaws, asked_new, own_agrees}
+use Rattle.denial_proof.proofs.SumParts.{sets_at_end}
+
+-- ---- groups
+
+-- a protected entry of the column with these rows
+record HasEntry (protected : List Protected) (column : ℕ) (rows : List ℕ) : Type 0 where
+  pub place : ℕ
+  pub entry : Protected
+  pub there : slice_get protected place ≡ Some entry
+  pub own : entry.column ≡ column
+  pub rows_are : entry.rows.list ≡ rows
+
+-- each group of the column is that of an entry
+entry_of_group : (protected : List Protected) (column : ℕ) (group : List ℕ) → Contains (groups_of column protected) group → HasEntry protected column group
+entry_of_group [] column group (k, within, is) = absurd (omega arith)
+entry_of_group (p ∷ protected) column group among = by (p.column == column) refl (entry_of_group protected column group) among
+  where
+    after : HasEntry protected column group → HasEntry (p ∷ protected) column group
+    after found = record { place = suc found.place; entry = found.entry; there = found.there; own = found.own; rows_are = found.rows_are }
+
+    by : (b : Bool) → (p.column == column) ≡ b → (Contains (groups_of column protected) group → HasEntry protected column group) →
+        Contains (map (λ (q : Protected). q.rows.list) (cond b (p ∷ filter (λ (q : Protected). q.column == column) protected) (filter (λ (q : Protected). q.column == column) protected))) group →
+        HasEntry (p ∷ protected) column group
+    by true own rest (zero, within, is) = record { place = 0; entry = p; there = refl; own = eqb-true p.column column own; rows_are = is }
+    by true own rest (suc k, within, is) = after (rest (k, omega arith, is))
+    by false other rest among = after (rest among)
+
+module _ (setting : Setting) (protected : AreProtected setting.shape setting.protected) where
+  -- an entry that is there fits
+  entry_fits : (place : ℕ) (p : Protected) → slice_get setting.protected place ≡ Some p → IsProtected setting.shape p
+  entry_fits place p there =
+      subst (IsProtected setting.shape) (get_or_from_slice_get setting.protected place p p there) (protected.0 place p (slice_get_within setting.protected place p there))
+
+  -- groups are sets of rows of the table
+  groups_are_rows : (column : ℕ) → All (AreRows setting.shape.rows) (groups_of column setting.protected)
+  groups_are_rows column = λ k d within.
+      let group = get_or (groups_of column setting.protected) k d in
+      let found = entry_of_group setting.protected column group (k, within, get_or_default (groups_of column setting.protected) k group d within) in
+      let fits = (entry_fits found.place found.entry found.there).0 in
+      subst (AreRows setting.shape.rows) found.rows_are (subst (λ n. AreRows n found.entry.rows.list) fits.same_n fits.are_rows)
+
+  -- a column of maxima has none
+  no_groups : (column : ℕ) → kind_at setting.shape column ≡ Max → groups_of column setting.protected ≡ []
+  no_groups column maxima = go (groups_of column setting.protected) refl
+    where
+      go : (groups : List (List ℕ)) → groups_of column setting.protected ≡ groups → groups_of column setting.protected ≡ []
+      go [] e = e
+      go (group ∷ groups) e =
+          let found = entry_of_group setting.protected column group (subst (λ (list : List (List ℕ)). Contains list group) (sym e) (0, omega arith, refl)) in
+          let both : Sum ≡ Max = sym (entry_fits found.place found.entry found.there).1 ∙ ap (kind_at setting.shape) found.own ∙ maxima in
+          absurd cc
+
+-- entries are over the rows of the table
+pub entries_same_n : (shape : Shape) (list : List Protected) → AreProtected shape list → AllByRecursion (λ (p : Protected). p.rows.n ≡ shape.rows) list
+entries_same_n shape list fit = all-weaker (IsProtected shape) (λ (p : Protected). p.rows.n ≡ shape.rows) (λ p fits. fits.0.same_n) list (recursion_from_All (IsProtected shape) list fit.0)
+
+-- ---- the answers before
+
+-- some rows of a table are none of an empty one
+some_row : (n : ℕ) (rows : List ℕ) → AreRows n rows → rows ≢ [] → 0 < n
+some_row n [] are some = absurd (some refl)
+some_row n (r ∷ rows) are some = omega (arith, are.1)
+
+module _ (setting : Setting) (history : List Answered) (fit : All (λ (r : Answered). FitsShape setting.shape r.column r.rows) history) where
+  -- what holds of each record that fits
+  each_record : (P : Answered → Type 0) → ((r : Answered) → FitsShape setting.shape r.column r.rows → P r) → AllByRecursion P history
+  each_record P holds =
+      all-weaker (λ (r : Answered). FitsShape setting.shape r.column r.rows) P holds history (recursion_from_All (λ (r : Answered). FitsShape setting.shape r.column r.rows) history fit)
+
+  pub records_same_n : AllByRecursion (λ (r : Answered). r.rows.n ≡ setting.shape.rows) history
+  records_same_n = each_record (λ (r : Answered). r.rows.n ≡ setting.shape.rows) (λ r fits. fits.same_n)
+
+  pub records_are_rows : AllByRecursion (λ (r : Answered). AreRows setting.shape.rows r.rows.list) history
+  records_are_rows = each_record (λ (r : Answered). AreRows setting.shape.rows r.rows.list) (λ r fits. subst (λ n. AreRows n r.rows.list) fits.same_n fits.are_rows)
+
+  sets_are_rows : (column : ℕ) → AllByRecursion (λ (a : Answer). AreRows setting.shape.rows a.rows) (answers_of column history)
+  sets_are_rows column =
+      all-map answer_in (λ a. AreRows setting.shape.rows a.rows) _ (all-filter (λ (r : Answered). AreRows setting.shape.rows r.rows.list) (λ r. r.column == column) history records_are_rows)
+
+  sets_have_rows : (column : ℕ) → AllByRecursion (λ (a : Answer). a.rows ≢ []) (answers_of column history)
+  sets_have_rows column =
+      all-map answer_in (λ a. a.rows ≢ []) _ (all-filter (λ (r : Answered). r.rows.list ≢ []) (λ r. r.column == column) history (each_record (λ (r : Answered). r.rows.list ≢ []) (λ r fits. fits.some)))
+
+  -- ---- the question
+
+  module _ (protected : AreProtected setting.shape setting.protected) (asked : Asked) (question : FitsShape setting.shape asked.column asked.rows)
+      (denied : IsDecisionAfter setting history asked.column asked.rows.list DeniedUnsafe) where
+    -- its set
+    own_rows : AreRows setting.shape.rows asked.rows.list
+    own_rows = subst (λ n. AreRows n asked.rows.list) question.same_n question.are_rows
+
+    -- that it is dangerous, were the column of this kind and had it these groups
+    abbrev DangerousAs : Kind → List (List ℕ) → Type 0
+    DangerousAs kind groups = IsDangerous (record { kind = kind; n = setting.shape.rows; answers = answers_of asked.column history; groups = groups }) asked.rows.list
+
+    pub bad_candidate : DangerousByCandidates → kind_at setting.shape asked.column ≡ Max → HasBadCandidate (known_max setting.shape.rows (answers_of asked.column history)) asked.rows.list
+    bad_candidate by_candidates maxima =
+        let formed : IsWellFormed (known_max setting.shape.rows (answers_of asked.column history)) = record { are_rows = sets_are_rows asked.column; some = sets_have_rows asked.column } in
+        let danger = subst (λ kind. DangerousAs kind (groups_of asked.column setting.protected)) maxima denied.1 in
+        (by_candidates setting.shape.rows (answers_of asked.column history) asked.rows.list formed own_rows question.some).0
+        (subst (DangerousAs Max) (no_groups setting protected asked.column maxima) danger)
+
+    module _ (laws : LegalLaws) (legal : IsLegalIn setting history) (sums : kind_at setting.shape asked.column ≡ Sum) where
+      abbrev table : Table
+      table = record { setting = setting; secrets = legal.secrets }
+
+      all_sets : AllByRecursion (AreRows setting.shape.rows) (map (λ a. a.rows) (answers_of asked.column history))
+      all_sets = all-map (λ (a : Answer). a.rows) (AreRows setting.shape.rows) (answers_of asked.column history) (sets_are_rows asked.column)
+
+      -- the sets give something away
+      gives_away : PinSomeRow setting.shape.rows (sets_with_asked history asked)
+          ⊎ ((place : ℕ) × IsSpannedGroup setting.shape.rows setting.protected asked.column (sets_with_asked history asked) place)
+      gives_away =
+          let n = setting.shape.rows in
+          let groups = groups_of asked.column setting.protected in
+          let answers = answers_of asked.column history in
+          let agrees = own_agrees laws table history legal.are_secrets protected legal.legal asked.column question.column_below sums in
+          let with_asked = all-push (AreRows n) (map (λ a. a.rows) answers) asked.rows.list all_sets own_rows in
+          let told = (laws.dangerous n answers groups asked.rows.list with_asked (groups_are_rows setting protected asked.column) (list_of legal.secrets asked.column, agrees)).0 (subst (λ kind. DangerousAs kind groups) sums denied.1) in
+          elim told [
+            | inl pinned ↦ inl pinned
+            | inr (group, guarded, spanned) ↦
+                let found = entry_of_group setting.protected asked.column group guarded in
+                inr (found.place, record {
+                  entry = found.entry;
+                  there = found.there;
+                  own = found.own;
+                  spanned = subst (λ rows. InSpan (map (set_row n) (sets_with_asked history asked)) (set_row n rows)) (sym found.rows_are) spanned;
+                })
+          ]
+
+      pub unsafe_sum : LegalIsNarrow → PinnedByUnitRow → IsUnsafeSum setting.shape.rows history setting.protected asked
+      unsafe_sum narrow by_unit_row =
+          let n = setting.shape.rows in
+          let answers = answers_of asked.column history in
+          let at_end : (row : List ℤ) → InSpan (map (set_row n) (sets_before asked.column history (length history))) row → InSpan (map (set_row n) (map (λ a. a.rows) answers)) row
+          = λ row span. subst (λ (sets : List (List ℕ)). InSpan (map (set_row n) sets) row) (sets_at_end asked.column history) span in
+          record {
+            narrow = λ place within. narrow table history asked.column place legal.legal sums within;
+            leaves_open = λ span.
+                let pinned = (by_unit_row n (map (λ a. a.rows) answers) 0 all_sets (some_row n asked.rows.list own_rows question.some)).1 (at_end (set_row n (0 ∷ [])) span) in
+                laws.pins_nothing table history asked.column 0 legal.are_secrets protected legal.legal question.column_below sums pinned;
+            new = λ span.
+                asked_new laws table history legal.are_secrets protected legal.legal asked.column question.column_below sums all_sets asked.rows.list own_rows
+                (groups_are_rows setting protected asked.column) denied.1 (at_end (set_row n asked.rows.list) span);
+            width = subst (λ kind. IsWithinWidthFor kind (known_of setting history asked.column) asked.rows.list) sums denied.0;
+            gives_away = gives_away;
+          }

@@ -1,0 +1,12 @@
+use Rattle.std.proofs.Common.{◌≡◌, ◌+◌, take, map, length}
+use Rattle.audit_types.specs.Form.{IsReducedForm}
+use Rattle.denial_proof.specs.Weights.{rows_at}
+use Rattle.denial_proof.specs.Kept.{marked_rows, HasWideFront}
+use Rattle.denial_proof.proofs.kept.mark_all.Given as goal
+
+abbrev pub invariant-loop-mark : goal.invariant-loop-mark
+invariant-loop-mark l = record {
+  same_n : l.form.n ≡ l.n + (length l.places + 1);
+  reduced : IsReducedForm (l.n + (length l.places + 1)) (take l.mark (marked_rows l.n (length l.places + 1) 0 (map (rows_at l.history) l.places))) l.form.rows;
+  narrow : ¬ (HasWideFront (l.n + (length l.places + 1)) (take l.mark (marked_rows l.n (length l.places + 1) 0 (map (rows_at l.history) l.places))));
+}

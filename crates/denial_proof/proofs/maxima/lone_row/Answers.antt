@@ -1,0 +1,17 @@
+use Rattle.std.specs.Int.{w128}
+use Rattle.std.proofs.lemmas.Int.{to_z-of_z}
+use Rattle.max_bounds.specs.Maxima.{and_answer}
+use Rattle.denial_proof.proofs.FirstPairs.{lone_some, lone_none}
+use Rattle.denial_proof.proofs.maxima.lone_row.Goals as goal
+
+pub returns-then-trial-clause-some : goal.returns-then-trial-clause-some
+returns-then-trial-clause-some c =
+    let answer = to_z-of_z w128 c.args.answer c.ranges.answer in
+    let consistent = rw answer at c.trial-trial.ensures.consistent in
+    let least = rw answer at c.trial-trial.ensures.lone in
+    lone_some (and_answer c.args.bounds.now.answers c.args.rows.now.list c.args.answer) c.trial-trial.result.lone (consistent.0 c.if-trial.true) least
+
+pub returns-then-trial-clause-none : goal.returns-then-trial-clause-none
+returns-then-trial-clause-none c =
+    let least = rw (to_z-of_z w128 c.args.answer c.ranges.answer) at c.trial-trial.ensures.lone in
+    lone_none c.args.bounds.now.n c.args.bounds.now.answers c.args.rows.now.list c.args.answer c.trial-trial.result.lone least

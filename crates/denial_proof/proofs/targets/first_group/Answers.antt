@@ -1,0 +1,20 @@
+use Rattle.std.proofs.Common.{◌≡◌, below_more, Some, length, refl, sym, ◌∙◌}
+use Rattle.std.specs.Prelude.{slice_get}
+use Rattle.std.proofs.lemmas.Bool.{true≢false}
+use Rattle.std.proofs.lemmas.Option.{slice_get_read}
+use Rattle.denial_proof.proofs.FirstTargets.{not_own, not_spanned}
+use Rattle.denial_proof.proofs.targets.first_group.Goals.{else-entry-column-via-then-entry-column+else-contains, else-entry-column-via-else-entry-column}
+use Rattle.denial_proof.proofs.targets.first_group.Goals as goal
+
+pub loop-place-preserved : goal.loop-place-preserved
+loop-place-preserved c =
+    let form = c.args.basis.now in
+    let protected = c.args.protected.now in
+    let p = c.index-protected-place.result in
+    let there : slice_get protected c.loop-place.place ≡ Some p = slice_get_read protected (length protected) c.loop-place.place p refl c.loop-place-test.true c.index-protected-place.is in
+    below_more _ _ c.loop-place.invariant
+    (elim c.else-entry-column.branch [
+      | else-entry-column-via-then-entry-column+else-contains w ↦
+          not_spanned form protected c.args.column c.loop-place.place p there (λ span. true≢false (sym (w.contains.ensures.1 span) ∙ w.if-contains.false))
+      | else-entry-column-via-else-entry-column w ↦ not_own form protected c.args.column c.loop-place.place p there w.if-entry-column.false
+    ])

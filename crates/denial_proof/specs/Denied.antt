@@ -1,0 +1,44 @@
+-- What is known of a question that is denied as unsafe after a legal history.
+use Rattle.std.specs.Prelude.{◌≡◌, ℕ, ◌≤◌, ◌⊎◌, List, [], ◌∷◌, map, length, All}
+use Rattle.audit_types.specs.declared.records.Answered.{Answered}
+use Rattle.audit_types.specs.declared.records.Asked.{Asked}
+use Rattle.audit_types.specs.declared.records.Protected.{Protected}
+use Rattle.audit_types.specs.declared.records.Verdict.TheVariants.{DeniedUnsafe}
+use Rattle.audit_types.specs.declared.shapes.Kind.TheVariants.{Sum, Max}
+use Rattle.audit_types.specs.Shapes.{kind_at}
+use Rattle.audit_types.specs.Column.{known_max}
+use Rattle.audit_types.specs.Form.{set_row, InSpan, HasNarrowForm}
+use Rattle.audit_types.specs.Direction.{PinSomeRow}
+use Rattle.audit_types.specs.History.{Setting, Secrets, FitsShape, AreSecrets, AreProtected, IsLegal, IsDecisionAfter, answers_of}
+use Rattle.audit_core.specs.Laws.{sets_before}
+use Rattle.max_audit.specs.Laws.{HasBadCandidate}
+use Rattle.denial_proof.specs.Canonical.{sets_with_asked, IsSpannedGroup}
+
+-- the history is legal for some table with this setting
+pub record IsLegalIn (setting : Setting) (history : List Answered) : Type 0 where
+  pub secrets : Secrets
+  pub are_secrets : AreSecrets setting.shape secrets
+  pub legal : IsLegal (record { setting = setting; secrets = secrets }) history
+
+-- the sets of a column of sums were narrow at every record, and leave row 0 open and the asked set outside of their span; with it
+-- they are narrow, and pin a row or span a protected group
+pub record IsUnsafeSum (n : ℕ) (history : List Answered) (protected : List Protected) (asked : Asked) : Type 0 where
+  pub narrow : (place : ℕ) → place ≤ length history → HasNarrowForm n (sets_before asked.column history place)
+  pub leaves_open : ¬ (InSpan (map (set_row n) (sets_before asked.column history (length history))) (set_row n (0 ∷ [])))
+  pub new : ¬ (InSpan (map (set_row n) (sets_before asked.column history (length history))) (set_row n asked.rows.list))
+  pub width : HasNarrowForm n (sets_with_asked history asked)
+  pub gives_away : PinSomeRow n (sets_with_asked history asked) ⊎ ((place : ℕ) × IsSpannedGroup n protected asked.column (sets_with_asked history asked) place)
+
+-- a sum that is denied as unsafe after a legal history is such a sum
+abbrev pub DeniedSumsAreUnsafe : Type 0
+DeniedSumsAreUnsafe =
+    (setting : Setting) (history : List Answered) (asked : Asked) → All (λ r. FitsShape setting.shape r.column r.rows) history → AreProtected setting.shape setting.protected → IsLegalIn setting history →
+    FitsShape setting.shape asked.column asked.rows → kind_at setting.shape asked.column ≡ Sum → IsDecisionAfter setting history asked.column asked.rows.list DeniedUnsafe →
+    IsUnsafeSum setting.shape.rows history setting.protected asked
+
+-- a maximum that is denied as unsafe has a candidate that would leave a lone row
+abbrev pub DeniedMaximaHaveCandidates : Type 0
+DeniedMaximaHaveCandidates =
+    (setting : Setting) (history : List Answered) (asked : Asked) → All (λ r. FitsShape setting.shape r.column r.rows) history → AreProtected setting.shape setting.protected →
+    FitsShape setting.shape asked.column asked.rows → kind_at setting.shape asked.column ≡ Max → IsDecisionAfter setting history asked.column asked.rows.list DeniedUnsafe →
+    HasBadCandidate (known_max setting.shape.rows (answers_of asked.column history)) asked.rows.list

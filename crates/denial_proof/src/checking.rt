@@ -1,0 +1,55 @@
+//! The check of a proof.
+ghost use Rattle.std.specs.Prelude.{◌≡◌, ◌↔◌, IsTrue, All};
+ghost use Rattle.audit_types.specs.Shapes.{IsShape};
+ghost use Rattle.audit_types.specs.History.{FitsShape, setting_of};
+ghost use Rattle.denial_proof.specs.Certificates.{IsProof};
+
+use crate::lone_rows::shows_row;
+use crate::proof_parts::Proof;
+use crate::totals::shows_total;
+use audit_types::{Answered, Asked, Kind, Protected, Shape};
+
+/// Whether this is a proof that the question is dangerous after these records. It takes no memory.
+pub fn check_proof(
+    shape: &Shape,
+    history: &[Answered],
+    protected: &[Protected],
+    asked: &Asked,
+    proof: &Proof,
+) -> bool
+    requires valid { IsShape shape.now }
+    requires records { All (λ r. FitsShape shape.now r.column r.rows) history.now }
+    requires entries { All (λ p. FitsShape shape.now p.column p.rows) protected.now }
+    requires question { FitsShape shape.now asked.now.column asked.now.rows }
+    ensures exact { IsTrue result ↔ IsProof (setting_of shape.now protected.now) history.now asked.now proof.now }
+{
+    match proof {
+        Proof::Sum {
+            target,
+            times,
+            terms,
+            asked: own,
+        } => {
+            shape.kind(asked.column) == Kind::Sum
+                && shows_total(
+                    shape.rows,
+                    history,
+                    protected,
+                    asked,
+                    *target,
+                    *times,
+                    &terms.list,
+                    *own,
+                )
+        }
+        Proof::Max {
+            answer,
+            row,
+            pair,
+            high,
+        } => {
+            shape.kind(asked.column) == Kind::Max
+                && shows_row(shape.rows, history, asked, *answer, *row, *pair, &high.list)
+        }
+    }
+}

@@ -1,0 +1,21 @@
+//! What a denial as unsafe says after a legal history. Each function computes nothing: its contract is the law.
+ghost use Rattle.denial_proof.specs.Denied.{DeniedSumsAreUnsafe, DeniedMaximaHaveCandidates};
+
+/// The sets of a denied sum give something away, and what its canonical proof is made from holds of them.
+pub(crate) fn denied_sums()
+    ensures { DeniedSumsAreUnsafe }
+{
+    audit_types::laws::true_answers();
+    audit_core::laws::legal_histories();
+    audit_core::laws::free_numbers();
+    audit_core::laws::narrow_fronts();
+    sum_audit::laws::pinned_rows();
+    sum_audit::laws::dangerous_sums();
+}
+
+/// Some candidate for a denied maximum is possible and leaves a lone row.
+pub(crate) fn denied_maxima()
+    ensures { DeniedMaximaHaveCandidates }
+{
+    max_audit::laws::dangerous_by_candidates();
+}

@@ -1,0 +1,121 @@
+//! The kept records of a column of sums, and their marked form.
+ghost use Rattle.std.specs.Prelude.{◌≡◌, ◌≢◌, ◌↔◌, ◌+◌, ◌≤◌, ◌<◌, ℕ, false, List, [], ◌∷◌, ◌++◌, map, take, length, IfOk, IfSome, IfNone, true};
+ghost use Rattle.std.specs.List.{AllByRecursion};
+ghost use Rattle.audit_types.specs.Limits.{most_rows};
+ghost use Rattle.audit_types.specs.Form.{set_row, InSpan, Reduced, IsReducedForm, HasNarrowForm, IsNarrow};
+ghost use Rattle.sum_basis.specs.Growth.{GrowsWide};
+ghost use Rattle.audit_core.specs.Laws.{sets_before};
+ghost use Rattle.denial_proof.specs.Kept.{AreKept, marked_rows, MarksNext, IsMarked, HasWideFormOf, HasWideFront};
+ghost use Rattle.denial_proof.specs.Weights.{rows_at};
+
+use crate::marking::write_marked;
+use audit_types::{Answered, NoMemory, RowSet};
+use std::alloc::Global;
+use sum_basis::laws::{forms_are_unique, one_more_set};
+use sum_basis::{Basis, Form, Grown};
+
+// Adds the set of a record of the column to the form, and reports whether it was outside the span. A record of another column
+// changes nothing.
+fn adds_to(basis: &mut Basis, answered: &Answered, column: u8) -> Result<bool, NoMemory>
+    requires same_n { answered.now.rows.n ≡ basis.old.n }
+    requires narrow { answered.now.column ≡ column → ¬ (GrowsWide basis.old (set_row basis.old.n answered.now.rows.list)) }
+    ensures n { basis.new.n ≡ basis.old.n }
+    ensures other { answered.now.column ≢ column → IfOk result (λ new. (new ≡ false) × (basis.new ≡ basis.old)) }
+    ensures stands { answered.now.column ≡ column → IfOk result (λ new. (sets : List (List ℕ)) → Reduced basis.old.n sets basis.old.rows → Reduced basis.old.n (sets ++ answered.now.rows.list ∷ []) basis.new.rows) }
+    ensures same { answered.now.column ≡ column → IfOk result (λ new. (new ≡ false) ↔ InSpan basis.old.rows (set_row basis.old.n answered.now.rows.list)) }
+{
+    if answered.column != column {
+        return Ok(false);
+    }
+    match basis.extend(&answered.rows)? {
+        Grown::Added => Ok(true),
+        Grown::Same => Ok(false),
+        Grown::Wide => unreachable!(),
+    }
+}
+
+/// The places of the records of the column whose sets don't lie in the span of those before them.
+pub(crate) fn kept_places(
+    alloc: Global,
+    n: u16,
+    history: &[Answered],
+    column: u8,
+) -> Result<Vec<u32>, NoMemory>
+    requires some { 0 < n }
+    requires at_most { n ≤ most_rows }
+    requires few { length history.now ≤ 65536 }
+    requires same_n { AllByRecursion (λ r. r.rows.n ≡ n) history.now }
+    requires narrow { (place : ℕ) → place ≤ length history.now → HasNarrowForm n (sets_before column history.now place) }
+    ensures kept { IfOk result (λ places. AreKept n column history.now places.items) }
+{
+    one_more_set();
+    forms_are_unique();
+    let mut basis = Basis::new(alloc, n)?;
+    let mut places = Vec::new(alloc);
+    for place in 0..history.len() {
+        if adds_to(&mut basis, &history[place], column)? {
+            places.push(place as u32)?;
+        }
+    }
+    Ok(places)
+}
+
+// Adds the marked row of a set to a form, unless the form would no longer be narrow. Reports whether it was added.
+fn mark_next(form: &mut Form, rows: &RowSet, mark: u16) -> Result<bool, NoMemory>
+    requires mark { rows.now.n + mark < form.old.n }
+    ensures n { form.new.n ≡ form.old.n }
+    ensures added { IfOk result (λ narrow. narrow ≡ true → MarksNext form.old rows.now mark (λ whole. IsReducedForm form.old.n whole form.new.rows)) }
+    ensures wide { IfOk result (λ narrow. narrow ≡ false → MarksNext form.old rows.now mark (HasWideFormOf form.old.n)) }
+    ensures narrow { IfOk result (λ narrow. IsNarrow form.new.rows) }
+{
+    let mut room = [0; 2048];
+    let bits = &mut room[..form.columns() as usize];
+    write_marked(bits, rows, mark);
+    let grown = form.add(bits)?;
+    // A form says of itself that it is narrow.
+    let _ = form.columns();
+    match grown {
+        Grown::Wide => Ok(false),
+        _ => Ok(true),
+    }
+}
+
+/// The form of the marked rows of the sets at these places, with a mark more for the asked set, unless the form of some front of
+/// them isn't narrow.
+pub(crate) fn mark_all(
+    alloc: Global,
+    n: u16,
+    history: &[Answered],
+    places: &[u32],
+) -> Result<Option<Form>, NoMemory>
+    requires some { 0 < n }
+    requires room { n + length places.now + 1 ≤ 2048 }
+    requires there { AllByRecursion (λ place. place < length history.now) places.now }
+    requires same_n { AllByRecursion (λ r. r.rows.n ≡ n) history.now }
+    ensures some { IfOk result (λ marked. IfSome marked (λ form. IsMarked n (length places.now + 1) (map (rows_at history.now) places.now) form)) }
+    ensures none { IfOk result (λ marked. IfNone marked (HasWideFront (n + (length places.now + 1)) (marked_rows n (length places.now + 1) 0 (map (rows_at history.now) places.now)))) }
+{
+    forms_are_unique();
+    let columns = n + places.len() as u16 + 1;
+    let mut form = Form::new(alloc, columns)?;
+    for mark in 0..places.len() {
+        if !mark_next(&mut form, &history[places[mark] as usize].rows, mark as u16)? {
+            return Ok(None);
+        }
+    }
+    Ok(Some(form))
+}
+
+/// The form with the marked row of the asked set, unless it isn't narrow.
+pub(crate) fn mark_asked(form: &Form, rows: &RowSet, mark: u16) -> Result<Option<Form>, NoMemory>
+    requires mark { rows.now.n + mark < form.now.n }
+    ensures some { IfOk result (λ marked. IfSome marked (λ new. (new.n ≡ form.now.n) × IsNarrow new.rows × MarksNext form.now rows.now mark (λ whole. IsReducedForm form.now.n whole new.rows))) }
+    ensures none { IfOk result (λ marked. IfNone marked (MarksNext form.now rows.now mark (HasWideFormOf form.now.n))) }
+{
+    let mut with_asked = form.copy()?;
+    if mark_next(&mut with_asked, rows, mark)? {
+        Ok(Some(with_asked))
+    } else {
+        Ok(None)
+    }
+}

@@ -1,0 +1,170 @@
+//! The check of a proof for a column of maxima.
+ghost use Rattle.std.specs.Prelude.{◌≡◌, ◌≢◌, ◌↔◌, ℕ, ◌<◌, true, ◌≤◌, [], IsTrue, IfSome, IfNone, length};
+ghost use Rattle.std.specs.List.{AllByRecursion};
+ghost use Rattle.audit_types.specs.Rows.{has_row};
+ghost use Rattle.audit_types.specs.Column.{Answer, IsOneOf, known_max};
+ghost use Rattle.denial_proof.specs.Lone.{HoldsBelow, RecordHoldsBelow, IsHeldBelow, ShowsLone};
+ghost use Rattle.denial_proof.specs.Certificates.{IsPair, answers_after, ShowsRow};
+
+use crate::heights::gives_all;
+use audit_types::{Answered, Asked, RowSet};
+
+// A set of rows and its answer, which may be one beyond 64 bits.
+#[derive(Clone, Copy)]
+struct Pair {
+    rows: RowSet,
+    value: i128,
+}
+
+// The pair at this place: a record of the column, or the asked set with its answer where there is no place.
+fn pair_at(
+    n: u16,
+    history: &[Answered],
+    asked: &Asked,
+    answer: i128,
+    place: Option<u32>,
+) -> Option<Pair>
+    requires same_n { AllByRecursion (λ r. r.rows.n ≡ n) history.now }
+    requires asked { asked.now.rows.n ≡ n }
+    ensures none { IfNone result ((pair : Answer) → ¬ (IsPair history.now asked.now answer place pair)) }
+    ensures pair { IfSome result (λ found. IsPair history.now asked.now answer place (record { rows = found.rows.list; value = found.value })) }
+    ensures same_n { IfSome result (λ found. found.rows.n ≡ n) }
+{
+    let Some(place) = place else {
+        return Some(Pair {
+            rows: asked.rows,
+            value: answer,
+        });
+    };
+    let record = history.get(place as usize)?;
+    if record.column != asked.column {
+        return None;
+    }
+    Some(Pair {
+        rows: record.rows,
+        value: record.answer as i128,
+    })
+}
+
+// Whether the set holds a row, which may be one beyond the table.
+fn holds(rows: &RowSet, row: u16) -> bool
+    ensures { IsTrue result ↔ (has_row rows.now.list row ≡ true) }
+{
+    if rows.n() <= row {
+        return false;
+    }
+    rows.has(row)
+}
+
+// Whether an answer is over a set that holds the row, and below the value.
+fn holds_below(rows: &RowSet, answer: i128, value: i128, row: u16) -> bool
+    requires within { row < rows.now.n }
+    ensures { IsTrue result ↔ HoldsBelow value row (record { rows = rows.now.list; value = answer }) }
+{
+    answer < value && rows.has(row)
+}
+
+// Whether a record of the column does so.
+fn record_holds_below(answered: &Answered, column: u8, value: i128, row: u16) -> bool
+    requires within { row < answered.now.rows.n }
+    ensures { IsTrue result ↔ RecordHoldsBelow column value row answered.now }
+{
+    answered.column == column && holds_below(&answered.rows, answered.answer as i128, value, row)
+}
+
+// Whether a lower answer is over a set that holds the row.
+fn is_held_below(
+    n: u16,
+    history: &[Answered],
+    asked: &Asked,
+    answer: i128,
+    value: i128,
+    row: u16,
+) -> bool
+    requires row { row < n }
+    requires same_n { AllByRecursion (λ r. r.rows.n ≡ n) history.now }
+    requires asked { asked.now.rows.n ≡ n }
+    ensures { IsTrue result ↔ IsHeldBelow (answers_after history.now asked.now answer) value row }
+{
+    for record in history {
+        if record_holds_below(record, asked.column, value, row) {
+            return true;
+        }
+    }
+    holds_below(&asked.rows, answer, value, row)
+}
+
+// Whether each row of the set but this one is held below the value.
+fn others_are_held_below(
+    n: u16,
+    history: &[Answered],
+    asked: &Asked,
+    answer: i128,
+    pair: &Pair,
+    row: u16,
+) -> bool
+    requires same_n { AllByRecursion (λ r. r.rows.n ≡ n) history.now }
+    requires asked { asked.now.rows.n ≡ n }
+    requires pair { pair.now.rows.n ≡ n }
+    ensures { IsTrue result ↔ ((q : ℕ) → has_row pair.now.rows.list q ≡ true → q ≢ row → IsHeldBelow (answers_after history.now asked.now answer) pair.now.value q) }
+{
+    // A set says of itself that its rows are rows of the table.
+    let _ = pair.rows.n();
+    for q in 0..n {
+        if pair.rows.has(q)
+            && q != row
+            && !is_held_below(n, history, asked, answer, pair.value, q)
+        {
+            return false;
+        }
+    }
+    true
+}
+
+// Whether `high` gives all answers and this one, and every row of the pair's set but this row is held below the pair's answer.
+fn shows_lone(
+    n: u16,
+    history: &[Answered],
+    asked: &Asked,
+    answer: i128,
+    pair: &Pair,
+    row: u16,
+    high: &[i128],
+) -> bool
+    requires same_n { AllByRecursion (λ r. r.rows.n ≡ n) history.now }
+    requires some { AllByRecursion (λ r. r.rows.list ≢ []) history.now }
+    requires asked { asked.now.rows.n ≡ n }
+    requires some_asked { asked.now.rows.list ≢ [] }
+    requires pair { pair.now.rows.n ≡ n }
+    requires among { IsOneOf (record { rows = pair.now.rows.list; value = pair.now.value }) (answers_after history.now asked.now answer) }
+    ensures { IsTrue result ↔ ShowsLone (known_max n (answers_after history.now asked.now answer)) (record { rows = pair.now.rows.list; value = pair.now.value }) row high.now }
+{
+    if !holds(&pair.rows, row) {
+        return false;
+    }
+    gives_all(n, history, asked, answer, high)
+        && others_are_held_below(n, history, asked, answer, pair, row)
+}
+
+/// Whether `high` gives all answers and this one, and every row of the pair's set but this row is held below the pair's
+/// answer.
+pub(crate) fn shows_row(
+    n: u16,
+    history: &[Answered],
+    asked: &Asked,
+    answer: i128,
+    row: u16,
+    place: Option<u32>,
+    high: &[i128],
+) -> bool
+    requires same_n { AllByRecursion (λ r. r.rows.n ≡ n) history.now }
+    requires some { AllByRecursion (λ r. r.rows.list ≢ []) history.now }
+    requires asked { asked.now.rows.n ≡ n }
+    requires some_asked { asked.now.rows.list ≢ [] }
+    ensures { IsTrue result ↔ ShowsRow n history.now asked.now answer row place high.now }
+{
+    match pair_at(n, history, asked, answer, place) {
+        Some(pair) => shows_lone(n, history, asked, answer, &pair, row, high),
+        None => false,
+    }
+}

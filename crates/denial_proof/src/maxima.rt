@@ -1,0 +1,211 @@
+//! The canonical proof of a maximum.
+ghost use Rattle.std.specs.Prelude.{◌≡◌, ◌≢◌, ◌↔◌, ◌<◌, ◌≤◌, ◌≤ℤ◌, ◌^◌, ◌+◌, pos, neg_ℤ, [], Some, IsTrue, IfOk, IfSome, IfNone, length};
+ghost use Rattle.std.specs.List.{AllByRecursion};
+ghost use Rattle.audit_types.specs.Rows.{IsLeast};
+ghost use Rattle.audit_types.specs.Extremes.{IsConsistent, IsLeastLone, least_of, upper_bound};
+ghost use Rattle.audit_types.specs.Column.{known_max};
+ghost use Rattle.audit_types.specs.History.{answers_of};
+ghost use Rattle.max_audit.specs.Laws.{LeavesLoneRow, HasBadCandidate};
+ghost use Rattle.max_audit.specs.Witnesses.{highest, bound_or_zero};
+ghost use Rattle.max_bounds.specs.Maxima.{and_answer};
+ghost use Rattle.denial_proof.specs.Lone.{IsAt, IsOnly};
+ghost use Rattle.denial_proof.specs.Canonical.{IsFirstAnswer, IsOnlyAt, IsMaxProof};
+
+use crate::proof_parts::{Heights, Proof};
+use audit_types::{Answered, Asked, NoMemory, RowSet};
+use max_audit::MaxColumn;
+use max_audit::laws::others_are_free;
+use max_bounds::Bounds;
+use std::alloc::Global;
+
+// An answer that leaves a lone row, and the least such row.
+#[derive(Clone, Copy)]
+struct LoneRow {
+    answer: i128,
+    row: u16,
+}
+
+// The least lone row after this answer, if the answer is possible and leaves one.
+fn lone_row(bounds: &Bounds, rows: &RowSet, answer: i128) -> Option<u16>
+    requires same_n { rows.now.n ≡ bounds.now.n }
+    requires some { rows.now.list ≢ [] }
+    requires low { neg_ℤ (pos (2 ^ 63 + 1)) ≤ℤ answer }
+    requires high { answer ≤ℤ pos (2 ^ 63) }
+    ensures some { IfSome result (λ row. IsConsistent (and_answer bounds.now.answers rows.now.list answer) × IsLeastLone (and_answer bounds.now.answers rows.now.list answer) (Some row)) }
+    ensures none { IfNone result (¬ (LeavesLoneRow (known_max bounds.now.n bounds.now.answers) rows.now.list answer)) }
+{
+    let trial = bounds.trial(rows, answer);
+    if trial.consistent { trial.lone } else { None }
+}
+
+// The least candidate that is possible and leaves a lone row.
+fn first_answer(maxima: &MaxColumn, rows: &RowSet) -> Result<Option<LoneRow>, NoMemory>
+    requires same_n { rows.now.n ≡ maxima.now.n }
+    requires some { rows.now.list ≢ [] }
+    ensures first { IfOk result (λ found. IfSome found (λ lone. IsFirstAnswer (known_max maxima.now.n maxima.now.answers) rows.now.list lone.answer)) }
+    ensures least { IfOk result (λ found. IfSome found (λ lone. IsLeastLone (and_answer maxima.now.answers rows.now.list lone.answer) (Some lone.row))) }
+    ensures none { IfOk result (λ found. IfNone found (¬ (HasBadCandidate (known_max maxima.now.n maxima.now.answers) rows.now.list))) }
+{
+    let bounds = maxima.bounds();
+    let candidates = maxima.candidates()?;
+    for answer in &candidates {
+        if let Some(row) = lone_row(bounds, rows, *answer) {
+            return Ok(Some(LoneRow {
+                answer: *answer,
+                row,
+            }));
+        }
+    }
+    Ok(None)
+}
+
+fn or_zero(bound: Option<i64>) -> i128
+    ensures { result ≡ bound_or_zero bound }
+{
+    match bound {
+        Some(bound) => bound as i128,
+        None => 0,
+    }
+}
+
+fn least(answer: i128, bound: Option<i64>) -> i128
+    ensures { result ≡ least_of answer bound }
+{
+    match bound {
+        Some(bound) => answer.min(bound as i128),
+        None => answer,
+    }
+}
+
+// The bound of a row once the question has this answer, and 0 where it has none.
+fn height(bounds: &Bounds, rows: &RowSet, answer: i128, row: u16) -> i128
+    requires same_n { rows.now.n ≡ bounds.now.n }
+    requires row { row < bounds.now.n }
+    ensures { result ≡ bound_or_zero (upper_bound (and_answer bounds.now.answers rows.now.list answer) row) }
+{
+    let bound = bounds.upper(row);
+    if rows.has(row) {
+        least(answer, bound)
+    } else {
+        or_zero(bound)
+    }
+}
+
+// Each row at its bound once the question has this answer.
+fn heights(
+    alloc: Global,
+    bounds: &Bounds,
+    rows: &RowSet,
+    answer: i128,
+) -> Result<Vec<i128>, NoMemory>
+    requires same_n { rows.now.n ≡ bounds.now.n }
+    ensures { IfOk result (λ list. list.items ≡ highest bounds.now.n (and_answer bounds.now.answers rows.now.list answer)) }
+{
+    let mut list = Vec::new(alloc);
+    for row in 0..bounds.n() {
+        list.push(height(bounds, rows, answer, row))?;
+    }
+    Ok(list)
+}
+
+// Whether a row is in the set, at this height.
+fn is_at(heights: &[i128], rows: &RowSet, height: i128, row: u16) -> bool
+    requires within { rows.now.n ≤ length heights.now }
+    requires row { row < rows.now.n }
+    ensures { IsTrue result ↔ IsAt heights.now rows.now.list height row }
+{
+    rows.has(row) && heights[row as usize] == height
+}
+
+// Whether it is the only one.
+fn is_only(heights: &[i128], rows: &RowSet, height: i128, row: u16) -> bool
+    requires within { rows.now.n ≤ length heights.now }
+    requires row { row < rows.now.n }
+    ensures { IsTrue result ↔ IsOnly heights.now rows.now.list height row }
+{
+    // A set says of itself that its rows are rows of the table.
+    let n = rows.n();
+    for q in 0..n {
+        if q != row && is_at(heights, rows, height, q) {
+            return false;
+        }
+    }
+    is_at(heights, rows, height, row)
+}
+
+// Whether the record is of the column, and the row the only one of its set at its answer.
+fn is_only_of(answered: &Answered, column: u8, heights: &[i128], row: u16) -> bool
+    requires within { answered.now.rows.n ≤ length heights.now }
+    requires row { row < answered.now.rows.n }
+    ensures { IsTrue result ↔ ((answered.now.column ≡ column) × IsOnly heights.now answered.now.rows.list answered.now.answer row) }
+{
+    answered.column == column && is_only(heights, &answered.rows, answered.answer as i128, row)
+}
+
+// The first record of the column in whose set the row is the only one at its answer.
+fn first_pair(history: &[Answered], column: u8, heights: &[i128], row: u16) -> Option<u32>
+    requires few { length history.now ≤ 65536 }
+    requires same_n { AllByRecursion (λ r. r.rows.n ≡ length heights.now) history.now }
+    requires row { row < length heights.now }
+    ensures { IsLeast (IsOnlyAt history.now column heights.now row) result }
+{
+    for (place, answered) in history.iter().enumerate() {
+        if is_only_of(answered, column, heights, row) {
+            return Some(place as u32);
+        }
+    }
+    None
+}
+
+// The canonical proof, from the answer that leaves a lone row.
+fn prove_lone(
+    alloc: Global,
+    maxima: &MaxColumn,
+    history: &[Answered],
+    asked: &Asked,
+    answer: i128,
+    row: u16,
+) -> Result<Proof, NoMemory>
+    requires same_n { asked.now.rows.n ≡ maxima.now.n }
+    requires some { asked.now.rows.list ≢ [] }
+    requires few { length history.now ≤ 65536 }
+    requires records { AllByRecursion (λ r. r.rows.n ≡ maxima.now.n) history.now }
+    requires answers { maxima.now.answers ≡ answers_of asked.now.column history.now }
+    requires first { IsFirstAnswer (known_max maxima.now.n maxima.now.answers) asked.now.rows.list answer }
+    requires least { IsLeastLone (and_answer maxima.now.answers asked.now.rows.list answer) (Some row) }
+    ensures { IfOk result (IsMaxProof maxima.now.n history.now asked.now) }
+{
+    others_are_free();
+    // A set says of itself that its rows are rows of the table.
+    let _ = asked.rows.n();
+    let bounds = maxima.bounds();
+    let list = heights(alloc, bounds, &asked.rows, answer)?;
+    let pair = first_pair(history, asked.column, &list, row);
+    Ok(Proof::Max {
+        answer,
+        row,
+        pair,
+        high: Heights { list },
+    })
+}
+
+/// The canonical proof that a maximum is dangerous.
+pub(crate) fn prove_max(
+    alloc: Global,
+    maxima: &MaxColumn,
+    history: &[Answered],
+    asked: &Asked,
+) -> Result<Proof, NoMemory>
+    requires same_n { asked.now.rows.n ≡ maxima.now.n }
+    requires some { asked.now.rows.list ≢ [] }
+    requires few { length history.now ≤ 65536 }
+    requires records { AllByRecursion (λ r. r.rows.n ≡ maxima.now.n) history.now }
+    requires answers { maxima.now.answers ≡ answers_of asked.now.column history.now }
+    requires dangerous { HasBadCandidate (known_max maxima.now.n maxima.now.answers) asked.now.rows.list }
+    ensures { IfOk result (IsMaxProof maxima.now.n history.now asked.now) }
+{
+    match first_answer(maxima, &asked.rows)? {
+        Some(lone) => prove_lone(alloc, maxima, history, asked, lone.answer, lone.row),
+        None => unreachable!(),
+    }
+}
