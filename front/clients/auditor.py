@@ -169,11 +169,11 @@ def listed(names):
 
 
 def counted(terms):
-    """Some terms in words: records 0 and 2, 3 times record 4 and this question."""
+    """Some terms in words: records 0 and 2, 3 times record 4 and the answer asked for."""
     once = [str(place) for place, times in terms if abs(times) == 1 and place != "asked"]
     names = ["record" + "s" * (len(once) > 1) + " " + listed(once)] if once else []
     for place, times in terms:
-        name = "this question" if place == "asked" else f"record {place}"
+        name = "the answer asked for" if place == "asked" else f"record {place}"
         if abs(times) != 1 or place == "asked":
             names.append(name if abs(times) == 1 else f"{abs(times)} times {name}")
     return listed(names)

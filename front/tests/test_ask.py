@@ -210,7 +210,7 @@ class OverAFolder(TableTest):
         lines = said.splitlines()
         self.assertEqual(lines[:6], [
             "It would be answered now: what was answered since makes it safe. Ask it again.", '  {"verdict":"released"}', "1765.00",
-            "the number of row 5 is record 0, less this question", '  {"verdict":"unsafe","row":5,"times":1,"by":[[0,1]],"asked":-1}',
+            "the number of row 5 is record 0, less the answer asked for", '  {"verdict":"unsafe","row":5,"times":1,"by":[[0,1]],"asked":-1}',
             "were the answer 0, row 5 would be the only one that can have it"])
         self.assertEqual((status, lines[7], lines[9][:12]), (1, "It would be answered: counts always are.", "not answered"))
 
@@ -397,7 +397,7 @@ class OverADoor(unittest.TestCase):
         status, said = self.ask([total, '{"count":2}', '{"count":0}', '{"count":1}', '{"verdict":"unsafe","proof":"wide"}'],
                                 "why sum salary where age = 3", "why avg salary")
         self.assertEqual((status, said.splitlines()[:2]), (0, [
-            "2 times the protected total where team = 'Q\\u202eA' is this question, less 2 times record 3", "  " + total]))
+            "2 times the protected total where team = 'Q\\u202eA' is the answer asked for, less 2 times record 3", "  " + total]))
         self.assertIn("would need larger numbers than are told", said)
         self.assertEqual([path for path, _, _ in ListedDoor.asked], ["/t/why", "/t/ask", "/t/ask", "/t/ask", "/t/why"])
         for wrong in ("{}", '{"verdict":"unsafe"}', '{"verdict":"unsafe","row":0,"times":1,"by":[3],"asked":1}'):

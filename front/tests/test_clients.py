@@ -106,7 +106,7 @@ class OverTheProgram(unittest.TestCase):
         before = self.table.transcript()
         why = self.table.why("sum", "salary", self.alone())
         self.assertEqual(why.line, {"verdict": "unsafe", "row": row, "times": 1, "by": [], "asked": 1})
-        self.assertEqual((str(why), bool(why), why.verdict), (f"the number of row {row} is this question", True, "unsafe"))
+        self.assertEqual((str(why), bool(why), why.verdict), (f"the number of row {row} is the answer asked for", True, "unsafe"))
         self.assertFalse(self.table.why("count", None))
         said, faults, status = typed(self.url, f"why sum salary where {self.alone()}")
         self.assertEqual((said, faults, status), ([str(why), json.dumps(why.line, separators=(",", ":"))], "", 0))
@@ -286,9 +286,9 @@ class Scripted(unittest.TestCase):
         schema = {"columns": [{"name": name, "is": kind} for name, kind in COLUMNS.items()],
                   "protect": [{"column": "pay", "where": "age > 99"}, {"column": "pay", "where": "team = 'A'"}]}
         cases = [("sum", "pay", {"row": 4, "times": 1, "by": [[0, -1], [1, 1], [2, -1], [3, -1]], "asked": 1},
-                  "the number of row 4 is record 1 and this question, less records 0, 2 and 3"),
+                  "the number of row 4 is record 1 and the answer asked for, less records 0, 2 and 3"),
                  ("avg", "pay", {"group": 0, "times": 2, "by": [[0, 2**112], [4, -3]], "asked": -4},
-                  f"2 times the protected total where team = 'A' is {2**112} times record 0, less 3 times record 4 and 4 times this question"),
+                  f"2 times the protected total where team = 'A' is {2**112} times record 0, less 3 times record 4 and 4 times the answer asked for"),
                  ("max", "best", {"answer": 8, "row": 1, "pair": 1, "high": [8, 9]}, "were the answer 8, row 1 would be the only one of record 1 that can have the 9"),
                  ("sum", "pay", {"proof": "wide"}, "It is denied as unsafe, and its certificate would need larger numbers than are told.")]
         for kind, column, line, words in cases:

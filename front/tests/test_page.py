@@ -170,7 +170,7 @@ class OverTheProgram(PageCase):
         self.browser.keys("Enter")
         self.browser.wait(lambda: self.browser.all("#answer details"))
         said = self.browser.text("answer")
-        self.assertIn(f"The number of row {row} is this question. Row {row}: team {self.single().team}, site {self.single().site}", said)
+        self.assertIn(f"The number of row {row} is the answer asked for. Row {row}: team {self.single().team}, site {self.single().site}", said)
         self.assertIn("it tells nothing more", said)
         self.assertEqual(self.browser.all("#answer button"), [])
         self.browser.click("#answer summary")
@@ -431,7 +431,7 @@ class SeveralTables(PageCase):
         self.browser.click("#answer button")
         self.browser.wait(lambda: self.browser.all("#answer details"))
         row = [row.age for row in self.parts["york"]].index(single)
-        self.assertIn(f"york: The number of row {row} is this question. Row {row}: team {self.parts['york'][row].team}", self.browser.text("answer"))
+        self.assertIn(f"york: The number of row {row} is the answer asked for. Row {row}: team {self.parts['york'][row].team}", self.browser.text("answer"))
         self.assertEqual([self.office.get(name + "/transcript.jsonl") for name in self.parts], before)
 
     def test_the_address_of_one_table_has_its_page(self):

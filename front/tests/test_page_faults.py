@@ -119,12 +119,12 @@ class Scripted(OneTable):
         far = "5192296858534827628530496329220096"
         cases = [
             ("sum", {"row": 2, "times": 1, "by": [[0, -1], [1, 1], [2, -1], [3, -1]], "asked": 1},
-             'The number of row 2 is record 1 and this question, less records 0, 2 and 3. Row 2: constructor A, age +50.'),
+             'The number of row 2 is record 1 and the answer asked for, less records 0, 2 and 3. Row 2: constructor A, age +50.'),
             ("avg", {"row": 0, "times": 2, "by": [[0, 1], [4, -3]], "asked": -4},
-             "2 times the number of row 0 is record 0, less 3 times record 4 and 4 times this question. Row 0"),
+             "2 times the number of row 0 is record 0, less 3 times record 4 and 4 times the answer asked for. Row 0"),
             ("sum", {"group": 0, "times": 1, "by": [[7, int(far)]], "asked": -1},
-             "The protected total where constructor = '<b>A</b>' is 5,192,296,858,534,827,628,530,496,329,220,096 times record 7, less this question."),
-            ("sum", {"row": 0, "times": 1, "by": [[place, 1] for place in range(20)], "asked": 1}, "9, 10 and 11, 8 more and this question."),
+             "The protected total where constructor = '<b>A</b>' is 5,192,296,858,534,827,628,530,496,329,220,096 times record 7, less the answer asked for."),
+            ("sum", {"row": 0, "times": 1, "by": [[place, 1] for place in range(20)], "asked": 1}, "9, 10 and 11, 8 more and the answer asked for."),
             ("max", {"answer": 8, "row": 1, "pair": 1, "high": [8, 9, 8]},
              'Were the answer 8, row 1 would be the only one of record 1 that can have the 9. Row 1: constructor B, "x", age 40.'),
             ("max", {"answer": -5, "row": 0, "pair": "asked", "high": [-5, 9, 9]}, "Were the answer -5, row 0 would be the only one that can have it. Row 0"),
