@@ -17,5 +17,5 @@ pub use audit_core::Outcome;
 pub use growing::GrowFault;
 pub use keeper::{KeepFault, Keeper};
 pub use outcome::StoreFault;
-pub use starting::{StartFault, audited};
+pub use starting::{StartFault, recover};
 pub use store::Store;
