@@ -19,7 +19,7 @@ use Rattle.certificate_lines.specs.declared.explaining.ExplainFault.{ExplainFaul
 use Rattle.certificate_lines.specs.declared.explaining.ExplainFault.TheVariants as explain
 use Rattle.journal_audit.specs.declared.faults.AuditFault.{AuditFault}
 use Rattle.journal_audit.specs.declared.faults.AuditFault.TheVariants as report
-use Rattle.transcript_sim.specs.Verdicts.{word_of}
+use Rattle.question_plan.specs.Dues.{word_of}
 use Rattle.transcript_sim.specs.declared.simulating.SimulationFault.{SimulationFault}
 use Rattle.transcript_sim.specs.declared.simulating.SimulationFault.TheVariants as verdict
 use Rattle.auditor_top.specs.declared.compacting.CompactFault.{CompactFault}

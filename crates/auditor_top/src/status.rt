@@ -12,12 +12,13 @@ use audit_store::{GrowFault, StartFault};
 use audit_types::{NoMemory, Shape};
 use certificate_lines::ExplainFault;
 use journal_audit::AuditFault;
+use question_plan::Due;
 use schema_json::SchemaFault;
 use set_index::IndexFault;
 use std::alloc::Global;
 use std::fmt;
 use table_load::TableFault;
-use transcript_sim::{Due, SimulationFault};
+use transcript_sim::SimulationFault;
 
 /// The sources that a run reads.
 #[derive(Clone, Copy, PartialEq, Eq)]
