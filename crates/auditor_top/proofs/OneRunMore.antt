@@ -108,8 +108,8 @@ never_goes_on words command one schema table file at base is asked never goes =
     absurd (never (subst (λ (k : Command). GoesOnOver k schema table file at base) (one_command words command one asked is) goes))
 
 -- what a run of the command does that the arguments name
-pub does_so : {P I B : Type 0} {files : source.Ghosts P} {lines : source.Ghosts I} {bench : Ghosts B} {status : Status} {old new : Objects P I B}
+pub does_so : {P I B : Type 0} (files : source.Ghosts P) (lines : source.Ghosts I) (bench : Ghosts B) (status : Status) (old new : Objects P I B)
     (words : Option Command) (one command : Command) → words ≡ Some one → words ≡ Some command → Does files lines bench one status old new →
     Does files lines bench command status old new
-does_so {files = files} {lines = lines} {bench = bench} {status = status} {old = old} {new = new} words one command is asked does =
+does_so files lines bench status old new words one command is asked does =
     subst (λ (k : Command). Does files lines bench k status old new) (one_command words one command is asked) does

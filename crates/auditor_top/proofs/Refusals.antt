@@ -28,7 +28,7 @@ use Rattle.auditor_top.specs.Ends.{AuditEnds, GrowEnds, LeavesFile, ServeEnds, S
 use Rattle.auditor_top.specs.Ready.{IsGiven, EndsEarly, GivesUp}
 use Rattle.auditor_top.specs.Runs.{Objects, objects, faults_of, Does, Making, Serving, Auditing, Simulating, Drilling, Growing, Explaining, Compacting}
 use Rattle.auditor_top.proofs.AuditEndings.{untouched_report}
-use Rattle.auditor_top.proofs.ExplainEndings.{none_told, untouched_lines}
+use Rattle.auditor_top.proofs.ExplainEndings.{none_first, untouched_lines}
 use Rattle.auditor_top.proofs.OneTable.{nothing_served, untouched_stops}
 use Rattle.auditor_top.proofs.SimulationEndings.{none_begun, no_verdict}
 use Rattle.auditor_top.proofs.StepFaults.{not_made}
@@ -177,17 +177,18 @@ module _ {P I B : Type 0} (files : source.Ghosts P) (lines : source.Ghosts I) (b
   unexplained is = record {
     explained = λ ptold itold told base history over.
         let text = lines.left input in
-        let begun = none_told base.columns (public_part base) history (counted_lines text) in
+        let first = none_first text in
         let same = reads.sent ∙ sym (append-nil (bench.sent at)) in
         let gave_up = gives_up Explain is ptold (λ opens. told) (base, history, over) in (
           [],
-          by_giving_up (λ (s : Status). ExplainEnds s base.columns (public_part base) history text text []) status gave_up refl refl begun begun,
+          [],
+          by_giving_up (λ (s : Status). ExplainEnds s text text []) status gave_up refl refl first first,
+          tt,
           by_giving_up (λ (s : Status). SendsLines s [] (bench.sent at) (bench.sent later)) status gave_up same same (0, same) same,
         );
     explaining = λ ptold told quiet base history over.
         weakens bench at later (IsUntouched (bench.file at) (bench.sent at)) _
-        (λ image sent same. untouched_lines lines.told base.columns (public_part base) history (counted_lines (lines.left input)) (bench.file at) (bench.sent at)
-        image sent same) (reads.untouched quiet);
+        (untouched_lines lines.told base.columns (public_part base) history (lines.left input) (bench.file at) (bench.sent at)) (reads.untouched quiet);
     undisturbed = left_alone;
     explain_calls = λ itold told done. never_done status early done;
     explains = λ ptold itold told base history over within none. wants (gives_up Explain is ptold (λ opens. told) (base, history, over)) none;

@@ -7,14 +7,14 @@ use Rattle.schema_json.specs.Columns.{Column}
 use Rattle.set_index.specs.Indexed.{IndexView}
 use Rattle.table_load.specs.Database.{Database, AreTwins}
 use Rattle.journal_audit.specs.Reports.{Audit, Reports, ReportsFront, SendsMeanwhile, subjects}
-use Rattle.certificate_lines.specs.Explained.{ExplainsMeanwhile}
+use Rattle.certificate_lines.specs.Explained.{AreExplained}
 use Rattle.transcript_sim.specs.Verdicts.{AreVerdicts}
 use Rattle.auditor_top.specs.declared.status.Which.TheVariants.{Schema, Table, Input}
 use Rattle.auditor_top.specs.declared.status.Status.{Status}
 use Rattle.auditor_top.specs.declared.status.Status.TheVariants.{Done, SourceFault, BenchFault, NoMemory}
 use Rattle.auditor_top.specs.Commands.{ArePublicFilesOf}
 use Rattle.auditor_top.specs.Compactions.{CompactEnds, SendsCounts}
-use Rattle.auditor_top.specs.Ends.{AuditEnds, ExplainEnds, audit_over, public_part}
+use Rattle.auditor_top.specs.Ends.{AuditEnds, audit_over, public_part}
 use Rattle.auditor_top.specs.Shown.{AreShownAlike}
 
 -- what is said of one thing is said of the same one
@@ -49,8 +49,7 @@ twins_alike base other history twins =
       report = λ status before after. same_report status base other history audit before after;
       meanwhile = λ file before image sent. same_said (λ (a : Audit). SendsMeanwhile a (subjects a.shape) file before image sent)
           (audit_over base history) (audit_over other history) audit;
-      explained = λ status input left told. same_public (λ cs i. ExplainEnds status cs i history input left told) base other twins.0;
-      explaining = λ tells lines file before image sent. same_public (λ cs i. ExplainsMeanwhile tells cs i history lines file before image sent) base other twins.0;
+      certificates = λ asked lines. same_public (λ cs i. AreExplained cs i history asked lines) base other twins.0;
       compacted = λ status spare before after. same_said (λ (s : Shape). CompactEnds status s history spare before after) base.secret.shape other.secret.shape twins.1;
       compacting = λ file before image sent. same_said (λ (s : Shape). SendsCounts s history file before image sent) base.secret.shape other.secret.shape twins.1;
       files = λ schema table. same_public (ArePublicFilesOf schema table) base other twins.0;

@@ -11,7 +11,7 @@ use Rattle.set_index.specs.Indexed.{IndexView, OneListOfEntries}
 use Rattle.table_load.specs.Cells.{PublicView}
 use Rattle.table_load.specs.Tables.{public_of}
 use Rattle.line_wire.specs.Lines.{CountedLine, counted_lines}
-use Rattle.question_plan.specs.Session.{Replied}
+use Rattle.question_plan.specs.Session.{Replied, bytes_of}
 use Rattle.transcript_sim.specs.declared.simulating.SimulationFault.{SimulationFault}
 use Rattle.transcript_sim.specs.declared.simulating.SimulationFault.TheVariants as verdict
 use Rattle.transcript_sim.specs.Verdicts.{AreVerdicts}
@@ -74,7 +74,7 @@ simulation_ends (Err verdict.Bench) columns public input left verdicts are = are
 simulation_ends (Err verdict.NoMemory) columns public input left verdicts are = are
 
 pub simulation_sends : (ended : Result (Unit {0}) SimulationFault) (verdicts : List (Replied Answered)) (before after : List ℕ) →
-    EndSends ended verdicts before after → SendsLines (simulation_status ended) verdicts before after
+    EndSends ended verdicts before after → SendsLines (simulation_status ended) (bytes_of verdicts) before after
 simulation_sends (Ok done) verdicts before after sends = sends
 simulation_sends (Err verdict.Input) verdicts before after sends = sends
 simulation_sends (Err verdict.Limit) verdicts before after sends = sends

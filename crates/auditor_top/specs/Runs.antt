@@ -1,5 +1,6 @@
 -- What a run of each command does, by its status, and by the objects that it is handed: as they were and as they are left.
 use Rattle.std.specs.Prelude.{◌≡◌, ◌≢◌, ◌≤◌, ◌+◌, List, [], ℕ, length}
+use Rattle.std.specs.List.{concat}
 use Rattle.audit_types.specs.declared.records.Answered.{Answered}
 use Rattle.audit_types.specs.History.{IsLegal, IsUndisclosed}
 use Rattle.audit_types.specs.Widening.{over}
@@ -12,12 +13,13 @@ use Rattle.table_load.specs.Database.{Database, table_in}
 use Rattle.journal_form.specs.Journal.{StandsFor}
 use Rattle.answer_journal.specs.Make.{calls_to_make}
 use Rattle.answer_journal.specs.Moments.{IsAlready, IsMade, IsBeforeOrGrown, IsUnmadeOrEmpty}
-use Rattle.line_wire.specs.Lines.{counted_lines, most_input}
-use Rattle.question_plan.specs.Session.{Replied}
+use Rattle.line_wire.specs.Lines.{CountedLine, counted_lines, most_input}
+use Rattle.question_plan.specs.Session.{Replied, bytes_of}
 use Rattle.audit_session.specs.Ends.{TakesCalls}
 use Rattle.audit_session.specs.Stops.{StopsOver}
 use Rattle.journal_audit.specs.Reports.{SendsMeanwhile, subjects}
-use Rattle.certificate_lines.specs.Explained.{ExplainsMeanwhile}
+use Rattle.certificate_lines.specs.Ends.{ExplainsMeanwhile}
+use Rattle.certificate_lines.specs.Explained.{AreExplained}
 use Rattle.transcript_sim.specs.Ends.{SimulatesMeanwhile}
 use Rattle.transcript_sim.specs.Verdicts.{AreVerdicts, exchanges}
 use Rattle.auditor_top.specs.declared.words.Command.{Command}
@@ -100,7 +102,7 @@ pub record Simulating {P I B : Type 0} (files : source.Ghosts P) (lines : source
   pub simulated : files.told → lines.told → (columns : List Column) (index : IndexView) →
       ArePublicFilesOf (files.left old.schema) (files.left old.table) columns index →
       (verdicts : List (Replied Answered)) × SimulateEnds status columns index (lines.left old.input) (lines.left new.input) verdicts ×
-      (bench.told → SendsLines status verdicts (bench.sent old.bench) (bench.sent new.bench))
+      (bench.told → SendsLines status (bytes_of verdicts) (bench.sent old.bench) (bench.sent new.bench))
   pub simulating : files.told → bench.told → IsQuiet bench old.bench → (columns : List Column) (index : IndexView) →
       ArePublicFilesOf (files.left old.schema) (files.left old.table) columns index →
       LeavesOnly bench old.bench new.bench
@@ -171,16 +173,17 @@ pub record Growing {P I B : Type 0} (files : source.Ghosts P) (lines : source.Gh
 -- a run of `explain`
 pub record Explaining {P I B : Type 0} (files : source.Ghosts P) (lines : source.Ghosts I) (bench : Ghosts B) (status : Status)
     (old new : Objects P I B) : Type 0 where
-  -- over the files of a table and a journal that stands for a legal history of it: what is told of the lines of the input after
-  -- this history was sent, or a front of it, at the end and at every moment
+  -- over the files of a table and a journal that stands for a legal history of it: which lines of the input were explained, each
+  -- after this history, and that what is due to them was sent, or a front of it, at the end and at every moment
   pub explained : files.told → lines.told → bench.told → (base : Database) (history : List Answered) →
       ServesOver (files.left old.schema) (files.left old.table) (bench.file old.bench) base history →
-      (told : List (Replied Answered)) × ExplainEnds status base.columns (public_part base) history (lines.left old.input) (lines.left new.input) told ×
-      SendsLines status told (bench.sent old.bench) (bench.sent new.bench)
+      (asked : List CountedLine) × (certificates : List (List ℕ)) × ExplainEnds status (lines.left old.input) (lines.left new.input) asked ×
+      AreExplained base.columns (public_part base) history asked certificates ×
+      SendsLines status (concat certificates) (bench.sent old.bench) (bench.sent new.bench)
   pub explaining : files.told → bench.told → IsQuiet bench old.bench → (base : Database) (history : List Answered) →
       ServesOver (files.left old.schema) (files.left old.table) (bench.file old.bench) base history →
       LeavesOnly bench old.bench new.bench
-      (ExplainsMeanwhile lines.told base.columns (public_part base) history (counted_lines (lines.left old.input)) (bench.file old.bench) (bench.sent old.bench))
+      (ExplainsMeanwhile lines.told base.columns (public_part base) history (lines.left old.input) (bench.file old.bench) (bench.sent old.bench))
   -- the file stays, over whatever files
   pub undisturbed : bench.told → IsQuiet bench old.bench → LeavesOnly bench old.bench new.bench (LeavesFile (bench.file old.bench))
   -- it took two calls of the bench to open the journal, and one for each line

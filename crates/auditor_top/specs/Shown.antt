@@ -14,26 +14,24 @@ use Rattle.question_plan.specs.Session.{Replied}
 use Rattle.audit_session.specs.Lives.{Standing, Run, IsLife, KeepsPromise, in_force}
 use Rattle.audit_session.specs.Hidden.{HasTwinLife, with_secrets, run_with, standing_with}
 use Rattle.journal_audit.specs.Reports.{SendsMeanwhile, subjects}
-use Rattle.certificate_lines.specs.Explained.{ExplainsMeanwhile}
+use Rattle.certificate_lines.specs.Explained.{AreExplained}
 use Rattle.transcript_sim.specs.Verdicts.{AreVerdicts}
 use Rattle.auditor_top.specs.declared.status.Status.{Status}
 use Rattle.auditor_top.specs.declared.status.Status.TheVariants.{Done}
 use Rattle.auditor_top.specs.Commands.{AreSoundFilesOf, ArePublicFilesOf}
 use Rattle.auditor_top.specs.Compactions.{CompactEnds, SendsCounts}
-use Rattle.auditor_top.specs.Ends.{AuditEnds, ExplainEnds, audit_over, public_part}
+use Rattle.auditor_top.specs.Ends.{AuditEnds, audit_over, public_part}
 
--- after one history the same is shown of both tables: `audit`, `explain` and `compact` may send of the one what they may send of the other,
--- and nothing else, by each status and at every moment; and `simulate` takes the same files, and has the same verdicts on every transcript
+-- after one history the same is shown of both tables: `audit` and `compact` may send of the one what they may send of the other, and nothing
+-- else, by each status and at every moment; `explain` has the same line for every line that is asked; and `simulate` takes the same files, and
+-- has the same verdicts on every transcript
 pub record AreShownAlike (base other : Database) (history : List Answered) : Type 0 where
   pub report : (status : Status) (before after : List ℕ) → AuditEnds status base history before after ↔ AuditEnds status other history before after
   pub meanwhile : (file before image sent : List ℕ) →
       SendsMeanwhile (audit_over base history) (subjects base.secret.shape) file before image sent
       ↔ SendsMeanwhile (audit_over other history) (subjects other.secret.shape) file before image sent
-  pub explained : (status : Status) (input left : List ℕ) (told : List (Replied Answered)) →
-      ExplainEnds status base.columns (public_part base) history input left told ↔ ExplainEnds status other.columns (public_part other) history input left told
-  pub explaining : (tells : Type 0) (lines : List CountedLine) (file before image sent : List ℕ) →
-      ExplainsMeanwhile tells base.columns (public_part base) history lines file before image sent
-      ↔ ExplainsMeanwhile tells other.columns (public_part other) history lines file before image sent
+  pub certificates : (asked : List CountedLine) (lines : List (List ℕ)) →
+      AreExplained base.columns (public_part base) history asked lines ↔ AreExplained other.columns (public_part other) history asked lines
   pub compacted : (status : Status) (spare before after : List ℕ) →
       CompactEnds status base.secret.shape history spare before after ↔ CompactEnds status other.secret.shape history spare before after
   pub compacting : (file before image sent : List ℕ) →

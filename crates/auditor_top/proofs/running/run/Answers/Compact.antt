@@ -197,7 +197,7 @@ compaction_ends g c =
       schema_within = λ ptold. schema_was_read status last;
       table_within = λ ptold. table_was_read status last;
       lives = λ ptold told command asked itold quiet base at goes. never_goes_on _ command _ _ _ _ at base is_named asked (λ none. none) goes;
-      does = λ command asked. does_so _ _ command is_named asked (compacting g c);
+      does = λ command asked. does_so g.P.Source g.I.Source g.B.Bench status _ _ _ _ command is_named asked (compacting g c);
       nothing_began = λ ptold told command asked opens quiet none.
           absurd (none _ (are ptold).2 (subst (λ (k : Command). IsReadyFor k file (secret_table store.secret store.protected))
           (one_command _ _ command is_named asked)

@@ -1,5 +1,6 @@
 -- What `run` says of `explain`.
 use Rattle.std.proofs.Common.{◌≡◌, ◌+◌, ℕ, List, length, Option, Some, Err, refl, sym, ◌∙◌, ap, subst, map, string_bytes}
+use Rattle.std.specs.List.{concat}
 use Rattle.audit_types.specs.declared.records.Answered.{Answered}
 use Rattle.bench_core.specs.Causes.{Rose}
 use Rattle.bench_core.specs.Calls.{IsQuiet, IsUntouched, LeavesOnly}
@@ -9,9 +10,9 @@ use Rattle.table_load.specs.Database.{Database, base_of, table_in, secret_table}
 use Rattle.table_load.specs.MeaningLaws.{means_read}
 use Rattle.table_load.specs.Tables.{table_of}
 use Rattle.audit_store.specs.Stores.{IsAsLeft}
-use Rattle.line_wire.specs.Lines.{counted_lines}
-use Rattle.question_plan.specs.Session.{Replied}
-use Rattle.certificate_lines.specs.Explained.{EndTold, ExplainsMeanwhile}
+use Rattle.line_wire.specs.Lines.{CountedLine, counted_lines}
+use Rattle.certificate_lines.specs.Ends.{EndSends, ExplainsMeanwhile}
+use Rattle.certificate_lines.specs.Explained.{AreExplained}
 use Rattle.auditor_top.specs.declared.words.Command.{Command}
 use Rattle.auditor_top.specs.declared.words.Command.TheVariants as command
 use Rattle.auditor_top.specs.declared.status.Status.{Status}
@@ -40,17 +41,17 @@ use Rattle.auditor_top.proofs.running.run.Given.{Over}
 use Rattle.auditor_top.proofs.running.run.Goals as goal
 
 -- the files are those of the table whose journal was opened
-are : (g : Over) (c : goal.After-drop-schema-inside-in-Ok-Explain g) → g.P.Source.told →
+are : (g : Over) (c : goal.After-drop-schema-inside-in-Ok-Explain-2 g) → g.P.Source.told →
     AreSoundFilesOf (g.P.Source.left c.args.schema.now) (g.P.Source.left c.args.table.now)
     (base_of c.in-Ok-Explain.schema.columns c.in-Ok-Explain.index.public c.in-Ok-Explain.index.protected c.in-Ok-Explain.store.secret)
 are g c ptold = subst (IsReadyOver _ _) c.in-Ok-Explain.field-0-is (c.in-Ok-Explain.ensures.over ptold)
 
-stands : (g : Over) (c : goal.After-drop-schema-inside-in-Ok-Explain g) → g.B.Bench.told → IsAsLeft (g.B.Bench.file c.args.bench.now) c.in-Ok-Explain.store
+stands : (g : Over) (c : goal.After-drop-schema-inside-in-Ok-Explain-2 g) → g.B.Bench.told → IsAsLeft (g.B.Bench.file c.args.bench.now) c.in-Ok-Explain.store
 stands g c told =
     subst (λ (bytes : List ℕ). IsAsLeft bytes c.in-Ok-Explain.store) c.open.ensures.reads.file
     ((subst (IsReady g.B.Bench c.open.new.bench) c.in-Ok-Explain.field-0-is c.in-Ok-Explain.ensures.ready).0.left told)
 
-holds : (g : Over) (c : goal.After-drop-schema-inside-in-Ok-Explain g) → g.B.Bench.told →
+holds : (g : Over) (c : goal.After-drop-schema-inside-in-Ok-Explain-2 g) → g.B.Bench.told →
     HoldsLegal (g.B.Bench.file c.args.bench.now) (secret_table c.in-Ok-Explain.store.secret c.in-Ok-Explain.index.protected)
 holds g c told =
     let store = c.in-Ok-Explain.store in
@@ -60,7 +61,7 @@ holds g c told =
       subst (λ (p : List Protected). IsLegal (secret_table store.secret p) store.history) (sym ready.3) ready.0.is.legal,
     )
 
-explained_faults : (g : Over) (c : goal.After-drop-schema-inside-in-Ok-Explain g) → FaultCause c.explained.result
+explained_faults : (g : Over) (c : goal.After-drop-schema-inside-in-Ok-Explain-2 g) → FaultCause c.explained.result
     (faults_of g.P.Source g.I.Source g.B.Bench (objects c.args.schema.now c.args.table.now c.args.input.now c.args.bench.now c.args.spare.now))
     (faults_of g.P.Source g.I.Source g.B.Bench (objects c.open.new.schema c.open.new.table c.explain.new.source c.explain.new.bench c.args.spare.now))
 explained_faults g c =
@@ -76,7 +77,7 @@ explained_faults g c =
     (session_faults (as_session ended) before read later (λ is. does.input (failed_input ended is)) (λ other. does.steady.0 (λ is. other (ap as_session is)))
     (λ is. subst (λ (n : ℕ). Rose n later) opened.2 (does.bench (failed_bench ended is))) (λ other. does.steady.1 (λ is. other (ap as_session is)) ∙ opened.2)))
 
-explaining : (g : Over) (c : goal.After-drop-schema-inside-in-Ok-Explain g) →
+explaining : (g : Over) (c : goal.After-drop-schema-inside-in-Ok-Explain-2 g) →
     Explaining g.P.Source g.I.Source g.B.Bench c.explained.result (objects c.args.schema.now c.args.table.now c.args.input.now c.args.bench.now c.args.spare.now)
     (objects c.open.new.schema c.open.new.table c.explain.new.source c.explain.new.bench c.args.spare.now)
 explaining g c =
@@ -103,27 +104,29 @@ explaining g c =
     λ ptold told base history over. same_given c.one_reading.ensures c.groups_of_a_schema.ensures.entries _ _ file seen base kept history store.journal.gate
     (are g c ptold) (stands g c told) over in
     let moments : (g.B.Bench.told → IsQuiet g.B.Bench at → LeavesOnly g.B.Bench at later
-    (ExplainsMeanwhile g.I.Source.told columns index kept (counted_lines text) file sent)) = λ told quiet.
-    joins g.B.Bench at opened later (ExplainsMeanwhile g.I.Source.told columns index kept (counted_lines text) file sent)
-    (weakens g.B.Bench at opened (IsUntouched file sent) _ (untouched_lines g.I.Source.told columns index kept (counted_lines text) file sent) (reads.untouched quiet))
-    (subst (λ (f : List ℕ). LeavesOnly g.B.Bench opened later (ExplainsMeanwhile g.I.Source.told columns index kept (counted_lines text) f sent)) reads.file
+    (ExplainsMeanwhile g.I.Source.told columns index kept text file sent)) = λ told quiet.
+    joins g.B.Bench at opened later (ExplainsMeanwhile g.I.Source.told columns index kept text file sent)
+    (weakens g.B.Bench at opened (IsUntouched file sent) _ (untouched_lines g.I.Source.told columns index kept text file sent) (reads.untouched quiet))
+    (subst (λ (f : List ℕ). LeavesOnly g.B.Bench opened later (ExplainsMeanwhile g.I.Source.told columns index kept text f sent)) reads.file
     (subst (λ (bytes : List ℕ). LeavesOnly g.B.Bench opened later
-    (ExplainsMeanwhile g.I.Source.told columns index kept (counted_lines text) (g.B.Bench.file opened) bytes)) reads.sent
+    (ExplainsMeanwhile g.I.Source.told columns index kept text (g.B.Bench.file opened) bytes)) reads.sent
     (does.any_moment told (as_quiet g.B.Bench at opened reads quiet)))) in
     subst (λ (s : Status). Explaining g.P.Source g.I.Source g.B.Bench s old new) (sym c.explained.ensures) (record {
       explained = λ ptold itold told base history over.
-          carried (λ (b : Database) (h : List Answered). (lines : List (Replied Answered)) ×
-          ExplainEnds (session_status (as_session ended)) b.columns (public_part b) h text left lines × SendsLines (session_status (as_session ended)) lines sent
-          (g.B.Bench.sent later)) seen base kept history (given ptold told base history over)
-          (let all = does.told itold in (
+          carried (λ (b : Database) (h : List Answered). (asked : List CountedLine) × (lines : List (List ℕ)) ×
+          ExplainEnds (session_status (as_session ended)) text left asked × AreExplained b.columns (public_part b) h asked lines ×
+          SendsLines (session_status (as_session ended)) (concat lines) sent (g.B.Bench.sent later)) seen base kept history (given ptold told base history over)
+          (let all = does.explains itold in (
             all.0,
-            explain_ends ended columns index kept text left all.0 all.1,
-            explain_sends ended all.0 sent (g.B.Bench.sent later)
-                (subst (λ (bytes : List ℕ). EndTold ended all.0 bytes (g.B.Bench.sent later)) reads.sent (all.2 told)),
+            all.1,
+            explain_ends ended text left all.0 all.2,
+            all.3,
+            explain_sends ended all.1 sent (g.B.Bench.sent later)
+                (subst (λ (bytes : List ℕ). EndSends ended all.1 bytes (g.B.Bench.sent later)) reads.sent (all.4 told)),
           ));
       explaining = λ ptold told quiet base history over.
           carried (λ (b : Database) (h : List Answered). LeavesOnly g.B.Bench at later
-          (ExplainsMeanwhile g.I.Source.told b.columns (public_part b) h (counted_lines text) file sent)) seen base kept history
+          (ExplainsMeanwhile g.I.Source.told b.columns (public_part b) h text file sent)) seen base kept history
           (given ptold told base history over) (moments told quiet);
       undisturbed = λ told quiet. weakens g.B.Bench at later _ (LeavesFile file) (λ image bytes found. found.0) (moments told quiet);
       explain_calls = λ itold told done.
@@ -134,13 +137,13 @@ explaining g c =
           (explained_faults g c)) none (explain_reads ended text left (does.reads itold)) within;
     })
 
-explained_words : (g : Over) (c : goal.After-drop-schema-inside-in-Ok-Explain g) → WordCause c.explained.result (command_of (map string_bytes c.args.words.now.items))
+explained_words : (g : Over) (c : goal.After-drop-schema-inside-in-Ok-Explain-2 g) → WordCause c.explained.result (command_of (map string_bytes c.args.words.now.items))
 explained_words g c =
     subst (λ (asked : Option Command). WordCause c.explained.result asked)
     (sym (asked_for _ _ _ _ c.in-Ok.ensures.command c.in-Ok-Explain.field-0-is c.in-Ok-Explain.ensures.asked))
     (subst (λ (s : Status). WordCause s (Some command.Explain)) (sym c.explained.ensures) (session_words (as_session c.explain.result) command.Explain refl))
 
-explained_file : (g : Over) (c : goal.After-drop-schema-inside-in-Ok-Explain g) → g.P.Source.told → g.B.Bench.told → (asked : Command) → NamesCommand c.args.words.now.items asked → (base : Database) →
+explained_file : (g : Over) (c : goal.After-drop-schema-inside-in-Ok-Explain-2 g) → g.P.Source.told → g.B.Bench.told → (asked : Command) → NamesCommand c.args.words.now.items asked → (base : Database) →
     (files : AreFilesOf (g.P.Source.left c.args.schema.now) (g.P.Source.left c.args.table.now) base) →
     OnTrue (reads_groups asked) (AreEntries base.columns base.public files.groups base.protected) →
     FileCause c.explained.result asked (g.B.Bench.file c.args.bench.now) (table_in base)
@@ -196,7 +199,7 @@ explanation_ends g c =
       schema_within = λ ptold. schema_was_read status last;
       table_within = λ ptold. table_was_read status last;
       lives = λ ptold told command asked itold quiet base at goes. never_goes_on _ command _ _ _ _ at base is_named asked (λ none. none) goes;
-      does = λ command asked. does_so _ _ command is_named asked (explaining g c);
+      does = λ command asked. does_so g.P.Source g.I.Source g.B.Bench status _ _ _ _ command is_named asked (explaining g c);
       nothing_began = λ ptold told command asked opens quiet none.
           absurd (none _ (are g c ptold) (subst (λ (k : Command). IsReadyFor k file (secret_table store.secret c.in-Ok-Explain.index.protected))
           (one_command _ _ command is_named asked) (holds g c told)));

@@ -181,8 +181,8 @@ grow_ends g c =
           (objects c.args.schema.now c.args.table.now c.args.input.now c.args.bench.now c.args.spare.now)
           (objects c.open.new.schema c.open.new.table c.args.input.now later c.args.spare.now) c.lives.ensures.longer command
           (λ batch is. c.read_words.ensures.batch batch (asked ∙ ap (λ (k : Command). Some k) is))
-          (does_so _ _ command is_named asked (grew g c)) ptold told itold quiet;
-      does = λ command asked. does_so _ _ command is_named asked (grew g c);
+          (does_so g.P.Source g.I.Source g.B.Bench status _ _ _ _ command is_named asked (grew g c)) ptold told itold quiet;
+      does = λ command asked. does_so g.P.Source g.I.Source g.B.Bench status _ _ _ _ command is_named asked (grew g c);
       nothing_began = λ ptold told command asked opens quiet none.
           subst (λ (b : g.row.B.Denot). LeavesOnly g.B.Bench b later (IsUntouched (g.B.Bench.file b) (g.B.Bench.sent b))) same
           (c.grow.ensures.untouched told (quiet_then quiet) (λ can. none _ (are ptold).2

@@ -195,9 +195,9 @@ serve_ends g c =
       schema_within = λ ptold. schema_was_read status last;
       table_within = λ ptold. table_was_read status last;
       lives = λ ptold told command asked itold quiet. goes_on g.P.Source g.I.Source g.B.Bench status _ _ c.lives.ensures.longer command
-          (λ batch is. c.read_words.ensures.batch batch (asked ∙ ap (λ (k : Command). Some k) is)) (does_so _ _ command is_named asked (serving g c))
+          (λ batch is. c.read_words.ensures.batch batch (asked ∙ ap (λ (k : Command). Some k) is)) (does_so g.P.Source g.I.Source g.B.Bench status _ _ _ _ command is_named asked (serving g c))
           ptold told itold quiet;
-      does = λ command asked. does_so _ _ command is_named asked (serving g c);
+      does = λ command asked. does_so g.P.Source g.I.Source g.B.Bench status _ _ _ _ command is_named asked (serving g c);
       nothing_began = λ ptold told command asked opens quiet none.
           absurd (none _ (are ptold) (subst (λ (k : Command). IsReadyFor k file (secret_table store.secret c.in-Ok-Serve.index.protected))
           (one_command _ _ command is_named asked) (holds told)));
