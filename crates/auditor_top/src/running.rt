@@ -156,9 +156,7 @@ pub fn run<P: Source, I: Source, B: Bench>(
                 index,
                 store,
             },
-        ) => explained(certificate_lines::explain(
-            alloc, &schema, &index, &store, input, bench,
-        )),
+        ) => explained(certificate_lines::explain(alloc, &schema, &index, &store, input, bench)),
         Ok(Ready::Compact { store }) => compacted(compact(alloc, &store, bench, spare)),
     }
 }

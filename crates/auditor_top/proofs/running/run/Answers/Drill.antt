@@ -4,7 +4,7 @@ use Rattle.bench_core.specs.Causes.{Rose}
 use Rattle.table_load.specs.Database.{table_in}
 use Rattle.auditor_top.specs.declared.words.Command.{Command}
 use Rattle.auditor_top.specs.declared.words.Command.TheVariants as command
-use Rattle.auditor_top.specs.Words.{command_of, NamesCommand}
+use Rattle.auditor_top.specs.Words.{command_of}
 use Rattle.auditor_top.specs.Commands.{opens_journal, opens_store, reads_files, reads_groups, reads_lines, reads_secrets, calls_spare}
 use Rattle.auditor_top.specs.Causes.{WordCause, FileCause, FaultCause, counts}
 use Rattle.auditor_top.specs.Drills.{DrillEnds}

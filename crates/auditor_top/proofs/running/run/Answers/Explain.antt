@@ -1,5 +1,5 @@
 -- What `run` says of `explain`.
-use Rattle.std.proofs.Common.{◌≡◌, ◌+◌, ℕ, List, length, Option, Some, Err, refl, sym, ◌∙◌, ap, subst, map, string_bytes}
+use Rattle.std.proofs.Common.{◌≡◌, ◌+◌, ℕ, List, length, Option, Some, refl, sym, ◌∙◌, ap, subst, map, string_bytes}
 use Rattle.std.specs.List.{concat}
 use Rattle.audit_types.specs.declared.records.Answered.{Answered}
 use Rattle.bench_core.specs.Causes.{Rose}
@@ -24,7 +24,6 @@ use Rattle.auditor_top.specs.Ready.{IsReady, IsReadyOver}
 use Rattle.auditor_top.specs.Runs.{objects, faults_of, Explaining}
 use Rattle.auditor_top.specs.Stages.{writing_spare}
 use Rattle.auditor_top.specs.Status.{as_session, session_status}
-use Rattle.auditor_top.proofs.Calls.{session_done}
 use Rattle.auditor_top.proofs.ExplainEndings.{explain_done, explain_ends, explain_reads, explain_sends, failed_bench, failed_input, untouched_lines}
 use Rattle.auditor_top.proofs.OneRunMore.{does_so, never_goes_on}
 use Rattle.auditor_top.proofs.OneCommand.{one_command, same_command, asked_for, not_asked, none_asked, takes_step, lacks_step, spare_called}

@@ -20,7 +20,7 @@ use Rattle.auditor_top.specs.Causes.{WordCause, FileCause, InputCause, FaultCaus
 use Rattle.auditor_top.specs.Ready.{IsReadyOver}
 use Rattle.auditor_top.specs.Runs.{objects, faults_of, Simulating}
 use Rattle.auditor_top.proofs.Calls.{simulation_done}
-use Rattle.auditor_top.proofs.OneCommand.{one_command, same_command, asked_for, not_asked, none_asked, takes_step, lacks_step, spare_called}
+use Rattle.auditor_top.proofs.OneCommand.{one_command, same_command, asked_for, none_asked, takes_step, lacks_step, spare_called}
 use Rattle.auditor_top.proofs.OneRunMore.{does_so, never_goes_on}
 use Rattle.auditor_top.proofs.OneTable.{schema_is_ok, table_is_ok}
 use Rattle.auditor_top.proofs.Openings.{later_still, stays}
