@@ -1,10 +1,11 @@
-//! The verdict on a question of a transcript.
+//! The verdict that a line is due, and the line that is sent for it.
 ghost use Rattle.std.specs.Prelude.{◌≡◌};
-ghost use Rattle.transcript_sim.specs.Verdicts.{verdict_bytes, word_of};
+ghost use Rattle.question_plan.specs.Dues.{verdict_bytes, word_of, due_of_reply};
 
+use line_wire::Reply;
 use std::fmt;
 
-/// The verdict on a question: whether it is answered, and if not, why.
+/// The verdict on a line: whether it is answered, and if not, why.
 #[derive(Clone, Copy, PartialEq, Eq, Drop)]
 pub enum Due {
     /// A count, which the public columns answer.
@@ -43,7 +44,7 @@ impl fmt::Display for Due {
 }
 
 /// The line that is sent for a verdict, its line feed included.
-pub(crate) fn verdict_line(due: Due) -> &'static [u8]
+pub fn verdict_line(due: Due) -> &'static [u8]
     ensures { result.now ≡ verdict_bytes due }
 {
     match due {
@@ -52,5 +53,17 @@ pub(crate) fn verdict_line(due: Due) -> &'static [u8]
         Due::Released => b"{\"verdict\":\"released\"}\n",
         Due::Unsafe => b"{\"verdict\":\"unsafe\"}\n",
         Due::Wide => b"{\"verdict\":\"wide\"}\n",
+    }
+}
+
+/// The verdict that a reply gives if it isn't an answer.
+pub fn due_of_reply(reply: &Reply) -> Due
+    ensures { result ≡ due_of_reply reply.now }
+{
+    match reply {
+        Reply::Count(_) => Due::Counted,
+        Reply::Unsafe => Due::Unsafe,
+        Reply::Wide => Due::Wide,
+        _ => Due::Refused,
     }
 }

@@ -4,9 +4,10 @@ use Rattle.std.proofs.lemmas.List.{take_all}
 use Rattle.std.proofs.lemmas.Result.{IfOk-from_err}
 use Rattle.std.specs.Fmt.{signed_decimal}
 use mir.Syntax.{w128}
-use Rattle.journal_audit.specs.Texts.{with_commas}
-use Rattle.journal_audit.proofs.Commas.{is_none, is_none-snoc, text_more, numbers_more}
-use Rattle.journal_audit.proofs.texts.put_numbers.Goals as goal
+use Rattle.line_wire.specs.CommaLists.{with_commas}
+use Rattle.line_wire.specs.CommaLists.{is_none, is_none-snoc, text_more}
+use Rattle.line_wire.proofs.NumbersSoFar.{numbers_more}
+use Rattle.line_wire.proofs.numbers.put_numbers.Goals as goal
 
 pub loop-number-preserved : goal.loop-number-preserved
 loop-number-preserved c =

@@ -1,8 +1,8 @@
 use Rattle.std.proofs.Common.{◌≡◌, ◌++◌, take, map}
 use Rattle.std.specs.Fmt.{signed_decimal}
-use Rattle.journal_audit.specs.Texts.{with_commas}
-use Rattle.journal_audit.proofs.Commas.{is_none}
-use Rattle.journal_audit.proofs.texts.put_numbers.Given as goal
+use Rattle.line_wire.specs.CommaLists.{with_commas}
+use Rattle.line_wire.specs.CommaLists.{is_none}
+use Rattle.line_wire.proofs.numbers.put_numbers.Given as goal
 
 abbrev pub invariant-loop-number : goal.invariant-loop-number
 invariant-loop-number l = record {
