@@ -21,6 +21,7 @@ use question_plan::{PlanStop, Planner};
 use schema_json::Schema;
 use set_index::Index;
 use std::alloc::Global;
+use table_load::lists_of_secrets;
 
 /// Why explaining ended before the input did.
 #[derive(Clone, Copy)]
@@ -79,9 +80,10 @@ fn explain_lines<P: Source, B: Bench>(
     ensures { Explains P.Source B.Bench schema.now.columns index.now core.now.history source.old source.new bench.old bench.new result }
 {
     lines_in_turn();
+    let mut kept = None;
     let mut line = Vec::new(alloc);
     while let Some(plan) = planner.next(alloc, schema, index, source)? {
-        write_line(alloc, core, &plan, &mut line)?;
+        write_line(alloc, core, &plan, &mut kept, &mut line)?;
         bench.send(&line)?;
     }
     Ok(())
@@ -125,6 +127,7 @@ pub fn explain<P: Source, B: Bench>(
 {
     // A store says of itself that its history is legal.
     let _history = store.history();
+    lists_of_secrets();
     let mut planner = Planner::new(alloc)?;
     explain_lines(
         alloc,
