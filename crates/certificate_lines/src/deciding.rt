@@ -1,8 +1,7 @@
 //! The line for a plan.
-ghost use Rattle.std.specs.Prelude.{◌≡◌, ◌<◌, ◌≤◌, ◌↔◌, length, true, IfOk, IfSome, OnOk};
+ghost use Rattle.std.specs.Prelude.{◌≡◌, ◌<◌, IfOk, IfSome, OnOk};
 ghost use Rattle.audit_types.specs.History.{FitsShape, IsDecisionAfter};
 ghost use Rattle.audit_types.specs.Shapes.{columns};
-ghost use Rattle.audit_types.specs.Limits.{most_records};
 ghost use Rattle.audit_types.specs.declared.records.Verdict.TheVariants.{DeniedUnsafe};
 ghost use Rattle.denial_proof.specs.Denied.{IsLegalIn};
 ghost use Rattle.denial_proof.specs.Provers.{IsProverOf};
@@ -12,10 +11,10 @@ ghost use Rattle.certificate_lines.specs.Explained.{IsCertificate, IsLineFor, Is
 use crate::texts::{write_proof, write_words};
 use audit_core::Core;
 use audit_types::laws::true_answers;
-use audit_types::{Asked, MOST_RECORDS, NoMemory, Verdict};
+use audit_types::{Asked, NoMemory, Verdict};
 use denial_proof::{ProveFault, Prover};
 use line_wire::Reply;
-use question_plan::{Due, Plan, due_of_reply, verdict_line};
+use question_plan::{Due, Plan, due_of_reply, is_full, verdict_line};
 use std::alloc::Global;
 
 // The prover of a column: the one that was kept, or a new one. That of another column is dropped first.
@@ -65,13 +64,6 @@ fn write_certificate(
         )?),
         Err(ProveFault::NoMemory) => Err(NoMemory),
     }
-}
-
-// Whether there are as many records as there may be.
-fn is_full(core: &Core) -> bool
-    ensures { (result ≡ true) ↔ (most_records ≤ length core.now.history) }
-{
-    core.history().len() >= MOST_RECORDS
 }
 
 // Writes the line for the verdict on a question.

@@ -7,6 +7,14 @@ use denial_proof::{Proof, Target, Term};
 use line_wire::{put_at_place, put_number, put_numbers};
 use std::alloc::AllocError;
 
+/// Writes words, in place of what the buffer held.
+pub(crate) fn write_words(line: &mut Vec<u8>, words: &[u8]) -> Result<(), AllocError>
+    ensures { OnOk result (line.new.items ≡ words.now) }
+{
+    line.clear();
+    line.extend_from_slice(words)
+}
+
 // Appends what a sum would give away.
 fn put_target(line: &mut Vec<u8>, target: Target) -> Result<(), AllocError>
     ensures { OnOk result (line.new.items ≡ line.old.items ++ spec.target_text target) }
@@ -49,8 +57,7 @@ fn write_sum(
 ) -> Result<(), AllocError>
     ensures { OnOk result (line.new.items ≡ spec.sum_line target times terms.now asked) }
 {
-    line.clear();
-    line.extend_from_slice(b"{\"verdict\":\"unsafe\",")?;
+    write_words(line, b"{\"verdict\":\"unsafe\",")?;
     put_target(line, target)?;
     put_number(line, b",\"times\":", times)?;
     line.extend_from_slice(b",\"by\":[")?;
@@ -69,8 +76,8 @@ fn write_max(
 ) -> Result<(), AllocError>
     ensures { OnOk result (line.new.items ≡ spec.max_line answer row pair high.now) }
 {
-    line.clear();
-    put_number(line, b"{\"verdict\":\"unsafe\",\"answer\":", answer)?;
+    write_words(line, b"{\"verdict\":\"unsafe\",")?;
+    put_number(line, b"\"answer\":", answer)?;
     put_number(line, b",\"row\":", row)?;
     put_pair(line, pair)?;
     line.extend_from_slice(b",\"high\":[")?;
@@ -96,12 +103,4 @@ pub(crate) fn write_proof(line: &mut Vec<u8>, proof: &Proof) -> Result<(), Alloc
             high,
         } => write_max(line, *answer, *row, *pair, &high.list),
     }
-}
-
-/// Writes a line that has no number, in place of what the buffer held.
-pub(crate) fn write_words(line: &mut Vec<u8>, words: &[u8]) -> Result<(), AllocError>
-    ensures { OnOk result (line.new.items ≡ words.now) }
-{
-    line.clear();
-    line.extend_from_slice(words)
 }
