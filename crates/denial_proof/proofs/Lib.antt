@@ -34,3 +34,5 @@ pub mod SumParts
 pub mod OneCanonicalSum
 pub mod UnsafeSums
 pub mod ByKind
+pub mod OutlookWalks
+pub mod LoneOutlook
