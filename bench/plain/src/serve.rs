@@ -5,9 +5,9 @@ use crate::index::Index;
 use crate::journal::{Journal, Record};
 use crate::maxima::Bounds;
 use crate::reply::Reply;
-use crate::request::{self, Ask};
+use crate::request::{self, Ask, Request};
 use crate::row_set::RowSet;
-use crate::sums::{SumColumn, Verdict};
+use crate::sums::{Protected, SumColumn, Verdict};
 use crate::table::{Role, Schema, Secret, Table};
 use std::fs::{self, File};
 use std::io::{Read, Write};
@@ -28,12 +28,21 @@ pub fn init() {
     Journal::make(JOURNAL, table.rows, &schema.secret_roles()).unwrap();
 }
 
-enum Part {
+pub enum Part {
     Sums(Box<SumColumn>),
     Maxima(Box<Bounds>),
 }
 
 impl Part {
+    /// Decides on a set, and takes nothing.
+    pub fn decide(&mut self, rows: &RowSet) -> Result<(), Verdict> {
+        match self {
+            Part::Sums(sums) => sums.decide(rows).map(drop),
+            Part::Maxima(bounds) if bounds.is_dangerous(rows) => Err(Verdict::Unsafe),
+            Part::Maxima(_) => Ok(()),
+        }
+    }
+
     /// Decides on a set; if it is released, the answer is taken.
     fn ask(&mut self, rows: &RowSet, secret: &Secret) -> Result<i64, Verdict> {
         match self {
@@ -54,32 +63,34 @@ impl Part {
     }
 }
 
-struct Auditor {
+pub struct Auditor {
     schema: Schema,
     index: Index,
     secrets: Vec<Secret>,
-    parts: Vec<Part>,
+    pub parts: Vec<Part>,
     journal: Journal,
     records: usize,
 }
 
 /// The protected groups of each secret column that have rows.
-fn groups(schema: &Schema, index: &Index) -> Vec<Vec<RowSet>> {
+fn groups(schema: &Schema, index: &Index) -> Vec<Vec<Protected>> {
     let mut groups = vec![Vec::new(); schema.secret_roles().len()];
+    let mut place = 0;
     for group in &schema.groups {
-        let place = schema.find(&group.column).expect("a column of sums");
+        let column = schema.find(&group.column).expect("a column of sums");
         let condition = condition::read(schema, &group.condition);
         let rows = index.rows_of(&condition.unwrap_or_else(|_| panic!("a condition")));
         if !rows.is_empty() {
-            groups[usize::from(schema.secret_place(place))].push(rows);
+            groups[usize::from(schema.secret_place(column))].push(Protected { place, rows });
+            place += 1;
         }
     }
     groups
 }
 
 impl Auditor {
-    /// Opens the journal and decides each of its records again.
-    fn open() -> Auditor {
+    /// Opens the journal and decides each of its records again; with these records.
+    pub fn open() -> (Auditor, Vec<Record>) {
         let (schema, table) = read_files();
         let index = Index::new(&schema, &table);
         let groups = groups(&schema, &index);
@@ -95,31 +106,38 @@ impl Auditor {
             let answer = parts[column].ask(&record.rows, &secrets[column]);
             assert!(answer == Ok(record.answer), "a journal of another table");
         }
-        Auditor {
+        let auditor = Auditor {
             index,
             schema,
             secrets,
             parts,
             journal,
             records: records.len(),
+        };
+        (auditor, records)
+    }
+
+    /// The question of a line, with its rows, or the reply if that rests on no decision.
+    pub fn question(&self, line: &[u8]) -> Result<(Request, RowSet), Reply> {
+        let request = request::read(&self.schema, line)?;
+        let rows = self.index.rows_of(&request.condition);
+        if request.ask == Ask::Count {
+            return Err(Reply::Count(rows.len()));
         }
+        if rows.is_empty() {
+            return Err(Reply::Empty);
+        }
+        if self.records == MOST_RECORDS {
+            return Err(Reply::Full);
+        }
+        Ok((request, rows))
     }
 
     fn reply(&mut self, line: &[u8]) -> Reply {
-        let request = match request::read(&self.schema, line) {
-            Ok(request) => request,
-            Err(refused) => return refused,
+        let (request, rows) = match self.question(line) {
+            Ok(question) => question,
+            Err(reply) => return reply,
         };
-        let rows = self.index.rows_of(&request.condition);
-        if request.ask == Ask::Count {
-            return Reply::Count(rows.len());
-        }
-        if rows.is_empty() {
-            return Reply::Empty;
-        }
-        if self.records == MOST_RECORDS {
-            return Reply::Full;
-        }
         let column = usize::from(request.column);
         match self.parts[column].ask(&rows, &self.secrets[column]) {
             Err(Verdict::Unsafe) => Reply::Unsafe,
@@ -153,13 +171,13 @@ fn released(ask: Ask, answer: i64, rows: &RowSet) -> Reply {
 }
 
 /// A stream of this process that is not buffered and not closed.
-fn stream(descriptor: i32) -> ManuallyDrop<File> {
+pub fn stream(descriptor: i32) -> ManuallyDrop<File> {
     // Safety: the two standard streams are open as long as the process runs, and are not closed here.
     ManuallyDrop::new(unsafe { File::from_raw_fd(descriptor) })
 }
 
 /// Lines of the input, read by blocks.
-struct Lines {
+pub struct Lines {
     input: ManuallyDrop<File>,
     buffer: Vec<u8>,
     from: usize,
@@ -167,7 +185,16 @@ struct Lines {
 }
 
 impl Lines {
-    fn next(&mut self) -> Option<&[u8]> {
+    pub fn new() -> Lines {
+        Lines {
+            input: stream(0),
+            buffer: vec![0; 1 << 16],
+            from: 0,
+            to: 0,
+        }
+    }
+
+    pub fn next(&mut self) -> Option<&[u8]> {
         loop {
             let unread = &self.buffer[self.from..self.to];
             if let Some(size) = unread.iter().position(|byte| *byte == b'\n') {
@@ -188,13 +215,8 @@ impl Lines {
 
 /// Answers the lines in groups of at most so many: a group's records are in the journal before its replies are sent.
 pub fn serve(batch: usize) {
-    let mut auditor = Auditor::open();
-    let mut lines = Lines {
-        input: stream(0),
-        buffer: vec![0; 1 << 16],
-        from: 0,
-        to: 0,
-    };
+    let (mut auditor, _) = Auditor::open();
+    let mut lines = Lines::new();
     let mut output = stream(1);
     let mut replies = Vec::new();
     let mut sent = Vec::new();

@@ -1,1 +1,3 @@
+pub mod TermsSoFar
 pub mod SoFar
+pub mod Turns

@@ -4,6 +4,8 @@
 //! that the proof is too wide for a line. `AreExplained` of the specs says what is sent; docs/FORMATS.md describes the lines.
 #![tactic(auto)]
 
+mod deciding;
 mod explaining;
+mod texts;
 
 pub use explaining::{ExplainFault, explain};

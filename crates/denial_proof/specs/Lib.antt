@@ -6,4 +6,5 @@ pub mod Targets
 pub mod Numbers
 pub mod Canonical
 pub mod Denied
+pub mod Provers
 pub mod Laws

@@ -17,6 +17,7 @@ mod marks;
 mod maxima;
 mod numbers;
 mod proof_parts;
+mod prover;
 mod proving;
 mod sums;
 mod targets;
@@ -25,4 +26,5 @@ mod totals;
 
 pub use checking::check_proof;
 pub use proof_parts::{Heights, Proof, ProveFault, Target, Term, Terms};
+pub use prover::Prover;
 pub use proving::prove;
