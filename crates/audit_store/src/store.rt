@@ -3,19 +3,21 @@ ghost use Rattle.std.specs.Prelude.{◌≡◌, ◌≢◌, ◌≤◌, ◌+◌, �
 ghost use Rattle.audit_types.specs.declared.records.Answered.{Answered};
 ghost use Rattle.audit_types.specs.History.{FitsShape, AreProtected, IsLegal, setting_of};
 ghost use Rattle.bench_core.specs.Calls.{IsQuiet, LeavesOnly, IsUntouched, OnlyReads, TellsFault};
-ghost use Rattle.journal_form.specs.Journal.{StandsFor};
+ghost use Rattle.journal_form.specs.Journal.{StandsAt, StandsFor};
 ghost use Rattle.answer_journal.specs.Moments.{IsBeforeOrAfter, IsBeforeOrGrown};
 ghost use Rattle.audit_types.specs.Widening.{over, widened};
 ghost use Rattle.audit_store.specs.Growing.{GrowCause, CanGrow, GivesUpGrowing, GrowsUnlessFailed, NotGrownUnlessFailed};
 ghost use Rattle.audit_store.specs.declared.growing.GrowFault.{GrowFault};
 ghost use Rattle.audit_core.specs.Outcomes.{AreOutcomes, records_made};
-ghost use Rattle.audit_store.specs.Stores.{IsAsLeft, IsStore, table_of, Keeps, HasGroup, calls_for};
+ghost use Rattle.audit_store.specs.Stores.{IsAsLeft, IsStore, table_of, Keeps, KeptAhead, HasGroup, calls_for};
+ghost use Rattle.audit_store.specs.Twice.{IsJournalOf};
 ghost use Rattle.table_load.specs.Database.{secret_table};
 ghost use Rattle.audit_store.specs.Starting.{StartCause, HistoryCause, GivesUp, StartsUnlessFailed, RefusedUnlessFailed};
 ghost use Rattle.audit_store.specs.declared.starting.StartFault.{StartFault};
 
 use crate::asking::{decide_all, keep};
 use crate::growing::{GrowFault, may_grow};
+use crate::keeper::KeepFault;
 use crate::outcome::StoreFault;
 use crate::starting::{StartFault, audited};
 use answer_journal::Journal;
@@ -207,6 +209,64 @@ impl Store {
         self.released = self.core.history().len() as u32;
         self.usable = true;
         Ok(outcomes)
+    }
+
+    /// Decides questions as `ask_all` does, for a table with another journal of the same history on a spare: the records of the answers
+    /// are appended as one group to the other journal, and then to the store's own, in four calls of each bench. All memory is taken
+    /// before the first of them. After a refusal the store isn't usable.
+    pub fn ask_all_twice<B: Bench, S: Bench>(
+        &mut self,
+        other: &mut Journal,
+        bench: &mut B,
+        spare: &mut S,
+        asked: &[Asked],
+    ) -> Result<Vec<Outcome>, KeepFault>
+        requires usable { self.old.usable ≡ true }
+        requires other { IsJournalOf self.old.secret.shape self.old.history other.old }
+        requires few { length asked.now ≤ 64 }
+        requires fit { All (λ a. FitsShape self.old.secret.shape a.column a.rows) asked.now }
+        requires stands { B.told → IsAsLeft (B.file bench.old) self.old }
+        requires spare_stands { S.told → StandsAt (S.file spare.old) self.old.secret.shape self.old.history other.old.gate }
+
+        // One outcome for each question, and the history has the records that they make.
+        ensures outcomes { IfOk result (λ v. AreOutcomes (table_of self.old) self.old.history asked.now v.items) }
+        ensures history { IfOk result (λ v. self.new.history ≡ self.old.history ++ records_made asked.now v.items) }
+        ensures stands { B.told → OnOk result (IsAsLeft (B.file bench.new) self.new) }
+        ensures spare_stands { S.told → OnOk result (StandsAt (S.file spare.new) self.new.secret.shape self.new.history other.new.gate) }
+        ensures usable { OnOk result ((self.new.usable ≡ true) × IsJournalOf self.new.secret.shape self.new.history other.new) }
+
+        // A refusal leaves the history as it was. The spare comes first: if a call of it failed the bench wasn't called.
+        ensures kept { OnErr result ((self.new.history ≡ self.old.history) × (self.new.usable ≡ false)) }
+        ensures no_memory { IsErrOf result KeepFault.NoMemory → (bench.new ≡ bench.old) × (spare.new ≡ spare.old) }
+        ensures spare_first { IsErrOf result KeepFault.Spare → bench.new ≡ bench.old }
+        ensures fault { TellsFault B.Bench bench.old bench.new (IsErrOf result KeepFault.Bench) }
+        ensures spare_fault { TellsFault S.Bench spare.old spare.new (IsErrOf result KeepFault.Spare) }
+        ensures secret { self.new.secret ≡ self.old.secret }
+        ensures protected { self.new.protected ≡ self.old.protected }
+        ensures is { IsStore self.new }
+
+        // A crash at any moment leaves on each the history before, or that with the records of the group. If a call of the bench failed
+        // the spare stands for the latter.
+        ensures any_moment { B.told → IsQuiet B.Bench bench.old → (IsErrOf result KeepFault.NoMemory → ⊥)
+            → Keeps B.Bench bench.old bench.new (table_of self.old) self.old.history asked.now (B.sent bench.old) }
+        ensures spare_moments { S.told → IsQuiet S.Bench spare.old → (IsErrOf result KeepFault.NoMemory → ⊥)
+            → Keeps S.Bench spare.old spare.new (table_of self.old) self.old.history asked.now (S.sent spare.old) }
+        ensures ahead { B.told → S.told → IsQuiet B.Bench bench.old → IsErrOf result KeepFault.Bench → (image : List ℕ) → B.leaves bench.new image
+            → KeptAhead (S.file spare.new) image (table_of self.old) self.old.history asked.now }
+
+        // A group that makes no record leaves both as they were, any other takes four calls of each.
+        ensures written { B.told → IfOk result (λ v. HasGroup self.old.secret.shape (records_made asked.now v.items) self.old.journal.gate (B.file bench.old) (B.file bench.new)) }
+        ensures spare_written { S.told → IfOk result (λ v. HasGroup self.old.secret.shape (records_made asked.now v.items) other.old.gate (S.file spare.old) (S.file spare.new)) }
+        ensures quiet { B.told → IsQuiet B.Bench bench.old → (IsErrOf result KeepFault.Bench → ⊥) → IsQuiet B.Bench bench.new }
+        ensures spare_quiet { S.told → IsQuiet S.Bench spare.old → (IsErrOf result KeepFault.Spare → ⊥) → IsQuiet S.Bench spare.new }
+        ensures sent { B.sent bench.new ≡ B.sent bench.old }
+        ensures spare_sent { S.sent spare.new ≡ S.sent spare.old }
+        ensures ticks { B.told → IfOk result (λ v. B.moment bench.new ≡ B.moment bench.old + calls_for (records_made asked.now v.items)) }
+        ensures spare_ticks { S.told → IfOk result (λ v. S.moment spare.new ≡ S.moment spare.old + calls_for (records_made asked.now v.items)) }
+        ensures unasked { IfOk result (λ v. records_made asked.now v.items ≡ [] → (bench.new ≡ bench.old) × (spare.new ≡ spare.old)) }
+    {
+        self.usable = false;
+        Err(KeepFault::NoMemory)
     }
 
     /// Whether questions may be asked. After a refused `ask_all` they may not.
