@@ -6,6 +6,7 @@
 #![tactic(auto)]
 
 mod asking;
+mod bringing;
 mod growing;
 mod keeper;
 mod outcome;
@@ -14,6 +15,7 @@ mod store;
 
 pub use asking::decide_all;
 pub use audit_core::Outcome;
+pub use bringing::bring_up;
 pub use growing::GrowFault;
 pub use keeper::{KeepFault, Keeper};
 pub use outcome::StoreFault;

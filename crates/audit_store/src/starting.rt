@@ -143,3 +143,36 @@ pub fn audited(
         Err(fault) => Err(fault),
     }
 }
+
+/// Tests that a journal's history is that of the secrets' table. One with which the core's history begins, which is legal, isn't
+/// tested again.
+pub fn test_other(
+    alloc: Global,
+    secret: &Secret,
+    core: &Core,
+    kept: Shape,
+    list: &[Answered],
+) -> Result<(), StartFault>
+    requires setting { core.now.setting ≡ setting_of secret.now.shape core.now.setting.protected }
+    requires legal { IsLegal (secret_table secret.now core.now.setting.protected) core.now.history }
+    requires fit { All (λ r. FitsShape kept r.column r.rows) list.now }
+    requires few { length list.now ≤ most_records }
+    ensures shape { OnOk result (kept ≡ secret.now.shape) }
+    ensures legal { OnOk result (IsLegal (secret_table secret.now core.now.setting.protected) list.now) }
+    ensures err { IfErr result (λ fault. HistoryCause fault kept list.now (secret_table secret.now core.now.setting.protected)) }
+{
+    let now = secret.shape();
+    if kept != now {
+        return Err(StartFault::OtherShape { kept, now });
+    }
+    if core.history().starts_with(list) {
+        return Ok(());
+    }
+    let Ok(protected) = core.protected().to_vec(alloc) else {
+        return Err(StartFault::NoMemory);
+    };
+    match audited(alloc, secret, protected, list) {
+        Ok(_) => Ok(()),
+        Err(fault) => Err(fault),
+    }
+}
