@@ -15,7 +15,7 @@ use Rattle.answer_journal.specs.Contents.{JournalContents}
 use Rattle.answer_journal.specs.Moments.{IsBeforeOrAfter}
 use Rattle.audit_store.specs.Stores.{calls_for}
 use Rattle.audit_store.specs.Twice.{IsBroughtUp}
-use Rattle.audit_store.proofs.Stores.{four_calls}
+use Rattle.audit_store.specs.StoreLaws.{four_calls}
 
 -- the first records, and those up to a later place
 pub front_and_next : (missing : List Answered) (at end : ℕ) → at ≤ end → take at missing ++ take (end - at) (drop at missing) ≡ take end missing
@@ -45,6 +45,21 @@ next_group at end all groups are lt is = elim are.whole [
 pub all_groups : (all groups : ℕ) → AreGroupsUpTo all all groups → 4 * groups ≡ 4 * ((all + 63) / 64)
 all_groups all groups are = omega (arith, are.enough, are.no_more)
 
+-- if nothing is called the file stands for the history before
+pub nothing_brought_up : {D : Type 0} (bench : Ghosts D) (missing : List Answered) (at : D) (shape : Shape) (history : List Answered) (gate : ℕ)
+    → ((image sent : List ℕ) → bench.since at (bench.moment at) image sent → bench.leaves at image × (sent ≡ bench.sent at)) → IsQuiet bench at
+    → StandsAt (bench.file at) shape history gate → LeavesOnly bench at at (IsBroughtUp shape history missing (bench.sent at))
+nothing_brought_up bench missing at shape history gate only_now quiet stands =
+    started bench at (IsBroughtUp shape history missing (bench.sent at)) (λ image sent was.
+    let now = only_now image sent was in (
+      now.1,
+      (
+        0,
+        subst (λ (h : List Answered). StandsFor image shape h) (sym (append-nil history))
+            (subst (λ (f : List ℕ). StandsFor f shape history) (sym (quiet image now.0)) (gate, stands)),
+      ),
+    ))
+
 module _ {D : Type 0} (bench : Ghosts D) (missing : List Answered) (old : D) (first : JournalContents) where
   -- so many of the missing records were appended
   pub record AreAppended (at : ℕ) (now : D) (journal : JournalContents) : Type 0 where
@@ -71,16 +86,7 @@ module _ {D : Type 0} (bench : Ghosts D) (missing : List Answered) (old : D) (fi
     shape = refl;
     counted = omega arith;
     stands = λ history told stands many. subst (λ (h : List Answered). StandsAt (bench.file old) first.shape h first.gate) (sym (append-nil history)) stands;
-    moments = λ history told stands many quiet.
-        started bench old (IsBroughtUp first.shape history missing (bench.sent old)) (λ image sent was.
-        let now = only_now image sent was in (
-          now.1,
-          (
-            0,
-            subst (λ (h : List Answered). StandsFor image first.shape h) (sym (append-nil history))
-                (subst (λ (f : List ℕ). StandsFor f first.shape history) (sym (quiet image now.0)) (first.gate, stands)),
-          ),
-        ));
+    moments = λ history told stands many quiet. nothing_brought_up bench missing old first.shape history first.gate only_now quiet stands;
     quiet = λ told quiet. quiet;
     sent = refl;
     steady = refl;

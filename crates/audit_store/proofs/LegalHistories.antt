@@ -1,6 +1,7 @@
 -- Histories that are replayed record by record stay legal.
 use Rattle.std.proofs.Common.{◌≡◌, inl, inr, ℕ, ◌+◌, ◌<◌, ◌≤◌, List, [], ◌∷◌, ◌++◌, length, get_or, take, Some, sym, ap, subst, ◌∙◌, arith, refl, length-take, length-append}
 use Rattle.std.specs.Prelude.{slice_get}
+use Rattle.std.specs.List.{All}
 use Rattle.std.proofs.lemmas.Bool.{cases_lt}
 use Rattle.std.proofs.Math.Seq.{take-append-add}
 use Rattle.std.proofs.lemmas.List.{take_more, take-take, get_or-take, get_or-append-add}
@@ -56,3 +57,9 @@ legal_record_after table history list k r legal inside is =
     let here : slice_get (history ++ list) (length history + k) ≡ Some r =
     slice_get_read (history ++ list) (length (history ++ list)) (length history + k) r refl (omega (arith, long, inside)) (is ∙ sym (get_or-append-add history list k r)) in
     subst (λ (h : List Answered). IsLegalRecord table h r) (take-append-add history list k) (legal.each (length history + k) r here)
+
+-- the records after the first ones of a legal history fit
+pub legal_fits_after : (table : Table) (history list : List Answered) → IsLegal table (history ++ list) → All (λ r. FitsShape table.setting.shape r.column r.rows) list
+legal_fits_after table history list legal k d lt =
+    (legal.each (length history + k) (get_or list k d)
+    (slice_get-get_or (history ++ list) (length history + k) d (omega (arith, length-append history list, lt)) ∙ ap (λ x. Some x) (get_or-append-add history list k d))).fits

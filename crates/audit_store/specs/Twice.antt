@@ -1,10 +1,8 @@
 -- Groups that are ready for one journal or for two, and journals that are brought up.
-use Rattle.std.specs.Prelude.{◌≡◌, ◌⊎◌, ℕ, ◌+◌, ◌*◌, ◌/◌, ◌<◌, true, Option, Some, None, List, [], ◌++◌, length, take}
+use Rattle.std.specs.Prelude.{◌≡◌, ℕ, ◌+◌, ◌*◌, ◌/◌, ◌<◌, true, Option, Some, None, List, [], ◌++◌, length, take}
 use Rattle.audit_types.specs.declared.shapes.Shape.{Shape}
 use Rattle.audit_types.specs.declared.records.Answered.{Answered}
 use Rattle.journal_form.specs.Journal.{StandsFor}
-use Rattle.audit_store.specs.declared.starting.StartFault.{StartFault}
-use Rattle.audit_store.specs.Starting.{GivesUp}
 use Rattle.answer_journal.specs.Contents.{JournalContents, ReadyContents}
 
 -- the records of a group that is ready, if there are any
@@ -30,7 +28,3 @@ IsBroughtUp shape history missing before image sent = (sent ≡ before) × ((cou
 -- the calls that bring a journal up: four for each 64 records that are missing
 abbrev pub calls_to_bring_up : List Answered → ℕ
 calls_to_bring_up missing = 4 * ((length missing + 63) / 64)
-
--- the fault that is due, or a call of the bench failed, or memory ran out
-abbrev pub IsDueOrGivenUp : StartFault → StartFault → Type 0
-IsDueOrGivenUp due fault = (fault ≡ due) ⊎ GivesUp fault

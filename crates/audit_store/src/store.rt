@@ -1,5 +1,5 @@
 //! The store.
-ghost use Rattle.std.specs.Prelude.{◌≡◌, ◌≢◌, ◌≤◌, ◌+◌, ◌++◌, [], ℕ, List, true, false, length, take, All, IfOk, IfErr, OnOk, OnErr, IsErrOf, MatchResult, Err};
+ghost use Rattle.std.specs.Prelude.{◌≡◌, ◌≢◌, ◌≤◌, ◌+◌, ◌++◌, [], ℕ, List, true, false, length, take, All, IfOk, IfErr, OnOk, OnErr, IsErrOf, Err};
 ghost use Rattle.audit_types.specs.declared.records.Answered.{Answered};
 ghost use Rattle.audit_types.specs.History.{FitsShape, AreProtected, IsLegal, setting_of};
 ghost use Rattle.bench_core.specs.Calls.{IsQuiet, LeavesOnly, IsUntouched, OnlyReads, TellsFault};
@@ -10,9 +10,9 @@ ghost use Rattle.audit_store.specs.Growing.{GrowCause, CanGrow, GivesUpGrowing, 
 ghost use Rattle.audit_store.specs.declared.growing.GrowFault.{GrowFault};
 ghost use Rattle.audit_core.specs.Outcomes.{AreOutcomes, records_made};
 ghost use Rattle.audit_store.specs.Stores.{IsAsLeft, IsStore, table_of, Keeps, KeptAhead, HasGroup, calls_for};
-ghost use Rattle.audit_store.specs.Twice.{IsBroughtUp, IsDueOrGivenUp, IsJournalOf, calls_to_bring_up};
+ghost use Rattle.audit_store.specs.Twice.{IsBroughtUp, IsJournalOf, calls_to_bring_up};
 ghost use Rattle.table_load.specs.Database.{secret_table};
-ghost use Rattle.audit_store.specs.Starting.{StartCause, HistoryCause, GivesUp, StartsUnlessFailed, RefusedUnlessFailed};
+ghost use Rattle.audit_store.specs.Starting.{StartCause, GivesUp, StartsUnlessFailed, RefusedUnlessFailed};
 ghost use Rattle.audit_store.specs.declared.starting.StartFault.{StartFault};
 
 use crate::asking::{decide_all, keep, keep_ready, made_ready};
@@ -20,7 +20,7 @@ use crate::bringing::{bring_up, take_all};
 use crate::growing::{GrowFault, may_grow};
 use crate::keeper::KeepFault;
 use crate::outcome::StoreFault;
-use crate::starting::{StartFault, audited, test_other};
+use crate::starting::{StartFault, recover, recover_other};
 use answer_journal::Journal;
 use audit_core::{Core, Outcome};
 use audit_types::{Answered, Asked, Protected};
@@ -53,43 +53,6 @@ impl Model for Store {
     ghost invariant = { λ s. IsStore (record { secret = s.secret; protected = s.core.setting.protected; history = take s.released s.core.history; journal = s.journal; usable = s.usable }) × IsAuditedBy (secret_table s.secret s.core.setting.protected) s.core s.released s.usable };
 }
 
-// The store of a history that was read back, if it is that of the secrets' table.
-fn opened(
-    alloc: Global,
-    secret: Secret,
-    protected: Vec<Protected>,
-    journal: Journal,
-    list: &[Answered],
-) -> Result<Store, StartFault>
-    requires groups { AreProtected secret.shape protected.items }
-    requires usable { journal.usable ≡ true }
-    requires counted { length list.now ≡ journal.count }
-    requires fit { All (λ r. FitsShape journal.shape r.column r.rows) list.now }
-    ensures ok { IfOk result (λ store. store ≡ record { secret = secret; protected = protected.items; history = list.now; journal = journal; usable = true }) }
-    ensures is { IfOk result (λ store. IsStore store) }
-    ensures err { IfErr result (λ fault. HistoryCause fault journal.shape list.now (secret_table secret protected.items)) }
-    ensures due { (fault : StartFault) → (GivesUp fault → ⊥) → HistoryCause fault journal.shape list.now (secret_table secret protected.items) → RefusedUnlessFailed fault result }
-    ensures opens { journal.shape ≡ secret.shape → IsLegal (secret_table secret protected.items) list.now → StartsUnlessFailed result }
-{
-    let kept = journal.shape();
-    let now = secret.shape();
-    if kept != now {
-        return Err(StartFault::OtherShape { kept, now });
-    }
-    let released = journal.count();
-    match audited(alloc, &secret, protected, list) {
-        Ok(core) => Ok(Store {
-            alloc,
-            secret,
-            core,
-            released,
-            journal,
-            usable: true,
-        }),
-        Err(fault) => Err(fault),
-    }
-}
-
 impl Store {
     /// Opens the journal of a table, and tests that it is that of the table. The faults come in the order of `StartFault`.
     /// The secrets and the groups are dropped with a refusal. The file isn't written.
@@ -115,10 +78,15 @@ impl Store {
         ensures ticks { B.told → OnOk result (B.moment bench.new ≡ B.moment bench.old + 2) }
         ensures fault { TellsFault B.Bench bench.old bench.new (IsErrOf result StartFault.Failed) }
     {
-        match Journal::read_back(alloc, bench) {
-            Ok((journal, list)) => opened(alloc, secret, protected, journal, &list),
-            Err(fault) => Err(StartFault::from(fault)),
-        }
+        let (journal, core) = recover(alloc, &secret, protected, bench)?;
+        Ok(Store {
+            alloc,
+            secret,
+            core,
+            released: journal.count(),
+            journal,
+            usable: true,
+        })
     }
 
     /// Grows the journal of a table to rows that came at its end, if its history is legal over all of them. The faults come in the
@@ -298,17 +266,15 @@ impl Store {
 
         // Each refusal has its cause in the file, and each cause has its refusal; a legal history is never refused.
         ensures cause { (fault : StartFault) → S.told → result ≡ Err fault → StartCause fault (S.file spare.old) (table_of self.now) }
-        ensures due { (fault : StartFault) → S.told → (GivesUp fault → ⊥) → StartCause fault (S.file spare.old) (table_of self.now) → MatchResult result (λ _. ⊥) (λ e. IsDueOrGivenUp fault e) }
-        ensures opens { (history : List Answered) → S.told → StandsFor (S.file spare.old) self.now.secret.shape history → IsLegal (table_of self.now) history → MatchResult result (λ _. Unit {0}) (λ e. GivesUp e) }
+        ensures due { (fault : StartFault) → S.told → (GivesUp fault → ⊥) → StartCause fault (S.file spare.old) (table_of self.now) → RefusedUnlessFailed fault result }
+        ensures opens { (history : List Answered) → S.told → StandsFor (S.file spare.old) self.now.secret.shape history → IsLegal (table_of self.now) history → StartsUnlessFailed result }
 
         // Nothing is written and nothing sent.
         ensures reads { OnlyReads S.Bench spare.old spare.new }
         ensures ticks { S.told → OnOk result (S.moment spare.new ≡ S.moment spare.old + 2) }
         ensures fault { TellsFault S.Bench spare.old spare.new (IsErrOf result StartFault.Failed) }
     {
-        let (journal, list) = Journal::read_back(self.alloc, spare)?;
-        test_other(self.alloc, &self.secret, &self.core, journal.shape(), &list)?;
-        Ok((journal, list))
+        recover_other(self.alloc, &self.secret, &self.core, spare)
     }
 
     /// Goes on with records that its journal lacks, and brings that up to them, in groups of up to 64. They aren't decided again.

@@ -1,5 +1,5 @@
 -- Two journals of one table, on a bench and on a spare, of which one history begins the other.
-use Rattle.std.specs.Prelude.{◌≡◌, ◌≢◌, ◌⊎◌, ℕ, ◌+◌, ◌-◌, ◌*◌, ◌/◌, ◌<◌, true, List, length, slice_get, Some, Result, Ok, Err}
+use Rattle.std.specs.Prelude.{◌≡◌, ◌≢◌, ◌⊎◌, ℕ, ◌+◌, ◌<◌, true, List, length, drop, slice_get, Some, Result, Ok, Err}
 use Rattle.audit_types.specs.declared.records.Answered.{Answered}
 use Rattle.audit_types.specs.declared.shapes.Shape.{Shape}
 use Rattle.audit_types.specs.History.{Table, IsLegal}
@@ -27,6 +27,12 @@ abbrev pub IsSpareAsLeft : List ℕ → TwinContents → Type 0
 IsSpareAsLeft file twin = StandsAt file twin.store.secret.shape twin.store.history twin.spare.gate
 
 -- ---- at the start
+
+-- one of these histories begins the other, and the whole is the longer one
+pub record Meet (main other whole : List Answered) : Type 0 where
+  pub main_front : IsFront main whole
+  pub other_front : IsFront other whole
+  pub longer : (main ≡ whole) ⊎ (other ≡ whole)
 
 -- the files stand for histories over the rows of one table, of which one begins the other; the whole is the longer one, and legal
 pub record KeepTogether (table : Table) (file spare : List ℕ) (main other whole : List Answered) : Type 0 where
@@ -72,6 +78,25 @@ TwinCause MainFailed file spare table = Unit {0}
 TwinCause SpareFailed file spare table = Unit {0}
 TwinCause NoMemory file spare table = Unit {0}
 
+-- the fault of the journal, or of the spare, that opening it found
+abbrev pub fault_of_main : StartFault → TwinFault
+fault_of_main start.NotMade = Main start.NotMade
+fault_of_main (start.Damaged at) = Main (start.Damaged at)
+fault_of_main (start.OtherShape kept now) = Main (start.OtherShape kept now)
+fault_of_main (start.Untrue place kept now) = Main (start.Untrue place kept now)
+fault_of_main (start.Illegal place) = Main (start.Illegal place)
+fault_of_main start.Failed = MainFailed
+fault_of_main start.NoMemory = NoMemory
+
+abbrev pub fault_of_spare : StartFault → TwinFault
+fault_of_spare start.NotMade = Spare start.NotMade
+fault_of_spare (start.Damaged at) = Spare (start.Damaged at)
+fault_of_spare (start.OtherShape kept now) = Spare (start.OtherShape kept now)
+fault_of_spare (start.Untrue place kept now) = Spare (start.Untrue place kept now)
+fault_of_spare (start.Illegal place) = Spare (start.Illegal place)
+fault_of_spare start.Failed = SpareFailed
+fault_of_spare start.NoMemory = NoMemory
+
 -- a call failed, or memory ran out: that may come whatever the files are
 abbrev pub TwinGivesUp : TwinFault → Type 0
 TwinGivesUp (Main fault) = ⊥
@@ -102,6 +127,10 @@ pub record StandsBetween (shape : Shape) (first whole : List Answered) (image : 
 abbrev pub CatchesUp : Shape → List Answered → List Answered → List ℕ → List ℕ → List ℕ → Type 0
 CatchesUp shape first whole before image sent = (sent ≡ before) × StandsBetween shape first whole image
 
--- the calls with which a journal is read back and brought up: two, and four for each 64 records that are missing
+-- the records of the whole that a history lacks
+abbrev pub missing : List Answered → List Answered → List Answered
+missing history whole = drop (length history) whole
+
+-- the calls with which a journal is read back and brought up: two, and four for each 64 records that it lacks
 abbrev pub calls_to_open : List Answered → List Answered → ℕ
-calls_to_open history whole = 2 + 4 * ((length whole - length history + 63) / 64)
+calls_to_open history whole = 2 + calls_to_bring_up (missing history whole)

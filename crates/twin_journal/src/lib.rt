@@ -4,6 +4,7 @@
 //! it gives an answer; `restore` writes a lost journal anew from the other one.
 #![tactic(auto)]
 
+mod catching;
 mod keeping;
 mod restoring;
 mod starting;

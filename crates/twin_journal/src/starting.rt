@@ -9,8 +9,9 @@ ghost use Rattle.table_load.specs.Database.{secret_table};
 ghost use Rattle.audit_store.specs.Stores.{HasGroup, IsAsLeft, IsStore, Keeps, KeptAhead, calls_for, table_of};
 ghost use Rattle.audit_store.specs.declared.starting.StartFault.{StartFault};
 ghost use Rattle.twin_journal.specs.declared.starting.TwinFault.{TwinFault};
-ghost use Rattle.twin_journal.specs.Twins.{CatchesUp, IsSpareAsLeft, IsTwin, KeepApart, KeepTogether, KeepWhole, RefusedUnlessGivenUp, StartsUnlessGivenUp, TwinCause, TwinGivesUp, calls_to_open};
+ghost use Rattle.twin_journal.specs.Twins.{CatchesUp, IsSpareAsLeft, IsTwin, KeepApart, KeepTogether, KeepWhole, RefusedUnlessGivenUp, StartsUnlessGivenUp, TwinCause, TwinGivesUp, calls_to_open, fault_of_main, fault_of_spare};
 
+use crate::catching::catch_up;
 use answer_journal::Journal;
 use audit_store::{KeepFault, Outcome, StartFault, Store};
 use audit_types::{Answered, Asked, Protected};
@@ -63,6 +64,28 @@ impl Model for TwinStore {
     ghost invariant = { λ t. IsTwin (record { store = t.store; spare = t.spare }) };
 }
 
+// What a fault of the journal is here.
+fn main_fault(fault: StartFault) -> TwinFault
+    ensures { result ≡ fault_of_main fault }
+{
+    match fault {
+        StartFault::Failed => TwinFault::MainFailed,
+        StartFault::NoMemory => TwinFault::NoMemory,
+        fault => TwinFault::Main(fault),
+    }
+}
+
+// What a fault of the spare is here.
+fn spare_fault(fault: StartFault) -> TwinFault
+    ensures { result ≡ fault_of_spare fault }
+{
+    match fault {
+        StartFault::Failed => TwinFault::SpareFailed,
+        StartFault::NoMemory => TwinFault::NoMemory,
+        fault => TwinFault::Spare(fault),
+    }
+}
+
 impl TwinStore {
     /// Opens the journal of a table and then the spare, and tests both as `Store::start` does. If one history begins the other the
     /// missing records are appended to the shorter journal, in groups of up to 64; the secrets and the groups are dropped with a
@@ -112,8 +135,19 @@ impl TwinStore {
         ensures fault { TellsFault B.Bench bench.old bench.new (IsErrOf result TwinFault.MainFailed) }
         ensures spare_fault { TellsFault S.Bench spare.old spare.new (IsErrOf result TwinFault.SpareFailed) }
     {
-        let _ = (alloc, secret, protected);
-        Err(TwinFault::NoMemory)
+        let mut store = match Store::start(alloc, secret, protected, bench) {
+            Ok(store) => store,
+            Err(fault) => return Err(main_fault(fault)),
+        };
+        let (mut journal, list) = match store.open_other(spare) {
+            Ok(found) => found,
+            Err(fault) => return Err(spare_fault(fault)),
+        };
+        catch_up(&mut store, bench, &mut journal, spare, &list)?;
+        Ok(TwinStore {
+            store,
+            spare: journal,
+        })
     }
 
     /// Decides up to 64 questions in order, as `Store::ask_all` does, and keeps the records of the answers as one group on the spare

@@ -1,6 +1,7 @@
--- What is true of every store.
+-- Laws of stores: what they show of their cores and journals, and that a recovered one, one that kept a group and one that refused one are
+-- stores.
 use Rattle.std.proofs.Common.{◌≡◌, ℕ, ◌+◌, ◌<◌, ◌≤◌, Bool, true, false, List, [], ◌∷◌, refl, ◌-◌, ◌++◌, length, length-append, length-take, length-drop, take, drop, sym, ap, subst, ◌∙◌, arith, inl, Result, Ok, Err}
-use Rattle.std.specs.Prelude.{◌==◌, OnErr, IfOk}
+use Rattle.std.specs.Prelude.{◌==◌, OnErr}
 use Rattle.std.proofs.lemmas.Grind.{common_steps}
 use Rattle.std.proofs.Math.Seq.{take-length, drop-append_seam}
 use Rattle.std.proofs.lemmas.List.{take-append-drop, take_all}
@@ -9,7 +10,7 @@ use Rattle.audit_types.specs.declared.records.Protected.{Protected}
 use Rattle.audit_types.specs.declared.shapes.Shape.{Shape}
 use Rattle.audit_types.specs.History.{Table, Setting, AreProtected, IsLegal, setting_of}
 use Rattle.audit_core.specs.Audited.{Audited}
-use Rattle.table_load.specs.Cells.{SecretView, IsSecret}
+use Rattle.table_load.specs.Cells.{SecretView}
 use Rattle.bench_core.specs.declared.bench.Bench.{Ghosts}
 use Rattle.bench_core.specs.Calls.{IsQuiet, LeavesOnly}
 use Rattle.bench_core.specs.Moments.{started}
@@ -18,43 +19,8 @@ use Rattle.answer_journal.specs.Append.{AppendsGroup}
 use Rattle.answer_journal.specs.Moments.{IsBeforeOrAfter}
 use Rattle.answer_journal.specs.Contents.{JournalContents}
 use Rattle.audit_store.specs.Stores.{StoreContents, IsStore, IsAsLeft, IsAuditedBy, HasGroup, calls_for}
+use Rattle.audit_store.specs.Starting.{Recovers}
 use Rattle.table_load.specs.Database.{secret_table}
-
--- a store of these secrets, groups and records over this journal, which may be asked
-abbrev pub store_of : SecretView → List Protected → List Answered → JournalContents → StoreContents
-store_of secret protected history journal = record { secret = secret; protected = protected; history = history; journal = journal; usable = true }
-
-pub is_store : (secret : SecretView) (protected : List Protected) (history : List Answered) (journal : JournalContents) → IsSecret secret
-    → AreProtected secret.shape protected → IsLegal (secret_table secret protected) history
-    → journal.usable ≡ true → journal.shape ≡ secret.shape → length history ≡ journal.count
-    → IsStore (store_of secret protected history journal)
-is_store secret protected history journal numbers fit legal usable shape counted = record {
-  numbers = numbers;
-  fit = fit;
-  legal = legal;
-  journal_usable = λ _. usable;
-  same_shape = λ _. shape;
-  counted = λ _. sym counted;
-}
-
--- a store that was opened is one of these secrets and groups, which may be asked
-pub started_store : {E : Type 0} (answer : Result StoreContents E) (secret : SecretView) (protected : List Protected) (history : List Answered) (journal : JournalContents)
-    → IfOk answer (λ s. s ≡ store_of secret protected history journal) → IfOk answer IsStore
-    → IfOk answer (λ s. (s.secret ≡ secret) × (s.protected ≡ protected) × (s.usable ≡ true) × IsStore s)
-started_store (Ok s) secret protected history journal is store =
-    (ap (λ (t : StoreContents). t.secret) is, ap (λ (t : StoreContents). t.protected) is, ap (λ (t : StoreContents). t.usable) is, store)
-started_store (Err e) secret protected history journal is store = tt
-
--- and the file is as it left it
-pub left_store : {E : Type 0} (answer : Result StoreContents E) (secret : SecretView) (protected : List Protected) (history : List Answered) (journal : JournalContents) (file : List ℕ)
-    → IfOk answer (λ s. s ≡ store_of secret protected history journal) → IfOk answer IsStore → StandsAt file journal.shape history journal.gate
-    → IfOk answer (λ s. IsAsLeft file s)
-left_store (Ok s) secret protected history journal file is store stands =
-    let shape : journal.shape ≡ s.secret.shape = sym (ap (λ (t : StoreContents). t.journal.shape) is)
-    ∙ store.same_shape (ap (λ (t : StoreContents). t.usable) is) in
-    subst (λ (x : Shape). StandsAt file x s.history s.journal.gate) shape
-    (subst (λ (t : StoreContents). StandsAt file journal.shape t.history t.journal.gate) (sym is) stands)
-left_store (Err e) secret protected history journal file is store stands = tt
 
 -- while a store is usable the records of its core are its history
 pub core_is_history : (table : Table) (core : Audited) (released : ℕ) (usable : Bool) (history : List Answered) →
@@ -122,22 +88,37 @@ store_in secret core released journal usable =
 abbrev pub table_by : SecretView → Audited → Table
 table_by secret core = secret_table secret core.setting.protected
 
-module _ (secret : SecretView) (protected : List Protected) (history : List Answered) (core : Audited) (released : ℕ) (journal : JournalContents)
-    (is : core ≡ record { setting = setting_of secret.shape protected; history = history }) (long : released ≡ length history) where
-  all_released : take released history ≡ history
-  all_released = ap (λ n. take n history) long ∙ take-length history
+module _ (secret : SecretView) (protected : List Protected) (journal : JournalContents) (core : Audited) (found : Recovers secret protected journal core) where
+  all_released : take journal.count core.history ≡ core.history
+  all_released = ap (λ n. take n core.history) found.counted ∙ take-length core.history
 
-  -- a core that has replayed the history makes a store of it
-  pub opened_is : store_in secret core released journal true ≡ store_of secret protected history journal
-  opened_is = ap (λ (a : Audited). store_in secret a released journal true) is ∙ ap (λ (h : List Answered). store_of secret protected h journal) all_released
+  -- its groups are those that were given
+  pub recovered_groups : core.setting.protected ≡ protected
+  recovered_groups = ap (λ (s : Setting). s.protected) found.same_setting
 
-  pub opened_store : IsStore (store_of secret protected history journal) →
-      IsStore (store_in secret core released journal true) × IsAuditedBy (table_by secret core) core released true
-  opened_store store =
-      subst (λ (a : Audited). IsStore (store_in secret a released journal true) × IsAuditedBy (table_by secret a) a released true) (sym is) (
-        subst (λ (h : List Answered). IsStore (store_of secret protected h journal)) (sym all_released) store,
-        record { same_setting = refl; within = omega (arith, long); all = λ _. long },
-      )
+  -- what was recovered is a store, all of whose records are released
+  pub recovered_store : AreProtected secret.shape protected →
+      IsStore (store_in secret core journal.count journal true) × IsAuditedBy (table_by secret core) core journal.count true
+  recovered_store fit = (
+    record {
+      numbers = found.numbers;
+      fit = subst (λ (p : List Protected). AreProtected secret.shape p) (sym recovered_groups) fit;
+      legal = subst (λ (p : List Protected). IsLegal (secret_table secret p) (take journal.count core.history)) (sym recovered_groups)
+          (subst (λ (h : List Answered). IsLegal (secret_table secret protected) h) (sym all_released) found.legal);
+      journal_usable = λ _. found.usable;
+      same_shape = λ _. found.same_shape;
+      counted = λ _. found.counted ∙ ap length (sym all_released);
+    },
+    record {
+      same_setting = found.same_setting ∙ ap (λ (p : List Protected). setting_of secret.shape p) (sym recovered_groups);
+      within = omega (arith, found.counted);
+      all = λ _. found.counted;
+    },
+  )
+
+  -- and the file is as it left it
+  pub recovered_left : (file : List ℕ) → StandsAt file secret.shape core.history journal.gate → IsAsLeft file (store_in secret core journal.count journal true)
+  recovered_left file stands = subst (λ (h : List Answered). StandsAt file secret.shape h journal.gate) (sym all_released) stands
 
 -- a core that goes on over the same setting audits the same table
 same_table : (secret : SecretView) (old new : Audited) → new.setting ≡ old.setting → old.setting ≡ (table_by secret old).setting → new.setting ≡ (table_by secret new).setting
