@@ -72,6 +72,18 @@ returns-in_err-planner g c =
           (g.K.Keeper.store c.args.keeper.now).history (counted_lines (g.P.Source.left c.args.source.now))
           (λ image bytes was. g.met.S.Bench.only_now c.args.spare.now image bytes was) quiet
           (g.K.Keeper.spare_gate c.args.keeper.now, c.requires.spare_stands spared told));
+      spare_legal = λ spared told quiet.
+          let store = g.K.Keeper.store c.args.keeper.now in
+          let base = base_of c.args.schema.now.columns c.args.index.now.public store.protected store.secret in
+          weakens g.S.Bench c.args.spare.now c.args.spare.now _ _
+          (λ image sent found history stands.
+          let stop = found.1.1.0 in
+          c.stops.ensures base c.args.batch store.history stop.0 image stop.1.0 history
+          (record { schema = c.count-columns.ensures.columns; shape = c.requires.shape; protected = c.requires.is.fit }) c.requires.is.numbers c.requires.is.legal
+          stop.1.2 stands)
+          (spare_first g.P.Source.told g.S.Bench c.args.spare.now base c.args.batch store.history (counted_lines (g.P.Source.left c.args.source.now))
+          (λ image bytes was. g.met.S.Bench.only_now c.args.spare.now image bytes was) quiet
+          (g.K.Keeper.spare_gate c.args.keeper.now, c.requires.spare_stands spared told));
       spare_quiet = λ spared told quiet other. quiet;
       spare_sent = refl;
       both = λ spared t told spare_told quiet spare_quiet failed.
@@ -150,6 +162,15 @@ returns g c =
           (SpareStops (base_of columns public p store.secret) batch store.history (counted_lines input) (g.S.Bench.sent c.args.spare.now))) same
           (weakens g.S.Bench c.args.spare.now c.answer_groups.new.spare _ _ (λ image sent found. (found.0, (found.1.0, found.1.1.1 t)))
           (c.answer_groups.ensures.spare_moments spared told quiet));
+      spare_legal = λ spared told quiet.
+          let base = base_of columns public store.protected store.secret in
+          weakens g.S.Bench c.args.spare.now c.answer_groups.new.spare _ _
+          (λ image sent found history stands.
+          let stop = found.1.1.0 in
+          c.stops.ensures base batch store.history stop.0 image stop.1.0 history
+          (record { schema = c.count-columns.ensures.columns; shape = c.requires.shape; protected = c.requires.is.fit }) c.requires.is.numbers c.requires.is.legal
+          stop.1.2 stands)
+          (c.answer_groups.ensures.spare_moments spared told quiet);
       spare_quiet = c.answer_groups.ensures.spare_quiet;
       spare_sent = c.answer_groups.ensures.spare_sent;
       both = λ spared t told spare_told quiet spare_quiet failed image other left spare_left.
