@@ -121,7 +121,8 @@ twin_end_once alone.NoMemory alone.Limit is = let none : ⊥ = cc in absurd none
 twin_end_once alone.NoMemory alone.NoMemory is = refl
 
 -- what it is, the session's is, and the other way round
-pub to_twin : {X : Type 0} (fault other : EndFault) (given : TwinEnd) → twin_end fault ≡ given → (let answer : Result X EndFault = Err fault in answer) ≡ Err other →
+pub to_twin : {X : Type 0} (fault other : EndFault) (given : TwinEnd) → twin_end fault ≡ given
+    → (let answer : Result X EndFault = Err fault in answer) ≡ Err other →
     (let answer : Result X TwinEnd = Err given in answer) ≡ Err (twin_end other)
 to_twin {X} fault other given same is =
     let equal : fault ≡ other = cc in
@@ -130,7 +131,8 @@ to_twin {X} fault other given same is =
     ended : TwinEnd → Result X TwinEnd
     ended t = Err t
 
-pub from_twin : {X : Type 0} (fault other : EndFault) (given : TwinEnd) → twin_end fault ≡ given → (let answer : Result X TwinEnd = Err given in answer) ≡ Err (twin_end other) →
+pub from_twin : {X : Type 0} (fault other : EndFault) (given : TwinEnd) → twin_end fault ≡ given
+    → (let answer : Result X TwinEnd = Err given in answer) ≡ Err (twin_end other) →
     (let answer : Result X EndFault = Err fault in answer) ≡ Err other
 from_twin {X} fault other given same is =
     let equal : given ≡ twin_end other = cc in
