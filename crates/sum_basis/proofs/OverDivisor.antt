@@ -1,6 +1,6 @@
 -- Lists whose multiples are combined.
-use Rattle.std.proofs.Common.{◌≡◌, ◌≢◌, ℕ, ◌+◌, ◌<◌, cond, ℤ, pos, List, [], ◌∷◌, ◌++◌, length, map, take, get_or, sym, ap, ◌∙◌, subst, arith, inl, inr, append_assoc}
-use Rattle.std.specs.Prelude.{◌*ℤ◌, ◌-ℤ◌, unsigned_abs, FitsSigned}
+use Rattle.std.proofs.Common.{◌≡◌, ◌≢◌, ℕ, ◌+◌, ◌<◌, true, false, cond, ℤ, pos, List, [], ◌∷◌, ◌++◌, length, map, take, get_or, sym, ap, ◌∙◌, subst, arith, inl, inr, append_assoc}
+use Rattle.std.specs.Prelude.{◌*ℤ◌, ◌-ℤ◌, ◌<ℤ◌, unsigned_abs, FitsSigned}
 use Rattle.std.specs.Int.{◌∣◌, w128}
 use mir.Val.{to_z, of_z}
 use Rattle.std.specs.List.{AllByRecursion}
@@ -10,12 +10,13 @@ use Rattle.std.proofs.lemmas.Int.{ints, to_z-of_z, unsigned_abs-mul}
 use Rattle.std.proofs.lemmas.Bool.{cases_eq}
 use Rattle.std.proofs.lemmas.List.{take_more, map-append, length-append, length-map, length-take-le}
 use Rattle.audit_types.specs.Truth.{is_zero}
+use Rattle.audit_types.specs.Form.{IsContent}
 use Rattle.audit_types.specs.Numbers.{test_of_not_zero, zero_or_not}
 use Rattle.audit_types.specs.Products.{product_not_zero}
 use Rattle.sum_basis.specs.declared.sparse.FreeEntry.{FreeEntry}
-use Rattle.sum_basis.specs.Sparse.{entry_at, IsListed, scaled}
+use Rattle.sum_basis.specs.Sparse.{entry_at, IsListed, scaled, IsOverContent}
 use Rattle.sum_basis.proofs.SparseRows.{here, elsewhere, zero_below}
-use Rattle.sum_basis.proofs.ListContents.{none, values}
+use Rattle.sum_basis.proofs.ListContents.{none, values, over_content}
 
 -- the multiple of a list with a quotient more is that with the value
 pub put_scaled : (g q v : ℤ) (place : ℕ) (out after : List FreeEntry) → g ≢ pos 0 → v ≡ g *ℤ q

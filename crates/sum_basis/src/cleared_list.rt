@@ -161,7 +161,7 @@ pub fn combine_at_pivot(
 }
 
 // Writes the list of the row, cleared at the new row's pivot, in one pass, and answers its pivot entry. None if the divisor that
-// is told from a few values doesn't divide all.
+// is told from the first values doesn't divide all.
 fn clear_at_once(
     out: &mut Vec<FreeEntry>,
     columns: u16,

@@ -12,17 +12,9 @@ use crate::sparse::FreeEntry;
 use int_rows::Divisor;
 
 // How many places are tried for a divisor.
-const FEW: usize = 12;
+const FEW: usize = 6;
 
-// The place of an entry to be tried. They are spread over the list, since neighbours often have the same value.
-fn place_to_try(entries: &[FreeEntry], k: usize) -> u16 {
-    match entries.get(k.wrapping_mul(entries.len() / FEW)) {
-        Some(entry) => entry.place,
-        None => 0,
-    }
-}
-
-/// A divisor of the pivot entry that each divisor of it and of all values divides: that of the pivot entry and a few values.
+/// A divisor of the pivot entry that each divisor of it and of all values divides: that of the pivot entry and the first values.
 pub fn first_divisor(
     head: i128,
     by: i128,
@@ -42,14 +34,17 @@ pub fn first_divisor(
     ensures greatest { (d : ℕ) → d ∣ unsigned_abs head → ((j : ℕ) → d ∣ unsigned_abs (by *ℤ entry_at first.now j -ℤ times *ℤ entry_at second.now j)) → d ∣ result }
 {
     let mut divisor = Divisor::new(head);
-    for k in 0..FEW {
+    let few = first.len().min(FEW);
+    for e in &first[..few] {
         if divisor.is_one() {
             return divisor;
         }
-        let place = place_to_try(first, k);
-        let x = value_at(first, place);
-        let y = value_at(second, place);
-        let number = difference(by, x, times, y);
+        let number = difference(
+            by,
+            value_at(first, e.place),
+            times,
+            value_at(second, e.place),
+        );
         divisor = divisor.with(number);
     }
     divisor

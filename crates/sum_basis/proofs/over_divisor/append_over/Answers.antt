@@ -1,4 +1,4 @@
-use Rattle.std.proofs.Common.{◌∷◌, [], pos, map, get_or, sym, ap, ◌∙◌, rules, ◌++◌, take_all}
+use Rattle.std.proofs.Common.{◌∷◌, [], pos, map, get_or, sym, ap, ◌∙◌, arith, rules, ◌++◌, take_all, length}
 use Rattle.std.specs.Prelude.{FitsSigned, ◌*ℤ◌}
 use Rattle.std.specs.Int.{w128}
 use mir.Val.{to_z, of_z}

@@ -1,7 +1,7 @@
-use Rattle.std.proofs.Common.{◌++◌, cond, pos, [], ◌∷◌, sym, ap, ◌∙◌, rules}
+use Rattle.std.proofs.Common.{◌≢◌, ℕ, ◌<◌, ◌++◌, cond, ℤ, pos, List, [], ◌∷◌, sym, ap, ◌∙◌, arith, rules}
 use Rattle.std.specs.Prelude.{FitsSigned}
 use Rattle.std.specs.Int.{w128}
-use Rattle.std.proofs.lemmas.Int.{to_z-of_z}
+use Rattle.std.proofs.lemmas.Int.{ints, to_z-of_z}
 use Rattle.audit_types.specs.Truth.{is_zero}
 use Rattle.sum_basis.proofs.OverDivisor.{put_scaled, some_divisor}
 use Rattle.sum_basis.proofs.over_divisor.put_over.Goals as goal
