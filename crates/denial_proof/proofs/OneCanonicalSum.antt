@@ -232,7 +232,7 @@ not_too_wide n history protected asked places form marks independent (Sum target
     wide.large (same_numbers IsSmall n history protected asked target times wide.times terms wide.terms own wide.own canonical other
     (subst (λ (list : List ℕ). AreIndependent n (kept_sets history list asked.rows.list)) same independent) (shows.small_times, (shows.small_own, small_terms history asked.column terms shows.are_terms)))
 
--- so if a proof was given
+-- so what was given a proof is not too wide
 pub none_too_wide : (n : ℕ) (history : List Answered) (protected : List Protected) (asked : Asked) (places : List ℕ) (form : Echelon) → AreMarks n history asked places form →
     AreIndependent n (kept_sets history places asked.rows.list) → (result : Result Proof ProveFault) → IfOk result (IsSumProof n history protected asked) →
     IfOk result (λ proof. ¬ (IsSumTooWide n history protected asked))
