@@ -131,6 +131,9 @@ fn is_only(heights: &[i128], rows: &RowSet, height: i128, row: u16) -> bool
     requires row { row < rows.now.n }
     ensures { IsTrue result ↔ IsOnly heights.now rows.now.list height row }
 {
+    if !is_at(heights, rows, height, row) {
+        return false;
+    }
     // A set says of itself that its rows are rows of the table.
     let n = rows.n();
     for q in 0..n {
@@ -138,7 +141,7 @@ fn is_only(heights: &[i128], rows: &RowSet, height: i128, row: u16) -> bool
             return false;
         }
     }
-    is_at(heights, rows, height, row)
+    true
 }
 
 // Whether the record is of the column, and the row the only one of its set at its answer.
