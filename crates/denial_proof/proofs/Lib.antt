@@ -32,6 +32,7 @@ pub mod SpannedTargets
 pub mod AskedIsNew
 pub mod SumParts
 pub mod OneCanonicalSum
+pub mod OneProof
 pub mod UnsafeSums
 pub mod ByKind
 pub mod OutlookWalks

@@ -1,14 +1,14 @@
-use Rattle.std.proofs.Common.{rules, ◌≡◌, List, ℕ, [], Option, Some, None, Result, Ok, Err, refl, sym, subst}
+use Rattle.std.proofs.Common.{rules, ◌≡◌, List, ℕ, [], Option, Result, Err, sym, subst}
 use Rattle.audit_types.specs.History.{Setting}
 use Rattle.question_plan.specs.declared.planning.Plan.{Plan}
 use Rattle.question_plan.specs.declared.planner.PlanStop.{PlanStop}
-use Rattle.question_plan.specs.Planned.{GivesPlan, PlansNext}
+use Rattle.question_plan.specs.Planned.{PlansNext}
 use Rattle.certificate_lines.specs.declared.explaining.ExplainFault.{ExplainFault}
 use Rattle.certificate_lines.specs.declared.explaining.ExplainFault.TheVariants as fault
-use Rattle.certificate_lines.specs.Explained.{IsExplained, IsLineOf}
+use Rattle.certificate_lines.specs.Explained.{IsLineOf}
 use Rattle.certificate_lines.specs.Ends.{Explains, stop_end}
 use Rattle.certificate_lines.proofs.SoFar.{nothing_yet}
-use Rattle.certificate_lines.proofs.Turns.{Turn, went_on, unsent, unwritten, unplanned, none_left}
+use Rattle.certificate_lines.proofs.Turns.{went_on, unsent, unwritten, unplanned, none_left}
 use Rattle.certificate_lines.proofs.explaining.explain_lines.Goals as goal
 
 abbrev ended_by : ExplainFault → Result (Unit {0}) ExplainFault
