@@ -23,7 +23,7 @@ loop-line-init g c = record {
         nothing_yet g.P.Source g.B.Bench c.args.schema.now.columns c.args.index.now c.args.core.now.history c.args.source.now c.args.bench.now
         c.lines_in_turn.ensures.none c.args.planner.now c.requires.fresh (λ image bytes was. g.met.B.Bench.only_now c.args.bench.now image bytes was);
   };
-  provers = c.new.ensures c.args.core.now.setting c.args.core.now.history;
+  provers = c.new-provers.ensures c.args.core.now.setting c.args.core.now.history;
 }
 
 pub returns-in_err-plan : goal.returns-in_err-plan
