@@ -1,21 +1,24 @@
 //! The whole path: files, lines, sets, decisions, journal, replies.
 
 use crate::condition;
+use crate::history::{self, Fault, History};
 use crate::index::Index;
-use crate::journal::{Journal, Record};
+use crate::journal::{Group, Journal, Record};
 use crate::maxima::Bounds;
 use crate::reply::Reply;
 use crate::request::{self, Ask};
 use crate::row_set::RowSet;
 use crate::sums::{SumColumn, Verdict};
 use crate::table::{Role, Schema, Secret, Table};
+use crate::twins::{TwinFault, Twins};
 use std::fs::{self, File};
 use std::io::{Read, Write};
 use std::mem::ManuallyDrop;
 use std::os::fd::FromRawFd;
 
-const JOURNAL: &str = "answers.journal";
-const MOST_RECORDS: usize = 65_536;
+pub const JOURNAL: &str = "answers.journal";
+pub const SPARE: &str = "answers.spare";
+pub const MOST_RECORDS: usize = 65_536;
 
 fn read_files() -> (Schema, Table) {
     let schema = Schema::read(&fs::read_to_string("schema.json").unwrap());
@@ -28,14 +31,14 @@ pub fn init() {
     Journal::make(JOURNAL, table.rows, &schema.secret_roles()).unwrap();
 }
 
-enum Part {
+pub enum Part {
     Sums(Box<SumColumn>),
     Maxima(Box<Bounds>),
 }
 
 impl Part {
     /// Decides on a set; if it is released, the answer is taken.
-    fn ask(&mut self, rows: &RowSet, secret: &Secret) -> Result<i64, Verdict> {
+    pub fn ask(&mut self, rows: &RowSet, secret: &Secret) -> Result<i64, Verdict> {
         match self {
             Part::Sums(sums) => {
                 let step = sums.decide(rows)?;
@@ -54,15 +57,6 @@ impl Part {
     }
 }
 
-struct Auditor {
-    schema: Schema,
-    index: Index,
-    secrets: Vec<Secret>,
-    parts: Vec<Part>,
-    journal: Journal,
-    records: usize,
-}
-
 /// The protected groups of each secret column that have rows.
 fn groups(schema: &Schema, index: &Index) -> Vec<Vec<RowSet>> {
     let mut groups = vec![Vec::new(); schema.secret_roles().len()];
@@ -77,40 +71,117 @@ fn groups(schema: &Schema, index: &Index) -> Vec<Vec<RowSet>> {
     groups
 }
 
-impl Auditor {
-    /// Opens the journal and decides each of its records again.
-    fn open() -> Auditor {
+/// The files that are read, and what is made of them.
+pub struct Settings {
+    pub schema: Schema,
+    pub table: Table,
+    index: Index,
+    groups: Vec<Vec<RowSet>>,
+    secrets: Vec<Secret>,
+}
+
+impl Settings {
+    pub fn read() -> Settings {
         let (schema, table) = read_files();
         let index = Index::new(&schema, &table);
         let groups = groups(&schema, &index);
-        let part = |(place, role): (usize, &Role)| match role {
-            Role::Sum => Part::Sums(Box::new(SumColumn::new(table.rows, groups[place].clone()))),
-            _ => Part::Maxima(Box::new(Bounds::new(table.rows))),
-        };
-        let mut parts: Vec<Part> = schema.secret_roles().iter().enumerate().map(part).collect();
         let secrets = table.secrets(&schema);
-        let (journal, records) = Journal::open(JOURNAL, table.rows).unwrap();
-        for record in &records {
-            let column = usize::from(record.column);
-            let answer = parts[column].ask(&record.rows, &secrets[column]);
-            assert!(answer == Ok(record.answer), "a journal of another table");
-        }
-        Auditor {
-            index,
+        Settings {
             schema,
+            table,
+            index,
+            groups,
             secrets,
-            parts,
-            journal,
-            records: records.len(),
         }
     }
 
+    /// A part for each secret column, to which nothing was answered yet.
+    fn parts(&self) -> Vec<Part> {
+        let roles = self.schema.secret_roles();
+        let part = |(role, groups): (&Role, &Vec<RowSet>)| match role {
+            Role::Sum => Part::Sums(Box::new(SumColumn::new(self.table.rows, groups.clone()))),
+            _ => Part::Maxima(Box::new(Bounds::new(self.table.rows))),
+        };
+        roles.iter().zip(&self.groups).map(part).collect()
+    }
+
+    /// The history of a file that isn't trusted.
+    pub fn history(&self, bytes: &[u8]) -> Result<History, Fault> {
+        let roles = self.schema.secret_roles();
+        let history = history::read(bytes, self.table.rows, &roles, &self.secrets)?;
+        history::decide_again(&mut self.parts(), &self.secrets, &history.records)?;
+        Ok(history)
+    }
+}
+
+struct Auditor {
+    settings: Settings,
+    parts: Vec<Part>,
+    journal: Journal,
+    spare: Option<Journal>,
+    group: Group,
+    records: usize,
+}
+
+impl Auditor {
+    /// Opens the journal and decides each of its records again.
+    fn open() -> Auditor {
+        let settings = Settings::read();
+        let (journal, records) = Journal::open(JOURNAL, settings.table.rows).unwrap();
+        Auditor::over(settings, journal, None, &records)
+    }
+
+    /// Opens both journals.
+    fn open_twins() -> Result<Auditor, TwinFault> {
+        let settings = Settings::read();
+        let twins = Twins::open(&settings)?;
+        let (journal, spare) = (twins.journal, Some(twins.spare));
+        Ok(Auditor::over(settings, journal, spare, &twins.records))
+    }
+
+    fn over(
+        settings: Settings,
+        journal: Journal,
+        spare: Option<Journal>,
+        records: &[Record],
+    ) -> Auditor {
+        let mut parts = settings.parts();
+        for record in records {
+            let column = usize::from(record.column);
+            let answer = parts[column].ask(&record.rows, &settings.secrets[column]);
+            assert!(answer == Ok(record.answer), "a journal of another table");
+        }
+        Auditor {
+            parts,
+            journal,
+            spare,
+            group: Group::new(settings.table.rows),
+            records: records.len(),
+            settings,
+        }
+    }
+
+    /// Writes the records of the group: on the spare first, if there is one.
+    fn keep(&mut self) -> Result<(), TwinFault> {
+        if self.group.is_empty() {
+            return Ok(());
+        }
+        if let Some(spare) = &mut self.spare {
+            let appended = spare.append(&self.group);
+            appended.map_err(|_| TwinFault::SpareFailed)?;
+        }
+        let appended = self.journal.append(&self.group);
+        appended.map_err(|_| TwinFault::MainFailed)?;
+        self.group.clear();
+        Ok(())
+    }
+
     fn reply(&mut self, line: &[u8]) -> Reply {
-        let request = match request::read(&self.schema, line) {
+        let request = match request::read(&self.settings.schema, line) {
             Ok(request) => request,
             Err(refused) => return refused,
         };
-        let rows = self.index.rows_of(&request.condition);
+        let rows = self.settings.index.rows_of(&request.condition);
         if request.ask == Ask::Count {
             return Reply::Count(rows.len());
         }
@@ -121,12 +192,12 @@ impl Auditor {
             return Reply::Full;
         }
         let column = usize::from(request.column);
-        match self.parts[column].ask(&rows, &self.secrets[column]) {
+        match self.parts[column].ask(&rows, &self.settings.secrets[column]) {
             Err(Verdict::Unsafe) => Reply::Unsafe,
             Err(Verdict::Wide) => Reply::Wide,
             Ok(answer) => {
                 self.records += 1;
-                self.journal.put(&Record {
+                self.group.put(&Record {
                     column: request.column,
                     rows,
                     answer,
@@ -186,9 +257,14 @@ impl Lines {
     }
 }
 
-/// Answers the lines in groups of at most so many: a group's records are in the journal before its replies are sent.
-pub fn serve(batch: usize) {
-    let mut auditor = Auditor::open();
+/// Answers the lines in groups of at most so many: a group's records are in the journal before its replies are sent, and with
+/// twins in the spare before that.
+pub fn serve(batch: usize, twin: bool) -> Result<(), TwinFault> {
+    let mut auditor = if twin {
+        Auditor::open_twins()?
+    } else {
+        Auditor::open()
+    };
     let mut lines = Lines {
         input: stream(0),
         buffer: vec![0; 1 << 16],
@@ -206,12 +282,13 @@ pub fn serve(batch: usize) {
             }
         }
         if replies.is_empty() {
-            return;
+            return Ok(());
         }
-        auditor.journal.write().unwrap();
+        auditor.keep()?;
         for reply in replies.drain(..) {
             reply.put(&mut sent);
-            output.write_all(&sent).unwrap();
+            let written = output.write_all(&sent);
+            written.map_err(|_| TwinFault::MainFailed)?;
         }
     }
 }
