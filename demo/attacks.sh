@@ -16,17 +16,6 @@ tell_run() {
     [ "$(wc -l <first)" = "$sent" ] || complain "$(wc -l <first) replies left, not $sent: $1"
 }
 
-# The number of records of the journal in this file, by its groups, each a gate and a count.
-records() {
-    od -An -v -tu1 -w1 "$1" | awk '
-        { byte[NR - 1] = $1 + 0 }
-        END {
-            width = int((byte[9] * 256 + byte[10] + 7) / 8)
-            for (gate = 20; byte[gate] == 1; gate += 2 + byte[gate + 1] * (9 + width)) count += byte[gate + 1]
-            print count + 0
-        }'
-}
-
 echo "  what was done to the journal                                 status  text"
 
 fresh

@@ -9,6 +9,7 @@ use std::fmt;
 use std::fs::{File, OpenOptions};
 use std::io::{self, Read};
 use std::os::unix::fs::{FileExt, OpenOptionsExt};
+use std::path::{Path, PathBuf};
 
 const MOST_IN_GROUP: usize = 64;
 
@@ -77,10 +78,29 @@ impl Which {
         }
     }
 
+    /// Where the file is. One link that has the spare's name is followed, if the folder is there that it leads to.
+    fn place(self) -> io::Result<PathBuf> {
+        let name = Path::new(self.path());
+        let is_link = |path: &Path| {
+            path.symlink_metadata()
+                .is_ok_and(|found| found.is_symlink())
+        };
+        if !is_link(name) {
+            return Ok(name.to_path_buf());
+        }
+        let target = name.read_link()?;
+        File::open(folder_of(&target))?;
+        match self {
+            Which::Spare if !is_link(&target) => Ok(target),
+            _ => Err(io::Error::from(io::ErrorKind::InvalidInput)),
+        }
+    }
+
     /// The file and its bytes, of which there are none if it isn't there.
     fn open(self) -> Result<(Option<File>, Vec<u8>), TwinFault> {
         let mut bytes = Vec::new();
-        let mut file = match OpenOptions::new().read(true).write(true).open(self.path()) {
+        let place = self.place().map_err(|error| self.failed(error))?;
+        let mut file = match OpenOptions::new().read(true).write(true).open(place) {
             Ok(file) => file,
             Err(error) if error.kind() == io::ErrorKind::NotFound => return Ok((None, bytes)),
             Err(error) => return Err(self.failed(error)),
@@ -213,7 +233,7 @@ fn write_whole(lost: Which, file: Option<File>, length: usize, whole: &[u8]) -> 
             .write(true)
             .create_new(true)
             .mode(0o600)
-            .open(lost.path())?,
+            .open(lost.place()?)?,
     };
     if length < 21 {
         file.write_all_at(&[0], 0)?;
@@ -223,5 +243,13 @@ fn write_whole(lost: Which, file: Option<File>, length: usize, whole: &[u8]) -> 
     file.sync_all()?;
     file.write_all_at(&[1], 0)?;
     file.sync_all()?;
-    File::open(".")?.sync_all()
+    File::open(folder_of(&lost.place()?))?.sync_all()
+}
+
+/// The folder that holds a file's name.
+fn folder_of(path: &Path) -> &Path {
+    match path.parent() {
+        Some(folder) if !folder.as_os_str().is_empty() => folder,
+        _ => Path::new("."),
+    }
 }

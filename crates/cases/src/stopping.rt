@@ -16,11 +16,11 @@ struct Trial<'a> {
     law: &'a Law,
 }
 
-// Which image of each file is left after a crash.
+// Which image of the journal's file is left after a crash, and which of the spare's, if not the same.
 #[derive(Clone, Copy)]
 struct Images {
     journal: Over,
-    spare: Over,
+    spare: Option<Over>,
 }
 
 // What is wrong with a run of which this call failed, and with the files that are left after it.
@@ -34,13 +34,12 @@ struct Broken {
 impl Broken {
     // A run that ended otherwise than by the fault at this call.
     fn by_status(call: u64) -> Broken {
-        let images = Images {
-            journal: Over::Left,
-            spare: Over::Left,
-        };
         Broken {
             call,
-            images,
+            images: Images {
+                journal: Over::Left,
+                spare: None,
+            },
             breach: Breach::OtherStatus,
         }
     }
@@ -53,13 +52,14 @@ impl fmt::Display for Broken {
             images,
             breach,
         } = self;
-        let Images { journal, spare } = images;
-        write!(
-            f,
-            "at call {call}, {}, spare's {}: {breach}",
-            journal.name(),
-            spare.name()
-        )
+        let journal = images.journal.name();
+        match images.spare {
+            None => write!(f, "at call {call}, {journal}: {breach}"),
+            Some(spare) => {
+                let spare = spare.name();
+                write!(f, "at call {call}, {journal}, spare's {spare}: {breach}")
+            }
+        }
     }
 }
 
@@ -118,34 +118,43 @@ impl Trial<'_> {
     fn is_kept(self, rt: &HostRuntime, call: u64, end: &End) -> Result<bool> {
         let mut kept = true;
         for journal in Over::ALL {
-            kept &= self.is_kept_with(rt, call, end, journal)?;
+            kept &= if self.law.has_twins() {
+                self.is_kept_beside_each(rt, call, end, journal)?
+            } else {
+                let spare = None;
+                self.is_kept_in(rt, call, end, Images { journal, spare })?
+            };
         }
         Ok(kept)
     }
 
-    // The same with this image of the journal. A twin of it may be left with any of its own.
-    fn is_kept_with(self, rt: &HostRuntime, call: u64, end: &End, journal: Over) -> Result<bool> {
-        let alone = [journal];
-        let spares: &[Over] = if self.law.has_twins() {
-            &Over::ALL
-        } else {
-            &alone
-        };
+    // The same with this image of the journal, and any of its twin.
+    fn is_kept_beside_each(
+        self,
+        rt: &HostRuntime,
+        call: u64,
+        end: &End,
+        journal: Over,
+    ) -> Result<bool> {
         let mut kept = true;
-        for spare in spares {
-            let spare = *spare;
-            let images = Images { journal, spare };
-            if let Some(breach) = self.breach(rt.alloc(), call, end, images)? {
-                let broken = Broken {
-                    call,
-                    images,
-                    breach,
-                };
-                self.name.tell(rt, broken)?;
-                kept = false;
-            }
+        for spare in Over::ALL {
+            let spare = Some(spare);
+            kept &= self.is_kept_in(rt, call, end, Images { journal, spare })?;
         }
         Ok(kept)
+    }
+
+    fn is_kept_in(self, rt: &HostRuntime, call: u64, end: &End, images: Images) -> Result<bool> {
+        let Some(breach) = self.breach(rt.alloc(), call, end, images)? else {
+            return Ok(true);
+        };
+        let broken = Broken {
+            call,
+            images,
+            breach,
+        };
+        self.name.tell(rt, broken)?;
+        Ok(false)
     }
 
     // What is wrong with a run that failed at a call, in the files that a crash leaves.
@@ -154,7 +163,8 @@ impl Trial<'_> {
         if !self.law.may_have_sent(alloc, call, sent)? {
             return Ok(Some(Breach::OtherReplies));
         }
-        let left = images_left(alloc, images.journal, images.spare, &end.benches)?;
+        let spare = images.spare.unwrap_or(images.journal);
+        let left = images_left(alloc, images.journal, spare, &end.benches)?;
         self.breach_of_files(alloc, sent, &left)
     }
 
