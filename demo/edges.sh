@@ -294,7 +294,7 @@ pair() {
 are_twins() {
     stands kept.journal
     "$program" serve --twin </dev/null || complain 'the two journals are no twins'
-    cmp -s answers.journal answers.spare || [ -L answers.spare ] || complain 'the spare is another journal'
+    [ "$(records answers.journal)" = "$(records answers.spare)" ] || complain 'the spare lacks a record'
 }
 
 pair
