@@ -59,6 +59,12 @@ fresh
 tell 'standard output is a full disk' 6 $?
 
 fresh
+"$program" explain <questions.jsonl >/dev/full 2>said
+tell_unwritten 'standard output is a full disk, at explain' 6 $?
+"$program" explain <questions.jsonl >&- 2>said
+tell_unwritten 'standard output is closed, at explain' 6 $?
+
+fresh
 "$program" serve <. >replies 2>said
 tell_unwritten 'standard input is a folder' 5 $?
 
@@ -77,6 +83,8 @@ rm answers.journal
 tell 'there is no journal' 7 $?
 "$program" audit >report 2>said
 tell 'there is no journal, at audit' 7 $?
+"$program" explain <questions.jsonl >explained 2>said
+tell 'there is no journal, at explain' 7 $?
 [ ! -e answers.journal ] || complain 'a run that makes no journal made a file'
 
 fresh
@@ -92,11 +100,13 @@ rm answers.journal && mkfifo answers.journal
 tell 'the journal is a named pipe' 6 $?
 "$program" audit >report 2>said
 tell 'the journal is a named pipe, at audit' 6 $?
+"$program" explain <questions.jsonl >explained 2>said
+tell 'the journal is a named pipe, at explain' 6 $?
 
 fresh
 open_run
 cp answers.journal held.journal
-for command in serve init audit; do
+for command in serve init audit explain; do
     "$program" "$command" <questions.jsonl >second 2>said
     tell "$command, while another run is open" 6 $?
     [ ! -s second ] || complain "$command sent something while another run was open"
@@ -149,6 +159,9 @@ if can_be_nobody; then
     as_nobody audit >report 2>said
     tell_unwritten 'the journal may only be read, at audit' 0 $?
     "$program" audit | cmp -s - report || complain 'that report is another one'
+    as_nobody explain <questions.jsonl >explained 2>said
+    tell_unwritten 'the journal may only be read, at explain' 0 $?
+    "$program" explain <questions.jsonl | cmp -s - explained || complain 'those lines are other ones'
 
     # Two pages are left for the journal; the replies go elsewhere.
     fresh
@@ -172,7 +185,10 @@ if can_be_nobody; then
         done
         "$program" audit >"$top/run/report" 2>"$top/run/said"
         status=$?
-        cd "$top/run" && tell 'the same, at audit' 0 $status
+        (cd "$top/run" && tell 'the same, at audit' 0 $status)
+        "$program" explain <"$top/run/questions.jsonl" >"$top/run/explained" 2>"$top/run/said"
+        status=$?
+        cd "$top/run" && tell 'the same, at explain' 0 $status
         umount "$top/disk"
     }
 fi

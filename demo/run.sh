@@ -1,12 +1,12 @@
 #!/bin/sh
 # Makes a journal beside copies of the demo's files in a fresh folder, asks the demo's questions, compares the replies with
-# those due, has the report checked, and shows for each number another table that sends the same bytes, if there is a python3. Then a
-# table gets a row at its end. The questions are asked twice, and the journal compacted, so that each answer stands in it once; the
-# replies stay. The journal gets a twin, is lost, and is written anew from it. In a folder with the public columns alone the decisions of
-# the transcript are computed again: it agrees, and with one reply changed it doesn't. Then a schema protects a team's total, and that
-# total is denied. At last the table is prepared anew from its CSV, as with a table of your own, and asked about in plain words. The exit
-# status is 0 if all is as it should be. If no program is given it is built first, which takes the source and the kit; in a package it
-# is bin/auditor.
+# those due, has the report checked, and shows for each number another table that sends the same bytes, if there is a python3. The
+# questions are explained after their answers: each denial has a certificate, which a script checks. Then a table gets a row at its end.
+# The questions are asked twice, and the journal compacted, so that each answer stands in it once; the replies stay. The journal gets a
+# twin, is lost, and is written anew from it. In a folder with the public columns alone the decisions of the transcript are computed
+# again: it agrees, and with one reply changed it doesn't. Then a schema protects a team's total, and that total is denied. At last the
+# table is prepared anew from its CSV, as with a table of your own, and asked about in plain words. The exit status is 0 if all is as it
+# should be. If no program is given it is built first, which takes the source and the kit; in a package it is bin/auditor.
 #
 #   demo/run.sh [PROGRAM]
 set -u
@@ -38,6 +38,14 @@ cmp replies.jsonl "$demo/replies.jsonl" || exit 1
 if command -v python3 >/dev/null; then
     python3 "$demo/check_report.py" <report.jsonl >&2 || exit 1
     python3 "$demo/twin.py" "$program" >&2 || exit 1
+fi
+
+# Why the two denials are due: of these salaries the answers give the third person's, and a maximum of 5 would be one person's own.
+"$program" explain <questions.jsonl >explained.jsonl || { echo "demo: auditor explain ended with status $?" >&2; exit 1; }
+cmp explained.jsonl "$demo/explained.jsonl" || exit 1
+grep unsafe explained.jsonl >&2
+if command -v python3 >/dev/null; then
+    python3 "$demo/check_certificate.py" questions.jsonl <explained.jsonl >&2 || exit 1
 fi
 
 "$demo/grow.sh" "$program" || { echo "demo: the table didn't grow" >&2; exit 1; }

@@ -40,10 +40,14 @@ begin
 cp questions.jsonl asked
 cp "$demo/replies.jsonl" replies
 due 0 '' serve
+cp "$demo/explained.jsonl" replies
+cp answers.journal served.journal
+due 0 '' explain
+cmp -s answers.journal served.journal || complain 'the journal was written by explain'
 
 usage='usage: auditor init, serve [--batch N] [--twin], audit, simulate, drill N, grow, explain, compact, restore'
 begin
-for words in '' help 'serve 3' '--batch 65 serve' 'audit --batch 2' 'grow 7' 'compact 3' drill 'drill x' 'drill 4294967296' 'audit --twin' 'restore --twin' 'restore 3'; do
+for words in '' help 'serve 3' '--batch 65 serve' 'audit --batch 2' 'grow 7' 'compact 3' 'explain 3' 'explain --batch 2' drill 'drill x' 'drill 4294967296' 'audit --twin' 'restore --twin' 'restore 3'; do
     due 2 "$usage" $words
 done
 
@@ -63,6 +67,7 @@ done
 begin
 rm asked && mkdir asked
 due 5 'cannot read input' serve
+due 5 'cannot read input' explain
 
 begin
 rm answers.journal && mkdir answers.journal
@@ -71,6 +76,8 @@ due 6 'journal or output failed' serve
 begin
 rm answers.journal
 due 7 'no journal' serve
+due 7 'no journal' explain
+[ ! -e answers.journal ] || complain 'a run that makes no journal made a file'
 
 begin
 due 8 'journal is already there' init
@@ -99,8 +106,10 @@ due 12 'record 1 should not have been released' serve
 
 begin
 rm asked && mkfifo asked
-head -c 1073741825 /dev/zero >asked &
-due 13 'input is too long' serve
+for command in serve explain; do
+    head -c 1073741825 /dev/zero >asked &
+    due 13 'input is too long' "$command"
+done
 
 begin
 cp "$demo/public.csv" table.csv
@@ -116,6 +125,7 @@ due 15 'out of memory' serve
 begin
 sed -i '$s/.*/],"protect":[{"column":"salary","where":"team = 1"}]}/' schema.json
 due 16 'schema: group 0 is bad' serve
+due 16 'schema: group 0 is bad' explain
 
 begin
 due 17 'nothing to grow: rows 6' grow

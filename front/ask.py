@@ -8,6 +8,7 @@
     sum salary where team = 'Design'        a total, exactly; avg for an average, max for the greatest
     totals salary by team                   a total for each team, a question each; avg salary by team, count by team
     would sum salary where age >= 41        whether it would be answered; nothing is asked (over a front door)
+    why sum salary where age = 41           why it is denied, by the answers given so far; nothing is asked
     columns                                 what there is to ask about
     help                                    this
 
@@ -15,13 +16,14 @@ Without questions they are read from the terminal until its end. The status is 0
 wasn't, and 2 if the arguments aren't these. What is said of a denial follows from the program's reply alone.
 """
 
+import json
 import os
 import shutil
 import sys
 
 from asking.places import SECRET, Away, place
-from asking.questions import Unclear, parse
-from asking.words import answer_of, number_words, reply_words, step, verdict_words
+from asking.questions import Question, Unclear, parse
+from asking.words import answer_of, number_words, reply_words, step, verdict_words, why_words
 
 MOST_GROUPS = 100
 
@@ -43,13 +45,26 @@ def answer(there, text):
 
 
 def answer_one(there, question):
-    """Asks one question, or what would be said of it."""
+    """Asks one question, or what would be said of it, or why it is denied."""
+    if question.why:
+        line = there.why(question)
+        print(why_words(line, target_words(there, line), there.notes.get(question.column, {})))
+        print("  " + json.dumps(line, separators=(",", ":")))
+        return True
     if question.would:
         print(verdict_words(there.would(question)))
         return True
     reply = there.ask(question)
     print(reply_words(question, reply, there.columns, there.notes, there.protected))
     return answer_of(reply) is not None
+
+
+def target_words(there, line):
+    """What an answer would give away, in words. Protected totals of no row have no place; a count makes no record."""
+    if "group" not in line:
+        return f"the number of row {line.get('row')}"
+    totals = [where for _, where in there.protected if answer_of(there.ask(Question("count", where=where)))]
+    return f"the protected total where {shown(totals[line['group']])}" if line["group"] < len(totals) else "a protected total"
 
 
 def answer_groups(there, question):

@@ -29,12 +29,13 @@ HERE = pathlib.Path(__file__).resolve().parent
 
 
 def make_table(name, places, settings):
-    opener = Sockets(places.serve, places.audit) if places.serve else Child(settings.auditor, places.folder)
+    opener = Sockets(places.serve, places.audit, places.explain) if places.serve else Child(settings.auditor, places.folder)
     groups = Groups(opener, settings.batch, settings.run_limit, settings.twin)
     table = Table(name, groups, places, settings.auditor, settings.report_every)
     # Tests are less patient.
     groups.patience = settings.group_patience or groups.patience
     table.patience = settings.asker_patience or table.patience
+    table.whys.patience = settings.explain_patience or table.whys.patience
     table.most_waiting = settings.waiting or table.most_waiting
     return table
 

@@ -1,7 +1,7 @@
 """Where questions go: the program in a folder, or a front door by its address.
 
-Both have the schema's columns and protected totals, notes for people, the public rows, `ask` and `would`. A place that can't be asked raises Away
-with a sentence.
+Both have the schema's columns and protected totals, notes for people, the public rows, `ask`, `would` and `why`. A place that can't be asked
+raises Away with a sentence.
 """
 
 import csv
@@ -75,6 +75,14 @@ class Folder:
     def would(self, question):
         raise Away("only a front door says beforehand whether a question would be answered")
 
+    def why(self, question):
+        """The line of `explain`. The journal is free for it: `serve` is started again at the next question."""
+        self.close()
+        done = subprocess.run([self.program, "explain"], cwd=self.path, input=line_of(question) + b"\n", capture_output=True)
+        if done.returncode != 0:
+            raise Away("auditor explain: " + ended_words(done.stderr.decode(errors="replace").strip(), done.returncode))
+        return reply_of(done.stdout.decode())
+
     def close(self):
         if self.child is not None:
             self.child.communicate()
@@ -132,6 +140,9 @@ class Door:
 
     def would(self, question):
         return self._post("would", question)
+
+    def why(self, question):
+        return self._post("why", question)
 
     def close(self):
         """Nothing is held between two questions."""

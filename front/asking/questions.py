@@ -25,13 +25,14 @@ class Unclear(Exception):
 
 @dataclasses.dataclass(frozen=True)
 class Question:
-    """What is asked, of which column and rows, for each value of which column, and whether only for the verdict."""
+    """What is asked, of which column and rows, for each value of which column, and whether only the verdict or its reason is wanted."""
 
     ask: str
     column: str = None
     where: str = "all"
     by: str = None
     would: bool = False
+    why: bool = False
 
     def line(self):
         """The question as the program reads it."""
@@ -53,8 +54,8 @@ def parse(text, kinds):
     """The question of a line. `kinds` has the kind of each column by name."""
     parts = re.split(r"\s+where(?=\s|$)", " " + text.strip(), maxsplit=1, flags=re.IGNORECASE)
     words, where = parts[0].split(), parts[1].strip() if len(parts) == 2 else "all"
-    would = words[:1] == ["would"]
-    words = words[would:]
+    first = words[0] if words[:1] in (["would"], ["why"]) else None
+    words = words[first is not None :]
     totals = words[:1] == ["totals"]
     ask = "sum" if totals else ask_named(words[0] if words else "")
     rest = words[1:]
@@ -63,11 +64,13 @@ def parse(text, kinds):
         rest, by = rest[:-2], rest[-1]
     if (totals and by is None) or len(rest) != (0 if ask == "count" else 1):
         raise Unclear(usage(ask, totals))
+    if by is not None and first == "why":
+        raise Unclear("why is asked of one question: write the condition of the group into it")
     if by is not None:
         need_public(by, kinds)
     for column in rest:
         need_asked(ask, column, kinds)
-    return Question(ask, rest[0] if rest else None, where, by, would)
+    return Question(ask, rest[0] if rest else None, where, by, first == "would", first == "why")
 
 
 def ask_named(word):

@@ -4,6 +4,8 @@ import fractions
 import json
 import pathlib
 
+from clients.auditor import max_words, sum_words
+
 from .hints import hint, marked, mended
 
 WORDS = json.loads((pathlib.Path(__file__).resolve().parent.parent / "words.json").read_text(encoding="utf-8"))
@@ -74,6 +76,15 @@ def ended_words(said, status):
     """Why the program ended, in its words, and what to do about it."""
     known = WORDS["ended"].get(str(status))
     return (said or f"it ended with status {status}") + (f" ({known})" if known else "")
+
+
+def why_words(line, target, note):
+    """What `explain` says of a question, in a sentence. `target` has the words for what would be known, if it is a total."""
+    if line["verdict"] != "unsafe":
+        return WORDS["why"].get(line["verdict"], json.dumps(line))
+    if "proof" in line:
+        return WORDS["why"]["proof"]
+    return max_words(line, lambda number: number_words(number, note)) if "high" in line else sum_words(line, target)
 
 
 def verdict_words(reply):

@@ -3,6 +3,7 @@
 #   source("auditor.R")
 #   auditor_sum("http://127.0.0.1:8087", "salary", "age >= 41")
 #   auditor_totals("unix:/run/auditor/door.sock", "salary", by = "team")
+#   auditor_why("http://127.0.0.1:8087", "sum", "salary", "age = 41")          why it is denied
 #
 # With several tables behind a door the table's name ends the address, "http://127.0.0.1:8087/north"; not that of a socket.
 # A denial is NA with its reason in attr(x, "denied"). Totals are exact, in the steps of the column: they stay below 2^53.
@@ -31,10 +32,15 @@ auditor_sentence <- function(url, reason) {
   if (is.null(sentence)) reason else sentence
 }
 
+# The line of a question.
+auditor_question <- function(ask, column, where) {
+  question <- c(list(ask = ask), if (!is.null(column)) list(column = column), list(where = where))
+  as.character(jsonlite::toJSON(question, auto_unbox = TRUE))
+}
+
 # A question. A busy door is asked again, four times in all; a refusal and a fault of the door are errors.
 auditor_ask <- function(url, ask, column = NULL, where = "all") {
-  question <- c(list(ask = ask), if (!is.null(column)) list(column = column), list(where = where))
-  body <- as.character(jsonlite::toJSON(question, auto_unbox = TRUE))
+  body <- auditor_question(ask, column, where)
   for (attempt in 1:4) {
     response <- auditor_send(url, "ask", body)
     if (response$status != 503) break
@@ -58,6 +64,17 @@ auditor_count <- function(url, where = "all") auditor_ask(url, "count", where = 
 auditor_sum <- function(url, column, where = "all") auditor_ask(url, "sum", column, where)
 auditor_mean <- function(url, column, where = "all") auditor_ask(url, "avg", column, where)
 auditor_max <- function(url, column, where = "all") auditor_ask(url, "max", column, where)
+
+# What auditor explain says of a question, as a list: verdict, and of a denial as unsafe a certificate, or proof = "wide". Nothing is asked.
+# Numbers of more than 15 digits come as text. The line itself is attr(x, "line"), for demo/check_certificate.py.
+auditor_why <- function(url, ask, column, where = "all") {
+  response <- auditor_send(url, "why", auditor_question(ask, column, where))
+  reply <- tryCatch(jsonlite::fromJSON(response$text, bigint_as_char = TRUE), error = function(fault) list())
+  if (response$status != 200) {
+    stop(if (is.character(reply$error)) reply$error else paste("the door, or a proxy before it, says", response$status), call. = FALSE)
+  }
+  structure(reply, line = sub("\n$", "", response$text))
+}
 
 # The public columns as a data frame: texts as they are, also "NA", and numbers as doubles.
 auditor_public <- function(url) {

@@ -163,6 +163,58 @@ def equals(column, value):
     return f"{column} = {text}"
 
 
+def listed(names):
+    """Some names as a sentence has them: a, b and c."""
+    return " and ".join([", ".join(names[:-1]), names[-1]] if len(names) > 1 else names)
+
+
+def counted(terms):
+    """Some terms in words: records 0 and 2, 3 times record 4 and this question."""
+    once = [str(place) for place, times in terms if abs(times) == 1 and place != "asked"]
+    names = ["record" + "s" * (len(once) > 1) + " " + listed(once)] if once else []
+    for place, times in terms:
+        name = "this question" if place == "asked" else f"record {place}"
+        if abs(times) != 1 or place == "asked":
+            names.append(name if abs(times) == 1 else f"{abs(times)} times {name}")
+    return listed(names)
+
+
+class Why:
+    """Why a question is denied. `line` is what `auditor explain` says, `str` a sentence; true if it has a certificate."""
+
+    def __init__(self, line, sentence, table=""):
+        self.line, self.sentence, self.table = line, sentence, table
+
+    @property
+    def verdict(self):
+        return self.line["verdict"]
+
+    def __bool__(self):
+        return self.verdict == "unsafe" and "proof" not in self.line
+
+    def __str__(self):
+        return self.sentence
+
+    def __repr__(self):
+        return f"Why({self.sentence!r})"
+
+
+def sum_words(line, target):
+    """A certificate for sums: what would be known is some records and the question, less others."""
+    terms = [*line["by"], ["asked", line["asked"]]]
+    less = counted([term for term in terms if term[1] < 0])
+    times = "" if line["times"] == 1 else f"{line['times']} times "
+    return f"{times}{target} is {counted([term for term in terms if term[1] > 0])}" + (f", less {less}" if less else "")
+
+
+def max_words(line, value):
+    """A certificate for maxima: with which answer one row alone could have a number. `value` writes a number of the column."""
+    answer, row = value(line["answer"]), line["row"]
+    if line["pair"] == "asked":
+        return f"were the answer {answer}, row {row} would be the only one that can have it"
+    return f"were the answer {answer}, row {row} would be the only one of record {line['pair']} that can have the {value(line['high'][row])}"
+
+
 class Asker:
     """The questions that a table and tables as parts of one have in common."""
 
@@ -279,6 +331,27 @@ class Table(Asker):
         """What would be said now: released, unsafe, wide, refused or count. Nothing is asked and nothing is kept."""
         return self._post("would", kind, column, where)["verdict"]
 
+    def why(self, kind, column, where="all"):
+        """Why the question is denied, after the answers given so far; nothing is asked and nothing is kept."""
+        line = self._post("why", kind, column, where)
+        if line["verdict"] != "unsafe" or "proof" in line:
+            return Why(line, self.sentence("why", "proof" if "proof" in line else line["verdict"]), self.name)
+        if "high" in line:
+            return Why(line, max_words(line, lambda number: f"{self.in_units(column, number):f}"), self.name)
+        return Why(line, sum_words(line, self._target(line)), self.name)
+
+    def _target(self, line):
+        """What would be known, in words. Protected totals of no row have no place; a count makes no record."""
+        if "row" in line:
+            return f"the number of row {line['row']}"
+        place = line["group"]
+        for total in self.protected:
+            if self.count(total["where"]):
+                if place == 0:
+                    return f"the protected total where {total['where']}"
+                place -= 1
+        return "a protected total"
+
     def public(self):
         """The public columns, a dict for each row."""
         text = self.door.request("GET", self.base + "table.csv").removeprefix("\ufeff")
@@ -308,6 +381,11 @@ class Parts(Asker):
     def would(self, kind, column, where="all"):
         """What each part would say now, by its name."""
         return {table.name: table.would(kind, column, where) for table in self.tables}
+
+    def why(self, kind, column, where="all"):
+        """Why the first part that wouldn't answer denies it, or why the first one says nothing of that."""
+        found = [table.why(kind, column, where) for table in self.tables]
+        return next((why for why in found if why.verdict in ("unsafe", "wide")), found[0])
 
     def ask(self, kind, column, where="all"):
         """The answer over all parts. `table` of a Denied is the part that wouldn't answer."""
@@ -362,12 +440,13 @@ HELP = """count [where CONDITION]                        how many rows
 sum COLUMN [where CONDITION]                   a total; avg for an average, max for the greatest number
 totals COLUMN by COLUMN [where CONDITION]      a total for each value of a public column; so avg .. by, count by
 would sum COLUMN [where CONDITION]             whether it would be answered; nothing is asked
+why sum COLUMN [where CONDITION]               why it is denied: a certificate, in words; nothing is asked
 columns                                        what there is
 quit                                           so does the end of the input"""
 
 KINDS = {"count": "count", "sum": "sum", "total": "sum", "totals": "sum", "avg": "avg", "average": "avg", "mean": "avg",
          "max": "max", "maximum": "max", "greatest": "max"}
-LINE = re.compile(rf"(?P<would>would\s+)?(?P<kind>{'|'.join(KINDS)})(?:\s+(?!by\s)(?P<column>\w+))?(?:\s+by\s+(?P<by>\w+))?"
+LINE = re.compile(rf"(?:(?P<first>would|why)\s+)?(?P<kind>{'|'.join(KINDS)})(?:\s+(?!by\s)(?P<column>\w+))?(?:\s+by\s+(?P<by>\w+))?"
                   r"(?:\s+where\s+(?P<where>.*))?", re.DOTALL)
 
 
@@ -406,10 +485,13 @@ def answer_line(asker, line):
         return [f"{column['name']:32} {column['is']}" for column in asker.columns] + [
             f"protected, so never answered: the total of {total['column']} where {total['where']}" for total in asker.protected]
     match = LINE.fullmatch(line)
-    if not match or (match["kind"] == "count") != (match["column"] is None) or match["would"] and match["by"]:
+    if not match or (match["kind"] == "count") != (match["column"] is None) or match["first"] and match["by"]:
         return HELP.splitlines()
     kind, column, where = KINDS[match["kind"]], match["column"], match["where"] or "all"
-    if match["would"]:
+    if match["first"] == "why":
+        why = asker.why(kind, column, where)
+        return [(f"{why.table}: " if why.table else "") + str(why), json.dumps(why.line, separators=(",", ":"))]
+    if match["first"]:
         verdicts = asker.would(kind, column, where)
         named = verdicts.items() if isinstance(verdicts, dict) else [("", verdicts)]
         return [(f"{name}: " if name else "") + asker.sentence("verdict", verdict) for name, verdict in named]

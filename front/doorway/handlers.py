@@ -75,6 +75,7 @@ class TableHandlers:
         return {
             ("POST", prefix + "/ask"): self.ask_request,
             ("POST", prefix + "/would"): self.would_request,
+            ("POST", prefix + "/why"): self.why_request,
             ("GET", prefix + "/health"): self.health,
             ("GET", prefix + "/schema.json"): sender(public / "schema.json", JSON),
             ("GET", prefix + "/notes.json"): sender(public / "notes.json", JSON),
@@ -82,21 +83,30 @@ class TableHandlers:
             ("GET", prefix + "/report.jsonl"): sender_of_whole(self.table.reports.path, JSONL),
             ("GET", prefix + "/transcript.jsonl"): self.transcript}
 
-    async def ask(self, line):
+    async def _check_size(self, line):
         if self.least and line not in self.table.transcript.known:
             await self.least.check(line)
+
+    async def ask(self, line):
+        await self._check_size(line)
         return await self.table.ask(line)
 
     async def verdict(self, line):
-        if self.least and line not in self.table.transcript.known:
-            await self.least.check(line)
+        await self._check_size(line)
         return await self.table.verdict(line)
+
+    async def why(self, line):
+        await self._check_size(line)
+        return await self.table.why(line)
 
     async def ask_request(self, request):
         return reply(await self.ask(await question_of(request)))
 
     async def would_request(self, request):
         return reply(await self.verdict(await question_of(request)))
+
+    async def why_request(self, request):
+        return reply(await self.why(await question_of(request)))
 
     async def health(self, _):
         health = self.table.health()

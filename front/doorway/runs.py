@@ -8,8 +8,10 @@ import json
 import os
 import pathlib
 import select
+import signal
 
-WORDS = pathlib.Path(__file__).resolve().parent.parent / "words.json"
+FRONT = pathlib.Path(__file__).resolve().parent.parent
+WORDS = FRONT / "words.json"
 AFTERWARDS = json.loads(WORDS.read_text(encoding="utf-8"))["ended"]
 CLOSED = -1
 FAREWELL = 30                       # seconds that a run has to end by itself once its input has ended
@@ -70,8 +72,11 @@ class Run:
     def kill(self):
         self._close_input()
         if self.process and self.process.returncode is None:
-            self.process.kill()
+            self._stop()
         self.writer.close()
+
+    def _stop(self):
+        self.process.kill()
 
     async def finish(self):
         """Ends the input. The program answers what it has and ends by itself."""
@@ -91,24 +96,43 @@ class Run:
             pass
 
 
+class ScriptRun(Run):
+    """A run that a script started: the script removes its own files when it is stopped."""
+
+    def _stop(self):
+        try:
+            os.killpg(self.process.pid, signal.SIGTERM)
+        except ProcessLookupError:
+            pass
+
+
 class Child:
-    """Starts runs as children in a folder."""
+    """Starts runs as children in a folder; `explain` over a copy of the journal."""
+
+    explains = True
 
     def __init__(self, auditor, folder):
         self.auditor, self.folder = auditor, folder
 
-    async def open(self, *arguments):
+    async def open(self, command, *arguments):
+        words, kind = [self.auditor, command, *arguments], Run
+        if command == "explain":
+            words, kind = ["sh", str(FRONT / "explain.sh"), ".", self.auditor], ScriptRun
         process = await asyncio.create_subprocess_exec(
-            self.auditor, *arguments, cwd=self.folder, start_new_session=True, stdin=asyncio.subprocess.PIPE,
+            *words, cwd=self.folder, start_new_session=True, stdin=asyncio.subprocess.PIPE,
             stdout=asyncio.subprocess.PIPE, stderr=asyncio.subprocess.PIPE)
-        return Run(process.stdout, process.stdin, process)
+        return kind(process.stdout, process.stdin, process)
 
 
 class Sockets:
     """Connects to sockets, one for each command, on whose other side another user starts the runs."""
 
-    def __init__(self, serve, audit):
-        self.paths = {"serve": serve, "audit": audit}
+    def __init__(self, serve, audit, explain):
+        self.paths = {"serve": serve, "audit": audit, "explain": explain}
+
+    @property
+    def explains(self):
+        return self.paths["explain"] is not None
 
     async def open(self, command, *_):
         reader, writer = await asyncio.open_unix_connection(self.paths[command])

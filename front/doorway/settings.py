@@ -8,7 +8,7 @@ from dataclasses import dataclass
 RUN = 2**30 - 2**20                 # bytes of input after which a run is ended, before the program ends it
 NAME = re.compile(r"[A-Za-z0-9_][A-Za-z0-9_.-]{0,63}")
 LISTEN = re.compile(r"unix:.+|[^:]+:\d{1,5}|\[[0-9A-Fa-f:.]+\]:\d{1,5}")
-TAKEN = {"ask", "would", "health", "total", "schema.json", "notes.json", "table.csv", "report.jsonl",
+TAKEN = {"ask", "would", "why", "health", "total", "schema.json", "notes.json", "table.csv", "report.jsonl",
          "transcript.jsonl", "tables.json", "words.json"}
 PLACE = "{table}"
 
@@ -21,6 +21,7 @@ class Places:
     keep: pathlib.Path
     serve: str | None
     audit: str | None
+    explain: str | None
 
 
 def parser():
@@ -34,6 +35,7 @@ def parser():
     add("--auditor", default="auditor", help="the program")
     add("--serve", metavar="SOCKET", help="where another user runs `auditor serve --batch N`")
     add("--audit", metavar="SOCKET", help="where another user runs `auditor audit`")
+    add("--explain", metavar="SOCKET", help="where another user runs `auditor explain`; without it nobody is told why")
     add("--batch", type=int, default=64, help="lines that the program answers together, 1 to 64; 64 by default")
     add("--twin", action="store_true", help="the program keeps two journals: `auditor serve --twin`. With --serve the unit says so")
     add("--listen", default="127.0.0.1:8087", help="unix:PATH, or an address of this machine and a port")
@@ -44,6 +46,7 @@ def parser():
     add("--run-limit", type=int, default=RUN, help=argparse.SUPPRESS)
     add("--group-patience", type=float, help=argparse.SUPPRESS)
     add("--asker-patience", type=float, help=argparse.SUPPRESS)
+    add("--explain-patience", type=float, help=argparse.SUPPRESS)
     add("--waiting", type=int, help=argparse.SUPPRESS)
     return words
 
@@ -60,8 +63,8 @@ def read(arguments=None):
         words.error("--fewest and --report-every are at least 0")
     if settings.report_every and settings.serve and not settings.audit:
         words.error("a report through sockets wants --audit")
-    if settings.audit and not settings.serve:
-        words.error("--audit wants --serve")
+    if (settings.audit or settings.explain) and not settings.serve:
+        words.error("--audit and --explain want --serve")
     if not LISTEN.fullmatch(settings.listen):
         words.error("--listen is unix:PATH, or ADDRESS:PORT")
     fault = _fault_of_names(settings)
@@ -75,7 +78,7 @@ def read(arguments=None):
 
 def _fault_of_names(settings):
     names, fixed = settings.table, [text for text in (settings.folder, settings.public, settings.keep, settings.serve,
-                                                      settings.audit) if text and PLACE not in text]
+                                                      settings.audit, settings.explain) if text and PLACE not in text]
     if len(set(names)) < len(names):
         return "a table is named twice"
     for name in names:
@@ -89,6 +92,6 @@ def _fault_of_names(settings):
 def _places(settings, name):
     folder = settings.folder or (PLACE if name else ".")
     public = settings.public or folder + "/public"
-    texts = [folder, public, settings.keep or public, settings.serve, settings.audit]
-    folder, public, keep, serve, audit = [text and text.replace(PLACE, name) for text in texts]
-    return Places(pathlib.Path(folder), pathlib.Path(public), pathlib.Path(keep), serve, audit)
+    texts = [folder, public, settings.keep or public, settings.serve, settings.audit, settings.explain]
+    folder, public, keep, *sockets = [text and text.replace(PLACE, name) for text in texts]
+    return Places(pathlib.Path(folder), pathlib.Path(public), pathlib.Path(keep), *sockets)

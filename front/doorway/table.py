@@ -17,6 +17,7 @@ from .report import Reports
 from .runs import Ended
 from .simulation import fault_over, verdict_on
 from .transcript import Damaged, Transcript, check_table
+from .why import Whys
 
 COUNT = b'{"ask":"count","where":"all"}'
 WAITING = 1024                      # askers who may wait
@@ -53,7 +54,7 @@ class Question:
 
 
 class Table:
-    """What an HTTP handler may call is `ask`, `verdict`, `health` and `transcript`."""
+    """What an HTTP handler may call is `ask`, `verdict`, `why`, `health` and `transcript`."""
 
     def __init__(self, name, groups, places, auditor, report_every=0):
         self.name, self.groups, self.places, self.auditor = name, groups, places, auditor
@@ -68,6 +69,7 @@ class Table:
         self.state = "starting"
         self.asked = self.sent = self.repeats = self.restarts = self.waiting = 0
         self.verdicts, self.one_verdict = 0, asyncio.Lock()
+        self.whys = Whys(groups.opener)
 
     # What a request does.
 
@@ -104,6 +106,13 @@ class Table:
                 return await verdict_on(self.auditor, self.places.public, self.transcript.text(), line)
         finally:
             self.verdicts -= 1
+
+    async def why(self, line):
+        """Why a question is denied, after the history as it is now."""
+        self.whys.need_program()
+        if self.is_stopped():
+            raise Turned(503, self.state, again=True)
+        return await self.whys.ask(line)
 
     def health(self):
         records = self.transcript.records - self.left_out
@@ -243,6 +252,7 @@ class Table:
     def stop(self):
         self.closing.set()
         self.wake.set()
+        self.whys.stop()
 
     def stop_for_good(self, fault):
         """Ends the table, and not the door: other tables may be behind it."""

@@ -36,19 +36,22 @@ class Units(unittest.TestCase):
         self.assertEqual(words[0], "/usr/bin/python3")
         read = settings.read(words[2:])
         place = read.places[""]
-        self.assertEqual((place.serve, place.audit), ("/run/auditor/serve.sock", "/run/auditor/audit.sock"))
-        self.assertIn(f"ListenStream={place.serve}\n", (UNITS / "auditor-serve.socket").read_text())
-        self.assertIn(f"ListenStream={place.audit}\n", (UNITS / "auditor-audit.socket").read_text())
+        for name in ("serve", "audit", "explain"):
+            self.assertEqual(getattr(place, name), f"/run/auditor/{name}.sock")
+            self.assertIn(f"ListenStream=/run/auditor/{name}.sock\n", (UNITS / f"auditor-{name}.socket").read_text())
         self.assertEqual(command(UNITS / "auditor-serve@.service")[1:], ["serve", "--batch", str(read.batch)])
         self.assertEqual(command(UNITS / "auditor-audit@.service")[1:], ["audit"])
+        script = command(UNITS / "auditor-explain@.service")
+        self.assertEqual((script[0], script[2:]), ("/bin/sh", [".", "/usr/local/bin/auditor"]))
+        self.assertTrue((FRONT / pathlib.Path(script[1]).name).exists())
 
     def test_each_table_has_units_of_its_own(self):
         self.assertEqual(self.write("north", self.folder).returncode, 0)
         self.assertEqual(sorted(path.name for path in self.folder.iterdir()), [
-            "auditor-door.service", "auditor-north-audit.socket", "auditor-north-audit@.service", "auditor-north-serve.socket",
-            "auditor-north-serve@.service"])
+            "auditor-door.service", "auditor-north-audit.socket", "auditor-north-audit@.service", "auditor-north-explain.socket",
+            "auditor-north-explain@.service", "auditor-north-serve.socket", "auditor-north-serve@.service"])
         place = settings.read(command(self.folder / "auditor-door.service")[2:]).places["north"]
-        for name, path in (("serve", place.serve), ("audit", place.audit)):
+        for name, path in (("serve", place.serve), ("audit", place.audit), ("explain", place.explain)):
             self.assertIn(f"ListenStream={path}\n", (self.folder / f"auditor-north-{name}.socket").read_text())
             self.assertIn("WorkingDirectory=/var/lib/auditor/north\n", (self.folder / f"auditor-north-{name}@.service").read_text())
         self.assertIn("StateDirectory=auditor-door auditor-door/north\n", (self.folder / "auditor-door.service").read_text())

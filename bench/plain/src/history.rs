@@ -186,7 +186,8 @@ impl Reader<'_> {
         if self.byte(self.at)? >= self.columns {
             return Err(self.at);
         }
-        let end = self.at + 9 + set_size(self.n);
+        let size = set_size(self.n);
+        let end = self.at + 9 + size;
         let padding = |bit: usize| bit >= usize::from(self.n);
         for at in self.at + 9..end {
             let byte = self.byte(at)?;
@@ -195,7 +196,7 @@ impl Reader<'_> {
                 return Err(at);
             }
         }
-        let record = read_record(&self.bytes[self.at..end], self.n);
+        let record = read_record(&self.bytes[self.at..end], self.n, size);
         if record.rows.is_empty() {
             return Err(end - 1);
         }

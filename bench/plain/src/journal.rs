@@ -114,22 +114,29 @@ impl Journal {
 
 fn read_groups(bytes: &[u8], n: u16) -> (Vec<Record>, usize) {
     let mut records = Vec::new();
+    let number = |at: usize| u16::from_be_bytes([bytes[at], bytes[at + 1]]);
+    let mut size = set_size(number(9));
     let mut at = HEADER;
     while bytes[at] == 1 {
         let count = bytes[at + 1];
         at += 2;
+        // A group of no records is a growth: so many rows are in force from here on.
+        if count == 0 {
+            size = set_size(number(at));
+            at += 2;
+        }
         for _ in 0..count {
-            records.push(read_record(&bytes[at..], n));
-            at += 9 + set_size(n);
+            records.push(read_record(&bytes[at..], n, size));
+            at += 9 + size;
         }
     }
     (records, at)
 }
 
-/// The record at the start of these bytes, its set over so many rows.
-pub fn read_record(bytes: &[u8], n: u16) -> Record {
+/// The record at the start of these bytes, whose set has so many bytes, over so many rows.
+pub fn read_record(bytes: &[u8], n: u16, size: usize) -> Record {
     let mut set = [0; 128];
-    set[..set_size(n)].copy_from_slice(&bytes[9..9 + set_size(n)]);
+    set[..size].copy_from_slice(&bytes[9..9 + size]);
     let mut rows = RowSet::new(n);
     for (word, part) in rows.words.iter_mut().zip(set.chunks_exact(8)) {
         *word = u64::from_le_bytes(part.try_into().unwrap());

@@ -8,6 +8,22 @@ pub struct RowSet {
     pub n: u16,
 }
 
+/// What a form is asked of a set: at which columns its row has a 1.
+pub trait Ones {
+    fn has(&self, column: u16) -> bool;
+    fn ones(&self) -> impl Iterator<Item = u16>;
+}
+
+impl Ones for RowSet {
+    fn has(&self, row: u16) -> bool {
+        RowSet::has(self, row)
+    }
+
+    fn ones(&self) -> impl Iterator<Item = u16> {
+        self.rows()
+    }
+}
+
 /// How many rows are left of a set, as far as it matters.
 #[derive(Clone, Copy, PartialEq, Eq)]
 pub enum Left {

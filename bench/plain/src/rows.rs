@@ -2,7 +2,8 @@
 
 use crate::divide::{gcd128, gcd64, Content, Divisor, Quotient, LIMIT};
 
-pub const MOST: usize = 1024;
+/// The columns of a form of sets of rows.
+pub const ROWS: usize = 1024;
 /// How many free columns the quick test of width looks at.
 pub const FRONT: usize = 8;
 
@@ -12,6 +13,7 @@ pub struct Entry {
     pub value: i128,
 }
 
+#[derive(Clone)]
 pub struct Row {
     pub pivot: u16,
     pub head: i64,
@@ -21,7 +23,7 @@ pub struct Row {
 }
 
 /// A row that is 0 at the form's pivots: what a set would add.
-pub struct NewRow {
+pub struct NewRow<const MOST: usize = ROWS> {
     pub pivot: u16,
     pub head: i64,
     pub most: i64,
@@ -32,7 +34,7 @@ pub struct NewRow {
 }
 
 #[inline]
-pub fn at(place: u16) -> usize {
+pub fn at<const MOST: usize>(place: u16) -> usize {
     usize::from(place) & (MOST - 1)
 }
 
@@ -40,17 +42,17 @@ pub fn wide(size: i64) -> i128 {
     i128::from(size)
 }
 
-impl NewRow {
-    pub fn led(places: Vec<u16>, mut values: Box<[i64; MOST]>, most: i64) -> NewRow {
+impl<const MOST: usize> NewRow<MOST> {
+    pub fn led(places: Vec<u16>, mut values: Box<[i64; MOST]>, most: i64) -> NewRow<MOST> {
         let pivot = places[0];
-        if values[at(pivot)] < 0 {
+        if values[at::<MOST>(pivot)] < 0 {
             for place in &places {
-                values[at(*place)] = -values[at(*place)];
+                values[at::<MOST>(*place)] = -values[at::<MOST>(*place)];
             }
         }
         NewRow {
             pivot,
-            head: values[at(pivot)],
+            head: values[at::<MOST>(pivot)],
             most,
             places,
             values,
@@ -59,10 +61,24 @@ impl NewRow {
 
     #[inline]
     pub fn value(&self, place: u16) -> i64 {
-        self.values[at(place)]
+        self.values[at::<MOST>(place)]
     }
 
-    pub fn same(&self, other: &NewRow) -> bool {
+    /// The row as one of a form.
+    pub fn row(&self) -> Row {
+        let entries = self.places[1..].iter().map(|place| Entry {
+            place: *place,
+            value: wide(self.value(*place)),
+        });
+        Row {
+            pivot: self.pivot,
+            head: self.head,
+            most: self.most,
+            entries: entries.collect(),
+        }
+    }
+
+    pub fn same(&self, other: &NewRow<MOST>) -> bool {
         self.places == other.places
             && self
                 .places
@@ -72,9 +88,18 @@ impl NewRow {
 }
 
 /// What clearing a row needs besides.
-pub struct Room {
+pub struct Room<const MOST: usize> {
     pub numbers: [i64; MOST],
     pub seen: [bool; MOST],
+}
+
+impl<const MOST: usize> Room<MOST> {
+    pub fn new() -> Room<MOST> {
+        Room {
+            numbers: [0; MOST],
+            seen: [false; MOST],
+        }
+    }
 }
 
 /// What a pass over a row's entries found: places of the new row, bits of sizes, numbers that are 0.
@@ -111,7 +136,7 @@ struct Factors {
 
 impl Factors {
     #[inline]
-    fn of(new: &NewRow, entry: i64) -> Factors {
+    fn of<const MOST: usize>(new: &NewRow<MOST>, entry: i64) -> Factors {
         let common = match new.head {
             1 => 1,
             head => gcd64(head as u64, entry.unsigned_abs()) as i64,
@@ -129,13 +154,13 @@ impl Factors {
     }
 
     #[inline]
-    fn number(self, entry: &Entry, new: &NewRow) -> i128 {
+    fn number<const MOST: usize>(self, entry: &Entry, new: &NewRow<MOST>) -> i128 {
         wide(self.a) * wide(entry.value as i64) - wide(self.b) * wide(new.value(entry.place))
     }
 
     /// The number at a place of the new row that the row has not.
     #[inline]
-    fn extra(self, place: u16, new: &NewRow) -> i128 {
+    fn extra<const MOST: usize>(self, place: u16, new: &NewRow<MOST>) -> i128 {
         -wide(self.b) * wide(new.value(place))
     }
 
@@ -143,7 +168,7 @@ impl Factors {
         wide(self.a) * wide(row.head)
     }
 
-    fn is_surely_narrow(self, row: &Row, new: &NewRow) -> bool {
+    fn is_surely_narrow<const MOST: usize>(self, row: &Row, new: &NewRow<MOST>) -> bool {
         wide(self.a) * wide(row.most) + wide(self.b.abs()) * wide(new.most) <= wide(LIMIT)
     }
 }
@@ -166,7 +191,7 @@ impl Row {
     }
 
     #[inline(never)]
-    pub fn is_parallel(&self, new: &NewRow) -> bool {
+    pub fn is_parallel<const MOST: usize>(&self, new: &NewRow<MOST>) -> bool {
         let first = wide(self.entries[0].value as i64);
         let mut pairs = self.entries.iter().zip(&new.places);
         pairs.all(|(entry, place)| {
@@ -204,7 +229,7 @@ impl Row {
         most / content > LIMIT as u128
     }
 
-    pub fn is_narrow_with(&self, new: &NewRow) -> bool {
+    pub fn is_narrow_with<const MOST: usize>(&self, new: &NewRow<MOST>) -> bool {
         let Some(k) = self.find(new.pivot) else {
             return true;
         };
@@ -217,7 +242,7 @@ impl Row {
     }
 
     /// The pivot's entry once the row is cleared at the new row's pivot; None if it is wide then.
-    pub fn cleared_head(&self, new: &NewRow) -> Option<i64> {
+    pub fn cleared_head<const MOST: usize>(&self, new: &NewRow<MOST>) -> Option<i64> {
         let Some(k) = self.find(new.pivot) else {
             return Some(self.head);
         };
@@ -243,7 +268,7 @@ impl Row {
     }
 
     /// The new row's places that the row has not.
-    fn for_extras(&self, new: &NewRow, mut each: impl FnMut(u16)) {
+    fn for_extras<const MOST: usize>(&self, new: &NewRow<MOST>, mut each: impl FnMut(u16)) {
         let mut k = 0;
         for place in &new.places {
             while k < self.entries.len() && self.entries[k].place < *place {
@@ -257,7 +282,7 @@ impl Row {
 
     /// The content of the cleared row, and the greatest size of its numbers before they are divided.
     #[inline(never)]
-    fn survey(&self, new: &NewRow, factors: Factors) -> (u128, u128) {
+    fn survey<const MOST: usize>(&self, new: &NewRow<MOST>, factors: Factors) -> (u128, u128) {
         let mut content = Content::new(factors.head(self) as u128);
         let mut most = 0;
         let mut hits = 0;
@@ -279,7 +304,7 @@ impl Row {
 
     /// The content alone: it ends as soon as it is 1.
     #[inline(never)]
-    fn content(&self, new: &NewRow, k: usize, factors: Factors) -> u128 {
+    fn content<const MOST: usize>(&self, new: &NewRow<MOST>, k: usize, factors: Factors) -> u128 {
         let mut content = Content::new(factors.head(self) as u128);
         for entry in self.entries[k + 1..].iter().chain(&self.entries[..k]) {
             if content.is_one() {
@@ -296,7 +321,12 @@ impl Row {
     }
 
     /// A multiple of the content that mostly is the content: from the head and a few numbers after the new pivot.
-    fn first_divisor(&self, new: &NewRow, k: usize, factors: Factors) -> u128 {
+    fn first_divisor<const MOST: usize>(
+        &self,
+        new: &NewRow<MOST>,
+        k: usize,
+        factors: Factors,
+    ) -> u128 {
         let mut content = Content::new(factors.head(self) as u128);
         for entry in &self.entries[k + 1..] {
             if content.is_one() || content.agreed == 2 {
@@ -309,9 +339,9 @@ impl Row {
 
     /// The numbers of the cleared row over its content, which is given: a divisor is tried until all agree.
     #[inline(never)]
-    fn quotients(
+    fn quotients<const MOST: usize>(
         &self,
-        new: &NewRow,
+        new: &NewRow<MOST>,
         k: usize,
         factors: Factors,
         first: u128,
@@ -346,9 +376,9 @@ impl Row {
 
     /// The numbers at the row's entries over a divisor, or the first that isn't a multiple; with how many the new row has.
     #[inline]
-    fn divided(
+    fn divided<const MOST: usize>(
         &self,
-        new: &NewRow,
+        new: &NewRow<MOST>,
         factors: Factors,
         divisor: &Divisor,
         out: &mut [i64],
@@ -364,7 +394,7 @@ impl Row {
 
     /// Clears the row at the new row's pivot.
     #[inline(never)]
-    pub fn clear(&mut self, new: &NewRow, room: &mut Room) {
+    pub fn clear<const MOST: usize>(&mut self, new: &NewRow<MOST>, room: &mut Room<MOST>) {
         let Some(k) = self.find(new.pivot) else {
             return;
         };
@@ -409,7 +439,7 @@ impl Row {
 
     /// Takes a multiple of the new row off, entry by entry of the new row.
     #[inline(never)]
-    fn edit(&mut self, new: &NewRow, b: i64) {
+    fn edit<const MOST: usize>(&mut self, new: &NewRow<MOST>, b: i64) {
         for place in &new.places {
             let less = b * new.value(*place);
             let k = self.place_of(*place);
@@ -438,7 +468,12 @@ impl Row {
     }
 
     #[inline(never)]
-    fn merge(&mut self, new: &NewRow, factors: Factors, quotient: &Quotient) {
+    fn merge<const MOST: usize>(
+        &mut self,
+        new: &NewRow<MOST>,
+        factors: Factors,
+        quotient: &Quotient,
+    ) {
         let mut entries = Vec::with_capacity(self.entries.len() + new.places.len());
         let mut most = 0;
         let mut put = |place, number| {
@@ -471,22 +506,22 @@ impl Row {
 
     /// Adds entries at the new row's places that the row had not: from the back, each old entry moves once.
     #[inline(never)]
-    fn add_missing(
+    fn add_missing<const MOST: usize>(
         &mut self,
-        new: &NewRow,
+        new: &NewRow<MOST>,
         factors: Factors,
         quotient: &Quotient,
         seen: &mut [bool; MOST],
         missing: usize,
     ) {
         for entry in &self.entries {
-            seen[at(entry.place)] = true;
+            seen[at::<MOST>(entry.place)] = true;
         }
         let mut from = self.entries.len();
         let mut to = from + missing;
         self.entries.resize(to, Entry { place: 0, value: 0 });
         for place in new.places[1..].iter().rev() {
-            if seen[at(*place)] {
+            if seen[at::<MOST>(*place)] {
                 continue;
             }
             let k = self.entries[..from].partition_point(|entry| entry.place < *place);
@@ -506,7 +541,12 @@ impl Row {
 
 /// Each entry but that at `k` takes its number; those after it move up by one.
 #[inline(never)]
-fn write_up(entries: &mut [Entry], k: usize, new: &NewRow, numbers: &[i64]) -> Pass {
+fn write_up<const MOST: usize>(
+    entries: &mut [Entry],
+    k: usize,
+    new: &NewRow<MOST>,
+    numbers: &[i64],
+) -> Pass {
     let mut pass = Pass::default();
     for (entry, number) in entries[..k].iter_mut().zip(numbers) {
         pass.note(new.value(entry.place), *number);
@@ -525,10 +565,10 @@ fn write_up(entries: &mut [Entry], k: usize, new: &NewRow, numbers: &[i64]) -> P
 
 /// Each entry but that at `k` takes its new value; those after it move up by one.
 #[inline(never)]
-fn combine(
+fn combine<const MOST: usize>(
     entries: &mut [Entry],
     k: usize,
-    new: &NewRow,
+    new: &NewRow<MOST>,
     factors: Factors,
     quotient: &Quotient,
 ) -> Pass {
@@ -546,10 +586,10 @@ fn combine(
 }
 
 #[inline]
-fn pass_over(
+fn pass_over<const MOST: usize>(
     entries: &mut [Entry],
     k: usize,
-    new: &NewRow,
+    new: &NewRow<MOST>,
     number: impl Fn(Entry, i64) -> i64,
 ) -> Pass {
     let mut pass = Pass::default();

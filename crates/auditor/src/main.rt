@@ -31,9 +31,9 @@ fn words_of(rt: &HostRuntime) -> io::Result<Vec<String>> {
     Ok(words)
 }
 
-// The journal. `audit` only reads it, so a copy will do that may only be read: no other command has this argument.
+// The journal. `audit` and `explain` only read it, so a copy will do that may only be read: no other command has these arguments.
 fn journal<'a>(rt: &'a HostRuntime, words: &Vec<String>) -> FileBench<'a, HostRuntime> {
-    if words.iter().any(|word| word.as_str() == "audit") {
+    if words.iter().any(|word| word.as_str() == "audit" || word.as_str() == "explain") {
         FileBench::to_read(rt, JOURNAL)
     } else {
         FileBench::new(rt, JOURNAL)
