@@ -322,10 +322,10 @@ are_twins
 replacing '  and again' 1 'answers.journal.old is already there' --twin
 
 pair
-mkdir elsewhere && mv answers.spare elsewhere/other.name && ln -s elsewhere/other.name answers.spare
+mkdir elsewhere && mv answers.spare elsewhere && ln -s elsewhere/answers.spare answers.spare
 replacing 'the spare is a link' 0 'answers.journal is compacted' --twin
-cmp -s elsewhere/other.name.old spare.before || complain 'what the link led to is not there any more'
-[ -L answers.spare ] && cmp -s answers.journal elsewhere/other.name || complain 'the link does not lead to the compacted journal'
+cmp -s elsewhere/answers.spare.old spare.before || complain 'what the link led to is not there any more'
+[ -L answers.spare ] && cmp -s answers.journal elsewhere/answers.spare || complain 'the link does not lead to the compacted journal'
 are_twins
 
 for step in 'auditor serve*--twin' 'sync *old' 'mv *spare.old' 'auditor compact' 'flock *' 'cmp *' 'mv *journal' 'sync *.' 'auditor serve' 'auditor restore'; do

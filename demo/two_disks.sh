@@ -112,12 +112,15 @@ ends '  and restored again' 22 /dev/null restore
 are_even
 
 fresh
-mkdir elsewhere.d
-ln -s elsewhere.d/answers.spare second
-ln -s second answers.spare
+mkdir -p elsewhere.d third.d
+ln -s ../third.d/answers.spare elsewhere.d/answers.spare
+ln -s elsewhere.d/answers.spare answers.spare
 ends 'the link leads to a link' 19 /dev/null restore
-rm answers.spare && ln -s elsewhere.d answers.spare
+rm elsewhere.d/answers.spare && mkdir elsewhere.d/answers.spare
 ends 'the link leads to a folder' 19 /dev/null restore
+rmdir elsewhere.d/answers.spare
+rm answers.spare && ln -s elsewhere.d/other.name answers.spare
+ends 'the link leads to another name' 19 /dev/null restore
 rm answers.spare && ln -s answers.journal answers.spare
 ends 'the link leads to the journal' 19 /dev/null restore
 ends '  at serve' 19 questions.jsonl serve --twin

@@ -10,7 +10,7 @@ use std::{fs, io};
 pub(crate) enum Links {
     /// It isn't followed, and isn't a journal.
     Refused,
-    /// One link is followed, to a file on another disk as it may be. Its path is kept in this memory.
+    /// One link is followed, to a file of the same name in another folder, as on another disk. Its path is kept in this memory.
     Followed(Global),
 }
 
@@ -49,6 +49,10 @@ impl Place {
 
     fn follow<R: Files>(rt: &R, alloc: Global, name: &'static str) -> io::Result<Place> {
         let to = rt.read_link(alloc, name)?;
+        // Whoever can put a link here can't have another file written over.
+        if to.file_name() != Some(name) {
+            return Err(io::Error::from(ErrorKind::InvalidInput));
+        }
         let linked = Some(Linked { alloc, to });
         let place = Place { name, linked };
         fs::open(rt, place.folder())?;

@@ -8,7 +8,7 @@ const SPARE: &str = "linked.spare";
 
 const FOLDER: &str = "other_disk";
 
-const THERE: &str = "other_disk/kept.spare";
+const THERE: &str = "other_disk/linked.spare";
 
 // What the spare's name leads to.
 #[derive(Clone, Copy, Debug)]
@@ -20,12 +20,14 @@ enum Spare {
     ALinkToNoFolder,
     ALinkToALink,
     ALinkToAFolder,
+    ALinkToAnotherName,
 }
 
 fn remove_all(rt: &HostRuntime) {
     let _ = fs::remove_file(rt, SPARE);
     let _ = fs::remove_file(rt, THERE);
-    let _ = fs::remove_file(rt, "second.link");
+    let _ = fs::remove_dir(rt, THERE);
+    let _ = fs::remove_file(rt, "second.spare");
     let _ = fs::remove_dir(rt, FOLDER);
 }
 
@@ -40,13 +42,20 @@ fn put(rt: &HostRuntime, spare: Spare) -> io::Result<()> {
             symlink(rt, THERE, SPARE)
         }
         Spare::ALinkToNothing => symlink(rt, THERE, SPARE),
-        Spare::ALinkToNoFolder => symlink(rt, "no_disk/kept.spare", SPARE),
+        Spare::ALinkToNoFolder => symlink(rt, "no_disk/linked.spare", SPARE),
         Spare::ALinkToALink => {
-            fs::write(rt, THERE, b"abc".as_slice())?;
-            symlink(rt, THERE, "second.link")?;
-            symlink(rt, "second.link", SPARE)
+            fs::write(rt, "second.spare", b"abc".as_slice())?;
+            symlink(rt, "../second.spare", THERE)?;
+            symlink(rt, THERE, SPARE)
         }
-        Spare::ALinkToAFolder => symlink(rt, FOLDER, SPARE),
+        Spare::ALinkToAFolder => {
+            fs::create_dir(rt, THERE)?;
+            symlink(rt, THERE, SPARE)
+        }
+        Spare::ALinkToAnotherName => {
+            fs::write(rt, "second.spare", b"abc".as_slice())?;
+            symlink(rt, "second.spare", SPARE)
+        }
     }
 }
 
@@ -84,6 +93,7 @@ fn one_link_is_followed_to_a_folder_that_is_there(rt: HostRuntime) {
         (Spare::ALinkToNoFolder, failed),
         (Spare::ALinkToALink, failed),
         (Spare::ALinkToAFolder, failed),
+        (Spare::ALinkToAnotherName, failed),
     ];
     for (spare, wanted) in cases {
         assert!(rt; opens_over(&rt, spare) == wanted, "{spare:?}");
@@ -103,8 +113,10 @@ fn is_written_there(rt: &HostRuntime, spare: Spare) -> bool {
 fn what_is_written_stands_where_the_link_leads(rt: HostRuntime) {
     assert!(rt; is_written_there(&rt, Spare::ALinkToAFile));
     assert!(rt; is_written_there(&rt, Spare::ALinkToNothing));
-    assert!(rt; opens_over(&rt, Spare::ALinkToALink).0 == Err(Failed));
-    assert!(rt; has(&rt, THERE, "abc"));
+    for spare in [Spare::ALinkToALink, Spare::ALinkToAnotherName] {
+        assert!(rt; opens_over(&rt, spare).0 == Err(Failed));
+        assert!(rt; has(&rt, "second.spare", "abc"), "{spare:?}");
+    }
     remove_all(&rt);
 }
 
@@ -124,14 +136,14 @@ fn does(rt: &HostRuntime, deed: Deed) -> io::Result<()> {
         Deed::Nothing => Ok(()),
         Deed::LinksElsewhere => {
             fs::remove_file(rt, SPARE)?;
-            symlink(rt, "second.link", SPARE)
+            symlink(rt, "another_disk/linked.spare", SPARE)
         }
         Deed::RemovesTheLink => fs::remove_file(rt, SPARE),
         Deed::PutsTheFileHere => fs::rename(rt, THERE, SPARE),
         Deed::RemovesTheFile => fs::remove_file(rt, THERE),
         Deed::PutsAnotherFile => {
-            fs::write(rt, "second.link", b"abc".as_slice())?;
-            fs::rename(rt, "second.link", THERE)
+            fs::write(rt, "second.spare", b"abc".as_slice())?;
+            fs::rename(rt, "second.spare", THERE)
         }
     }
 }
