@@ -39,7 +39,8 @@ stop_before() {
 # Stops after the journal was replaced, and before its twin is there again.
 stop_without_twin() {
     stop 3 "$1" "$journal is the compacted one, and $spare isn't written yet: the journal alone has what was answered." \
-        "Mend the cause. If $spare is there, give it another name; if it is a link, what it leads to. Then run auditor restore."
+        "Mend the cause. If $spare or $aside is a link, give what it leads to another name, and the link the name $spare." \
+        "If $spare is a file, give it another name. Then run auditor restore."
 }
 
 usage='usage: replace.sh [--twin] [FOLDER [PROGRAM]]'
