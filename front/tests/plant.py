@@ -162,7 +162,7 @@ PLANTS = [
      "    if False:\n", "test_adding.Adding.test_what_doesnt_fit_is_refused_and_leaves_nothing"),
     ("why is asked of the journal itself", "runs.py", '        if command == "explain":\n', '        if command == "nothing":\n',
      "test_why.Certificates.test_it_goes_by_the_history_as_it_is_when_somebody_asks"),
-    ("the copy of the journal stays", "../explain.sh", "trap 'rm -rf \"$copy\"' EXIT\n", "",
+    ("the copy of the journal stays", "./explain.sh", "trap 'rm -rf \"$copy\"' EXIT\n", "",
      "test_why.Certificates.test_askers_at_once_get_each_the_line_of_their_own_question"),
     ("a stopped run leaves its copy", "runs.py", "            os.killpg(self.process.pid, signal.SIGTERM)\n", "            self.process.kill()\n",
      "test_why.Odd.test_a_door_that_ends_tells_those_who_wait"),

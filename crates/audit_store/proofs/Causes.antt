@@ -1,6 +1,6 @@
 -- Why a store isn't started: one cause at most holds, and none of a legal history.
-use Rattle.std.proofs.Common.{◌≡◌, ℕ, ◌<◌, inl, inr, ◌⊎◌, List, refl, sym, ap, subst, ◌∙◌, arith, Result, Err}
-use Rattle.std.specs.Prelude.{ℤ, slice_get}
+use Rattle.std.proofs.Common.{◌≡◌, ℕ, ◌<◌, inl, inr, ◌⊎◌, List, refl, sym, ap, subst, ◌∙◌, arith, Result, Ok, Err}
+use Rattle.std.specs.Prelude.{ℤ, IfErr, OnOk, slice_get}
 use Rattle.std.proofs.lemmas.Bool.{cases_lt}
 use Rattle.std.proofs.lemmas.Option.{same_Some}
 use Rattle.audit_types.specs.declared.shapes.Shape.{Shape}
@@ -14,7 +14,7 @@ use Rattle.answer_journal.specs.Moments.{IsMade}
 use Rattle.audit_store.specs.declared.starting.StartFault.{StartFault}
 use Rattle.audit_store.specs.declared.starting.StartFault.TheVariants.{NotMade, Damaged, OtherShape, Untrue, Illegal, Failed, NoMemory}
 use Rattle.audit_core.specs.Outcomes.{true_answer}
-use Rattle.audit_store.specs.Starting.{IsFirstUntrue, IsFirstIllegal, StartCause, HistoryCause, GivesUp, RefusedUnlessFailed, start_fault}
+use Rattle.audit_store.specs.Starting.{IsFirstUntrue, IsFirstIllegal, StartCause, HistoryCause, GivesUp, RefusedUnlessFailed, StartsUnlessFailed, start_fault}
 
 -- what a reading of the journal gives up with
 pub gave_up : (fault : BackFault) → GaveUp fault → GivesUp (start_fault fault)
@@ -24,7 +24,7 @@ gave_up back.Failed gave = tt
 gave_up back.NoMemory gave = tt
 
 -- the fault that was due of a reading is due of the start
-pub due_fault : (due fault : BackFault) → IsDueOrGaveUp due fault → RefusedUnlessFailed (start_fault due) (Err (start_fault fault))
+pub due_fault : (due fault : BackFault) → IsDueOrGaveUp due fault → (start_fault fault ≡ start_fault due) ⊎ GivesUp (start_fault fault)
 due_fault due fault (inl same) = inl (ap start_fault same)
 due_fault due fault (inr gave) = inr (gave_up fault gave)
 
@@ -123,12 +123,24 @@ module _ (shape : Shape) (history : List Answered) (table : Table) where
   legal_has_no_cause Failed same legal cause = absurd cause
   legal_has_no_cause NoMemory same legal cause = tt
 
+  -- of what was opened each cause is reported, and a legal history was
+  pub due_answer : {X : Type 0} (answer : Result X StartFault) → shape ≡ table.setting.shape → OnOk answer (IsLegal table history)
+      → IfErr answer (λ fault. HistoryCause fault shape history table) → (due : StartFault) → (GivesUp due → ⊥) → HistoryCause due shape history table →
+      RefusedUnlessFailed due answer
+  due_answer (Ok x) same legal err due some cause = some (legal_has_no_cause due same legal cause)
+  due_answer (Err fault) same legal err due some cause = one_cause due fault some cause err
+
+  pub opens_answer : {X : Type 0} (answer : Result X StartFault) → shape ≡ table.setting.shape → IfErr answer (λ fault. HistoryCause fault shape history table) →
+      IsLegal table history → StartsUnlessFailed answer
+  opens_answer (Ok x) same err legal = tt
+  opens_answer (Err fault) same err legal = legal_has_no_cause fault same legal err
+
 module _ (file : List ℕ) (table : Table) where
   -- if the journal wasn't read back, what is due of the start is due of the reading
   pub due_of_reading : (fault : BackFault) (due : StartFault) → ((IsMade file → ⊥) → IsDueOrGaveUp back.NotMade fault)
       → ((at : ℕ) → IsMade file → BreaksAt file at → IsDueOrGaveUp (back.Damaged at) fault)
       → ((shape : Shape) (history : List Answered) (gate : ℕ) → StandsAt file shape history gate → GaveUp fault) → (GivesUp due → ⊥) →
-      StartCause due file table → RefusedUnlessFailed due (Err (start_fault fault))
+      StartCause due file table → (start_fault fault ≡ due) ⊎ GivesUp (start_fault fault)
   due_of_reading fault NotMade unmade damaged whole some cause = due_fault back.NotMade fault (unmade cause)
   due_of_reading fault (Damaged at) unmade damaged whole some cause = due_fault (back.Damaged at) fault (damaged at cause.0 cause.1)
   due_of_reading fault (OtherShape kept now) unmade damaged whole some cause = inr (gave_up fault (whole kept cause.0 cause.1.0 cause.1.1))

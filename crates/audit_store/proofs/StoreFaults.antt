@@ -110,6 +110,11 @@ is_refusal {X} {E} (Err e) given refuses = ap (λ (f : E). refusal f) refuses.1
     refusal : E → Result X E
     refusal f = Err f
 
+-- what holds of that refusal holds of the answer
+pub of_refusal : {X E : Type 0} (answer : Result X E) (given : E) → IsErr answer × IsErrAnd answer (λ e. e ≡ given) → (P : Result X E → Type 0) →
+    P (Err given) → P answer
+of_refusal answer given refuses P holds = subst P (sym (is_refusal answer given refuses)) holds
+
 -- a fault that is reported of one answer is reported of another that fails alike
 pub told_as : {D : Type 0} (bench : Ghosts D) (old new : D) (Told Answered : Type 0) → (Told → Answered) → (Answered → Told) → TellsFault bench old new Told →
     TellsFault bench old new Answered

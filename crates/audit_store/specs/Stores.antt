@@ -1,6 +1,6 @@
 -- A store, as contracts see it: the secrets that it guards, the groups whose totals are protected, what was released, and the journal
 -- behind it.
-use Rattle.std.specs.Prelude.{◌≡◌, ℕ, ◌≤◌, Bool, true, List, [], ◌∷◌, length}
+use Rattle.std.specs.Prelude.{◌≡◌, ◌⊎◌, ℕ, ◌≤◌, Bool, true, List, [], ◌∷◌, ◌++◌, length}
 use Rattle.audit_types.specs.declared.shapes.Shape.{Shape}
 use Rattle.audit_types.specs.declared.records.Asked.{Asked}
 use Rattle.audit_types.specs.declared.records.Answered.{Answered}
@@ -11,7 +11,7 @@ use Rattle.table_load.specs.Cells.{SecretView, IsSecret}
 use Rattle.table_load.specs.Database.{secret_table}
 use Rattle.bench_core.specs.declared.bench.Bench.{Ghosts}
 use Rattle.bench_core.specs.Calls.{LeavesOnly}
-use Rattle.journal_form.specs.Journal.{StandsAt}
+use Rattle.journal_form.specs.Journal.{StandsAt, StandsFor}
 use Rattle.answer_journal.specs.Append.{AppendsGroup}
 use Rattle.answer_journal.specs.Contents.{JournalContents}
 use Rattle.answer_journal.specs.Moments.{IsBeforeOrAfter}
@@ -65,3 +65,11 @@ pub record Keeps {D : Type 0} (bench : Ghosts D) (before after : D) (table : Tab
   pub outcomes : List Outcome
   pub due : AreOutcomes table history questions outcomes
   pub moments : LeavesOnly bench before after (IsBeforeOrAfter table.setting.shape history (records_made questions outcomes) sent)
+
+-- a spare stands for the history with the records of a group, and an image of the bench's file for the same or for the history
+-- before the group
+pub record KeptAhead (spare image : List ℕ) (table : Table) (history : List Answered) (questions : List Asked) : Type 0 where
+  pub outcomes : List Outcome
+  pub due : AreOutcomes table history questions outcomes
+  pub spare_stands : StandsFor spare table.setting.shape (history ++ records_made questions outcomes)
+  pub image_stands : StandsFor image table.setting.shape history ⊎ StandsFor image table.setting.shape (history ++ records_made questions outcomes)

@@ -7,12 +7,15 @@
 
 mod asking;
 mod growing;
+mod keeper;
 mod outcome;
 mod starting;
 mod store;
 
+pub use asking::decide_all;
 pub use audit_core::Outcome;
 pub use growing::GrowFault;
+pub use keeper::{KeepFault, Keeper};
 pub use outcome::StoreFault;
-pub use starting::StartFault;
+pub use starting::{StartFault, recover};
 pub use store::Store;

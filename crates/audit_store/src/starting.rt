@@ -1,17 +1,23 @@
 //! Opening the journal of a table.
-ghost use Rattle.std.specs.Prelude.{◌≡◌, ◌≤◌, true, false, Ok, List, length, All, IfOk, IfErr, OnOk};
+ghost use Rattle.std.specs.Prelude.{◌≡◌, ◌≤◌, ◌+◌, true, false, Ok, Err, List, length, All, IfOk, IfErr, OnOk, IsErrOf};
 ghost use Rattle.audit_types.specs.Limits.{most_records};
 ghost use Rattle.audit_types.specs.History.{FitsShape, AreProtected, IsLegal, IsPossibleHistory, IsDecisionAfter, setting_of};
+ghost use Rattle.audit_types.specs.declared.records.Answered.{Answered};
 ghost use Rattle.audit_types.specs.declared.records.Protected.{Protected};
 ghost use Rattle.audit_types.specs.declared.records.Verdict.TheVariants.{Released};
-ghost use Rattle.audit_store.specs.Starting.{AreTrue, HistoryCause, start_fault};
+ghost use Rattle.bench_core.specs.Calls.{OnlyReads, TellsFault};
+ghost use Rattle.journal_form.specs.Journal.{StandsAt, StandsFor};
+ghost use Rattle.audit_store.specs.declared.starting.StartFault.{StartFault};
+ghost use Rattle.audit_store.specs.Starting.{AreTrue, GivesUp, HistoryCause, Recovers, RefusedUnlessFailed, StartCause, StartsUnlessFailed, start_fault};
+ghost use Rattle.table_load.specs.Cells.{IsSecret};
 ghost use Rattle.table_load.specs.Database.{secret_table};
 
-use answer_journal::BackFault;
+use answer_journal::{BackFault, Journal};
 use audit_core::Core;
 use audit_core::laws::released_records;
 use audit_types::laws::true_answers;
 use audit_types::{Answered, Asked, NoMemory, Protected, Shape, Verdict};
+use bench_core::Bench;
 use std::alloc::Global;
 use sum_basis::laws::narrow_or_wide;
 use table_load::Secret;
@@ -142,4 +148,57 @@ pub fn audited(
         Ok(()) => replay(alloc, secret, protected, list),
         Err(fault) => Err(fault),
     }
+}
+
+// Tests that the history of a journal of this shape is that of the secrets' table.
+fn opened(
+    alloc: Global,
+    secret: &Secret,
+    protected: Vec<Protected>,
+    kept: &Shape,
+    list: &[Answered],
+) -> Result<Core, StartFault>
+    requires groups { AreProtected secret.now.shape protected.items }
+    requires few { length list.now ≤ most_records }
+    requires fit { All (λ r. FitsShape kept.now r.column r.rows) list.now }
+    ensures ok { IfOk result (λ core. (core ≡ record { setting = setting_of secret.now.shape protected.items; history = list.now }) × IsLegal (secret_table secret.now protected.items) list.now) }
+    ensures same { OnOk result ((kept.now ≡ secret.now.shape) × IsSecret secret.now) }
+    ensures err { IfErr result (λ fault. HistoryCause fault kept.now list.now (secret_table secret.now protected.items)) }
+    ensures due { (fault : StartFault) → (GivesUp fault → ⊥) → HistoryCause fault kept.now list.now (secret_table secret.now protected.items) → RefusedUnlessFailed fault result }
+    ensures opens { kept.now ≡ secret.now.shape → IsLegal (secret_table secret.now protected.items) list.now → StartsUnlessFailed result }
+{
+    let now = secret.shape();
+    if *kept != now {
+        return Err(StartFault::OtherShape { kept: *kept, now });
+    }
+    audited(alloc, secret, protected, list)
+}
+
+/// Reads the journal of a table back, and tests that it is that of the table: a store of it goes on from what is answered. The faults
+/// come in the order of `StartFault`. The groups are dropped with a refusal. The file isn't written.
+pub fn recover<B: Bench>(
+    alloc: Global,
+    secret: &Secret,
+    protected: Vec<Protected>,
+    bench: &mut B,
+) -> Result<(Journal, Core), StartFault>
+    requires fit { AreProtected secret.now.shape protected.items }
+
+    // The core's history is that of the file, and it is legal.
+    ensures recovers { IfOk result (λ found. Recovers secret.now protected.items found.0 found.1) }
+    ensures stands { B.told → IfOk result (λ found. StandsAt (B.file bench.old) secret.now.shape found.1.history found.0.gate) }
+
+    // Each refusal has its cause in the file, and each cause has its refusal; a legal history is never refused.
+    ensures cause { (fault : StartFault) → B.told → result ≡ Err fault → StartCause fault (B.file bench.old) (secret_table secret.now protected.items) }
+    ensures due { (fault : StartFault) → B.told → (GivesUp fault → ⊥) → StartCause fault (B.file bench.old) (secret_table secret.now protected.items) → RefusedUnlessFailed fault result }
+    ensures opens { (history : List Answered) → B.told → StandsFor (B.file bench.old) secret.now.shape history → IsLegal (secret_table secret.now protected.items) history → StartsUnlessFailed result }
+
+    // Nothing is written and nothing sent.
+    ensures reads { OnlyReads B.Bench bench.old bench.new }
+    ensures ticks { B.told → OnOk result (B.moment bench.new ≡ B.moment bench.old + 2) }
+    ensures fault { TellsFault B.Bench bench.old bench.new (IsErrOf result StartFault.Failed) }
+{
+    let (journal, list) = Journal::read_back(alloc, bench)?;
+    let core = opened(alloc, secret, protected, &journal.shape(), &list)?;
+    Ok((journal, core))
 }

@@ -11,13 +11,13 @@ ghost use Rattle.audit_store.specs.declared.growing.GrowFault.{GrowFault};
 ghost use Rattle.audit_core.specs.Outcomes.{AreOutcomes, records_made};
 ghost use Rattle.audit_store.specs.Stores.{IsAsLeft, IsStore, table_of, Keeps, HasGroup, calls_for};
 ghost use Rattle.table_load.specs.Database.{secret_table};
-ghost use Rattle.audit_store.specs.Starting.{StartCause, HistoryCause, GivesUp, StartsUnlessFailed, RefusedUnlessFailed};
+ghost use Rattle.audit_store.specs.Starting.{StartCause, GivesUp, StartsUnlessFailed, RefusedUnlessFailed};
 ghost use Rattle.audit_store.specs.declared.starting.StartFault.{StartFault};
 
 use crate::asking::{decide_all, keep};
 use crate::growing::{GrowFault, may_grow};
 use crate::outcome::StoreFault;
-use crate::starting::{StartFault, audited};
+use crate::starting::{StartFault, recover};
 use answer_journal::Journal;
 use audit_core::{Core, Outcome};
 use audit_types::{Answered, Asked, Protected};
@@ -50,43 +50,6 @@ impl Model for Store {
     ghost invariant = { λ s. IsStore (record { secret = s.secret; protected = s.core.setting.protected; history = take s.released s.core.history; journal = s.journal; usable = s.usable }) × IsAuditedBy (secret_table s.secret s.core.setting.protected) s.core s.released s.usable };
 }
 
-// The store of a history that was read back, if it is that of the secrets' table.
-fn opened(
-    alloc: Global,
-    secret: Secret,
-    protected: Vec<Protected>,
-    journal: Journal,
-    list: &[Answered],
-) -> Result<Store, StartFault>
-    requires groups { AreProtected secret.shape protected.items }
-    requires usable { journal.usable ≡ true }
-    requires counted { length list.now ≡ journal.count }
-    requires fit { All (λ r. FitsShape journal.shape r.column r.rows) list.now }
-    ensures ok { IfOk result (λ store. store ≡ record { secret = secret; protected = protected.items; history = list.now; journal = journal; usable = true }) }
-    ensures is { IfOk result (λ store. IsStore store) }
-    ensures err { IfErr result (λ fault. HistoryCause fault journal.shape list.now (secret_table secret protected.items)) }
-    ensures due { (fault : StartFault) → (GivesUp fault → ⊥) → HistoryCause fault journal.shape list.now (secret_table secret protected.items) → RefusedUnlessFailed fault result }
-    ensures opens { journal.shape ≡ secret.shape → IsLegal (secret_table secret protected.items) list.now → StartsUnlessFailed result }
-{
-    let kept = journal.shape();
-    let now = secret.shape();
-    if kept != now {
-        return Err(StartFault::OtherShape { kept, now });
-    }
-    let released = journal.count();
-    match audited(alloc, &secret, protected, list) {
-        Ok(core) => Ok(Store {
-            alloc,
-            secret,
-            core,
-            released,
-            journal,
-            usable: true,
-        }),
-        Err(fault) => Err(fault),
-    }
-}
-
 impl Store {
     /// Opens the journal of a table, and tests that it is that of the table. The faults come in the order of `StartFault`.
     /// The secrets and the groups are dropped with a refusal. The file isn't written.
@@ -112,10 +75,15 @@ impl Store {
         ensures ticks { B.told → OnOk result (B.moment bench.new ≡ B.moment bench.old + 2) }
         ensures fault { TellsFault B.Bench bench.old bench.new (IsErrOf result StartFault.Failed) }
     {
-        match Journal::read_back(alloc, bench) {
-            Ok((journal, list)) => opened(alloc, secret, protected, journal, &list),
-            Err(fault) => Err(StartFault::from(fault)),
-        }
+        let (journal, core) = recover(alloc, &secret, protected, bench)?;
+        Ok(Store {
+            alloc,
+            secret,
+            core,
+            released: journal.count(),
+            journal,
+            usable: true,
+        })
     }
 
     /// Grows the journal of a table to rows that came at its end, if its history is legal over all of them. The faults come in the

@@ -5,7 +5,7 @@ use Rattle.auditor_top.specs.declared.words.Command.{Command}
 use Rattle.auditor_top.specs.declared.ready.Ready.{Ready}
 use Rattle.auditor_top.specs.declared.words.WordFault.{WordFault}
 use Rattle.auditor_top.specs.declared.words.WordFault.TheVariants.{Bad}
-use Rattle.auditor_top.specs.declared.words.Command.TheVariants.{Init, Serve, Audit, Simulate, Drill, Grow, Compact}
+use Rattle.auditor_top.specs.declared.words.Command.TheVariants.{Init, Serve, Audit, Simulate, Drill, Grow, Explain, Compact}
 use Rattle.auditor_top.specs.declared.status.Status.{Status}
 use Rattle.auditor_top.specs.declared.status.Status.TheVariants.{SpareFault}
 use Rattle.auditor_top.specs.Causes.{WordCause}
@@ -15,13 +15,7 @@ use Rattle.auditor_top.specs.Ready.{command_for}
 pub one_command : (asked : Option Command) (a b : Command) → asked ≡ Some a → asked ≡ Some b → a ≡ b
 one_command asked a b is also = cc
 
-pub one_batch : (asked : Option Command) (a b : ℕ) → asked ≡ Some (Serve a) → asked ≡ Some (Serve b) → a ≡ b
-one_batch asked a b is also = cc
-
-pub one_drill : (asked : Option Command) (a b : ℕ) → asked ≡ Some (Drill a) → asked ≡ Some (Drill b) → a ≡ b
-one_drill asked a b is also = cc
-
--- the place of a command among the seven
+-- the place of a command among the eight
 abbrev place_of : Command → ℕ
 place_of Init = 0
 place_of (Serve batch) = 1
@@ -29,7 +23,8 @@ place_of Audit = 2
 place_of Simulate = 3
 place_of (Drill number) = 4
 place_of Grow = 5
-place_of Compact = 6
+place_of Explain = 6
+place_of Compact = 7
 
 -- one command has one place
 same_place : (a b : Command) → a ≡ b → nat_eq (place_of a) (place_of b) ≡ true
@@ -42,6 +37,7 @@ same_place a b is = subst (λ (k : Command). nat_eq (place_of a) (place_of k) �
     to_itself Simulate = refl
     to_itself (Drill number) = refl
     to_itself Grow = refl
+    to_itself Explain = refl
     to_itself Compact = refl
 
 -- arguments that name one command name no other

@@ -17,10 +17,10 @@ use Rattle.audit_session.specs.Stops.{IsBatch, Stop, StopsOver, stands_over}
 use Rattle.audit_session.specs.Lives.{Standing, serves, grows, Run, GoesFrom, Lead, IsLife, in_force}
 use Rattle.auditor_top.specs.declared.status.Status.{Status}
 use Rattle.auditor_top.specs.declared.words.Command.{Command}
-use Rattle.auditor_top.specs.declared.words.Command.TheVariants.{Init, Serve, Audit, Simulate, Drill, Grow, Compact}
+use Rattle.auditor_top.specs.declared.words.Command.TheVariants.{Init, Serve, Audit, Simulate, Drill, Grow, Explain, Compact}
 use Rattle.auditor_top.specs.Commands.{GoesOnOver, deed_of, reads_lines}
 use Rattle.auditor_top.specs.Promise.{GoesOn, RunsMakeLives}
-use Rattle.auditor_top.specs.Runs.{Objects, Serving, Growing}
+use Rattle.auditor_top.specs.Runs.{Objects, Does, Serving, Growing}
 use Rattle.auditor_top.proofs.OneCommand.{one_command}
 
 -- one file has one history
@@ -81,25 +81,24 @@ module _ {P I B : Type 0} (files : source.Ghosts P) (lines : source.Ghosts I) (b
 
 -- whatever moment a run of a command is stopped at, the life goes on with it
 pub goes_on : {P I B : Type 0} (files : source.Ghosts P) (lines : source.Ghosts I) (bench : Ghosts B) (status : Status) (old new : Objects P I B) →
-    RunsMakeLives → (command : Command) → ((batch : ℕ) → command ≡ Serve batch → IsBatch batch × Serving files lines bench batch status old new) →
-    (command ≡ Grow → Growing files lines bench status old new) → files.told → bench.told → (reads_lines command ≡ true → lines.told) →
+    RunsMakeLives → (command : Command) → ((batch : ℕ) → command ≡ Serve batch → IsBatch batch) → Does files lines bench command status old new → files.told → bench.told → (reads_lines command ≡ true → lines.told) →
     IsQuiet bench old.bench → (base : Database) (at : Standing) →
     GoesOnOver command (files.left old.schema) (files.left old.table) (bench.file old.bench) at base → (first : Database) (runs : List Run) →
     IsLife first runs at → (image sent : List ℕ) (left : Standing) → left.base ≡ base →
     bench.since new.bench (bench.moment old.bench) image (bench.sent old.bench ++ sent) → StandsFor image (in_force left).setting.shape left.history →
     GoesOn first runs (record { deed = deed_of command (lines.left old.input); left = left; sent = sent })
-goes_on files lines bench status old new longer Init serving growing ptold told itold quiet base at goes first runs life image sent left is was stands = absurd goes
-goes_on files lines bench status old new longer (Serve batch) serving growing ptold told itold quiet base at goes first runs life image sent left is was stands =
-    let served = serving batch refl in
-    serves_on files lines bench status old new longer quiet at first runs life image sent left was stands batch served.0 served.1 ptold (itold refl) told
+goes_on files lines bench status old new longer Init batches does ptold told itold quiet base at goes first runs life image sent left is was stands = absurd goes
+goes_on files lines bench status old new longer (Serve batch) batches does ptold told itold quiet base at goes first runs life image sent left is was stands =
+    serves_on files lines bench status old new longer quiet at first runs life image sent left was stands batch (batches batch refl) does ptold (itold refl) told
     (subst (λ (b : Database). GoesOnOver (Serve batch) (files.left old.schema) (files.left old.table) (bench.file old.bench) at b) (sym is) goes)
-goes_on files lines bench status old new longer Audit serving growing ptold told itold quiet base at goes first runs life image sent left is was stands = absurd goes
-goes_on files lines bench status old new longer Simulate serving growing ptold told itold quiet base at goes first runs life image sent left is was stands = absurd goes
-goes_on files lines bench status old new longer (Drill number) serving growing ptold told itold quiet base at goes first runs life image sent left is was stands =
+goes_on files lines bench status old new longer Audit batches does ptold told itold quiet base at goes first runs life image sent left is was stands = absurd goes
+goes_on files lines bench status old new longer Simulate batches does ptold told itold quiet base at goes first runs life image sent left is was stands = absurd goes
+goes_on files lines bench status old new longer (Drill number) batches does ptold told itold quiet base at goes first runs life image sent left is was stands =
     absurd goes
-goes_on files lines bench status old new longer Compact serving growing ptold told itold quiet base at goes first runs life image sent left is was stands = absurd goes
-goes_on files lines bench status old new longer Grow serving growing ptold told itold quiet base at goes first runs life image sent left is was stands =
-    grows_on files lines bench status old new longer quiet at first runs life image sent left was stands (growing refl) ptold told
+goes_on files lines bench status old new longer Explain batches does ptold told itold quiet base at goes first runs life image sent left is was stands = absurd goes
+goes_on files lines bench status old new longer Compact batches does ptold told itold quiet base at goes first runs life image sent left is was stands = absurd goes
+goes_on files lines bench status old new longer Grow batches does ptold told itold quiet base at goes first runs life image sent left is was stands =
+    grows_on files lines bench status old new longer quiet at first runs life image sent left was stands does ptold told
     (subst (λ (b : Database). GoesOnOver Grow (files.left old.schema) (files.left old.table) (bench.file old.bench) at b) (sym is) goes)
 
 -- with a run of any other command none does
@@ -107,3 +106,10 @@ pub never_goes_on : {Y : Type 0} (words : Option Command) (command one : Command
     words ≡ Some one → words ≡ Some command → (GoesOnOver one schema table file at base → ⊥) → GoesOnOver command schema table file at base → Y
 never_goes_on words command one schema table file at base is asked never goes =
     absurd (never (subst (λ (k : Command). GoesOnOver k schema table file at base) (one_command words command one asked is) goes))
+
+-- what a run of the command does that the arguments name
+pub does_so : {P I B : Type 0} (files : source.Ghosts P) (lines : source.Ghosts I) (bench : Ghosts B) (status : Status) (old new : Objects P I B)
+    (words : Option Command) (one command : Command) → words ≡ Some one → words ≡ Some command → Does files lines bench one status old new →
+    Does files lines bench command status old new
+does_so files lines bench status old new words one command is asked does =
+    subst (λ (k : Command). Does files lines bench k status old new) (one_command words one command is asked) does

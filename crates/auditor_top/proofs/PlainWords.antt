@@ -5,7 +5,7 @@ use Rattle.std.specs.Char.{is_ascii_digit}
 use Rattle.std.proofs.lemmas.Bool.{cases_lt, and_parts, and_from, cond-true, le-leb, leb-true, lt-ltb}
 use Rattle.clap.proofs.OnLiterals.{clap_on_literals}
 use Rattle.audit_session.specs.Stops.{IsBatch}
-use Rattle.auditor_top.specs.declared.words.Command.TheVariants.{Init, Serve, Audit, Simulate, Drill, Grow, Compact}
+use Rattle.auditor_top.specs.declared.words.Command.TheVariants.{Init, Serve, Audit, Simulate, Drill, Grow, Explain, Compact}
 use Rattle.auditor_top.specs.Words.{command_of, number_of, serve_with, drill_with}
 
 -- ---- one word
@@ -29,6 +29,10 @@ simulate_is = refl
 pub grow_is : command_of (codes "grow" ∷ []) ≡ Some Grow
 unfolding command_of clap_on_literals
 grow_is = refl
+
+pub explain_is : command_of (codes "explain" ∷ []) ≡ Some Explain
+unfolding command_of clap_on_literals
+explain_is = refl
 
 pub compact_is : command_of (codes "compact" ∷ []) ≡ Some Compact
 unfolding command_of clap_on_literals

@@ -18,16 +18,17 @@ use Rattle.audit_session.specs.Ends.{ServesSome}
 use Rattle.journal_audit.specs.Reports.{subjects, ReportsFront}
 use Rattle.journal_audit.specs.SendLaws.{none_front}
 use Rattle.auditor_top.specs.declared.words.Command.{Command}
-use Rattle.auditor_top.specs.declared.words.Command.TheVariants.{Init, Serve, Audit, Simulate, Grow, Compact}
+use Rattle.auditor_top.specs.declared.words.Command.TheVariants.{Init, Serve, Audit, Simulate, Drill, Grow, Explain, Compact}
 use Rattle.auditor_top.specs.declared.status.Status.{Status}
 use Rattle.auditor_top.specs.declared.status.Status.TheVariants.{Done}
 use Rattle.auditor_top.specs.Causes.{FaultCause, NothingFailed, IsDoneOrWants}
 use Rattle.auditor_top.specs.Commands.{AreSoundFilesOf, opens_store}
 use Rattle.auditor_top.specs.Compactions.{CompactEnds}
-use Rattle.auditor_top.specs.Ends.{AuditEnds, GrowEnds, LeavesFile, ServeEnds, SimulateEnds, SimulateSends, StandsForWhat, audit_over, outside}
+use Rattle.auditor_top.specs.Ends.{AuditEnds, GrowEnds, LeavesFile, ServeEnds, SimulateEnds, SendsLines, StandsForWhat, ExplainEnds, audit_over, outside, public_part}
 use Rattle.auditor_top.specs.Ready.{IsGiven, EndsEarly, GivesUp}
-use Rattle.auditor_top.specs.Runs.{Objects, objects, faults_of, Making, Serving, Auditing, Simulating, Growing, Compacting}
+use Rattle.auditor_top.specs.Runs.{Objects, objects, faults_of, Does, Making, Serving, Auditing, Simulating, Drilling, Growing, Explaining, Compacting}
 use Rattle.auditor_top.proofs.AuditEndings.{untouched_report}
+use Rattle.auditor_top.proofs.ExplainEndings.{none_first, untouched_lines}
 use Rattle.auditor_top.proofs.OneTable.{nothing_served, untouched_stops}
 use Rattle.auditor_top.proofs.SimulationEndings.{none_begun, no_verdict}
 use Rattle.auditor_top.proofs.StepFaults.{not_made}
@@ -58,16 +59,6 @@ uncalled bench at only_now = record {
 pub as_quiet : {B : Type 0} (bench : Ghosts B) (old new : B) → OnlyReads bench old new → IsQuiet bench old → IsQuiet bench new
 as_quiet bench old new reads quiet = λ image left. quiet image (reads.crash image left) ∙ sym reads.file
 
--- what a run says of its command that ended early
-pub record Refused {P I B : Type 0} (files : source.Ghosts P) (lines : source.Ghosts I) (bench : Ghosts B) (asked : Option Command) (status : Status)
-    (old new : Objects P I B) : Type 0 where
-  pub init : asked ≡ Some Init → Making files lines bench status old new
-  pub serve : (batch : ℕ) → asked ≡ Some (Serve batch) → Serving files lines bench batch status old new
-  pub audit : asked ≡ Some Audit → Auditing files lines bench status old new
-  pub simulate : asked ≡ Some Simulate → Simulating files lines bench status old new
-  pub grow : asked ≡ Some Grow → Growing files lines bench status old new
-  pub compact : asked ≡ Some Compact → Compacting files lines bench status old new
-
 module _ {P I B : Type 0} (files : source.Ghosts P) (lines : source.Ghosts I) (bench : Ghosts B) (schema later_schema table later_table : P) (input : I)
     (at later : B) (spare : B) (status : Status) (early : EndsEarly status) (reads : OnlyReads bench at later)
     (cause : FaultCause status (faults_of files lines bench (objects schema table input at spare))
@@ -87,6 +78,11 @@ module _ {P I B : Type 0} (files : source.Ghosts P) (lines : source.Ghosts I) (b
   wants gave_up none =
       by_giving_up (λ (s : Status). FaultCause s (faults_of files lines bench old) (faults_of files lines bench new) → IsDoneOrWants s) status gave_up
       (λ rose. absurd (none.schema rose.0)) (λ rose. absurd (none.table rose.0)) (λ rose. absurd (none.bench rose.0)) (λ same. inr refl) cause
+
+  -- and the file stays
+  left_alone : bench.told → IsQuiet bench at → LeavesOnly bench at later (LeavesFile (bench.file at))
+  left_alone told quiet =
+      weakens bench at later (IsUntouched (bench.file at) (bench.sent at)) (LeavesFile (bench.file at)) (λ image sent same. same.1) (reads.untouched quiet)
 
   unmade : asked ≡ Some Init → Making files lines bench status old new
   unmade is = record {
@@ -150,14 +146,13 @@ module _ {P I B : Type 0} (files : source.Ghosts P) (lines : source.Ghosts I) (b
         let gave_up = gives_up Simulate is ptold (λ opens. absurd (false≢true opens)) (columns, public, given) in (
           [],
           by_giving_up (λ (s : Status). SimulateEnds s columns public text text []) status gave_up refl refl begun begun,
-          λ told. by_giving_up (λ (s : Status). SimulateSends s [] (bench.sent at) (bench.sent later)) status gave_up same same (0, same) same,
+          λ told. by_giving_up (λ (s : Status). SendsLines s [] (bench.sent at) (bench.sent later)) status gave_up same same (0, same) same,
         );
     simulating = λ ptold told quiet columns public given.
         weakens bench at later (IsUntouched (bench.file at) (bench.sent at)) _
         (λ image sent same. no_verdict lines.told columns public (counted_lines (lines.left input)) (bench.file at) (bench.sent at) image sent same.1 same.0)
         (reads.untouched quiet);
-    undisturbed = λ told quiet.
-        weakens bench at later (IsUntouched (bench.file at) (bench.sent at)) (LeavesFile (bench.file at)) (λ image sent same. same.1) (reads.untouched quiet);
+    undisturbed = left_alone;
     simulate_calls = λ itold told done. never_done status early done;
     simulates = λ ptold itold columns public given verdicts agree within none.
         wants (gives_up Simulate is ptold (λ opens. absurd (false≢true opens)) (columns, public, given)) none;
@@ -178,6 +173,27 @@ module _ {P I B : Type 0} (files : source.Ghosts P) (lines : source.Ghosts I) (b
     grows = λ ptold told base rows history given none. wants (gives_up Grow is ptold (λ opens. told) (base, given.files)) none;
   }
 
+  unexplained : asked ≡ Some Explain → Explaining files lines bench status old new
+  unexplained is = record {
+    explained = λ ptold itold told base history over.
+        let text = lines.left input in
+        let first = none_first text in
+        let same = reads.sent ∙ sym (append-nil (bench.sent at)) in
+        let gave_up = gives_up Explain is ptold (λ opens. told) (base, history, over) in (
+          [],
+          [],
+          by_giving_up (λ (s : Status). ExplainEnds s text text []) status gave_up refl refl first first,
+          tt,
+          by_giving_up (λ (s : Status). SendsLines s [] (bench.sent at) (bench.sent later)) status gave_up same same (0, same) same,
+        );
+    explaining = λ ptold told quiet base history over.
+        weakens bench at later (IsUntouched (bench.file at) (bench.sent at)) _
+        (untouched_lines lines.told base.columns (public_part base) history (lines.left input) (bench.file at) (bench.sent at)) (reads.untouched quiet);
+    undisturbed = left_alone;
+    explain_calls = λ itold told done. never_done status early done;
+    explains = λ ptold itold told base history over within none. wants (gives_up Explain is ptold (λ opens. told) (base, history, over)) none;
+  }
+
   uncompacted : OnlyReads bench spare spare → asked ≡ Some Compact → Compacting files lines bench status old new
   uncompacted spared is =
       let still : IsQuiet bench spare → LeavesOnly bench spare spare (IsUntouched (bench.file spare) (bench.sent spare)) = spared.untouched in
@@ -193,8 +209,7 @@ module _ {P I B : Type 0} (files : source.Ghosts P) (lines : source.Ghosts I) (b
             absurd (unmade (subst IsMade ((still quiet).each image sent was).1 made));
         sending = λ ptold told quiet base history over.
             weakens bench at later (IsUntouched (bench.file at) (bench.sent at)) _ (λ image sent same. (same.1, inl same.0)) (reads.untouched quiet);
-        undisturbed = λ told quiet.
-            weakens bench at later (IsUntouched (bench.file at) (bench.sent at)) (LeavesFile (bench.file at)) (λ image sent same. same.1) (reads.untouched quiet);
+        undisturbed = left_alone;
         kept = λ told made. (reads.sent, refl);
         untouched = λ told made quiet. still quiet;
         unsent = λ told made quiet. reads.untouched quiet;
@@ -205,6 +220,14 @@ module _ {P I B : Type 0} (files : source.Ghosts P) (lines : source.Ghosts I) (b
         compacts = λ ptold told unmade base history over none fine. wants (gives_up Compact is ptold (λ opens. told) (base, history, over)) none;
       }
 
-  pub refused : StopsAreLegal → OnlyReads bench spare spare → Refused files lines bench asked status old new
-  refused legal spared =
-      record { init = unmade; serve = unserved legal; audit = unaudited; simulate = unsimulated; grow = ungrown; compact = uncompacted spared }
+  pub refused : StopsAreLegal → OnlyReads bench spare spare →
+      ((number : ℕ) → asked ≡ Some (Drill number) → Drilling files lines bench number status old new) →
+      (command : Command) → asked ≡ Some command → Does files lines bench command status old new
+  refused legal spared drilled Init is = unmade is
+  refused legal spared drilled (Serve batch) is = unserved legal batch is
+  refused legal spared drilled Audit is = unaudited is
+  refused legal spared drilled Simulate is = unsimulated is
+  refused legal spared drilled (Drill number) is = drilled number is
+  refused legal spared drilled Grow is = ungrown is
+  refused legal spared drilled Explain is = unexplained is
+  refused legal spared drilled Compact is = uncompacted spared is

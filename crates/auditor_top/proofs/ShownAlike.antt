@@ -4,20 +4,27 @@ use Rattle.std.specs.Prelude.{◌↔◌}
 use Rattle.audit_types.specs.declared.records.Answered.{Answered}
 use Rattle.audit_types.specs.declared.shapes.Shape.{Shape}
 use Rattle.schema_json.specs.Columns.{Column}
+use Rattle.set_index.specs.Indexed.{IndexView}
 use Rattle.table_load.specs.Database.{Database, AreTwins}
 use Rattle.journal_audit.specs.Reports.{Audit, Reports, ReportsFront, SendsMeanwhile, subjects}
+use Rattle.certificate_lines.specs.Explained.{AreExplained}
 use Rattle.transcript_sim.specs.Verdicts.{AreVerdicts}
 use Rattle.auditor_top.specs.declared.status.Which.TheVariants.{Schema, Table, Input}
 use Rattle.auditor_top.specs.declared.status.Status.{Status}
 use Rattle.auditor_top.specs.declared.status.Status.TheVariants.{Done, SourceFault, BenchFault, NoMemory}
 use Rattle.auditor_top.specs.Commands.{ArePublicFilesOf}
 use Rattle.auditor_top.specs.Compactions.{CompactEnds, SendsCounts}
-use Rattle.auditor_top.specs.Ends.{AuditEnds, audit_over}
-use Rattle.auditor_top.specs.Shown.{AreShownAlike, public_part}
+use Rattle.auditor_top.specs.Ends.{AuditEnds, audit_over, public_part}
+use Rattle.auditor_top.specs.Shown.{AreShownAlike}
 
 -- what is said of one thing is said of the same one
 same_said : {X : Type 0} (P : X → Type 0) (a b : X) → b ≡ a → P a ↔ P b
 same_said P a b same = (λ p. subst P (sym same) p, λ p. subst P same p)
+
+-- so what is said of what is public of one table is said of what is public of one that differs in its secrets
+same_public : (P : List Column → IndexView → Type 0) (base other : Database) → other ≡ record base { secret = other.secret } →
+    P base.columns (public_part base) ↔ P other.columns (public_part other)
+same_public P base other same = same_said (λ (d : Database). P d.columns (public_part d)) (record base { secret = other.secret }) other same
 
 -- a report says the same of both, by each status
 same_report : (status : Status) (base other : Database) (history : List Answered) → audit_over other history ≡ audit_over base history → (before after : List ℕ) →
@@ -42,14 +49,9 @@ twins_alike base other history twins =
       report = λ status before after. same_report status base other history audit before after;
       meanwhile = λ file before image sent. same_said (λ (a : Audit). SendsMeanwhile a (subjects a.shape) file before image sent)
           (audit_over base history) (audit_over other history) audit;
+      certificates = λ asked lines. same_public (λ cs i. AreExplained cs i history asked lines) base other twins.0;
       compacted = λ status spare before after. same_said (λ (s : Shape). CompactEnds status s history spare before after) base.secret.shape other.secret.shape twins.1;
       compacting = λ file before image sent. same_said (λ (s : Shape). SendsCounts s history file before image sent) base.secret.shape other.secret.shape twins.1;
-      files = λ schema table. (
-        λ fits. subst (λ (d : Database). ArePublicFilesOf schema table d.columns (public_part d)) (sym twins.0) fits,
-        λ fits. subst (λ (d : Database). ArePublicFilesOf schema table d.columns (public_part d)) twins.0 fits,
-      );
-      verdicts = λ lines verdicts. (
-        λ are. subst (λ (d : Database). AreVerdicts d.columns (public_part d) lines verdicts) (sym twins.0) are,
-        λ are. subst (λ (d : Database). AreVerdicts d.columns (public_part d) lines verdicts) twins.0 are,
-      );
+      files = λ schema table. same_public (ArePublicFilesOf schema table) base other twins.0;
+      verdicts = λ lines verdicts. same_public (λ cs i. AreVerdicts cs i lines verdicts) base other twins.0;
     }

@@ -11,14 +11,14 @@ use Rattle.set_index.specs.Indexed.{IndexView, OneListOfEntries}
 use Rattle.table_load.specs.Cells.{PublicView}
 use Rattle.table_load.specs.Tables.{public_of}
 use Rattle.line_wire.specs.Lines.{CountedLine, counted_lines}
-use Rattle.question_plan.specs.Session.{Replied}
+use Rattle.question_plan.specs.Session.{Replied, bytes_of}
 use Rattle.transcript_sim.specs.declared.simulating.SimulationFault.{SimulationFault}
 use Rattle.transcript_sim.specs.declared.simulating.SimulationFault.TheVariants as verdict
 use Rattle.transcript_sim.specs.Verdicts.{AreVerdicts}
 use Rattle.transcript_sim.specs.Laws.{FirstLinesHaveVerdicts}
 use Rattle.transcript_sim.specs.Ends.{BeginVerdicts, EndVerdicts, EndSends, EndReads, SimulatesMeanwhile}
 use Rattle.auditor_top.specs.Status.{simulation_status}
-use Rattle.auditor_top.specs.Ends.{SimulateEnds, SimulateSends}
+use Rattle.auditor_top.specs.Ends.{SimulateEnds, SendsLines}
 use Rattle.auditor_top.specs.Commands.{ArePublicFilesOf}
 use Rattle.auditor_top.specs.Causes.{FaultCounts, FaultCause, InputCause, NothingFailed, IsDoneOrWants}
 use Rattle.auditor_top.proofs.OneTable.{same_ok}
@@ -74,7 +74,7 @@ simulation_ends (Err verdict.Bench) columns public input left verdicts are = are
 simulation_ends (Err verdict.NoMemory) columns public input left verdicts are = are
 
 pub simulation_sends : (ended : Result (Unit {0}) SimulationFault) (verdicts : List (Replied Answered)) (before after : List ℕ) →
-    EndSends ended verdicts before after → SimulateSends (simulation_status ended) verdicts before after
+    EndSends ended verdicts before after → SendsLines (simulation_status ended) (bytes_of verdicts) before after
 simulation_sends (Ok done) verdicts before after sends = sends
 simulation_sends (Err verdict.Input) verdicts before after sends = sends
 simulation_sends (Err verdict.Limit) verdicts before after sends = sends

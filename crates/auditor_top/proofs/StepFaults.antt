@@ -13,12 +13,13 @@ use Rattle.line_wire.specs.Lines.{counted_lines, most_input}
 use Rattle.audit_session.specs.Ends.{Serves, ServesWhole, ServesSome, limited}
 use Rattle.audit_session.specs.declared.serving.EndFault.{EndFault}
 use Rattle.audit_session.specs.declared.serving.EndFault.TheVariants as end
-use Rattle.auditor_top.specs.declared.words.Command.TheVariants.{Init, Serve}
+use Rattle.auditor_top.specs.declared.words.Command.{Command}
+use Rattle.auditor_top.specs.declared.words.Command.TheVariants.{Init}
 use Rattle.auditor_top.specs.declared.status.Status.{Status}
 use Rattle.auditor_top.specs.declared.status.Status.TheVariants.{Done, BenchFault}
 use Rattle.auditor_top.specs.Status.{making_status, session_status}
 use Rattle.auditor_top.specs.Ends.{Outside, ServeEnds}
-use Rattle.auditor_top.specs.Causes.{FaultCounts, counts, FaultCause, FileCause, HoldsLegal, InputCause, NothingFailed, IsDoneOrWants}
+use Rattle.auditor_top.specs.Causes.{FaultCounts, counts, FaultCause, FileCause, IsReadyFor, InputCause, NothingFailed, IsDoneOrWants}
 
 -- an answer isn't good and bad
 pub not_both : {X E : Type 0} (x : X) (e : E) → Ok x ≡ Err e → ⊥
@@ -85,14 +86,14 @@ making_failed (Err make.Failed) is = refl
 
 -- ---- answering lines
 
--- a session over a legal history has that cause
-pub session_cause : {X : Type 0} (ended : Result X EndFault) (batch : ℕ) (file : List ℕ) (table : Guarded) → HoldsLegal file table →
-    FileCause (session_status ended) (Serve batch) file table
-session_cause (Ok done) batch file table legal = legal
-session_cause (Err end.Input) batch file table legal = legal
-session_cause (Err end.Bench) batch file table legal = tt
-session_cause (Err end.Limit) batch file table legal = legal
-session_cause (Err end.NoMemory) batch file table legal = tt
+-- a session over a file that its command takes has that cause
+pub session_cause : {X : Type 0} (ended : Result X EndFault) (one : Command) (file : List ℕ) (table : Guarded) → IsReadyFor one file table →
+    FileCause (session_status ended) one file table
+session_cause (Ok done) one file table ready = ready
+session_cause (Err end.Input) one file table ready = ready
+session_cause (Err end.Bench) one file table ready = tt
+session_cause (Err end.Limit) one file table ready = ready
+session_cause (Err end.NoMemory) one file table ready = tt
 
 -- the ends of a session are those of the run
 pub session_ends : {X : Type 0} (ended : Result X EndFault) (base : Database) (batch : ℕ) (history now : List Answered) (before after : Outside)

@@ -16,10 +16,12 @@ use Rattle.audit_session.specs.declared.serving.EndFault.{EndFault}
 use Rattle.audit_session.specs.declared.serving.EndFault.TheVariants as end
 use Rattle.journal_audit.specs.declared.faults.AuditFault.{AuditFault}
 use Rattle.journal_audit.specs.declared.faults.AuditFault.TheVariants as report
-use Rattle.transcript_sim.specs.declared.due.Due.{Due}
+use Rattle.question_plan.specs.declared.due.Due.{Due}
 use Rattle.transcript_sim.specs.declared.simulating.SimulationFault.{SimulationFault}
 use Rattle.transcript_sim.specs.declared.simulating.SimulationFault.TheVariants as verdict
-use Rattle.auditor_top.specs.declared.words.Command.TheVariants.{Init, Serve, Audit, Simulate}
+use Rattle.auditor_top.specs.declared.words.Command.{Command}
+use Rattle.auditor_top.specs.declared.words.Command.TheVariants.{Init, Audit, Simulate}
+use Rattle.auditor_top.specs.Commands.{reads_lines}
 use Rattle.auditor_top.specs.declared.status.Which.{Which}
 use Rattle.auditor_top.specs.declared.status.Which.TheVariants.{Schema, Table, Input}
 use Rattle.auditor_top.specs.declared.status.Status.{Status}
@@ -259,12 +261,12 @@ making_words (Ok done) = refl
 making_words (Err make.AlreadyThere) = refl
 making_words (Err make.Failed) = tt
 
-pub session_words : {X : Type 0} (ended : Result X EndFault) (batch : ℕ) → WordCause (session_status ended) (Some (Serve batch))
-session_words (Ok done) batch = refl
-session_words (Err end.Input) batch = refl
-session_words (Err end.Bench) batch = tt
-session_words (Err end.Limit) batch = refl
-session_words (Err end.NoMemory) batch = tt
+pub session_words : {X : Type 0} (ended : Result X EndFault) (one : Command) → reads_lines one ≡ true → WordCause (session_status ended) (Some one)
+session_words (Ok done) one lines = refl
+session_words (Err end.Input) one lines = lines
+session_words (Err end.Bench) one lines = tt
+session_words (Err end.Limit) one lines = lines
+session_words (Err end.NoMemory) one lines = tt
 
 pub report_words : {X : Type 0} (ended : Result X AuditFault) → WordCause (audit_status ended) (Some Audit)
 report_words (Ok done) = refl

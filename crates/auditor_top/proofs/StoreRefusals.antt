@@ -30,7 +30,7 @@ use Rattle.audit_store.specs.declared.starting.StartFault.TheVariants as start
 use Rattle.auditor_top.specs.declared.starting.NotStarted.{NotStarted}
 use Rattle.auditor_top.specs.declared.starting.NotStarted.TheVariants as began
 use Rattle.auditor_top.specs.declared.words.Command.{Command}
-use Rattle.auditor_top.specs.declared.words.Command.TheVariants.{Init, Serve, Audit, Simulate, Drill, Grow, Compact}
+use Rattle.auditor_top.specs.declared.words.Command.TheVariants.{Init, Serve, Audit, Simulate, Drill, Grow, Explain, Compact}
 use Rattle.auditor_top.specs.declared.status.Status.{Status}
 use Rattle.auditor_top.specs.declared.status.Status.TheVariants.{BenchFault, NotMade, Damaged, OtherShape, Untrue, Illegal, NoMemory}
 use Rattle.auditor_top.specs.Status.{index_status, start_status, started_status}
@@ -79,6 +79,7 @@ opens_too Audit opens = refl
 opens_too Simulate opens = opens
 opens_too (Drill number) opens = opens
 opens_too Grow opens = refl
+opens_too Explain opens = refl
 opens_too Compact opens = refl
 
 refused_so : (fault : StartFault) (asked : Command) (file : List ℕ) (table : Guarded) → opens_store asked ≡ true → StartCause fault file table →
@@ -89,6 +90,7 @@ refused_so fault Audit file table opens cause = cause
 refused_so fault Simulate file table opens cause = absurd (false≢true opens)
 refused_so fault (Drill number) file table opens cause = absurd (false≢true opens)
 refused_so fault Grow file table opens cause = absurd (false≢true opens)
+refused_so fault Explain file table opens cause = cause
 refused_so fault Compact file table opens cause = cause
 
 start_words : (fault : StartFault) (asked : Command) → opens_store asked ≡ true → WordCause (start_status fault) (Some asked)
@@ -183,6 +185,7 @@ given_history Audit schema table file opens given = given
 given_history Simulate schema table file opens given = absurd (false≢true opens)
 given_history (Drill number) schema table file opens given = absurd (false≢true opens)
 given_history Grow schema table file opens given = absurd (false≢true opens)
+given_history Explain schema table file opens given = given
 given_history Compact schema table file opens given = given
 
 -- a command that opens a store reads the files of a table, not the public columns alone
@@ -193,6 +196,7 @@ opens_files Audit opens = refl
 opens_files Simulate opens = refl
 opens_files (Drill number) opens = opens
 opens_files Grow opens = refl
+opens_files Explain opens = refl
 opens_files Compact opens = refl
 
 pub not_public : {Y : Type 0} (asked : Command) → opens_store asked ≡ true → asked ≡ Simulate → Y
@@ -206,6 +210,7 @@ opens_groups Audit opens = refl
 opens_groups Simulate opens = refl
 opens_groups (Drill number) opens = opens
 opens_groups Grow opens = refl
+opens_groups Explain opens = refl
 opens_groups Compact opens = refl
 
 module _ {P B : Type 0} (files : source.Ghosts P) (bench : Ghosts B) (law : OneListOfEntries) (asked : Command)

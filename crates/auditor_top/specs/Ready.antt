@@ -19,7 +19,7 @@ use Rattle.table_load.specs.Tables.{table_of, public_of}
 use Rattle.table_load.specs.declared.faults.TableFault.TheVariants as table_fault
 use Rattle.audit_store.specs.Stores.{StoreContents, IsStore, IsAsLeft}
 use Rattle.auditor_top.specs.declared.ready.Ready.{Ready}
-use Rattle.auditor_top.specs.declared.ready.Ready.TheVariants.{Init, Serve, Audit, Simulate, Drill, Grow, Compact}
+use Rattle.auditor_top.specs.declared.ready.Ready.TheVariants.{Init, Serve, Audit, Simulate, Drill, Grow, Explain, Compact}
 use Rattle.auditor_top.specs.declared.words.Command.{Command}
 use Rattle.auditor_top.specs.declared.words.Command.TheVariants as command
 use Rattle.auditor_top.specs.declared.status.Which.TheVariants.{Schema, Table, Input}
@@ -39,6 +39,7 @@ IsGiven command.Audit schema table file = (base : Database) × (history : List A
 IsGiven command.Simulate schema table file = (columns : List Column) × (index : IndexView) × ArePublicFilesOf schema table columns index
 IsGiven (command.Drill number) schema table file = Unit {0}
 IsGiven command.Grow schema table file = (base : Database) × AreSoundFilesOf schema table base
+IsGiven command.Explain schema table file = (base : Database) × (history : List Answered) × ServesOver schema table file base history
 IsGiven command.Compact schema table file = (base : Database) × (history : List Answered) × ServesOver schema table file base history
 
 -- the command that goes on with this
@@ -49,6 +50,7 @@ command_for (Audit schema store) = command.Audit
 command_for (Simulate schema index) = command.Simulate
 command_for (Drill number) = command.Drill number
 command_for (Grow secret protected) = command.Grow
+command_for (Explain schema index store) = command.Explain
 command_for (Compact store) = command.Compact
 
 -- a store that was just opened: the journal's file is as it left it
@@ -68,6 +70,9 @@ IsReady bench now (Simulate schema index) =
     FitsSchema schema.columns index.public × AreProtected (shape_of schema.columns index.public.rows) index.protected
 IsReady bench now (Drill number) = Unit {0}
 IsReady bench now (Grow secret protected) = AreProtected secret.shape protected.items
+IsReady bench now (Explain schema index store) =
+    IsOpened bench now store × FitsSchema schema.columns index.public × (store.secret.shape ≡ shape_of schema.columns index.public.rows) ×
+    (index.protected ≡ store.protected)
 IsReady bench now (Compact store) = IsOpened bench now store
 
 -- its parts are what the files mean
@@ -80,6 +85,8 @@ IsReadyOver schema_file table_file (Simulate schema index) = ArePublicFilesOf sc
 IsReadyOver schema_file table_file (Drill number) = Unit {0}
 IsReadyOver schema_file table_file (Grow secret protected) =
     (columns : List Column) × (public : PublicView) × AreSoundFilesOf schema_file table_file (base_of columns public protected.items secret)
+IsReadyOver schema_file table_file (Explain schema index store) =
+    AreSoundFilesOf schema_file table_file (base_of schema.columns index.public index.protected store.secret)
 IsReadyOver schema_file table_file (Compact store) =
     (columns : List Column) × (public : PublicView) × AreSoundFilesOf schema_file table_file (base_of columns public store.protected store.secret)
 

@@ -1,5 +1,6 @@
 -- What a run of each command does, by its status, and by the objects that it is handed: as they were and as they are left.
 use Rattle.std.specs.Prelude.{◌≡◌, ◌≢◌, ◌≤◌, ◌+◌, List, [], ℕ, length}
+use Rattle.std.specs.List.{concat}
 use Rattle.audit_types.specs.declared.records.Answered.{Answered}
 use Rattle.audit_types.specs.History.{IsLegal, IsUndisclosed}
 use Rattle.audit_types.specs.Widening.{over}
@@ -12,13 +13,17 @@ use Rattle.table_load.specs.Database.{Database, table_in}
 use Rattle.journal_form.specs.Journal.{StandsFor}
 use Rattle.answer_journal.specs.Make.{calls_to_make}
 use Rattle.answer_journal.specs.Moments.{IsAlready, IsMade, IsBeforeOrGrown, IsUnmadeOrEmpty}
-use Rattle.line_wire.specs.Lines.{counted_lines, most_input}
-use Rattle.question_plan.specs.Session.{Replied}
+use Rattle.line_wire.specs.Lines.{CountedLine, counted_lines, most_input}
+use Rattle.question_plan.specs.Session.{Replied, bytes_of}
 use Rattle.audit_session.specs.Ends.{TakesCalls}
 use Rattle.audit_session.specs.Stops.{StopsOver}
 use Rattle.journal_audit.specs.Reports.{SendsMeanwhile, subjects}
+use Rattle.certificate_lines.specs.Ends.{ExplainsMeanwhile}
+use Rattle.certificate_lines.specs.Explained.{AreExplained}
 use Rattle.transcript_sim.specs.Ends.{SimulatesMeanwhile}
 use Rattle.transcript_sim.specs.Verdicts.{AreVerdicts, exchanges}
+use Rattle.auditor_top.specs.declared.words.Command.{Command}
+use Rattle.auditor_top.specs.declared.words.Command.TheVariants.{Init, Serve, Audit, Simulate, Drill, Grow, Explain, Compact}
 use Rattle.auditor_top.specs.declared.status.Status.{Status}
 use Rattle.auditor_top.specs.declared.status.Status.TheVariants.{Done, BenchFault, NoMemory}
 use Rattle.bench_core.specs.Causes.{Rose}
@@ -26,7 +31,7 @@ use Rattle.auditor_top.specs.Compactions.{CompactEnds, DecideAlike, IsUnmadeOrKe
 use Rattle.auditor_top.specs.Causes.{FaultCounts, counts, NothingFailed, IsDoneOrWants}
 use Rattle.auditor_top.specs.Commands.{AreFilesOf, ArePublicFilesOf, GrowsOver, ServesOver}
 use Rattle.auditor_top.specs.Drills.{DrillEnds}
-use Rattle.auditor_top.specs.Ends.{AuditEnds, GrowEnds, LeavesFile, ServeEnds, SimulateEnds, SimulateSends, audit_over, outside}
+use Rattle.auditor_top.specs.Ends.{AuditEnds, GrowEnds, LeavesFile, ServeEnds, SimulateEnds, SendsLines, ExplainEnds, audit_over, outside, public_part}
 
 -- the objects that a run is handed
 pub record Objects (P I B : Type 0) : Type 0 where
@@ -97,7 +102,7 @@ pub record Simulating {P I B : Type 0} (files : source.Ghosts P) (lines : source
   pub simulated : files.told → lines.told → (columns : List Column) (index : IndexView) →
       ArePublicFilesOf (files.left old.schema) (files.left old.table) columns index →
       (verdicts : List (Replied Answered)) × SimulateEnds status columns index (lines.left old.input) (lines.left new.input) verdicts ×
-      (bench.told → SimulateSends status verdicts (bench.sent old.bench) (bench.sent new.bench))
+      (bench.told → SendsLines status (bytes_of verdicts) (bench.sent old.bench) (bench.sent new.bench))
   pub simulating : files.told → bench.told → IsQuiet bench old.bench → (columns : List Column) (index : IndexView) →
       ArePublicFilesOf (files.left old.schema) (files.left old.table) columns index →
       LeavesOnly bench old.bench new.bench
@@ -165,6 +170,30 @@ pub record Growing {P I B : Type 0} (files : source.Ghosts P) (lines : source.Gh
       GrowsOver (files.left old.schema) (files.left old.table) (bench.file old.bench) base rows history →
       NothingFailed (faults_of files lines bench old) (faults_of files lines bench new) → IsDoneOrWants status
 
+-- a run of `explain`
+pub record Explaining {P I B : Type 0} (files : source.Ghosts P) (lines : source.Ghosts I) (bench : Ghosts B) (status : Status)
+    (old new : Objects P I B) : Type 0 where
+  -- over the files of a table and a journal that stands for a legal history of it: which lines of the input were explained, each
+  -- after this history, and that what is due to them was sent, or a front of it, at the end and at every moment
+  pub explained : files.told → lines.told → bench.told → (base : Database) (history : List Answered) →
+      ServesOver (files.left old.schema) (files.left old.table) (bench.file old.bench) base history →
+      (asked : List CountedLine) × (certificates : List (List ℕ)) × ExplainEnds status (lines.left old.input) (lines.left new.input) asked ×
+      AreExplained base.columns (public_part base) history asked certificates ×
+      SendsLines status (concat certificates) (bench.sent old.bench) (bench.sent new.bench)
+  pub explaining : files.told → bench.told → IsQuiet bench old.bench → (base : Database) (history : List Answered) →
+      ServesOver (files.left old.schema) (files.left old.table) (bench.file old.bench) base history →
+      LeavesOnly bench old.bench new.bench
+      (ExplainsMeanwhile lines.told base.columns (public_part base) history (lines.left old.input) (bench.file old.bench) (bench.sent old.bench))
+  -- the file stays, over whatever files
+  pub undisturbed : bench.told → IsQuiet bench old.bench → LeavesOnly bench old.bench new.bench (LeavesFile (bench.file old.bench))
+  -- it took two calls of the bench to open the journal, and one for each line
+  pub explain_calls : lines.told → bench.told → status ≡ Done →
+      bench.moment new.bench ≡ bench.moment old.bench + 2 + length (counted_lines (lines.left old.input))
+  -- if nothing is wrong and nothing fails, it is done
+  pub explains : files.told → lines.told → bench.told → (base : Database) (history : List Answered) →
+      ServesOver (files.left old.schema) (files.left old.table) (bench.file old.bench) base history →
+      length (lines.left old.input) ≤ most_input → NothingFailed (faults_of files lines bench old) (faults_of files lines bench new) → IsDoneOrWants status
+
 -- a run of `compact`
 pub record Compacting {P I B : Type 0} (files : source.Ghosts P) (lines : source.Ghosts I) (bench : Ghosts B) (status : Status) (old new : Objects P I B) : Type 0 where
   -- over the files of a table and a journal that stands for a legal history of it: the line on what is kept was sent, or a front of
@@ -206,3 +235,14 @@ pub record Compacting {P I B : Type 0} (files : source.Ghosts P) (lines : source
       ServesOver (files.left old.schema) (files.left old.table) (bench.file old.bench) base history →
       NothingFailed (faults_of files lines bench old) (faults_of files lines bench new) →
       (Rose (bench.faults old.spare) (bench.faults new.spare) → ⊥) → IsDoneOrWants status
+
+-- what a run of a command does
+abbrev pub Does : {P I B : Type 0} → source.Ghosts P → source.Ghosts I → Ghosts B → Command → Status → Objects P I B → Objects P I B → Type 0
+Does files lines bench Init status old new = Making files lines bench status old new
+Does files lines bench (Serve batch) status old new = Serving files lines bench batch status old new
+Does files lines bench Audit status old new = Auditing files lines bench status old new
+Does files lines bench Simulate status old new = Simulating files lines bench status old new
+Does files lines bench (Drill number) status old new = Drilling files lines bench number status old new
+Does files lines bench Grow status old new = Growing files lines bench status old new
+Does files lines bench Explain status old new = Explaining files lines bench status old new
+Does files lines bench Compact status old new = Compacting files lines bench status old new

@@ -1,5 +1,5 @@
 -- What is shown of a table beside the replies, and that it tells nothing more than they do: a report follows from the schema, the number of
--- rows and the history, so do the counts of a compaction, and a verdict from the public part and its transcript.
+-- rows and the history, so do the counts of a compaction; a certificate from these and the public part, and a verdict from that and its transcript.
 --
 -- The other commands show nothing of a table: `init` and `grow` send no byte (`unsent` of their records in Runs.antt), and `drill` reads
 -- no file (`no_files` of `run`).
@@ -8,31 +8,30 @@ use Rattle.audit_types.specs.declared.records.Answered.{Answered}
 use Rattle.audit_types.specs.Shapes.{columns}
 use Rattle.audit_types.specs.Column.{IsGuarded}
 use Rattle.audit_types.specs.History.{IsLegal, known_of}
-use Rattle.set_index.specs.Indexed.{IndexView}
 use Rattle.table_load.specs.Database.{Database, AreTwins, table_in}
 use Rattle.line_wire.specs.Lines.{CountedLine}
 use Rattle.question_plan.specs.Session.{Replied}
 use Rattle.audit_session.specs.Lives.{Standing, Run, IsLife, KeepsPromise, in_force}
 use Rattle.audit_session.specs.Hidden.{HasTwinLife, with_secrets, run_with, standing_with}
 use Rattle.journal_audit.specs.Reports.{SendsMeanwhile, subjects}
+use Rattle.certificate_lines.specs.Explained.{AreExplained}
 use Rattle.transcript_sim.specs.Verdicts.{AreVerdicts}
 use Rattle.auditor_top.specs.declared.status.Status.{Status}
 use Rattle.auditor_top.specs.declared.status.Status.TheVariants.{Done}
 use Rattle.auditor_top.specs.Commands.{AreSoundFilesOf, ArePublicFilesOf}
 use Rattle.auditor_top.specs.Compactions.{CompactEnds, SendsCounts}
-use Rattle.auditor_top.specs.Ends.{AuditEnds, audit_over}
-
--- what `simulate` reads of a table: its public columns, and the entries of the protected groups
-abbrev pub public_part : Database → IndexView
-public_part base = record { public = base.public; protected = base.protected }
+use Rattle.auditor_top.specs.Ends.{AuditEnds, audit_over, public_part}
 
 -- after one history the same is shown of both tables: `audit` and `compact` may send of the one what they may send of the other, and nothing
--- else, by each status and at every moment; and `simulate` takes the same files, and has the same verdicts on every transcript
+-- else, by each status and at every moment; `explain` has the same line for every line that is asked; and `simulate` takes the same files, and
+-- has the same verdicts on every transcript
 pub record AreShownAlike (base other : Database) (history : List Answered) : Type 0 where
   pub report : (status : Status) (before after : List ℕ) → AuditEnds status base history before after ↔ AuditEnds status other history before after
   pub meanwhile : (file before image sent : List ℕ) →
       SendsMeanwhile (audit_over base history) (subjects base.secret.shape) file before image sent
       ↔ SendsMeanwhile (audit_over other history) (subjects other.secret.shape) file before image sent
+  pub certificates : (asked : List CountedLine) (lines : List (List ℕ)) →
+      AreExplained base.columns (public_part base) history asked lines ↔ AreExplained other.columns (public_part other) history asked lines
   pub compacted : (status : Status) (spare before after : List ℕ) →
       CompactEnds status base.secret.shape history spare before after ↔ CompactEnds status other.secret.shape history spare before after
   pub compacting : (file before image sent : List ℕ) →

@@ -15,9 +15,11 @@ use Rattle.set_index.specs.declared.index.IndexFault.TheVariants as index
 use Rattle.table_load.specs.Faults as table
 use Rattle.table_load.specs.declared.faults.TableFault.{TableFault}
 use Rattle.table_load.specs.declared.faults.TableFault.TheVariants as fault
+use Rattle.certificate_lines.specs.declared.explaining.ExplainFault.{ExplainFault}
+use Rattle.certificate_lines.specs.declared.explaining.ExplainFault.TheVariants as explain
 use Rattle.journal_audit.specs.declared.faults.AuditFault.{AuditFault}
 use Rattle.journal_audit.specs.declared.faults.AuditFault.TheVariants as report
-use Rattle.transcript_sim.specs.Verdicts.{word_of}
+use Rattle.question_plan.specs.Dues.{word_of}
 use Rattle.transcript_sim.specs.declared.simulating.SimulationFault.{SimulationFault}
 use Rattle.transcript_sim.specs.declared.simulating.SimulationFault.TheVariants as verdict
 use Rattle.auditor_top.specs.declared.compacting.CompactFault.{CompactFault}
@@ -76,7 +78,7 @@ place_text fault.NoMemory = codes ""
 -- the words of a status that tells no number, none if it is done or tells one
 abbrev pub words_of : Status → List ℕ
 words_of Done = codes ""
-words_of BadWords = codes "usage: auditor init, serve [--batch N], audit, simulate, drill N, grow, compact"
+words_of BadWords = codes "usage: auditor init, serve [--batch N], audit, simulate, drill N, grow, explain, compact"
 words_of (BadSchema fault) = codes ""
 words_of (BadTable fault) = codes ""
 words_of (SourceFault Schema) = codes "cannot read schema"
@@ -164,6 +166,17 @@ end_status end.Input = SourceFault Input
 end_status end.Bench = BenchFault
 end_status end.Limit = InputLimit
 end_status end.NoMemory = NoMemory
+
+-- explaining lines ends as answering them does
+abbrev pub explain_end : ExplainFault → EndFault
+explain_end explain.Input = end.Input
+explain_end explain.Bench = end.Bench
+explain_end explain.Limit = end.Limit
+explain_end explain.NoMemory = end.NoMemory
+
+abbrev pub as_session : {X : Type 0} → Result X ExplainFault → Result X EndFault
+as_session (Ok done) = Ok done
+as_session (Err fault) = Err (explain_end fault)
 
 -- of sending a report
 abbrev pub report_status : AuditFault → Status

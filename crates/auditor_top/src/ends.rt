@@ -1,12 +1,13 @@
 //! The status of the last step of a command, by how it ended.
 ghost use Rattle.std.specs.Prelude.{◌≡◌};
-ghost use Rattle.auditor_top.specs.Status.{making_status, session_status, audit_status, simulation_status, growing_status, compacting_status};
+ghost use Rattle.auditor_top.specs.Status.{making_status, session_status, audit_status, simulation_status, growing_status, compacting_status, as_session};
 
 use crate::compacting::CompactFault;
 use crate::status::Status;
 use answer_journal::MakeFault;
 use audit_session::EndFault;
 use audit_store::GrowFault;
+use certificate_lines::ExplainFault;
 use journal_audit::AuditFault;
 use transcript_sim::SimulationFault;
 
@@ -55,6 +56,16 @@ pub fn grown(growth: Result<(), GrowFault>) -> Status
     ensures { result ≡ growing_status growth }
 {
     match growth {
+        Ok(()) => Status::Done,
+        Err(fault) => Status::from(fault),
+    }
+}
+
+/// The status of an explanation that ended so.
+pub fn explained(explanation: Result<(), ExplainFault>) -> Status
+    ensures { result ≡ session_status (as_session explanation) }
+{
+    match explanation {
         Ok(()) => Status::Done,
         Err(fault) => Status::from(fault),
     }

@@ -9,7 +9,7 @@ ghost use Rattle.table_load.specs.Database.{Database, table_in};
 ghost use Rattle.audit_session.specs.Stops.{StopsOver, IsBatch};
 ghost use Rattle.auditor_top.specs.Commands.{AreSoundFilesOf};
 ghost use Rattle.auditor_top.specs.Compactions.{DecideAlike, IsUnmadeOrKept};
-ghost use Rattle.auditor_top.specs.declared.words.Command.TheVariants.{Init, Serve, Audit, Simulate, Drill, Grow, Compact};
+ghost use Rattle.auditor_top.specs.declared.words.Command.TheVariants.{Init, Serve, Audit, Simulate, Drill, Grow, Explain, Compact};
 ghost use Rattle.auditor_top.specs.Words.{command_of, number_of};
 ghost use Rattle.auditor_top.specs.Promise.{LivesKeepPromise, LivesGoOn, LivesGrow, GrowthsAreTaken, MadeIsTaken, StopsAreTaken, RunsMakeLives};
 ghost use Rattle.auditor_top.specs.Shown.{TwinsAreShownAlike, TwinsHaveOneReport, LivesTellNothingMore};
@@ -102,6 +102,7 @@ pub fn plain_words()
     ensures audit { command_of (codes "audit" ∷ []) ≡ Some Audit }
     ensures simulate { command_of (codes "simulate" ∷ []) ≡ Some Simulate }
     ensures grow { command_of (codes "grow" ∷ []) ≡ Some Grow }
+    ensures explain { command_of (codes "explain" ∷ []) ≡ Some Explain }
     ensures compact { command_of (codes "compact" ∷ []) ≡ Some Compact }
     ensures batch { (word : List ℕ) (batch : ℕ) → number_of word ≡ Some batch → IsBatch batch
         → command_of (codes "serve" ∷ codes "--batch" ∷ word ∷ []) ≡ Some (Serve batch) }

@@ -46,6 +46,11 @@ pub enum Ready {
         secret: Secret,
         protected: Vec<Protected>,
     },
+    Explain {
+        schema: Schema,
+        index: Index,
+        store: Store,
+    },
     Compact {
         store: Store,
     },
@@ -144,6 +149,20 @@ pub fn open<P: Source, B: Bench>(
         },
         Command::Audit => match open_store(alloc, command, schema, table, bench) {
             Ok(Started { schema, store, .. }) => Ok(Ready::Audit { schema, store }),
+            Err(status) => Err(status),
+        },
+        Command::Explain => match open_store(alloc, command, schema, table, bench) {
+            Ok(
+                Started {
+                    schema,
+                    index,
+                    store,
+                },
+            ) => Ok(Ready::Explain {
+                schema,
+                index,
+                store,
+            }),
             Err(status) => Err(status),
         },
         Command::Compact => match open_store(alloc, command, schema, table, bench) {

@@ -12,17 +12,17 @@ ghost use Rattle.table_load.specs.Tables.{table_of, public_of};
 ghost use Rattle.journal_form.specs.Journal.{StandsFor};
 ghost use Rattle.audit_session.specs.Lives.{Standing, Run, IsLife, in_force};
 ghost use Rattle.auditor_top.specs.declared.words.Command.{Command};
-ghost use Rattle.auditor_top.specs.declared.words.Command.TheVariants.{Init, Serve, Audit, Simulate, Drill, Grow, Compact};
+ghost use Rattle.auditor_top.specs.declared.words.Command.TheVariants.{Simulate};
 ghost use Rattle.auditor_top.specs.Words.{command_of, NamesCommand};
 ghost use Rattle.auditor_top.specs.Commands.{AreFilesOf, AreSoundFilesOf, GoesOnOver, deed_of, opens_journal, reads_files, reads_groups, reads_secrets, reads_lines, writes, calls_spare};
 ghost use Rattle.auditor_top.specs.Causes.{FaultCause, WordCause, SchemaCause, TableCause, GroupCause, FileCause, SpareCause, InputCause, IsReadyFor, NeverFall, counts};
 ghost use Rattle.auditor_top.specs.Promise.{GoesOn};
-ghost use Rattle.auditor_top.specs.Runs.{objects, Making, Serving, Auditing, Simulating, Drilling, Growing, Compacting};
+ghost use Rattle.auditor_top.specs.Runs.{objects, Does};
 ghost use Rattle.auditor_top.specs.Stages.{Before, reading_table, opening_journal, writing_spare, reading_lines};
 
 use crate::compacting::compact;
 use crate::drilling::drill;
-use crate::ends::{answered, compacted, grown, judged, made, reported};
+use crate::ends::{answered, compacted, explained, grown, judged, made, reported};
 use crate::laws::{compactions, lives, stops_are_legal};
 use crate::ready::{Ready, open};
 use crate::status::{Status, Which};
@@ -92,19 +92,7 @@ pub fn run<P: Source, I: Source, B: Bench>(
 
     // What a run of each command does, by its status: the arguments, how it ends, what is found at every moment, its calls of the
     // bench, and that it is done if nothing is wrong and nothing fails.
-    ensures init { NamesCommand words.now.items Init → Making P.Source I.Source B.Bench result
-        (objects schema.old table.old input.old bench.old spare.old) (objects schema.new table.new input.new bench.new spare.new) }
-    ensures serve { (batch : ℕ) → NamesCommand words.now.items (Serve batch) → Serving P.Source I.Source B.Bench batch result
-        (objects schema.old table.old input.old bench.old spare.old) (objects schema.new table.new input.new bench.new spare.new) }
-    ensures audit { NamesCommand words.now.items Audit → Auditing P.Source I.Source B.Bench result
-        (objects schema.old table.old input.old bench.old spare.old) (objects schema.new table.new input.new bench.new spare.new) }
-    ensures simulate { NamesCommand words.now.items Simulate → Simulating P.Source I.Source B.Bench result
-        (objects schema.old table.old input.old bench.old spare.old) (objects schema.new table.new input.new bench.new spare.new) }
-    ensures grow { NamesCommand words.now.items Grow → Growing P.Source I.Source B.Bench result
-        (objects schema.old table.old input.old bench.old spare.old) (objects schema.new table.new input.new bench.new spare.new) }
-    ensures compact { NamesCommand words.now.items Compact → Compacting P.Source I.Source B.Bench result
-        (objects schema.old table.old input.old bench.old spare.old) (objects schema.new table.new input.new bench.new spare.new) }
-    ensures drill { (number : ℕ) → NamesCommand words.now.items (Drill number) → Drilling P.Source I.Source B.Bench number result
+    ensures does { (command : Command) → NamesCommand words.now.items command → Does P.Source I.Source B.Bench command result
         (objects schema.old table.old input.old bench.old spare.old) (objects schema.new table.new input.new bench.new spare.new) }
 
     // Over any other file nothing began of a command that opens the journal.
@@ -162,6 +150,13 @@ pub fn run<P: Source, I: Source, B: Bench>(
         Ok(Ready::Grow { secret, protected }) => {
             grown(Store::grow(alloc, secret, protected, bench))
         }
+        Ok(
+            Ready::Explain {
+                schema,
+                index,
+                store,
+            },
+        ) => explained(certificate_lines::explain(alloc, &schema, &index, &store, input, bench)),
         Ok(Ready::Compact { store }) => compacted(compact(alloc, &store, bench, spare)),
     }
 }

@@ -10,13 +10,15 @@ use answer_journal::MakeFault;
 use audit_session::EndFault;
 use audit_store::{GrowFault, StartFault};
 use audit_types::{NoMemory, Shape};
+use certificate_lines::ExplainFault;
 use journal_audit::AuditFault;
+use question_plan::Due;
 use schema_json::SchemaFault;
 use set_index::IndexFault;
 use std::alloc::Global;
 use std::fmt;
 use table_load::TableFault;
-use transcript_sim::{Due, SimulationFault};
+use transcript_sim::SimulationFault;
 
 /// The sources that a run reads.
 #[derive(Clone, Copy, PartialEq, Eq)]
@@ -215,6 +217,22 @@ impl From<CompactFault> for Status {
     }
 }
 
+impl From<ExplainFault> for Status {
+    ghost use Rattle.std.specs.Prelude.{◌≡◌};
+    ghost use Rattle.auditor_top.specs.Status.{end_status, explain_end};
+
+    ghost from_gives = { λ fault status. status ≡ end_status (explain_end fault) };
+
+    fn from(fault: ExplainFault) -> Status {
+        match fault {
+            ExplainFault::Input => Status::SourceFault(Which::Input),
+            ExplainFault::Bench => Status::BenchFault,
+            ExplainFault::Limit => Status::InputLimit,
+            ExplainFault::NoMemory => Status::NoMemory,
+        }
+    }
+}
+
 impl From<SimulationFault> for Status {
     ghost use Rattle.std.specs.Prelude.{◌≡◌};
     ghost use Rattle.auditor_top.specs.Status.{verdict_status};
@@ -265,7 +283,7 @@ fn words_of(status: &Status) -> &'static str
 {
     match status {
         Status::BadWords => {
-            "usage: auditor init, serve [--batch N], audit, simulate, drill N, grow, compact"
+            "usage: auditor init, serve [--batch N], audit, simulate, drill N, grow, explain, compact"
         }
         Status::SourceFault(Which::Schema) => "cannot read schema",
         Status::SourceFault(Which::Table) => "cannot read table",

@@ -1,4 +1,4 @@
-pub mod Commas
+pub mod MovedRows
 pub mod Sending
 pub mod LinesOn
 pub mod SecretNames

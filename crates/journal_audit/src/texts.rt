@@ -1,65 +1,21 @@
 //! Writing the lines of a report.
-ghost use Rattle.std.specs.Prelude.{◌≡◌, ◌++◌, map, codes, OnOk};
-ghost use Rattle.std.specs.Fmt.{signed_decimal};
+ghost use Rattle.std.specs.Prelude.{◌≡◌, ◌++◌, codes, OnOk};
+ghost use Rattle.line_wire.specs.CommaLists.{with_commas};
 ghost use Rattle.journal_audit.specs.Texts as spec;
 
-use itoa::{Buffer, Integer};
+use line_wire::{put_at_place, put_number, put_numbers};
 use std::alloc::AllocError;
-
-// Appends words, and a number in decimal.
-fn put_number<I: Integer>(line: &mut Vec<u8>, words: &[u8], number: I) -> Result<(), AllocError>
-    ensures { OnOk result (line.new.items ≡ line.old.items ++ words.now ++ I.text number) }
-{
-    let mut buffer = Buffer::new();
-    line.extend_from_slice(words)?;
-    line.extend_from_slice(buffer.format(number).as_bytes())
-}
-
-// A comma, unless it would be the first of a list.
-fn comma_unless(first: bool) -> &'static [u8]
-    ensures { result.now ≡ spec.comma_unless first }
-{
-    if first { b"" } else { b"," }
-}
-
-// What stands before a row: a bracket, after a comma unless the row would be the first of a list.
-fn row_start(first: bool) -> &'static [u8]
-    ensures { result.now ≡ spec.comma_unless first ++ codes "[" }
-{
-    if first { b"[" } else { b",[" }
-}
-
-// Appends a number after its row, the first of a list or a later one.
-fn put_at_row(line: &mut Vec<u8>, first: bool, row: usize, number: i128) -> Result<(), AllocError>
-    ensures { OnOk result (line.new.items ≡ line.old.items ++ spec.comma_unless first ++ spec.at_row row number) }
-{
-    put_number(line, row_start(first), row)?;
-    put_number(line, b",", number)?;
-    line.extend_from_slice(b"]")
-}
 
 // Appends the numbers that aren't 0, each after its row.
 fn put_moved_rows(line: &mut Vec<u8>, direction: &[i128]) -> Result<(), AllocError>
-    ensures { OnOk result (line.new.items ≡ line.old.items ++ spec.with_commas (spec.moved_rows 0 direction.now)) }
+    ensures { OnOk result (line.new.items ≡ line.old.items ++ with_commas (spec.moved_rows 0 direction.now)) }
 {
     let mut first = true;
     for (row, number) in direction.iter().enumerate() {
         if *number != 0 {
-            put_at_row(line, first, row, *number)?;
+            put_at_place(line, first, row, *number)?;
             first = false;
         }
-    }
-    Ok(())
-}
-
-// Appends the numbers.
-fn put_numbers(line: &mut Vec<u8>, numbers: &[i128]) -> Result<(), AllocError>
-    ensures { OnOk result (line.new.items ≡ line.old.items ++ spec.with_commas (map signed_decimal numbers.now)) }
-{
-    let mut first = true;
-    for number in numbers {
-        put_number(line, comma_unless(first), *number)?;
-        first = false;
     }
     Ok(())
 }

@@ -20,3 +20,6 @@ pub mod NoOtherForm
 pub mod ReplyParts
 pub mod Commas
 pub mod Averages
+-- ---- lists: numbers with commas between them
+
+pub mod NumbersSoFar

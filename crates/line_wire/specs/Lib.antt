@@ -9,6 +9,7 @@ pub mod Kept
 pub mod Requests
 pub mod Answers
 pub mod Texts
+pub mod CommaLists
 pub mod ReadLines
 pub mod Calls
 pub mod LineLaws

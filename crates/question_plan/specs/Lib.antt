@@ -4,3 +4,4 @@ pub mod Plans
 pub mod Planned
 pub mod Laws
 pub mod InTurn
+pub mod Dues

@@ -106,6 +106,18 @@ fn weight(times: u128, most: u128) -> u128
     times * most
 }
 
+// The greatest bound of a row for which it is sure that none of its entries, cleared by a row with this pivot entry and this
+// bound, is above the limit.
+fn sure_bound(by: i128, most: u128) -> u128
+    requires by { (pos 0 <ℤ by) × (unsigned_abs by ≤ 2 ^ 56) }
+    ensures { result * (unsigned_abs by + most) ≤ 2 ^ 56 }
+{
+    if most > LIMIT {
+        return 0;
+    }
+    LIMIT / (by.unsigned_abs() + most)
+}
+
 // Whether the bounds show that no entry of the combination is above the limit.
 fn is_surely_small(by: i128, most: u128, times: u128, new_most: u128) -> bool
     requires by { unsigned_abs by ≤ 2 ^ 56 }
@@ -154,6 +166,7 @@ fn look_at(
     columns: u16,
     new: &[FreeEntry],
     most: u128,
+    sure: u128,
     room: &mut Vec<FreeEntry>,
 ) -> Option<bool>
     requires room { columns ≤ vec_capacity room.old }
@@ -162,12 +175,12 @@ fn look_at(
     requires small { IsSmall (row_of columns (entries_of row.now)) }
     requires new { IsNew columns new.now }
     requires most { AllByRecursion (λ e. unsigned_abs e.value ≤ most) new.now }
+    requires sure { sure * (unsigned_abs (slice_index_or new.now 0 (record { place = 0; value = pos 0 })).value + most) ≤ 2 ^ 56 }
     requires zero { entry_at new.now row.now.pivot ≡ pos 0 }
     ensures cleared { (made : List ℤ) × IsCleared columns (row_of columns new.now) (row_of columns (entries_of row.now)) made × MatchOption result (¬ (IsSmall made)) (λ lone. IsSmall made × (IsTrue lone ↔ IsLone made)) }
     ensures room { columns ≤ vec_capacity room.new }
 {
-    let other_length = row.free.len() != new.len();
-    if other_length && is_surely_small(new[0].value, row.most, row.most, most) {
+    if row.free.len() != new.len() && row.most <= sure {
         return Some(row.free.is_empty());
     }
     look_closely(row, columns, new, most, room)
@@ -195,9 +208,10 @@ fn look_by_bounds(
         return Prospect::Fixing;
     }
     let most = bound_of(new[0].value, new);
+    let sure = sure_bound(new[0].value, most);
     let mut fixing = false;
     for row in rows {
-        let Some(lone) = look_at(row, columns, new, most, room) else {
+        let Some(lone) = look_at(row, columns, new, most, sure, room) else {
             return Prospect::Wide;
         };
         fixing = either(fixing, lone);

@@ -18,7 +18,8 @@ use Rattle.question_plan.specs.Laws.{OnePlanIsMade, OneJudgementIsMade, OneAnswe
 use Rattle.question_plan.specs.InTurn.{MakesOneDue, same_replies}
 use Rattle.transcript_sim.specs.declared.expecting.Expected.{Expected}
 use Rattle.transcript_sim.specs.declared.expecting.Expected.TheVariants.{Only, Answer}
-use Rattle.transcript_sim.specs.Verdicts.{called_by, CallsFor, Expects, AgreesWith, due_of, verdict_bytes, exchanges, IsTaken, IsVerdict, AreVerdicts}
+use Rattle.question_plan.specs.Dues.{verdict_bytes}
+use Rattle.transcript_sim.specs.Verdicts.{called_by, CallsFor, Expects, AgreesWith, due_of, exchanges, IsTaken, IsVerdict, AreVerdicts}
 
 -- a line is at most one reply
 abbrev pub LineIsOneReply : Type 0

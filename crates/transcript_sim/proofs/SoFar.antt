@@ -22,7 +22,8 @@ use Rattle.question_plan.specs.InTurn.{length-replies, replies-append}
 use Rattle.transcript_sim.specs.declared.expecting.Expected.{Expected}
 use Rattle.transcript_sim.specs.declared.simulating.SimulationFault.{SimulationFault}
 use Rattle.transcript_sim.specs.declared.simulating.SimulationFault.TheVariants as fault
-use Rattle.transcript_sim.specs.Verdicts.{Expects, due_of, verdict_bytes, Exchange, exchanges, IsVerdict, AreVerdicts}
+use Rattle.question_plan.specs.Dues.{verdict_bytes}
+use Rattle.transcript_sim.specs.Verdicts.{Expects, due_of, Exchange, exchanges, IsVerdict, AreVerdicts}
 use Rattle.line_wire.specs.Calls.{Cuts, GivesLine, GivesNone}
 use Rattle.transcript_sim.specs.Steps.{IsCutShort}
 use Rattle.transcript_sim.specs.Ends.{BeginVerdicts, EndVerdicts, EndSends, EndReads, SimulatesMeanwhile, Simulates}

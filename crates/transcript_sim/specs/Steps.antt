@@ -18,14 +18,15 @@ use Rattle.line_wire.specs.declared.lines.LineStop.{LineStop}
 use Rattle.line_wire.specs.declared.lines.LineStop.TheVariants as stop
 use Rattle.question_plan.specs.declared.planner.PlanStop.{PlanStop}
 use Rattle.question_plan.specs.declared.planner.PlanStop.TheVariants as plan
-use Rattle.transcript_sim.specs.declared.due.Due.{Due}
+use Rattle.question_plan.specs.declared.due.Due.{Due}
+use Rattle.question_plan.specs.Dues.{verdict_bytes}
 use Rattle.transcript_sim.specs.declared.expecting.Expected.{Expected}
 use Rattle.transcript_sim.specs.declared.expecting.Expected.TheVariants.{Only, Answer}
 use Rattle.transcript_sim.specs.declared.shown.Shown.{Shown}
 use Rattle.transcript_sim.specs.declared.shown.Shown.TheVariants.{Agrees, Disagrees}
 use Rattle.transcript_sim.specs.declared.simulating.SimulationFault.{SimulationFault}
 use Rattle.transcript_sim.specs.declared.simulating.SimulationFault.TheVariants as fault
-use Rattle.transcript_sim.specs.Verdicts.{Expects, AgreesWith, due_of, verdict_bytes}
+use Rattle.transcript_sim.specs.Verdicts.{Expects, AgreesWith, due_of}
 
 -- ---- what was called for
 

@@ -3,13 +3,12 @@ ghost use Rattle.std.specs.Prelude.{◌≡◌, ◌≤◌, ◌↔◌, IfOk, lengt
 ghost use Rattle.audit_types.specs.Limits.{most_records};
 ghost use Rattle.question_plan.specs.Plans.{CanBeServed};
 ghost use Rattle.transcript_sim.specs.Steps.{CanBeTaken};
-ghost use Rattle.transcript_sim.specs.Verdicts.{CallsFor, called_by, due_of, due_of_reply};
+ghost use Rattle.transcript_sim.specs.Verdicts.{CallsFor, called_by, due_of};
 
-use crate::due::Due;
 use audit_core::Core;
 use audit_types::{Asked, MOST_RECORDS, NoMemory, Verdict};
 use line_wire::{Reply, Take};
-use question_plan::Plan;
+use question_plan::{Due, Plan, due_of_reply};
 
 /// What the reply to a question has to be.
 #[derive(Clone, Copy)]
@@ -18,18 +17,6 @@ pub(crate) enum Expected {
     Only(Reply),
     /// An answer, told as what is taken of the column.
     Answer { take: Take, asked: Asked },
-}
-
-// The verdict that a reply gives if it isn't an answer.
-fn due_of_reply(reply: &Reply) -> Due
-    ensures { result ≡ due_of_reply reply.now }
-{
-    match reply {
-        Reply::Count(_) => Due::Counted,
-        Reply::Unsafe => Due::Unsafe,
-        Reply::Wide => Due::Wide,
-        _ => Due::Refused,
-    }
 }
 
 impl Expected {

@@ -7,7 +7,6 @@ ghost use Rattle.table_load.specs.Cells.{FitsSchema};
 ghost use Rattle.line_wire.specs.Calls.{Cuts};
 ghost use Rattle.transcript_sim.specs.Steps.{AsksNext, CanBeTaken, CanFollow, FailsSending, IsCutShort, IsUnjudged, SendsFor, SendsVerdict, ShowsNext, goes_on, records_shown};
 
-use crate::due::{Due, verdict_line};
 use crate::expecting::Expected;
 use crate::questions::next_shown;
 use crate::shown::Shown;
@@ -15,7 +14,7 @@ use crate::simulating::SimulationFault;
 use audit_core::Core;
 use audit_types::{NoMemory, Protected, Shape};
 use bench_core::{Bench, Failed, Source};
-use question_plan::Planner;
+use question_plan::{Due, Planner, verdict_line};
 use schema_json::Schema;
 use set_index::Index;
 use std::alloc::Global;

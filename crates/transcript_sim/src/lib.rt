@@ -6,7 +6,6 @@
 //! list of it.
 #![tactic(auto)]
 
-mod due;
 mod expecting;
 mod judging;
 pub mod laws;
@@ -14,5 +13,4 @@ mod questions;
 mod shown;
 mod simulating;
 
-pub use due::Due;
 pub use simulating::{SimulationFault, simulate};

@@ -13,14 +13,13 @@ ghost use Rattle.transcript_sim.specs.Steps.{plan_fault, stop_fault};
 ghost use Rattle.transcript_sim.specs.Ends.{EndReads, EndSends, EndVerdicts, Simulates, SimulatesMeanwhile};
 ghost use Rattle.transcript_sim.specs.declared.simulating.SimulationFault.TheVariants as fault;
 
-use crate::due::Due;
 use crate::judging::{Simulation, goes_on};
 use crate::laws::one_verdict;
 use audit_types::NoMemory;
 use bench_core::{Bench, Failed, Source};
 use line_wire::LineStop;
 use line_wire::laws::lines_in_turn;
-use question_plan::PlanStop;
+use question_plan::{Due, PlanStop};
 use schema_json::Schema;
 use set_index::Index;
 use std::alloc::Global;

@@ -50,6 +50,9 @@ fn solution(entry: i128, pivot_entry: i128, common: i128) -> i128
     ensures exact { result *ℤ pivot_entry ≡ neg_ℤ (entry *ℤ common) }
     ensures small { unsigned_abs result ≤ 2 ^ 112 }
 {
+    if entry == 0 {
+        return 0;
+    }
     let times = (common.unsigned_abs() / pivot_entry.unsigned_abs()) as i128;
     -(entry * times)
 }

@@ -1,2 +1,3 @@
 pub mod GreatestSoFar
 pub mod SumsSoFar
+pub mod MovedRows

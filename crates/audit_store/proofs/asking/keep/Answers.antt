@@ -6,7 +6,7 @@ use Rattle.journal_form.specs.Journal.{StandsAt}
 use Rattle.answer_journal.specs.Append.{AppendsGroup}
 use Rattle.answer_journal.specs.Moments.{IsBeforeOrAfter}
 use Rattle.audit_store.proofs.StoreFaults.{memory_no_call, is_failed, failed_no_memory}
-use Rattle.audit_store.proofs.Stores.{nothing_appended, no_record, some_record, has_group, four_calls}
+use Rattle.audit_store.specs.StoreLaws.{nothing_appended, no_record, some_record, has_group, four_calls}
 use Rattle.audit_store.specs.Stores.{HasGroup, calls_for}
 use Rattle.audit_store.specs.Refusals.{no_refusal}
 use Rattle.audit_store.proofs.asking.keep.Goals as goal

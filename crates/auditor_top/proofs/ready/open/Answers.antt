@@ -268,6 +268,45 @@ returns-in-Ok-open_store-2 g c =
       unopened = λ none. no_step opens_store c.in-Audit.is refl none;
     }
 
+-- ---- `explain`
+
+pub returns-in-Explain : goal.returns-in-Explain
+returns-in-Explain g c =
+    let e = c.open_store-in-Explain.ensures in
+    record {
+      asked = tt;
+      ready = tt;
+      over = λ ptold. tt;
+      steady = tt;
+      ticks = λ told opens. tt;
+      refusal = c.in-Err-open_store-3.ensures.refusal;
+      taken = λ none. no_step reads_files c.in-Explain.is refl none;
+      reads = e.reads;
+      later = e.later;
+      unread = λ none. no_step reads_files c.in-Explain.is refl none;
+      unopened = λ none. no_step opens_store c.in-Explain.is refl none;
+    }
+
+pub returns-in-Ok-open_store-3 : goal.returns-in-Ok-open_store-3
+returns-in-Ok-open_store-3 g c =
+    let s = c.in-Ok-open_store-3.field-0 in
+    let a = c.in-Ok-open_store-3.ensures in
+    record {
+      asked = sym c.in-Explain.is;
+      ready = (a.opened, a.fits, a.shape, a.entries);
+      over = λ ptold.
+          subst (λ (l : List Protected). AreSoundFilesOf (g.P.Source.left c.args.schema.now) (g.P.Source.left c.args.table.now)
+          (base_of s.schema.columns s.index.public l s.store.secret)) (sym a.entries) (a.over ptold);
+      steady = a.steady;
+      ticks = λ told opens. a.ticks told;
+      refusal = tt;
+      taken = λ none. refl;
+      reads = c.open_store-in-Explain.ensures.reads;
+      later = c.open_store-in-Explain.ensures.later;
+      unread = λ none. no_step reads_files c.in-Explain.is refl none;
+      unopened = λ none. no_step opens_store c.in-Explain.is refl none;
+    }
+
 -- ---- `compact`
 
 pub returns-in-Compact : goal.returns-in-Compact
@@ -279,7 +318,7 @@ returns-in-Compact g c =
       over = λ ptold. tt;
       steady = tt;
       ticks = λ told opens. tt;
-      refusal = c.in-Err-open_store-3.ensures.refusal;
+      refusal = c.in-Err-open_store-4.ensures.refusal;
       taken = λ none. no_step reads_files c.in-Compact.is refl none;
       reads = e.reads;
       later = e.later;
@@ -287,10 +326,10 @@ returns-in-Compact g c =
       unopened = λ none. no_step opens_store c.in-Compact.is refl none;
     }
 
-pub returns-in-Ok-open_store-3 : goal.returns-in-Ok-open_store-3
-returns-in-Ok-open_store-3 g c =
-    let s = c.in-Ok-open_store-3.field-0 in
-    let a = c.in-Ok-open_store-3.ensures in
+pub returns-in-Ok-open_store-4 : goal.returns-in-Ok-open_store-4
+returns-in-Ok-open_store-4 g c =
+    let s = c.in-Ok-open_store-4.field-0 in
+    let a = c.in-Ok-open_store-4.ensures in
     record {
       asked = sym c.in-Compact.is;
       ready = a.opened;

@@ -4,6 +4,7 @@ mod Audit
 mod Simulate
 mod Drill
 mod Grow
+mod Explain
 mod Compact
 use Rattle.std.proofs.Common.{◌≡◌, ◌≤◌, ◌+◌, ℕ, true, false, List, [], length, Option, Some, Result, Ok, Err, IsErr, IsErrOf, OnOk, OnErr, refl, sym, ◌∙◌, ap, subst, inr, map, string_bytes}
 use Rattle.audit_types.specs.declared.records.Answered.{Answered}
@@ -38,7 +39,7 @@ use Rattle.auditor_top.specs.Words.{command_of}
 use Rattle.auditor_top.specs.Commands.{AreFilesOf, ServesOver, opens_store, reads_files, reads_groups, reads_secrets, reads_lines, writes}
 use Rattle.auditor_top.specs.Causes.{WordCause, FileCause, InputCause, FaultCause, HoldsLegal, counts}
 use Rattle.auditor_top.specs.Drills.{DrillEnds}
-use Rattle.auditor_top.specs.Ends.{ServeEnds, AuditEnds, SimulateEnds, SimulateSends, audit_over, outside}
+use Rattle.auditor_top.specs.Ends.{ServeEnds, AuditEnds, SimulateEnds, SendsLines, audit_over, outside}
 use Rattle.auditor_top.specs.Ready.{IsGiven, GivesUp, EndsEarly, IsReady, IsReadyOver, command_for}
 use Rattle.auditor_top.specs.Runs.{objects, faults_of, Making, Serving, Auditing, Simulating, Drilling}
 use Rattle.auditor_top.specs.Stages.{Before, reading_table, opening_journal, writing_spare, reading_lines}
@@ -46,7 +47,7 @@ use Rattle.auditor_top.specs.Status.{making_status, session_status, audit_status
 use Rattle.auditor_top.proofs.AuditEndings.{untouched_report, report_cause, report_ends, report_faults, report_wants}
 use Rattle.auditor_top.proofs.Calls.{making_done, session_done, report_done, simulation_done}
 use Rattle.auditor_top.proofs.OneRunMore.{goes_on}
-use Rattle.auditor_top.proofs.OneCommand.{one_command, one_batch, one_drill, same_command, asked_for, not_asked, none_asked, refused_words, takes_step, lacks_step}
+use Rattle.auditor_top.proofs.OneCommand.{one_command, same_command, asked_for, not_asked, none_asked, refused_words, takes_step, lacks_step}
 use Rattle.auditor_top.proofs.OneTable.{one_base, same_given, carried, schema_is_ok, table_is_ok}
 use Rattle.auditor_top.proofs.Openings.{stays, one_more, later_still}
 use Rattle.auditor_top.proofs.Refusals.{uncalled, as_quiet, refused}
@@ -61,6 +62,7 @@ use Rattle.auditor_top.proofs.running.run.Answers.Audit.{audit_ends}
 use Rattle.auditor_top.proofs.running.run.Answers.Simulate.{simulate_ends}
 use Rattle.auditor_top.proofs.running.run.Answers.Drill.{drill_ends}
 use Rattle.auditor_top.proofs.running.run.Answers.Grow.{grow_ends}
+use Rattle.auditor_top.proofs.running.run.Answers.Explain.{explanation_ends}
 use Rattle.auditor_top.proofs.running.run.Answers.Compact.{compaction_ends}
 use Rattle.std.specs.Bool.{OnTrue}
 use Rattle.set_index.specs.Groups.{AreEntries}
@@ -93,13 +95,7 @@ returns-in-Err-Bad g c =
       schema_within = λ ptold is. absurd (bad_words_say.no_schema is);
       table_within = λ ptold is. absurd (bad_words_say.no_table is);
       lives = λ ptold told command asked. none_asked _ _ none asked;
-      init = λ asked. none_asked _ _ none asked;
-      serve = λ batch asked. none_asked _ _ none asked;
-      audit = λ asked. none_asked _ _ none asked;
-      simulate = λ asked. none_asked _ _ none asked;
-      grow = λ asked. none_asked _ _ none asked;
-      compact = λ asked. none_asked _ _ none asked;
-      drill = λ number asked. none_asked _ _ none asked;
+      does = λ command asked. none_asked _ _ none asked;
       nothing_began = λ ptold told command asked. none_asked _ _ none asked;
       quiet = λ told quiet fine. quiet;
       before_table = refl;
@@ -122,7 +118,14 @@ returns-in-Err-NoMemory g c =
     let reads = uncalled g.B.Bench at.bench (λ image sent was. g.met.B.Bench.only_now at.bench image sent was) in
     let all = refused g.P.Source g.I.Source g.B.Bench at.schema at.schema at.table at.table at.input at.bench at.bench at.spare NoMemory tt reads refl
     (command_of (map string_bytes c.args.words.now.items)) (λ command asked ptold told given. tt) (λ command asked none. refl) c.stops_are_legal.ensures
-    (uncalled g.B.Bench at.spare (λ image sent was. g.met.B.Bench.only_now at.spare image sent was)) in
+    (uncalled g.B.Bench at.spare (λ image sent was. g.met.B.Bench.only_now at.spare image sent was))
+    (λ number asked. record {
+      drilled = λ told. refl;
+      drill_calls = λ told done. absurd (no_memory_says.undone done);
+      drill_call = one_more _;
+      undrilled = λ is. refl;
+      drills = λ none. inr refl;
+    }) in
     record {
       words = tt;
       schema = λ ptold command asked reads. tt;
@@ -144,21 +147,8 @@ returns-in-Err-NoMemory g c =
       schema_within = λ ptold is. absurd (no_memory_says.no_schema is);
       table_within = λ ptold is. absurd (no_memory_says.no_table is);
       lives = λ ptold told command asked itold quiet. goes_on g.P.Source g.I.Source g.B.Bench NoMemory at at c.lives.ensures.longer command
-          (λ batch is. let serves = asked ∙ ap (λ (k : Command). Some k) is in (c.read_words.ensures.batch batch serves, all.serve batch serves))
-          (λ is. all.grow (asked ∙ ap (λ (k : Command). Some k) is)) ptold told itold quiet;
-      init = all.init;
-      serve = all.serve;
-      audit = all.audit;
-      simulate = all.simulate;
-      grow = all.grow;
-      compact = all.compact;
-      drill = λ number asked. record {
-        drilled = λ told. refl;
-        drill_calls = λ told done. absurd (no_memory_says.undone done);
-        drill_call = one_more _;
-        undrilled = λ is. refl;
-        drills = λ none. inr refl;
-      };
+          (λ batch is. c.read_words.ensures.batch batch (asked ∙ ap (λ (k : Command). Some k) is)) (all command asked) ptold told itold quiet;
+      does = all;
       nothing_began = λ ptold told command asked opens quiet none. reads.untouched quiet;
       quiet = λ told quiet fine. quiet;
       before_table = tt;
@@ -191,7 +181,8 @@ returns-in-Err g c =
     → IsGiven k (g.P.Source.left old.schema) (g.P.Source.left old.table) (g.B.Bench.file old.bench) → GivesUp status) (one_command words _ command is_named asked)
     (says.gives_up ptold) told given)
     (λ command asked none. c.open.ensures.unopened (ap opens_store (one_command words _ command is_named asked) ∙ none)) c.stops_are_legal.ensures
-    (uncalled g.B.Bench old.spare (λ image sent was. g.met.B.Bench.only_now old.spare image sent was)) in
+    (uncalled g.B.Bench old.spare (λ image sent was. g.met.B.Bench.only_now old.spare image sent was))
+    (λ number asked. absurd (false≢true (c.in-Err.ensures.taken (ap reads_files (one_command words _ (command.Drill number) is_named asked))))) in
     record {
       words = subst (λ (asked : Option Command). WordCause status asked) (sym is_named) says.words;
       schema = λ ptold command asked reads. says.schema ptold (ap reads_files (one_command words _ command is_named asked) ∙ reads);
@@ -216,15 +207,8 @@ returns-in-Err g c =
       schema_within = λ ptold is. says.schema_within ptold is;
       table_within = λ ptold is. says.table_within ptold is;
       lives = λ ptold told command asked itold quiet. goes_on g.P.Source g.I.Source g.B.Bench status old new c.lives.ensures.longer command
-          (λ batch is. let serves = asked ∙ ap (λ (k : Command). Some k) is in (c.read_words.ensures.batch batch serves, all.serve batch serves))
-          (λ is. all.grow (asked ∙ ap (λ (k : Command). Some k) is)) ptold told itold quiet;
-      init = all.init;
-      serve = all.serve;
-      audit = all.audit;
-      simulate = all.simulate;
-      grow = all.grow;
-      compact = all.compact;
-      drill = λ number asked. absurd (false≢true (c.in-Err.ensures.taken (ap reads_files (one_command words _ (command.Drill number) is_named asked))));
+          (λ batch is. c.read_words.ensures.batch batch (asked ∙ ap (λ (k : Command). Some k) is)) (all command asked) ptold told itold quiet;
+      does = all;
       nothing_began = λ ptold told command asked opens quiet none. reads.untouched quiet;
       quiet = λ told quiet fine. as_quiet g.B.Bench old.bench new.bench reads quiet;
       before_table = says.before_table;
@@ -259,6 +243,9 @@ returns-in-Ok-Drill g c = drill_ends g c
 pub returns-in-Ok-Grow : goal.returns-in-Ok-Grow
 returns-in-Ok-Grow g c = grow_ends g c
 
+pub returns-in-Ok-Explain : goal.returns-in-Ok-Explain
+returns-in-Ok-Explain g c = explanation_ends g c
+
 pub returns-in-Ok-Compact : goal.returns-in-Ok-Compact
 returns-in-Ok-Compact g c = compaction_ends g c
 
@@ -279,6 +266,11 @@ serve-requires g c =
       stands = ready.0.left;
       batch = c.read_words.ensures.batch n (asked_for _ _ _ _ c.in-Ok.ensures.command c.in-Ok-Serve.field-0-is c.in-Ok-Serve.ensures.asked);
     }
+
+pub explain-requires : goal.explain-requires
+explain-requires g c =
+    let ready = subst (IsReady g.B.Bench c.open.new.bench) c.in-Ok-Explain.field-0-is c.in-Ok-Explain.ensures.ready in
+    record { usable = ready.0.usable; fits = ready.1; shape = ready.2; entries = ready.3 }
 
 pub audit-requires : goal.audit-requires
 audit-requires g c =

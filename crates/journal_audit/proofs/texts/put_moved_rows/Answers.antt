@@ -3,10 +3,11 @@ use Rattle.std.proofs.lemmas.List.{take_all}
 use Rattle.std.proofs.lemmas.Result.{IfOk-from_err}
 use Rattle.std.proofs.lemmas.Int.{to_z-of_z}
 use mir.Syntax.{w128}
-use Rattle.journal_audit.specs.Texts.{with_commas, comma_unless, moved_rows, at_row}
-use Rattle.journal_audit.proofs.Commas.{is_none, is_none-snoc, text_more, moved_by, not_moved_by}
+use Rattle.line_wire.specs.CommaLists.{with_commas, comma_unless, is_none, is_none-snoc, text_more, at_place}
+use Rattle.journal_audit.specs.Texts.{moved_rows}
+use Rattle.journal_audit.proofs.MovedRows.{moved_by, not_moved_by}
 use Rattle.journal_audit.proofs.texts.put_moved_rows.Goals as goal
-use Rattle.journal_audit.proofs.texts.put_moved_rows.Goals.{then-number-ne0+in_ok-put_at_row, else-number-ne0}
+use Rattle.journal_audit.proofs.texts.put_moved_rows.Goals.{then-number-ne0+in_ok-put_at_place, else-number-ne0}
 
 pub loop-row-init : goal.loop-row-init
 loop-row-init c = record { so_far = sym (append-nil c.args.line.now.items); none_before = refl }
@@ -14,8 +15,8 @@ loop-row-init c = record { so_far = sym (append-nil c.args.line.now.items); none
 pub bounds-direction-row : goal.bounds-direction-row
 bounds-direction-row c = c.loop-row-test.true
 
-pub returns-in_err-put_at_row : goal.returns-in_err-put_at_row
-returns-in_err-put_at_row c = IfOk-from_err _ _ c.from_residual.ensures.0
+pub returns-in_err-put_at_place : goal.returns-in_err-put_at_place
+returns-in_err-put_at_place c = IfOk-from_err _ _ c.from_residual.ensures.0
 
 pub returns : goal.returns
 returns c =
@@ -31,16 +32,16 @@ loop-row-preserved c =
     let texts = moved_rows 0 (take i d) in
     let same : to_z w128 (of_z w128 x) ≡ x = grind (arith, to_z-of_z) in
     elim c.if-number-ne0.branch [
-      | then-number-ne0+in_ok-put_at_row w ↦
+      | then-number-ne0+in_ok-put_at_place w ↦
           let more = moved_by d i c.loop-row-test.true (λ e. w.if-number-ne0.true (ap (of_z w128) e)) in
-          let put = w.in_ok-put_at_row.ensures ∙ ap (λ z. c.loop-row.line.items ++ comma_unless c.loop-row.first ++ at_row i z) same in
+          let put = w.in_ok-put_at_place.ensures ∙ ap (λ z. c.loop-row.line.items ++ comma_unless c.loop-row.first ++ at_place i z) same in
           record {
             so_far =
                 ap (λ v. v.items) w.line-is
-                ∙ text_more before w.put_at_row.new.line.items c.loop-row.line.items c.loop-row.first texts
-                (at_row i x) c.loop-row.invariant.so_far c.loop-row.invariant.none_before put
+                ∙ text_more before w.put_at_place.new.line.items c.loop-row.line.items c.loop-row.first texts
+                (at_place i x) c.loop-row.invariant.so_far c.loop-row.invariant.none_before put
                 ∙ ap (λ t. before ++ with_commas t) (sym more);
-            none_before = w.first-is ∙ sym (ap is_none more ∙ is_none-snoc texts (at_row i x));
+            none_before = w.first-is ∙ sym (ap is_none more ∙ is_none-snoc texts (at_place i x));
           }
       | else-number-ne0 w ↦
           let stays = not_moved_by d i c.loop-row-test.true (sym same ∙ ap (to_z w128) w.if-number-ne0.false) in

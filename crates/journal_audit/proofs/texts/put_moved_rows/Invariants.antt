@@ -1,6 +1,6 @@
 use Rattle.std.proofs.Common.{◌≡◌, ◌++◌, take}
-use Rattle.journal_audit.specs.Texts.{with_commas, moved_rows}
-use Rattle.journal_audit.proofs.Commas.{is_none}
+use Rattle.line_wire.specs.CommaLists.{with_commas, is_none}
+use Rattle.journal_audit.specs.Texts.{moved_rows}
 use Rattle.journal_audit.proofs.texts.put_moved_rows.Given as goal
 
 abbrev pub invariant-loop-row : goal.invariant-loop-row

@@ -1,8 +1,9 @@
-use Rattle.std.proofs.Common.{◌≡◌, ℕ, ◌*◌, ◌<◌, ◌≤◌, ◌^◌, Bool, true, ℤ, pos, List, length, get_or, nat_eq, refl, sym, ◌∙◌, subst, arith}
-use Rattle.std.specs.Prelude.{unsigned_abs}
-use Rattle.std.specs.Int.{◌∣◌}
+use Rattle.std.proofs.Common.{◌≡◌, ℕ, ◌*◌, ◌<◌, ◌≤◌, ◌^◌, Bool, true, ℤ, pos, List, length, get_or, nat_eq, refl, sym, ◌∙◌, subst, arith, rules}
+use Rattle.std.specs.Prelude.{unsigned_abs, ◌<ℤ◌, FitsSigned}
+use Rattle.std.specs.Int.{◌∣◌, w128}
 use Rattle.std.specs.List.{AllByRecursion}
 use Rattle.std.proofs.lemmas.List.{length-map}
+use Rattle.std.proofs.lemmas.Int.{to_z-of_z}
 use Rattle.std.proofs.lemmas.Bool.{eqb-true, eq-eqb, ne_eqb, true≢false}
 use Rattle.audit_types.specs.Truth.{number_at}
 use Rattle.audit_types.specs.Form.{IsPrimitive, pivot, pivot_entries}
@@ -134,3 +135,11 @@ returns-else-fixing-clause-foresees c =
 pub look_at-requires-clause-kept : goal.look_at-requires-clause-kept
 look_at-requires-clause-kept c =
     of_row (IsKept c.args.columns) c.args.rows.now c.loop-row.row-index c.row-item.result c.loop-row-test.true c.row-item.is c.requires.kept
+
+pub sure_bound-sure-requires : goal.sure_bound-sure-requires
+sure_bound-sure-requires c =
+    let new = c.args.new.now in
+    let fits : FitsSigned w128 (get_or new 0 (record { place = 0; value = pos 0 })).value = search rules in
+    let led = is_led c.args.columns new c.requires.new.some c.requires.new.listed in
+    rw (to_z-of_z w128 (get_or new 0 none).value fits)
+    (record { by = (subst (λ z. pos 0 <ℤ z) led.pivot_entry_is c.requires.new.primitive.leading, led.small c.requires.new.small) })

@@ -11,7 +11,7 @@ use Rattle.answer_journal.specs.Moments.{IsBeforeOrAfter}
 use Rattle.bench_core.specs.Calls.{LeavesOnly}
 use Rattle.audit_core.specs.Outcomes.{AreOutcomes, records_made}
 use Rattle.audit_store.specs.Stores.{StoreContents, table_of, HasGroup, calls_for}
-use Rattle.audit_store.proofs.Stores.{table_by, core_is_history, released_and_more, more_released, taken_since, refused_history, refused_store, kept_store}
+use Rattle.audit_store.specs.StoreLaws.{table_by, core_is_history, released_and_more, more_released, taken_since, refused_history, refused_store, kept_store}
 use Rattle.audit_store.specs.declared.outcome.StoreFault.TheVariants.{Failed, NoMemory}
 use Rattle.audit_store.specs.Refusals.{no_refusal}
 use Rattle.audit_store.proofs.StoreFaults.{is_memory, memory_no_call, given_is, answer_is}

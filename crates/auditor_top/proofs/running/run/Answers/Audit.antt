@@ -25,7 +25,7 @@ use Rattle.auditor_top.specs.Status.{audit_status}
 use Rattle.auditor_top.proofs.AuditEndings.{untouched_report, report_cause, report_ends, report_faults, report_wants}
 use Rattle.auditor_top.proofs.Calls.{report_done}
 use Rattle.auditor_top.proofs.OneCommand.{one_command, same_command, asked_for, not_asked, none_asked, takes_step, lacks_step, spare_called}
-use Rattle.auditor_top.proofs.OneRunMore.{never_goes_on}
+use Rattle.auditor_top.proofs.OneRunMore.{does_so, never_goes_on}
 use Rattle.auditor_top.proofs.OneTable.{one_base, same_given, carried, schema_is_ok, table_is_ok}
 use Rattle.auditor_top.proofs.Openings.{stays, later_still}
 use Rattle.auditor_top.proofs.Refusals.{as_quiet}
@@ -52,10 +52,10 @@ reported_faults g c =
     (report_faults c.audit.result before later (λ is. subst (λ (n : ℕ). Rose n later) steady.2 (c.audit.ensures.failed is))
     (λ other. c.audit.ensures.steady other ∙ steady.2)))
 
-reporting : (g : Over) (c : goal.After-drop-schema-inside-in-Ok-Audit-2 g) → NamesCommand c.args.words.now.items command.Audit →
+reporting : (g : Over) (c : goal.After-drop-schema-inside-in-Ok-Audit-2 g) →
     Auditing g.P.Source g.I.Source g.B.Bench c.reported.result (objects c.args.schema.now c.args.table.now c.args.input.now c.args.bench.now c.args.spare.now)
     (objects c.open.new.schema c.open.new.table c.args.input.now c.audit.new.bench c.args.spare.now)
-reporting g c = λ asked.
+reporting g c =
     let at = c.args.bench.now in
     let opened = c.open.new.bench in
     let later = c.audit.new.bench in
@@ -178,13 +178,7 @@ audit_ends g c =
       schema_within = λ ptold. schema_was_read status last;
       table_within = λ ptold. table_was_read status last;
       lives = λ ptold told command asked itold quiet base at goes. never_goes_on _ command _ _ _ _ at base is_named asked (λ none. none) goes;
-      init = λ asked. not_asked _ _ _ is_named asked refl;
-      serve = λ batch asked. not_asked _ _ _ is_named asked refl;
-      audit = reporting g c;
-      simulate = λ asked. not_asked _ _ _ is_named asked refl;
-      grow = λ asked. not_asked _ _ _ is_named asked refl;
-      compact = λ asked. not_asked _ _ _ is_named asked refl;
-      drill = λ number asked. not_asked _ _ _ is_named asked refl;
+      does = λ command asked. does_so g.P.Source g.I.Source g.B.Bench status _ _ _ _ command is_named asked (reporting g c);
       nothing_began = λ ptold told command asked opens quiet none.
           absurd (none _ (are ptold).1 (subst (λ (k : Command). IsReadyFor k file (secret_table store.secret store.protected))
           (one_command _ _ command is_named asked) (holds told)));

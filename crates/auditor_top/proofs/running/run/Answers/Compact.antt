@@ -27,7 +27,7 @@ use Rattle.auditor_top.specs.Stages.{reading_lines}
 use Rattle.auditor_top.specs.Status.{compacting_status}
 use Rattle.auditor_top.proofs.CompactEndings.{compact_last, compact_words, compact_file, compact_spare, bench_failed, spare_failed, memory_wanted, compact_no_input, compact_faults, compact_ends, compact_wants, compact_at_lines, compact_done, unsent_so, at_spare}
 use Rattle.auditor_top.proofs.OneCommand.{one_command, same_command, asked_for, not_asked, none_asked, takes_step, lacks_step}
-use Rattle.auditor_top.proofs.OneRunMore.{never_goes_on}
+use Rattle.auditor_top.proofs.OneRunMore.{does_so, never_goes_on}
 use Rattle.auditor_top.proofs.OneTable.{one_base, same_given, carried, schema_is_ok, table_is_ok, groups_are_sound}
 use Rattle.auditor_top.proofs.Openings.{stays, later_still}
 use Rattle.auditor_top.proofs.Refusals.{as_quiet}
@@ -50,10 +50,10 @@ compacted_faults g c =
     (compact_faults c.compact.result before later spare (λ is. subst (λ (n : ℕ). Rose n later) steady.2 (c.compact.ensures.fault.failed is))
     (λ other. c.compact.ensures.fault.steady other ∙ steady.2) c.compact.ensures.spare_fault.failed c.compact.ensures.spare_fault.steady))
 
-compacting : (g : Over) (c : goal.After-drop-store-inside-in-Ok-Compact-4 g) → NamesCommand c.args.words.now.items command.Compact →
+compacting : (g : Over) (c : goal.After-drop-store-inside-in-Ok-Compact-4 g) →
     Compacting g.P.Source g.I.Source g.B.Bench c.compacted.result (objects c.args.schema.now c.args.table.now c.args.input.now c.args.bench.now c.args.spare.now)
     (objects c.open.new.schema c.open.new.table c.args.input.now c.compact.new.bench c.compact.new.spare)
-compacting g c asked =
+compacting g c =
     let at = c.args.bench.now in
     let opened = c.open.new.bench in
     let later = c.compact.new.bench in
@@ -197,13 +197,7 @@ compaction_ends g c =
       schema_within = λ ptold. schema_was_read status last;
       table_within = λ ptold. table_was_read status last;
       lives = λ ptold told command asked itold quiet base at goes. never_goes_on _ command _ _ _ _ at base is_named asked (λ none. none) goes;
-      init = λ asked. not_asked _ _ _ is_named asked refl;
-      serve = λ batch asked. not_asked _ _ _ is_named asked refl;
-      audit = λ asked. not_asked _ _ _ is_named asked refl;
-      simulate = λ asked. not_asked _ _ _ is_named asked refl;
-      grow = λ asked. not_asked _ _ _ is_named asked refl;
-      compact = compacting g c;
-      drill = λ number asked. not_asked _ _ _ is_named asked refl;
+      does = λ command asked. does_so g.P.Source g.I.Source g.B.Bench status _ _ _ _ command is_named asked (compacting g c);
       nothing_began = λ ptold told command asked opens quiet none.
           absurd (none _ (are ptold).2 (subst (λ (k : Command). IsReadyFor k file (secret_table store.secret store.protected))
           (one_command _ _ command is_named asked)

@@ -4,25 +4,25 @@ use Rattle.bench_core.specs.Causes.{Rose}
 use Rattle.table_load.specs.Database.{table_in}
 use Rattle.auditor_top.specs.declared.words.Command.{Command}
 use Rattle.auditor_top.specs.declared.words.Command.TheVariants as command
-use Rattle.auditor_top.specs.Words.{command_of, NamesCommand}
+use Rattle.auditor_top.specs.Words.{command_of}
 use Rattle.auditor_top.specs.Commands.{opens_journal, opens_store, reads_files, reads_groups, reads_lines, reads_secrets, calls_spare}
 use Rattle.auditor_top.specs.Causes.{WordCause, FileCause, FaultCause, counts}
 use Rattle.auditor_top.specs.Drills.{DrillEnds}
 use Rattle.auditor_top.specs.Runs.{objects, Drilling}
 use Rattle.auditor_top.specs.Stages.{reading_table, opening_journal, reading_lines, writing_spare}
-use Rattle.auditor_top.proofs.OneCommand.{one_command, one_drill, same_command, asked_for, not_asked, none_asked, lacks_step, spare_called}
+use Rattle.auditor_top.proofs.OneCommand.{one_command, same_command, asked_for, not_asked, none_asked, lacks_step, spare_called}
 use Rattle.auditor_top.proofs.Openings.{stays, later_still}
 use Rattle.auditor_top.proofs.Refusals.{as_quiet}
 use Rattle.auditor_top.proofs.StepFaults.{moved}
 use Rattle.auditor_top.proofs.StepStatuses.{always_before, before_so}
-use Rattle.auditor_top.proofs.OneRunMore.{never_goes_on}
+use Rattle.auditor_top.proofs.OneRunMore.{does_so, never_goes_on}
 use Rattle.auditor_top.proofs.running.run.Given.{Over}
 use Rattle.auditor_top.proofs.running.run.Goals as goal
 
-drilling : (g : Over) (c : goal.After-drill g) → (number : ℕ) → NamesCommand c.args.words.now.items (command.Drill number) →
-    Drilling g.P.Source g.I.Source g.B.Bench number c.drill.result (objects c.args.schema.now c.args.table.now c.args.input.now c.args.bench.now c.args.spare.now)
+drilling : (g : Over) (c : goal.After-drill g) →
+    Drilling g.P.Source g.I.Source g.B.Bench c.in-Ok-Drill.number c.drill.result (objects c.args.schema.now c.args.table.now c.args.input.now c.args.bench.now c.args.spare.now)
     (objects c.open.new.schema c.open.new.table c.args.input.now c.drill.new.bench c.args.spare.now)
-drilling g c = λ number asked.
+drilling g c =
     let at = c.args.bench.now in
     let later = c.drill.new.bench in
     let n = c.in-Ok-Drill.number in
@@ -30,8 +30,7 @@ drilling g c = λ number asked.
     let new = objects c.open.new.schema c.open.new.table c.args.input.now later c.args.spare.now in
     let same : c.in-Ok.command ≡ command.Drill n = same_command _ _ _ c.in-Ok-Drill.field-0-is c.in-Ok-Drill.ensures.asked in
     let unopened : c.open.new.bench ≡ at = c.open.ensures.unopened (ap opens_store same) in
-    subst (λ (k : ℕ). Drilling g.P.Source g.I.Source g.B.Bench k c.drill.result old new) (one_drill _ n number (asked_for _ _ _ _ c.in-Ok.ensures.command c.in-Ok-Drill.field-0-is c.in-Ok-Drill.ensures.asked) asked)
-    (record {
+    record {
       drilled = λ told. subst (λ b. DrillEnds c.drill.result n (g.B.Bench.sent b) (g.B.Bench.sent later)) unopened (c.drill.ensures.ends told);
       drill_calls = λ told done. subst (λ b. g.B.Bench.moment later ≡ g.B.Bench.moment b + 1) unopened (c.drill.ensures.calls told done);
       drill_call = subst (λ b. g.B.Bench.moment later ≤ g.B.Bench.moment b + 1) unopened c.drill.ensures.one_call;
@@ -43,7 +42,7 @@ drilling g c = λ number asked.
             input = none.input;
             bench = λ rose. none.bench (subst (λ b. Rose (g.B.Bench.faults b) (g.B.Bench.faults later)) unopened rose);
           });
-    })
+    }
 
 pub drill_ends : goal.returns-in-Ok-Drill
 drill_ends g c =
@@ -92,13 +91,7 @@ drill_ends g c =
       schema_within = λ ptold is. absurd (c.drill.ensures.no_source _ is);
       table_within = λ ptold is. absurd (c.drill.ensures.no_source _ is);
       lives = λ ptold told command asked itold quiet base at goes. never_goes_on _ command _ _ _ _ at base is_named asked (λ none. none) goes;
-      init = λ asked. not_asked _ _ _ is_named asked refl;
-      serve = λ batch asked. not_asked _ _ _ is_named asked refl;
-      audit = λ asked. not_asked _ _ _ is_named asked refl;
-      simulate = λ asked. not_asked _ _ _ is_named asked refl;
-      grow = λ asked. not_asked _ _ _ is_named asked refl;
-      compact = λ asked. not_asked _ _ _ is_named asked refl;
-      drill = drilling g c;
+      does = λ command asked. does_so g.P.Source g.I.Source g.B.Bench status _ _ _ _ command is_named asked (drilling g c);
       nothing_began = λ ptold told command asked opens. lacks_step opens_journal _ _ command is_named asked refl opens;
       quiet = λ told quiet fine. c.drill.ensures.quiet (as_quiet g.B.Bench _ _ c.open.ensures.reads quiet);
       before_table = always_before reading_table status unread.1;

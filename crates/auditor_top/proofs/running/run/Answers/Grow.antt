@@ -26,7 +26,7 @@ use Rattle.auditor_top.specs.Stages.{reading_lines, writing_spare}
 use Rattle.auditor_top.specs.Status.{growing_status}
 use Rattle.auditor_top.proofs.GrowthEndings.{growth_last, growth_words, growth_file, growth_bench, growth_no_input, growth_faults, growth_ends, growth_wants, growth_kept, growth_at_lines, growth_done, done_so}
 use Rattle.auditor_top.proofs.OneCommand.{one_command, same_command, asked_for, not_asked, none_asked, takes_step, lacks_step, spare_called}
-use Rattle.auditor_top.proofs.OneRunMore.{goes_on}
+use Rattle.auditor_top.proofs.OneRunMore.{does_so, goes_on}
 use Rattle.auditor_top.proofs.OneTable.{one_base, schema_is_ok, table_is_ok, groups_are_sound}
 use Rattle.auditor_top.proofs.Openings.{stays, later_still}
 use Rattle.auditor_top.proofs.StepFaults.{moved}
@@ -57,10 +57,10 @@ grew_faults g c =
     (growth_faults c.grow.result before later (λ is. subst (λ (n : ℕ). Rose n later) steady.2 (c.grow.ensures.fault.failed is))
     (λ other. c.grow.ensures.fault.steady other ∙ steady.2)))
 
-grew : (g : Over) (c : goal.After-grown g) → NamesCommand c.args.words.now.items command.Grow →
+grew : (g : Over) (c : goal.After-grown g) →
     Growing g.P.Source g.I.Source g.B.Bench c.grown.result (objects c.args.schema.now c.args.table.now c.args.input.now c.args.bench.now c.args.spare.now)
     (objects c.open.new.schema c.open.new.table c.args.input.now c.grow.new.bench c.args.spare.now)
-grew g c asked =
+grew g c =
     let at = c.args.bench.now in
     let opened = c.open.new.bench in
     let later = c.grow.new.bench in
@@ -180,14 +180,9 @@ grow_ends g c =
       lives = λ ptold told command asked itold quiet. goes_on g.P.Source g.I.Source g.B.Bench status
           (objects c.args.schema.now c.args.table.now c.args.input.now c.args.bench.now c.args.spare.now)
           (objects c.open.new.schema c.open.new.table c.args.input.now later c.args.spare.now) c.lives.ensures.longer command
-          (λ batch is. not_asked _ _ _ is_named (asked ∙ ap (λ (k : Command). Some k) is) refl) (λ is. grew g c is_named) ptold told itold quiet;
-      init = λ asked. not_asked _ _ _ is_named asked refl;
-      serve = λ batch asked. not_asked _ _ _ is_named asked refl;
-      audit = λ asked. not_asked _ _ _ is_named asked refl;
-      simulate = λ asked. not_asked _ _ _ is_named asked refl;
-      grow = grew g c;
-      compact = λ asked. not_asked _ _ _ is_named asked refl;
-      drill = λ number asked. not_asked _ _ _ is_named asked refl;
+          (λ batch is. c.read_words.ensures.batch batch (asked ∙ ap (λ (k : Command). Some k) is))
+          (does_so g.P.Source g.I.Source g.B.Bench status _ _ _ _ command is_named asked (grew g c)) ptold told itold quiet;
+      does = λ command asked. does_so g.P.Source g.I.Source g.B.Bench status _ _ _ _ command is_named asked (grew g c);
       nothing_began = λ ptold told command asked opens quiet none.
           subst (λ (b : g.row.B.Denot). LeavesOnly g.B.Bench b later (IsUntouched (g.B.Bench.file b) (g.B.Bench.sent b))) same
           (c.grow.ensures.untouched told (quiet_then quiet) (λ can. none _ (are ptold).2

@@ -23,7 +23,7 @@ use Rattle.auditor_top.specs.Runs.{objects, faults_of, Making}
 use Rattle.auditor_top.specs.Stages.{reading_lines, writing_spare}
 use Rattle.auditor_top.proofs.Calls.{making_done}
 use Rattle.auditor_top.proofs.OneCommand.{one_command, same_command, asked_for, not_asked, none_asked, takes_step, lacks_step, spare_called}
-use Rattle.auditor_top.proofs.OneRunMore.{never_goes_on}
+use Rattle.auditor_top.proofs.OneRunMore.{does_so, never_goes_on}
 use Rattle.auditor_top.proofs.OneTable.{schema_is_ok, table_is_ok}
 use Rattle.auditor_top.proofs.Openings.{stays, later_still}
 use Rattle.auditor_top.proofs.Refusals.{as_quiet}
@@ -48,10 +48,10 @@ made_faults g c =
     (making_faults c.make.result before later (λ is. subst (λ (n : ℕ). Rose n later) steady.2 (c.make.ensures.fault.failed is))
     (λ other. c.make.ensures.fault.steady other ∙ steady.2)))
 
-making_it : (g : Over) (c : goal.After-made g) → NamesCommand c.args.words.now.items command.Init →
+making_it : (g : Over) (c : goal.After-made g) →
     Making g.P.Source g.I.Source g.B.Bench c.made.result (objects c.args.schema.now c.args.table.now c.args.input.now c.args.bench.now c.args.spare.now)
     (objects c.open.new.schema c.open.new.table c.args.input.now c.make.new.bench c.args.spare.now)
-making_it g c = λ asked.
+making_it g c =
     let at = c.args.bench.now in
     let later = c.make.new.bench in
     let reads = c.open.ensures.reads in
@@ -143,13 +143,7 @@ init_ends g c =
       schema_within = λ ptold. schema_was_read status last;
       table_within = λ ptold. table_was_read status last;
       lives = λ ptold told command asked itold quiet base at goes. never_goes_on _ command _ _ _ _ at base is_named asked (λ none. none) goes;
-      init = making_it g c;
-      serve = λ batch asked. not_asked _ _ _ is_named asked refl;
-      audit = λ asked. not_asked _ _ _ is_named asked refl;
-      simulate = λ asked. not_asked _ _ _ is_named asked refl;
-      grow = λ asked. not_asked _ _ _ is_named asked refl;
-      compact = λ asked. not_asked _ _ _ is_named asked refl;
-      drill = λ number asked. not_asked _ _ _ is_named asked refl;
+      does = λ command asked. does_so g.P.Source g.I.Source g.B.Bench status _ _ _ _ command is_named asked (making_it g c);
       nothing_began = λ ptold told command asked opens. lacks_step opens_journal _ _ command is_named asked refl opens;
       quiet = λ told quiet fine.
           made_or_there c.make.result (λ is. fine (c.made.ensures ∙ is)) (c.make.ensures.quiet told)

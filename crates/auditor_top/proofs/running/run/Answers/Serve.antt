@@ -22,8 +22,8 @@ use Rattle.auditor_top.specs.Ready.{IsReady, IsReadyOver}
 use Rattle.auditor_top.specs.Runs.{objects, faults_of, Serving}
 use Rattle.auditor_top.specs.Status.{session_status}
 use Rattle.auditor_top.proofs.Calls.{session_done}
-use Rattle.auditor_top.proofs.OneRunMore.{goes_on}
-use Rattle.auditor_top.proofs.OneCommand.{one_command, one_batch, same_command, asked_for, not_asked, none_asked, takes_step, lacks_step, spare_called}
+use Rattle.auditor_top.proofs.OneRunMore.{does_so, goes_on}
+use Rattle.auditor_top.proofs.OneCommand.{one_command, same_command, asked_for, not_asked, none_asked, takes_step, lacks_step, spare_called}
 use Rattle.auditor_top.proofs.OneTable.{one_base, same_given, schema_is_ok, table_is_ok}
 use Rattle.auditor_top.proofs.Openings.{later_still, stays}
 use Rattle.auditor_top.proofs.Refusals.{as_quiet}
@@ -54,10 +54,10 @@ served_faults g c =
     (session_faults c.serve.result before read later c.serve.ensures.input c.serve.ensures.steady
     (λ is. subst (λ (n : ℕ). Rose n later) steady.2 (c.serve.ensures.fault.failed is)) (λ other. c.serve.ensures.fault.steady other ∙ steady.2)))
 
-serving : (g : Over) (c : goal.After-drop-schema-inside-in-Ok-Serve g) → (batch : ℕ) → NamesCommand c.args.words.now.items (command.Serve batch) →
-    Serving g.P.Source g.I.Source g.B.Bench batch c.answered.result (objects c.args.schema.now c.args.table.now c.args.input.now c.args.bench.now c.args.spare.now)
+serving : (g : Over) (c : goal.After-drop-schema-inside-in-Ok-Serve g) →
+    Serving g.P.Source g.I.Source g.B.Bench c.in-Ok-Serve.batch c.answered.result (objects c.args.schema.now c.args.table.now c.args.input.now c.args.bench.now c.args.spare.now)
     (objects c.open.new.schema c.open.new.table c.serve.new.source c.serve.new.bench c.args.spare.now)
-serving g c = λ batch asked.
+serving g c =
     let at = c.args.bench.now in
     let opened = c.open.new.bench in
     let later = c.serve.new.bench in
@@ -76,8 +76,7 @@ serving g c = λ batch asked.
     λ ptold told base history over. same_given c.one_reading.ensures c.groups_of_a_schema.ensures.entries _ _ (g.B.Bench.file at) seen base kept history store.journal.gate
     (subst (IsReadyOver _ _) c.in-Ok-Serve.field-0-is (c.in-Ok-Serve.ensures.over ptold))
     (subst (λ (bytes : List ℕ). IsAsLeft bytes store) reads.file (ready.0.left told)) over in
-    subst (λ (k : ℕ). Serving g.P.Source g.I.Source g.B.Bench k c.answered.result old new) (one_batch _ n batch (asked_for _ _ _ _ c.in-Ok.ensures.command c.in-Ok-Serve.field-0-is c.in-Ok-Serve.ensures.asked) asked)
-    (subst (λ (s : Status). Serving g.P.Source g.I.Source g.B.Bench n s old new) (sym c.answered.ensures) (record {
+    subst (λ (s : Status). Serving g.P.Source g.I.Source g.B.Bench n s old new) (sym c.answered.ensures) (record {
       served = λ ptold itold told base history over.
           let after = outside g.I.Source g.B.Bench new.input later in
           ends_so g.B.Bench at opened later reads seen base kept history (given ptold told base history over) n text (session_status c.serve.result) after
@@ -100,13 +99,13 @@ serving g c = λ batch asked.
           (g.I.Source.left new.input) (subst (λ (s : Status). FaultCause s (faults_of g.P.Source g.I.Source g.B.Bench old) (faults_of g.P.Source g.I.Source g.B.Bench new)) c.answered.ensures (served_faults g c)) none
           (session_reads c.serve.result text (g.I.Source.left new.input) (c.serve.ensures.read itold) (c.serve.ensures.within itold)
           (c.serve.ensures.input_within itold) (c.serve.ensures.limit itold)) within;
-    }))
+    })
 
 served_words : (g : Over) (c : goal.After-drop-schema-inside-in-Ok-Serve g) → WordCause c.answered.result (command_of (map string_bytes c.args.words.now.items))
 served_words g c =
     subst (λ (asked : Option Command). WordCause c.answered.result asked)
     (sym (asked_for _ _ _ _ c.in-Ok.ensures.command c.in-Ok-Serve.field-0-is c.in-Ok-Serve.ensures.asked))
-    (subst (λ (s : Status). WordCause s (Some (command.Serve c.in-Ok-Serve.batch))) (sym c.answered.ensures) (session_words c.serve.result c.in-Ok-Serve.batch))
+    (subst (λ (s : Status). WordCause s (Some (command.Serve c.in-Ok-Serve.batch))) (sym c.answered.ensures) (session_words c.serve.result (command.Serve c.in-Ok-Serve.batch) refl))
 
 served_file : (g : Over) (c : goal.After-drop-schema-inside-in-Ok-Serve g) → g.P.Source.told → g.B.Bench.told → (asked : Command) → NamesCommand c.args.words.now.items asked → (base : Database) →
     (files : AreFilesOf (g.P.Source.left c.args.schema.now) (g.P.Source.left c.args.table.now) base) →
@@ -131,7 +130,7 @@ served_file g c = λ ptold told other asked base files sound.
     asked_for _ _ _ _ c.in-Ok.ensures.command c.in-Ok-Serve.field-0-is c.in-Ok-Serve.ensures.asked in
     subst (λ (k : Command). FileCause status k file (table_in base)) (one_command _ _ other is_named asked)
     (subst (λ (s : Status). FileCause s (command.Serve n) file (table_in base)) (sym c.answered.ensures)
-    (session_cause c.serve.result n file (table_in base)
+    (session_cause c.serve.result (command.Serve n) file (table_in base)
     (subst (λ (b : Database). HoldsLegal file (table_in b)) (one_base c.groups_of_a_schema.ensures.entries _ _ _ base (are ptold)
     (record {
       files = files;
@@ -196,15 +195,9 @@ serve_ends g c =
       schema_within = λ ptold. schema_was_read status last;
       table_within = λ ptold. table_was_read status last;
       lives = λ ptold told command asked itold quiet. goes_on g.P.Source g.I.Source g.B.Bench status _ _ c.lives.ensures.longer command
-          (λ batch is. let serves = asked ∙ ap (λ (k : Command). Some k) is in (c.read_words.ensures.batch batch serves, serving g c batch serves))
-          (λ is. not_asked _ _ _ is_named (asked ∙ ap (λ (k : Command). Some k) is) refl) ptold told itold quiet;
-      init = λ asked. not_asked _ _ _ is_named asked refl;
-      serve = serving g c;
-      audit = λ asked. not_asked _ _ _ is_named asked refl;
-      simulate = λ asked. not_asked _ _ _ is_named asked refl;
-      grow = λ asked. not_asked _ _ _ is_named asked refl;
-      compact = λ asked. not_asked _ _ _ is_named asked refl;
-      drill = λ number asked. not_asked _ _ _ is_named asked refl;
+          (λ batch is. c.read_words.ensures.batch batch (asked ∙ ap (λ (k : Command). Some k) is)) (does_so g.P.Source g.I.Source g.B.Bench status _ _ _ _ command is_named asked (serving g c))
+          ptold told itold quiet;
+      does = λ command asked. does_so g.P.Source g.I.Source g.B.Bench status _ _ _ _ command is_named asked (serving g c);
       nothing_began = λ ptold told command asked opens quiet none.
           absurd (none _ (are ptold) (subst (λ (k : Command). IsReadyFor k file (secret_table store.secret c.in-Ok-Serve.index.protected))
           (one_command _ _ command is_named asked) (holds told)));

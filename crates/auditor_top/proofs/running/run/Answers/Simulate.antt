@@ -20,8 +20,8 @@ use Rattle.auditor_top.specs.Causes.{WordCause, FileCause, InputCause, FaultCaus
 use Rattle.auditor_top.specs.Ready.{IsReadyOver}
 use Rattle.auditor_top.specs.Runs.{objects, faults_of, Simulating}
 use Rattle.auditor_top.proofs.Calls.{simulation_done}
-use Rattle.auditor_top.proofs.OneCommand.{one_command, same_command, asked_for, not_asked, none_asked, takes_step, lacks_step, spare_called}
-use Rattle.auditor_top.proofs.OneRunMore.{never_goes_on}
+use Rattle.auditor_top.proofs.OneCommand.{one_command, same_command, asked_for, none_asked, takes_step, lacks_step, spare_called}
+use Rattle.auditor_top.proofs.OneRunMore.{does_so, never_goes_on}
 use Rattle.auditor_top.proofs.OneTable.{schema_is_ok, table_is_ok}
 use Rattle.auditor_top.proofs.Openings.{later_still, stays}
 use Rattle.auditor_top.proofs.Refusals.{as_quiet}
@@ -51,10 +51,10 @@ judged_faults g c =
     (simulation_faults c.simulate.result before read later c.simulate.ensures.input c.simulate.ensures.steady.0
     (λ is. subst (λ (n : ℕ). Rose n later) steady.2 (c.simulate.ensures.bench is)) (λ other. c.simulate.ensures.steady.1 other ∙ steady.2)))
 
-judging : (g : Over) (c : goal.After-drop-schema-inside-in-Ok-Simulate-2 g) → NamesCommand c.args.words.now.items command.Simulate →
+judging : (g : Over) (c : goal.After-drop-schema-inside-in-Ok-Simulate-2 g) →
     Simulating g.P.Source g.I.Source g.B.Bench c.judged.result (objects c.args.schema.now c.args.table.now c.args.input.now c.args.bench.now c.args.spare.now)
     (objects c.open.new.schema c.open.new.table c.simulate.new.source c.simulate.new.bench c.args.spare.now)
-judging g c = λ asked.
+judging g c =
     let at = c.args.bench.now in
     let later = c.simulate.new.bench in
     let old = objects c.args.schema.now c.args.table.now c.args.input.now at c.args.spare.now in
@@ -158,13 +158,7 @@ simulate_ends g c =
       schema_within = λ ptold. schema_was_read status last;
       table_within = λ ptold. table_was_read status last;
       lives = λ ptold told command asked itold quiet base at goes. never_goes_on _ command _ _ _ _ at base is_named asked (λ none. none) goes;
-      init = λ asked. not_asked _ _ _ is_named asked refl;
-      serve = λ batch asked. not_asked _ _ _ is_named asked refl;
-      audit = λ asked. not_asked _ _ _ is_named asked refl;
-      simulate = judging g c;
-      grow = λ asked. not_asked _ _ _ is_named asked refl;
-      compact = λ asked. not_asked _ _ _ is_named asked refl;
-      drill = λ number asked. not_asked _ _ _ is_named asked refl;
+      does = λ command asked. does_so g.P.Source g.I.Source g.B.Bench status _ _ _ _ command is_named asked (judging g c);
       nothing_began = λ ptold told command asked opens. lacks_step opens_journal _ _ command is_named asked refl opens;
       quiet = λ told quiet fine image was.
           as_quiet g.B.Bench _ _ reads quiet image (c.simulate.ensures.crash image was) ∙ sym c.simulate.ensures.file;

@@ -1,6 +1,6 @@
 use Rattle.std.proofs.Common.{◌++◌, ◌∙◌, ℕ, List, sym, subst, codes, decimal}
 use Rattle.std.specs.Fmt.{HasWritten, signed_decimal}
-use Rattle.transcript_sim.specs.Verdicts.{word_of}
+use Rattle.question_plan.specs.Dues.{word_of}
 use Rattle.auditor_top.specs.declared.status.Status.{Status}
 use Rattle.auditor_top.specs.Status.{status_text}
 use Rattle.auditor_top.proofs.StatusWords.{tells_no_number}

@@ -2,6 +2,7 @@ use Rattle.std.proofs.Common.{◌≡◌, ℕ, ℤ, List, [], ◌∷◌, ◌++◌
 use Rattle.std.proofs.lemmas.List.{length-take-le}
 use Rattle.audit_types.specs.RowNumbers.{length-set_row}
 use Rattle.std.specs.Prelude.{Option, Some}
+use Rattle.audit_types.specs.Rows.{Rows}
 use Rattle.audit_types.specs.Form.{set_row, IsReducedForm}
 use Rattle.sum_basis.specs.Basis.{Echelon}
 use Rattle.sum_basis.specs.Growth.{GrowsWide, StaysNarrow, IsLeft}
@@ -23,51 +24,23 @@ insert-requires-clause-narrow c =
     not_wide_at c.self.inside.form c.args.self.now c.write_set.new.row c.args.rows.now.n c.args.rows.now.list c.self.view_is c.write_set.ensures c.requires.n
     c.requires.narrow
 
--- the held list is that of the set
-module _ (form seen : Echelon) (held : Option Held) (m : ℕ) (list : List ℕ) (new : Held) (view : form ≡ seen) (is_held : IsHeld form held)
-    (is : held ≡ Some new) (same : new.rows.list ≡ list) (n : m ≡ seen.n) where
-  left : IsLeft form (set_row form.n list) (Entries new.list)
-  left = subst (λ rows. IsLeft form (set_row form.n rows) (Entries new.list)) same (subst (IsHeld form) is is_held)
+-- what is held is of the set
+module _ (form seen : Echelon) (m : ℕ) (list : List ℕ) (held : Held) (view : form ≡ seen) (same : held.rows.list ≡ list) (n : m ≡ seen.n) where
+  row_is : set_row form.n held.rows.list ≡ set_row m list
+  row_is = ap (set_row form.n) same ∙ ap (λ (k : ℕ). set_row k list) (ap (λ (e : Echelon). e.n) view ∙ sym n)
 
-  row_is : set_row form.n list ≡ set_row m list
-  row_is = ap (λ (k : ℕ). set_row k list) (ap (λ (e : Echelon). e.n) view ∙ sym n)
+  held_not_wide : StaysNarrow seen list → ¬ (GrowsWide form (set_row form.n held.rows.list))
+  held_not_wide narrow = not_wide_at form seen (set_row form.n held.rows.list) m list view row_is n narrow
 
-  list_not_wide : StaysNarrow seen list → ¬ (GrowsWide form (row_of form.n new.list.items))
-  list_not_wide narrow =
-      not_wide_with form (set_row form.n list) (row_of form.n new.list.items) left.1 (not_wide_at form seen (set_row form.n list) m list view row_is n narrow)
-
-  with_list : (rows : List (List ℤ)) → IsReducedForm form.n (form.rows ++ row_of form.n new.list.items ∷ []) rows →
+  with_held : (rows : List (List ℤ)) → IsReducedForm form.n (form.rows ++ set_row form.n held.rows.list ∷ []) rows →
       IsReducedForm seen.n (seen.rows ++ set_row seen.n list ∷ []) rows
-  with_list rows reduced =
-      reduced_at form seen rows (set_row form.n list) m list view row_is n (grown_with form rows new.list.items (set_row form.n list) left.1 reduced)
+  with_held rows reduced = reduced_at form seen rows (set_row form.n held.rows.list) m list view row_is n reduced
 
-pub join_list-requires-clause-narrow : goal.join_list-requires-clause-narrow
-join_list-requires-clause-narrow c =
-    let is = rw c.in-Some.is at c.list_of_set.ensures in
-    list_not_wide c.self.inside.form c.args.self.now c.self.inside.held c.args.rows.now.n c.args.rows.now.list
-    (record { rows = c.args.rows.now; list = c.in-Some.list }) c.self.view_is c.self.invariant.1
-    (sym c.take-held.ensures.value ∙ is) refl c.requires.n c.requires.narrow
-
-pub join_list-requires-clause-new : goal.join_list-requires-clause-new
-join_list-requires-clause-new c =
-    let is = rw c.in-Some.is at c.list_of_set.ensures in
-    (left c.self.inside.form c.args.self.now c.self.inside.held c.args.rows.now.n c.args.rows.now.list
-    (record { rows = c.args.rows.now; list = c.in-Some.list }) c.self.view_is c.self.invariant.1
-    (sym c.take-held.ensures.value ∙ is) refl c.requires.n).0
-
-pub join_list-requires-clause-new_room : goal.join_list-requires-clause-new_room
-join_list-requires-clause-new_room c =
-    let is = rw c.in-Some.is at c.list_of_set.ensures in
-    (left c.self.inside.form c.args.self.now c.self.inside.held c.args.rows.now.n c.args.rows.now.list
-    (record { rows = c.args.rows.now; list = c.in-Some.list }) c.self.view_is c.self.invariant.1
-    (sym c.take-held.ensures.value ∙ is) refl c.requires.n).2
-
-pub join_list-requires-clause-zero : goal.join_list-requires-clause-zero
-join_list-requires-clause-zero c =
-    let is = rw c.in-Some.is at c.list_of_set.ensures in
-    (left c.self.inside.form c.args.self.now c.self.inside.held c.args.rows.now.n c.args.rows.now.list
-    (record { rows = c.args.rows.now; list = c.in-Some.list }) c.self.view_is c.self.invariant.1
-    (sym c.take-held.ensures.value ∙ is) refl c.requires.n).1.zeros
+pub join_held-requires-clause-narrow : goal.join_held-requires-clause-narrow
+join_held-requires-clause-narrow c =
+    let is = rw c.in-Some.is at c.held_of_set.ensures in
+    held_not_wide c.self.inside.form c.args.self.now c.args.rows.now.n c.args.rows.now.list c.in-Some.held c.self.view_is
+    (ap (λ (r : Rows). r.list) is.1) c.requires.n c.requires.narrow
 
 pub slice_bounds-room-end : goal.slice_bounds-room-end
 slice_bounds-room-end c = omega (arith, c.columns.ensures.columns, c.self.invariant.0)
@@ -86,25 +59,24 @@ insert-requires-clause-length c =
 
 pub invariant_of-self : goal.invariant_of-self
 invariant_of-self c = (
-  omega (arith, c.join_list.ensures.n, c.self.invariant.0),
+  omega (arith, c.join_held.ensures.n, c.self.invariant.0),
   rw c.take-held.ensures.after tt,
-  c.join_list.ensures.kept,
+  c.join_held.ensures.kept,
 )
 
 pub returns-in-Some : goal.returns-in-Some
 returns-in-Some c =
-    let is = rw c.in-Some.is at c.list_of_set.ensures in
+    let is = rw c.in-Some.is at c.held_of_set.ensures in
     let reduced =
-    on_ok_weaker c.join_list.result
-    (with_list c.self.inside.form c.args.self.now c.self.inside.held c.args.rows.now.n c.args.rows.now.list
-    (record { rows = c.args.rows.now; list = c.in-Some.list }) c.self.view_is c.self.invariant.1
-    (sym c.take-held.ensures.value ∙ is) refl c.requires.n c.join_list.new.form.rows)
-    c.join_list.ensures.reduced in
+    on_ok_weaker c.join_held.result
+    (with_held c.self.inside.form c.args.self.now c.args.rows.now.n c.args.rows.now.list c.in-Some.held c.self.view_is
+    (ap (λ (r : Rows). r.list) is.1) c.requires.n c.join_held.new.form.rows)
+    c.join_held.ensures.reduced in
     record {
       reduced = reduced;
-      stands = on_ok_weaker c.join_list.result (stands_with c.args.self.now c.join_list.new.form c.args.rows.now.list) reduced;
-      n = c.join_list.ensures.n ∙ ap (λ (e : Echelon). e.n) c.self.view_is;
-      err = on_err_weaker c.join_list.result (λ same. same ∙ c.self.view_is) c.join_list.ensures.err;
+      stands = on_ok_weaker c.join_held.result (stands_with c.args.self.now c.join_held.new.form c.args.rows.now.list) reduced;
+      n = c.join_held.ensures.n ∙ ap (λ (e : Echelon). e.n) c.self.view_is;
+      err = on_err_weaker c.join_held.result (λ same. same ∙ c.self.view_is) c.join_held.ensures.err;
     }
 
 pub returns-then-branch-clause-stands : goal.returns-then-branch-clause-stands

@@ -5,6 +5,7 @@ use Rattle.audit_types.specs.Form.{set_row}
 use Rattle.sum_basis.specs.Basis.{Echelon}
 use Rattle.sum_basis.specs.Growth.{Foresees}
 use Rattle.sum_basis.proofs.SetRows.{set_bits}
+use Rattle.sum_basis.proofs.WeighedSets.{weighed_at}
 use Rattle.sum_basis.proofs.basis.Basis.weigh.Goals as goal
 
 pub weigh-requires-clause-bits : goal.weigh-requires-clause-bits
@@ -12,10 +13,10 @@ weigh-requires-clause-bits c = set_bits c.args.rows.now.n c.args.rows.now.list c
 
 pub returns-clause-foresees : goal.returns-clause-foresees
 returns-clause-foresees c =
-    let told = c.in_ok-prospect.field-0.prospect in
+    let told = c.in_ok-weighed.weighed.prospect in
     subst (λ (s : Echelon). Foresees s (set_row c.args.self.now.n c.args.rows.now.list) told) c.self.view_is
     (subst (λ (row : List ℤ). Foresees c.self.inside.form row told)
-    (c.write_set.ensures ∙ ap (λ (k : ℕ). set_row k c.args.rows.now.list) c.requires) c.in_ok-prospect.ensures.foresees)
+    (c.write_set.ensures ∙ ap (λ (k : ℕ). set_row k c.args.rows.now.list) c.requires) c.in_ok-weighed.ensures.foresees)
 
 pub slice_bounds-room-end : goal.slice_bounds-room-end
 slice_bounds-room-end c = omega (arith, c.columns.ensures.columns, c.self.invariant.0)
@@ -31,3 +32,15 @@ write_set-requires c =
 pub weigh-requires-clause-length : goal.weigh-requires-clause-length
 weigh-requires-clause-length c =
     ap length c.write_set.ensures ∙ length-set_row c.args.rows.now.n c.args.rows.now.list ∙ c.requires ∙ sym (ap (λ (e : Echelon). e.n) c.self.view_is)
+
+pub invariant_of-self-2 : goal.invariant_of-self-2
+invariant_of-self-2 c = (
+  c.self.invariant.0,
+  c.hold.ensures c.self.inside.form (weighed_at c.self.inside.form c.args.self.now c.args.rows.now.n c.args.rows.now.list c.write_set.new.row
+      c.in_ok-weighed.weighed c.self.view_is c.write_set.ensures c.requires (record {
+        foresees = c.in_ok-weighed.ensures.foresees;
+        left = c.in_ok-weighed.ensures.left;
+        nothing = c.in_ok-weighed.ensures.nothing;
+      })),
+  c.self.invariant.2,
+)

@@ -1,7 +1,7 @@
 use Rattle.std.proofs.Common.{rules, ◌≡◌, Option, Result, Ok, Err, IfErr, OnOk, refl, sym, subst, inl, inr}
 use Rattle.std.proofs.lemmas.Result.{IfOk-from_err}
 use Rattle.bench_core.specs.declared.source.Failed.{Failed}
-use Rattle.transcript_sim.specs.declared.due.Due.{Due}
+use Rattle.question_plan.specs.declared.due.Due.{Due}
 use Rattle.transcript_sim.specs.declared.expecting.Expected.{Expected}
 use Rattle.transcript_sim.specs.declared.simulating.SimulationFault.{SimulationFault}
 use Rattle.transcript_sim.specs.declared.simulating.SimulationFault.TheVariants as fault

@@ -1,0 +1,216 @@
+-- What `run` says of `explain`.
+use Rattle.std.proofs.Common.{◌≡◌, ◌+◌, ℕ, List, length, Option, Some, refl, sym, ◌∙◌, ap, subst, map, string_bytes}
+use Rattle.std.specs.List.{concat}
+use Rattle.audit_types.specs.declared.records.Answered.{Answered}
+use Rattle.bench_core.specs.Causes.{Rose}
+use Rattle.bench_core.specs.Calls.{IsQuiet, IsUntouched, LeavesOnly}
+use Rattle.bench_core.specs.Moments.{joins, weakens}
+use Rattle.schema_json.specs.Columns.{Column}
+use Rattle.table_load.specs.Database.{Database, base_of, table_in, secret_table}
+use Rattle.table_load.specs.MeaningLaws.{means_read}
+use Rattle.table_load.specs.Tables.{table_of}
+use Rattle.audit_store.specs.Stores.{IsAsLeft}
+use Rattle.line_wire.specs.Lines.{CountedLine, counted_lines}
+use Rattle.certificate_lines.specs.Ends.{EndSends, ExplainsMeanwhile}
+use Rattle.certificate_lines.specs.Explained.{AreExplained}
+use Rattle.auditor_top.specs.declared.words.Command.{Command}
+use Rattle.auditor_top.specs.declared.words.Command.TheVariants as command
+use Rattle.auditor_top.specs.declared.status.Status.{Status}
+use Rattle.auditor_top.specs.Words.{command_of, NamesCommand}
+use Rattle.auditor_top.specs.Commands.{AreFilesOf, AreSoundFilesOf, ServesOver, opens_store, reads_files, reads_groups, reads_lines, calls_spare}
+use Rattle.auditor_top.specs.Causes.{WordCause, FileCause, InputCause, FaultCause, HoldsLegal, IsReadyFor, counts}
+use Rattle.auditor_top.specs.Ends.{ExplainEnds, LeavesFile, SendsLines, public_part}
+use Rattle.auditor_top.specs.Ready.{IsReady, IsReadyOver}
+use Rattle.auditor_top.specs.Runs.{objects, faults_of, Explaining}
+use Rattle.auditor_top.specs.Stages.{writing_spare}
+use Rattle.auditor_top.specs.Status.{as_session, session_status}
+use Rattle.auditor_top.proofs.ExplainEndings.{explain_done, explain_ends, explain_reads, explain_sends, failed_bench, failed_input, untouched_lines}
+use Rattle.auditor_top.proofs.OneRunMore.{does_so, never_goes_on}
+use Rattle.auditor_top.proofs.OneCommand.{one_command, same_command, asked_for, not_asked, none_asked, takes_step, lacks_step, spare_called}
+use Rattle.auditor_top.proofs.OneTable.{holds_for, same_given, carried, schema_is_ok, table_is_ok, groups_are_sound}
+use Rattle.auditor_top.proofs.Openings.{later_still, stays}
+use Rattle.auditor_top.proofs.Refusals.{as_quiet}
+use Rattle.auditor_top.proofs.StepFaults.{moved, session_cause, session_faults, session_wants}
+use Rattle.auditor_top.proofs.StepStatuses.{always_before, at_lines, EndsLastStep, schema_read, table_read, groups_read, past_table, past_journal, no_schema_fault, no_table_fault, schema_was_read, table_was_read, session_last, session_words, session_bench, session_input, session_at_lines}
+use Rattle.std.specs.Bool.{OnTrue}
+use Rattle.set_index.specs.Groups.{AreEntries}
+use Rattle.audit_types.specs.declared.records.Protected.{Protected}
+use Rattle.audit_types.specs.History.{IsLegal}
+use Rattle.auditor_top.proofs.running.run.Given.{Over}
+use Rattle.auditor_top.proofs.running.run.Goals as goal
+
+-- the files are those of the table whose journal was opened
+are : (g : Over) (c : goal.After-drop-schema-inside-in-Ok-Explain-2 g) → g.P.Source.told →
+    AreSoundFilesOf (g.P.Source.left c.args.schema.now) (g.P.Source.left c.args.table.now)
+    (base_of c.in-Ok-Explain.schema.columns c.in-Ok-Explain.index.public c.in-Ok-Explain.index.protected c.in-Ok-Explain.store.secret)
+are g c ptold = subst (IsReadyOver _ _) c.in-Ok-Explain.field-0-is (c.in-Ok-Explain.ensures.over ptold)
+
+stands : (g : Over) (c : goal.After-drop-schema-inside-in-Ok-Explain-2 g) → g.B.Bench.told → IsAsLeft (g.B.Bench.file c.args.bench.now) c.in-Ok-Explain.store
+stands g c told =
+    subst (λ (bytes : List ℕ). IsAsLeft bytes c.in-Ok-Explain.store) c.open.ensures.reads.file
+    ((subst (IsReady g.B.Bench c.open.new.bench) c.in-Ok-Explain.field-0-is c.in-Ok-Explain.ensures.ready).0.left told)
+
+holds : (g : Over) (c : goal.After-drop-schema-inside-in-Ok-Explain-2 g) → g.B.Bench.told →
+    HoldsLegal (g.B.Bench.file c.args.bench.now) (secret_table c.in-Ok-Explain.store.secret c.in-Ok-Explain.index.protected)
+holds g c told =
+    let store = c.in-Ok-Explain.store in
+    let ready = subst (IsReady g.B.Bench c.open.new.bench) c.in-Ok-Explain.field-0-is c.in-Ok-Explain.ensures.ready in (
+      store.history,
+      (store.journal.gate, stands g c told),
+      subst (λ (p : List Protected). IsLegal (secret_table store.secret p) store.history) (sym ready.3) ready.0.is.legal,
+    )
+
+explained_faults : (g : Over) (c : goal.After-drop-schema-inside-in-Ok-Explain-2 g) → FaultCause c.explained.result
+    (faults_of g.P.Source g.I.Source g.B.Bench (objects c.args.schema.now c.args.table.now c.args.input.now c.args.bench.now c.args.spare.now))
+    (faults_of g.P.Source g.I.Source g.B.Bench (objects c.open.new.schema c.open.new.table c.explain.new.source c.explain.new.bench c.args.spare.now))
+explained_faults g c =
+    let before = counts (g.P.Source.faults c.args.schema.now) (g.P.Source.faults c.args.table.now) (g.I.Source.faults c.args.input.now)
+    (g.B.Bench.faults c.args.bench.now) (g.B.Bench.faults c.args.spare.now) in
+    let ended = c.explain.result in
+    let read = g.I.Source.faults c.explain.new.source in
+    let later = g.B.Bench.faults c.explain.new.bench in
+    let opened = c.in-Ok-Explain.ensures.steady in
+    let does = c.explain.ensures in
+    moved c.explained.result before _ _ _ _ read later _ opened.0 opened.1
+    (subst (λ (status : Status). FaultCause status before (record before { input = read; bench = later })) (sym c.explained.ensures)
+    (session_faults (as_session ended) before read later (λ is. does.input (failed_input ended is)) (λ other. does.steady.0 (λ is. other (ap as_session is)))
+    (λ is. subst (λ (n : ℕ). Rose n later) opened.2 (does.bench (failed_bench ended is))) (λ other. does.steady.1 (λ is. other (ap as_session is)) ∙ opened.2)))
+
+explaining : (g : Over) (c : goal.After-drop-schema-inside-in-Ok-Explain-2 g) →
+    Explaining g.P.Source g.I.Source g.B.Bench c.explained.result (objects c.args.schema.now c.args.table.now c.args.input.now c.args.bench.now c.args.spare.now)
+    (objects c.open.new.schema c.open.new.table c.explain.new.source c.explain.new.bench c.args.spare.now)
+explaining g c =
+    let at = c.args.bench.now in
+    let opened = c.open.new.bench in
+    let later = c.explain.new.bench in
+    let reads = c.open.ensures.reads in
+    let old = objects c.args.schema.now c.args.table.now c.args.input.now at c.args.spare.now in
+    let new = objects c.open.new.schema c.open.new.table c.explain.new.source later c.args.spare.now in
+    let text = g.I.Source.left old.input in
+    let left = g.I.Source.left new.input in
+    let file = g.B.Bench.file at in
+    let sent = g.B.Bench.sent at in
+    let ended = c.explain.result in
+    let does = c.explain.ensures in
+    let store = c.in-Ok-Explain.store in
+    let kept = store.history in
+    let columns = c.in-Ok-Explain.schema.columns in
+    let index = c.in-Ok-Explain.index in
+    let seen = base_of columns index.public index.protected store.secret in
+    let same : c.in-Ok.command ≡ command.Explain = same_command _ _ _ c.in-Ok-Explain.field-0-is c.in-Ok-Explain.ensures.asked in
+    let given : (g.P.Source.told → g.B.Bench.told → (base : Database) (history : List Answered) →
+    ServesOver (g.P.Source.left old.schema) (g.P.Source.left old.table) file base history → (seen ≡ base) × (kept ≡ history)) =
+    λ ptold told base history over. same_given c.one_reading.ensures c.groups_of_a_schema.ensures.entries _ _ file seen base kept history store.journal.gate
+    (are g c ptold) (stands g c told) over in
+    let moments : (g.B.Bench.told → IsQuiet g.B.Bench at → LeavesOnly g.B.Bench at later
+    (ExplainsMeanwhile g.I.Source.told columns index kept text file sent)) = λ told quiet.
+    joins g.B.Bench at opened later (ExplainsMeanwhile g.I.Source.told columns index kept text file sent)
+    (weakens g.B.Bench at opened (IsUntouched file sent) _ (untouched_lines g.I.Source.told columns index kept text file sent) (reads.untouched quiet))
+    (subst (λ (f : List ℕ). LeavesOnly g.B.Bench opened later (ExplainsMeanwhile g.I.Source.told columns index kept text f sent)) reads.file
+    (subst (λ (bytes : List ℕ). LeavesOnly g.B.Bench opened later
+    (ExplainsMeanwhile g.I.Source.told columns index kept text (g.B.Bench.file opened) bytes)) reads.sent
+    (does.any_moment told (as_quiet g.B.Bench at opened reads quiet)))) in
+    subst (λ (s : Status). Explaining g.P.Source g.I.Source g.B.Bench s old new) (sym c.explained.ensures) (record {
+      explained = λ ptold itold told base history over.
+          carried (λ (b : Database) (h : List Answered). (asked : List CountedLine) × (lines : List (List ℕ)) ×
+          ExplainEnds (session_status (as_session ended)) text left asked × AreExplained b.columns (public_part b) h asked lines ×
+          SendsLines (session_status (as_session ended)) (concat lines) sent (g.B.Bench.sent later)) seen base kept history (given ptold told base history over)
+          (let all = does.explains itold in (
+            all.0,
+            all.1,
+            explain_ends ended text left all.0 all.2,
+            all.3,
+            explain_sends ended all.1 sent (g.B.Bench.sent later)
+                (subst (λ (bytes : List ℕ). EndSends ended all.1 bytes (g.B.Bench.sent later)) reads.sent (all.4 told)),
+          ));
+      explaining = λ ptold told quiet base history over.
+          carried (λ (b : Database) (h : List Answered). LeavesOnly g.B.Bench at later
+          (ExplainsMeanwhile g.I.Source.told b.columns (public_part b) h text file sent)) seen base kept history
+          (given ptold told base history over) (moments told quiet);
+      undisturbed = λ told quiet. weakens g.B.Bench at later _ (LeavesFile file) (λ image bytes found. found.0) (moments told quiet);
+      explain_calls = λ itold told done.
+          explain_done ended done (does.calls itold told) ∙ ap (λ (n : ℕ). n + length (counted_lines text)) (c.in-Ok-Explain.ensures.ticks told (ap opens_store same));
+      explains = λ ptold itold told base history over within none.
+          session_wants (as_session ended) (faults_of g.P.Source g.I.Source g.B.Bench old) (faults_of g.P.Source g.I.Source g.B.Bench new) text left
+          (subst (λ (s : Status). FaultCause s (faults_of g.P.Source g.I.Source g.B.Bench old) (faults_of g.P.Source g.I.Source g.B.Bench new)) c.explained.ensures
+          (explained_faults g c)) none (explain_reads ended text left (does.reads itold)) within;
+    })
+
+explained_words : (g : Over) (c : goal.After-drop-schema-inside-in-Ok-Explain-2 g) → WordCause c.explained.result (command_of (map string_bytes c.args.words.now.items))
+explained_words g c =
+    subst (λ (asked : Option Command). WordCause c.explained.result asked)
+    (sym (asked_for _ _ _ _ c.in-Ok.ensures.command c.in-Ok-Explain.field-0-is c.in-Ok-Explain.ensures.asked))
+    (subst (λ (s : Status). WordCause s (Some command.Explain)) (sym c.explained.ensures) (session_words (as_session c.explain.result) command.Explain refl))
+
+explained_file : (g : Over) (c : goal.After-drop-schema-inside-in-Ok-Explain-2 g) → g.P.Source.told → g.B.Bench.told → (asked : Command) → NamesCommand c.args.words.now.items asked → (base : Database) →
+    (files : AreFilesOf (g.P.Source.left c.args.schema.now) (g.P.Source.left c.args.table.now) base) →
+    OnTrue (reads_groups asked) (AreEntries base.columns base.public files.groups base.protected) →
+    FileCause c.explained.result asked (g.B.Bench.file c.args.bench.now) (table_in base)
+explained_file g c = λ ptold told other asked base files sound.
+    let file = g.B.Bench.file c.args.bench.now in
+    let is_named : command_of (map string_bytes c.args.words.now.items) ≡ Some command.Explain =
+    asked_for _ _ _ _ c.in-Ok.ensures.command c.in-Ok-Explain.field-0-is c.in-Ok-Explain.ensures.asked in
+    subst (λ (k : Command). FileCause c.explained.result k file (table_in base)) (one_command _ _ other is_named asked)
+    (subst (λ (s : Status). FileCause s command.Explain file (table_in base)) (sym c.explained.ensures)
+    (session_cause (as_session c.explain.result) command.Explain file (table_in base)
+    (holds_for c.groups_of_a_schema.ensures.entries _ _ other is_named asked refl _ _ file _ base (are g c ptold) (holds g c told) files sound)))
+
+pub explanation_ends : goal.returns-in-Ok-Explain
+explanation_ends g c =
+    let status = c.explained.result in
+    let ended = as_session c.explain.result in
+    let reads = c.open.ensures.reads in
+    let does = c.explain.ensures in
+    let file = g.B.Bench.file c.args.bench.now in
+    let table = g.P.Source.left c.args.table.now in
+    let store = c.in-Ok-Explain.store in
+    let is_named : command_of (map string_bytes c.args.words.now.items) ≡ Some command.Explain =
+    asked_for _ _ _ _ c.in-Ok.ensures.command c.in-Ok-Explain.field-0-is c.in-Ok-Explain.ensures.asked in
+    let last = subst EndsLastStep (sym c.explained.ensures) (session_last ended) in
+    record {
+      words = explained_words g c;
+      schema = λ ptold command asked reads. schema_read status _ last (schema_is_ok _ _ (are g c ptold).files.schema_is);
+      table = λ ptold command asked reads meant is. table_read status _ last
+          (table_is_ok (λ (cs : List Column). table_of cs table) _ _ meant _ (are g c ptold).files.schema_is (means_read (are g c ptold).files.table_means) is);
+      public = λ ptold asked. not_asked _ _ _ is_named asked refl;
+      groups = λ ptold command asked reads meant is. groups_read status _ _ last
+          (groups_are_sound c.groups_of_a_schema.ensures.entries _ _ _ _ _ meant (are g c ptold).files.schema_is (are g c ptold).entries is);
+      own_schema_fault = no_schema_fault status last;
+      own_table_fault = no_table_fault status last;
+      file = explained_file g c;
+      input = λ itold command asked reads.
+          subst (λ (s : Status). InputCause s (g.I.Source.left c.args.input.now) (g.I.Source.left c.explain.new.source)) (sym c.explained.ensures)
+          (explain_reads c.explain.result _ _ (does.reads itold));
+      faults = explained_faults g c;
+      schema_last = schema_was_read status last;
+      table_last = table_was_read status last;
+      input_last = λ is. does.last_call.0 (failed_input c.explain.result (session_input ended (sym c.explained.ensures ∙ is)));
+      bench_last = λ is. does.last_call.1 (failed_bench c.explain.result (session_bench ended (sym c.explained.ensures ∙ is)));
+      spare_last = spare_called _ _ status is_named refl (explained_words g c);
+      spare_file = λ told command asked calls. lacks_step calls_spare _ _ command is_named asked refl calls;
+      later = record {
+        schema = c.open.ensures.later.0;
+        table = c.open.ensures.later.1;
+        input = does.later.0;
+        bench = later_still _ _ _ c.open.ensures.later.2 does.later.1;
+        spare = stays _;
+      };
+      schema_within = λ ptold. schema_was_read status last;
+      table_within = λ ptold. table_was_read status last;
+      lives = λ ptold told command asked itold quiet base at goes. never_goes_on _ command _ _ _ _ at base is_named asked (λ none. none) goes;
+      does = λ command asked. does_so g.P.Source g.I.Source g.B.Bench status _ _ _ _ command is_named asked (explaining g c);
+      nothing_began = λ ptold told command asked opens quiet none.
+          absurd (none _ (are g c ptold) (subst (λ (k : Command). IsReadyFor k file (secret_table store.secret c.in-Ok-Explain.index.protected))
+          (one_command _ _ command is_named asked) (holds g c told)));
+      quiet = λ told quiet fine image left. as_quiet g.B.Bench _ _ reads quiet image (does.crash image left) ∙ sym does.file;
+      before_table = past_table _ status last;
+      before_bench = past_journal _ status last;
+      before_spare = always_before writing_spare status refl;
+      before_lines = at_lines _ _ _ c.explained.ensures (session_at_lines _ ended);
+      unwritten = λ told. at_lines _ _ _ c.explained.ensures (session_at_lines _ ended);
+      unread = λ none. none_asked _ _ none is_named;
+      no_files = λ command asked none. takes_step reads_files _ _ _ is_named asked refl none;
+      no_lines = λ command asked none. takes_step reads_lines _ _ _ is_named asked refl none;
+      never_written = λ told command asked none. does.file ∙ reads.file;
+      spare = λ command asked none. refl;
+    }

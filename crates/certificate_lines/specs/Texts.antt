@@ -1,0 +1,36 @@
+-- The lines that show why a question is denied.
+use Rattle.std.specs.Prelude.{ℕ, List, ◌++◌, map, codes, decimal, Option, Some, None}
+use Rattle.std.specs.Fmt.{signed_decimal}
+use Rattle.line_wire.specs.CommaLists.{with_commas, at_place}
+use Rattle.denial_proof.specs.declared.proof_parts.Target.{Target}
+use Rattle.denial_proof.specs.declared.proof_parts.Target.TheVariants.{Row, Group}
+use Rattle.denial_proof.specs.declared.proof_parts.Term.{Term}
+use Rattle.denial_proof.specs.declared.proof_parts.Proof.{Proof}
+use Rattle.denial_proof.specs.declared.proof_parts.Proof.TheVariants.{Sum, Max}
+
+-- what a sum would give away
+abbrev pub target_text : Target → List ℕ
+target_text (Row row) = codes "\"row\":" ++ decimal row
+target_text (Group place) = codes "\"group\":" ++ decimal place
+
+-- how often the set of a record is counted, after the record's place
+abbrev pub term_text : Term → List ℕ
+term_text term = at_place term.place term.times
+
+-- the answer that the row is alone in: a record's, by its place, or the asked one
+abbrev pub pair_text : Option ℕ → List ℕ
+pair_text (Some place) = decimal place
+pair_text None = codes "\"asked\""
+
+-- the line with a proof
+unfoldable pub proof_line : Proof → List ℕ
+proof_line (Sum target times terms asked) =
+    codes "{\"verdict\":\"unsafe\"," ++ target_text target ++ codes ",\"times\":" ++ signed_decimal times ++ codes ",\"by\":[" ++ with_commas (map term_text terms)
+    ++ codes "],\"asked\":" ++ signed_decimal asked ++ codes "}\n"
+proof_line (Max answer row pair high) =
+    codes "{\"verdict\":\"unsafe\",\"answer\":" ++ signed_decimal answer ++ codes ",\"row\":" ++ decimal row ++ codes ",\"pair\":" ++ pair_text pair
+    ++ codes ",\"high\":[" ++ with_commas (map signed_decimal high) ++ codes "]}\n"
+
+-- the line without one
+abbrev pub wide_line : List ℕ
+wide_line = codes "{\"verdict\":\"unsafe\",\"proof\":\"wide\"}\n"

@@ -1,0 +1,66 @@
+//! Explaining the lines of an input.
+ghost use Rattle.std.specs.Prelude.{◌≡◌, ◌≢◌, ◌≤◌, ◌+◌, List, ℕ, length, OnOk, Err, true};
+ghost use Rattle.bench_core.specs.Causes.{Rose};
+ghost use Rattle.bench_core.specs.Calls.{IsQuiet, LeavesOnly};
+ghost use Rattle.schema_json.specs.SecretShape.{shape_of};
+ghost use Rattle.table_load.specs.Cells.{FitsSchema};
+ghost use Rattle.line_wire.specs.Lines.{CountedLine, counted_lines};
+ghost use Rattle.certificate_lines.specs.Explained.{AreExplained};
+ghost use Rattle.certificate_lines.specs.Ends.{EndLines, EndReads, EndSends, ExplainsMeanwhile};
+
+use audit_store::Store;
+use bench_core::{Bench, Source};
+use schema_json::Schema;
+use set_index::Index;
+use std::alloc::Global;
+
+/// Why explaining ended before the input did.
+#[derive(Clone, Copy)]
+pub enum ExplainFault {
+    /// The input failed.
+    Input,
+    /// A line couldn't be sent.
+    Bench,
+    /// The input has more than 2^30 bytes.
+    Limit,
+    NoMemory,
+}
+
+/// Sends a line for each counted line of the input: the verdict on it after the store's history, and for a denial as unsafe its
+/// certificate. Nothing is recorded, so that each line is decided after the same history, and nothing is written. The index
+/// is that of the schema's public columns and protected groups.
+pub fn explain<P: Source, B: Bench>(
+    alloc: Global,
+    schema: &Schema,
+    index: &Index,
+    store: &Store,
+    source: &mut P,
+    bench: &mut B,
+) -> Result<(), ExplainFault>
+    requires usable { store.now.usable ≡ true }
+    requires fits { FitsSchema schema.now.columns index.now.public }
+    requires entries { index.now.protected ≡ store.now.protected }
+    requires shape { store.now.secret.shape ≡ shape_of schema.now.columns index.now.public.rows }
+
+    // Which lines are explained, and what is due to each, whether or not the bench tells what was sent; that it was sent, by one
+    // call for each counted line and no other.
+    ensures explains { P.told → (asked : List CountedLine) × (lines : List (List ℕ)) × EndLines result (P.left source.old) (P.left source.new) asked
+        × AreExplained schema.now.columns index.now store.now.history asked lines × (B.told → EndSends result lines (B.sent bench.old) (B.sent bench.new)) }
+    ensures calls { P.told → B.told → OnOk result (B.moment bench.new ≡ B.moment bench.old + length (counted_lines (P.left source.old))) }
+    ensures reads { P.told → EndReads result (P.left source.old) (P.left source.new) }
+
+    // The file isn't touched, at the end and at every moment.
+    ensures any_moment { B.told → IsQuiet B.Bench bench.old
+        → LeavesOnly B.Bench bench.old bench.new (ExplainsMeanwhile P.told schema.now.columns index.now store.now.history (P.left source.old) (B.file bench.old) (B.sent bench.old)) }
+    ensures file { B.file bench.new ≡ B.file bench.old }
+    ensures crash { (image : List ℕ) → B.leaves bench.new image → B.leaves bench.old image }
+
+    // It doesn't give up by itself, and passes over no failed call.
+    ensures later { (P.faults source.old ≤ P.faults source.new) × (B.faults bench.old ≤ B.faults bench.new) }
+    ensures input { result ≡ Err ExplainFault.Input → Rose (P.faults source.old) (P.faults source.new) }
+    ensures bench { result ≡ Err ExplainFault.Bench → Rose (B.faults bench.old) (B.faults bench.new) }
+    ensures last_call { (result ≡ Err ExplainFault.Input → P.last_failed source.new ≡ true) × (result ≡ Err ExplainFault.Bench → B.last_failed bench.new ≡ true) }
+    ensures steady { (result ≢ Err ExplainFault.Input → P.faults source.new ≡ P.faults source.old) × (result ≢ Err ExplainFault.Bench → B.faults bench.new ≡ B.faults bench.old) }
+{
+    Err(ExplainFault::NoMemory)
+}
