@@ -1,5 +1,5 @@
 -- A group was decided, and then sent.
-use Rattle.std.proofs.Common.{◌≡◌, ℕ, ◌+◌, List, [], ◌∷◌, ◌++◌, length, take, refl, sym, ◌∙◌, ap, subst, arith, inl, inr, ⊎_elim}
+use Rattle.std.proofs.Common.{◌≡◌, ℕ, ◌+◌, List, [], ◌∷◌, ◌++◌, length, take, refl, sym, ◌∙◌, ap, subst, arith, inl, inr, ⊎_elim, ◌⊎◌}
 use Rattle.std.specs.Prelude.{All, IsErrOf, Err}
 use Rattle.std.specs.List.{flat_map}
 use Rattle.std.proofs.lemmas.List.{append-nil}
@@ -14,8 +14,8 @@ use Rattle.audit_types.specs.declared.records.Protected.{Protected}
 use Rattle.table_load.specs.Cells.{SecretView, IsSecret}
 use Rattle.table_load.specs.Database.{secret_table}
 use Rattle.journal_form.specs.Journal.{StandsFor}
-use Rattle.audit_store.specs.declared.outcome.StoreFault.{StoreFault}
-use Rattle.audit_store.specs.declared.outcome.StoreFault.TheVariants.{Failed, NoMemory}
+use Rattle.audit_store.specs.declared.keeper.KeepFault.{KeepFault}
+use Rattle.audit_store.specs.declared.keeper.KeepFault.TheVariants.{Bench, Spare, NoMemory}
 use Rattle.audit_store.specs.Stores.{StoreContents, IsAsLeft, Keeps, calls_for}
 use Rattle.line_wire.specs.Reply.{reply_bytes}
 use Rattle.line_wire.specs.declared.reply.Reply.{Reply}
@@ -25,16 +25,34 @@ use Rattle.question_plan.specs.Session.{records_of}
 use Rattle.question_plan.specs.Replies.{IsReplyOf}
 use Rattle.question_plan.specs.Plans.{CanBeServed}
 use Rattle.question_plan.specs.Laws.{OutcomesCanBeTold, SomeReplyTells}
-use Rattle.audit_session.specs.Groups.{AnswersGroup, AreTold, DecidesGroup, InGroup, questions_of, stands_of}
+use Rattle.audit_session.specs.Groups.{AnswersGroup, AreTold, DecidesGroup, InGroup, UnsentInGroup, questions_of, stands_of}
 use Rattle.audit_session.proofs.Planned.{replies_to, replies_are, records_are, bytes_are}
 use Rattle.audit_session.proofs.ToldPlans.{can_all, some_replies}
 use Rattle.audit_session.proofs.Sending.{SendsPart}
 
 -- a refusal is for lack of memory, or another
-pub by_fault : {X Claim : Type 0} (fault : StoreFault) → (IsErrOf {T = X} (Err fault) NoMemory → Claim) → ((IsErrOf {T = X} (Err fault) NoMemory → ⊥) → Claim) →
+pub by_fault : {X Claim : Type 0} (fault : KeepFault) → (IsErrOf {T = X} (Err fault) NoMemory → Claim) → ((IsErrOf {T = X} (Err fault) NoMemory → ⊥) → Claim) →
     Claim
 by_fault NoMemory same other = same refl
-by_fault {X} Failed same other = other (λ (e : IsErrOf {T = X} (Err Failed) NoMemory). cc)
+by_fault {X} Bench same other = other (λ (e : IsErrOf {T = X} (Err Bench) NoMemory). cc)
+by_fault {X} Spare same other = other (λ (e : IsErrOf {T = X} (Err Spare) NoMemory). cc)
+
+-- it is one of three
+pub by_kind : {X Claim : Type 0} (fault : KeepFault) → (IsErrOf {T = X} (Err fault) NoMemory → Claim) → (IsErrOf {T = X} (Err fault) Bench → Claim)
+    → (IsErrOf {T = X} (Err fault) Spare → Claim) → Claim
+by_kind NoMemory memory bench spare = memory refl
+by_kind Bench memory bench spare = bench refl
+by_kind Spare memory bench spare = spare refl
+
+pub bench_no_spare_fault : {X : Type 0} (fault : KeepFault) → IsErrOf {T = X} (Err fault) Bench → IsErrOf {T = X} (Err fault) Spare → ⊥
+bench_no_spare_fault NoMemory is other = cc
+bench_no_spare_fault Bench is other = cc
+bench_no_spare_fault Spare is other = cc
+
+pub spare_no_memory_fault : {X : Type 0} (fault : KeepFault) → IsErrOf {T = X} (Err fault) Spare → IsErrOf {T = X} (Err fault) NoMemory → ⊥
+spare_no_memory_fault NoMemory is other = cc
+spare_no_memory_fault Bench is other = cc
+spare_no_memory_fault Spare is other = cc
 
 -- one reply was told for each plan
 length-told : (plans : List Plan) (outcomes : List Outcome) (told : List Reply) → AreTold plans outcomes told → length told ≡ length plans
@@ -49,7 +67,8 @@ length-told (Ask take asked ∷ plans) (outcome ∷ outcomes) (reply ∷ told) t
 
 module _ {B : Type 0} (bench : Ghosts B) (old mid : B) (secret : SecretView) (protected : List Protected) (history : List Answered) (plans : List Plan) where
   -- the outcomes were told
-  pub told_group : (now : List Answered) (outcomes : List Outcome) (told : List Reply) → AreOutcomes (secret_table secret protected) history (questions_of plans) outcomes
+  pub told_group : (now : List Answered) (outcomes : List Outcome) (told : List Reply)
+      → AreOutcomes (secret_table secret protected) history (questions_of plans) outcomes
       → AreTold plans outcomes told
       → now ≡ history ++ records_made (questions_of plans) outcomes →
       (bench.told → bench.moment mid ≡ bench.moment old + calls_for (records_made (questions_of plans) outcomes))
@@ -65,14 +84,14 @@ module _ {B : Type 0} (bench : Ghosts B) (old mid : B) (secret : SecretView) (pr
         calls = λ t. subst (λ (l : List Answered). bench.moment mid ≡ bench.moment old + calls_for l) (sym records) (calls t);
       }
 
-  -- while they are kept
-  pub while_kept : OutcomesCanBeTold → SomeReplyTells → IsSecret secret → All (CanBeServed secret.shape) plans → (before : List ℕ)
-      → Keeps bench old mid (secret_table secret protected) history (questions_of plans) before
-      → LeavesOnly bench old mid (InGroup (IsReplyOf (secret_table secret protected)) (stands_of secret.shape) history plans before)
-  while_kept can some is served before keeps =
+  -- what a crash finds while they are kept
+  in_group : OutcomesCanBeTold → SomeReplyTells → IsSecret secret → All (CanBeServed secret.shape) plans → (before : List ℕ)
+      → (keeps : Keeps bench old mid (secret_table secret protected) history (questions_of plans) before) → (image bytes : List ℕ)
+      → (bytes ≡ before) × (StandsFor image secret.shape history ⊎ StandsFor image secret.shape (history ++ records_made (questions_of plans) keeps.outcomes))
+      → InGroup (IsReplyOf (secret_table secret protected)) (stands_of secret.shape) history plans before image bytes
+  in_group can some is served before keeps image bytes found =
       let told = some_replies some plans keeps.outcomes (can_all can secret protected is history plans keeps.outcomes served keeps.due) in
       let replies = replies_to plans keeps.outcomes told.0 in
-      weakens bench old mid _ _ (λ image bytes found.
       ⊎_elim (λ (stands : StandsFor image secret.shape history). inl (found.0, stands))
       (λ (stands : StandsFor image secret.shape (history ++ records_made (questions_of plans) keeps.outcomes)).
       inr (
@@ -81,17 +100,45 @@ module _ {B : Type 0} (bench : Ghosts B) (old mid : B) (secret : SecretView) (pr
         subst (λ (l : List Answered). StandsFor image secret.shape (history ++ l)) (sym (records_are plans keeps.outcomes told.0 told.1)) stands,
         (0, found.0 ∙ sym (append-nil before)),
       ))
-      found.1) keeps.moments
+      found.1
+
+  pub while_kept : OutcomesCanBeTold → SomeReplyTells → IsSecret secret → All (CanBeServed secret.shape) plans → (before : List ℕ)
+      → Keeps bench old mid (secret_table secret protected) history (questions_of plans) before
+      → LeavesOnly bench old mid (InGroup (IsReplyOf (secret_table secret protected)) (stands_of secret.shape) history plans before)
+  while_kept can some is served before keeps = weakens bench old mid _ _ (in_group can some is served before keeps) keeps.moments
+
+  -- the same of a spare
+  pub while_kept_unsent : OutcomesCanBeTold → SomeReplyTells → IsSecret secret → All (CanBeServed secret.shape) plans → (before : List ℕ)
+      → Keeps bench old mid (secret_table secret protected) history (questions_of plans) before
+      → LeavesOnly bench old mid (UnsentInGroup (IsReplyOf (secret_table secret protected)) (stands_of secret.shape) history plans before)
+  while_kept_unsent can some is served before keeps =
+      weakens bench old mid _ _ (λ image bytes found. (
+        found.0,
+        subst (λ (b : List ℕ). InGroup (IsReplyOf (secret_table secret protected)) (stands_of secret.shape) history plans before image b) found.0
+            (in_group can some is served before keeps image bytes found),
+      )) keeps.moments
 
   -- if nothing was called
   pub nothing_called : mid ≡ old → ((image bytes : List ℕ) → bench.since old (bench.moment old) image bytes → bench.leaves old image × (bytes ≡ bench.sent old))
       → IsQuiet bench old → stands_of secret.shape (bench.file old) history
       → LeavesOnly bench old mid (InGroup (IsReplyOf (secret_table secret protected)) (stands_of secret.shape) history plans (bench.sent old))
   nothing_called same only_now quiet stands =
-      subst (λ (b : B). LeavesOnly bench old b (InGroup (IsReplyOf (secret_table secret protected)) (stands_of secret.shape) history plans (bench.sent old))) (sym same)
+      subst (λ (b : B). LeavesOnly bench old b (InGroup (IsReplyOf (secret_table secret protected)) (stands_of secret.shape) history plans
+      (bench.sent old))) (sym same)
       (started bench old _ (λ image bytes was.
       let found = only_now image bytes was in
       inl (found.1, subst (λ (i : List ℕ). stands_of secret.shape i history) (sym (quiet image found.0)) stands)))
+
+  pub nothing_called_unsent : mid ≡ old
+      → ((image bytes : List ℕ) → bench.since old (bench.moment old) image bytes → bench.leaves old image × (bytes ≡ bench.sent old))
+      → IsQuiet bench old → stands_of secret.shape (bench.file old) history
+      → LeavesOnly bench old mid (UnsentInGroup (IsReplyOf (secret_table secret protected)) (stands_of secret.shape) history plans (bench.sent old))
+  nothing_called_unsent same only_now quiet stands =
+      subst (λ (b : B). LeavesOnly bench old b (UnsentInGroup (IsReplyOf (secret_table secret protected)) (stands_of secret.shape) history plans
+      (bench.sent old))) (sym same)
+      (started bench old _ (λ image bytes was.
+      let found = only_now image bytes was in
+      (found.1, inl (refl, subst (λ (i : List ℕ). stands_of secret.shape i history) (sym (quiet image found.0)) stands))))
 
   -- and then their replies are sent
   module _ (now : List Answered) (told : List Reply) (decides : DecidesGroup bench old mid (secret_table secret protected) history now plans told)

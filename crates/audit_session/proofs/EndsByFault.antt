@@ -6,8 +6,8 @@ use Rattle.audit_types.specs.declared.records.Answered.{Answered}
 use Rattle.table_load.specs.Cells.{SecretView}
 use Rattle.table_load.specs.Database.{Database}
 use Rattle.line_wire.specs.Lines.{counted_lines, most_input}
-use Rattle.audit_session.specs.declared.serving.EndFault.{EndFault}
-use Rattle.audit_session.specs.declared.serving.EndFault.TheVariants as end
+use Rattle.audit_session.specs.declared.session.TwinEnd.{TwinEnd}
+use Rattle.audit_session.specs.declared.session.TwinEnd.TheVariants as end
 use Rattle.bench_core.specs.declared.bench.Bench.{Ghosts}
 use Rattle.bench_core.specs.Calls.{IsQuiet}
 use Rattle.journal_form.specs.Journal.{StandsFor}
@@ -15,7 +15,7 @@ use Rattle.audit_store.specs.Stores.{StoreContents}
 use Rattle.audit_session.specs.Ends.{Ends, Reads, Rests, Serves, ServesWhole, ServesSome, limited}
 
 pub ends_by : {X : Type 0} (batch : ℕ) (base : Database) (history : List Answered) (input left : List ℕ) (now : List Answered) (before after : List ℕ)
-    (fault : EndFault)
+    (fault : TwinEnd)
     → (IsErrOf {T = X} (Err fault) end.Input → ServesWhole base history batch input left now before after)
     → (IsErrOf {T = X} (Err fault) end.Limit → ServesWhole base history batch (limited input) [] now before after) →
     (IsErrOf {T = X} (Err fault) end.NoMemory → ServesSome base history batch (counted_lines input) now before after)
@@ -24,26 +24,28 @@ ends_by batch base history input left now before after end.Input whole limit som
 ends_by batch base history input left now before after end.Limit whole limit some = limit refl
 ends_by batch base history input left now before after end.NoMemory whole limit some = some refl
 ends_by batch base history input left now before after end.Bench whole limit some = tt
+ends_by batch base history input left now before after end.Spare whole limit some = tt
 
-pub reads_by : {X : Type 0} (input left : List ℕ) (fault : EndFault) → (IsErrOf {T = X} (Err fault) end.Input → length input ≤ most_input + length left) →
+pub reads_by : {X : Type 0} (input left : List ℕ) (fault : TwinEnd) → (IsErrOf {T = X} (Err fault) end.Input → length input ≤ most_input + length left) →
     (IsErrOf {T = X} (Err fault) end.Limit → most_input + length left < length input) → Reads (Err fault) input left
 reads_by input left end.Input within over = within refl
 reads_by input left end.Limit within over = over refl
 reads_by input left end.NoMemory within over = tt
 reads_by input left end.Bench within over = tt
+reads_by input left end.Spare within over = tt
 
 -- the clauses on an end without a fault
-pub all_by : (answer : Result (Unit {0}) EndFault) (batch : ℕ) (base : Database) (history : List Answered) (input left : List ℕ) (now : List Answered)
+pub all_by : (answer : Result (Unit {0}) TwinEnd) (batch : ℕ) (base : Database) (history : List Answered) (input left : List ℕ) (now : List Answered)
     (before after : List ℕ)
     → Ends batch answer base history input left now before after → OnOk answer (Serves base history (counted_lines input) now before after)
 all_by (Ok done) batch base history input left now before after ends = ends
 all_by (Err fault) batch base history input left now before after ends = tt
 
-pub read_by : (answer : Result (Unit {0}) EndFault) (input left : List ℕ) → Reads answer input left → OnOk answer (left ≡ [])
+pub read_by : (answer : Result (Unit {0}) TwinEnd) (input left : List ℕ) → Reads answer input left → OnOk answer (left ≡ [])
 read_by (Ok done) input left reads = reads.0
 read_by (Err fault) input left reads = tt
 
-pub within_by : (answer : Result (Unit {0}) EndFault) (input left : List ℕ) → Reads answer input left → OnOk answer (length input ≤ most_input)
+pub within_by : (answer : Result (Unit {0}) TwinEnd) (input left : List ℕ) → Reads answer input left → OnOk answer (length input ≤ most_input)
 within_by (Ok done) input left reads = reads.1
 within_by (Err fault) input left reads = tt
 
@@ -54,14 +56,15 @@ all_read input [] left taken none read within = (none, omega (arith, read, withi
 all_read input (byte ∷ pending) left taken none read within = let never : ⊥ = cc in absurd never
 
 -- an answer that refused only because memory ran out leaves all as it stood
-pub rests_by : {B X : Type 0} (fault : EndFault) → (IsErrOf {T = X} (Err fault) end.Input → ⊥) → (IsErrOf {T = X} (Err fault) end.Limit → ⊥) →
-    (IsErrOf {T = X} (Err fault) end.Bench → ⊥)
+pub rests_by : {B X : Type 0} (fault : TwinEnd) → (IsErrOf {T = X} (Err fault) end.Input → ⊥) → (IsErrOf {T = X} (Err fault) end.Limit → ⊥) →
+    (IsErrOf {T = X} (Err fault) end.Bench → ⊥) → (IsErrOf {T = X} (Err fault) end.Spare → ⊥)
     → (bench : Ghosts B) (old mid new : B) (was now : StoreContents) → (IsErrOf {T = X} (Err fault) end.NoMemory → (new ≡ mid) × (now.history ≡ was.history))
     → now.secret ≡ was.secret → Rests bench old mid was → Rests bench old new now
-rests_by end.Input no_input no_limit no_bench bench old mid new was now still secret rests = absurd (no_input refl)
-rests_by end.Limit no_input no_limit no_bench bench old mid new was now still secret rests = absurd (no_limit refl)
-rests_by end.Bench no_input no_limit no_bench bench old mid new was now still secret rests = absurd (no_bench refl)
-rests_by end.NoMemory no_input no_limit no_bench bench old mid new was now still secret rests = record {
+rests_by end.Input no_input no_limit no_bench no_spare bench old mid new was now still secret rests = absurd (no_input refl)
+rests_by end.Limit no_input no_limit no_bench no_spare bench old mid new was now still secret rests = absurd (no_limit refl)
+rests_by end.Bench no_input no_limit no_bench no_spare bench old mid new was now still secret rests = absurd (no_bench refl)
+rests_by end.Spare no_input no_limit no_bench no_spare bench old mid new was now still secret rests = absurd (no_spare refl)
+rests_by end.NoMemory no_input no_limit no_bench no_spare bench old mid new was now still secret rests = record {
   stands = λ t.
       subst (λ (h : List Answered). StandsFor (bench.file new) now.secret.shape h) (sym (still refl).1)
       (subst (λ (s : SecretView). StandsFor (bench.file new) s.shape was.history) (sym secret)

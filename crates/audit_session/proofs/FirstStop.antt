@@ -11,6 +11,7 @@ use Rattle.question_plan.specs.Session.{AreReplies}
 use Rattle.question_plan.specs.Replies.{IsDue}
 use Rattle.audit_session.specs.Stops.{StopsOver, stands_over}
 use Rattle.audit_session.specs.Ends.{ServesSome}
+use Rattle.audit_session.specs.Groups.{SpareAmong}
 use Rattle.audit_session.proofs.StopsOfGroups.{stop_between}
 
 pub stops_first : {B : Type 0} (bench : Ghosts B) (at : B) (base : Database) (batch : ℕ) (history : List Answered) (lines : List CountedLine)
@@ -30,7 +31,8 @@ stops_first bench at base batch history lines only_now quiet stands = started be
     none = omega arith
 
 -- and no group was answered
-pub serves_none : (base : Database) (batch : ℕ) (history : List Answered) (lines : List CountedLine) (sent : List ℕ) → ServesSome base history batch lines history sent sent
+pub serves_none : (base : Database) (batch : ℕ) (history : List Answered) (lines : List CountedLine) (sent : List ℕ)
+    → ServesSome base history batch lines history sent sent
 serves_none base batch history lines sent = record {
   count = 0;
   serves = record {
@@ -43,3 +45,24 @@ serves_none base batch history lines sent = record {
   where
     none : 0 ≡ 0 * batch
     none = omega arith
+
+-- before the first call a spare's image stands as at the first stop
+pub spare_first : {E : Type 0} (told : Type 0) (spare : Ghosts E) (at : E) (base : Database) (batch : ℕ) (history : List Answered) (lines : List CountedLine)
+    → ((image bytes : List ℕ) → spare.since at (spare.moment at) image bytes → spare.leaves at image × (bytes ≡ spare.sent at))
+    → IsQuiet spare at → stands_over base (spare.file at) history → LeavesOnly spare at at (SpareAmong told base batch history lines (spare.sent at))
+spare_first told spare at base batch history lines only_now quiet stands = started spare at _ (λ image bytes was.
+    let found = only_now image bytes was in
+    let here = subst (λ (f : List ℕ). stands_over base f history) (sym (quiet image found.0)) stands in
+    (found.1, ([], (([], stop_here [] image here), λ _. stop_here lines image here))))
+  where
+    none : 0 ≡ 0 * batch
+    none = omega arith
+
+    stop_here : (ls : List CountedLine) (image : List ℕ) → stands_over base image history → StopsOver base batch history ls [] image []
+    stop_here ls image here = (
+      [],
+      refl,
+      stop_between (IsDue base) (stands_over base) batch history ls 0 [] image []
+          (subst (λ (n : ℕ). AreReplies (IsDue base) history (take n ls) []) none tt)
+          (subst (λ (h : List Answered). stands_over base image h) (sym (append-nil history)) here) refl,
+    )

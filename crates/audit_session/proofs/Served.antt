@@ -1,5 +1,5 @@
 -- What the loop over groups keeps from turn to turn.
-use Rattle.std.proofs.Common.{◌≡◌, ℕ, ◌+◌, ◌*◌, ◌<◌, ◌≤◌, Bool, true, false, List, [], ◌++◌, length, refl, sym, ◌∙◌, ap, subst, arith, inl, ◌⊎◌, ⊎_elim, append_assoc, length-append}
+use Rattle.std.proofs.Common.{◌≡◌, ℕ, ◌+◌, ◌*◌, ◌<◌, ◌≤◌, Bool, true, false, List, [], ◌++◌, length, refl, sym, ◌∙◌, ap, subst, arith, inl, inr, ◌⊎◌, ⊎_elim, append_assoc, length-append}
 use Rattle.std.specs.Prelude.{◌/◌}
 use Rattle.std.proofs.lemmas.Nat.{div-mul-add}
 use Rattle.std.proofs.Math.Nat.{suc-mul}
@@ -8,12 +8,14 @@ use Rattle.std.proofs.lemmas.List.{append-nil}
 use Rattle.audit_types.specs.declared.records.Answered.{Answered}
 use Rattle.bench_core.specs.declared.bench.Bench.{Ghosts}
 use Rattle.bench_core.specs.declared.source.Source.{Ghosts as SourceGhosts}
+use Rattle.audit_store.specs.declared.keeper.Keeper.{Ghosts as KeeperGhosts}
 use Rattle.bench_core.specs.Calls.{IsQuiet, LeavesOnly}
 use Rattle.bench_core.specs.Moments.{weakens, joins}
 use Rattle.schema_json.specs.Columns.{Column}
 use Rattle.audit_types.specs.declared.records.Protected.{Protected}
 use Rattle.table_load.specs.Cells.{PublicView, SecretView}
 use Rattle.table_load.specs.Database.{Database, base_of, secret_table}
+use Rattle.journal_form.specs.Journal.{StandsAt}
 use Rattle.audit_store.specs.Stores.{StoreContents, IsAsLeft, IsStore, table_of}
 use Rattle.line_wire.specs.Lines.{CountedLine, counted_lines, whole_lines, most_input}
 use Rattle.line_wire.specs.Cutter.{Cutter}
@@ -22,13 +24,13 @@ use Rattle.line_wire.specs.LinesInTurn.{reads_none, reads_more}
 use Rattle.question_plan.specs.declared.planning.Plan.{Plan}
 use Rattle.question_plan.specs.Session.{Replied, records_of, bytes_of, AreReplies, commits, groups}
 use Rattle.question_plan.specs.Replies.{IsDue, IsReplyOf}
-use Rattle.audit_session.specs.Stops.{StopsOver}
+use Rattle.audit_session.specs.Stops.{LeavesBoth, StopsOver}
 use Rattle.audit_session.specs.Ends.{Serves, ServesWhole, ServesSome, TakesCalls, limited}
-use Rattle.audit_session.specs.Groups.{CutsShort, Gathers, InGroup, AnswersGroup, StandsOn, StopsAmong, stands_of}
+use Rattle.audit_session.specs.Groups.{BothInGroup, CutsShort, Gathers, InGroup, UnsentInGroup, SpareAmong, AnswersGroup, StandsOn, StopsAmong, stands_of}
 use Rattle.question_plan.specs.InTurn.{bytes_of-append, length-replies}
-use Rattle.audit_session.proofs.FirstStop.{stops_first}
+use Rattle.audit_session.proofs.FirstStop.{stops_first, spare_first}
 use Rattle.audit_session.proofs.Planned.{length-plans}
-use Rattle.audit_session.proofs.GroupStops.{stops_among, all_due, history_more, first_groups}
+use Rattle.audit_session.proofs.GroupStops.{both_after, stops_among, all_due, history_more, first_groups}
 use Rattle.audit_session.proofs.Commits.{commits_more}
 use Rattle.audit_session.proofs.EndsByFault.{limited_is}
 
@@ -70,6 +72,19 @@ pub record Served {P B : Type 0} (source : SourceGhosts P) (bench : Ghosts B) (c
   pub source_steady : source.faults from ≡ source.faults first_source
   pub bench_steady : bench.faults at ≡ bench.faults first
 
+-- and of a spare, which isn't called if the keeper isn't spared
+pub record SpareServed {P K S : Type 0} (source : SourceGhosts P) (keeper : KeeperGhosts K) (spare : Ghosts S) (columns : List Column) (public : PublicView)
+    (batch : ℕ) (first_keeper kept : K) (first_source : P) (first at : S) : Type 0 where
+  pub stands : keeper.spared → spare.told → StandsAt (spare.file at) (keeper.store kept).secret.shape (keeper.store kept).history (keeper.spare_gate kept)
+  pub moments : keeper.spared → spare.told → IsQuiet spare first →
+      LeavesOnly spare first at
+      (SpareAmong source.told (base_of columns public (keeper.store first_keeper).protected (keeper.store first_keeper).secret) batch
+      (keeper.store first_keeper).history (counted_lines (source.left first_source)) (spare.sent first))
+  pub quiet : keeper.spared → spare.told → IsQuiet spare first → IsQuiet spare at
+  pub sent : spare.sent at ≡ spare.sent first
+  pub steady : spare.faults at ≡ spare.faults first
+  pub untouched : (keeper.spared → ⊥) → at ≡ first
+
 -- before the first group
 pub first_moments : {B : Type 0} (told : Type 0) (bench : Ghosts B) (columns : List Column) (public : PublicView) (batch : ℕ) (store : StoreContents)
     (all : List CountedLine) (at : B)
@@ -77,7 +92,8 @@ pub first_moments : {B : Type 0} (told : Type 0) (bench : Ghosts B) (columns : L
     IsAsLeft (bench.file at) store
     → LeavesOnly bench at at (StopsAmong told (base_of columns public store.protected store.secret) batch store.history all (bench.sent at))
 first_moments told bench columns public batch store all at only_now quiet stands =
-    let stops : (ls : List CountedLine) → LeavesOnly bench at at (StopsOver (base_of columns public store.protected store.secret) batch store.history ls (bench.sent at)) =
+    let stops : (ls : List CountedLine) → LeavesOnly bench at at (StopsOver (base_of columns public store.protected store.secret) batch store.history ls
+    (bench.sent at)) =
     λ ls. stops_first bench at (base_of columns public store.protected store.secret) batch store.history ls only_now quiet (store.journal.gate, stands) in
     record {
       later = omega arith;
@@ -116,6 +132,23 @@ nothing_served source bench columns public batch lines store from at fresh usabl
   moments = λ told quiet. first_moments source.told bench columns public batch store (counted_lines (source.left from)) at only_now quiet (stands told);
   source_steady = refl;
   bench_steady = refl;
+}
+
+pub spare_unserved : {P K S : Type 0} (source : SourceGhosts P) (keeper : KeeperGhosts K) (spare : Ghosts S) (columns : List Column) (public : PublicView)
+    (batch : ℕ) (kept : K) (from : P) (at : S)
+    → ((image bytes : List ℕ) → spare.since at (spare.moment at) image bytes → spare.leaves at image × (bytes ≡ spare.sent at))
+    → (keeper.spared → spare.told → StandsAt (spare.file at) (keeper.store kept).secret.shape (keeper.store kept).history (keeper.spare_gate kept))
+    → SpareServed source keeper spare columns public batch kept kept from at at
+spare_unserved source keeper spare columns public batch kept from at only_now stands = record {
+  stands = stands;
+  moments = λ spared told quiet.
+      let store = keeper.store kept in
+      spare_first source.told spare at (base_of columns public store.protected store.secret) batch store.history (counted_lines (source.left from)) only_now
+      quiet (keeper.spare_gate kept, stands spared told);
+  quiet = λ spared told quiet. quiet;
+  sent = refl;
+  steady = refl;
+  untouched = λ none. refl;
 }
 
 module _ {P B : Type 0} (source : SourceGhosts P) (bench : Ghosts B) (columns : List Column) (public : PublicView) (batch : ℕ) (lines : Cutter)
@@ -231,6 +264,48 @@ module _ {P B : Type 0} (source : SourceGhosts P) (bench : Ghosts B) (columns : 
         served.answered.many few served.answered.due served.answered.history_is gathers.planned
         source.told all behind (bench.sent first) (bench.sent at) image bytes all_are ends (served.sent_is u) found)
         (over_first (λ s p. LeavesOnly bench at new (InGroup (IsReplyOf (secret_table s p)) (stands_of s.shape) store.history plans (bench.sent at))) moments))
+
+    -- the same of a spare, on which nothing is sent
+    pub spare_turn : {E : Type 0} (spare : Ghosts E) (start mid end : E) → (source.told → (length plans ≡ batch) ⊎ (behind ≡ []))
+        → spare.sent mid ≡ spare.sent start
+        → LeavesOnly spare start mid (SpareAmong source.told base batch first_store.history all (spare.sent start))
+        → LeavesOnly spare mid end (UnsentInGroup (IsReplyOf (table_of store)) (stands_of store.secret.shape) store.history plans (spare.sent mid))
+        → LeavesOnly spare start end (SpareAmong source.told base batch first_store.history all (spare.sent start))
+    spare_turn spare start mid end ends same so_far moments =
+        joins spare start mid end _ so_far
+        (weakens spare mid end _ _ (λ image bytes found. (
+          found.0 ∙ same,
+          stops_where image (spare.sent mid) found.1,
+        ))
+        (over_first (λ s p. LeavesOnly spare mid end (UnsentInGroup (IsReplyOf (secret_table s p)) (stands_of s.shape) store.history plans
+        (spare.sent mid))) moments))
+      where
+        stops_where : (image before : List ℕ)
+            → InGroup (IsReplyOf (table_of first_store)) (stands_of first_store.secret.shape) store.history plans before image before →
+            (bytes : List ℕ) × StopsAmong source.told base batch first_store.history all [] image bytes
+        stops_where image before (inl found) = (
+          bytes_of served.answered.replies,
+          stops_among base batch served.answered.count first_store.history store.history served.answered.lines gathers.lines served.answered.replies plans
+              served.answered.many few served.answered.due served.answered.history_is gathers.planned
+              source.told all behind [] (bytes_of served.answered.replies) image (bytes_of served.answered.replies) all_are ends refl (inl (refl, found.1)),
+        )
+        stops_where image before (inr found) = (
+          bytes_of served.answered.replies,
+          stops_among base batch served.answered.count first_store.history store.history served.answered.lines gathers.lines served.answered.replies plans
+              served.answered.many few served.answered.due served.answered.history_is gathers.planned
+              source.told all behind [] (bytes_of served.answered.replies) image (bytes_of served.answered.replies) all_are ends refl
+              (inr (found.0, found.1, found.2, (0, sym (append-nil (bytes_of served.answered.replies))))),
+        )
+
+    -- both files after a call failed
+    pub both_turn : (sent image other : List ℕ) → source.told → bench.told → (source.told → (length plans ≡ batch) ⊎ (behind ≡ []))
+        → BothInGroup (IsReplyOf (table_of store)) (stands_of store.secret.shape) store.history plans (bench.sent at) sent image other
+        → LeavesBoth base batch first_store.history all (bench.sent first) sent image other
+    both_turn sent image other t u ends found =
+        both_after base batch served.answered.count first_store.history store.history served.answered.lines gathers.lines served.answered.replies plans
+        served.answered.many few served.answered.due served.answered.history_is gathers.planned
+        all behind (bench.sent first) (bench.sent at) sent image other (all_are t) (ends t) (served.sent_is u)
+        (over_first (λ s p. BothInGroup (IsReplyOf (secret_table s p)) (stands_of s.shape) store.history plans (bench.sent at) sent image other) found)
 
     module _ (now : List Answered) (new : B) (answers : AnswersGroup bench at new (table_of store) store.history now plans) where
       due_now : AreReplies (IsDue base) first_store.history (served.answered.lines ++ gathers.lines) (served.answered.replies ++ answers.replies)

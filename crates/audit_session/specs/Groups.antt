@@ -28,8 +28,8 @@ use Rattle.question_plan.specs.Session.{Replied, records_of, bytes_of, AreReplie
 use Rattle.question_plan.specs.Replies.{IsPlan, IsReplyOf, TellsOutcome}
 use Rattle.question_plan.specs.Plans.{CanBeTold}
 use Rattle.audit_session.specs.Stops.{StopsOver}
-use Rattle.audit_session.specs.declared.serving.EndFault.{EndFault}
-use Rattle.audit_session.specs.declared.serving.EndFault.TheVariants as end
+use Rattle.audit_session.specs.declared.session.TwinEnd.{TwinEnd}
+use Rattle.audit_session.specs.declared.session.TwinEnd.TheVariants as end
 
 -- ---- reading
 
@@ -67,12 +67,13 @@ pub record PassesGathering {P : Type 0} (source : SourceGhosts P) (batch : ℕ) 
   pub some : 0 < length new.pending
   pub steady : source.faults after ≡ source.faults before
 
--- why no group was gathered. The bench isn't called
-abbrev pub IsUngathered : {P : Type 0} → SourceGhosts P → ℕ → Cutter → Cutter → P → P → EndFault → Type 0
+-- why no group was gathered. Neither the bench nor the spare is called
+abbrev pub IsUngathered : {P : Type 0} → SourceGhosts P → ℕ → Cutter → Cutter → P → P → TwinEnd → Type 0
 IsUngathered source batch old new before after end.Input = FailsGathering source batch old new before after
 IsUngathered source batch old new before after end.Limit = PassesGathering source batch old new before after
 IsUngathered source batch old new before after end.NoMemory = source.faults after ≡ source.faults before
 IsUngathered source batch old new before after end.Bench = ⊥
+IsUngathered source batch old new before after end.Spare = ⊥
 
 -- ---- deciding
 
@@ -142,3 +143,21 @@ pub record AnswersGroup {B : Type 0} (bench : Ghosts B) (old new : B) (table : T
 abbrev pub StopsAmong : Type 0 → Database → ℕ → List Answered → List CountedLine → List ℕ → List ℕ → List ℕ → Type 0
 StopsAmong told base batch history lines before image sent =
     ((read : List CountedLine) × StopsOver base batch history read before image sent) × (told → StopsOver base batch history lines before image sent)
+
+-- ---- a spare
+
+-- what a crash finds of a spare while a group is answered: nothing was sent on it, and its image stands for the history before the
+-- group, or for that with the records of the group's replies
+abbrev pub UnsentInGroup : {R L : Type 0} → (List R → L → Replied R → Type 0) → (List ℕ → List R → Type 0) → List R → List L → List ℕ → List ℕ → List ℕ → Type 0
+UnsentInGroup rule stands history lines before image sent = (sent ≡ before) × InGroup rule stands history lines before image before
+
+-- nothing was sent on a spare, and its image stands as at some stop of a session over the lines that were read
+abbrev pub SpareAmong : Type 0 → Database → ℕ → List Answered → List CountedLine → List ℕ → List ℕ → List ℕ → Type 0
+SpareAmong told base batch history lines before image sent = (sent ≡ before) × ((bytes : List ℕ) × StopsAmong told base batch history lines [] image bytes)
+
+-- what a crash leaves of both files after a call of one of them failed: the images of the bench and of the spare stand for the history
+-- before the group; or the spare has the records of the group's replies, and so has the bench if any of these was sent
+abbrev pub BothInGroup : {R L : Type 0} → (List R → L → Replied R → Type 0) → (List ℕ → List R → Type 0) → List R → List L → List ℕ → List ℕ → List ℕ → List ℕ → Type 0
+BothInGroup {R} rule stands history lines before sent image spare =
+    ((sent ≡ before) × stands image history × stands spare history) ⊎ ((replies : List (Replied R)) × AreReplies rule history lines replies × stands spare (history ++ records_of replies)
+    × (((sent ≡ before) × stands image history) ⊎ (stands image (history ++ records_of replies) × AppendsFront before (bytes_of replies) sent)))

@@ -1,19 +1,20 @@
 //! Answering a group: its questions are decided and kept, and then its replies are sent.
-ghost use Rattle.std.specs.Prelude.{◌≡◌, ◌≢◌, ◌≤◌, ◌+◌, ◌++◌, List, ℕ, true, false, length, All, OnOk, OnErr, IsErrOf, Err};
+ghost use Rattle.std.specs.Prelude.{◌≡◌, ◌≢◌, ◌≤◌, ◌+◌, ◌++◌, List, ℕ, true, false, length, All, OnOk, OnErr, IsErr, IsErrOf, Err};
 ghost use Rattle.std.specs.List.{flat_map};
 ghost use Rattle.std.specs.Vec.{vec_capacity};
 ghost use Rattle.bench_core.specs.Causes.{HasCause};
 ghost use Rattle.bench_core.specs.Bench.{AppendsFront, Elapses, Sending};
 ghost use Rattle.bench_core.specs.Calls.{IsQuiet, LeavesOnly, TellsFault};
+ghost use Rattle.journal_form.specs.Journal.{StandsAt};
 ghost use Rattle.audit_store.specs.Stores.{IsAsLeft, IsStore, table_of};
 ghost use Rattle.line_wire.specs.Reply.{reply_bytes, IsInRange};
 ghost use Rattle.question_plan.specs.Plans.{CanBeServed};
 ghost use Rattle.question_plan.specs.Replies.{IsReplyOf};
-ghost use Rattle.audit_session.specs.Groups.{AnswersGroup, AreTold, CanAllBeTold, DecidesGroup, InGroup, StandsOn, questions_of, stands_of};
+ghost use Rattle.audit_session.specs.Groups.{AnswersGroup, AreTold, BothInGroup, CanAllBeTold, DecidesGroup, InGroup, StandsOn, UnsentInGroup, questions_of, stands_of};
 
 use crate::gathering::Group;
-use crate::serving::EndFault;
-use audit_store::{Outcome, Store, StoreFault};
+use crate::session::TwinEnd;
+use audit_store::{KeepFault, Keeper, Outcome};
 use bench_core::{Bench, Failed};
 use line_wire::{Reply, write_reply};
 use question_plan::laws::told_outcomes;
@@ -41,30 +42,46 @@ fn tell_all(plans: &[Plan], outcomes: &[Outcome], replies: &mut Vec<Reply>)
 }
 
 // Decides a group: its records are in the journal, and its replies are at hand.
-fn decide<B: Bench>(store: &mut Store, bench: &mut B, group: &mut Group) -> Result<(), StoreFault>
-    requires usable { store.old.usable ≡ true }
-    requires is { IsStore store.old }
+fn decide<K: Keeper, B: Bench, S: Bench>(
+    keeper: &mut K,
+    bench: &mut B,
+    spare: &mut S,
+    group: &mut Group,
+) -> Result<(), KeepFault>
+    requires usable { (K.store keeper.old).usable ≡ true }
+    requires is { IsStore (K.store keeper.old) }
     requires few { length group.old.plans.items ≤ 64 }
-    requires served { All (CanBeServed store.old.secret.shape) group.old.plans.items }
+    requires served { All (CanBeServed (K.store keeper.old).secret.shape) group.old.plans.items }
     requires questions { group.old.asked.items ≡ questions_of group.old.plans.items }
     requires room { length group.old.plans.items ≤ vec_capacity group.old.replies }
-    requires stands { B.told → IsAsLeft (B.file bench.old) store.old }
-    ensures decides { OnOk result (DecidesGroup B.Bench bench.old bench.new (table_of store.old) store.old.history store.new.history group.old.plans.items group.new.replies.items) }
+    requires stands { B.told → IsAsLeft (B.file bench.old) (K.store keeper.old) }
+    requires spare_stands { K.spared → S.told → StandsAt (S.file spare.old) (K.store keeper.old).secret.shape (K.store keeper.old).history (K.spare_gate keeper.old) }
+    ensures decides { OnOk result (DecidesGroup B.Bench bench.old bench.new (table_of (K.store keeper.old)) (K.store keeper.old).history (K.store keeper.new).history group.old.plans.items group.new.replies.items) }
     ensures in_range { OnOk result (All IsInRange group.new.replies.items) }
-    ensures stands { OnOk result (StandsOn B.Bench bench.old bench.new store.new) }
-    ensures err { OnErr result ((store.new.history ≡ store.old.history) × (store.new.usable ≡ false)) }
-    ensures no_memory { IsErrOf result StoreFault.NoMemory → bench.new ≡ bench.old }
+    ensures stands { OnOk result (StandsOn B.Bench bench.old bench.new (K.store keeper.new)) }
+    ensures err { OnErr result (((K.store keeper.new).history ≡ (K.store keeper.old).history) × ((K.store keeper.new).usable ≡ false)) }
+    ensures no_memory { IsErrOf result KeepFault.NoMemory → (bench.new ≡ bench.old) × (spare.new ≡ spare.old) }
     ensures moments { B.told → IsQuiet B.Bench bench.old
-        → LeavesOnly B.Bench bench.old bench.new (InGroup (IsReplyOf (table_of store.old)) (stands_of store.old.secret.shape) store.old.history group.old.plans.items (B.sent bench.old)) }
+        → LeavesOnly B.Bench bench.old bench.new (InGroup (IsReplyOf (table_of (K.store keeper.old))) (stands_of (K.store keeper.old).secret.shape) (K.store keeper.old).history group.old.plans.items (B.sent bench.old)) }
     ensures sent { B.sent bench.new ≡ B.sent bench.old }
     ensures room { vec_capacity group.new.replies ≡ vec_capacity group.old.replies }
     ensures plans { group.new.plans.items ≡ group.old.plans.items }
-    ensures table { (store.new.secret ≡ store.old.secret) × (store.new.protected ≡ store.old.protected) }
-    ensures is { IsStore store.new }
-    ensures fault { TellsFault B.Bench bench.old bench.new (IsErrOf result StoreFault.Failed) }
+    ensures table { ((K.store keeper.new).secret ≡ (K.store keeper.old).secret) × ((K.store keeper.new).protected ≡ (K.store keeper.old).protected) }
+    ensures is { IsStore (K.store keeper.new) }
+    ensures fault { TellsFault B.Bench bench.old bench.new (IsErrOf result KeepFault.Bench) }
+    ensures spare_stands { K.spared → S.told → OnOk result (StandsAt (S.file spare.new) (K.store keeper.new).secret.shape (K.store keeper.new).history (K.spare_gate keeper.new)) }
+    ensures spare_moments { K.spared → S.told → IsQuiet S.Bench spare.old
+        → LeavesOnly S.Bench spare.old spare.new (UnsentInGroup (IsReplyOf (table_of (K.store keeper.old))) (stands_of (K.store keeper.old).secret.shape) (K.store keeper.old).history group.old.plans.items (S.sent spare.old)) }
+    ensures spare_quiet { K.spared → S.told → IsQuiet S.Bench spare.old → (IsErrOf result KeepFault.Spare → ⊥) → IsQuiet S.Bench spare.new }
+    ensures spare_sent { S.sent spare.new ≡ S.sent spare.old }
+    ensures both { K.spared → B.told → S.told → IsQuiet B.Bench bench.old → IsQuiet S.Bench spare.old → IsErr result → (image other : List ℕ) → B.leaves bench.new image → S.leaves spare.new other
+        → BothInGroup (IsReplyOf (table_of (K.store keeper.old))) (stands_of (K.store keeper.old).secret.shape) (K.store keeper.old).history group.old.plans.items (B.sent bench.old) (B.sent bench.new) image other }
+    ensures spare_fault { TellsFault S.Bench spare.old spare.new (IsErrOf result KeepFault.Spare) }
+    ensures own { IsErrOf result KeepFault.Spare → K.spared }
+    ensures untouched { (K.spared → ⊥) → spare.new ≡ spare.old }
 {
     told_outcomes();
-    let outcomes = store.ask_all(bench, &group.asked)?;
+    let outcomes = keeper.ask_group(bench, spare, &group.asked)?;
     tell_all(&group.plans, &outcomes, &mut group.replies);
     Ok(())
 }
@@ -103,32 +120,45 @@ fn send_all<B: Bench>(bench: &mut B, replies: &[Reply]) -> Result<(), Failed>
     Ok(())
 }
 
-/// Answers a group: the records of its answers are in the journal before the first of its replies is sent.
-pub(crate) fn answer<B: Bench>(
-    store: &mut Store,
+/// Answers a group: the records of its answers are on the spare, if the keeper is spared, and in the journal before the first of its
+/// replies is sent.
+pub(crate) fn answer<K: Keeper, B: Bench, S: Bench>(
+    keeper: &mut K,
     bench: &mut B,
+    spare: &mut S,
     group: &mut Group,
-) -> Result<(), EndFault>
-    requires usable { store.old.usable ≡ true }
-    requires is { IsStore store.old }
+) -> Result<(), TwinEnd>
+    requires usable { (K.store keeper.old).usable ≡ true }
+    requires is { IsStore (K.store keeper.old) }
     requires few { length group.old.plans.items ≤ 64 }
-    requires served { All (CanBeServed store.old.secret.shape) group.old.plans.items }
+    requires served { All (CanBeServed (K.store keeper.old).secret.shape) group.old.plans.items }
     requires questions { group.old.asked.items ≡ questions_of group.old.plans.items }
     requires room { length group.old.plans.items ≤ vec_capacity group.old.replies }
-    requires stands { B.told → IsAsLeft (B.file bench.old) store.old }
-    ensures answers { OnOk result (AnswersGroup B.Bench bench.old bench.new (table_of store.old) store.old.history store.new.history group.old.plans.items) }
-    ensures stands { OnOk result (StandsOn B.Bench bench.old bench.new store.new) }
+    requires stands { B.told → IsAsLeft (B.file bench.old) (K.store keeper.old) }
+    requires spare_stands { K.spared → S.told → StandsAt (S.file spare.old) (K.store keeper.old).secret.shape (K.store keeper.old).history (K.spare_gate keeper.old) }
+    ensures answers { OnOk result (AnswersGroup B.Bench bench.old bench.new (table_of (K.store keeper.old)) (K.store keeper.old).history (K.store keeper.new).history group.old.plans.items) }
+    ensures stands { OnOk result (StandsOn B.Bench bench.old bench.new (K.store keeper.new)) }
     ensures moments { B.told → IsQuiet B.Bench bench.old
-        → LeavesOnly B.Bench bench.old bench.new (InGroup (IsReplyOf (table_of store.old)) (stands_of store.old.secret.shape) store.old.history group.old.plans.items (B.sent bench.old)) }
-    ensures left { B.told → store.new.usable ≡ true → IsAsLeft (B.file bench.new) store.new }
-    ensures no_memory { result ≡ Err EndFault.NoMemory → (bench.new ≡ bench.old) × (store.new.history ≡ store.old.history) }
+        → LeavesOnly B.Bench bench.old bench.new (InGroup (IsReplyOf (table_of (K.store keeper.old))) (stands_of (K.store keeper.old).secret.shape) (K.store keeper.old).history group.old.plans.items (B.sent bench.old)) }
+    ensures left { B.told → (K.store keeper.new).usable ≡ true → IsAsLeft (B.file bench.new) (K.store keeper.new) }
+    ensures no_memory { result ≡ Err TwinEnd.NoMemory → (bench.new ≡ bench.old) × (spare.new ≡ spare.old) × ((K.store keeper.new).history ≡ (K.store keeper.old).history) }
     ensures room { vec_capacity group.new.replies ≡ vec_capacity group.old.replies }
-    ensures table { (store.new.secret ≡ store.old.secret) × (store.new.protected ≡ store.old.protected) }
-    ensures is { IsStore store.new }
-    ensures fault { TellsFault B.Bench bench.old bench.new (result ≡ Err EndFault.Bench) }
-    ensures others { (result ≢ Err EndFault.Input) × (result ≢ Err EndFault.Limit) }
+    ensures table { ((K.store keeper.new).secret ≡ (K.store keeper.old).secret) × ((K.store keeper.new).protected ≡ (K.store keeper.old).protected) }
+    ensures is { IsStore (K.store keeper.new) }
+    ensures fault { TellsFault B.Bench bench.old bench.new (result ≡ Err TwinEnd.Bench) }
+    ensures spare_stands { K.spared → S.told → OnOk result (StandsAt (S.file spare.new) (K.store keeper.new).secret.shape (K.store keeper.new).history (K.spare_gate keeper.new)) }
+    ensures spare_moments { K.spared → S.told → IsQuiet S.Bench spare.old
+        → LeavesOnly S.Bench spare.old spare.new (UnsentInGroup (IsReplyOf (table_of (K.store keeper.old))) (stands_of (K.store keeper.old).secret.shape) (K.store keeper.old).history group.old.plans.items (S.sent spare.old)) }
+    ensures spare_quiet { K.spared → S.told → IsQuiet S.Bench spare.old → result ≢ Err TwinEnd.Spare → IsQuiet S.Bench spare.new }
+    ensures spare_sent { S.sent spare.new ≡ S.sent spare.old }
+    ensures both { K.spared → B.told → S.told → IsQuiet B.Bench bench.old → IsQuiet S.Bench spare.old → IsErr result → (image other : List ℕ) → B.leaves bench.new image → S.leaves spare.new other
+        → BothInGroup (IsReplyOf (table_of (K.store keeper.old))) (stands_of (K.store keeper.old).secret.shape) (K.store keeper.old).history group.old.plans.items (B.sent bench.old) (B.sent bench.new) image other }
+    ensures spare_fault { TellsFault S.Bench spare.old spare.new (result ≡ Err TwinEnd.Spare) }
+    ensures own { result ≡ Err TwinEnd.Spare → K.spared }
+    ensures untouched { (K.spared → ⊥) → spare.new ≡ spare.old }
+    ensures others { (result ≢ Err TwinEnd.Input) × (result ≢ Err TwinEnd.Limit) }
 {
-    decide(store, bench, group)?;
+    decide(keeper, bench, spare, group)?;
     send_all(bench, &group.replies)?;
     Ok(())
 }

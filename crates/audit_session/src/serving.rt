@@ -1,6 +1,5 @@
-//! The serving loop.
-ghost use Rattle.std.specs.Prelude.{◌≡◌, ◌≢◌, ◌<◌, ◌≤◌, ◌+◌, [], true, false, length, IfOk, OnOk, Err};
-ghost use Rattle.std.specs.Vec.{vec_capacity};
+//! Serving over one journal, with no spare.
+ghost use Rattle.std.specs.Prelude.{◌≡◌, ◌≢◌, ◌<◌, ◌≤◌, ◌+◌, [], true, false, length, OnOk, Err};
 ghost use Rattle.schema_json.specs.SecretShape.{shape_of};
 ghost use Rattle.table_load.specs.Cells.{FitsSchema};
 ghost use Rattle.table_load.specs.Database.{base_of};
@@ -10,16 +9,12 @@ ghost use Rattle.journal_form.specs.Journal.{StandsFor};
 ghost use Rattle.audit_store.specs.Stores.{IsAsLeft, IsStore, table_of};
 ghost use Rattle.line_wire.specs.Lines.{counted_lines, most_input};
 ghost use Rattle.audit_session.specs.Stops.{IsBatch, IsHarmless, StopsOver};
-ghost use Rattle.audit_session.specs.Ends.{Serves, ServesWhole, ServesSome, TakesCalls, limited, Ends, Reads, Rests, store_end, plan_end};
-ghost use Rattle.audit_session.specs.Groups.{StopsAmong};
+ghost use Rattle.audit_session.specs.Ends.{Serves, ServesWhole, ServesSome, TakesCalls, limited, twin_end};
+ghost use Rattle.audit_session.specs.declared.session.TwinEnd.{TwinEnd};
 
-use crate::answering::answer;
-use crate::gathering::{Group, gather};
-use crate::laws::stops;
-use audit_store::{Store, StoreFault};
-use audit_types::NoMemory;
+use crate::session::{TwinEnd, serve_with};
+use audit_store::Store;
 use bench_core::{Bench, Failed, Source};
-use question_plan::{PlanStop, Planner};
 use schema_json::Schema;
 use set_index::Index;
 use std::alloc::Global;
@@ -36,103 +31,66 @@ pub enum EndFault {
     NoMemory,
 }
 
-impl From<StoreFault> for EndFault {
-    ghost from_gives = { λ fault e. e ≡ store_end fault };
+// The spare of a session that has none: it is never called. Its count of faults stands at the type's end.
+#[derive(Drop)]
+struct NoSpare;
 
-    fn from(fault: StoreFault) -> EndFault {
-        match fault {
-            StoreFault::Failed => EndFault::Bench,
-            StoreFault::NoMemory => EndFault::NoMemory,
-        }
+impl Bench for NoSpare {
+    ghost told = { ⊥ };
+
+    ghost file = { λ _. [] };
+
+    ghost sent = { λ _. [] };
+
+    ghost leaves = { λ _ _. ⊥ };
+
+    ghost moment = { λ _. 0 };
+
+    ghost since = { λ _ _ _ _. ⊥ };
+
+    ghost faults = { λ _. 18446744073709551615 };
+
+    ghost last_failed = { λ _. true };
+
+    fn length(&mut self) -> Result<u64, Failed> {
+        Err(Failed)
     }
+
+    fn read_at(&mut self, _at: u64, _buf: &mut [u8]) -> Result<usize, Failed> {
+        Err(Failed)
+    }
+
+    fn write_at(&mut self, _at: u64, _piece: &[u8]) -> Result<(), Failed> {
+        Err(Failed)
+    }
+
+    fn sync(&mut self) -> Result<(), Failed> {
+        Err(Failed)
+    }
+
+    fn send(&mut self, _piece: &[u8]) -> Result<(), Failed> {
+        Err(Failed)
+    }
+
+    ghost reads = { λ bench told. absurd told };
+
+    ghost counts_now = { λ bench t image le left. absurd left };
+
+    ghost only_now = { λ bench image bytes since. absurd since };
 }
 
-impl From<PlanStop> for EndFault {
-    ghost from_gives = { λ stop e. e ≡ plan_end stop };
-
-    fn from(stop: PlanStop) -> EndFault {
-        match stop {
-            PlanStop::Input => EndFault::Input,
-            PlanStop::Limit => EndFault::Limit,
-            PlanStop::NoMemory => EndFault::NoMemory,
-        }
-    }
-}
-
-impl From<Failed> for EndFault {
-    ghost use Rattle.audit_session.specs.declared.serving.EndFault.{EndFault};
-
-    ghost from_gives = { λ _ e. e ≡ EndFault.Bench };
-
-    fn from(_e: Failed) -> EndFault {
-        EndFault::Bench
-    }
-}
-
-impl From<NoMemory> for EndFault {
-    ghost use Rattle.audit_session.specs.declared.serving.EndFault.{EndFault};
-
-    ghost from_gives = { λ _ e. e ≡ EndFault.NoMemory };
-
-    fn from(_e: NoMemory) -> EndFault {
-        EndFault::NoMemory
-    }
-}
-
-// Answers the groups that are still to come.
-fn answer_groups<P: Source, B: Bench>(
-    alloc: Global,
-    planner: &mut Planner,
-    group: &mut Group,
-    schema: &Schema,
-    index: &Index,
-    store: &mut Store,
-    source: &mut P,
-    bench: &mut B,
-    batch: u8,
-) -> Result<(), EndFault>
-    requires fresh { (planner.old.taken ≡ 0) × (planner.old.pending ≡ []) × (planner.old.ended ≡ false) }
-    requires room { vec_capacity group.old.replies ≡ batch }
-    requires batch { IsBatch batch }
-    requires usable { store.old.usable ≡ true }
-    requires is { IsStore store.old }
-    requires fits { FitsSchema schema.now.columns index.now.public }
-    requires shape { store.old.secret.shape ≡ shape_of schema.now.columns index.now.public.rows }
-    requires stands { B.told → IsAsLeft (B.file bench.old) store.old }
-    ensures ends { P.told → B.told → Ends batch result (base_of schema.now.columns index.now.public store.old.protected store.old.secret) store.old.history (P.left source.old) (P.left source.new) store.new.history (B.sent bench.old) (B.sent bench.new) }
-    ensures reads { P.told → Reads result (P.left source.old) (P.left source.new) }
-    ensures rests { result ≢ Err EndFault.Bench → Rests B.Bench bench.old bench.new store.new }
-    ensures again { OnOk result ((store.new.usable ≡ true) × (B.told → IsAsLeft (B.file bench.new) store.new)) }
-    ensures usable { result ≢ Err EndFault.Bench → result ≢ Err EndFault.NoMemory → store.new.usable ≡ true }
-    ensures left { B.told → store.new.usable ≡ true → IsAsLeft (B.file bench.new) store.new }
-    ensures calls { P.told → B.told → OnOk result (TakesCalls (base_of schema.now.columns index.now.public store.old.protected store.old.secret) store.old.history batch (counted_lines (P.left source.old)) (B.moment bench.old) (B.moment bench.new)) }
-    ensures moments { B.told → IsQuiet B.Bench bench.old
-        → LeavesOnly B.Bench bench.old bench.new (StopsAmong P.told (base_of schema.now.columns index.now.public store.old.protected store.old.secret) batch store.old.history (counted_lines (P.left source.old)) (B.sent bench.old)) }
-    ensures table { (store.new.secret ≡ store.old.secret) × (store.new.protected ≡ store.old.protected) }
-    ensures is { IsStore store.new }
-    ensures later { P.faults source.old ≤ P.faults source.new }
-    ensures input { result ≡ Err EndFault.Input → Rose (P.faults source.old) (P.faults source.new) }
-    ensures last_read { result ≡ Err EndFault.Input → P.last_failed source.new ≡ true }
-    ensures steady { result ≢ Err EndFault.Input → P.faults source.new ≡ P.faults source.old }
-    ensures fault { TellsFault B.Bench bench.old bench.new (result ≡ Err EndFault.Bench) }
+// The end of a session that has no spare.
+fn without_spare(end: TwinEnd) -> EndFault
+    requires { end ≢ TwinEnd.Spare }
+    ensures { twin_end result ≡ end }
 {
-    loop {
-        let more = gather(alloc, planner, schema, index, source, batch, group)?;
-        answer(store, bench, group)?;
-        if !more {
-            return Ok(());
-        }
+    match end {
+        TwinEnd::Input => EndFault::Input,
+        TwinEnd::Bench => EndFault::Bench,
+        TwinEnd::Limit => EndFault::Limit,
+        TwinEnd::NoMemory => EndFault::NoMemory,
+        TwinEnd::Spare => unreachable!(),
     }
-}
-
-// What the lines of an input are planned with, and room for a group.
-fn make_room(alloc: Global, batch: u8) -> Result<(Planner, Group), NoMemory>
-    ensures fresh { IfOk result (λ room. (room.0.taken ≡ 0) × (room.0.pending ≡ []) × (room.0.ended ≡ false)) }
-    ensures room { IfOk result (λ room. vec_capacity room.1.replies ≡ batch) }
-{
-    let planner = Planner::new(alloc)?;
-    let group = Group::new(alloc, batch)?;
-    Ok((planner, group))
 }
 
 /// Answers the counted lines of the input in groups of `batch`; at the end of the input the last group may be shorter. The
@@ -194,20 +152,11 @@ pub fn serve<P: Source, B: Bench>(
     ensures steady { result ≢ Err EndFault.Input → P.faults source.new ≡ P.faults source.old }
     ensures fault { TellsFault B.Bench bench.old bench.new (result ≡ Err EndFault.Bench) }
 {
-    // What the schema and the store say of themselves: valid columns, and a legal history.
-    let _columns = schema.count();
+    // What the store says of itself: a legal history.
     let _history = store.history();
-    stops();
-    let (mut planner, mut group) = make_room(alloc, batch)?;
-    answer_groups(
-        alloc,
-        &mut planner,
-        &mut group,
-        schema,
-        index,
-        store,
-        source,
-        bench,
-        batch,
-    )
+    let mut none = NoSpare;
+    match serve_with(alloc, schema, index, store, source, bench, &mut none, batch) {
+        Ok(()) => Ok(()),
+        Err(end) => Err(without_spare(end)),
+    }
 }

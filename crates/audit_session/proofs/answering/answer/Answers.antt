@@ -1,4 +1,4 @@
-use Rattle.std.proofs.Common.{◌≡◌, ℕ, ◌∙◌, ◌+◌, ◌++◌, List, length, Result, Err, sym, subst, rules}
+use Rattle.std.proofs.Common.{◌≡◌, refl, ℕ, ◌∙◌, ◌+◌, ◌++◌, List, length, Result, Err, sym, subst, rules}
 use Rattle.std.proofs.lemmas.Bool.{false≢true}
 use Rattle.std.proofs.lemmas.Result.{IfOk-from_err}
 use Rattle.std.specs.List.{flat_map}
@@ -7,20 +7,26 @@ use Rattle.audit_store.specs.Stores.{IsAsLeft}
 use Rattle.line_wire.specs.Reply.{reply_bytes}
 use Rattle.line_wire.specs.declared.reply.Reply.{Reply}
 use Rattle.audit_session.proofs.Sending.{SendsPart}
+use Rattle.table_load.specs.Cells.{SecretView}
+use Rattle.audit_session.specs.Groups.{stands_of}
+use Rattle.audit_session.proofs.BothFiles.{sends_failed}
 use Rattle.audit_session.proofs.DecidedGroup.{group_answered, left_stands, then_sent}
 use Rattle.audit_store.specs.Refusals.{no_refusal}
 use Rattle.bench_core.specs.Causes.{Rose}
-use Rattle.audit_session.specs.Ends.{store_end}
-use Rattle.audit_session.specs.declared.serving.EndFault.{EndFault}
-use Rattle.audit_session.specs.declared.serving.EndFault.TheVariants as end
-use Rattle.audit_session.proofs.Refusals.{still_later, refusal, by_memory, by_bench, no_call, bench_no_memory}
+use Rattle.audit_session.specs.Ends.{keep_end}
+use Rattle.audit_session.specs.declared.session.TwinEnd.{TwinEnd}
+use Rattle.audit_session.specs.declared.session.TwinEnd.TheVariants as end
+use Rattle.audit_session.proofs.Refusals.{still_later, refusal, by_memory, by_bench, by_spare, no_call, no_spare_call, bench_no_memory, bench_no_spare}
 use Rattle.audit_session.proofs.answering.answer.Goals as goal
 
-abbrev ended_by : EndFault → Result (Unit {0}) EndFault
+abbrev ended_by : TwinEnd → Result (Unit {0}) TwinEnd
 ended_by fault = Err fault
 
 pub decide-requires-clause-stands : goal.decide-requires-clause-stands
 decide-requires-clause-stands g c = c.requires.stands
+
+pub decide-requires-clause-spare_stands : goal.decide-requires-clause-spare_stands
+decide-requires-clause-spare_stands g c = c.requires.spare_stands
 
 pub returns-in_err-send_all : goal.returns-in_err-send_all
 returns-in_err-send_all g c =
@@ -30,17 +36,19 @@ returns-in_err-send_all g c =
       answers = IfOk-from_err _ _ c.from_residual-in_err-send_all.ensures.0;
       stands = IfOk-from_err _ _ c.from_residual-in_err-send_all.ensures.0;
       moments = λ t quiet.
-          let store = c.args.store.now in
+          let store = g.K.Keeper.store c.args.keeper.now in
           let mid = c.decide.new.bench in
           let e = c.in_ok-decide.ensures in
           let sends =
           subst (λ (rs : List Reply). LeavesOnly g.B.Bench mid c.send_all.new.bench
           (SendsPart (g.B.Bench.file mid) (g.B.Bench.sent mid) (flat_map reply_bytes rs))) c.deref.ensures.value (c.send_all.ensures.moments t
           (e.stands.quiet t quiet)) in
-          then_sent g.B.Bench c.args.bench.now mid store.secret store.protected store.history c.args.group.now.plans.items c.decide.new.store.history
+          then_sent g.B.Bench c.args.bench.now mid store.secret store.protected store.history c.args.group.now.plans.items
+          (g.K.Keeper.store c.decide.new.keeper).history
           c.decide.new.group.replies.items e.decides e.sent c.send_all.new.bench
-          (left_stands (g.B.Bench.file mid) store c.decide.new.store (e.stands.as_left t) e.table.0) (e.moments t quiet) sends;
-      left = λ t usable. subst (λ (file : List ℕ). IsAsLeft file c.decide.new.store) (sym c.send_all.ensures.file) (c.in_ok-decide.ensures.stands.as_left t);
+          (left_stands (g.B.Bench.file mid) store (g.K.Keeper.store c.decide.new.keeper) (e.stands.as_left t) e.table.0) (e.moments t quiet) sends;
+      left = λ t usable. subst (λ (file : List ℕ). IsAsLeft file (g.K.Keeper.store c.decide.new.keeper)) (sym c.send_all.ensures.file)
+          (c.in_ok-decide.ensures.stands.as_left t);
       no_memory = λ is. bench_no_memory c.from_residual-in_err-send_all.result same is;
       room = c.decide.ensures.room;
       table = c.decide.ensures.table;
@@ -53,19 +61,49 @@ returns-in_err-send_all g c =
         last_call = λ is. c.in_err-send_all.ensures.last_call;
         steady = λ other. absurd (other same);
       };
+      spare_stands = λ spared told. IfOk-from_err _ _ c.from_residual-in_err-send_all.ensures.0;
+      spare_moments = c.decide.ensures.spare_moments;
+      spare_quiet = λ spared told quiet other. c.in_ok-decide.ensures.spare_quiet spared told quiet (λ is. no_refusal _ _ is);
+      spare_sent = c.decide.ensures.spare_sent;
+      both = λ spared told spare_told quiet spare_quiet refused.
+          let store = g.K.Keeper.store c.args.keeper.now in
+          let after = g.K.Keeper.store c.decide.new.keeper in
+          let mid = c.decide.new.bench in
+          let e = c.in_ok-decide.ensures in
+          let sends =
+          subst (λ (rs : List Reply). LeavesOnly g.B.Bench mid c.send_all.new.bench
+          (SendsPart (g.B.Bench.file mid) (g.B.Bench.sent mid) (flat_map reply_bytes rs))) c.deref.ensures.value (c.send_all.ensures.moments told
+          (e.stands.quiet told quiet)) in
+          sends_failed g.B.Bench g.S.Bench c.args.bench.now c.send_all.new.bench c.args.spare.now c.decide.new.spare store.secret store.protected store.history
+          c.args.group.now.plans.items mid after.history c.decide.new.group.replies.items e.decides e.sent
+          (left_stands (g.B.Bench.file mid) store after (e.stands.as_left told) e.table.0)
+          (e.spare_quiet spared spare_told spare_quiet (λ is. no_refusal _ _ is))
+          (subst (λ (s : SecretView). stands_of s.shape (g.S.Bench.file c.decide.new.spare) after.history) e.table.0
+          (g.K.Keeper.spare_gate c.decide.new.keeper, e.spare_stands spared spare_told))
+          sends (λ image le left. g.met.B.Bench.counts_now c.send_all.new.bench (g.B.Bench.moment mid) image le left);
+      spare_fault = record {
+        later = c.decide.ensures.spare_fault.later;
+        failed = λ is. bench_no_spare c.from_residual-in_err-send_all.result same is;
+        last_call = λ is. bench_no_spare c.from_residual-in_err-send_all.result same is;
+        steady = λ other. c.in_ok-decide.ensures.spare_fault.steady (λ is. no_refusal _ _ is);
+      };
+      own = λ is. bench_no_spare c.from_residual-in_err-send_all.result same is;
+      untouched = c.decide.ensures.untouched;
       others = search rules;
     }
 
 pub returns-in_err-decide : goal.returns-in_err-decide
 returns-in_err-decide g c =
     let given = c.in_err-decide.field-0.0 in
-    let same : c.from_residual.result ≡ ended_by (store_end given) = refusal c.from_residual.result _ c.from_residual.ensures in
+    let same : c.from_residual.result ≡ ended_by (keep_end given) = refusal c.from_residual.result _ c.from_residual.ensures in
     record {
       answers = IfOk-from_err _ _ c.from_residual.ensures.0;
       stands = IfOk-from_err _ _ c.from_residual.ensures.0;
       moments = c.decide.ensures.moments;
       left = λ t usable. absurd (false≢true (sym c.in_err-decide.ensures.err.1 ∙ usable));
-      no_memory = λ is. (c.in_err-decide.ensures.no_memory (by_memory given c.from_residual.result same is), c.in_err-decide.ensures.err.0);
+      no_memory = λ is.
+          let still = c.in_err-decide.ensures.no_memory (by_memory given c.from_residual.result same is) in
+          (still.0, still.1, c.in_err-decide.ensures.err.0);
       room = c.decide.ensures.room;
       table = c.decide.ensures.table;
       is = c.decide.ensures.is;
@@ -75,25 +113,40 @@ returns-in_err-decide g c =
         last_call = λ is. c.in_err-decide.ensures.fault.last_call (by_bench given c.from_residual.result same is);
         steady = λ other. c.in_err-decide.ensures.fault.steady (no_call given c.from_residual.result same other);
       };
+      spare_stands = λ spared told. IfOk-from_err _ _ c.from_residual.ensures.0;
+      spare_moments = c.decide.ensures.spare_moments;
+      spare_quiet = λ spared told quiet other. c.in_err-decide.ensures.spare_quiet spared told quiet (no_spare_call given c.from_residual.result same other);
+      spare_sent = c.decide.ensures.spare_sent;
+      both = λ spared told spare_told quiet spare_quiet refused. c.in_err-decide.ensures.both spared told spare_told quiet spare_quiet refl;
+      spare_fault = record {
+        later = c.decide.ensures.spare_fault.later;
+        failed = λ is. c.in_err-decide.ensures.spare_fault.failed (by_spare given c.from_residual.result same is);
+        last_call = λ is. c.in_err-decide.ensures.spare_fault.last_call (by_spare given c.from_residual.result same is);
+        steady = λ other. c.in_err-decide.ensures.spare_fault.steady (no_spare_call given c.from_residual.result same other);
+      };
+      own = λ is. c.in_err-decide.ensures.own (by_spare given c.from_residual.result same is);
+      untouched = c.decide.ensures.untouched;
       others = search rules;
     }
 
 pub returns : goal.returns
 returns g c =
-    let store = c.args.store.now in
+    let store = g.K.Keeper.store c.args.keeper.now in
     let mid = c.decide.new.bench in
     let e = c.in_ok-decide.ensures in
     record {
       answers =
           let sent = c.in_ok-send_all.ensures in
           let told = c.deref.ensures.value in
-          group_answered g.B.Bench c.args.bench.now mid store.secret store.protected store.history c.args.group.now.plans.items c.decide.new.store.history
+          group_answered g.B.Bench c.args.bench.now mid store.secret store.protected store.history c.args.group.now.plans.items
+          (g.K.Keeper.store c.decide.new.keeper).history
           c.decide.new.group.replies.items e.decides e.sent c.send_all.new.bench
           (λ t. subst (λ (rs : List Reply). g.B.Bench.sent c.send_all.new.bench ≡ g.B.Bench.sent mid ++ flat_map reply_bytes rs) told (sent.all t))
           (λ t. subst (λ (rs : List Reply). g.B.Bench.moment c.send_all.new.bench ≡ g.B.Bench.moment mid + length rs) told (sent.ticks t));
       stands = record {
         usable = c.in_ok-decide.ensures.stands.usable;
-        as_left = λ t. subst (λ (file : List ℕ). IsAsLeft file c.decide.new.store) (sym c.send_all.ensures.file) (c.in_ok-decide.ensures.stands.as_left t);
+        as_left = λ t. subst (λ (file : List ℕ). IsAsLeft file (g.K.Keeper.store c.decide.new.keeper)) (sym c.send_all.ensures.file)
+            (c.in_ok-decide.ensures.stands.as_left t);
         quiet = λ t quiet image leaves. c.in_ok-decide.ensures.stands.quiet t quiet image (c.send_all.ensures.crash image leaves) ∙ sym c.send_all.ensures.file;
       };
       moments = λ t quiet.
@@ -101,10 +154,12 @@ returns g c =
           subst (λ (rs : List Reply). LeavesOnly g.B.Bench mid c.send_all.new.bench
           (SendsPart (g.B.Bench.file mid) (g.B.Bench.sent mid) (flat_map reply_bytes rs))) c.deref.ensures.value (c.send_all.ensures.moments t
           (e.stands.quiet t quiet)) in
-          then_sent g.B.Bench c.args.bench.now mid store.secret store.protected store.history c.args.group.now.plans.items c.decide.new.store.history
+          then_sent g.B.Bench c.args.bench.now mid store.secret store.protected store.history c.args.group.now.plans.items
+          (g.K.Keeper.store c.decide.new.keeper).history
           c.decide.new.group.replies.items e.decides e.sent c.send_all.new.bench
-          (left_stands (g.B.Bench.file mid) store c.decide.new.store (e.stands.as_left t) e.table.0) (e.moments t quiet) sends;
-      left = λ t usable. subst (λ (file : List ℕ). IsAsLeft file c.decide.new.store) (sym c.send_all.ensures.file) (c.in_ok-decide.ensures.stands.as_left t);
+          (left_stands (g.B.Bench.file mid) store (g.K.Keeper.store c.decide.new.keeper) (e.stands.as_left t) e.table.0) (e.moments t quiet) sends;
+      left = λ t usable. subst (λ (file : List ℕ). IsAsLeft file (g.K.Keeper.store c.decide.new.keeper)) (sym c.send_all.ensures.file)
+          (c.in_ok-decide.ensures.stands.as_left t);
       no_memory = λ is. no_refusal _ _ is;
       room = c.decide.ensures.room;
       table = c.decide.ensures.table;
@@ -115,5 +170,18 @@ returns g c =
         last_call = λ is. no_refusal _ _ is;
         steady = λ other. c.in_ok-send_all.ensures.cause.steady ∙ c.in_ok-decide.ensures.fault.steady (λ is. no_refusal _ _ is);
       };
+      spare_stands = c.in_ok-decide.ensures.spare_stands;
+      spare_moments = c.decide.ensures.spare_moments;
+      spare_quiet = λ spared told quiet other. c.in_ok-decide.ensures.spare_quiet spared told quiet (λ is. no_refusal _ _ is);
+      spare_sent = c.decide.ensures.spare_sent;
+      both = λ spared told spare_told quiet spare_quiet refused. absurd (false≢true refused);
+      spare_fault = record {
+        later = c.decide.ensures.spare_fault.later;
+        failed = λ is. no_refusal _ _ is;
+        last_call = λ is. no_refusal _ _ is;
+        steady = λ other. c.in_ok-decide.ensures.spare_fault.steady (λ is. no_refusal _ _ is);
+      };
+      own = λ is. no_refusal _ _ is;
+      untouched = c.decide.ensures.untouched;
       others = (λ is. no_refusal _ _ is, λ is. no_refusal _ _ is);
     }

@@ -1,47 +1,53 @@
 use Rattle.std.proofs.Common.{◌≡◌, ◌+◌, ◌++◌, List, length, Result, Err, sym, ◌∙◌, ap, subst, arith, rules}
 use Rattle.std.specs.Prelude.{All}
+use Rattle.std.proofs.lemmas.Bool.{false≢true}
 use Rattle.std.proofs.lemmas.Result.{IfOk-from_err}
 use Rattle.audit_types.specs.declared.records.Asked.{Asked}
 use Rattle.audit_types.specs.History.{FitsShape}
 use Rattle.audit_core.specs.declared.outcome.Outcome.{Outcome}
 use Rattle.audit_core.specs.Outcomes.{AreOutcomes, records_made}
-use Rattle.audit_store.specs.Stores.{Keeps, calls_for, table_of}
+use Rattle.audit_store.specs.Stores.{Keeps, KeptAhead, calls_for, table_of}
 use Rattle.question_plan.specs.declared.planning.Plan.{Plan}
-use Rattle.audit_session.specs.Groups.{AreTold, CanAllBeTold, questions_of}
+use Rattle.audit_session.specs.Groups.{AreTold, CanAllBeTold, questions_of, stands_of}
 use Rattle.audit_session.proofs.ToldPlans.{can_all, few_questions, questions_fit}
-use Rattle.audit_session.proofs.DecidedGroup.{by_fault, told_group, while_kept, nothing_called}
+use Rattle.audit_session.proofs.BothFiles.{neither_called, spare_call_failed, bench_call_failed}
+use Rattle.audit_session.proofs.DecidedGroup.{by_fault, by_kind, bench_no_spare_fault, spare_no_memory_fault, told_group, while_kept, while_kept_unsent, nothing_called, nothing_called_unsent}
 use Rattle.audit_store.specs.Refusals.{no_refusal, same_fault}
-use Rattle.audit_store.specs.declared.outcome.StoreFault.{StoreFault}
-use Rattle.audit_store.specs.declared.outcome.StoreFault.TheVariants as fault
+use Rattle.audit_store.specs.declared.keeper.KeepFault.{KeepFault}
+use Rattle.audit_store.specs.declared.keeper.KeepFault.TheVariants as fault
 use Rattle.audit_session.proofs.answering.decide.Goals as goal
 
-abbrev refused : StoreFault → Result (Unit {0}) StoreFault
+abbrev refused : KeepFault → Result (Unit {0}) KeepFault
 refused given = Err given
 
-pub ask_all-requires-clause-stands : goal.ask_all-requires-clause-stands
-ask_all-requires-clause-stands g c = c.requires.stands
+pub ask_group-requires-clause-stands : goal.ask_group-requires-clause-stands
+ask_group-requires-clause-stands g c = c.requires.stands
 
-pub ask_all-requires-clause-few : goal.ask_all-requires-clause-few
-ask_all-requires-clause-few g c =
+pub ask_group-requires-clause-spare_stands : goal.ask_group-requires-clause-spare_stands
+ask_group-requires-clause-spare_stands g c = c.requires.spare_stands
+
+pub ask_group-requires-clause-few : goal.ask_group-requires-clause-few
+ask_group-requires-clause-few g c =
     let asked : c.deref.result.now ≡ questions_of c.args.group.now.plans.items = c.deref.ensures.value ∙ c.requires.questions in
     omega (arith, ap (λ (l : List Asked). length l) asked, few_questions c.args.group.now.plans.items, c.requires.few)
 
-pub ask_all-requires-clause-fit : goal.ask_all-requires-clause-fit
-ask_all-requires-clause-fit g c =
+pub ask_group-requires-clause-fit : goal.ask_group-requires-clause-fit
+ask_group-requires-clause-fit g c =
     let asked : c.deref.result.now ≡ questions_of c.args.group.now.plans.items = c.deref.ensures.value ∙ c.requires.questions in
-    subst (λ (l : List Asked). All (λ (a : Asked). FitsShape c.args.store.now.secret.shape a.column a.rows) l) (sym asked)
-    (questions_fit c.args.store.now.secret.shape c.args.group.now.plans.items c.requires.served)
+    subst (λ (l : List Asked). All (λ (a : Asked). FitsShape (g.K.Keeper.store c.args.keeper.now).secret.shape a.column a.rows) l) (sym asked)
+    (questions_fit (g.K.Keeper.store c.args.keeper.now).secret.shape c.args.group.now.plans.items c.requires.served)
 
 pub tell_all-requires-clause-can : goal.tell_all-requires-clause-can
 tell_all-requires-clause-can g c =
-    let store = c.args.store.now in
+    let store = g.K.Keeper.store c.args.keeper.now in
     let plans = c.args.group.now.plans.items in
     let asked : c.deref.result.now ≡ questions_of plans = c.deref.ensures.value ∙ c.requires.questions in
     let due =
     subst (λ (l : List Asked). AreOutcomes
     (table_of store) store.history l c.in_ok-outcomes.outcomes.items) asked c.in_ok-outcomes.ensures.outcomes in
     let can : CanAllBeTold plans c.in_ok-outcomes.outcomes.items =
-    can_all c.told_outcomes.ensures.can store.secret store.protected c.requires.is.numbers store.history plans c.in_ok-outcomes.outcomes.items c.requires.served due in
+    can_all c.told_outcomes.ensures.can store.secret store.protected c.requires.is.numbers store.history plans c.in_ok-outcomes.outcomes.items
+    c.requires.served due in
     subst (λ (os : List Outcome). CanAllBeTold c.deref-2.result.now os) (sym c.deref-3.ensures.value)
     (subst (λ (ps : List Plan). CanAllBeTold ps c.in_ok-outcomes.outcomes.items) (sym c.deref-2.ensures.value) can)
 
@@ -56,33 +62,85 @@ returns-in_err-outcomes g c =
       err = search rules;
       no_memory = λ is. c.in_err-outcomes.ensures.no_memory (same_fault given fault.NoMemory (sym same ∙ is));
       moments = λ told quiet.
-          let store = c.args.store.now in
+          let store = g.K.Keeper.store c.args.keeper.now in
           let plans = c.args.group.now.plans.items in
           let asked : c.deref.result.now ≡ questions_of plans = c.deref.ensures.value ∙ c.requires.questions in
           let e = c.in_err-outcomes.ensures in
           by_fault c.in_err-outcomes.field-0.0
-          (λ memory. nothing_called g.B.Bench c.args.bench.now c.ask_all.new.bench store.secret store.protected store.history plans (e.no_memory memory)
+          (λ memory. nothing_called g.B.Bench c.args.bench.now c.ask_group.new.bench store.secret store.protected store.history plans (e.no_memory memory).0
           (λ image bytes was. g.met.B.Bench.only_now c.args.bench.now image bytes was) quiet (store.journal.gate, c.requires.stands told))
-          (λ other. while_kept g.B.Bench c.args.bench.now c.ask_all.new.bench store.secret store.protected store.history plans c.told_outcomes.ensures.can
+          (λ other. while_kept g.B.Bench c.args.bench.now c.ask_group.new.bench store.secret store.protected store.history plans c.told_outcomes.ensures.can
           c.told_outcomes.ensures.some c.requires.is.numbers c.requires.served (g.B.Bench.sent c.args.bench.now)
-          (subst (λ (l : List Asked). Keeps g.B.Bench c.args.bench.now c.ask_all.new.bench (table_of store) store.history l (g.B.Bench.sent c.args.bench.now)) asked
+          (subst (λ (l : List Asked). Keeps g.B.Bench c.args.bench.now c.ask_group.new.bench (table_of store) store.history l
+          (g.B.Bench.sent c.args.bench.now)) asked
           (e.any_moment told quiet other)));
-      sent = c.ask_all.ensures.sent;
+      sent = c.ask_group.ensures.sent;
       room = search rules;
       plans = search rules;
-      table = (c.ask_all.ensures.secret, c.ask_all.ensures.protected);
-      is = c.ask_all.ensures.is;
+      table = c.ask_group.ensures.table;
+      is = c.ask_group.ensures.is;
       fault = record {
-        later = c.ask_all.ensures.fault.later;
-        failed = λ is. c.in_err-outcomes.ensures.fault.failed (same_fault given fault.Failed (sym same ∙ is));
-        last_call = λ is. c.in_err-outcomes.ensures.fault.last_call (same_fault given fault.Failed (sym same ∙ is));
-        steady = λ other. c.in_err-outcomes.ensures.fault.steady (λ is. other (same ∙ same_fault given fault.Failed is));
+        later = c.ask_group.ensures.fault.later;
+        failed = λ is. c.in_err-outcomes.ensures.fault.failed (same_fault given fault.Bench (sym same ∙ is));
+        last_call = λ is. c.in_err-outcomes.ensures.fault.last_call (same_fault given fault.Bench (sym same ∙ is));
+        steady = λ other. c.in_err-outcomes.ensures.fault.steady (λ is. other (same ∙ same_fault given fault.Bench is));
       };
+      spare_stands = λ spared told. IfOk-from_err _ _ c.from_residual.ensures.0;
+      spare_moments = λ spared told quiet.
+          let store = g.K.Keeper.store c.args.keeper.now in
+          let plans = c.args.group.now.plans.items in
+          let asked : c.deref.result.now ≡ questions_of plans = c.deref.ensures.value ∙ c.requires.questions in
+          let e = c.in_err-outcomes.ensures in
+          by_fault given
+          (λ memory. nothing_called_unsent g.S.Bench c.args.spare.now c.ask_group.new.spare store.secret store.protected store.history plans
+          (e.no_memory memory).1
+          (λ image bytes was. g.met.S.Bench.only_now c.args.spare.now image bytes was) quiet
+          (g.K.Keeper.spare_gate c.args.keeper.now, c.requires.spare_stands spared told))
+          (λ other. while_kept_unsent g.S.Bench c.args.spare.now c.ask_group.new.spare store.secret store.protected store.history plans
+          c.told_outcomes.ensures.can c.told_outcomes.ensures.some c.requires.is.numbers c.requires.served (g.S.Bench.sent c.args.spare.now)
+          (subst (λ (l : List Asked). Keeps g.S.Bench c.args.spare.now c.ask_group.new.spare (table_of store) store.history l
+          (g.S.Bench.sent c.args.spare.now)) asked
+          (e.spare_moments spared told quiet other)));
+      spare_quiet = λ spared told quiet other. c.in_err-outcomes.ensures.spare_quiet spared told quiet (λ is. other (same ∙ same_fault given fault.Spare is));
+      spare_sent = c.ask_group.ensures.spare_sent;
+      both = λ spared told spare_told quiet spare_quiet refused.
+          let store = g.K.Keeper.store c.args.keeper.now in
+          let plans = c.args.group.now.plans.items in
+          let asked : c.deref.result.now ≡ questions_of plans = c.deref.ensures.value ∙ c.requires.questions in
+          let e = c.in_err-outcomes.ensures in
+          let stands : stands_of store.secret.shape (g.B.Bench.file c.args.bench.now) store.history = (store.journal.gate, c.requires.stands told) in
+          let spare_stands : stands_of store.secret.shape (g.S.Bench.file c.args.spare.now) store.history =
+          (g.K.Keeper.spare_gate c.args.keeper.now, c.requires.spare_stands spared spare_told) in
+          by_kind given
+          (λ memory. neither_called g.B.Bench g.S.Bench c.args.bench.now c.ask_group.new.bench c.args.spare.now c.ask_group.new.spare store.secret
+          store.protected
+          store.history plans quiet spare_quiet stands spare_stands (e.no_memory memory).0 (e.no_memory memory).1)
+          (λ failed. bench_call_failed g.B.Bench g.S.Bench c.args.bench.now c.ask_group.new.bench c.args.spare.now c.ask_group.new.spare store.secret
+          store.protected store.history plans c.told_outcomes.ensures.can c.told_outcomes.ensures.some c.requires.is.numbers c.requires.served
+          c.ask_group.ensures.sent (e.spare_quiet spared spare_told spare_quiet (bench_no_spare_fault given failed))
+          (λ image left. subst (λ (l : List Asked). KeptAhead (g.S.Bench.file c.ask_group.new.spare) image (table_of store) store.history l) asked
+          (e.ahead spared told spare_told quiet spare_quiet failed image left)))
+          (λ failed. spare_call_failed g.B.Bench g.S.Bench c.args.bench.now c.ask_group.new.bench c.args.spare.now c.ask_group.new.spare store.secret
+          store.protected store.history plans quiet stands (e.spare_first failed)
+          (while_kept_unsent g.S.Bench c.args.spare.now c.ask_group.new.spare store.secret store.protected store.history plans c.told_outcomes.ensures.can
+          c.told_outcomes.ensures.some c.requires.is.numbers c.requires.served (g.S.Bench.sent c.args.spare.now)
+          (subst (λ (l : List Asked). Keeps g.S.Bench c.args.spare.now c.ask_group.new.spare (table_of store) store.history l
+          (g.S.Bench.sent c.args.spare.now)) asked
+          (e.spare_moments spared spare_told spare_quiet (spare_no_memory_fault given failed))))
+          (λ image le left. g.met.S.Bench.counts_now c.ask_group.new.spare (g.S.Bench.moment c.args.spare.now) image le left));
+      spare_fault = record {
+        later = c.ask_group.ensures.spare_fault.later;
+        failed = λ is. c.in_err-outcomes.ensures.spare_fault.failed (same_fault given fault.Spare (sym same ∙ is));
+        last_call = λ is. c.in_err-outcomes.ensures.spare_fault.last_call (same_fault given fault.Spare (sym same ∙ is));
+        steady = λ other. c.in_err-outcomes.ensures.spare_fault.steady (λ is. other (same ∙ same_fault given fault.Spare is));
+      };
+      own = λ is. c.in_err-outcomes.ensures.own (same_fault given fault.Spare (sym same ∙ is));
+      untouched = c.ask_group.ensures.untouched;
     }
 
 pub returns : goal.returns
 returns g c =
-    let store = c.args.store.now in
+    let store = g.K.Keeper.store c.args.keeper.now in
     let plans = c.args.group.now.plans.items in
     let asked : c.deref.result.now ≡ questions_of plans = c.deref.ensures.value ∙ c.requires.questions in
     record {
@@ -93,7 +151,8 @@ returns g c =
           let told =
           subst (λ (os : List Outcome). AreTold plans os c.tell_all.new.replies.items) c.deref-3.ensures.value
           (subst (λ (ps : List Plan). AreTold ps c.deref-3.result.now c.tell_all.new.replies.items) c.deref-2.ensures.value c.tell_all.ensures.told) in
-          told_group g.B.Bench c.args.bench.now c.ask_all.new.bench store.secret store.protected store.history plans c.ask_all.new.self.history outcomes
+          told_group g.B.Bench c.args.bench.now c.ask_group.new.bench store.secret store.protected store.history plans
+          (g.K.Keeper.store c.ask_group.new.self).history outcomes
           c.tell_all.new.replies.items due told
           (e.history ∙ ap (λ (l : List Asked). store.history ++ records_made l outcomes) asked)
           (λ t. e.ticks t ∙ ap (λ (l : List Asked). g.B.Bench.moment c.args.bench.now + calls_for (records_made l outcomes)) asked);
@@ -102,20 +161,40 @@ returns g c =
       err = search rules;
       no_memory = λ is. no_refusal _ _ is;
       moments = λ told quiet.
-          while_kept g.B.Bench c.args.bench.now c.ask_all.new.bench store.secret store.protected store.history plans c.told_outcomes.ensures.can c.told_outcomes.ensures.some
+          while_kept g.B.Bench c.args.bench.now c.ask_group.new.bench store.secret store.protected store.history plans c.told_outcomes.ensures.can
+          c.told_outcomes.ensures.some
           c.requires.is.numbers c.requires.served
           (g.B.Bench.sent c.args.bench.now)
-          (subst (λ (l : List Asked). Keeps g.B.Bench c.args.bench.now c.ask_all.new.bench (table_of store) store.history l (g.B.Bench.sent c.args.bench.now)) asked
+          (subst (λ (l : List Asked). Keeps g.B.Bench c.args.bench.now c.ask_group.new.bench (table_of store) store.history l
+          (g.B.Bench.sent c.args.bench.now)) asked
           (c.in_ok-outcomes.ensures.any_moment told quiet (search rules)));
-      sent = c.ask_all.ensures.sent;
+      sent = c.ask_group.ensures.sent;
       room = c.tell_all.ensures.room;
       plans = search rules;
-      table = (c.ask_all.ensures.secret, c.ask_all.ensures.protected);
-      is = c.ask_all.ensures.is;
+      table = c.ask_group.ensures.table;
+      is = c.ask_group.ensures.is;
       fault = record {
-        later = c.ask_all.ensures.fault.later;
+        later = c.ask_group.ensures.fault.later;
         failed = λ is. no_refusal _ _ is;
         last_call = λ is. no_refusal _ _ is;
         steady = λ other. c.in_ok-outcomes.ensures.fault.steady (λ is. no_refusal _ _ is);
       };
+      spare_stands = c.in_ok-outcomes.ensures.spare_stands;
+      spare_moments = λ spared told quiet.
+          while_kept_unsent g.S.Bench c.args.spare.now c.ask_group.new.spare store.secret store.protected store.history plans c.told_outcomes.ensures.can
+          c.told_outcomes.ensures.some c.requires.is.numbers c.requires.served (g.S.Bench.sent c.args.spare.now)
+          (subst (λ (l : List Asked). Keeps g.S.Bench c.args.spare.now c.ask_group.new.spare (table_of store) store.history l
+          (g.S.Bench.sent c.args.spare.now)) asked
+          (c.in_ok-outcomes.ensures.spare_moments spared told quiet (λ is. no_refusal _ _ is)));
+      spare_quiet = λ spared told quiet other. c.in_ok-outcomes.ensures.spare_quiet spared told quiet (λ is. no_refusal _ _ is);
+      spare_sent = c.ask_group.ensures.spare_sent;
+      both = λ spared told spare_told quiet spare_quiet refused. absurd (false≢true refused);
+      spare_fault = record {
+        later = c.ask_group.ensures.spare_fault.later;
+        failed = λ is. no_refusal _ _ is;
+        last_call = λ is. no_refusal _ _ is;
+        steady = λ other. c.in_ok-outcomes.ensures.spare_fault.steady (λ is. no_refusal _ _ is);
+      };
+      own = λ is. no_refusal _ _ is;
+      untouched = c.ask_group.ensures.untouched;
     }

@@ -1,127 +1,78 @@
-use Rattle.std.proofs.Common.{◌≡◌, [], List, Result, Err, refl, sym, subst, arith}
-use Rattle.std.proofs.lemmas.Result.{IfOk-from_err}
-use Rattle.audit_types.specs.declared.records.Protected.{Protected}
-use Rattle.std.specs.Prelude.{OnOk}
-use Rattle.bench_core.specs.Calls.{LeavesOnly}
-use Rattle.bench_core.specs.Moments.{weakens}
-use Rattle.line_wire.specs.Lines.{counted_lines}
-use Rattle.table_load.specs.Database.{base_of}
+use Rattle.audit_store.specs.Refusals.{no_refusal}
 use Rattle.audit_session.specs.declared.serving.EndFault.{EndFault}
 use Rattle.audit_session.specs.declared.serving.EndFault.TheVariants as end
-use Rattle.audit_session.specs.Ends.{Ends, Reads, TakesCalls}
-use Rattle.audit_session.specs.Stops.{StopsOver}
-use Rattle.audit_session.proofs.EndsByFault.{all_by, read_by, within_by}
-use Rattle.audit_session.proofs.FirstStop.{serves_none, stops_first}
-use Rattle.audit_session.proofs.Refusals.{memory_no_bench, memory_no_input, memory_no_limit, refusal}
+use Rattle.audit_session.proofs.Refusals.{from_twin, to_twin}
 use Rattle.audit_session.proofs.serving.serve.Goals as goal
 
-abbrev refused : EndFault → Result (Unit {0}) EndFault
-refused fault = Err fault
-
-pub returns-in_err-planner : goal.returns-in_err-planner
-returns-in_err-planner g c =
-    let same : c.from_residual.result ≡ refused end.NoMemory = refusal c.from_residual.result _ c.from_residual.ensures in
+pub returns-in-Ok : goal.returns-in-Ok
+returns-in-Ok g c =
+    let e = c.in-Ok.ensures in
     record {
-      done = λ t u. IfOk-from_err _ _ c.from_residual.ensures.0;
-      input_end = λ t u is. absurd (memory_no_input _ same is);
-      limit_end = λ t u is. absurd (memory_no_limit _ same is);
-      memory_end = λ t u is.
-          serves_none (base_of c.args.schema.now.columns c.args.index.now.public c.args.index.now.protected c.args.store.now.secret) c.args.batch
-          c.args.store.now.history (counted_lines (g.P.Source.left c.args.source.now)) (g.B.Bench.sent c.args.bench.now);
-      stands = λ u no. (c.args.store.now.journal.gate, c.requires.stands u);
-      quiet = λ u quiet no. quiet;
-      again = IfOk-from_err _ _ c.from_residual.ensures.0;
-      usable = λ no none. c.requires.usable;
-      left = λ u usable. c.requires.stands u;
-      calls = λ t u. IfOk-from_err _ _ c.from_residual.ensures.0;
-      any_moment = λ t u quiet.
-          stops_first g.B.Bench c.args.bench.now
-          (base_of c.args.schema.now.columns c.args.index.now.public c.args.index.now.protected c.args.store.now.secret) c.args.batch c.args.store.now.history
-          (counted_lines (g.P.Source.left c.args.source.now))
-          (λ image bytes was. g.met.B.Bench.only_now c.args.bench.now image bytes was) quiet (c.args.store.now.journal.gate, c.requires.stands u);
-      legal = λ u quiet.
-          let base = base_of c.args.schema.now.columns c.args.index.now.public c.args.store.now.protected c.args.store.now.secret in
-          weakens g.B.Bench c.args.bench.now c.args.bench.now _ _
-          (λ image sent stop history stands.
-          c.stops.ensures base c.args.batch c.args.store.now.history [] image stop.0 history
-          (record { schema = c.count-columns.ensures.columns; shape = c.requires.shape; protected = c.history-history.ensures.is.fit }) c.history-history.ensures.is.numbers
-          c.history-history.ensures.is.legal stop.2 stands)
-          (stops_first g.B.Bench c.args.bench.now base c.args.batch c.args.store.now.history []
-          (λ image bytes was. g.met.B.Bench.only_now c.args.bench.now image bytes was) quiet (c.args.store.now.journal.gate, c.requires.stands u));
-      table = (refl, refl);
-      is = c.history-history.ensures.is;
-      read = λ t. IfOk-from_err _ _ c.from_residual.ensures.0;
-      within = λ t. IfOk-from_err _ _ c.from_residual.ensures.0;
-      input_within = λ t is. absurd (memory_no_input _ same is);
-      limit = λ t is. absurd (memory_no_limit _ same is);
-      later = omega arith;
-      input = λ is. absurd (memory_no_input _ same is);
-      last_read = λ is. absurd (memory_no_input _ same is);
-      steady = λ other. refl;
+      done = e.done;
+      input_end = λ t u is. no_refusal _ _ is;
+      limit_end = λ t u is. no_refusal _ _ is;
+      memory_end = λ t u is. no_refusal _ _ is;
+      stands = λ u no. e.stands u (λ is. no_refusal _ _ is) (λ is. no_refusal _ _ is);
+      quiet = λ u quiet no. e.quiet u quiet (λ is. no_refusal _ _ is) (λ is. no_refusal _ _ is);
+      again = e.again;
+      usable = λ bench memory. e.again.0;
+      left = e.left;
+      calls = e.calls;
+      any_moment = e.any_moment;
+      legal = e.legal;
+      table = e.table;
+      is = e.is;
+      read = e.read;
+      within = e.within;
+      input_within = λ t is. no_refusal _ _ is;
+      limit = λ t is. no_refusal _ _ is;
+      later = e.later;
+      input = λ is. no_refusal _ _ is;
+      last_read = λ is. no_refusal _ _ is;
+      steady = λ other. e.steady (λ is. no_refusal _ _ is);
       fault = record {
-        later = omega arith;
-        failed = λ is. absurd (memory_no_bench _ same is);
-        last_call = λ is. absurd (memory_no_bench _ same is);
-        steady = λ other. refl;
+        later = e.fault.later;
+        failed = λ is. no_refusal _ _ is;
+        last_call = λ is. no_refusal _ _ is;
+        steady = λ other. e.fault.steady (λ is. no_refusal _ _ is);
       };
     }
 
-pub returns : goal.returns
-returns g c =
-    let columns = c.args.schema.now.columns in
-    let public = c.args.index.now.public in
-    let store = c.args.store.now in
-    let batch = c.args.batch in
-    let input = g.P.Source.left c.args.source.now in
-    let left = g.P.Source.left c.answer_groups.new.source in
-    let now = c.answer_groups.new.store.history in
-    let before = g.B.Bench.sent c.args.bench.now in
-    let after = g.B.Bench.sent c.answer_groups.new.bench in
-    let same : store.protected ≡ c.args.index.now.protected = sym c.requires.entries in
-    let ends : g.P.Source.told → g.B.Bench.told →
-    Ends batch c.answer_groups.result (base_of columns public c.args.index.now.protected store.secret) store.history input left now before after =
-    λ t u. subst (λ (p : List Protected). Ends batch c.answer_groups.result (base_of columns public p store.secret) store.history input left now before after)
-    same (c.answer_groups.ensures.ends t u) in
-    let ends_as : (r : Result (Unit {0}) EndFault) → c.answer_groups.result ≡ r → g.P.Source.told → g.B.Bench.told →
-    Ends batch r (base_of columns public c.args.index.now.protected store.secret) store.history input left now before after =
-    λ r is t u. subst
-    (λ (r : Result (Unit {0}) EndFault). Ends batch r (base_of columns public c.args.index.now.protected store.secret) store.history input left now before after)
-    is (ends t u) in
+-- ---- each end is that of the session
+
+pub returns-in-Err : goal.returns-in-Err
+returns-in-Err g c =
+    let e = c.in-Err.ensures in
+    let fault = c.without_spare.result in
+    let as_session = λ (other : EndFault). to_twin {X = Unit {0}} fault other c.in-Err.end c.without_spare.ensures in
+    let as_ended = λ (other : EndFault). from_twin {X = Unit {0}} fault other c.in-Err.end c.without_spare.ensures in
     record {
-      done = λ t u. all_by _ batch _ _ _ left _ _ _ (ends t u);
-      input_end = λ t u is. ends_as (refused end.Input) is t u;
-      limit_end = λ t u is. ends_as (refused end.Limit) is t u;
-      memory_end = λ t u is. ends_as (refused end.NoMemory) is t u;
-      stands = λ u no. (c.answer_groups.ensures.rests no).stands u;
-      quiet = λ u quiet no. (c.answer_groups.ensures.rests no).quiet u quiet;
-      again = c.answer_groups.ensures.again;
-      usable = c.answer_groups.ensures.usable;
-      left = c.answer_groups.ensures.left;
-      calls = λ t u.
-          subst (λ (p : List Protected). OnOk c.answer_groups.result (TakesCalls (base_of columns public p store.secret) store.history batch (counted_lines input)
-          (g.B.Bench.moment c.args.bench.now) (g.B.Bench.moment c.answer_groups.new.bench))) same (c.answer_groups.ensures.calls t u);
-      any_moment = λ t u quiet.
-          subst (λ (p : List Protected). LeavesOnly g.B.Bench c.args.bench.now c.answer_groups.new.bench
-          (StopsOver (base_of columns public p store.secret) batch store.history (counted_lines input) before)) same
-          (weakens g.B.Bench c.args.bench.now c.answer_groups.new.bench _ _ (λ image sent stop. stop.1 t) (c.answer_groups.ensures.moments u quiet));
-      legal = λ u quiet.
-          let base = base_of columns public store.protected store.secret in
-          let of_store = c.history-history.ensures.is in
-          weakens g.B.Bench c.args.bench.now c.answer_groups.new.bench _ _
-          (λ image sent stop history stands.
-          c.stops.ensures base batch store.history stop.0.0 image stop.0.1.0 history
-          (record { schema = c.count-columns.ensures.columns; shape = c.requires.shape; protected = of_store.fit }) of_store.numbers of_store.legal stop.0.1.2
-          stands)
-          (c.answer_groups.ensures.moments u quiet);
-      table = c.answer_groups.ensures.table;
-      is = c.answer_groups.ensures.is;
-      read = λ t. read_by _ input _ (c.answer_groups.ensures.reads t);
-      within = λ t. within_by _ _ left (c.answer_groups.ensures.reads t);
-      input_within = λ t is. subst (λ (r : Result (Unit {0}) EndFault). Reads r input left) is (c.answer_groups.ensures.reads t);
-      limit = λ t is. subst (λ (r : Result (Unit {0}) EndFault). Reads r input left) is (c.answer_groups.ensures.reads t);
-      later = c.answer_groups.ensures.later;
-      input = c.answer_groups.ensures.input;
-      last_read = c.answer_groups.ensures.last_read;
-      steady = c.answer_groups.ensures.steady;
-      fault = c.answer_groups.ensures.fault;
+      done = λ t u. tt;
+      input_end = λ t u is. e.input_end t u (as_session end.Input is);
+      limit_end = λ t u is. e.limit_end t u (as_session end.Limit is);
+      memory_end = λ t u is. e.memory_end t u (as_session end.NoMemory is);
+      stands = λ u no. e.stands u (λ is. no (as_ended end.Bench is)) e.own;
+      quiet = λ u quiet no. e.quiet u quiet (λ is. no (as_ended end.Bench is)) e.own;
+      again = tt;
+      usable = λ bench memory. e.usable (λ is. bench (as_ended end.Bench is)) e.own (λ is. memory (as_ended end.NoMemory is));
+      left = e.left;
+      calls = λ t u. tt;
+      any_moment = e.any_moment;
+      legal = e.legal;
+      table = e.table;
+      is = e.is;
+      read = λ t. tt;
+      within = λ t. tt;
+      input_within = λ t is. e.input_within t (as_session end.Input is);
+      limit = λ t is. e.limit t (as_session end.Limit is);
+      later = e.later;
+      input = λ is. e.input (as_session end.Input is);
+      last_read = λ is. e.last_read (as_session end.Input is);
+      steady = λ other. e.steady (λ is. other (as_ended end.Input is));
+      fault = record {
+        later = e.fault.later;
+        failed = λ is. e.fault.failed (as_session end.Bench is);
+        last_call = λ is. e.fault.last_call (as_session end.Bench is);
+        steady = λ other. e.fault.steady (λ is. other (as_ended end.Bench is));
+      };
     }
