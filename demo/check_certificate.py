@@ -299,6 +299,7 @@ def main():
     where, found = "schema.json, table.csv, answers.journal", []
     try:
         facts = Facts()
+        where = sys.argv[1]
         lines = explained()
         for question in questions(sys.argv[1]):
             where = f"line {len(found) + 1}"

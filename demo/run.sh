@@ -45,6 +45,9 @@ cmp explained.jsonl "$demo/explained.jsonl" || exit 1
 grep unsafe explained.jsonl >&2
 if command -v python3 >/dev/null; then
     python3 "$demo/check_certificate.py" questions.jsonl <explained.jsonl >&2 || exit 1
+    # With one number changed the certificate comes to nothing.
+    sed 's/"asked":1/"asked":2/' explained.jsonl | python3 "$demo/check_certificate.py" questions.jsonl >complaint
+    [ $? = 1 ] && grep -q '^line 6: the sets come to ' complaint || { echo "demo: a changed certificate was taken" >&2; exit 1; }
 fi
 
 "$demo/grow.sh" "$program" || { echo "demo: the table didn't grow" >&2; exit 1; }

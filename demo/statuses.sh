@@ -45,7 +45,7 @@ cp answers.journal served.journal
 due 0 '' explain
 cmp -s answers.journal served.journal || complain 'the journal was written by explain'
 
-usage='usage: auditor init, serve [--batch N], audit, simulate, drill N, grow, compact, explain'
+usage='usage: auditor init, serve [--batch N], audit, simulate, drill N, grow, explain, compact'
 begin
 for words in '' help 'serve 3' '--batch 65 serve' 'audit --batch 2' 'grow 7' 'compact 3' 'explain 3' 'explain --batch 2' drill 'drill x' 'drill 4294967296'; do
     due 2 "$usage" $words

@@ -47,9 +47,7 @@ def answer(there, text):
 def answer_one(there, question):
     """Asks one question, or what would be said of it, or why it is denied."""
     if question.why:
-        line = there.why(question)
-        print(why_words(line, target_words(there, line), there.notes.get(question.column, {})))
-        print("  " + json.dumps(line, separators=(",", ":")))
+        say_why(there, question)
         return True
     if question.would:
         print(verdict_words(there.would(question)))
@@ -59,12 +57,23 @@ def answer_one(there, question):
     return answer_of(reply) is not None
 
 
+def say_why(there, question):
+    """Prints why a question is denied: a sentence, and the line of `explain` itself."""
+    line = there.why(question)
+    try:
+        words = why_words(line, target_words(there, line), there.notes.get(question.column, {}))
+    except (LookupError, TypeError, ValueError):
+        raise Away("what comes back isn't a line of auditor explain") from None
+    print(words)
+    print("  " + shown(json.dumps(line, ensure_ascii=False, separators=(",", ":"))))
+
+
 def target_words(there, line):
     """What an answer would give away, in words. Protected totals of no row have no place; a count makes no record."""
     if "group" not in line:
         return f"the number of row {line.get('row')}"
     totals = [where for _, where in there.protected if answer_of(there.ask(Question("count", where=where)))]
-    return f"the protected total where {shown(totals[line['group']])}" if line["group"] < len(totals) else "a protected total"
+    return f"the protected total where {shown(totals[line['group']])}"
 
 
 def answer_groups(there, question):

@@ -35,6 +35,7 @@ def make_table(name, places, settings):
     # Tests are less patient.
     groups.patience = settings.group_patience or groups.patience
     table.patience = settings.asker_patience or table.patience
+    table.whys.patience = settings.explain_patience or table.whys.patience
     table.most_waiting = settings.waiting or table.most_waiting
     return table
 

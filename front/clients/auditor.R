@@ -73,6 +73,7 @@ auditor_why <- function(url, ask, column, where = "all") {
   if (response$status != 200) {
     stop(if (is.character(reply$error)) reply$error else paste("the door, or a proxy before it, says", response$status), call. = FALSE)
   }
+  if (is.null(reply$verdict)) stop("what came isn't the reply of a door", call. = FALSE)
   structure(reply, line = sub("\n$", "", response$text))
 }
 

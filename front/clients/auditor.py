@@ -169,11 +169,11 @@ def listed(names):
 
 
 def counted(terms):
-    """Some terms in words: records 0 and 2, 3 times record 4 and this question."""
+    """Some terms in words: records 0 and 2, 3 times record 4 and the answer asked for."""
     once = [str(place) for place, times in terms if abs(times) == 1 and place != "asked"]
     names = ["record" + "s" * (len(once) > 1) + " " + listed(once)] if once else []
     for place, times in terms:
-        name = "this question" if place == "asked" else f"record {place}"
+        name = "the answer asked for" if place == "asked" else f"record {place}"
         if abs(times) != 1 or place == "asked":
             names.append(name if abs(times) == 1 else f"{abs(times)} times {name}")
     return listed(names)
@@ -334,11 +334,17 @@ class Table(Asker):
     def why(self, kind, column, where="all"):
         """Why the question is denied, after the answers given so far; nothing is asked and nothing is kept."""
         line = self._post("why", kind, column, where)
+        try:
+            return Why(line, self._why_words(line, column), self.name)
+        except (LookupError, TypeError, ValueError, decimal.InvalidOperation):
+            raise DoorFault(f"why: what came isn't a line of auditor explain, but {ascii(json.dumps(line)[:60])}", 200) from None
+
+    def _why_words(self, line, column):
         if line["verdict"] != "unsafe" or "proof" in line:
-            return Why(line, self.sentence("why", "proof" if "proof" in line else line["verdict"]), self.name)
+            return self.sentence("why", "proof" if "proof" in line else line["verdict"])
         if "high" in line:
-            return Why(line, max_words(line, lambda number: f"{self.in_units(column, number):f}"), self.name)
-        return Why(line, sum_words(line, self._target(line)), self.name)
+            return max_words(line, lambda number: f"{self.in_units(column, number):f}")
+        return sum_words(line, self._target(line))
 
     def _target(self, line):
         """What would be known, in words. Protected totals of no row have no place; a count makes no record."""
@@ -350,7 +356,7 @@ class Table(Asker):
                 if place == 0:
                     return f"the protected total where {total['where']}"
                 place -= 1
-        return "a protected total"
+        raise LookupError(line["group"])
 
     def public(self):
         """The public columns, a dict for each row."""

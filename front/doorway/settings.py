@@ -45,6 +45,7 @@ def parser():
     add("--run-limit", type=int, default=RUN, help=argparse.SUPPRESS)
     add("--group-patience", type=float, help=argparse.SUPPRESS)
     add("--asker-patience", type=float, help=argparse.SUPPRESS)
+    add("--explain-patience", type=float, help=argparse.SUPPRESS)
     add("--waiting", type=int, help=argparse.SUPPRESS)
     return words
 

@@ -109,6 +109,7 @@ class Table:
 
     async def why(self, line):
         """Why a question is denied, after the history as it is now."""
+        self.whys.need_program()
         if self.is_stopped():
             raise Turned(503, self.state, again=True)
         return await self.whys.ask(line)

@@ -23,10 +23,12 @@ class Whys:
         self.waiting, self.taken = {}, {}   # the future of each line: not taken by a run yet, and with the run
         self.askers, self.work = 0, None
 
-    async def ask(self, line):
-        """What `explain` says of a question."""
+    def need_program(self):
         if not self.opener.explains:
             raise Turned(501, "this door doesn't run auditor explain, so it can't say why")
+
+    async def ask(self, line):
+        """What `explain` says of a question."""
         if self.askers >= MOST:
             raise Turned(503, "too many certificates are wanted", again=True)
         if line not in self.waiting:

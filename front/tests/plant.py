@@ -156,6 +156,30 @@ PLANTS = [
      "test_adding.Adding.test_the_rows_stand_after_those_that_were_there"),
     ("a table of other columns is added to", "preparing/adding.py", "    if there != [(column.name, column.kind) for column in columns]:\n",
      "    if False:\n", "test_adding.Adding.test_what_doesnt_fit_is_refused_and_leaves_nothing"),
+    ("why is asked of the journal itself", "runs.py", '        if command == "explain":\n', '        if command == "nothing":\n',
+     "test_why.Certificates.test_it_goes_by_the_history_as_it_is_when_somebody_asks"),
+    ("the copy of the journal stays", "./explain.sh", "trap 'rm -rf \"$copy\"' EXIT\n", "",
+     "test_why.Certificates.test_askers_at_once_get_each_the_line_of_their_own_question"),
+    ("a stopped run leaves its copy", "runs.py", "            os.killpg(self.process.pid, signal.SIGTERM)\n", "            self.process.kill()\n",
+     "test_why.Odd.test_a_door_that_ends_tells_those_who_wait"),
+    ("certificates go to others", "why.py", "zip(self.taken.values(), lines)", "zip(self.taken.values(), reversed(lines))",
+     "test_why.Certificates.test_askers_at_once_get_each_the_line_of_their_own_question"),
+    ("what was said once is said again", "why.py", "                self.taken, self.waiting = self.waiting, {}\n",
+     "                self.taken = dict(self.waiting)\n                if all(said.done() for said in self.taken.values()):\n                    break\n",
+     "test_why.Certificates.test_it_goes_by_the_history_as_it_is_when_somebody_asks"),
+    ("answers wait for certificates", "why.py", '        run = await self.opener.open("explain")\n',
+     '        run = await self.opener.open("explain")\n        __import__("time").sleep(5)\n',
+     "test_why.Odd.test_answers_go_on_while_a_certificate_takes_long"),
+    ("whatever explain says is handed on", "why.py", " or not all(map(is_explained, lines))", "",
+     "test_why.Odd.test_a_run_that_ends_or_says_something_else_is_told_of"),
+    ("who waits for a certificate isn't told of the end", "why.py", '            fail(those, "the door is closing")\n', "            pass\n",
+     "test_why.Odd.test_a_door_that_ends_tells_those_who_wait"),
+    ("a door without explain tries it", "runs.py", '        return self.paths["explain"] is not None\n', "        return True\n",
+     "test_why.Without.test_a_door_without_the_program_says_so"),
+    ("few rows are explained", "handlers.py", '''    async def why(self, line):
+        await self._check_size(line)
+''', '''    async def why(self, line):
+''', "test_why.Certificates.test_what_isnt_handed_on_isnt_explained_either"),
     ("an empty part spoils a total", "totals.py", " and reply != EMPTY", "", "test_several_tables.Tables.test_a_total_is_the_sum_of_the_parts"),
 ]
 
@@ -166,6 +190,7 @@ def tried(number):
     with tempfile.TemporaryDirectory() as folder:
         front = pathlib.Path(folder) / "front"
         shutil.copytree(FRONT, front, ignore=shutil.ignore_patterns("__pycache__"))
+        shutil.copytree(FRONT.parent / "demo", front.parent / "demo", ignore=shutil.ignore_patterns("__pycache__"))
         path = front / name if "/" in name else front / "doorway" / name
         text = path.read_text()
         if text.count(old) != 1:

@@ -81,6 +81,7 @@ class Lines(unittest.TestCase):
             ("avg salary by team where age > 3", Question("avg", "salary", "age > 3", "team")),
             ("count by age", Question("count", by="age")),
             ("would sum salary where age = 3", Question("sum", "salary", "age = 3", would=True)),
+            ("why max bonus where age = 3", Question("max", "bonus", "age = 3", why=True)),
         ):
             with self.subTest(text):
                 self.assertEqual(parse(text, KINDS), due)
@@ -96,6 +97,7 @@ class Lines(unittest.TestCase):
             ("sum bonus", "bonus is kept for max"),
             ("max salary", "kept for sum and avg"),
             ("totals salary", "totals COLUMN by COLUMN"),
+            ("why totals salary by team", "why is asked of one question"),
             ("totals salary by bonus", "bonus is secret"),
             ("sum salary by tem", "did you mean team?"),
             ("", "'' isn't something"),
@@ -199,6 +201,18 @@ class OverAFolder(TableTest):
             ),
             said,
         )
+
+    @needs_program
+    def test_why_is_said_between_two_questions(self):
+        self.journal()
+        all_three, two = "sum salary where age >= 41", "sum salary where age >= 41 and not team = 'Design'"
+        status, said = self.ask("why " + two, all_three, "why " + two, "why max bonus where age = 44", "why count", two)
+        lines = said.splitlines()
+        self.assertEqual(lines[:6], [
+            "It would be answered now: what was answered since makes it safe. Ask it again.", '  {"verdict":"released"}', "1765.00",
+            "the number of row 5 is record 0, less the answer asked for", '  {"verdict":"unsafe","row":5,"times":1,"by":[[0,1]],"asked":-1}',
+            "were the answer 0, row 5 would be the only one that can have it"])
+        self.assertEqual((status, lines[7], lines[9][:12]), (1, "It would be answered: counts always are.", "not answered"))
 
     @needs_program
     def test_totals_are_a_line_for_each_value(self):
@@ -374,6 +388,20 @@ class OverADoor(unittest.TestCase):
                 ("/t/would", kind, {"ask": "sum", "column": "salary", "where": "all"}),
             ],
         )
+
+    def test_why_is_asked_of_the_door(self):
+        total = '{"verdict":"unsafe","group":1,"times":2,"by":[[3,-2]],"asked":1}'
+        schema = json.loads(ListedDoor.files["/t/schema.json"])
+        protect = [{"column": "salary", "where": where} for where in ("age > 3", "age > 99", "team = 'Q\u202eA'")]
+        ListedDoor.files["/t/schema.json"] = json.dumps({**schema, "protect": protect})
+        status, said = self.ask([total, '{"count":2}', '{"count":0}', '{"count":1}', '{"verdict":"unsafe","proof":"wide"}'],
+                                "why sum salary where age = 3", "why avg salary")
+        self.assertEqual((status, said.splitlines()[:2]), (0, [
+            "2 times the protected total where team = 'Q\\u202eA' is the answer asked for, less 2 times record 3", "  " + total]))
+        self.assertIn("would need larger numbers than are told", said)
+        self.assertEqual([path for path, _, _ in ListedDoor.asked], ["/t/why", "/t/ask", "/t/ask", "/t/ask", "/t/why"])
+        for wrong in ("{}", '{"verdict":"unsafe"}', '{"verdict":"unsafe","row":0,"times":1,"by":[3],"asked":1}'):
+            self.assertIn("isn't a line of auditor explain", self.ask([wrong], "why sum salary")[1])
 
     def test_protected_totals_are_said_with_the_columns(self):
         schema = json.loads(ListedDoor.files["/t/schema.json"])

@@ -101,6 +101,17 @@ class OverTheProgram(unittest.TestCase):
             with self.assertRaises(TypeError):
                 wrong()
 
+    def test_why_is_a_certificate(self):
+        row = next(number for number, row in enumerate(self.rows) if self.alone() == f"team = '{row.team}' and age = {row.age}")
+        before = self.table.transcript()
+        why = self.table.why("sum", "salary", self.alone())
+        self.assertEqual(why.line, {"verdict": "unsafe", "row": row, "times": 1, "by": [], "asked": 1})
+        self.assertEqual((str(why), bool(why), why.verdict), (f"the number of row {row} is the answer asked for", True, "unsafe"))
+        self.assertFalse(self.table.why("count", None))
+        said, faults, status = typed(self.url, f"why sum salary where {self.alone()}")
+        self.assertEqual((said, faults, status), ([str(why), json.dumps(why.line, separators=(",", ":"))], "", 0))
+        self.assertEqual(self.table.transcript(), before)
+
     def test_a_refusal_says_why_and_where(self):
         cases = [("where", 22, lambda: self.table.sum("salary", "team = 'Zoë' or age< forty")),
                  ("empty", None, lambda: self.table.sum("salary", "age > 99")), ("kind", None, lambda: self.table.max("salary")),
@@ -167,6 +178,8 @@ class OverTheProgram(unittest.TestCase):
             say(auditor_mean("{url}", "balance", "team = 'Bob''s workshop'") * 22)
             denied <- auditor_sum("{url}", "salary", "{alone}")
             say(is.na(denied), attr(denied, "denied"), is.na(denied + 1))
+            why <- auditor_why("{url}", "sum", "salary", "{alone}")
+            say(why$verdict, why$times, length(why$by), why$asked, startsWith(attr(why, "line"), '{{"verdict":"unsafe","row":'))
             say(tryCatch(auditor_sum("{url}", "salary", "age >= forty"), error = conditionMessage))
             frame <- auditor_totals("{url}", "balance", by = "team")
             say(frame$team); say(frame$rows); say(frame$sum); say(frame$denied)
@@ -176,6 +189,7 @@ class OverTheProgram(unittest.TestCase):
         self.assertEqual(lines[0], f"{staff.TEAMS['Zoë']}|{sum(row.salary for row in self.rows)}|{max(row.bonus for row in self.rows)}|")
         self.assertAlmostEqual(float(lines[1].strip("|")), sum(row.balance for row in shop), places=6)
         self.assertEqual(lines[2], "TRUE|unsafe|TRUE|")
+        self.assertEqual(lines.pop(3), "unsafe|1|0|1|TRUE|")
         self.assertEqual(lines[3], "refused: The condition isn't understood from the marked place on. (byte 7)|")
         self.assertEqual(lines[4], "|".join(teams) + "|")
         self.assertEqual(lines[5], "|".join(str(staff.TEAMS[team]) for team in teams) + "|")
@@ -226,6 +240,8 @@ class SeveralTables(unittest.TestCase):
         self.assertEqual(status, 0)
         said, _, _ = typed(self.office.url, f"would sum salary where age = {single} or site != 'York'")
         self.assertEqual(said, ["north: It would be answered now.", "york: It would not be answered."])
+        why = self.all.why("sum", "salary", f"age = {single} or site != 'York'")
+        self.assertEqual((why.table, why.line["row"]), ("york", [row.age for row in self.parts["york"]].index(single)))
 
     def test_one_table_is_asked_by_its_name(self):
         said, faults, status = typed(self.office.url, "count", arguments=["--table", "york"])
@@ -265,6 +281,27 @@ class Scripted(unittest.TestCase):
             with self.subTest(reply=reply):
                 self.assertEqual(typed(self.door(reply).url, f"{kind} pay"), ([due], "", 0))
         self.assertEqual(typed(self.door('{"num":5,"den":2}').url, "avg age")[0], ["2.5"])
+
+    def test_each_certificate_has_its_sentence(self):
+        schema = {"columns": [{"name": name, "is": kind} for name, kind in COLUMNS.items()],
+                  "protect": [{"column": "pay", "where": "age > 99"}, {"column": "pay", "where": "team = 'A'"}]}
+        cases = [("sum", "pay", {"row": 4, "times": 1, "by": [[0, -1], [1, 1], [2, -1], [3, -1]], "asked": 1},
+                  "the number of row 4 is record 1 and the answer asked for, less records 0, 2 and 3"),
+                 ("avg", "pay", {"group": 0, "times": 2, "by": [[0, 2**112], [4, -3]], "asked": -4},
+                  f"2 times the protected total where team = 'A' is {2**112} times record 0, less 3 times record 4 and 4 times the answer asked for"),
+                 ("max", "best", {"answer": 8, "row": 1, "pair": 1, "high": [8, 9]}, "were the answer 8, row 1 would be the only one of record 1 that can have the 9"),
+                 ("sum", "pay", {"proof": "wide"}, "It is denied as unsafe, and its certificate would need larger numbers than are told.")]
+        for kind, column, line, words in cases:
+            line = {"verdict": "unsafe", **line}
+            counts = {"age > 99": '{"count":0}', "team = 'A'": '{"count":1}'}
+            door = self.door(lambda path, question, line=line: (200, json.dumps(line) if path == "/why" else counts[question["where"]]),
+                             **{"schema.json": json.dumps(schema), "words.json": (staff.FRONT / "words.json").read_text()})
+            with self.subTest(words=words):
+                why = self.table(door).why(kind, column)
+                self.assertEqual((str(why), why.line, bool(why)), (words, line, "proof" not in line))
+        for text in ("{}", "[]", '{"verdict":"unsafe"}', '{"verdict":"unsafe","group":0,"times":1,"by":[],"asked":1}'):
+            with self.subTest(text=text), self.assertRaisesRegex(auditor.DoorFault, "isn't a line of auditor explain"):
+                self.table(self.door(text)).why("sum", "pay")
 
     def test_protected_totals_are_said_with_the_columns(self):
         total = {"column": "pay", "where": "team = 'A\u202e'"}

@@ -11,7 +11,7 @@ import time
 import unittest
 
 from case import DoorCase
-from kit import AUDITOR, NOBODY, SEED, Door, ask, health
+from kit import AUDITOR, FRONT, NOBODY, SEED, Door, ask, health, line_of
 
 
 class Doors(DoorCase):
@@ -154,9 +154,10 @@ class OfAnotherUser(Doors):
         keep = self.folder.path / "door"
         keep.mkdir()
         os.chown(keep, NOBODY, NOBODY)
-        self.sockets = [self.listen("serve --batch 64", keep / "serve"), self.listen("audit", keep / "audit")]
+        self.sockets = [self.listen(f"{AUDITOR} serve --batch 64", keep / "serve"), self.listen(f"{AUDITOR} audit", keep / "audit"),
+                        self.listen(f"sh {FRONT}/explain.sh . {AUDITOR}", keep / "explain")]
         door = Door(self.folder, "--public", self.folder.public, "--keep", self.folder.public, "--serve", keep / "serve",
-                    "--audit", keep / "audit", "--report-every", 0.01, user=NOBODY)
+                    "--audit", keep / "audit", "--explain", keep / "explain", "--report-every", 0.01, user=NOBODY)
         door.socket = str(keep / "http")
         door.words[door.words.index("--listen") + 1] = "unix:" + door.socket
         return door
@@ -164,7 +165,7 @@ class OfAnotherUser(Doors):
     def listen(self, command, path):
         """A socket that starts the program for each connection, one at a time."""
         process = subprocess.Popen(
-            ["socat", f"UNIX-LISTEN:{path},fork,max-children=1,user={NOBODY},unlink-early", f'EXEC:{AUDITOR} {command}'],
+            ["socat", f"UNIX-LISTEN:{path},fork,max-children=1,user={NOBODY},unlink-early", f"EXEC:{command}"],
             cwd=self.folder.path, stderr=subprocess.DEVNULL, start_new_session=True)
         end = time.monotonic() + 120
         while not pathlib.Path(path).exists() and time.monotonic() < end:
@@ -176,6 +177,17 @@ class OfAnotherUser(Doors):
         for process in self.sockets:
             os.killpg(process.pid, signal.SIGTERM)
             process.wait()
+
+    async def test_why_comes_from_the_other_user(self):
+        self.door.start()
+        async with self.door.session() as session:
+            await self.door.ready(session)
+            await self.client(session, 0, 5)
+            lines = [line_of("sum", row, row) for row in range(20)]
+            found = await asyncio.gather(*(ask(session, line, "/why") for line in lines))
+        self.end_and_check()
+        for row, (status, body) in enumerate(found):
+            self.assertEqual((status, json.loads(body)["row"]), (200, row), body)
 
     async def test_the_door_reads_neither_table_nor_journal(self):
         for name in ("table.csv", "answers.journal"):

@@ -162,6 +162,25 @@ class OverTheProgram(PageCase):
         self.assertEqual(self.browser.find("#history td:nth-child(2)").text, "not answered")
         self.picture("denied")
 
+    def test_why_shows_a_certificate_in_words(self):
+        before, row = self.records(), self.rows.index(self.single())
+        self.browser.write(self.alone())
+        self.browser.ask()
+        self.browser.run("document.querySelector('#answer button').focus()")
+        self.browser.keys("Enter")
+        self.browser.wait(lambda: self.browser.all("#answer details"))
+        said = self.browser.text("answer")
+        self.assertIn(f"The number of row {row} is the answer asked for. Row {row}: team {self.single().team}, site {self.single().site}", said)
+        self.assertIn("it tells nothing more", said)
+        self.assertEqual(self.browser.all("#answer button"), [])
+        self.browser.click("#answer summary")
+        self.assertEqual(json.loads(self.browser.find("#answer code").text), {"verdict": "unsafe", "row": row, "times": 1, "by": [], "asked": 1})
+        self.browser.screen(360)
+        self.assertEqual(self.browser.too_wide(360), [])
+        self.browser.screen(1200)
+        self.picture("why")
+        self.assertEqual(self.records(), before)
+
     def test_whether_it_would_be_answered_asks_nothing(self):
         before = self.records()
         self.browser.write("age >= 31")
@@ -409,6 +428,10 @@ class SeveralTables(PageCase):
         self.browser.write(f"age = {single} or site != 'York'")
         self.assertIn("york: not answered", self.browser.ask())
         self.assertEqual(self.browser.find("#answer .verdict").text, "Not answered")
+        self.browser.click("#answer button")
+        self.browser.wait(lambda: self.browser.all("#answer details"))
+        row = [row.age for row in self.parts["york"]].index(single)
+        self.assertIn(f"york: The number of row {row} is the answer asked for. Row {row}: team {self.parts['york'][row].team}", self.browser.text("answer"))
         self.assertEqual([self.office.get(name + "/transcript.jsonl") for name in self.parts], before)
 
     def test_the_address_of_one_table_has_its_page(self):

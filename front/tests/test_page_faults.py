@@ -31,7 +31,7 @@ class OneTable(PageCase):
 
     def each(self, path, question):
         if question["ask"] == "count" and path.endswith("ask"):
-            return 200, '{"count":3}'
+            return 200, '{"count":0}' if question["where"] == "age > 99" else '{"count":3}'
         return self.reply(path, question) if callable(self.reply) else (200, self.reply)
 
     def say(self, reply, kind="sum"):
@@ -113,6 +113,45 @@ class Scripted(OneTable):
                 self.assertEqual("Another condition may be answered." in said, not named)
                 self.reply = '{"verdict":"unsafe"}'
                 self.assertEqual("This total is protected, so it is never answered." in self.browser.ask("would"), named)
+
+    def test_each_certificate_has_its_sentence(self):
+        totals = [{"column": "pay", "where": "age > 99"}, {"column": "pay", "where": "constructor = '<b>A</b>'"}]
+        far = "5192296858534827628530496329220096"
+        cases = [
+            ("sum", {"row": 2, "times": 1, "by": [[0, -1], [1, 1], [2, -1], [3, -1]], "asked": 1},
+             'The number of row 2 is record 1 and the answer asked for, less records 0, 2 and 3. Row 2: constructor A, age +50.'),
+            ("avg", {"row": 0, "times": 2, "by": [[0, 1], [4, -3]], "asked": -4},
+             "2 times the number of row 0 is record 0, less 3 times record 4 and 4 times the answer asked for. Row 0"),
+            ("sum", {"group": 0, "times": 1, "by": [[7, int(far)]], "asked": -1},
+             "The protected total where constructor = '<b>A</b>' is 5,192,296,858,534,827,628,530,496,329,220,096 times record 7, less the answer asked for."),
+            ("sum", {"row": 0, "times": 1, "by": [[place, 1] for place in range(20)], "asked": 1}, "9, 10 and 11, 8 more and the answer asked for."),
+            ("max", {"answer": 8, "row": 1, "pair": 1, "high": [8, 9, 8]},
+             'Were the answer 8, row 1 would be the only one of record 1 that can have the 9. Row 1: constructor B, "x", age 40.'),
+            ("max", {"answer": -5, "row": 0, "pair": "asked", "high": [-5, 9, 9]}, "Were the answer -5, row 0 would be the only one that can have it. Row 0"),
+            ("sum", {"proof": "wide"}, "its certificate would need larger numbers than are told"),
+        ]
+        self.open("", {"schema.json": json.dumps({"protect": totals, "columns": COLUMNS})})
+        for kind, line, words in cases:
+            with self.subTest(words=words):
+                self.assertIn(words, self.why(json.dumps({"verdict": "unsafe", **line}), kind))
+                self.assertEqual(self.browser.all("#answer p b"), [])
+
+    def test_what_is_no_certificate_is_said(self):
+        self.open("")
+        for line, words in (('{"verdict":"released"}', "It would be answered now"), ('{"verdict":"another"}', "another"), ("<p>", "JSON"),
+                            ((501, '{"error":"this door says nothing"}'), "this door says nothing"), ((502, "<b>no</b>"), "says 502"),
+                            ('{"verdict":"unsafe","group":0,"times":1,"by":[],"asked":1}', "schema.json hasn't")):
+            with self.subTest(line=line):
+                self.assertIn(words, self.why(line))
+        self.browser.faults()               # the two that aren't 200
+
+    def why(self, line, kind="sum"):
+        """What the answer's box has once somebody asks why a question is denied."""
+        said = line if isinstance(line, tuple) else (200, line)
+        self.say(lambda path, question: said if path == "/why" else (200, '{"denied":"unsafe"}'), kind)
+        self.browser.click("#answer button")
+        self.browser.wait(lambda: not self.browser.all("#answer button"))
+        return self.browser.text("answer")
 
     def test_a_list_of_protected_totals_that_isnt_one_is_passed_over(self):
         self.open('{"sum":500}', {"schema.json": json.dumps({"protect": "all", "columns": COLUMNS})})

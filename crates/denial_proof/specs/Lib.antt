@@ -7,4 +7,5 @@ pub mod Numbers
 pub mod Canonical
 pub mod Denied
 pub mod Provers
+pub mod Outlook
 pub mod Laws

@@ -16,6 +16,7 @@ mod marking;
 mod marks;
 mod maxima;
 mod numbers;
+mod outlook;
 mod proof_parts;
 mod prover;
 mod proving;
